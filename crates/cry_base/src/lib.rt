@@ -1,0 +1,17 @@
+//! The words that every crate of cryptree speaks: ids, roles, lists with room, limits.
+#![tactic(auto)]
+
+mod ids;
+mod limits;
+mod list;
+mod memory;
+mod roles;
+
+pub use ids::{Epoch, FileId, FolderId, HolderId, Serial};
+pub use limits::{Limits, limits_of};
+pub use list::{List, Text};
+pub use memory::{Mem, OutOfMemory};
+pub use roles::{Edge, Node, Role};
+
+#[cfg(test)]
+mod tests;

@@ -1,0 +1,25 @@
+//! How large a store may grow.
+ghost use Rattle.std.specs.Prelude.{◌≡◌};
+ghost use Rattle.cry_base.specs.Limits.{limits_of_version};
+
+/// The sizes that a writer keeps to.
+#[derive(Clone, Copy, Debug, PartialEq, Eq)]
+pub struct Limits {
+    /// The most bytes that a store file may have.
+    pub store_bytes: u64,
+    /// The most bytes that one file in a store may have.
+    pub file_bytes: u32,
+}
+
+/// The limits of a version of the store file, and `None` where the version is not known.
+pub fn limits_of(version: u8) -> Option<Limits>
+    ensures { result ≡ limits_of_version version }
+{
+    match version {
+        1 => Some(Limits {
+            store_bytes: 268_435_456,
+            file_bytes: 1_048_576,
+        }),
+        _ => None,
+    }
+}
