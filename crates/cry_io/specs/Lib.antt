@@ -1,0 +1,4 @@
+pub mod Counts
+pub mod Stops
+pub mod Streams
+pub mod Told

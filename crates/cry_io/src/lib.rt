@@ -1,0 +1,10 @@
+//! The outside: where bytes come from, where they go, and the disk, with what a stop may leave on it.
+#![tactic(auto)]
+
+mod disk;
+mod failed;
+mod streams;
+
+pub use disk::Disk;
+pub use failed::Failed;
+pub use streams::{Sink, Source};
