@@ -1,0 +1,71 @@
+//! How the program ends, and what it says then on standard error.
+ghost use Rattle.std.specs.Prelude.{◌≡◌, ◌++◌, string_bytes, IfOk, OnOk, OnErr};
+ghost use Rattle.cryptree_cli.specs.Status.{code_of, line_of};
+
+use cry_base::{Mem, Text};
+use std::alloc::Global;
+
+/// How a call of the program ended. Each but `Done` has one line on standard error.
+#[derive(Clone, Copy, Debug, PartialEq, Eq)]
+pub enum Status {
+    /// All was done, and the input was read to its end where it is read.
+    Done,
+    /// The words are of no form that is built.
+    Usage,
+    /// Standard output failed.
+    WriteFault,
+    /// The store's file failed.
+    DiskFault,
+    /// The source of random bytes failed.
+    RandomFault,
+    /// The source of random bytes ended after `left` bytes of the `need` that the command draws.
+    RandomShort { left: u32, need: u32 },
+    /// There was no memory.
+    OutOfMemory,
+    /// The store's file isn't empty.
+    NotBlank,
+}
+
+impl Status {
+    /// The exit status, 0 to 14.
+    pub fn code(&self) -> u8
+        ensures { result ≡ code_of self.now }
+    {
+        match self {
+            Status::Done => 0,
+            Status::Usage => 2,
+            Status::WriteFault => 5,
+            Status::DiskFault => 6,
+            Status::RandomFault => 7,
+            Status::RandomShort { .. } => 8,
+            Status::OutOfMemory => 13,
+            Status::NotBlank => 14,
+        }
+    }
+}
+
+/// Appends the line that standard error is told, ended by a newline, and nothing for `Done`. At `Err` the
+/// text is as it was.
+pub fn fault_line(alloc: Global, status: &Status, out: &mut Text) -> Mem<()>
+    ensures line { OnOk result (out.new.items ≡ out.old.items ++ line_of status.now) }
+    ensures err { OnErr result (out.new.items ≡ out.old.items) }
+{
+    match status {
+        Status::Done => Ok(()),
+        Status::Usage => out.append(b"cryptree: usage\n"),
+        Status::WriteFault => out.append(b"cryptree: write fault\n"),
+        Status::DiskFault => out.append(b"cryptree: disk fault\n"),
+        Status::RandomFault => out.append(b"cryptree: random fault\n"),
+        Status::RandomShort { left, need } => {
+            out.append(random_short_line(alloc, *left, *need)?.as_bytes())
+        }
+        Status::OutOfMemory => out.append(b"cryptree: out of memory\n"),
+        Status::NotBlank => out.append(b"cryptree: not blank\n"),
+    }
+}
+
+fn random_short_line(alloc: Global, left: u32, need: u32) -> Mem<String>
+    ensures { IfOk result (λ line. string_bytes line ≡ line_of (Status.RandomShort left need)) }
+{
+    Ok(format!(in alloc; "cryptree: random {left} of {need}\n")?)
+}
