@@ -1,0 +1,3 @@
+mod Differences
+pub mod HmacLemmas
+mod Vectors

@@ -1,0 +1,48 @@
+//! The HMAC of a message that comes in parts.
+ghost use Rattle.std.specs.Prelude.{◌≡◌, ℕ, List, [], ◌++◌};
+ghost use Rattle.hmac_seal.specs.Hmac.{hmac};
+ghost use Rattle.hmac_seal.specs.Holding.{Holds};
+
+use crate::block::{key_block, padded};
+use sha2::{Digest, Sha256};
+
+const INNER_PAD: u8 = 0x36;
+
+const OUTER_PAD: u8 = 0x5c;
+
+/// A key and the part of a message that was added so far. It takes no memory.
+#[derive(Drop)]
+pub struct Hmac {
+    inner: Sha256,
+    outer: Sha256,
+}
+
+impl Hmac {
+    /// The key and an empty message.
+    pub fn start(key: &[u8]) -> Hmac
+        ensures { Holds result key.now [] }
+    {
+        let block = key_block(key);
+        let mut inner = Sha256::new();
+        inner.update(padded(block, INNER_PAD));
+        let mut outer = Sha256::new();
+        outer.update(padded(block, OUTER_PAD));
+        Hmac { inner, outer }
+    }
+
+    /// Adds `part` at the end of the message.
+    pub fn add(&mut self, part: &[u8])
+        ensures { (key message : List ℕ) → Holds self.old key message → Holds self.new key (message ++ part.now) }
+    {
+        self.inner.update(part);
+    }
+
+    /// The HMAC of the message under the key.
+    pub fn end(self) -> [u8; 32]
+        ensures { (key message : List ℕ) → Holds self key message → result ≡ hmac key message }
+    {
+        let mut outer = self.outer;
+        outer.update(self.inner.finalize());
+        outer.finalize()
+    }
+}
