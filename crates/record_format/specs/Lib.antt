@@ -1,0 +1,4 @@
+pub mod Plain
+pub mod Spelling
+pub mod Sizes
+pub mod Spellable

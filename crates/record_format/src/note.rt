@@ -1,0 +1,50 @@
+//! What a command did to the tree, the holders or the grants: the first field of a payload.
+//!
+//! ```text
+//! code  note         fields after the code, ids of 4 bytes, big-endian
+//!    1  Root         none
+//!    2  NewHolder    holder, 32 bytes of check
+//!    3  NewFolder    folder, parent
+//!    4  NewFile      file, folder
+//!    5  Rewrite      file
+//!    6  NameFile     file
+//!    7  NameFolder   folder
+//!    8  DropFile     file
+//!    9  DropFolder   folder
+//!   10  ShiftFile    file, into
+//!   11  ShiftFolder  folder, into
+//!   12  Give         holder, folder
+//!   13  Take         holder, folder
+//! ```
+use cry_base::{FileId, FolderId, HolderId};
+
+/// What one command did (docs/FORMAT.md, "Notes and payloads").
+#[derive(Clone, Copy, Debug, PartialEq, Eq)]
+pub enum Note {
+    /// Makes the root folder.
+    Root,
+    /// Makes a holder, whose key has this check.
+    NewHolder { holder: HolderId, check: [u8; 32] },
+    /// Makes a folder.
+    NewFolder { folder: FolderId, parent: FolderId },
+    /// Makes a file.
+    NewFile { file: FileId, folder: FolderId },
+    /// Gives a file new bytes.
+    Rewrite { file: FileId },
+    /// Gives a file a new name.
+    NameFile { file: FileId },
+    /// Gives a folder a new name.
+    NameFolder { folder: FolderId },
+    /// Removes a file.
+    DropFile { file: FileId },
+    /// Removes a folder, and all grants on it.
+    DropFolder { folder: FolderId },
+    /// Puts a file into another folder.
+    ShiftFile { file: FileId, into: FolderId },
+    /// Puts a folder into another folder.
+    ShiftFolder { folder: FolderId, into: FolderId },
+    /// Gives a holder a grant on a folder.
+    Give { holder: HolderId, folder: FolderId },
+    /// Takes a holder's grant on a folder away.
+    Take { holder: HolderId, folder: FolderId },
+}

@@ -1,0 +1,54 @@
+//! What a batch of one command carries: the note's code and fields, the number of links and the number of
+//! contents (4 bytes each, big-endian), the links, the contents (docs/FORMAT.md, "Notes and payloads").
+ghost use Rattle.std.specs.Prelude.{◌≡◌, ◌+◌, ◌<◌, ◌^◌, length, map};
+ghost use Rattle.std.specs.List.{sum_by};
+ghost use Rattle.record_format.specs.Plain.{plain_content, plain_payload};
+ghost use Rattle.record_format.specs.Sizes.{note_size, content_size, payload_size};
+ghost use Rattle.record_format.specs.Spellable.{IsSpellable};
+ghost use Rattle.record_format.specs.Spelling.{spell_payload};
+
+use crate::{ContentRecord, LinkRecord, Note};
+use cry_base::List;
+
+/// What one command did, and the records that it published.
+#[derive(Debug, Drop, PartialEq, Eq)]
+pub struct Payload {
+    pub note: Note,
+    pub links: List<LinkRecord>,
+    pub contents: List<ContentRecord>,
+}
+
+fn note_len(note: &Note) -> u64
+    ensures { result ≡ note_size note.now }
+{
+    match note {
+        Note::Root => 1,
+        Note::NewHolder { .. } => 37,
+        Note::Rewrite { .. }
+        | Note::NameFile { .. }
+        | Note::NameFolder { .. }
+        | Note::DropFile { .. }
+        | Note::DropFolder { .. } => 5,
+        _ => 9,
+    }
+}
+
+fn contents_len(contents: &[ContentRecord]) -> u64
+    requires { sum_by (λ c. 58 + length c.cipher.items) contents.now < 2 ^ 64 }
+    ensures { result ≡ sum_by (λ c. 58 + length c.cipher.items) contents.now }
+{
+    contents
+        .iter()
+        .map(|content| 58 + content.cipher.as_slice().len() as u64)
+        .sum()
+}
+
+/// The number of bytes of the payload's spelling.
+pub fn payload_len(payload: &Payload) -> u64
+    requires { IsSpellable (plain_payload payload.now) }
+    ensures size { result ≡ payload_size (plain_payload payload.now) }
+    ensures spelled { result ≡ length (spell_payload (plain_payload payload.now)) }
+{
+    let links = 98 * payload.links.as_slice().len() as u64;
+    note_len(&payload.note) + 8 + links + contents_len(payload.contents.as_slice())
+}
