@@ -27,10 +27,9 @@ pub drawn_to_the_end : (a n : ℕ) (buf part x middle y : List ℕ) → a ≤ le
     x ≡ take a buf ++ middle → middle ≡ take n part ++ y → middle ≡ [] → (length x ≡ a) × (y ≡ [])
 drawn_to_the_end a n buf part x middle y in_buf none first second nothing =
     let same : middle ≡ y = second ∙ ap (λ m. take m part ++ y) none in
-    let empty : y ≡ [] = sym same ∙ nothing in
-    (
+    let empty : y ≡ [] = sym same ∙ nothing in (
       ap length first ∙ length-append (take a buf) middle ∙ ap (λ m. length (take a buf) + length m) nothing
-      ∙ omega (arith, length-take-le a buf in_buf),
+          ∙ omega (arith, length-take-le a buf in_buf),
       empty,
     )
 

@@ -1,3 +1,4 @@
 pub mod Outside
 pub mod Status
 pub mod Words
+pub mod Commit

@@ -1,6 +1,7 @@
 //! cryptree: shared folders in one file on a disk that nobody has to trust.
 #![tactic(auto)]
 
+mod commit;
 mod outside;
 mod status;
 mod words;

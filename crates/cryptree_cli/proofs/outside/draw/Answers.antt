@@ -12,7 +12,7 @@ returns-in_default-clause-bytes g c = λ x y was is.
     let front = take c.loop-have.have c.loop-have.buf in (
       front,
       c.loop-have.invariant.bytes x again.0 was again.1
-      ∙ ap (λ r. front ++ r) (sym (c.in_default.ensures.bytes again.0 y again.1 is)),
+          ∙ ap (λ r. front ++ r) (sym (c.in_default.ensures.bytes again.0 y again.1 is)),
     )
 
 pub returns-then-n-eq0-clause-bytes : goal.returns-then-n-eq0-clause-bytes
@@ -25,8 +25,8 @@ returns-then-n-eq0-clause-bytes g c = λ x y was is.
     (c.loop-have.invariant.bytes x again.0 was again.1)
     (c.in-Ok.ensures.bytes again.0 y again.1 is)
     (c.in-Ok.ensures.at_end again.0 y again.1 is
-      (simp (length-take, length-drop) (omega (arith, c.loop-have-test.true)))
-      (ap (λ n. Ok n) c.if-n-eq0.true))
+    (simp (length-take, length-drop) (omega (arith, c.loop-have-test.true)))
+    (ap (λ n. Ok n) c.if-n-eq0.true))
 
 pub loop-have-preserved : goal.loop-have-preserved
 loop-have-preserved g c = record {
