@@ -1,4 +1,7 @@
+pub mod Commit
+pub mod Fresh
+pub mod Image
 pub mod Outside
+pub mod Sealed
 pub mod Status
 pub mod Words
-pub mod Commit
