@@ -1,0 +1,4 @@
+pub mod Keys
+pub mod Sealing
+pub mod Serials
+pub mod Stream

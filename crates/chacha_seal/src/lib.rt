@@ -1,0 +1,22 @@
+//! Keys, serials that are spent once, sealing and masking.
+#![tactic(auto)]
+
+mod counter;
+mod derived;
+mod key;
+mod kinds;
+mod nonce;
+mod opening;
+mod sealing;
+mod stream;
+
+pub use counter::Counter;
+pub use derived::{check_of, owner_tag_key, veil_key};
+pub use key::{FreshKey, Key};
+pub use kinds::{BackK, ClearK, DataK, FileK, FilesK, HolderK, OwnerK, SubK};
+pub use nonce::Nonce;
+pub use opening::{BadTag, open_in_place};
+pub use sealing::{mask_in_place, seal_in_place};
+
+#[cfg(test)]
+mod tests;

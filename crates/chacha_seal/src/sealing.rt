@@ -1,0 +1,28 @@
+//! Sealing under a key, and masking under a veil.
+ghost use Rattle.std.specs.Prelude.{◌≡◌, ℕ, List};
+ghost use Rattle.chacha_seal.specs.Sealing.{sealed, seal_tag, masked};
+
+use crate::derived::{cipher_key, tag_key};
+use crate::stream::xor_stream;
+use crate::{Key, Nonce};
+use hmac_seal::hmac;
+
+/// Makes the text its cipher bytes, and answers the tag of `header` and these (docs/FORMAT.md). It spends
+/// the nonce.
+#[tactic(auto, unfolding(crate::specs::Sealing::sealed, crate::specs::Sealing::seal_tag))]
+pub fn seal_in_place<K>(key: &Key<K>, nonce: Nonce, header: &[u8], text: &mut [u8]) -> [u8; 32]
+    ensures cipher { text.new ≡ sealed key.now.bytes nonce text.old }
+    ensures tag { result ≡ seal_tag key.now.bytes header.now text.new }
+{
+    xor_stream(cipher_key(key.bytes()), nonce.spend(), text);
+    hmac(&tag_key(key.bytes()), header, text)
+}
+
+/// Lays the veil over a payload, or takes it away (docs/FORMAT.md): it is its own inverse.
+#[tactic(auto, unfolding(crate::specs::Sealing::masked))]
+pub fn mask_in_place(veil: &[u8; 32], text: &mut [u8])
+    ensures masked { text.new ≡ masked veil.now text.old }
+    ensures inverse { (payload : List ℕ) → text.old ≡ masked veil.now payload → text.new ≡ payload }
+{
+    xor_stream(*veil, 0, text);
+}
