@@ -19,10 +19,10 @@ written_over place a b c bytes new at same written =
     let old = a ++ (b ++ c) in
     let front : take place old ≡ a = ap (λ p. take p old) at ∙ take-append_seam a (b ++ c) in
     let behind : drop (place + length bytes) old ≡ c =
-      ap (λ p. drop (p + length bytes) old) at
-      ∙ ap (λ n. drop (length a + n) old) same
-      ∙ drop-append-add a (b ++ c) (length b)
-      ∙ drop-append_seam b c
+    ap (λ p. drop (p + length bytes) old) at
+    ∙ ap (λ n. drop (length a + n) old) same
+    ∙ drop-append-add a (b ++ c) (length b)
+    ∙ drop-append_seam b c
     in
     written
     ∙ ap (λ r. (r ++ bytes) ++ drop (place + length bytes) old) front
@@ -54,21 +54,21 @@ pub committed : (end gate : ℕ) (front batch veil s s1 s2 s3 : List ℕ) →
 committed end gate front batch veil s s1 s2 s3 sized whole veil_length is staged opened unveiled =
     let at : end ≡ length front + 1 = sym sized ∙ ap length is ∙ length-append front (gate ∷ []) in
     let first : s1 ≡ front ++ (gate ∷ [] ++ batch) =
-      written_behind end s batch s1 (sym sized) staged ∙ ap (λ r. r ++ batch) is ∙ append_assoc front (gate ∷ []) batch
+    written_behind end s batch s1 (sym sized) staged ∙ ap (λ r. r ++ batch) is ∙ append_assoc front (gate ∷ []) batch
     in
     let second : s2 ≡ front ++ (1 ∷ batch) =
-      written_over (end - 1) front (gate ∷ []) batch (1 ∷ []) s2 (omega (arith, at)) refl
-      (subst (λ r. Written (end - 1) (1 ∷ []) r s2) first opened)
+    written_over (end - 1) front (gate ∷ []) batch (1 ∷ []) s2 (omega (arith, at)) refl
+    (subst (λ r. Written (end - 1) (1 ∷ []) r s2) first opened)
     in
     let a = front ++ (1 ∷ take 13 batch) in
     let split : s2 ≡ a ++ (take 32 (drop 13 batch) ++ drop 45 batch) =
-      second ∙ ap (λ r. front ++ (1 ∷ r)) (parts batch)
-      ∙ sym (append_assoc front (1 ∷ take 13 batch) (take 32 (drop 13 batch) ++ drop 45 batch))
+    second ∙ ap (λ r. front ++ (1 ∷ r)) (parts batch)
+    ∙ sym (append_assoc front (1 ∷ take 13 batch) (take 32 (drop 13 batch) ++ drop 45 batch))
     in
     let third : s3 ≡ a ++ (veil ++ drop 45 batch) =
-      written_over (end + 13) a (take 32 (drop 13 batch)) (drop 45 batch) veil s3
-      (omega (arith, at, length-append front (1 ∷ take 13 batch), length-take-le 13 batch (omega (arith, whole))))
-      (veil_length ∙ sym (length-take-le 32 (drop 13 batch) (omega (arith, length-drop 13 batch))))
-      (subst (λ r. Written (end + 13) veil r s3) split unveiled)
+    written_over (end + 13) a (take 32 (drop 13 batch)) (drop 45 batch) veil s3
+    (omega (arith, at, length-append front (1 ∷ take 13 batch), length-take-le 13 batch (omega (arith, whole))))
+    (veil_length ∙ sym (length-take-le 32 (drop 13 batch) (omega (arith, length-drop 13 batch))))
+    (subst (λ r. Written (end + 13) veil r s3) split unveiled)
     in
     third ∙ append_assoc front (1 ∷ take 13 batch) (veil ++ drop 45 batch)

@@ -1,2 +1,4 @@
-pub mod OutsideLemmas
+pub mod BatchLemmas
 pub mod CommitLemmas
+pub mod OutsideLemmas
+pub mod SealedLemmas

@@ -1,5 +1,5 @@
 -- The store file, from its header to its last gate. This project's own, docs/FORMAT.md, "The file".
-use Rattle.std.specs.Prelude.{ℕ, List, [], ◌∷◌, ◌++◌, length, codes}
+use Rattle.std.specs.Prelude.{ℕ, List, [], ◌∷◌, ◌++◌, length, codes, replicate}
 use Rattle.hmac_seal.specs.Hmac.{hmac}
 use Rattle.chacha_seal.specs.Sealing.{veil_of, check_of, owner_tag_key, masked}
 use Rattle.record_format.specs.Spelling.{be32}
@@ -41,6 +41,10 @@ batch_check owner b = hmac (batch_veil owner b) (masked_payload owner b)
 unfoldable pub owner_tag : List ℕ → List ℕ → Batch → List ℕ
 owner_tag owner previous b =
     hmac (owner_tag_key owner) (previous ++ (batch_head b ++ (masked_payload owner b ++ batch_check owner b)))
+
+-- the slot of a batch that isn't published
+unfoldable pub empty_slot : List ℕ
+empty_slot = replicate 32 0
 
 -- a batch with these bytes in its slot, without the gate behind it: 109 bytes and its payload
 unfoldable pub spell_batch : List ℕ → List ℕ → List ℕ → Batch → List ℕ

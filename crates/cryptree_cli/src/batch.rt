@@ -7,7 +7,7 @@
 //!  9   4  L              109+L    1  next gate
 //! 13  32  slot
 //! ```
-ghost use Rattle.std.specs.Prelude.{◌≡◌, ◌+◌, ◌≤◌, ℕ, List, [], ◌∷◌, ◌++◌, length, take, drop, replicate};
+ghost use Rattle.std.specs.Prelude.{◌≡◌, ◌+◌, ◌≤◌, ℕ, List, [], ◌∷◌, ◌++◌, length, take, drop};
 ghost use Rattle.hmac_seal.specs.Hmac as mac;
 ghost use Rattle.chacha_seal.specs.Sealing as sealing;
 ghost use Rattle.cryptree_cli.specs.Image as image;
@@ -46,10 +46,9 @@ fn type_byte(type_of: BatchType) -> u8
 }
 
 /// Puts the head of a batch whose payload has `size` bytes, and an empty slot. The payload is put behind them.
-#[tactic(auto, unfolding(crate::specs::Image::head_bytes, record_format::specs::Spelling::be32))]
 pub(crate) fn begin(type_of: BatchType, number: u32, epoch: Epoch, size: u32, batch: &mut Text)
     requires { 45 ≤ batch.old.spare }
-    ensures items { batch.new.items ≡ batch.old.items ++ (image.head_bytes type_of number epoch.0 size ++ replicate 32 0) }
+    ensures items { batch.new.items ≡ batch.old.items ++ (image.head_bytes type_of number epoch.0 size ++ image.empty_slot) }
     ensures spare { batch.old.spare ≤ batch.new.spare + 45 }
 {
     batch.put(type_byte(type_of));
@@ -73,7 +72,7 @@ fn put_tags(owner: &Key<OwnerK>, previous: &[u8; 32], veil: &[u8; 32], batch: &m
     requires room { 65 ≤ batch.old.spare }
     ensures tag { let payload = drop 45 batch.old.items in
         result ≡ mac.hmac (sealing.owner_tag_key owner.now.bytes)
-            (previous.now ++ (take 13 batch.old.items ++ (payload ++ mac.hmac veil.now payload))) }
+        (previous.now ++ (take 13 batch.old.items ++ (payload ++ mac.hmac veil.now payload))) }
     ensures items { batch.new.items ≡ batch.old.items ++ (mac.hmac veil.now (drop 45 batch.old.items) ++ (result ++ 0 ∷ [])) }
 {
     let bytes = batch.as_slice();
@@ -92,14 +91,19 @@ fn put_tags(owner: &Key<OwnerK>, previous: &[u8; 32], veil: &[u8; 32], batch: &m
 
 /// Masks the payload of a batch that ends with it, and puts the check, the owner tag and a closed gate behind it.
 /// The result is the owner tag.
-pub(crate) fn finish(owner: &Key<OwnerK>, previous: &[u8; 32], veil: &[u8; 32], batch: &mut Text) -> [u8; 32]
+pub(crate) fn finish(
+    owner: &Key<OwnerK>,
+    previous: &[u8; 32],
+    veil: &[u8; 32],
+    batch: &mut Text,
+) -> [u8; 32]
     requires whole { 45 ≤ length batch.old.items }
     requires room { 65 ≤ batch.old.spare }
     ensures spelled { (b : image.Batch) → veil.now ≡ image.batch_veil owner.now.bytes b →
-        batch.old.items ≡ image.batch_head b ++ (replicate 32 0 ++ b.payload) →
-        batch.new.items ≡ image.spell_batch owner.now.bytes previous.now (replicate 32 0) b ++ 0 ∷ [] }
+        batch.old.items ≡ image.batch_head b ++ (image.empty_slot ++ b.payload) →
+        batch.new.items ≡ image.spell_batch owner.now.bytes previous.now (image.empty_slot) b ++ 0 ∷ [] }
     ensures tag { (b : image.Batch) → veil.now ≡ image.batch_veil owner.now.bytes b →
-        batch.old.items ≡ image.batch_head b ++ (replicate 32 0 ++ b.payload) →
+        batch.old.items ≡ image.batch_head b ++ (image.empty_slot ++ b.payload) →
         result ≡ image.owner_tag owner.now.bytes previous.now b }
 {
     mask(veil, batch);

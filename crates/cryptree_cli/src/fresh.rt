@@ -1,13 +1,14 @@
 //! What `make` publishes: the root's keys and its empty name.
-ghost use Rattle.std.specs.Prelude.{◌≡◌, ◌<◌, ◌≤◌, [], length};
+ghost use Rattle.std.specs.Prelude.{◌≡◌, ◌<◌, ◌≤◌, [], ◌∷◌, ◌++◌, length};
+ghost use Rattle.chacha_seal.specs.Serials.{serial_of};
+ghost use Rattle.cryptree_cli.specs.Sealed.{sealed_link};
 ghost use Rattle.record_format.specs.Plain.{plain_payload};
 ghost use Rattle.cryptree_cli.specs.Fresh as fresh;
 
+use crate::sealed::{content, link};
 use chacha_seal::{BackK, ClearK, Counter, DataK, FilesK, FreshKey, Key, OwnerK, SubK};
 use cry_base::{Epoch, List, Text};
 use record_format::{ContentRecord, LinkRecord, Note, Payload};
-
-use crate::sealed::{content, link};
 
 /// The random bytes that `make` draws: the owner's key, and the root's five.
 pub(crate) const DRAWN: usize = 192;
@@ -36,6 +37,7 @@ pub(crate) fn owner_key(drawn: &[u8; DRAWN]) -> Key<OwnerK>
 }
 
 /// The root's keys, in the order in which they are drawn and numbered.
+#[derive(Drop)]
 struct RootKeys {
     clear: Key<ClearK>,
     sub: Key<SubK>,
@@ -59,5 +61,60 @@ fn root_keys(drawn: &[u8; DRAWN], counter: &mut Counter) -> RootKeys
         back: FreshKey::from_draw(ROOT, counter.next(), piece(drawn, 3)).settle(),
         files: FreshKey::from_draw(ROOT, counter.next(), piece(drawn, 4)).settle(),
         data: FreshKey::from_draw(ROOT, counter.next(), piece(drawn, 5)).settle(),
+    }
+}
+
+fn put_links(
+    owner: &Key<OwnerK>,
+    keys: &RootKeys,
+    counter: &mut Counter,
+    links: &mut List<LinkRecord>,
+)
+    requires room { 5 ≤ links.old.spare }
+    requires counted { counter.old ≡ record { epoch = 1; count = 5 } }
+    ensures counted { counter.new ≡ record { epoch = 1; count = 10 } }
+    ensures links { links.new.items ≡ links.old.items ++
+        (sealed_link 1 owner.now keys.now.clear (serial_of 1 5)
+        ∷ sealed_link 3 keys.now.clear keys.now.sub (serial_of 1 6)
+        ∷ sealed_link 4 keys.now.sub keys.now.back (serial_of 1 7)
+        ∷ sealed_link 5 keys.now.sub keys.now.files (serial_of 1 8)
+        ∷ sealed_link 7 keys.now.back keys.now.«data» (serial_of 1 9)
+        ∷ []) }
+{
+    links.put(link(1, owner, &keys.clear, counter.next()));
+    links.put(link(3, &keys.clear, &keys.sub, counter.next()));
+    links.put(link(4, &keys.sub, &keys.back, counter.next()));
+    links.put(link(5, &keys.sub, &keys.files, counter.next()));
+    links.put(link(7, &keys.back, &keys.data, counter.next()));
+}
+
+/// Room for the records of the root, taken before the keys are drawn.
+#[derive(Drop)]
+pub(crate) struct RootRoom {
+    pub(crate) links: List<LinkRecord>,
+    pub(crate) contents: List<ContentRecord>,
+    pub(crate) name: Text,
+}
+
+/// What `make` publishes with the keys drawn.
+pub(crate) fn root_payload(drawn: &[u8; DRAWN], room: RootRoom) -> Payload
+    requires links { (room.links.items ≡ []) × (5 ≤ room.links.spare) }
+    requires contents { (room.contents.items ≡ []) × (1 ≤ room.contents.spare) }
+    requires name { room.name.items ≡ [] }
+    ensures { plain_payload result ≡ fresh.root_payload drawn.now }
+{
+    let RootRoom {
+        mut links,
+        mut contents,
+        name,
+    } = room;
+    let mut counter = Counter::new(FIRST_EPOCH);
+    let keys = root_keys(drawn, &mut counter);
+    put_links(&owner_key(drawn), &keys, &mut counter, &mut links);
+    contents.put(content(NAME, &keys.data, ROOT, counter.next(), name));
+    Payload {
+        note: Note::Root,
+        links,
+        contents,
     }
 }

@@ -1,8 +1,11 @@
 //! cryptree: shared folders in one file on a disk that nobody has to trust.
 #![tactic(auto)]
 
+mod batch;
 mod commit;
+mod fresh;
 mod outside;
+mod sealed;
 mod status;
 mod words;
 

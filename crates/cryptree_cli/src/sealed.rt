@@ -27,7 +27,13 @@ pub(crate) fn link<A, B>(kind: u8, from: &Key<A>, to: &Key<B>, nonce: Nonce) -> 
 }
 
 /// A text of an object, sealed under a key.
-pub(crate) fn content<K>(kind: u8, key: &Key<K>, object: u32, nonce: Nonce, text: Text) -> ContentRecord
+pub(crate) fn content<K>(
+    kind: u8,
+    key: &Key<K>,
+    object: u32,
+    nonce: Nonce,
+    text: Text,
+) -> ContentRecord
     requires { length text.items < 2 ^ 32 }
     ensures { plain_content result ≡ sealed_content kind key.now object nonce text.items }
 {
