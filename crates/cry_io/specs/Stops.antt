@@ -22,3 +22,7 @@ pub record Elapses (before now : ℕ) (past since : ℕ → List ℕ → List �
   pub later : before ≤ now
   pub nothing_else : (t : ℕ) (s c : List ℕ) → t ≤ before → since t s c → past t s c ⊎ ((shown ≡ Some s) × may_leave c)
   pub keeps : (t : ℕ) (s c : List ℕ) → t ≤ before → past t s c → since t s c
+
+-- a stop leaves what is shown and nothing else
+abbrev pub IsDurable : (List ℕ → Type 0) → Option (List ℕ) → Type 0
+IsDurable may_leave shown = (bytes : List ℕ) → may_leave bytes → shown ≡ Some bytes

@@ -8,7 +8,9 @@ use Rattle.chacha_seal.specs.Sealing.{owner_tag_key, masked}
 use Rattle.chacha_seal.proofs.StreamLemmas.{length-xor_stream}
 use Rattle.record_format.specs.Spelling.{be32}
 use Rattle.record_format.proofs.Lengths.{length-be32}
-use Rattle.cryptree_cli.specs.Image.{Batch, head_bytes, batch_head, batch_veil, owner_tag, spell_batch, empty_slot}
+use Rattle.cryptree_cli.specs.declared.batch.BatchType.{BatchType}
+use Rattle.cryptree_cli.specs.Commit.{with_slot}
+use Rattle.cryptree_cli.specs.Image.{Batch, head_bytes, batch_head, batch_veil, masked_payload, batch_check, owner_tag, spell_batch, empty_slot}
 use Rattle.cryptree_cli.proofs.OutsideLemmas.{take-all}
 use borrow.Rule.Slice.PartMut.{post_of}
 
@@ -72,17 +74,16 @@ put_thrice old x1 x2 x3 first second third e1 e2 e3 =
     ∙ append_assoc old first (second ++ third)
 
 -- a head has 13 bytes
-pub length-batch_head : (b : Batch) → length (batch_head b) ≡ 13
+pub length-head_bytes : (type_of : BatchType) (number epoch size : ℕ) → length (head_bytes type_of number epoch size) ≡ 13
 unfolding head_bytes
-length-batch_head b =
-    let numbers = be32 b.number ++ (be32 b.epoch ++ be32 (length b.payload)) in
+length-head_bytes type_of number epoch size =
     omega (
       arith,
-      length-append (be32 b.number) (be32 b.epoch ++ be32 (length b.payload)),
-      length-append (be32 b.epoch) (be32 (length b.payload)),
-      length-be32 b.number,
-      length-be32 b.epoch,
-      length-be32 (length b.payload),
+      length-append (be32 number) (be32 epoch ++ be32 size),
+      length-append (be32 epoch) (be32 size),
+      length-be32 number,
+      length-be32 epoch,
+      length-be32 size,
     )
 
 pub length-empty_slot : length empty_slot ≡ 32
@@ -97,7 +98,7 @@ pub record Parts (b : Batch) (slot rest x : List ℕ) : Type 0 where
 
 pub parts_of : (b : Batch) (slot rest x : List ℕ) → length slot ≡ 32 → x ≡ batch_head b ++ (slot ++ rest) → Parts b slot rest x
 parts_of b slot rest x slot_length is =
-    let head_length = length-batch_head b in
+    let head_length = length-head_bytes b.type_of b.number b.epoch (length b.payload) in
     let front_length : length (batch_head b ++ slot) ≡ 45 = length-append (batch_head b) slot ∙ omega (arith, head_length, slot_length) in
     let regrouped : x ≡ (batch_head b ++ slot) ++ rest = is ∙ sym (append_assoc (batch_head b) slot rest) in
     record {
@@ -121,3 +122,16 @@ pub spelled : (owner previous veil slot x tag y : List ℕ) (b : Batch) → veil
 unfolding spell_batch
 spelled owner previous veil slot x tag y b is masked_is tag_is put =
     rw (put, masked_is, tag_is, is) (simp append_assoc)
+
+-- a spelled batch with other bytes in its slot
+pub with_slot-spelled : (owner previous slot veil : List ℕ) (b : Batch) → length slot ≡ 32 →
+    with_slot veil (spell_batch owner previous slot b ++ 0 ∷ []) ≡ spell_batch owner previous veil b ++ 0 ∷ []
+unfolding spell_batch
+with_slot-spelled owner previous slot veil b slot_length =
+    let rest = masked_payload owner b ++ (batch_check owner b ++ owner_tag owner previous b) in
+    let x = (batch_head b ++ (slot ++ rest)) ++ 0 ∷ [] in
+    let regrouped : x ≡ batch_head b ++ (slot ++ (rest ++ 0 ∷ [])) = simp append_assoc in
+    let parts = parts_of b slot (rest ++ 0 ∷ []) x slot_length regrouped in
+    ap (λ h. h ++ (veil ++ drop 45 x)) parts.head
+    ∙ ap (λ r. batch_head b ++ (veil ++ r)) parts.behind
+    ∙ sym (append_assoc (batch_head b) (veil ++ rest) (0 ∷ []) ∙ ap (λ r. batch_head b ++ r) (append_assoc veil rest (0 ∷ [])))

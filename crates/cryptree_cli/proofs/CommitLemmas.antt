@@ -72,3 +72,8 @@ committed end gate front batch veil s s1 s2 s3 sized whole veil_length is staged
     (subst (λ r. Written (end + 13) veil r s3) split unveiled)
     in
     third ∙ append_assoc front (1 ∷ take 13 batch) (veil ++ drop 45 batch)
+
+-- bytes written onto an empty disk
+pub written_first : (old bytes new : List ℕ) → length old ≡ 0 → Written 0 bytes old new → new ≡ bytes
+written_first [] bytes new empty written = written_behind 0 [] bytes new refl written
+written_first (x ∷ xs) bytes new empty written = absurd (omega (arith, empty))

@@ -50,6 +50,7 @@ pub(crate) fn begin(type_of: BatchType, number: u32, epoch: Epoch, size: u32, ba
     requires { 45 ≤ batch.old.spare }
     ensures items { batch.new.items ≡ batch.old.items ++ (image.head_bytes type_of number epoch.0 size ++ image.empty_slot) }
     ensures spare { batch.old.spare ≤ batch.new.spare + 45 }
+    ensures grown { length batch.new.items ≡ length batch.old.items + 45 }
 {
     batch.put(type_byte(type_of));
     batch.put_all(&number.to_be_bytes());
@@ -74,6 +75,7 @@ fn put_tags(owner: &Key<OwnerK>, previous: &[u8; 32], veil: &[u8; 32], batch: &m
         result ≡ mac.hmac (sealing.owner_tag_key owner.now.bytes)
         (previous.now ++ (take 13 batch.old.items ++ (payload ++ mac.hmac veil.now payload))) }
     ensures items { batch.new.items ≡ batch.old.items ++ (mac.hmac veil.now (drop 45 batch.old.items) ++ (result ++ 0 ∷ [])) }
+    ensures grown { length batch.new.items ≡ length batch.old.items + 65 }
 {
     let bytes = batch.as_slice();
     let check = hmac(veil, &bytes[PAYLOAD..], &[]);
@@ -99,6 +101,7 @@ pub(crate) fn finish(
 ) -> [u8; 32]
     requires whole { 45 ≤ length batch.old.items }
     requires room { 65 ≤ batch.old.spare }
+    ensures grown { length batch.new.items ≡ length batch.old.items + 65 }
     ensures spelled { (b : image.Batch) → veil.now ≡ image.batch_veil owner.now.bytes b →
         batch.old.items ≡ image.batch_head b ++ (image.empty_slot ++ b.payload) →
         batch.new.items ≡ image.spell_batch owner.now.bytes previous.now (image.empty_slot) b ++ 0 ∷ [] }

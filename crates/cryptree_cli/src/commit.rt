@@ -3,7 +3,7 @@
 ghost use Rattle.std.specs.Prelude.{◌≡◌, ◌+◌, ◌<◌, ◌≤◌, ◌^◌, ℕ, List, [], ◌∷◌, ◌++◌, length, max, is_some, Some, OnOk};
 ghost use Rattle.cry_io.specs.Counts.{CountsFault};
 ghost use Rattle.cry_io.specs.Told.{WhereBothTold};
-ghost use Rattle.cry_io.specs.Stops.{Written};
+ghost use Rattle.cry_io.specs.Stops.{Written, IsDurable};
 ghost use Rattle.cryptree_cli.specs.Commit.{Commits};
 
 use cry_io::{Disk, Failed};
@@ -19,7 +19,7 @@ pub(crate) fn write_and_sync<D: Disk>(disk: &mut D, place: u64, bytes: &[u8]) ->
     requires fits { place + length bytes.now < 2 ^ 64 }
     ensures told { is_some (D.shown disk.new) ≡ is_some (D.shown disk.old) }
     ensures written { OnOk result (WhereBothTold (D.shown disk.old) (D.shown disk.new) (Written place bytes.now)) }
-    ensures durable { OnOk result ((c : List ℕ) → D.may_leave disk.new c → D.shown disk.new ≡ Some c) }
+    ensures durable { OnOk result (IsDurable (D.may_leave disk.new) (D.shown disk.new)) }
     ensures size { OnOk result (D.size_of disk.new ≡ max (D.size_of disk.old) (place + length bytes.now)) }
     ensures counts { CountsFault result (D.faults disk.old) (D.faults disk.new) }
 {
@@ -35,7 +35,7 @@ pub(crate) fn commit<D: Disk>(disk: &mut D, batch: &[u8], veil: &[u8; 32]) -> Re
     requires fits { D.size_of disk.old + length batch.now < 2 ^ 64 }
     ensures told { is_some (D.shown disk.new) ≡ is_some (D.shown disk.old) }
     ensures committed { OnOk result (WhereBothTold (D.shown disk.old) (D.shown disk.new) (Commits batch.now veil.now)) }
-    ensures durable { OnOk result ((c : List ℕ) → D.may_leave disk.new c → D.shown disk.new ≡ Some c) }
+    ensures durable { OnOk result (IsDurable (D.may_leave disk.new) (D.shown disk.new)) }
     ensures size { OnOk result (D.size_of disk.new ≡ D.size_of disk.old + length batch.now) }
     ensures counts { CountsFault result (D.faults disk.old) (D.faults disk.new) }
 {

@@ -5,10 +5,11 @@ ghost use Rattle.cryptree_cli.specs.Sealed.{sealed_link};
 ghost use Rattle.record_format.specs.Plain.{plain_payload};
 ghost use Rattle.cryptree_cli.specs.Fresh as fresh;
 
+use crate::room::RootRoom;
 use crate::sealed::{content, link};
 use chacha_seal::{BackK, ClearK, Counter, DataK, FilesK, FreshKey, Key, OwnerK, SubK};
-use cry_base::{Epoch, List, Text};
-use record_format::{ContentRecord, LinkRecord, Note, Payload};
+use cry_base::{Epoch, List};
+use record_format::{LinkRecord, Note, Payload};
 
 /// The random bytes that `make` draws: the owner's key, and the root's five.
 pub(crate) const DRAWN: usize = 192;
@@ -86,14 +87,6 @@ fn put_links(
     links.put(link(4, &keys.sub, &keys.back, counter.next()));
     links.put(link(5, &keys.sub, &keys.files, counter.next()));
     links.put(link(7, &keys.back, &keys.data, counter.next()));
-}
-
-/// Room for the records of the root, taken before the keys are drawn.
-#[derive(Drop)]
-pub(crate) struct RootRoom {
-    pub(crate) links: List<LinkRecord>,
-    pub(crate) contents: List<ContentRecord>,
-    pub(crate) name: Text,
 }
 
 /// What `make` publishes with the keys drawn.

@@ -5,8 +5,10 @@ mod batch;
 mod commit;
 mod fresh;
 mod outside;
+mod room;
 mod sealed;
 mod status;
+mod store;
 mod words;
 
 use std::process::ExitCode;

@@ -1,7 +1,7 @@
-use Rattle.std.proofs.Common.{[], ◌∷◌, ◌++◌, ap, ◌∙◌}
+use Rattle.std.proofs.Common.{[], ◌∷◌, ◌++◌, length, arith, ap, ◌∙◌, length-append}
 use Rattle.record_format.specs.Spelling.{be32}
 use Rattle.cryptree_cli.specs.Image.{type_byte, head_bytes, empty_slot}
-use Rattle.cryptree_cli.proofs.BatchLemmas.{head_parts}
+use Rattle.cryptree_cli.proofs.BatchLemmas.{head_parts, length-head_bytes, length-empty_slot}
 use Rattle.cryptree_cli.proofs.batch.begin.Goals as goal
 
 pub returns-clause-items : goal.returns-clause-items
@@ -16,3 +16,16 @@ returns-clause-items c =
     (c.put_all-2.ensures.items ∙ ap (λ n. c.put_all.new.self.items ++ n) c.to_be_bytes-2.ensures)
     (c.put_all-3.ensures.items ∙ ap (λ n. c.put_all-2.new.self.items ++ n) c.to_be_bytes-3.ensures)
     c.put_all-4.ensures.items
+
+pub returns-clause-grown : goal.returns-clause-grown
+returns-clause-grown c =
+    let old = c.args.batch.now.items in
+    let head = head_bytes c.args.type_of c.args.number c.args.epoch.0 c.args.size in
+    omega (
+      arith,
+      ap length (returns-clause-items c),
+      length-append old (head ++ empty_slot),
+      length-append head empty_slot,
+      length-head_bytes c.args.type_of c.args.number c.args.epoch.0 c.args.size,
+      length-empty_slot,
+    )

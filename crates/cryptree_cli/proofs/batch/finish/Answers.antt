@@ -1,9 +1,9 @@
 use Rattle.std.proofs.Common.{◌≡◌, [], ◌∷◌, ◌++◌, length, take, drop, arith, append_assoc, ap, ◌∙◌, length-append}
-use Rattle.std.proofs.lemmas.List.{length-take-le}
+use Rattle.std.proofs.lemmas.List.{length-take-le, length-drop}
 use Rattle.hmac_seal.specs.Hmac.{hmac}
 use Rattle.chacha_seal.specs.Sealing.{masked}
 use Rattle.cryptree_cli.specs.Image.{Batch, batch_head, batch_veil, owner_tag, spell_batch, empty_slot}
-use Rattle.cryptree_cli.proofs.BatchLemmas.{Parts, parts_of, length-empty_slot, owner_tag_is, spelled}
+use Rattle.cryptree_cli.proofs.BatchLemmas.{Parts, parts_of, length-masked, length-empty_slot, owner_tag_is, spelled}
 use Rattle.cryptree_cli.proofs.batch.finish.Goals as goal
 
 pub put_tags-requires-clause-whole : goal.put_tags-requires-clause-whole
@@ -48,3 +48,16 @@ returns-clause-spelled c = λ b is untagged.
     (masked_is c b untagged)
     (c.put_tags.ensures.tag ∙ owner_tag_is c.args.owner.now.bytes c.args.previous.now veil empty_slot x b is parts)
     (c.put_tags.ensures.items ∙ ap (λ m. x ++ (hmac veil m ++ (tag ++ 0 ∷ []))) parts.behind)
+
+pub returns-clause-grown : goal.returns-clause-grown
+returns-clause-grown c =
+    let items = c.args.batch.now.items in
+    omega (
+      arith,
+      c.put_tags.ensures.grown,
+      ap length c.mask.ensures.items,
+      length-append (take 45 items) (masked c.args.veil.now (drop 45 items)),
+      length-take-le 45 items c.requires.whole,
+      length-masked c.args.veil.now (drop 45 items),
+      length-drop 45 items,
+    )
