@@ -5,4 +5,5 @@ pub mod Outside
 pub mod Room
 pub mod Sealed
 pub mod Status
+pub mod Top
 pub mod Words

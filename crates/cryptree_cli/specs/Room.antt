@@ -1,5 +1,6 @@
 -- Memory that is taken before anything is drawn or written.
 use Rattle.std.specs.Prelude.{◌≡◌, ◌≤◌, ℕ, []}
+use Rattle.cryptree_cli.specs.declared.room.MakeRoom.{MakeRoom}
 use Rattle.cryptree_cli.specs.declared.room.StoreRoom.{StoreRoom}
 
 -- room for the two batches of a fresh store and the records of the root
@@ -9,3 +10,8 @@ pub record IsRoomForStore (room : StoreRoom) : Type 0 where
   pub links : (room.records.links.items ≡ []) × (5 ≤ room.records.links.spare)
   pub contents : (room.records.contents.items ≡ []) × (1 ≤ room.records.contents.spare)
   pub name : room.records.name.items ≡ []
+
+-- and for the owner's line
+pub record IsRoomForMake (room : MakeRoom) : Type 0 where
+  pub store : IsRoomForStore room.store
+  pub line : (room.line.items ≡ []) × (71 ≤ room.line.spare)

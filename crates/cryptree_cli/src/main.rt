@@ -4,11 +4,15 @@
 mod batch;
 mod commit;
 mod fresh;
+mod make;
 mod outside;
+mod owner_line;
 mod room;
 mod sealed;
 mod status;
 mod store;
+mod texts;
+mod top;
 mod words;
 
 use std::process::ExitCode;

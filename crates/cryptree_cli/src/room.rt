@@ -2,6 +2,7 @@
 ghost use Rattle.std.specs.Prelude.{IfOk};
 
 use crate::batch::BATCH_LEN;
+use crate::owner_line::OWNER_LINE_LEN;
 use cry_base::{List, Mem, Text};
 use record_format::{ContentRecord, LinkRecord};
 use std::alloc::Global;
@@ -50,5 +51,25 @@ impl StoreRoom {
                 name,
             },
         })
+    }
+}
+
+/// Room for all that `make` does.
+#[derive(Drop)]
+pub(crate) struct MakeRoom {
+    pub(crate) store: StoreRoom,
+    pub(crate) line: Text,
+}
+
+impl MakeRoom {
+    ghost use Rattle.cryptree_cli.specs.Room.{IsRoomForMake};
+
+    pub(crate) fn take(alloc: Global) -> Mem<MakeRoom>
+        ensures { IfOk result IsRoomForMake }
+    {
+        let store = StoreRoom::take(alloc)?;
+        let mut line = List::new(alloc);
+        line.reserve(OWNER_LINE_LEN)?;
+        Ok(MakeRoom { store, line })
     }
 }

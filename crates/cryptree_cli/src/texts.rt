@@ -1,0 +1,20 @@
+//! What the program says to people beside its answers: lower case, a line each, no full stop at an end of a line.
+
+/// What `--help` prints.
+pub const HELP: &[u8] = b"\
+cryptree keeps shared folders in one store file, on a disk that nobody has to trust
+
+  cryptree STORE RANDOM make   make a store in STORE, a missing or empty file, and print its owner's key
+  cryptree --help              print this text
+  cryptree --version           print the version
+
+RANDOM is a file of random bytes, such as /dev/urandom; - stands for none
+the owner's key opens the whole store: keep it secret, for nothing can bring it back
+
+exit status: 0 done, 2 usage, 5 write fault, 6 disk fault, 7 random fault, 8 random too short,
+             13 out of memory, 14 the store's file isn't empty
+more: README.md, and docs/FORMAT.md for every byte of a store
+";
+
+/// What `--version` prints.
+pub const VERSION: &[u8] = b"cryptree 0.1.0\n";

@@ -1,0 +1,96 @@
+//! The call that the program makes.
+ghost use Rattle.std.specs.Prelude.{◌≡◌, ◌≢◌, ◌<◌, ◌≤◌, ◌⊎◌, ◌↔◌, ℕ, length, is_some, None, IsTrue, IsSome};
+ghost use Rattle.cry_io.specs.Stops.{IsDurable};
+ghost use Rattle.cry_io.specs.Told.{WhereTold, WhereBothTold};
+ghost use Rattle.cryptree_cli.specs.Status.{is_before_draw, is_before_write, is_before_print};
+ghost use Rattle.cryptree_cli.specs.Top.{IsMake, Makes, PrintsAll, PrintsFront, IsShort, EndsShort, text_of};
+ghost use Rattle.cryptree_cli.specs.Words.{form_of_words};
+
+use crate::make::make;
+use crate::outside::print;
+use crate::status::Status;
+use crate::texts::{HELP, VERSION};
+use crate::words::{Form, form_of};
+use cry_base::{List, Text};
+use cry_io::{Disk, Sink, Source};
+use std::alloc::Global;
+
+/// Does what the words ask for (docs/FORMAT.md, "The program"). `words` are those after the program's name, `disk` is
+/// the store's file, `random` a source of random bytes, `out` standard output, `input` standard input.
+///
+/// Where two causes of an answer hold, the one met first is given: words, size, memory, draw, disk, output. Want of
+/// memory comes at its place in this order, and no clause says when.
+pub fn top<S: Source, R: Source, D: Disk, W: Sink>(
+    alloc: Global,
+    words: &List<Text>,
+    _input: &mut S,
+    random: &mut R,
+    disk: &mut D,
+    out: &mut W,
+) -> Status
+    // When each answer comes.
+    ensures usage { (result ≡ Status.Usage) ↔ (form_of_words words.now.items ≡ None) }
+    ensures not_blank { (result ≡ Status.NotBlank) ↔ (IsMake words.now.items × (D.size_of disk.old ≢ 0)) }
+    ensures short { (left need : ℕ) → result ≡ Status.RandomShort left need →
+        IsShort left need (R.left random.old) (R.left random.new) }
+    ensures short_only { IsMake words.now.items → D.size_of disk.old ≡ 0 →
+        WhereTold (R.left random.old) (EndsShort result) }
+    ensures random_fault { result ≡ Status.RandomFault → R.faults random.old < R.faults random.new }
+    ensures disk_fault { result ≡ Status.DiskFault → D.faults disk.old < D.faults disk.new }
+    ensures write_fault { result ≡ Status.WriteFault → W.faults out.old < W.faults out.new }
+
+    // With room on the random source and no fault, `make` is done, if there is memory.
+    ensures complete { IsMake words.now.items → D.size_of disk.old ≡ 0 →
+        WhereTold (R.left random.old) (λ bytes. 192 ≤ length bytes) → IsSome (R.left random.old) →
+        R.faults random.new ≤ R.faults random.old → D.faults disk.new ≤ D.faults disk.old →
+        W.faults out.new ≤ W.faults out.old → (result ≡ Status.Done) ⊎ (result ≡ Status.OutOfMemory) }
+
+    // What `make` does: at a write fault the whole store stands all the same.
+    ensures made { IsMake words.now.items → result ≡ Status.Done → Makes PrintsAll
+        (R.left random.old) (R.left random.new) (D.shown disk.new) (W.written out.old) (W.written out.new) }
+    ensures cut_short { IsMake words.now.items → result ≡ Status.WriteFault → Makes PrintsFront
+        (R.left random.old) (R.left random.new) (D.shown disk.new) (W.written out.old) (W.written out.new) }
+    ensures stays { IsMake words.now.items → (result ≡ Status.Done) ⊎ (result ≡ Status.WriteFault) →
+        IsDurable (D.may_leave disk.new) (D.shown disk.new) × (D.size_of disk.new ≡ 819) }
+
+    // What the texts do: nothing but print.
+    ensures text { WhereTold (text_of (form_of_words words.now.items)) (λ text.
+        (result ≡ Status.Done) × WhereBothTold (W.written out.old) (W.written out.new) (PrintsAll text)
+        ⊎ (result ≡ Status.WriteFault) × WhereBothTold (W.written out.old) (W.written out.new) (PrintsFront text)) }
+    ensures text_alone { IsSome (text_of (form_of_words words.now.items)) →
+        (random.new ≡ random.old) × (disk.new ≡ disk.old) }
+
+    // What an answer leaves as it was.
+    ensures input_kept { _input.new ≡ _input.old }
+    ensures random_kept { IsTrue (is_before_draw result) → random.new ≡ random.old }
+    ensures disk_kept { IsTrue (is_before_write result) → disk.new ≡ disk.old }
+    ensures out_kept { IsTrue (is_before_print result) → out.new ≡ out.old }
+
+    // What is told stays told, and counts never fall.
+    ensures random_told { is_some (R.left random.new) ≡ is_some (R.left random.old) }
+    ensures disk_told { is_some (D.shown disk.new) ≡ is_some (D.shown disk.old) }
+    ensures out_told { is_some (W.written out.new) ≡ is_some (W.written out.old) }
+    ensures random_counts { R.faults random.old ≤ R.faults random.new }
+    ensures disk_counts { D.faults disk.old ≤ D.faults disk.new }
+    ensures out_counts { W.faults out.old ≤ W.faults out.new }
+{
+    match form_of(words) {
+        None => Status::Usage,
+        Some(Form::Make) => make(alloc, random, disk, out),
+        Some(Form::Help) => tell(HELP, out),
+        Some(Form::Version) => tell(VERSION, out),
+    }
+}
+
+fn tell<W: Sink>(text: &[u8], out: &mut W) -> Status
+    ensures done { (result ≡ Status.Done) × WhereBothTold (W.written out.old) (W.written out.new) (PrintsAll text.now)
+        ⊎ (result ≡ Status.WriteFault) × WhereBothTold (W.written out.old) (W.written out.new) (PrintsFront text.now) }
+    ensures write_fault { result ≡ Status.WriteFault → W.faults out.old < W.faults out.new }
+    ensures out_told { is_some (W.written out.new) ≡ is_some (W.written out.old) }
+    ensures out_counts { W.faults out.old ≤ W.faults out.new }
+{
+    let Ok(()) = print(out, text) else {
+        return Status::WriteFault;
+    };
+    Status::Done
+}
