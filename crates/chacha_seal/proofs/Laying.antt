@@ -1,5 +1,5 @@
 -- The loop that lays the stream over a text, one byte at a time.
-use Rattle.std.proofs.Common.{◌≡◌, ◌≢◌, ℕ, zero, suc, ◌+◌, ◌/◌, ◌%◌, ◌^◌, ◌<◌, ◌≤◌, List, [], ◌∷◌, ◌++◌, length, take, drop, get_or, set, bit_xor, add-one, arith, refl, ap, sym, ◌∙◌}
+use Rattle.std.proofs.Common.{◌≡◌, ◌≢◌, ℕ, ◌+◌, ◌/◌, ◌%◌, ◌^◌, ◌<◌, ◌≤◌, List, [], ◌∷◌, ◌++◌, length, take, drop, get_or, set, bit_xor, arith, refl, ap, ◌∙◌}
 use Rattle.std.specs.Int.{w32, to_le_bytes}
 use Rattle.std.proofs.lemmas.List.{append-nil, drop_all, take_all}
 use Rattle.rand_chacha.specs.ChaCha.{ChaCha, key_of, next_word, word_at}
@@ -61,7 +61,7 @@ ready_drawn key number i words word text before words' word' laid multiple bound
     record {
       drawn = same_words ∙ (ap (λ (p : ℕ × ChaCha). p.1) stepped ∙ ap at next);
       in_hand = same_word
-        ∙ (ap (λ (p : ℕ × ChaCha). to_le_bytes w32 p.0) stepped ∙ ap (λ pos. to_le_bytes w32 (word_at 10 (key_of key) number pos)) this);
+          ∙ (ap (λ (p : ℕ × ChaCha). to_le_bytes w32 p.0) stepped ∙ ap (λ pos. to_le_bytes w32 (word_at 10 (key_of key) number pos)) this);
     }
 
 -- one byte more
@@ -73,9 +73,9 @@ laid_more key number i words word text before words' word' laid ready below = re
   drawn = ready.drawn;
   long = ap length ready.in_hand;
   in_hand = λ inside. let same : i / 4 ≡ (i + 1) / 4 = omega arith in
-    ready.in_hand ∙ ap (λ pos. to_le_bytes w32 (word_at 10 (key_of key) number pos)) same;
+      ready.in_hand ∙ ap (λ pos. to_le_bytes w32 (word_at 10 (key_of key) number pos)) same;
   done = let byte : get_or word' (i % 4) 0 ≡ stream_byte key number i = ap (λ w. get_or w (i % 4) 0) ready.in_hand in
-    rw byte (lay_more key number i before text below laid.done);
+      rw byte (lay_more key number i before text below laid.done);
 }
 
 -- no byte is left

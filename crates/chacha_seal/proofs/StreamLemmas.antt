@@ -38,14 +38,14 @@ lay_next key number from at zero (byte ∷ rest) below place =
     let here : at ≡ from = omega arith in ap (λ a. bit_xor byte (stream_byte key number a) ∷ rest) here
 lay_next key number from at (suc i) (byte ∷ rest) below place =
     ap (λ xs. bit_xor byte (stream_byte key number from) ∷ xs)
-      (lay_next key number (from + 1) at i rest (omega arith) (omega arith))
+    (lay_next key number (from + 1) at i rest (omega arith) (omega arith))
 
 -- the byte at place i is as it was
 laid-rest : (key : List ℕ) (number i : ℕ) (text : List ℕ) → i < length text
     → get_or (xor_from key number 0 (take i text) ++ drop i text) i 0 ≡ get_or text i 0
 laid-rest key number i text below =
     let long : length (xor_from key number 0 (take i text)) ≡ i
-      = length-xor_from key number 0 (take i text) ∙ length-take-le i text (omega arith) in
+    = length-xor_from key number 0 (take i text) ∙ length-take-le i text (omega arith) in
     grind (arith, common_steps)
 
 pub lay_more : (key : List ℕ) (number i : ℕ) (before now : List ℕ) → i < length before

@@ -1,10 +1,11 @@
 //! Opening what was sealed.
-ghost use Rattle.std.specs.Prelude.{◌≡◌, ℕ, List, ◌↔◌, IsOk, OnOk, OnErr};
+ghost use Rattle.std.specs.Prelude.{◌≡◌, ℕ, List, ◌↔◌, IsOk, IfOk, OnOk, OnErr};
 ghost use Rattle.chacha_seal.specs.Sealing.{sealed, seal_tag};
 
 use crate::Key;
 use crate::derived::{cipher_key, tag_key};
 use crate::stream::xor_stream;
+use cry_base::Serial;
 use hmac_seal::{hmac, tags_equal};
 use thiserror::Error;
 
@@ -33,4 +34,25 @@ pub fn open_in_place<K>(
     }
     xor_stream(cipher_key(key.bytes()), nonce, text);
     Ok(())
+}
+
+/// The key with this id and serial whose bytes were sealed under the key `from`. `BadTag` comes exactly
+/// where `tag` isn't the one of `header` and the cipher bytes.
+pub fn open_key<A, B>(
+    from: &Key<A>,
+    nonce: u64,
+    header: &[u8],
+    cipher: [u8; 32],
+    tag: &[u8; 32],
+    id: u32,
+    serial: Serial,
+) -> Result<Key<B>, BadTag>
+    ensures authentic { IsOk result ↔ (tag.now ≡ seal_tag from.now.bytes header.now cipher) }
+    ensures opened { IfOk result (λ key. key
+        ≡ record { id = id; serial = serial.0; bytes = sealed from.now.bytes nonce cipher }) }
+    ensures inverse { (bytes : List ℕ) → cipher ≡ sealed from.now.bytes nonce bytes → IfOk result (λ key. key.bytes ≡ bytes) }
+{
+    let mut bytes = cipher;
+    open_in_place(from, nonce, header, &mut bytes, tag)?;
+    Ok(Key::of_parts(id, serial, bytes))
 }
