@@ -5,7 +5,8 @@ use Rattle.chacha_seal.specs.Sealing.{check_of, cipher_key, masked, owner_tag_ke
 use Rattle.chacha_seal.proofs.StreamLemmas.{length-xor_stream, xor_stream-xor_stream}
 
 -- what is sealed twice under one key and nonce is the text
-pub sealed-sealed : (key : List ℕ) (nonce : ℕ) (text : List ℕ) → sealed key nonce (sealed key nonce text) ≡ text
+pub sealed-sealed : (key : List ℕ) (nonce : ℕ) (text : List ℕ)
+    → sealed key nonce (sealed key nonce text) ≡ text
 unfolding sealed
 sealed-sealed key nonce text = xor_stream-xor_stream (cipher_key key) nonce text
 
@@ -15,16 +16,19 @@ unfolding masked
 masked-masked veil payload = xor_stream-xor_stream veil 0 payload
 
 -- two texts with one cipher under one key and nonce are one text
-pub same_from_sealed : (key : List ℕ) (nonce : ℕ) (text other : List ℕ) → sealed key nonce text ≡ sealed key nonce other → text ≡ other
+pub same_from_sealed : (key : List ℕ) (nonce : ℕ) (text other : List ℕ)
+    → sealed key nonce text ≡ sealed key nonce other → text ≡ other
 same_from_sealed key nonce text other same =
     sym (sealed-sealed key nonce text) ∙ (ap (sealed key nonce) same ∙ sealed-sealed key nonce other)
 
 -- two payloads with one masked form under one veil are one payload
-pub same_from_masked : (veil payload other : List ℕ) → masked veil payload ≡ masked veil other → payload ≡ other
+pub same_from_masked : (veil payload other : List ℕ)
+    → masked veil payload ≡ masked veil other → payload ≡ other
 same_from_masked veil payload other same =
     sym (masked-masked veil payload) ∙ (ap (masked veil) same ∙ masked-masked veil other)
 
-pub length-sealed : (key : List ℕ) (nonce : ℕ) (text : List ℕ) → length (sealed key nonce text) ≡ length text
+pub length-sealed : (key : List ℕ) (nonce : ℕ) (text : List ℕ)
+    → length (sealed key nonce text) ≡ length text
 unfolding sealed
 length-sealed key nonce text = length-xor_stream (cipher_key key) nonce text
 

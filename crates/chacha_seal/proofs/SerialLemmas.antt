@@ -4,7 +4,8 @@ use Rattle.std.proofs.lemmas.Nat.{same_from_place}
 use Rattle.chacha_seal.specs.Serials.{serial_of}
 
 -- a serial has one epoch and one count
-pub same_from_serial_of : (e c f d : ℕ) → c < 2 ^ 32 → d < 2 ^ 32 → serial_of e c ≡ serial_of f d → (e ≡ f) × (c ≡ d)
+pub same_from_serial_of : (e c f d : ℕ) → c < 2 ^ 32 → d < 2 ^ 32
+    → serial_of e c ≡ serial_of f d → (e ≡ f) × (c ≡ d)
 same_from_serial_of e c f d c_fits d_fits same = same_from_place e c f d (2 ^ 32) c_fits d_fits same
 
 -- the serial of an epoch and a count of 32 bits each has 64 bits

@@ -6,8 +6,8 @@ use crate::Nonce;
 use cry_base::Epoch;
 use std::marker::Model;
 
-/// Gives the serials `epoch * 2^32 + count`, with counts from 0. Contracts see the epoch and how many
-/// serials were given.
+/// Gives the serials `epoch * 2^32 + count`, with counts from 0. Contracts see the epoch and how
+/// many serials were given.
 #[derive(Debug, Drop)]
 pub struct Counter {
     epoch: Epoch,
@@ -42,7 +42,8 @@ impl Counter {
         requires { self.old.count < 2 ^ 32 - 1 }
         ensures serial { result ≡ serial_of self.old.epoch self.old.count }
         ensures rises { self.new ≡ record self.old { count = self.old.count + 1 } }
-        ensures not_given_before { (count : ℕ) → count < self.old.count → result ≢ serial_of self.old.epoch count }
+        ensures not_given_before { (count : ℕ) → count < self.old.count
+            → result ≢ serial_of self.old.epoch count }
         ensures fits { result < 2 ^ 64 }
     {
         let serial = u64::from(self.epoch.0) * (1 << 32) + u64::from(self.count);

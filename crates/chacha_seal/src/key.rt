@@ -6,8 +6,8 @@ use cry_base::{HolderId, Serial};
 use std::fmt;
 use std::marker::{Model, PhantomData};
 
-/// 32 secret bytes of one kind, with the number of the folder, file or holder whose key they are (0 for
-/// the owner's), and with the key's serial.
+/// 32 secret bytes of one kind, with the number of the folder, file or holder whose key they are (0
+/// for the owner's), and with the key's serial.
 #[derive(Drop)]
 pub struct Key<K> {
     id: u32,

@@ -12,7 +12,8 @@ loop-i-preserved c =
     let bound : c.loop-i.i < 2 ^ 64 = search rules in
     let ready : Ready c.args.key c.args.number c.loop-i.i c.if-i-eq0.words c.if-i-eq0.word =
     elim c.if-i-eq0.branch [
-      | then-i-eq0 w ↦ ready_drawn _ _ _ _ _ _ _ _ _ c.loop-i.invariant w.if-i-eq0.true bound _ _ w.next_word.ensures w.words-is (w.word-is ∙ w.to_le_bytes-word.ensures)
+      | then-i-eq0 w ↦ ready_drawn _ _ _ _ _ _ _ _ _ c.loop-i.invariant w.if-i-eq0.true bound
+          _ _ w.next_word.ensures w.words-is (w.word-is ∙ w.to_le_bytes-word.ensures)
       | else-i-eq0 w ↦ ready_kept _ _ _ _ _ _ _ _ _ c.loop-i.invariant w.if-i-eq0.false w.words-is w.word-is
     ] in
     laid_more _ _ _ _ _ _ _ _ _ c.loop-i.invariant ready below
