@@ -1,2 +1,5 @@
 mod Laying
+pub mod SealingLemmas
+pub mod SerialLemmas
 pub mod StreamLemmas
+mod Vectors

@@ -1,5 +1,5 @@
--- This project's own, docs/FORMAT.md: what is done with a key of 32 bytes, by HMAC (RFC 2104) and by the
--- stream of ChaCha20.
+-- This project's own, docs/FORMAT.md: what is done with a key of 32 bytes, by HMAC (RFC 2104) and by
+-- the stream of ChaCha20.
 use Rattle.std.specs.Prelude.{ℕ, List, [], ◌∷◌, ◌++◌}
 use Rattle.std.specs.Int.{w32, to_be_bytes}
 use Rattle.hmac_seal.specs.Hmac.{hmac}

@@ -1,12 +1,13 @@
--- The stream of ChaCha20: the block function of RFC 8439, in the layout with a 64-bit counter of blocks
--- and a 64-bit number of the stream.
+-- The stream of ChaCha20: the block function of RFC 8439, in the layout with a 64-bit counter of
+-- blocks and a 64-bit number of the stream.
 use Rattle.std.specs.Prelude.{ℕ, ◌+◌, ◌/◌, ◌%◌, List, [], ◌∷◌, bit_xor, slice_index}
 use Rattle.std.specs.Int.{w32, to_le_bytes}
 use Rattle.rand_chacha.specs.ChaCha.{key_of, word_at}
 
 -- byte i of the stream of a 32-byte key and a number: each word as four bytes, the lowest first
 unfoldable pub stream_byte : List ℕ → ℕ → ℕ → ℕ
-stream_byte key number i = slice_index (to_le_bytes w32 (word_at 10 (key_of key) number (i / 4))) (i % 4)
+stream_byte key number i =
+    slice_index (to_le_bytes w32 (word_at 10 (key_of key) number (i / 4))) (i % 4)
 
 -- each byte xored with the byte of the stream at its place, where the first byte has place i
 unfoldable pub xor_from : List ℕ → ℕ → ℕ → List ℕ → List ℕ

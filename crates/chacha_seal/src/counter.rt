@@ -1,14 +1,14 @@
 //! The serials of one epoch, in turn.
-ghost use Rattle.std.specs.Prelude.{◌≡◌, ◌+◌, ◌-◌, ◌^◌, ◌<◌};
+ghost use Rattle.std.specs.Prelude.{◌≡◌, ◌≢◌, ℕ, ◌+◌, ◌-◌, ◌^◌, ◌<◌};
 ghost use Rattle.chacha_seal.specs.Serials.{serial_of};
 
 use crate::Nonce;
 use cry_base::Epoch;
 use std::marker::Model;
 
-/// Gives the serials `epoch * 2^32 + count`, with counts from 0. Contracts see the epoch and how many
-/// serials were given.
-#[derive(Drop)]
+/// Gives the serials `epoch * 2^32 + count`, with counts from 0. Contracts see the epoch and how
+/// many serials were given.
+#[derive(Debug, Drop)]
 pub struct Counter {
     epoch: Epoch,
     count: u32,
@@ -37,11 +37,13 @@ impl Counter {
         self.count
     }
 
-    /// The next serial. No serial is given twice, since the epoch stays and the count rises.
+    /// The next serial. None is given twice.
     pub fn next(&mut self) -> Nonce
         requires { self.old.count < 2 ^ 32 - 1 }
         ensures serial { result ≡ serial_of self.old.epoch self.old.count }
         ensures rises { self.new ≡ record self.old { count = self.old.count + 1 } }
+        ensures not_given_before { (count : ℕ) → count < self.old.count
+            → result ≢ serial_of self.old.epoch count }
         ensures fits { result < 2 ^ 64 }
     {
         let serial = u64::from(self.epoch.0) * (1 << 32) + u64::from(self.count);

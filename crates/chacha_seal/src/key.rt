@@ -6,8 +6,8 @@ use cry_base::{HolderId, Serial};
 use std::fmt;
 use std::marker::{Model, PhantomData};
 
-/// 32 secret bytes of one kind, with the number of the folder, file or holder whose key they are (0 for
-/// the owner's), and with the key's serial.
+/// 32 secret bytes of one kind, with the number of the folder, file or holder whose key they are (0
+/// for the owner's), and with the key's serial.
 #[derive(Drop)]
 pub struct Key<K> {
     id: u32,
@@ -29,12 +29,7 @@ impl Key<OwnerK> {
     pub fn owner(bytes: [u8; 32]) -> Key<OwnerK>
         ensures { result ≡ record { id = 0; serial = 0; bytes = bytes } }
     {
-        Key {
-            id: 0,
-            serial: Serial(0),
-            bytes,
-            kind: PhantomData,
-        }
+        Key::of_parts(0, Serial(0), bytes)
     }
 }
 
@@ -43,16 +38,22 @@ impl Key<HolderK> {
     pub fn holder(holder: HolderId, serial: Serial, bytes: [u8; 32]) -> Key<HolderK>
         ensures { result ≡ record { id = holder.0; serial = serial.0; bytes = bytes } }
     {
+        Key::of_parts(holder.0, serial, bytes)
+    }
+}
+
+impl<K> Key<K> {
+    pub(crate) fn of_parts(id: u32, serial: Serial, bytes: [u8; 32]) -> Key<K>
+        ensures { result ≡ record { id = id; serial = serial.0; bytes = bytes } }
+    {
         Key {
-            id: holder.0,
+            id,
             serial,
             bytes,
             kind: PhantomData,
         }
     }
-}
 
-impl<K> Key<K> {
     /// The number of the folder, file or holder whose key this is. The owner's has 0.
     pub fn id(&self) -> u32
         ensures { result ≡ self.now.id }
@@ -124,14 +125,9 @@ impl<K> FreshKey<K> {
             id,
             serial,
             bytes,
-            kind,
+            kind: _,
         } = self;
-        Key {
-            id,
-            serial: Serial(serial),
-            bytes,
-            kind,
-        }
+        Key::of_parts(id, Serial(serial), bytes)
     }
 
     /// Gives the key up, and its serial with it.

@@ -15,7 +15,7 @@ pub use derived::{check_of, owner_tag_key, veil_key};
 pub use key::{FreshKey, Key};
 pub use kinds::{BackK, ClearK, DataK, FileK, FilesK, HolderK, OwnerK, SubK};
 pub use nonce::Nonce;
-pub use opening::{BadTag, open_in_place};
+pub use opening::{BadTag, open_in_place, open_key};
 pub use sealing::{mask_in_place, seal_in_place};
 
 #[cfg(test)]

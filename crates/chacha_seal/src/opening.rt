@@ -1,10 +1,11 @@
 //! Opening what was sealed.
-ghost use Rattle.std.specs.Prelude.{◌≡◌, ℕ, List, ◌↔◌, IsOk, OnOk, OnErr};
+ghost use Rattle.std.specs.Prelude.{◌≡◌, ℕ, List, ◌↔◌, IsOk, IfOk, OnOk, OnErr};
 ghost use Rattle.chacha_seal.specs.Sealing.{sealed, seal_tag};
 
 use crate::Key;
 use crate::derived::{cipher_key, tag_key};
 use crate::stream::xor_stream;
+use cry_base::Serial;
 use hmac_seal::{hmac, tags_equal};
 use thiserror::Error;
 
@@ -25,7 +26,8 @@ pub fn open_in_place<K>(
 ) -> Result<(), BadTag>
     ensures authentic { IsOk result ↔ (tag.now ≡ seal_tag key.now.bytes header.now text.old) }
     ensures opened { OnOk result (text.new ≡ sealed key.now.bytes nonce text.old) }
-    ensures inverse { (plain : List ℕ) → text.old ≡ sealed key.now.bytes nonce plain → OnOk result (text.new ≡ plain) }
+    ensures inverse { (plain : List ℕ) → text.old ≡ sealed key.now.bytes nonce plain
+        → OnOk result (text.new ≡ plain) }
     ensures bad_tag { OnErr result (text.new ≡ text.old) }
 {
     if !tags_equal(&hmac(&tag_key(key.bytes()), header, text), tag) {
@@ -33,4 +35,26 @@ pub fn open_in_place<K>(
     }
     xor_stream(cipher_key(key.bytes()), nonce, text);
     Ok(())
+}
+
+/// The key with this id and serial whose bytes were sealed under the key `from` (docs/FORMAT.md).
+/// `BadTag` comes exactly where `tag` isn't the one of `header` and the cipher bytes.
+pub fn open_key<A, B>(
+    from: &Key<A>,
+    nonce: u64,
+    header: &[u8],
+    cipher: [u8; 32],
+    tag: &[u8; 32],
+    id: u32,
+    serial: Serial,
+) -> Result<Key<B>, BadTag>
+    ensures authentic { IsOk result ↔ (tag.now ≡ seal_tag from.now.bytes header.now cipher) }
+    ensures opened { IfOk result (λ key. key
+        ≡ record { id = id; serial = serial.0; bytes = sealed from.now.bytes nonce cipher }) }
+    ensures inverse { (bytes : List ℕ) → cipher ≡ sealed from.now.bytes nonce bytes
+        → IfOk result (λ key. key.bytes ≡ bytes) }
+{
+    let mut bytes = cipher;
+    open_in_place(from, nonce, header, &mut bytes, tag)?;
+    Ok(Key::of_parts(id, serial, bytes))
 }

@@ -7,8 +7,8 @@ use crate::stream::xor_stream;
 use crate::{Key, Nonce};
 use hmac_seal::hmac;
 
-/// Makes the text its cipher bytes, and answers the tag of `header` and these (docs/FORMAT.md). It spends
-/// the nonce.
+/// Makes the text its cipher bytes, and answers the tag of `header` and these (docs/FORMAT.md). It
+/// spends the nonce.
 #[tactic(auto, unfolding(crate::specs::Sealing::sealed, crate::specs::Sealing::seal_tag))]
 pub fn seal_in_place<K>(key: &Key<K>, nonce: Nonce, header: &[u8], text: &mut [u8]) -> [u8; 32]
     ensures cipher { text.new ≡ sealed key.now.bytes nonce text.old }

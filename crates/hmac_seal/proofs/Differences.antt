@@ -24,10 +24,12 @@ pub agree_more : (bits i : ℕ) (a b : List ℕ) → i < length a → i < length
 agree_more bits i a b in_a in_b so_far =
     let more_a = (take_at_read a i 0 in_a).1 in
     let more_b = (take_at_read b i 0 in_b).1 in
-    let back : take i a ++ get_or a i 0 ∷ [] ≡ take i b ++ get_or b i 0 ∷ [] → bit_or bits (bit_xor (get_or a i 0) (get_or b i 0)) ≡ 0
+    let x = get_or a i 0 in
+    let y = get_or b i 0 in
+    let back : take i a ++ x ∷ [] ≡ take i b ++ y ∷ [] → bit_or bits (bit_xor x y) ≡ 0
     = λ same. let parts = same_from_push _ _ _ _ same in none_or_same _ _ _ (so_far.1 parts.0) parts.1 in
     rw (more_a, more_b) (
-      λ none. let parts : (bits ≡ 0) × (get_or a i 0 ≡ get_or b i 0) = none_from_or _ _ _ none in
+      λ none. let parts : (bits ≡ 0) × (x ≡ y) = none_from_or _ _ _ none in
           cc (so_far.0 parts.0, parts.1),
       back,
     )

@@ -1,4 +1,4 @@
--- HMAC (RFC 2104, section 2) with SHA-256 (FIPS 180-4). Keys, messages and digests are lists of bytes.
+-- HMAC (RFC 2104) with SHA-256 (FIPS 180-4). Keys, messages and digests are lists of bytes.
 use Rattle.std.specs.Prelude.{ℕ, ◌-◌, List, ◌++◌, length, map, replicate, bit_xor, nat_le, if◌then◌else◌}
 use Rattle.sha2.specs.Sha256.{sha256}
 
@@ -10,7 +10,7 @@ short_key key = if nat_le (length key) 64 then key else sha256 key
 unfoldable pub block_key : List ℕ → List ℕ
 block_key key = short_key key ++ replicate (64 - length (short_key key)) 0
 
--- each byte of a block xored with one byte: with 0x36 the block xor ipad, with 0x5c the block xor opad
+-- each byte of a block xored with one byte: at 0x36 the block xor ipad, at 0x5c the block xor opad
 abbrev pub xor_each : ℕ → List ℕ → List ℕ
 xor_each pad block = map (λ byte. bit_xor byte pad) block
 

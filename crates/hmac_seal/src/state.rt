@@ -32,7 +32,8 @@ impl Hmac {
 
     /// Adds `part` at the end of the message.
     pub fn add(&mut self, part: &[u8])
-        ensures { (key message : List ℕ) → Holds self.old key message → Holds self.new key (message ++ part.now) }
+        ensures { (key message : List ℕ) → Holds self.old key message
+            → Holds self.new key (message ++ part.now) }
     {
         self.inner.update(part);
     }
