@@ -93,7 +93,7 @@ most true is_key = lit≤ tt
 most false true = lit≤ tt
 most false false = lit≤ tt
 
-longest_text_most : (kind : ℕ) → longest_text kind ≤ 1048641
+pub longest_text_most : (kind : ℕ) → longest_text kind ≤ 1048641
 longest_text_most kind = most (eqb kind 2) (eqb kind 3)
 
 -- the longest content has 1,048,699 bytes
