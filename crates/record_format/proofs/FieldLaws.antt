@@ -190,9 +190,9 @@ number_takes : (w : Width) (spell : ℕ → List ℕ) (limit : ℕ) → IsWide w
 unfolding number_at
 number_takes w spell limit wide bytes x are e =
     took_then (bytes_field (byte_len w)) _ bytes x are e (λ field rest parts rest_are len next.
-      let field_are = IsBytes-before field rest bytes parts are in
-      let spelled : spell (from_be_bytes w field) ≡ field = wide.back field len field_are in
-      subst (λ (y : ℕ × List ℕ). (bytes ≡ spell y.0 ++ y.1) × (y.0 < limit)) (ok_is (from_be_bytes w field, rest) x next) (rw spelled parts, wide.below field field_are))
+    let field_are = IsBytes-before field rest bytes parts are in
+    let spelled : spell (from_be_bytes w field) ≡ field = wide.back field len field_are in
+    subst (λ (y : ℕ × List ℕ). (bytes ≡ spell y.0 ++ y.1) × (y.0 < limit)) (ok_is (from_be_bytes w field, rest) x next) (rw spelled parts, wide.below field field_are))
 
 number_again : (w : Width) (spell : ℕ → List ℕ) (limit : ℕ) → IsWide w spell limit → (n : ℕ) (rest : List ℕ) → n < limit → number_at w (spell n ++ rest) ≡ Ok (n, rest)
 unfolding number_at
@@ -226,9 +226,9 @@ between_takes : (low high : ℕ) (bytes : List ℕ) (x : ℕ × List ℕ) → Is
 unfolding number_between
 between_takes low high bytes x are e =
     took_then field32 _ bytes x are e (λ n rest parts rest_are fits next.
-      let passed = guard_ok (leb low n && leb n high) (length bytes) (n, rest) x next in
-      let range = in_range low n high passed.0 in
-      subst (λ (y : ℕ × List ℕ). (bytes ≡ be32 y.0 ++ y.1) × IsBetween low high y.0) passed.1 (parts, (fits, range.0, range.1)))
+    let passed = guard_ok (leb low n && leb n high) (length bytes) (n, rest) x next in
+    let range = in_range low n high passed.0 in
+    subst (λ (y : ℕ × List ℕ). (bytes ≡ be32 y.0 ++ y.1) × IsBetween low high y.0) passed.1 (parts, (fits, range.0, range.1)))
 
 between_again : (low high n : ℕ) (rest : List ℕ) → IsBetween low high n → number_between w32 low high (be32 n ++ rest) ≡ Ok (n, rest)
 unfolding number_between
@@ -239,10 +239,10 @@ between_within : (low high : ℕ) (bytes : List ℕ) → Within (length bytes) (
 unfolding number_between
 between_within low high bytes =
     within_then field32 (length bytes) _ bytes (omega arith) (λ x le.
-      elim (leb low x.0 && leb x.0 high) as (λ b. Within (length bytes) (cond b (Ok x) (Err (length bytes)))) [
-        | true ↦ le
-        | false ↦ omega arith
-      ])
+    elim (leb low x.0 && leb x.0 high) as (λ b. Within (length bytes) (cond b (Ok x) (Err (length bytes)))) [
+      | true ↦ le
+      | false ↦ omega arith
+    ])
 
 pub between_field : (low high : ℕ) → IsField (number_between w32 low high) be32 (IsBetween low high)
 between_field low high = record {
@@ -260,12 +260,12 @@ repeat_takes {A} {read} {spell} {Fits} field zero bytes x are e =
     subst (λ (y : List A × List ℕ). (bytes ≡ flat_map spell y.0 ++ y.1) × ((length y.0 ≡ 0) × All Fits y.0)) (ok_is ([], bytes) x e) (refl, (refl, All-nil Fits))
 repeat_takes {A} {read} {spell} {Fits} field (suc n) bytes x are e =
     took_then field _ bytes x are e (λ first rest parts rest_are fits next.
-      let others = bind_ok (repeat_at read n rest) _ x next in
-      let took = repeat_takes field n rest others.0 rest_are others.1 in
-      let whole : bytes ≡ flat_map spell (first ∷ others.0.0) ++ others.0.1 =
-        parts ∙ ap (λ (b : List ℕ). spell first ++ b) took.0 ∙ sym (append_assoc (spell first) (flat_map spell others.0.0) others.0.1) in
-      subst (λ (y : List A × List ℕ). (bytes ≡ flat_map spell y.0 ++ y.1) × ((length y.0 ≡ suc n) × All Fits y.0)) (ok_is (first ∷ others.0.0, others.0.1) x others.2)
-        (whole, (ap suc took.1.0, All-cons Fits first others.0.0 fits took.1.1)))
+    let others = bind_ok (repeat_at read n rest) _ x next in
+    let took = repeat_takes field n rest others.0 rest_are others.1 in
+    let whole : bytes ≡ flat_map spell (first ∷ others.0.0) ++ others.0.1 =
+    parts ∙ ap (λ (b : List ℕ). spell first ++ b) took.0 ∙ sym (append_assoc (spell first) (flat_map spell others.0.0) others.0.1) in
+    subst (λ (y : List A × List ℕ). (bytes ≡ flat_map spell y.0 ++ y.1) × ((length y.0 ≡ suc n) × All Fits y.0)) (ok_is (first ∷ others.0.0, others.0.1) x others.2)
+    (whole, (ap suc took.1.0, All-cons Fits first others.0.0 fits took.1.1)))
 
 repeat_again : {A : Type 0} {read : List ℕ → Read A} {spell : A → List ℕ} {Fits : A → Type 0} → IsField read spell Fits → (values : List A) (rest : List ℕ) → All Fits values
     → repeat_at read (length values) (flat_map spell values ++ rest) ≡ Ok (values, rest)
@@ -282,7 +282,7 @@ unfolding repeat_at
 repeat_within field zero bytes = omega arith
 repeat_within {A} {read} field (suc n) bytes =
     within_then field (length bytes) _ bytes (omega arith) (λ first le.
-      then_within (length bytes) (repeat_at read n first.1) _ (Within-more (length first.1) (length bytes) (repeat_at read n first.1) le (repeat_within field n first.1)) (λ others le_others. le_others))
+    then_within (length bytes) (repeat_at read n first.1) _ (Within-more (length first.1) (length bytes) (repeat_at read n first.1) le (repeat_within field n first.1)) (λ others le_others. le_others))
 
 pub repeat_field : {A : Type 0} {read : List ℕ → Read A} {spell : A → List ℕ} {Fits : A → Type 0} → IsField read spell Fits → (n : ℕ) → IsField (repeat_at read n) (flat_map spell) (λ values. (length values ≡ n) × All Fits values)
 repeat_field {A} {read} {spell} field n = record {

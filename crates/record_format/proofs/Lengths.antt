@@ -39,7 +39,7 @@ length-spell_content r fits =
     simp (length-append, length-content_head, fits.tag) (omega arith)
 
 pub length-spell_note : (note : Note) → IsNote note → length (spell_note note) ≡ note_size note
-unfolding spell_note IsNote
+unfolding spell_note
 length-spell_note Root fits = refl
 length-spell_note (NewHolder holder check) fits = simp (length-append, length-be32, fits.1)
 length-spell_note (NewFolder folder parent) fits = simp (length-append, length-be32)

@@ -13,33 +13,33 @@ abbrev AreFields : ℕ → (List ℕ → Read Note) → Type 0
 AreFields code read = (bytes : List ℕ) (x : Note × List ℕ) → IsBytes bytes → read bytes ≡ Ok x → (code ∷ bytes ≡ spell_note x.0 ++ x.1) × IsNote x.0
 
 new_holder_takes : AreFields 2 new_holder_at
-unfolding new_holder_at spell_note IsNote
+unfolding new_holder_at spell_note
 new_holder_takes bytes x are e =
     took_then field32 _ bytes x are e (λ holder r1 p1 a1 f1 e1.
     took_then (bytes_field 32) _ r1 x a1 e1 (λ check r2 p2 a2 f2 e2.
-      let made : Note = NewHolder (record { 0 = holder }) check in
-      let whole : 2 ∷ bytes ≡ spell_note made ++ r2 = rw (p1, p2) (ap (λ (b : List ℕ). 2 ∷ b) (simp append_assoc)) in
-      subst (λ (y : Note × List ℕ). (2 ∷ bytes ≡ spell_note y.0 ++ y.1) × IsNote y.0) (ok_is (made, r2) x e2) (whole, (f1, f2))))
+    let made : Note = NewHolder (record { 0 = holder }) check in
+    let whole : 2 ∷ bytes ≡ spell_note made ++ r2 = rw (p1, p2) (ap (λ (b : List ℕ). 2 ∷ b) (simp append_assoc)) in
+    subst (λ (y : Note × List ℕ). (2 ∷ bytes ≡ spell_note y.0 ++ y.1) × IsNote y.0) (ok_is (made, r2) x e2) (whole, (f1, f2))))
 
 one_takes : (code : ℕ) → ((id : ℕ) → spell_note (note_of_one code id) ≡ code ∷ be32 id) → ((id : ℕ) → id < 2 ^ 32 → IsNote (note_of_one code id)) → AreFields code (one_id_at code)
 unfolding one_id_at
 one_takes code spelled fit bytes x are e =
     took_then field32 _ bytes x are e (λ id r1 p1 a1 f1 e1.
-      let made : Note = note_of_one code id in
-      let whole : code ∷ bytes ≡ spell_note made ++ r1 = rw (spelled id, p1) refl in
-      subst (λ (y : Note × List ℕ). (code ∷ bytes ≡ spell_note y.0 ++ y.1) × IsNote y.0) (ok_is (made, r1) x e1) (whole, fit id f1))
+    let made : Note = note_of_one code id in
+    let whole : code ∷ bytes ≡ spell_note made ++ r1 = rw (spelled id, p1) refl in
+    subst (λ (y : Note × List ℕ). (code ∷ bytes ≡ spell_note y.0 ++ y.1) × IsNote y.0) (ok_is (made, r1) x e1) (whole, fit id f1))
 
 two_takes : (code : ℕ) → ((first second : ℕ) → spell_note (note_of_two code first second) ≡ code ∷ (be32 first ++ be32 second)) → ((first second : ℕ) → first < 2 ^ 32 → second < 2 ^ 32 → IsNote (note_of_two code first second)) → AreFields code (two_ids_at code)
 unfolding two_ids_at
 two_takes code spelled fit bytes x are e =
     took_then field32 _ bytes x are e (λ first r1 p1 a1 f1 e1.
     took_then field32 _ r1 x a1 e1 (λ second r2 p2 a2 f2 e2.
-      let made : Note = note_of_two code first second in
-      let whole : code ∷ bytes ≡ spell_note made ++ r2 = rw (spelled first second, p1, p2) (ap (λ (b : List ℕ). code ∷ b) (simp append_assoc)) in
-      subst (λ (y : Note × List ℕ). (code ∷ bytes ≡ spell_note y.0 ++ y.1) × IsNote y.0) (ok_is (made, r2) x e2) (whole, fit first second f1 f2)))
+    let made : Note = note_of_two code first second in
+    let whole : code ∷ bytes ≡ spell_note made ++ r2 = rw (spelled first second, p1, p2) (ap (λ (b : List ℕ). code ∷ b) (simp append_assoc)) in
+    subst (λ (y : Note × List ℕ). (code ∷ bytes ≡ spell_note y.0 ++ y.1) × IsNote y.0) (ok_is (made, r2) x e2) (whole, fit first second f1 f2)))
 
 fields_take : (code : ℕ) → 1 ≤ code → code ≤ 13 → AreFields code (note_fields_at code)
-unfolding note_fields_at spell_note IsNote
+unfolding note_fields_at spell_note
 fields_take zero from to = absurd (omega arith)
 fields_take (suc zero) from to = λ bytes x are e. subst (λ (y : Note × List ℕ). (1 ∷ bytes ≡ spell_note y.0 ++ y.1) × IsNote y.0) (ok_is (Root, bytes) x e) (refl, tt)
 fields_take (suc (suc zero)) from to = new_holder_takes
@@ -60,8 +60,8 @@ note_takes : (bytes : List ℕ) (x : Note × List ℕ) → IsBytes bytes → not
 unfolding note_at
 note_takes bytes x are e =
     took_then (byte_field 1 13) _ bytes x are e (λ code r1 p1 a1 f1 e1.
-      let took = fields_take code f1.0 f1.1 r1 x a1 e1 in
-      (rw p1 took.0, took.1))
+    let took = fields_take code f1.0 f1.1 r1 x a1 e1 in
+    (rw p1 took.0, took.1))
 
 one_again : (code id : ℕ) (rest : List ℕ) → 1 ≤ code → code ≤ 13 → ((bytes : List ℕ) → note_fields_at code bytes ≡ one_id_at code bytes) → id < 2 ^ 32 → note_at (code ∷ (be32 id ++ rest)) ≡ Ok (note_of_one code id, rest)
 unfolding note_at one_id_at
@@ -73,19 +73,19 @@ two_again : (code first second : ℕ) (rest : List ℕ) → 1 ≤ code → code 
 unfolding note_at two_ids_at
 two_again code first second rest from to is_two fits =
     ap (λ (b : List ℕ). note_at (code ∷ b)) (append_assoc (be32 first) (be32 second) rest)
-      ∙ (again_then (byte_field 1 13) _ code (be32 first ++ (be32 second ++ rest)) (from, to)
-      ∙ (is_two (be32 first ++ (be32 second ++ rest))
-      ∙ (again_then field32 _ first (be32 second ++ rest) fits.0
-      ∙ again_then field32 _ second rest fits.1)))
+    ∙ (again_then (byte_field 1 13) _ code (be32 first ++ (be32 second ++ rest)) (from, to)
+    ∙ (is_two (be32 first ++ (be32 second ++ rest))
+    ∙ (again_then field32 _ first (be32 second ++ rest) fits.0
+    ∙ again_then field32 _ second rest fits.1)))
 
 note_again : (note : Note) (rest : List ℕ) → IsNote note → note_at (spell_note note ++ rest) ≡ Ok (note, rest)
-unfolding spell_note IsNote note_at note_fields_at new_holder_at
+unfolding spell_note note_at note_fields_at new_holder_at
 note_again Root rest fits = again_then (byte_field 1 13) _ 1 rest (lit≤ tt, lit≤ tt)
 note_again (NewHolder holder check) rest fits =
     ap (λ (b : List ℕ). note_at (2 ∷ b)) (append_assoc (be32 holder.0) check rest)
-      ∙ (again_then (byte_field 1 13) _ 2 (be32 holder.0 ++ (check ++ rest)) (lit≤ tt, lit≤ tt)
-      ∙ (again_then field32 _ holder.0 (check ++ rest) fits.0
-      ∙ again_then (bytes_field 32) _ check rest fits.1))
+    ∙ (again_then (byte_field 1 13) _ 2 (be32 holder.0 ++ (check ++ rest)) (lit≤ tt, lit≤ tt)
+    ∙ (again_then field32 _ holder.0 (check ++ rest) fits.0
+    ∙ again_then (bytes_field 32) _ check rest fits.1))
 note_again (NewFolder folder parent) rest fits = two_again 3 folder.0 parent.0 rest (lit≤ tt) (lit≤ tt) (λ b. refl) fits
 note_again (NewFile file folder) rest fits = two_again 4 file.0 folder.0 rest (lit≤ tt) (lit≤ tt) (λ b. refl) fits
 note_again (Rewrite file) rest fits = one_again 5 file.0 rest (lit≤ tt) (lit≤ tt) (λ b. refl) fits
@@ -124,13 +124,13 @@ fields_within : (code : ℕ) (bytes : List ℕ) → Within (length bytes) (note_
 unfolding note_fields_at
 fields_within code bytes =
     one_of_four (length bytes) (eqb code 1) (eqb code 2) (leb 5 code && leb code 9) (Ok (Root, bytes)) (new_holder_at bytes) (one_id_at code bytes) (two_ids_at code bytes)
-      (omega arith) (new_holder_within bytes) (one_within code bytes) (two_within code bytes)
+    (omega arith) (new_holder_within bytes) (one_within code bytes) (two_within code bytes)
 
 note_within : (bytes : List ℕ) → Within (length bytes) (note_at bytes)
 unfolding note_at
 note_within bytes =
     within_then (byte_field 1 13) (length bytes) _ bytes (omega arith) (λ code l1.
-      Within-more (length code.1) (length bytes) (note_fields_at code.0 code.1) l1 (fields_within code.0 code.1))
+    Within-more (length code.1) (length bytes) (note_fields_at code.0 code.1) l1 (fields_within code.0 code.1))
 
 pub note_field : IsField note_at spell_note IsNote
 note_field = record { takes = note_takes; again = note_again; within = note_within }

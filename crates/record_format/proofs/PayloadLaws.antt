@@ -25,26 +25,26 @@ payload_takes bytes x are e =
     took_then field32 _ r2 x a2 e2 (λ content_count r3 p3 a3 f3 e3.
     took_then (repeat_field link_field link_count) _ r3 x a3 e3 (λ links r4 p4 a4 f4 e4.
     took_then (repeat_field content_field content_count) _ r4 x a4 e4 (λ contents r5 p5 a5 f5 e5.
-      let made : PlainPayload = record { note = note; links = links; contents = contents } in
-      let whole : bytes ≡ spell_payload made ++ r5 = rw (payload_parts made r5, p1, p2, p3, p4, p5, f4.0, f5.0) refl in
-      let fits : IsSpellable made = record {
-        note = f1;
-        link_count = rw f4.0 f2;
-        content_count = rw f5.0 f3;
-        links = f4.1;
-        contents = f5.1;
-      } in
-      subst (λ (y : PlainPayload × List ℕ). (bytes ≡ spell_payload y.0 ++ y.1) × IsSpellable y.0) (ok_is (made, r5) x e5) (whole, fits))))))
+    let made : PlainPayload = record { note = note; links = links; contents = contents } in
+    let whole : bytes ≡ spell_payload made ++ r5 = rw (payload_parts made r5, p1, p2, p3, p4, p5, f4.0, f5.0) refl in
+    let fits : IsSpellable made = record {
+      note = f1;
+      link_count = rw f4.0 f2;
+      content_count = rw f5.0 f3;
+      links = f4.1;
+      contents = f5.1;
+    } in
+    subst (λ (y : PlainPayload × List ℕ). (bytes ≡ spell_payload y.0 ++ y.1) × IsSpellable y.0) (ok_is (made, r5) x e5) (whole, fits))))))
 
 payload_again : (p : PlainPayload) (rest : List ℕ) → IsSpellable p → payload_at (spell_payload p ++ rest) ≡ Ok (p, rest)
 unfolding payload_at
 payload_again p rest fits =
     ap payload_at (payload_parts p rest)
-      ∙ (again_then note_field _ p.note _ fits.note
-      ∙ (again_then field32 _ (length p.links) _ fits.link_count
-      ∙ (again_then field32 _ (length p.contents) _ fits.content_count
-      ∙ (again_then (repeat_field link_field (length p.links)) _ p.links _ (refl, fits.links)
-      ∙ again_then (repeat_field content_field (length p.contents)) _ p.contents rest (refl, fits.contents)))))
+    ∙ (again_then note_field _ p.note _ fits.note
+    ∙ (again_then field32 _ (length p.links) _ fits.link_count
+    ∙ (again_then field32 _ (length p.contents) _ fits.content_count
+    ∙ (again_then (repeat_field link_field (length p.links)) _ p.links _ (refl, fits.links)
+    ∙ again_then (repeat_field content_field (length p.contents)) _ p.contents rest (refl, fits.contents)))))
 
 payload_within : (bytes : List ℕ) → Within (length bytes) (payload_at bytes)
 unfolding payload_at

@@ -27,44 +27,44 @@ link_takes bytes x are e =
     took_then field64 _ r6 x a6 e6 (λ nonce r7 p7 a7 f7 e7.
     took_then (bytes_field 32) _ r7 x a7 e7 (λ cipher r8 p8 a8 f8 e8.
     took_then (bytes_field 32) _ r8 x a8 e8 (λ tag r9 p9 a9 f9 e9.
-      let made : LinkRecord = record {
-        kind = kind;
-        from_id = from_id;
-        to_id = to_id;
-        from_serial = record { 0 = from_serial };
-        to_serial = record { 0 = to_serial };
-        nonce = nonce;
-        cipher = cipher;
-        tag = tag;
-      } in
-      let one-is : one ≡ 1 = omega arith in
-      let whole : bytes ≡ spell_link made ++ r9 = rw (link_parts made r9, p1, p2, p3, p4, p5, p6, p7, p8, p9, one-is) refl in
-      let fits : IsLink made = record {
-        kind_from_one = f2.0;
-        kind_to_nine = f2.1;
-        from_id = f3;
-        to_id = f4;
-        from_serial = f5;
-        to_serial = f6;
-        nonce = f7;
-        cipher = f8;
-        tag = f9;
-      } in
-      subst (λ (y : LinkRecord × List ℕ). (bytes ≡ spell_link y.0 ++ y.1) × IsLink y.0) (ok_is (made, r9) x e9) (whole, fits))))))))))
+    let made : LinkRecord = record {
+      kind = kind;
+      from_id = from_id;
+      to_id = to_id;
+      from_serial = record { 0 = from_serial };
+      to_serial = record { 0 = to_serial };
+      nonce = nonce;
+      cipher = cipher;
+      tag = tag;
+    } in
+    let one-is : one ≡ 1 = omega arith in
+    let whole : bytes ≡ spell_link made ++ r9 = rw (link_parts made r9, p1, p2, p3, p4, p5, p6, p7, p8, p9, one-is) refl in
+    let fits : IsLink made = record {
+      kind_from_one = f2.0;
+      kind_to_nine = f2.1;
+      from_id = f3;
+      to_id = f4;
+      from_serial = f5;
+      to_serial = f6;
+      nonce = f7;
+      cipher = f8;
+      tag = f9;
+    } in
+    subst (λ (y : LinkRecord × List ℕ). (bytes ≡ spell_link y.0 ++ y.1) × IsLink y.0) (ok_is (made, r9) x e9) (whole, fits))))))))))
 
 link_again : (r : LinkRecord) (rest : List ℕ) → IsLink r → link_at (spell_link r ++ rest) ≡ Ok (r, rest)
 unfolding link_at
 link_again r rest fits =
     ap link_at (link_parts r rest)
-      ∙ (again_then (byte_field 1 1) _ 1 _ (lit≤ tt, lit≤ tt)
-      ∙ (again_then (byte_field 1 9) _ r.kind _ (fits.kind_from_one, fits.kind_to_nine)
-      ∙ (again_then field32 _ r.from_id _ fits.from_id
-      ∙ (again_then field32 _ r.to_id _ fits.to_id
-      ∙ (again_then field64 _ r.from_serial.0 _ fits.from_serial
-      ∙ (again_then field64 _ r.to_serial.0 _ fits.to_serial
-      ∙ (again_then field64 _ r.nonce _ fits.nonce
-      ∙ (again_then (bytes_field 32) _ r.cipher _ fits.cipher
-      ∙ again_then (bytes_field 32) _ r.tag rest fits.tag))))))))
+    ∙ (again_then (byte_field 1 1) _ 1 _ (lit≤ tt, lit≤ tt)
+    ∙ (again_then (byte_field 1 9) _ r.kind _ (fits.kind_from_one, fits.kind_to_nine)
+    ∙ (again_then field32 _ r.from_id _ fits.from_id
+    ∙ (again_then field32 _ r.to_id _ fits.to_id
+    ∙ (again_then field64 _ r.from_serial.0 _ fits.from_serial
+    ∙ (again_then field64 _ r.to_serial.0 _ fits.to_serial
+    ∙ (again_then field64 _ r.nonce _ fits.nonce
+    ∙ (again_then (bytes_field 32) _ r.cipher _ fits.cipher
+    ∙ again_then (bytes_field 32) _ r.tag rest fits.tag))))))))
 
 link_within : (bytes : List ℕ) → Within (length bytes) (link_at bytes)
 unfolding link_at
@@ -101,41 +101,41 @@ content_takes bytes x are e =
     took_then (between_field (shortest_text kind) (longest_text kind)) _ r5 x a5 e5 (λ len r6 p6 a6 f6 e6.
     took_then (bytes_field len) _ r6 x a6 e6 (λ cipher r7 p7 a7 f7 e7.
     took_then (bytes_field 32) _ r7 x a7 e7 (λ tag r8 p8 a8 f8 e8.
-      let made : PlainContent = record {
-        kind = kind;
-        object = object;
-        key_serial = record { 0 = key_serial };
-        nonce = nonce;
-        cipher = cipher;
-        tag = tag;
-      } in
-      let two-is : two ≡ 2 = omega arith in
-      let whole : bytes ≡ spell_content made ++ r8 = rw (content_parts made r8, p1, p2, p3, p4, p5, p6, p7, p8, two-is, f7) refl in
-      let fits : IsContent made = record {
-        kind_from_one = f2.0;
-        kind_to_three = f2.1;
-        object = f3;
-        key_serial = f4;
-        nonce = f5;
-        text_from = rw f7 f6.1;
-        text_to = rw f7 f6.2;
-        tag = f8;
-      } in
-      subst (λ (y : PlainContent × List ℕ). (bytes ≡ spell_content y.0 ++ y.1) × IsContent y.0) (ok_is (made, r8) x e8) (whole, fits)))))))))
+    let made : PlainContent = record {
+      kind = kind;
+      object = object;
+      key_serial = record { 0 = key_serial };
+      nonce = nonce;
+      cipher = cipher;
+      tag = tag;
+    } in
+    let two-is : two ≡ 2 = omega arith in
+    let whole : bytes ≡ spell_content made ++ r8 = rw (content_parts made r8, p1, p2, p3, p4, p5, p6, p7, p8, two-is, f7) refl in
+    let fits : IsContent made = record {
+      kind_from_one = f2.0;
+      kind_to_three = f2.1;
+      object = f3;
+      key_serial = f4;
+      nonce = f5;
+      text_from = rw f7 f6.1;
+      text_to = rw f7 f6.2;
+      tag = f8;
+    } in
+    subst (λ (y : PlainContent × List ℕ). (bytes ≡ spell_content y.0 ++ y.1) × IsContent y.0) (ok_is (made, r8) x e8) (whole, fits)))))))))
 
 content_again : (r : PlainContent) (rest : List ℕ) → IsContent r → content_at (spell_content r ++ rest) ≡ Ok (r, rest)
 unfolding content_at
 content_again r rest fits =
     let short : length r.cipher < 2 ^ 32 = omega (arith, fits.text_to, longest_text_most r.kind) in
     ap content_at (content_parts r rest)
-      ∙ (again_then (byte_field 2 2) _ 2 _ (lit≤ tt, lit≤ tt)
-      ∙ (again_then (byte_field 1 3) _ r.kind _ (fits.kind_from_one, fits.kind_to_three)
-      ∙ (again_then field32 _ r.object _ fits.object
-      ∙ (again_then field64 _ r.key_serial.0 _ fits.key_serial
-      ∙ (again_then field64 _ r.nonce _ fits.nonce
-      ∙ (again_then (between_field (shortest_text r.kind) (longest_text r.kind)) _ (length r.cipher) _ (short, fits.text_from, fits.text_to)
-      ∙ (again_then (bytes_field (length r.cipher)) _ r.cipher _ refl
-      ∙ again_then (bytes_field 32) _ r.tag rest fits.tag)))))))
+    ∙ (again_then (byte_field 2 2) _ 2 _ (lit≤ tt, lit≤ tt)
+    ∙ (again_then (byte_field 1 3) _ r.kind _ (fits.kind_from_one, fits.kind_to_three)
+    ∙ (again_then field32 _ r.object _ fits.object
+    ∙ (again_then field64 _ r.key_serial.0 _ fits.key_serial
+    ∙ (again_then field64 _ r.nonce _ fits.nonce
+    ∙ (again_then (between_field (shortest_text r.kind) (longest_text r.kind)) _ (length r.cipher) _ (short, fits.text_from, fits.text_to)
+    ∙ (again_then (bytes_field (length r.cipher)) _ r.cipher _ refl
+    ∙ again_then (bytes_field 32) _ r.tag rest fits.tag)))))))
 
 content_within : (bytes : List ℕ) → Within (length bytes) (content_at bytes)
 unfolding content_at

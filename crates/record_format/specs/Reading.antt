@@ -73,7 +73,8 @@ link_at bytes = do
   nonce ← number_at w64 to_serial.1
   cipher ← bytes_at 32 nonce.1
   tag ← bytes_at 32 cipher.1
-  Ok (record {
+  Ok (
+    record {
       kind = kind.0;
       from_id = from_id.0;
       to_id = to_id.0;
@@ -82,7 +83,9 @@ link_at bytes = do
       nonce = nonce.0;
       cipher = cipher.0;
       tag = tag.0;
-    }, tag.1)
+    },
+    tag.1,
+  )
 
 unfoldable pub content_at : List ℕ → Read PlainContent
 content_at bytes = do
@@ -94,14 +97,17 @@ content_at bytes = do
   len ← number_between w32 (shortest_text kind.0) (longest_text kind.0) nonce.1
   cipher ← bytes_at len.0 len.1
   tag ← bytes_at 32 cipher.1
-  Ok (record {
+  Ok (
+    record {
       kind = kind.0;
       object = object.0;
       key_serial = record { 0 = key_serial.0 };
       nonce = nonce.0;
       cipher = cipher.0;
       tag = tag.0;
-    }, tag.1)
+    },
+    tag.1,
+  )
 
 -- a payload, and the bytes after it
 unfoldable pub payload_at : List ℕ → Read PlainPayload

@@ -19,9 +19,13 @@ fn with_one_id(code: u8, id: u32) -> Note
     match code {
         5 => Note::Rewrite { file: FileId(id) },
         6 => Note::NameFile { file: FileId(id) },
-        7 => Note::NameFolder { folder: FolderId(id) },
+        7 => Note::NameFolder {
+            folder: FolderId(id),
+        },
         8 => Note::DropFile { file: FileId(id) },
-        _ => Note::DropFolder { folder: FolderId(id) },
+        _ => Note::DropFolder {
+            folder: FolderId(id),
+        },
     }
 }
 
@@ -29,12 +33,30 @@ fn with_two_ids(code: u8, first: u32, second: u32) -> Note
     ensures { result ≡ note_of_two code first second }
 {
     match code {
-        3 => Note::NewFolder { folder: FolderId(first), parent: FolderId(second) },
-        4 => Note::NewFile { file: FileId(first), folder: FolderId(second) },
-        10 => Note::ShiftFile { file: FileId(first), into: FolderId(second) },
-        11 => Note::ShiftFolder { folder: FolderId(first), into: FolderId(second) },
-        12 => Note::Give { holder: HolderId(first), folder: FolderId(second) },
-        _ => Note::Take { holder: HolderId(first), folder: FolderId(second) },
+        3 => Note::NewFolder {
+            folder: FolderId(first),
+            parent: FolderId(second),
+        },
+        4 => Note::NewFile {
+            file: FileId(first),
+            folder: FolderId(second),
+        },
+        10 => Note::ShiftFile {
+            file: FileId(first),
+            into: FolderId(second),
+        },
+        11 => Note::ShiftFolder {
+            folder: FolderId(first),
+            into: FolderId(second),
+        },
+        12 => Note::Give {
+            holder: HolderId(first),
+            folder: FolderId(second),
+        },
+        _ => Note::Take {
+            holder: HolderId(first),
+            folder: FolderId(second),
+        },
     }
 }
 
@@ -44,7 +66,13 @@ fn new_holder_of(bytes: &[u8]) -> Result<(Note, &[u8]), Stop>
 {
     let (holder, rest) = u32_of(bytes)?;
     let (check, rest) = array_of(rest)?;
-    Ok((Note::NewHolder { holder: HolderId(holder), check }, rest))
+    Ok((
+        Note::NewHolder {
+            holder: HolderId(holder),
+            check,
+        },
+        rest,
+    ))
 }
 
 #[tactic(auto, unfolding(crate::specs::Fields::and_then, crate::specs::Reading::one_id_at))]
@@ -143,7 +171,11 @@ fn links_of(alloc: Global, count: u32, bytes: &[u8]) -> Result<(List<LinkRecord>
     Ok((links, rest))
 }
 
-fn contents_of(alloc: Global, count: u32, bytes: &[u8]) -> Result<(List<ContentRecord>, &[u8]), Stop>
+fn contents_of(
+    alloc: Global,
+    count: u32,
+    bytes: &[u8],
+) -> Result<(List<ContentRecord>, &[u8]), Stop>
     ensures { Gives (λ x. (map plain_content x.0.items, x.1.now)) result (repeat_at content_at count bytes.now) }
 {
     let mut contents = List::new(alloc);
@@ -165,7 +197,14 @@ fn payload_of(alloc: Global, bytes: &[u8]) -> Result<(Payload, &[u8]), Stop>
     let (content_count, rest) = u32_of(rest)?;
     let (links, rest) = links_of(alloc, link_count, rest)?;
     let (contents, rest) = contents_of(alloc, content_count, rest)?;
-    Ok((Payload { note, links, contents }, rest))
+    Ok((
+        Payload {
+            note,
+            links,
+            contents,
+        },
+        rest,
+    ))
 }
 
 #[tactic(auto, unfolding(crate::specs::Fields::and_then, crate::specs::Reading::whole_payload))]
@@ -193,7 +232,9 @@ pub fn read_payload(alloc: Global, bytes: &[u8]) -> Result<Payload, PayloadFault
 {
     match whole_of(alloc, bytes) {
         Ok(payload) => Ok(payload),
-        Err(Stop::Bad { left }) => Err(PayloadFault::Format { at: bytes.len() - left }),
+        Err(Stop::Bad { left }) => Err(PayloadFault::Format {
+            at: bytes.len() - left,
+        }),
         Err(Stop::OutOfMemory) => Err(PayloadFault::OutOfMemory),
     }
 }

@@ -1,8 +1,6 @@
 use Rattle.std.proofs.Common.{◌≡◌, ◌++◌, ◌∷◌, [], refl}
 use Rattle.std.proofs.lemmas.Result.{err_from_is_err_and}
-
 use Rattle.record_format.specs.Fields.{repeat_at}
-
 use Rattle.record_format.specs.Reading.{link_at}
 use Rattle.record_format.proofs.Repeats.{starts, goes_on, stops_there, is_done}
 use Rattle.record_format.proofs.reading.links_of.Goals as goal
