@@ -39,7 +39,7 @@ length-spell_content r fits =
     simp (length-append, length-content_head, fits.tag) (omega arith)
 
 pub length-spell_note : (note : Note) → IsNote note → length (spell_note note) ≡ note_size note
-unfolding spell_note IsNote
+unfolding spell_note
 length-spell_note Root fits = refl
 length-spell_note (NewHolder holder check) fits = simp (length-append, length-be32, fits.1)
 length-spell_note (NewFolder folder parent) fits = simp (length-append, length-be32)
@@ -93,7 +93,7 @@ most true is_key = lit≤ tt
 most false true = lit≤ tt
 most false false = lit≤ tt
 
-longest_text_most : (kind : ℕ) → longest_text kind ≤ 1048641
+pub longest_text_most : (kind : ℕ) → longest_text kind ≤ 1048641
 longest_text_most kind = most (eqb kind 2) (eqb kind 3)
 
 -- the longest content has 1,048,699 bytes

@@ -2,3 +2,6 @@ pub mod Plain
 pub mod Spelling
 pub mod Sizes
 pub mod Spellable
+pub mod Fields
+pub mod Reading
+pub mod Laws

@@ -37,11 +37,11 @@ pub record IsContent (r : PlainContent) : Type 0 where
   pub tag : length r.tag ≡ 32
 
 -- two ids of four bytes
-abbrev AreIds : ℕ → ℕ → Type 0
+abbrev pub AreIds : ℕ → ℕ → Type 0
 AreIds first second = (first < 2 ^ 32) × (second < 2 ^ 32)
 
 -- a note, whose fields have the sizes of the format
-unfoldable pub IsNote : Note → Type 0
+abbrev pub IsNote : Note → Type 0
 IsNote Root = Unit {0}
 IsNote (NewHolder holder check) = (holder.0 < 2 ^ 32) × (length check ≡ 32)
 IsNote (NewFolder folder parent) = AreIds folder.0 parent.0

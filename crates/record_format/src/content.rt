@@ -8,6 +8,7 @@
 //! ```
 ghost use Rattle.std.specs.Prelude.{◌≡◌, ◌<◌, ◌^◌, length};
 ghost use Rattle.record_format.specs.Plain.{plain_content};
+ghost use Rattle.record_format.specs.Spellable.{shortest_text, longest_text};
 ghost use Rattle.record_format.specs.Spelling.{content_head};
 
 use cry_base::{Serial, Text};
@@ -43,4 +44,16 @@ pub fn content_header(content: &ContentRecord) -> [u8; 26]
     header[14..22].copy_from_slice(&content.nonce.to_be_bytes());
     header[22..].copy_from_slice(&(content.cipher.as_slice().len() as u32).to_be_bytes());
     header
+}
+
+/// The fewest and the most bytes that the text of a content of this kind has.
+pub(crate) fn text_range(kind: u8) -> (u32, u32)
+    ensures shortest { result.0 ≡ shortest_text kind }
+    ensures longest { result.1 ≡ longest_text kind }
+{
+    match kind {
+        2 => (2, 1_048_641),
+        3 => (32, 32),
+        _ => (0, 64),
+    }
 }

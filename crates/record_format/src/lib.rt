@@ -2,13 +2,23 @@
 #![tactic(auto)]
 
 mod content;
+mod fault;
+mod fields;
+mod laws;
 mod link;
 mod note;
 mod payload;
+mod reading;
 mod writing;
 
 pub use content::{ContentRecord, content_header};
+pub use fault::PayloadFault;
+pub use laws::{spelling_is_prefix_free, spelling_reads_back};
 pub use link::{LinkRecord, link_header};
 pub use note::Note;
 pub use payload::{Payload, payload_len};
+pub use reading::read_payload;
 pub use writing::{put_payload, write_payload};
+
+#[cfg(test)]
+mod tests;
