@@ -1,4 +1,5 @@
 pub mod Counts
+pub mod Events
 pub mod Stops
 pub mod Streams
 pub mod Told

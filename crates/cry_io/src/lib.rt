@@ -3,8 +3,12 @@
 
 mod disk;
 mod failed;
+mod history;
 mod streams;
+mod tally;
 
 pub use disk::Disk;
 pub use failed::Failed;
+pub use history::History;
 pub use streams::{Sink, Source};
+pub use tally::Tally;
