@@ -4,11 +4,10 @@
 mod disk;
 mod failed;
 mod history;
+mod schedule;
 mod streams;
 mod tally;
 
 pub use disk::Disk;
 pub use failed::Failed;
-pub use history::History;
 pub use streams::{Sink, Source};
-pub use tally::Tally;
