@@ -1,5 +1,6 @@
 pub mod Counts
 pub mod Events
+pub mod Fakes
 pub mod Schedules
 pub mod Stops
 pub mod Streams

@@ -4,10 +4,12 @@
 mod disk;
 mod failed;
 mod history;
+mod mem_source;
 mod schedule;
 mod streams;
 mod tally;
 
 pub use disk::Disk;
 pub use failed::Failed;
+pub use mem_source::MemSource;
 pub use streams::{Sink, Source};
