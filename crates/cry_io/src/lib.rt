@@ -4,6 +4,8 @@
 mod disk;
 mod failed;
 mod history;
+
+mod mem_sink;
 mod mem_source;
 mod schedule;
 mod streams;
@@ -11,5 +13,6 @@ mod tally;
 
 pub use disk::Disk;
 pub use failed::Failed;
+pub use mem_sink::MemSink;
 pub use mem_source::MemSource;
 pub use streams::{Sink, Source};
