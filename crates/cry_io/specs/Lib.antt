@@ -1,6 +1,8 @@
 pub mod Counts
 pub mod Events
 pub mod Fakes
+pub mod Leaving
+pub mod LeavingLaws
 pub mod Schedules
 pub mod Stops
 pub mod Streams
