@@ -3,6 +3,7 @@ pub mod Events
 pub mod Fakes
 pub mod Leaving
 pub mod LeavingLaws
+pub mod Platters
 pub mod Schedules
 pub mod Stops
 pub mod Streams

@@ -5,14 +5,17 @@ mod disk;
 mod failed;
 mod history;
 
+mod mem_disk;
 mod mem_sink;
 mod mem_source;
+mod platter;
 mod schedule;
 mod streams;
 mod tally;
 
 pub use disk::Disk;
 pub use failed::Failed;
+pub use mem_disk::MemDisk;
 pub use mem_sink::MemSink;
 pub use mem_source::MemSource;
 pub use streams::{Sink, Source};
