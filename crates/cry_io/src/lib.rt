@@ -8,6 +8,7 @@ mod history;
 mod mem_disk;
 mod mem_sink;
 mod mem_source;
+mod mixer;
 mod platter;
 mod schedule;
 mod streams;

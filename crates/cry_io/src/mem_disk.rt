@@ -1,5 +1,5 @@
 //! A disk in memory.
-ghost use Rattle.std.specs.Prelude.{◌≡◌, ◌<◌, ◌≤◌, ◌↔◌, ◌⊎◌, ◌+◌, ◌-◌, ◌^◌, [], ◌∷◌, Some, length, max, is_some, slice_range, IfOk, OnOk, OnErr, IsErr};
+ghost use Rattle.std.specs.Prelude.{◌≡◌, ◌<◌, ◌≤◌, ◌↔◌, ◌⊎◌, ◌+◌, ◌-◌, ◌^◌, [], ◌∷◌, None, Some, length, max, is_some, slice_range, IfOk, OnOk, OnErr, IsErr};
 ghost use Rattle.cry_io.specs.Counts.{CountsFault};
 ghost use Rattle.cry_io.specs.Events.{Stays};
 ghost use Rattle.cry_io.specs.Fakes.{read, wrote, synced, refused};
@@ -79,6 +79,22 @@ impl MemDisk {
         ensures { result.now ≡ shown_of self.now.events }
     {
         self.platter.shown()
+    }
+
+    /// The disk after a stop, chosen by `pick`: what is left is all that it shows, nothing is pending, and no
+    /// call is to fail. It has the same room, and a record of as many units as at first.
+    pub fn stop(self, alloc: Global, pick: u64) -> Mem<MemDisk>
+        ensures left { IfOk result (λ d. Leaves self.events (shown_of d.events)) }
+        ensures stays { IfOk result (λ d. d.events ≡ Stays (shown_of d.events) ∷ []) }
+        ensures room { IfOk result (λ d. d.room ≡ self.room) }
+        ensures log { IfOk result (λ d. d.log ≡ self.log) }
+        ensures units { IfOk result (λ d. d.units ≡ self.log) }
+        ensures schedule { IfOk result (λ d. d.schedule ≡ record { calls = 0; fails = []; dead_from = None }) }
+        ensures faults { IfOk result (λ d. d.faults ≡ 0) }
+    {
+        let left = self.platter.outcome(alloc, pick)?;
+        let (room, log) = (self.platter.room(), self.log);
+        MemDisk::make(alloc, left, room, log, List::new(alloc), None)
     }
 
     /// Counts a call on a range up to this place, which takes so many units of the record. It fails where it

@@ -1,10 +1,11 @@
 //! The bytes of a disk in memory: those that reads give, those that stay, and which of them are pending.
 ghost use Rattle.std.specs.Prelude.{◌≡◌, ◌+◌, ◌-◌, ◌≤◌, [], ◌∷◌, ◌++◌, length, take, drop, replicate, IfOk};
 ghost use Rattle.cry_io.specs.Events.{Stays, Wrote};
-ghost use Rattle.cry_io.specs.Leaving.{shown_of};
+ghost use Rattle.cry_io.specs.Leaving.{shown_of, Leaves};
 
 use crate::history::History;
-use cry_base::Mem;
+use crate::mixer::{between, byte_left};
+use cry_base::{List, Mem};
 use std::alloc::Global;
 use std::marker::Model;
 
@@ -93,6 +94,26 @@ impl Platter {
         mark(&mut self.pending, 0, size, false);
         self.stable_size = size;
         self.history = self.history.staying(&self.shown[..size]);
+    }
+
+    /// Bytes that a stop now may leave, chosen by `pick`.
+    pub(crate) fn outcome(&self, alloc: Global, pick: u64) -> Mem<List<u8>>
+        ensures left { IfOk result (λ l. Leaves self.now.events l.items) }
+        ensures fits { IfOk result (λ l. length l.items ≤ self.now.room) }
+    {
+        let size = between(pick, self.stable_size, self.size);
+        let mut left = List::new(alloc);
+        left.reserve(size)?;
+        for place in 0..size {
+            let is_settled = place < self.stable_size && !self.pending[place];
+            let byte = if is_settled {
+                self.stable[place]
+            } else {
+                byte_left(pick, place, self.stable[place], self.shown[place])
+            };
+            left.put(byte);
+        }
+        Ok(left)
     }
 }
 
