@@ -78,14 +78,14 @@ module _ (place n size : ℕ) (stable : List ℕ) (stable_size : ℕ) (pending :
 -- a write over what is shown is a write over the bytes
 shown_written : (place size : ℕ) (bytes shown : List ℕ) → place ≤ size → size ≤ length shown → place + length bytes ≤ length shown
     → take place (take size shown) ++ bytes ++ drop (place + length bytes) (take size shown)
-      ≡ take (max size (place + length bytes)) (take place shown ++ bytes ++ drop (place + length bytes) shown)
+    ≡ take (max size (place + length bytes)) (take place shown ++ bytes ++ drop (place + length bytes) shown)
 shown_written place size bytes shown inside fits room = same_lists _ _ (search (rules, places)) (λ k d h. grind (arith, places))
 
 pub tied_write : (events : List Event) (shown : List ℕ) (size : ℕ) (stable : List ℕ) (stable_size : ℕ) (pending : List Bool)
     (place : ℕ) (bytes : List ℕ) → IsTied events shown size stable stable_size pending
     → place ≤ size → place + length bytes ≤ length shown
     → IsTied (Wrote place bytes ∷ events) (take place shown ++ bytes ++ drop (place + length bytes) shown) (max size (place + length bytes))
-      stable stable_size (take place pending ++ replicate (place + length bytes - place) true ++ drop (place + length bytes) pending)
+    stable stable_size (take place pending ++ replicate (place + length bytes - place) true ++ drop (place + length bytes) pending)
 tied_write events shown size stable stable_size pending place bytes tied inside room = record {
   shown_is = ap (λ s. take place s ++ bytes ++ drop (place + length bytes) s) tied.shown_is ∙ shown_written place size bytes shown inside tied.size_fits room;
   size_fits = grind (arith, places);
@@ -102,7 +102,7 @@ tied_write events shown size stable stable_size pending place bytes tied inside 
 pub tied_sync : (events : List Event) (shown : List ℕ) (size : ℕ) (stable : List ℕ) (stable_size : ℕ) (pending : List Bool)
     → IsTied events shown size stable stable_size pending
     → IsTied (Stays (take size shown) ∷ events) shown size (take 0 stable ++ take size shown ++ drop (0 + length (take size shown)) stable) size
-      (take 0 pending ++ replicate (size - 0) false ++ drop size pending)
+    (take 0 pending ++ replicate (size - 0) false ++ drop size pending)
 tied_sync events shown size stable stable_size pending tied = record {
   shown_is = refl;
   size_fits = tied.size_fits;

@@ -8,3 +8,4 @@ pub mod Schedules
 pub mod Stops
 pub mod Streams
 pub mod Told
+pub mod Untold

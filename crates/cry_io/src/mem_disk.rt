@@ -36,12 +36,12 @@ impl Model for MemDisk {
     ghost Value = { Spun };
 
     ghost view = { λ d. record {
-        events = d.platter.events;
-        room = d.platter.room;
-        log = d.log;
-        units = d.units;
-        schedule = d.schedule;
-        faults = d.faults.count;
+      events = d.platter.events;
+      room = d.platter.room;
+      log = d.log;
+      units = d.units;
+      schedule = d.schedule;
+      faults = d.faults.count;
     } };
 }
 

@@ -29,10 +29,10 @@ impl Model for MemSink {
     ghost Value = { Filled };
 
     ghost view = { λ s. record {
-        written = s.bytes.items;
-        room = s.room;
-        schedule = s.schedule;
-        faults = s.faults.count;
+      written = s.bytes.items;
+      room = s.room;
+      schedule = s.schedule;
+      faults = s.faults.count;
     } };
 
     ghost invariant = { λ s. (length s.bytes.items ≤ s.room) × (s.room ≤ length s.bytes.items + s.bytes.spare) };

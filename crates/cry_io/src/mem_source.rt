@@ -29,10 +29,10 @@ impl Model for MemSource {
     ghost Value = { Fed };
 
     ghost view = { λ s. record {
-        left = drop s.at s.bytes.items;
-        step = s.step;
-        schedule = s.schedule;
-        faults = s.faults.count;
+      left = drop s.at s.bytes.items;
+      step = s.step;
+      schedule = s.schedule;
+      faults = s.faults.count;
     } };
 
     ghost invariant = { λ s. (s.at ≤ length s.bytes.items) × (1 ≤ s.step) };

@@ -14,12 +14,12 @@ invariant_of-self c =
     let shows : length (shown_of c.args.self.now.events) ≡ length (shown_of p.history.events) = ap (λ k. length (shown_of k.events)) (sym c.self.view_is) in
     let room : length p.shown.items ≡ c.args.self.now.room = ap (λ k. k.room) c.self.view_is in
     tied_same _ _ _ _ _ _ _ _ p.stable_size _ _
-      c.writing-self-inside.ensures
-      (whole _ c.put_at.new.bytes p.shown.items (c.put_at.auto.bytes ∙ c.deref_mut.ensures.len) ∙ c.put_at.ensures
-        ∙ ap (λ old. take place old ++ bytes ++ drop end old) c.deref_mut.ensures.value)
-      c.max-self-inside.ensures
-      refl
-      (whole _ c.mark.new.flags p.pending.items (c.mark.auto.flags ∙ c.deref_mut-2.ensures.len) ∙ c.mark.ensures
-        ∙ ap (λ old. take place old ++ replicate (end - place) true ++ drop end old) c.deref_mut-2.ensures.value)
-      (tied_write p.history.events p.shown.items p.size p.stable.items p.stable_size p.pending.items place bytes c.self.invariant
-        (let r = c.requires.inside in omega arith) (let r = c.requires.fits in omega arith))
+    c.writing-self-inside.ensures
+    (whole _ c.put_at.new.bytes p.shown.items (c.put_at.auto.bytes ∙ c.deref_mut.ensures.len) ∙ c.put_at.ensures
+    ∙ ap (λ old. take place old ++ bytes ++ drop end old) c.deref_mut.ensures.value)
+    c.max-self-inside.ensures
+    refl
+    (whole _ c.mark.new.flags p.pending.items (c.mark.auto.flags ∙ c.deref_mut-2.ensures.len) ∙ c.mark.ensures
+    ∙ ap (λ old. take place old ++ replicate (end - place) true ++ drop end old) c.deref_mut-2.ensures.value)
+    (tied_write p.history.events p.shown.items p.size p.stable.items p.stable_size p.pending.items place bytes c.self.invariant
+    (let r = c.requires.inside in omega arith) (let r = c.requires.fits in omega arith))
