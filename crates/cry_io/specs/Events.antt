@@ -1,4 +1,4 @@
--- What has happened to a disk in memory, the latest first. This project's own, docs/FORMAT.md.
+-- What has happened to a disk in memory, the latest first. This project's own.
 use Rattle.std.specs.Prelude.{ℕ, List}
 
 -- these bytes became all that a stop leaves, or bytes were written at a place

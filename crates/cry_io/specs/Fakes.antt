@@ -1,4 +1,4 @@
--- What contracts see of a source, a sink and a disk in memory. This project's own, docs/FORMAT.md.
+-- What contracts see of a source, a sink and a disk in memory. This project's own.
 use Rattle.std.specs.Prelude.{◌+◌, ◌-◌, ◌∷◌, ◌++◌, ℕ, List, length, drop, take}
 use Rattle.cry_io.specs.Events.{Event, Stays, Wrote}
 use Rattle.cry_io.specs.Leaving.{shown_of}

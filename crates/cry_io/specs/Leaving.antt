@@ -1,5 +1,4 @@
--- What a disk in memory shows, and what a stop may leave on it, told by what has happened to it. This project's
--- own, docs/FORMAT.md.
+-- What a disk in memory shows, and what a stop may leave on it, by what has happened to it. This project's own.
 use Rattle.std.specs.Prelude.{◌≡◌, ◌≤◌, ◌+◌, ◌⊎◌, ℕ, List, [], ◌∷◌, ◌++◌, length, take, drop}
 use Rattle.cry_io.specs.Events.{Event, Stays, Wrote}
 use Rattle.cry_io.specs.Stops.{Torn, Follows}

@@ -1,5 +1,4 @@
--- The bytes of a disk in memory, and how they stand for what has happened to it. This project's own,
--- docs/FORMAT.md.
+-- The bytes of a disk in memory, and how they stand for what has happened to it. This project's own.
 use Rattle.std.specs.Prelude.{◌≡◌, ◌<◌, ◌≤◌, ℕ, Bool, false, List, length, take, slice_index, slice_index_or}
 use Rattle.cry_io.specs.Events.{Event}
 use Rattle.cry_io.specs.Leaving.{shown_of, Leaves}

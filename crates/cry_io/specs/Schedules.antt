@@ -1,4 +1,4 @@
--- Which calls of a fake are to fail. This project's own, docs/FORMAT.md.
+-- Which calls of a fake are to fail. This project's own.
 use Rattle.std.specs.Prelude.{◌≡◌, ◌+◌, ◌≤◌, ◌^◌, ◌⊎◌, ℕ, List, Option, Contains, IsSomeAnd, MatchOption}
 
 -- how many calls there were, which is the number of the next; the numbers of those that are to fail; and from
