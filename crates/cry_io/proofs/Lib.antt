@@ -1,1 +1,3 @@
 pub mod ToldLemmas
+pub mod Happened
+pub mod Ties

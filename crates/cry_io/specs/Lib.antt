@@ -1,4 +1,11 @@
 pub mod Counts
+pub mod Events
+pub mod Fakes
+pub mod Leaving
+pub mod LeavingLaws
+pub mod Platters
+pub mod Schedules
 pub mod Stops
 pub mod Streams
 pub mod Told
+pub mod Untold
