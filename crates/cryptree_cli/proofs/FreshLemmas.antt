@@ -71,7 +71,7 @@ root_name_fits drawn = record {
 }
 
 pub root_spellable : (drawn : List ℕ) → length drawn ≡ 192 → IsSpellable (root_payload drawn)
-unfolding root_payload root_links IsNote
+unfolding root_payload root_links
 root_spellable drawn all = record {
   note = tt;
   link_count = omega arith;

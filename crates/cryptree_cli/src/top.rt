@@ -41,9 +41,9 @@ pub fn top<S: Source, R: Source, D: Disk, W: Sink>(
 
     // With room on the random source and no fault, `make` is done, if there is memory.
     ensures complete { IsMake words.now.items → D.size_of disk.old ≡ 0 →
-        WhereTold (R.left random.old) (λ bytes. 192 ≤ length bytes) → IsSome (R.left random.old) →
+        WhereTold (R.left random.old) (λ bytes. 192 ≤ length bytes →
         R.faults random.new ≤ R.faults random.old → D.faults disk.new ≤ D.faults disk.old →
-        W.faults out.new ≤ W.faults out.old → (result ≡ Status.Done) ⊎ (result ≡ Status.OutOfMemory) }
+        W.faults out.new ≤ W.faults out.old → (result ≡ Status.Done) ⊎ (result ≡ Status.OutOfMemory)) }
 
     // What `make` does: at a write fault the whole store stands all the same.
     ensures made { IsMake words.now.items → result ≡ Status.Done → Makes PrintsAll

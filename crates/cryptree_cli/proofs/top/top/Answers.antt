@@ -1,0 +1,45 @@
+use Rattle.std.proofs.Common.{◌≡◌, ◌⊎◌, List, ℕ, Some, arith, sym, ap, ◌∙◌, subst}
+use Rattle.cry_io.specs.Told.{WhereBothTold}
+use Rattle.cryptree_cli.specs.declared.status.Status.TheVariants.{Done, WriteFault}
+use Rattle.cryptree_cli.specs.declared.texts.TheConstants.{HELP, VERSION}
+use Rattle.cryptree_cli.specs.declared.words.Form.TheVariants.{Help, Version}
+use Rattle.cryptree_cli.specs.Top.{text_of, PrintsAll, PrintsFront}
+use Rattle.cryptree_cli.specs.Words.{form_of_words}
+use Rattle.cryptree_cli.proofs.MakeLemmas.{done_or_no_memory}
+use Rattle.cryptree_cli.proofs.top.top.Goals as goal
+
+pub returns-in-Some-Help-clause-text : goal.returns-in-Some-Help-clause-text
+returns-in-Some-Help-clause-text g c = λ x asked.
+    let form : form_of_words c.args.words.now.items ≡ Some Help =
+    sym c.form_of.ensures ∙ c.in-Some-Help.is ∙ ap (λ f. Some f) c.in-Some-Help.field-0-is
+    in
+    let some : Some HELP.now ≡ Some x = sym (ap text_of form) ∙ asked in
+    let text : HELP.now ≡ x = cc in
+    subst (λ (t : List ℕ).
+    (c.tell.result ≡ Done) × WhereBothTold (g.W.Sink.written c.args.out.now) (g.W.Sink.written c.tell.new.out) (PrintsAll t)
+    ⊎ (c.tell.result ≡ WriteFault) × WhereBothTold (g.W.Sink.written c.args.out.now) (g.W.Sink.written c.tell.new.out) (PrintsFront t))
+    text c.tell.ensures.done
+
+pub returns-in-Some-Version-clause-text : goal.returns-in-Some-Version-clause-text
+returns-in-Some-Version-clause-text g c = λ x asked.
+    let form : form_of_words c.args.words.now.items ≡ Some Version =
+    sym c.form_of.ensures ∙ c.in-Some-Version.is ∙ ap (λ f. Some f) c.in-Some-Version.field-0-is
+    in
+    let some : Some VERSION.now ≡ Some x = sym (ap text_of form) ∙ asked in
+    let text : VERSION.now ≡ x = cc in
+    let out = c.tell-in-Some-Version.new.out in
+    let result = c.tell-in-Some-Version.result in
+    subst (λ (t : List ℕ).
+    (result ≡ Done) × WhereBothTold (g.W.Sink.written c.args.out.now) (g.W.Sink.written out) (PrintsAll t)
+    ⊎ (result ≡ WriteFault) × WhereBothTold (g.W.Sink.written c.args.out.now) (g.W.Sink.written out) (PrintsFront t))
+    text c.tell-in-Some-Version.ensures.done
+
+pub returns-in-Some-Make-clause-complete : goal.returns-in-Some-Make-clause-complete
+returns-in-Some-Make-clause-complete g c = λ is blank x was enough random disk out.
+    let make = c.make.ensures in
+    done_or_no_memory c.make.result make.no_usage
+    (λ e. make.not_blank.0 e blank)
+    (λ e. omega (arith, make.random_fault e, random))
+    (λ e. omega (arith, make.disk_fault e, disk))
+    (λ e. omega (arith, make.write_fault e, out))
+    (λ left need e. let short = make.short left need e in omega (arith, short.had x was, short.fewer, enough))
