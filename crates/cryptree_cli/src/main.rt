@@ -1,8 +1,9 @@
-//! cryptree: shared folders in one file on a disk that nobody has to trust.
+//! cryptree: shared folders in one store file, on a disk that nobody has to trust.
 #![tactic(auto)]
 
 mod batch;
 mod commit;
+mod files;
 mod fresh;
 mod make;
 mod outside;
@@ -15,8 +16,72 @@ mod texts;
 mod top;
 mod words;
 
+use crate::files::{Random, open_store};
+use crate::status::{Status, fault_line};
+use crate::top::top;
+use cry_base::{List, Mem, Text};
+use cry_io::{FileDisk, StdSink, StdSource};
 use std::process::ExitCode;
+use std::{env, io};
 
-fn main(_rt: HostRuntime) -> ExitCode {
-    ExitCode::SUCCESS
+fn main(rt: HostRuntime) -> ExitCode {
+    let status = match words_given(&rt) {
+        Ok(words) => run(&rt, &words),
+        Err(_) => Status::OutOfMemory,
+    };
+    tell(&rt, &status);
+    ExitCode::from(status.code())
+}
+
+/// The words after the program's name. Where one isn't UTF-8 there are none, which is the usage answer.
+fn words_given(rt: &HostRuntime) -> Mem<List<Text>> {
+    let mut words = List::new(rt.alloc());
+    match env::args(rt) {
+        Ok(args) => {
+            for word in args.skip(1) {
+                let mut text = List::new(rt.alloc());
+                text.append(word.as_bytes())?;
+                words.push(text)?;
+            }
+        }
+        Err(error) if error.kind() == io::ErrorKind::OutOfMemory => return Err(
+            cry_base::OutOfMemory,
+        ),
+        Err(_) => {}
+    }
+    Ok(words)
+}
+
+fn run(rt: &HostRuntime, words: &List<Text>) -> Status {
+    let (store, random) = match words.as_slice() {
+        [store, random, command, ..] => (
+            open_store(
+                rt,
+                store.as_slice(),
+                command.as_slice() == b"make".as_slice(),
+            ),
+            Random::open(rt, random.as_slice()),
+        ),
+        _ => (None, Random::Nothing),
+    };
+    let mut disk = FileDisk::over(store);
+    let mut random = StdSource::new(random);
+    let mut input = StdSource::new(rt.stdin());
+    let mut out = StdSink::new(rt.stdout());
+    top(
+        rt.alloc(),
+        words,
+        &mut input,
+        &mut random,
+        &mut disk,
+        &mut out,
+    )
+}
+
+/// Prints the status's line on standard error. Where there is no memory, or standard error fails, nothing can be told.
+fn tell(rt: &HostRuntime, status: &Status) {
+    let mut line = List::new(rt.alloc());
+    if fault_line(rt.alloc(), status, &mut line).is_ok() {
+        let _ = io::Write::write_all(&mut rt.stderr(), line.as_slice());
+    }
 }
