@@ -12,6 +12,8 @@ mod room;
 mod sealed;
 mod status;
 mod store;
+#[cfg(test)]
+mod tests;
 mod texts;
 mod top;
 mod words;
