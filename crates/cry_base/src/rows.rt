@@ -1,0 +1,23 @@
+//! Worked rows of the plain store, each computed by the checker from the definitions.
+ghost use Rattle.std.specs.Prelude.{◌≡◌, [], ◌∷◌, codes};
+ghost use Rattle.cry_base.specs.Requests.Request.{MakeFolder, WriteFile, Remove, Rename, Relocate, Grant, Revoke};
+ghost use Rattle.cry_base.specs.WorkedRows.{replies, store_after, granted};
+
+/// A grant is given once, taken back where it stands, and only to a holder that was made.
+#[tactic(auto, unfolding(crate::specs::WorkedRows::plain_store))]
+pub fn holder_refusals()
+    ensures { replies (store_after granted (MakeFolder (codes "/b") ∷ []))
+        (Grant 1 (codes "/a") ∷ Revoke 1 (codes "/b") ∷ Grant 2 (codes "/a") ∷ [])
+        ≡ codes "has-grant" ∷ codes "no-grant" ∷ codes "no-holder" ∷ [] }
+{}
+
+/// The refusals of a tree's changes, each by the first cause that applies.
+#[tactic(auto, unfolding(crate::specs::WorkedRows::plain_store))]
+pub fn tree_refusals()
+    ensures { replies (store_after granted (MakeFolder (codes "/a/b") ∷ []))
+        (Relocate (codes "/a") (codes "/a/b") ∷ Relocate (codes "/a/x") (codes "/a") ∷ Relocate (codes "/") (codes "/a")
+        ∷ MakeFolder (codes "a") ∷ Remove (codes "/a") ∷ WriteFile (codes "/a") (0 ∷ [])
+        ∷ MakeFolder (codes "/a/x/y") ∷ Rename (codes "/a/x") (codes "x") ∷ [])
+        ≡ codes "inside-itself" ∷ codes "exists" ∷ codes "is-root" ∷ codes "bad-name" ∷ codes "not-empty"
+        ∷ codes "is-folder" ∷ codes "not-folder" ∷ codes "exists" ∷ [] }
+{}
