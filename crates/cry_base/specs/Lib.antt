@@ -8,4 +8,5 @@ pub mod Requests
 pub mod Sets
 pub mod Stepping
 pub mod Store
+pub mod Texts
 pub mod WorkedRows

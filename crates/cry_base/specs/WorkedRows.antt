@@ -9,6 +9,7 @@ use Rattle.cry_base.specs.Store.{Store, root_store, no_store, folder_node, file_
 use Rattle.cry_base.specs.Refusing.{is_folder, is_file, id_of, has_bad_name, has_no_place, finds_no_path, changes_root, needs_folder, writes_folder, holds_name, parent_of, name_of, finds_name_taken, has_child, removes_children, moves_into_itself, is_node_within, deepest, height_of, depth_at, goes_too_deep, finds_no_holder, grants_again, revokes_nothing, is_too_long, causes, refusal_of}
 use Rattle.cry_base.specs.Stepping.{with_new_holder, with_new_folder, with_new_file, with_folder, with_file, without_folder, without_file, without_grant, with_bytes_at, without_node, with_name, moved, effect, accepted, step}
 use Rattle.cry_base.specs.Sets.{has, leads_out, grown, reach}
+use Rattle.cry_base.specs.Texts.{hex_digit, hex_of, ended_lines, bytes_before}
 
 -- the word of a reply, and the store behind it. Files have at most 1,048,576 bytes, and a new holder the empty key
 unfoldable pub reply_word : Result Store Refusal → List ℕ
@@ -35,5 +36,5 @@ granted = store_after root_store (MakeFolder (codes "/a") ∷ WriteFile (codes "
 
 -- opens every word of the plain store to a computation
 unfoldable pub plain_store : Unit {0}
-unfolding has leads_out grown reach is_between is_name_byte is_name spell_path onto_first split_at_slashes names_behind names_of is_path front last_name parent_path is_root_path root_store no_store folder_node file_node folder_entry file_entry holder_entry has_grant and_above way_up way_to_root backwards folder_names file_names node_names path_of depth_of nodes_of node_at is_within is_folder is_file id_of has_bad_name has_no_place finds_no_path changes_root needs_folder writes_folder holds_name parent_of name_of finds_name_taken has_child removes_children moves_into_itself is_node_within deepest height_of depth_at goes_too_deep finds_no_holder grants_again revokes_nothing is_too_long causes refusal_of with_new_holder with_new_folder with_new_file with_folder with_file without_folder without_file without_grant with_bytes_at without_node with_name moved effect accepted step paths_of reply_word store_then replies store_after granted
+unfolding hex_digit hex_of ended_lines bytes_before has leads_out grown reach is_between is_name_byte is_name spell_path onto_first split_at_slashes names_behind names_of is_path front last_name parent_path is_root_path root_store no_store folder_node file_node folder_entry file_entry holder_entry has_grant and_above way_up way_to_root backwards folder_names file_names node_names path_of depth_of nodes_of node_at is_within is_folder is_file id_of has_bad_name has_no_place finds_no_path changes_root needs_folder writes_folder holds_name parent_of name_of finds_name_taken has_child removes_children moves_into_itself is_node_within deepest height_of depth_at goes_too_deep finds_no_holder grants_again revokes_nothing is_too_long causes refusal_of with_new_holder with_new_folder with_new_file with_folder with_file without_folder without_file without_grant with_bytes_at without_node with_name moved effect accepted step paths_of reply_word store_then replies store_after granted
 plain_store = tt

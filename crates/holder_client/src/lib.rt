@@ -1,0 +1,4 @@
+//! What a holder's client shows.
+#![tactic(auto)]
+
+pub mod rows;

@@ -1,0 +1,4 @@
+pub mod Rights
+pub mod Roles
+pub mod Edges
+pub mod WorkedGraph

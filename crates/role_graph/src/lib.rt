@@ -1,0 +1,4 @@
+//! Which roles lead to which, and who may read what.
+#![tactic(auto)]
+
+pub mod rows;
