@@ -1,0 +1,4 @@
+pub mod Note
+pub mod Noting
+pub mod Change
+pub mod WorkedChanges

@@ -1,0 +1,4 @@
+//! What each command changes among the keys.
+#![tactic(auto)]
+
+pub mod rows;
