@@ -1,0 +1,6 @@
+pub mod Records
+pub mod KeyStep
+pub mod Journal
+pub mod Lengths
+pub mod Valid
+pub mod WorkedSteps

@@ -1,0 +1,4 @@
+//! What stands in public after each payload, and what the next one has to hold.
+#![tactic(auto)]
+
+pub mod rows;

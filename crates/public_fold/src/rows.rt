@@ -1,0 +1,82 @@
+//! Worked rows of journals, each computed by the checker from the definitions.
+ghost use Rattle.std.specs.Prelude.{◌≡◌, ◌*◌, ◌^◌, ◌+◌, [], ◌∷◌, map};
+ghost use Rattle.role_graph.specs.Edges.{grant_edge};
+ghost use Rattle.role_graph.specs.Roles.{clear_of, sub_of, back_of, files_of, data_of, file_role};
+ghost use Rattle.public_fold.specs.Journal.{keys_of};
+ghost use Rattle.public_fold.specs.Lengths.{end_of, payloads_from};
+ghost use Rattle.public_fold.specs.WorkedSteps.{fresh, renaming, rewriting, granting, revoking, writing_again, renaming_again, moving_away, step_at, renewals_at, links_at, contents_at};
+
+/// A fresh store has 819 bytes. Its keys, links and content are numbered in one row.
+#[tactic(auto, unfolding(crate::specs::WorkedSteps::journals))]
+pub fn fresh_store()
+    ensures length { end_of fresh ≡ 819 }
+    ensures keys { map (λ s. map (λ key. key.1) s.given) (step_at fresh 2)
+        ≡ (4294967296 ∷ 4294967297 ∷ 4294967298 ∷ 4294967299 ∷ 4294967300 ∷ []) ∷ [] }
+    ensures links { map (λ s. map (λ l. l.nonce) s.links) (step_at fresh 2)
+        ≡ (4294967301 ∷ 4294967302 ∷ 4294967303 ∷ 4294967304 ∷ 4294967305 ∷ []) ∷ [] }
+    ensures contents { map (λ s. map (λ c. c.nonce) s.contents) (step_at fresh 2) ≡ (4294967306 ∷ []) ∷ [] }
+{
+}
+
+/// A folder, a file, and the file's new name: the store's length.
+#[tactic(auto, unfolding(crate::specs::WorkedSteps::journals))]
+pub fn tree_and_rename()
+    ensures { end_of renaming ≡ 2273 }
+{
+}
+
+/// A file written empty in a second session, which draws no key.
+#[tactic(auto, unfolding(crate::specs::WorkedSteps::journals))]
+pub fn empty_rewrite_in_a_second_session()
+    ensures length { end_of rewriting ≡ 2566 }
+    ensures renewed { renewals_at rewriting 8 ≡ [] ∷ [] }
+{
+}
+
+/// A folder, a file, a holder and a grant: the store's length, and the link that the grant publishes.
+#[tactic(auto, unfolding(crate::specs::WorkedSteps::journals))]
+pub fn grant()
+    ensures length { end_of granting ≡ 2558 }
+    ensures links { map (λ s. s.links) (step_at granting 7)
+        ≡ (record { edge = grant_edge 1 2; from_serial = 0x200000010; to_serial = 0x200000000; nonce = 0x200000012 } ∷ []) ∷ [] }
+{
+}
+
+/// Taking a grant back publishes two links.
+#[tactic(auto, unfolding(crate::specs::WorkedSteps::journals))]
+pub fn revoked()
+    ensures length { end_of revoking ≡ 2991 }
+    ensures renewed { renewals_at revoking 9 ≡ (clear_of 2 ∷ []) ∷ [] }
+    ensures links { links_at revoking 9 ≡ 2 ∷ [] }
+{
+}
+
+/// The first write after it renews what leads to the file.
+#[tactic(auto, unfolding(crate::specs::WorkedSteps::journals))]
+pub fn written_after_revocation()
+    ensures length { end_of writing_again ≡ 4245 }
+    ensures renewed { renewals_at writing_again 11 ≡ (sub_of 2 ∷ files_of 2 ∷ file_role 1 ∷ []) ∷ [] }
+    ensures links { links_at writing_again 11 ≡ 5 ∷ [] }
+    ensures contents { contents_at writing_again 11 ≡ 1 ∷ [] }
+{
+}
+
+/// A folder's new name after a revocation is sealed under keys that only those who may read it reach.
+#[tactic(auto, unfolding(crate::specs::WorkedSteps::journals))]
+pub fn rename_after_revocation()
+    ensures length { end_of renaming_again ≡ 5294 }
+    ensures renewed { renewals_at renaming_again 11 ≡ (sub_of 2 ∷ sub_of 3 ∷ back_of 2 ∷ back_of 3 ∷ data_of 2 ∷ []) ∷ [] }
+    ensures links { links_at renaming_again 11 ≡ 12 ∷ [] }
+{
+}
+
+/// A folder that leaves a granted one takes clean keys along, and its file gets one when it is next written.
+#[tactic(auto, unfolding(crate::specs::WorkedSteps::journals))]
+pub fn move_away_from_a_grant()
+    ensures length { end_of moving_away ≡ 5396 }
+    ensures renewed { renewals_at moving_away 10 ≡ (sub_of 4 ∷ back_of 4 ∷ []) ∷ [] }
+    ensures links { links_at moving_away 10 ≡ 6 ∷ [] }
+    ensures renewed_by_the_write { renewals_at moving_away 11 ≡ (files_of 4 ∷ file_role 1 ∷ []) ∷ [] }
+    ensures links_of_the_write { links_at moving_away 11 ≡ 2 ∷ [] }
+{
+}
