@@ -1,5 +1,5 @@
 -- How a command changes the keys, and what it publishes. This project's own, docs/FORMAT.md, "The key step".
-use Rattle.std.specs.Prelude.{ℕ, ◌+◌, ◌*◌, ◌^◌, Bool, true, false, cond, not, ◌||◌, List, [], ◌∷◌, ◌++◌, map, filter, length, Option, Some, None}
+use Rattle.std.specs.Prelude.{ℕ, ◌+◌, ◌*◌, ◌^◌, Bool, true, false, cond, not, ◌||◌, List, [], ◌∷◌, ◌++◌, map, filter, length, Option, Some, None, unwrap_or}
 use Rattle.cry_base.specs.Sets.{has}
 use Rattle.cry_base.specs.declared.roles.Edge.{Edge}
 use Rattle.cry_base.specs.declared.roles.Role.{Role}
@@ -59,10 +59,13 @@ given k c plan = numbered (next_serial k) (plan ++ c.fresh)
 unfoldable pub keys_then : KeyState → Change → List Role → List (Role × ℕ)
 keys_then k c plan = given k c plan ++ keys_without (plan ++ c.gone) k.keys
 
--- the serial of a role's newest key, and 0 where it has none
+-- the serial of a role's newest key, where it has one, and 0 where it has none
+unfoldable pub newest : List (Role × ℕ) → Role → Option ℕ
+newest [] r = None
+newest (key ∷ keys) r = cond (same_role key.0 r) (Some key.1) (newest keys r)
+
 unfoldable pub present : List (Role × ℕ) → Role → ℕ
-present [] r = 0
-present (key ∷ keys) r = cond (same_role key.0 r) key.1 (present keys r)
+present keys r = unwrap_or (newest keys r) 0
 
 -- 5: the edges then, in order
 unfoldable pub edges_then : List Edge → Change → List Edge

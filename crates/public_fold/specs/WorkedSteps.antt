@@ -6,7 +6,7 @@ use Rattle.cry_base.specs.declared.roles.Role.{Role}
 use Rattle.rekey_walk.specs.WorkedMarks.{marks}
 use Rattle.move_plan.specs.WorkedChanges.{changes}
 use Rattle.public_fold.specs.Records.{folder_piece, file_piece, holder_piece, pieces_of, sealing_role, text_of}
-use Rattle.public_fold.specs.KeyStep.{Stepped, no_keys, next_epoch, without, keys_without, edges_left, dirty_left, renewed, next_serial, numbered, given, keys_then, present, edges_then, is_published, published_edges, link_of, links_from, content_of, contents_from, published, step_with, key_step}
+use Rattle.public_fold.specs.KeyStep.{Stepped, no_keys, next_epoch, without, keys_without, edges_left, dirty_left, renewed, next_serial, numbered, given, keys_then, newest, present, edges_then, is_published, published_edges, link_of, links_from, content_of, contents_from, published, step_with, key_step}
 use Rattle.public_fold.specs.Journal.{Entry, Journal, nothing, first_key, note_step, entry_step, entry_store, stand_then, stand_after, store_of, keys_of, steps_from, steps_of}
 use Rattle.public_fold.specs.Journal.Entry.{Session, Made, Did}
 use Rattle.public_fold.specs.Lengths.{note_len, content_len, payload_len, entry_payload, payloads_from, end_of}
@@ -67,5 +67,5 @@ contents_at m n = map (λ s. length s.contents) (step_at m n)
 
 -- every word of a journal
 unfoldable pub journals : Unit {0}
-unfolding marks changes folder_piece file_piece holder_piece pieces_of sealing_role text_of no_keys next_epoch without keys_without edges_left dirty_left renewed next_serial numbered given keys_then present edges_then is_published published_edges link_of links_from content_of contents_from published step_with key_step nothing first_key note_step entry_step entry_store stand_then stand_after store_of keys_of steps_from steps_of note_len content_len payload_len entry_payload payloads_from end_of some_keys does fresh renaming rewriting granting revoking writing_again renaming_again moving_away step_at renewals_at links_at contents_at
+unfolding marks changes folder_piece file_piece holder_piece pieces_of sealing_role text_of no_keys next_epoch without keys_without edges_left dirty_left renewed next_serial numbered given keys_then newest present edges_then is_published published_edges link_of links_from content_of contents_from published step_with key_step nothing first_key note_step entry_step entry_store stand_then stand_after store_of keys_of steps_from steps_of note_len content_len payload_len entry_payload payloads_from end_of some_keys does fresh renaming rewriting granting revoking writing_again renaming_again moving_away step_at renewals_at links_at contents_at
 journals = tt

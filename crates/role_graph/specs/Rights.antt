@@ -1,7 +1,7 @@
 -- Who may read what, by the tree and the grants alone. No key is mentioned here.
 use Rattle.std.specs.Prelude.{◌≡◌, ℕ, Bool, true, false, ◌||◌, ◌==◌, ◌⊎◌, List, [], ◌∷◌, ◌++◌, map, filter, Option, Some, None, MatchOption}
 use Rattle.cry_base.specs.Sets.{In, Path, has, reach}
-use Rattle.cry_base.specs.Store.{Store, GrantEntry, FileEntry, FolderEntry, file_entry}
+use Rattle.cry_base.specs.Store.{Store, GrantEntry, FileEntry, FolderEntry, file_entry, folder_entry}
 use Rattle.cry_base.specs.declared.roles.Node.{Node}
 use Rattle.cry_base.specs.declared.roles.Node.TheVariants.{Folder, File}
 
@@ -40,8 +40,13 @@ IsNamedTo s (TheHolder h) f = IsNamed s h f
 
 -- the object stands, and is shown: a folder where it is named, a file where its folder is allowed
 abbrev pub IsShown : Store → Who → Node → Type 0
-IsShown s who (Folder f) = (e : FolderEntry) × In e s.folders × (e.id ≡ f.0) × IsNamedTo s who f.0
-IsShown s who (File x) = (e : FileEntry) × In e s.files × (e.id ≡ x.0) × IsAllowedTo s who e.folder
+IsShown s who (Folder f) = (e : FolderEntry) × (folder_entry s f.0 ≡ Some e) × IsNamedTo s who f.0
+IsShown s who (File x) = (e : FileEntry) × (file_entry s x.0 ≡ Some e) × IsAllowedTo s who e.folder
+
+-- the object stands, and is allowed
+abbrev pub IsOpen : Store → Who → Node → Type 0
+IsOpen s who (Folder f) = (e : FolderEntry) × (folder_entry s f.0 ≡ Some e) × IsAllowedTo s who f.0
+IsOpen s who (File x) = (e : FileEntry) × (file_entry s x.0 ≡ Some e) × IsAllowedTo s who e.folder
 
 -- the folders on which the holder has a grant
 unfoldable pub granted_to : Store → ℕ → List ℕ
@@ -62,11 +67,16 @@ unfoldable pub named_to : Store → Who → ℕ → Bool
 named_to s TheOwner f = true
 named_to s (TheHolder h) f = named s h f
 
--- whether a folder or file has the number
-unfoldable pub folder_stands : Store → ℕ → Bool
-folder_stands s f = has ◌==◌ (map (λ e. e.id) s.folders) f
+-- whether there is one, and it passes
+unfoldable pub is_some_and : {X : Type 0} → Option X → (X → Bool) → Bool
+is_some_and None test = false
+is_some_and (Some x) test = test x
 
--- whether a standing object is shown
+-- whether a standing object is shown, is allowed
 unfoldable pub shown : Store → Who → Node → Bool
-shown s who (Folder f) = elim (folder_stands s f.0) [ true ↦ named_to s who f.0 | false ↦ false ]
-shown s who (File x) = elim (file_entry s x.0) [ None ↦ false | Some e ↦ allowed_to s who e.folder ]
+shown s who (Folder f) = is_some_and (folder_entry s f.0) (λ e. named_to s who f.0)
+shown s who (File x) = is_some_and (file_entry s x.0) (λ e. allowed_to s who e.folder)
+
+unfoldable pub node_allowed : Store → Who → Node → Bool
+node_allowed s who (Folder f) = is_some_and (folder_entry s f.0) (λ e. allowed_to s who f.0)
+node_allowed s who (File x) = is_some_and (file_entry s x.0) (λ e. allowed_to s who e.folder)

@@ -1,0 +1,4 @@
+pub mod History
+pub mod Gains
+pub mod Seen
+pub mod WorkedHistories
