@@ -3,4 +3,5 @@ pub mod KeyStep
 pub mod Journal
 pub mod Lengths
 pub mod Valid
+pub mod Script
 pub mod WorkedSteps

@@ -1,10 +1,13 @@
 //! Worked rows of journals, each computed by the checker from the definitions.
-ghost use Rattle.std.specs.Prelude.{◌≡◌, ◌*◌, ◌^◌, ◌+◌, [], ◌∷◌, map};
+ghost use Rattle.std.specs.Prelude.{◌≡◌, ◌*◌, ◌^◌, ◌+◌, [], ◌∷◌, map, codes, length, true, false, Some, None, replicate};
 ghost use Rattle.role_graph.specs.Edges.{grant_edge};
 ghost use Rattle.role_graph.specs.Roles.{clear_of, sub_of, back_of, files_of, data_of, file_role};
-ghost use Rattle.public_fold.specs.Journal.{keys_of};
+ghost use Rattle.public_fold.specs.Journal.{nothing};
 ghost use Rattle.public_fold.specs.Lengths.{end_of, payloads_from};
-ghost use Rattle.public_fold.specs.WorkedSteps.{fresh, renaming, rewriting, granting, revoking, writing_again, renaming_again, moving_away, step_at, renewals_at, links_at, contents_at};
+ghost use Rattle.cry_base.specs.Requests.Request.{AddHolder, MakeFolder, WriteFile, Grant};
+ghost use Rattle.cry_base.specs.declared.commands.Refusal.TheVariants.{Full};
+ghost use Rattle.public_fold.specs.Script.{script, spell_reply, answer};
+ghost use Rattle.public_fold.specs.WorkedSteps.{down_from, limited, limits_now, edges_agree, fresh, renaming, rewriting, granting, revoking, writing_again, renaming_again, moving_away, dropping, step_at, renewals_at, links_at, contents_at};
 
 /// A fresh store has 819 bytes. Its keys, links and content are numbered in one row.
 #[tactic(auto, unfolding(crate::specs::WorkedSteps::journals))]
@@ -78,5 +81,34 @@ pub fn move_away_from_a_grant()
     ensures links { links_at moving_away 10 ≡ 6 ∷ [] }
     ensures renewed_by_the_write { renewals_at moving_away 11 ≡ (files_of 4 ∷ file_role 1 ∷ []) ∷ [] }
     ensures links_of_the_write { links_at moving_away 11 ≡ 2 ∷ [] }
+{
+}
+
+/// A script's replies and the journal after it, with the keys drawn from 255 down.
+#[tactic(auto, unfolding(crate::specs::WorkedSteps::journals))]
+pub fn script_of_a_grant()
+    ensures replies { map spell_reply (script limits_now fresh (MakeFolder (codes "/a") ∷ WriteFile (codes "/a/x") (0 ∷ 255 ∷ []) ∷ MakeFolder (codes "/a") ∷ AddHolder ∷ Grant 1 (codes "/a") ∷ []) (down_from 255 224)).0
+        ≡ codes "ok" ∷ codes "ok" ∷ codes "refused exists" ∷ codes "holder 1 3f3e3d3c3b3a393837363534333231302f2e2d2c2b2a29282726252423222120" ∷ codes "ok" ∷ [] }
+    ensures length { end_of (script limits_now fresh (MakeFolder (codes "/a") ∷ WriteFile (codes "/a/x") (0 ∷ 255 ∷ []) ∷ MakeFolder (codes "/a") ∷ AddHolder ∷ Grant 1 (codes "/a") ∷ []) (down_from 255 224)).1 ≡ 2558 }
+{
+}
+
+/// A command whose batch would end past the store limit is refused, and one that ends at it is not.
+#[tactic(auto, unfolding(crate::specs::WorkedSteps::journals))]
+pub fn store_limit()
+    ensures first_of_session { answer (limited 1800) fresh false (MakeFolder (codes "/a")) ≡ Some Full }
+    ensures fits { answer (limited 1801) fresh false (MakeFolder (codes "/a")) ≡ None }
+    ensures later { answer (limited 1691) fresh true (MakeFolder (codes "/a")) ≡ None }
+    ensures later_full { answer (limited 1690) fresh true (MakeFolder (codes "/a")) ≡ Some Full }
+{
+}
+
+/// The edges that each key step leaves are those of the store after it.
+#[tactic(auto, unfolding(crate::specs::WorkedSteps::journals))]
+pub fn steps_leave_the_edges_of_the_store()
+    ensures writing_again { edges_agree nothing writing_again ≡ replicate 13 true }
+    ensures renaming_again { edges_agree nothing renaming_again ≡ replicate 11 true }
+    ensures moving_away { edges_agree nothing moving_away ≡ replicate 11 true }
+    ensures dropping { edges_agree nothing dropping ≡ replicate 13 true }
 {
 }
