@@ -5,7 +5,7 @@ use Rattle.cry_base.specs.Sets.{has}
 use Rattle.cry_base.specs.Store.{Store, FileEntry, FolderEntry, file_entry, folder_entry}
 use Rattle.cry_base.specs.declared.roles.Edge.{Edge}
 use Rattle.cry_base.specs.declared.roles.Role.{Role}
-use Rattle.role_graph.specs.Roles.{same_role, holder_role, clear_of, sub_of, back_of, files_of, data_of, file_role}
+use Rattle.role_graph.specs.Roles.{same_role, holder_role, clear_of, sub_of, back_of, files_of, data_of, file_role, folder_roles}
 use Rattle.role_graph.specs.Edges.{edge, edges, folder_edges, parent_edges, grant_edge, file_edge, in_order, edge_before}
 use Rattle.move_plan.specs.Note.{Note}
 use Rattle.move_plan.specs.Note.Note.{Root, NewHolder, NewFolder, NewFile, Rewrite, NameFile, NameFolder, DropFile, DropFolder, ShiftFile, ShiftFolder, Give, Take}
@@ -21,10 +21,6 @@ pub record Change : Type 0 where
 -- nothing
 unfoldable pub no_change : Change
 no_change = record { removed = []; gone = []; wanted = []; fresh = []; added = [] }
-
--- the five roles of a folder
-unfoldable pub folder_roles : ℕ → List Role
-folder_roles f = clear_of f ∷ sub_of f ∷ back_of f ∷ files_of f ∷ data_of f ∷ []
 
 -- the folder that a file is in, and the parent of a folder
 unfoldable pub folder_of_file : Store → ℕ → ℕ

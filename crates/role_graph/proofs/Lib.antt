@@ -1,2 +1,4 @@
 pub mod Comparing
+pub mod Edging
 pub mod Granting
+pub mod Typing

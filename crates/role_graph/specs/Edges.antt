@@ -1,7 +1,7 @@
 -- Which key leads to which. This project's own, docs/FORMAT.md, "Kinds of links".
-use Rattle.std.specs.Prelude.{ℕ, Bool, true, false, cond, not, ◌&&◌, ◌||◌, nat_lt, ◌==◌, List, [], ◌∷◌, ◌++◌, map, filter}
+use Rattle.std.specs.Prelude.{◌≡◌, ◌≢◌, ◌⊎◌, ℕ, Bool, true, false, cond, not, ◌&&◌, ◌||◌, nat_lt, ◌==◌, List, [], ◌∷◌, ◌++◌, map, filter}
 use Rattle.cry_base.specs.Sets.{In, Path, reach, has}
-use Rattle.cry_base.specs.Store.{Store}
+use Rattle.cry_base.specs.Store.{Store, FolderEntry, FileEntry, GrantEntry}
 use Rattle.cry_base.specs.declared.roles.Edge.{Edge}
 use Rattle.cry_base.specs.declared.roles.Role.{Role}
 use Rattle.cry_base.specs.declared.roles.Role.TheVariants.{Owner}
@@ -75,3 +75,19 @@ reach_along es roles = reach same_role (pairs_of es) roles
 -- whether two edges are one
 unfoldable pub same_edge : Edge → Edge → Bool
 same_edge a b = a.kind == b.kind && same_role a.from b.from && same_role a.to b.to
+
+-- the edge stands: within a folder, between a folder and its parent, for a grant, or into a file
+abbrev pub IsOwnEdge : Store → Edge → Type 0
+IsOwnEdge s e = (f : FolderEntry) × In f s.folders × In e (folder_edges f.id)
+
+abbrev pub IsParentEdge : Store → Edge → Type 0
+IsParentEdge s e = (f : FolderEntry) × In f s.folders × (f.parent ≢ 0) × In e (parent_edges f.id f.parent)
+
+abbrev pub IsGrantEdge : Store → Edge → Type 0
+IsGrantEdge s e = (g : GrantEntry) × In g s.grants × (e ≡ grant_edge g.holder g.folder)
+
+abbrev pub IsFileEdge : Store → Edge → Type 0
+IsFileEdge s e = (x : FileEntry) × In x s.files × (e ≡ file_edge x.folder x.id)
+
+abbrev pub IsEdge : Store → Edge → Type 0
+IsEdge s e = IsOwnEdge s e ⊎ (IsParentEdge s e ⊎ (IsGrantEdge s e ⊎ IsFileEdge s e))

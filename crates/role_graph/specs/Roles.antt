@@ -58,3 +58,14 @@ role_before a b = nat_lt (variant_of a) (variant_of b) || (variant_of a == varia
 -- the owner's key and the holders' keys are never renewed
 unfoldable pub is_root_role : Role → Bool
 is_root_role role = nat_lt (variant_of role) 2
+
+-- the keys that names and files are sealed under, and those that grants hand out
+unfoldable pub is_sealing_role : Role → Bool
+is_sealing_role role = nat_lt 5 (variant_of role)
+
+unfoldable pub is_clear_role : Role → Bool
+is_clear_role role = variant_of role == 2
+
+-- the five roles of a folder
+unfoldable pub folder_roles : ℕ → List Role
+folder_roles f = clear_of f ∷ sub_of f ∷ back_of f ∷ files_of f ∷ data_of f ∷ []
