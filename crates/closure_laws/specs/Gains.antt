@@ -1,15 +1,15 @@
 -- When a content was written, and what an entry gives a holder anew.
-use Rattle.std.specs.Prelude.{◌≡◌, ℕ, Bool, true, false, not, ◌&&◌, ◌||◌, ◌==◌, ◌⊎◌, List, [], ◌∷◌, ◌++◌}
+use Rattle.std.specs.Prelude.{◌≡◌, ℕ, Bool, false, not, ◌&&◌, ◌||◌, ◌==◌, ◌⊎◌, List, [], ◌∷◌}
 use Rattle.std.specs.List.{list_any}
 use Rattle.cry_base.specs.Sets.{In}
 use Rattle.cry_base.specs.Requests.{Request}
 use Rattle.cry_base.specs.Requests.Request.{AddHolder, MakeFolder, WriteFile, Remove, Rename, Relocate, Grant, Revoke}
 use Rattle.cry_base.specs.Store.{Store, nodes_of}
 use Rattle.cry_base.specs.declared.roles.Node.{Node}
-use Rattle.role_graph.specs.Rights.{Who, IsShown, IsOpen, shown, node_allowed}
+use Rattle.role_graph.specs.Rights.{IsShown, IsOpen, shown, node_allowed}
 use Rattle.role_graph.specs.Rights.Who.{TheHolder}
 use Rattle.public_fold.specs.Records.{Content}
-use Rattle.public_fold.specs.Journal.{Journal, Entry, Stand, nothing, entry_step, stand_then, stand_after}
+use Rattle.public_fold.specs.Journal.{Entry, Stand, nothing, entry_step, stand_then, stand_after}
 use Rattle.public_fold.specs.Journal.Entry.{Session, Made, Did}
 
 -- the content is written by this entry of the journal, which comes after the entries before
@@ -45,7 +45,7 @@ gives_grant r h = false
 
 unfoldable pub is_gained_node : Store → Store → ℕ → Node → Bool
 is_gained_node before after h node =
-       (shown after (TheHolder h) node && not (shown before (TheHolder h) node))
+    (shown after (TheHolder h) node && not (shown before (TheHolder h) node))
     || (node_allowed after (TheHolder h) node && not (node_allowed before (TheHolder h) node))
 
 unfoldable pub gains : Stand → Entry → ℕ → Bool

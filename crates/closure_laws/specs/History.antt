@@ -1,7 +1,7 @@
 -- All that was ever published, and what follows from a key by it.
-use Rattle.std.specs.Prelude.{◌≡◌, ℕ, ◌+◌, Bool, true, false, ◌==◌, List, [], ◌∷◌, ◌++◌, map, Option, Some, None}
-use Rattle.cry_base.specs.Sets.{Path, In, has, reach}
-use Rattle.role_graph.specs.Edges.{each_of}
+use Rattle.std.specs.Prelude.{◌≡◌, ℕ, ◌+◌, ◌==◌, List, [], ◌∷◌, map, Option, Some}
+use Rattle.cry_base.specs.Sets.{Path, reach}
+use Rattle.std.specs.List.{flat_map}
 use Rattle.role_graph.specs.Rights.{Who}
 use Rattle.role_graph.specs.Rights.Who.{TheOwner, TheHolder}
 use Rattle.role_graph.specs.Roles.{holder_role}
@@ -26,7 +26,7 @@ history m = published_from 1 (steps_of m)
 
 -- the links of all batches, from serial to serial
 unfoldable pub trails : List Published → List (ℕ × ℕ)
-trails h = each_of (λ p. map (λ l. (l.from_serial, l.to_serial)) p.links) h
+trails h = flat_map (λ p. map (λ l. (l.from_serial, l.to_serial)) p.links) h
 
 -- a trail of links leads from the key of the one serial to the key of the other
 abbrev pub Derives : List Published → ℕ → ℕ → Type 0

@@ -1,10 +1,10 @@
 -- What an audit shows: the names and files that a key leads to. This project's own, docs/FORMAT.md, "Lines".
-use Rattle.std.specs.Prelude.{ℕ, ◌+◌, Bool, true, false, cond, not, ◌&&◌, ◌==◌, List, [], ◌∷◌, ◌++◌, map, filter, Option, Some, None, codes, decimal}
+use Rattle.std.specs.Prelude.{ℕ, cond, not, ◌&&◌, ◌==◌, List, [], ◌∷◌, ◌++◌, map, filter, Option, Some, None, codes, decimal}
 use Rattle.cry_base.specs.Sets.{has}
 use Rattle.cry_base.specs.Texts.{hex_of, ended_lines}
-use Rattle.role_graph.specs.Edges.{each_of}
+use Rattle.std.specs.List.{flat_map}
 use Rattle.role_graph.specs.Rights.{Who}
-use Rattle.public_fold.specs.Records.{Content, Piece}
+use Rattle.public_fold.specs.Records.{Piece}
 use Rattle.public_fold.specs.Journal.{Journal}
 use Rattle.closure_laws.specs.History.{Published, history, derived, own_serial}
 
@@ -21,7 +21,7 @@ sights_in serials p = map (λ c. record { batch = p.batch; piece = c.piece })
 -- those of the history that are derived from a serial, by batch. A batch has one content at most
 unfoldable pub sights_from : List Published → Option ℕ → List Sight
 sights_from h None = []
-sights_from h (Some a) = each_of (sights_in (derived h a)) h
+sights_from h (Some a) = flat_map (sights_in (derived h a)) h
 
 -- what whoever looks derives
 unfoldable pub seen : Journal → Who → List Sight
@@ -31,8 +31,8 @@ seen m who = sights_from (history m) (own_serial m who)
 unfoldable pub spell_sight : Sight → List ℕ
 spell_sight s =
     cond (s.piece.kind == 1)
-      (codes "folder " ++ decimal s.batch ++ 32 ∷ decimal s.piece.object ++ 32 ∷ s.piece.name)
-      (codes "file " ++ decimal s.batch ++ 32 ∷ decimal s.piece.object ++ 32 ∷ s.piece.name ++ 32 ∷ hex_of s.piece.bytes)
+    (codes "folder " ++ decimal s.batch ++ 32 ∷ decimal s.piece.object ++ 32 ∷ s.piece.name)
+    (codes "file " ++ decimal s.batch ++ 32 ∷ decimal s.piece.object ++ 32 ∷ s.piece.name ++ 32 ∷ hex_of s.piece.bytes)
 
 -- all of them
 unfoldable pub spell_seen : List Sight → List ℕ

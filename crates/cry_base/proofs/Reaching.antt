@@ -1,7 +1,7 @@
 -- What is reached by computing is what paths lead to.
-use Rattle.std.proofs.Common.{◌≡◌, Bool, true, false, cond, not, ◌&&◌, ◌||◌, ◌⊎◌, ◌↔◌, List, [], ◌∷◌, IsTrue, refl, sym, ap, ◌∙◌, subst, inl, inr, ⊎_elim}
+use Rattle.std.proofs.Common.{◌≡◌, Bool, true, false, not, ◌↔◌, List, [], ◌∷◌, refl, sym, ap, ◌∙◌, subst, inl, inr, ⊎_elim}
 use Rattle.std.specs.List.{list_any}
-use Rattle.std.proofs.lemmas.Bool.{false≢true, or_cases, or_from, or_left, or_right, and_parts, and_cases, not-true, not-false, cases_Bool}
+use Rattle.std.proofs.lemmas.Bool.{false≢true, or_cases, or_left, or_right, and_parts, and_cases, not-false}
 use Rattle.cry_base.specs.Sets.{In, Path, Tells, has, leads_out, grown, reach}
 use Rattle.cry_base.specs.Sets.Path.{Here, On}
 

@@ -1,5 +1,5 @@
 -- This project's own, docs/FORMAT.md: names and paths.
-use Rattle.std.specs.Prelude.{◌≡◌, ℕ, Bool, true, false, cond, not, ◌&&◌, ◌||◌, nat_le, ◌==◌, List, [], ◌∷◌, ◌++◌, length, flat_map, IsTrue, if◌then◌else◌, bytes_eq, codes}
+use Rattle.std.specs.Prelude.{◌≡◌, ℕ, Bool, false, not, ◌&&◌, ◌||◌, nat_le, ◌==◌, List, [], ◌∷◌, length, flat_map, IsTrue, if◌then◌else◌, bytes_eq, codes}
 use Rattle.std.specs.List.{list_all}
 
 -- from the one number up to the other

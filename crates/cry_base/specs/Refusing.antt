@@ -4,7 +4,7 @@ use Rattle.std.specs.List.{list_any, list_all}
 use Rattle.cry_base.specs.Naming.{is_name, is_path, is_root_path, parent_path, names_of}
 use Rattle.cry_base.specs.Requests.{Request, paths_of}
 use Rattle.cry_base.specs.Requests.Request.{AddHolder, MakeFolder, WriteFile, Remove, Rename, Relocate, Grant, Revoke}
-use Rattle.cry_base.specs.Store.{Store, folder_node, file_node, folder_entry, file_entry, holder_entry, has_grant, depth_of, nodes_of, node_at, is_within}
+use Rattle.cry_base.specs.Store.{Store, folder_entry, file_entry, holder_entry, has_grant, depth_of, nodes_of, node_at, is_within}
 use Rattle.cry_base.specs.declared.commands.Refusal.{Refusal}
 use Rattle.cry_base.specs.declared.commands.Refusal.TheVariants.{BadName, NoPath, IsRoot, NotFolder, IsFolder, Exists, NotEmpty, InsideItself, TooDeep, NoHolder, HasGrant, NoGrant, TooLong}
 use Rattle.cry_base.specs.declared.roles.Node.{Node}

@@ -1,5 +1,5 @@
 -- What is asked for, without where its texts lie in memory.
-use Rattle.std.specs.Prelude.{ℕ, List, [], ◌∷◌, Option, Some, None}
+use Rattle.std.specs.Prelude.{ℕ, List, [], ◌∷◌}
 use Rattle.cry_base.specs.declared.commands.Command.{Command}
 use Rattle.cry_base.specs.declared.commands.Command.TheVariants as command
 

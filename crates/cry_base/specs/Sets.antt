@@ -1,5 +1,5 @@
 -- Sets as lists, and what is reached along pairs.
-use Rattle.std.specs.Prelude.{◌≡◌, Bool, true, false, cond, not, ◌&&◌, ◌⊎◌, ◌↔◌, List, [], ◌∷◌, IsTrue}
+use Rattle.std.specs.Prelude.{◌≡◌, Bool, true, false, not, ◌&&◌, ◌⊎◌, ◌↔◌, List, [], ◌∷◌, IsTrue}
 use Rattle.std.specs.List.{list_any}
 
 -- x stands in the list

@@ -3,6 +3,7 @@
 
 mod commands;
 mod ids;
+pub mod laws;
 mod limits;
 mod list;
 mod memory;

@@ -1,5 +1,5 @@
 -- What whoever looks is shown of a store. This project's own, docs/FORMAT.md, "Lines".
-use Rattle.std.specs.Prelude.{ℕ, Bool, true, false, cond, not, ◌&&◌, List, [], ◌∷◌, ◌++◌, map, filter, codes}
+use Rattle.std.specs.Prelude.{ℕ, true, false, List, ◌∷◌, ◌++◌, map, filter, codes}
 use Rattle.cry_base.specs.Naming.{spell_path}
 use Rattle.cry_base.specs.Store.{Store, FolderEntry, FileEntry, folder_names, file_names}
 use Rattle.cry_base.specs.Texts.{hex_of, ended_lines, bytes_before}
@@ -29,7 +29,7 @@ file_line s e = FileLine (spell_path (file_names s e)) e.bytes
 -- the lines of the folders that are named and of the files that are allowed, by the bytes of their paths
 unfoldable pub view : Store → Who → List Line
 view s who = in_order (λ a b. bytes_before (line_path a) (line_path b)) (
-       map (folder_line s who) (filter (λ e. named_to s who e.id) s.folders)
+    map (folder_line s who) (filter (λ e. named_to s who e.id) s.folders)
     ++ map (file_line s) (filter (λ e. allowed_to s who e.folder) s.files))
 
 -- a line as it is printed, without its end

@@ -11,8 +11,7 @@ ghost use Rattle.holder_client.specs.View.{view, spell_view};
 #[tactic(auto, unfolding(crate::specs::WorkedViews::views))]
 pub fn fresh_store_listed()
     ensures { spell_view (view root_store TheOwner) ≡ ended_lines (codes "folder /" ∷ []) }
-{
-}
+{}
 
 /// A grant shows the folder, what is in it, and the names above it.
 #[tactic(auto, unfolding(crate::specs::WorkedViews::views))]
@@ -21,30 +20,26 @@ pub fn grant()
         ≡ ended_lines (codes "ancestor /" ∷ codes "folder /a" ∷ codes "file /a/x 00ff" ∷ []) }
     ensures owner { spell_view (view granted TheOwner)
         ≡ ended_lines (codes "folder /" ∷ codes "folder /a" ∷ codes "file /a/x 00ff" ∷ []) }
-{
-}
+{}
 
 /// Folders above a grant are shown by name alone, and nothing beside them is.
 #[tactic(auto, unfolding(crate::specs::WorkedViews::views))]
 pub fn ancestors_shown()
     ensures { spell_view (view (store_after root_store
-            (MakeFolder (codes "/a") ∷ MakeFolder (codes "/a/b") ∷ MakeFolder (codes "/a/c") ∷ WriteFile (codes "/a/x") (1 ∷ [])
-            ∷ AddHolder ∷ Grant 1 (codes "/a/b") ∷ [])) (TheHolder 1))
+        (MakeFolder (codes "/a") ∷ MakeFolder (codes "/a/b") ∷ MakeFolder (codes "/a/c") ∷ WriteFile (codes "/a/x") (1 ∷ [])
+        ∷ AddHolder ∷ Grant 1 (codes "/a/b") ∷ [])) (TheHolder 1))
         ≡ ended_lines (codes "ancestor /" ∷ codes "ancestor /a" ∷ codes "folder /a/b" ∷ []) }
-{
-}
+{}
 
 /// Of two grants, the one that is left still allows all below it.
 #[tactic(auto, unfolding(crate::specs::WorkedViews::views))]
 pub fn two_grants_one_revoked()
     ensures { spell_view (view (store_after granted (Grant 1 (codes "/") ∷ Revoke 1 (codes "/a") ∷ [])) (TheHolder 1))
         ≡ ended_lines (codes "folder /" ∷ codes "folder /a" ∷ codes "file /a/x 00ff" ∷ []) }
-{
-}
+{}
 
 /// Without a grant nothing is shown.
 #[tactic(auto, unfolding(crate::specs::WorkedViews::views))]
 pub fn revoked()
     ensures { view (store_after granted (Revoke 1 (codes "/a") ∷ [])) (TheHolder 1) ≡ [] }
-{
-}
+{}

@@ -1,12 +1,11 @@
 -- What a note changes among the keys. This project's own, docs/FORMAT.md, "The key step".
-use Rattle.std.specs.Prelude.{ℕ, ◌+◌, Bool, true, false, cond, not, ◌&&◌, ◌||◌, nat_lt, ◌==◌, List, [], ◌∷◌, ◌++◌, map, filter, Option, Some, None}
-use Rattle.std.specs.List.{list_any}
+use Rattle.std.specs.Prelude.{ℕ, ◌||◌, List, [], ◌∷◌, ◌++◌, filter, Some, None}
 use Rattle.cry_base.specs.Sets.{has}
-use Rattle.cry_base.specs.Store.{Store, FileEntry, FolderEntry, file_entry, folder_entry}
+use Rattle.cry_base.specs.Store.{Store, file_entry, folder_entry}
 use Rattle.cry_base.specs.declared.roles.Edge.{Edge}
 use Rattle.cry_base.specs.declared.roles.Role.{Role}
 use Rattle.role_graph.specs.Roles.{same_role, holder_role, clear_of, sub_of, back_of, files_of, data_of, file_role, folder_roles}
-use Rattle.role_graph.specs.Edges.{edge, edges, folder_edges, parent_edges, grant_edge, file_edge, in_order, edge_before}
+use Rattle.role_graph.specs.Edges.{edges, folder_edges, parent_edges, grant_edge, file_edge, in_order, edge_before}
 use Rattle.move_plan.specs.Note.{Note}
 use Rattle.move_plan.specs.Note.Note.{Root, NewHolder, NewFolder, NewFile, Rewrite, NameFile, NameFolder, DropFile, DropFolder, ShiftFile, ShiftFolder, Give, Take}
 

@@ -1,6 +1,6 @@
 -- What a payload says of its command in public: which nodes and holders by number, and no name or byte.
 -- This project's own, docs/FORMAT.md, "Notes and payloads".
-use Rattle.std.specs.Prelude.{ℕ, List, [], ◌∷◌}
+use Rattle.std.specs.Prelude.{ℕ, List}
 
 -- the thirteen notes, in the order of their codes from 1
 pub data Note : Type 0 where

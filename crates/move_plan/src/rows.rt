@@ -21,5 +21,4 @@ pub fn notes_of_commands()
     ensures shift_file { note_of granted (Relocate (codes "/a/x") (codes "/")) [] ≡ ShiftFile 1 1 }
     ensures give { note_of granted (Grant 1 (codes "/")) [] ≡ Give 1 1 }
     ensures take { note_of granted (Revoke 1 (codes "/a")) [] ≡ Take 1 2 }
-{
-}
+{}

@@ -1,26 +1,18 @@
 -- Numbers of a journal's store are below its counts.
-use Rattle.std.proofs.Common.{◌≡◌, ℕ, ◌+◌, ◌≤◌, Bool, true, false, cond, not, ◌==◌, ◌⊎◌, List, [], ◌∷◌, ◌++◌, map, filter, Option, Some, None, inl, inr, ⊎_elim, refl, sym, ap, ◌∙◌, subst, arith}
+use Rattle.std.proofs.Common.{◌≡◌, ℕ, ◌+◌, ◌≤◌, Bool, true, false, cond, not, ◌==◌, List, [], ◌∷◌, ◌++◌, map, filter, Option, Some, None, inl, inr, ⊎_elim, refl, sym, ap, ◌∙◌, subst, arith}
 use Rattle.cry_base.specs.Sets.{In}
 use Rattle.cry_base.specs.Requests.{Request}
 use Rattle.cry_base.specs.Requests.Request.{AddHolder, MakeFolder, WriteFile, Remove, Rename, Relocate, Grant, Revoke}
-use Rattle.cry_base.specs.Store.{Store, FolderEntry, FileEntry, HolderEntry, GrantEntry, no_store, root_store, node_at}
+use Rattle.cry_base.specs.Store.{Store, FolderEntry, FileEntry, HolderEntry, no_store, root_store, node_at}
 use Rattle.cry_base.specs.Naming.{parent_path, names_of, last_name}
 use Rattle.cry_base.specs.Refusing.{id_of}
 use Rattle.cry_base.specs.Stepping.{with_new_holder, with_new_folder, with_new_file, with_folder, with_file, without_folder, without_file, without_grant, with_bytes_at, without_node, with_name, moved, effect}
 use Rattle.cry_base.specs.declared.roles.Node.{Node}
 use Rattle.cry_base.specs.declared.roles.Node.TheVariants.{Folder, File}
-use Rattle.role_graph.proofs.Edging.{In-append, In-map}
+use Rattle.cry_base.proofs.Members.{In-append, In-map, In-filter}
 use Rattle.public_fold.specs.Counted.{AreCounted}
 use Rattle.public_fold.specs.Journal.{Entry, Journal, Stand, nothing, first_key, entry_store, stand_then, stand_after, store_of}
 use Rattle.public_fold.specs.Journal.Entry.{Session, Made, Did}
-
-In-filter : (X : Type 0) (p : X → Bool) (r : X) (xs : List X) → In r (filter p xs) → In r xs
-In-filter X p r [] = λ i. i
-In-filter X p r (x ∷ xs) =
-    elim (p x) as (λ b. In r (cond b (x ∷ filter p xs) (filter p xs)) → In r (x ∷ xs)) [
-      true ↦ λ i. ⊎_elim (λ e. inl e) (λ u. inr (In-filter X p r xs u)) i
-    | false ↦ λ i. inr (In-filter X p r xs i)
-    ]
 
 -- one more of a kind
 added : (X : Type 0) (id : X → ℕ) (made : ℕ) (x : X) (xs : List X) → ((e : X) → In e xs → id e ≤ made) → id x ≡ made + 1 → (e : X) → In e (xs ++ x ∷ []) → id e ≤ made + 1
@@ -78,11 +70,11 @@ one_file s x change keeps c = record {
 
 no_folder : (s : Store) (f : ℕ) → AreCounted s → AreCounted (without_folder s f)
 unfolding without_folder
-no_folder s f c = record { each_folder = λ e i. c.each_folder e (In-filter FolderEntry (λ x. not (x.id == f)) e s.folders i); each_file = c.each_file; each_holder = c.each_holder }
+no_folder s f c = record { each_folder = λ e i. c.each_folder e (In-filter FolderEntry (λ x. not (x.id == f)) e s.folders i).0; each_file = c.each_file; each_holder = c.each_holder }
 
 no_file : (s : Store) (x : ℕ) → AreCounted s → AreCounted (without_file s x)
 unfolding without_file
-no_file s x c = record { each_folder = c.each_folder; each_file = λ e i. c.each_file e (In-filter FileEntry (λ y. not (y.id == x)) e s.files i); each_holder = c.each_holder }
+no_file s x c = record { each_folder = c.each_folder; each_file = λ e i. c.each_file e (In-filter FileEntry (λ y. not (y.id == x)) e s.files i).0; each_holder = c.each_holder }
 
 no_grant : (s : Store) (h f : ℕ) → AreCounted s → AreCounted (without_grant s h f)
 unfolding without_grant

@@ -1,12 +1,11 @@
 -- What holds of a journal holds of its first entries.
-use Rattle.std.proofs.Common.{◌≡◌, ℕ, zero, suc, ◌+◌, ◌≤◌, List, [], ◌∷◌, ◌++◌, length, refl, sym, ap, ◌∙◌, subst, arith}
+use Rattle.std.proofs.Common.{◌≡◌, ℕ, ◌+◌, ◌≤◌, List, [], ◌∷◌, ◌++◌, length, refl, sym, ap, subst, arith}
 use Rattle.std.specs.List.{sum_by}
 use Rattle.std.proofs.lemmas.List.Sums.{sum_by-append}
-use Rattle.public_fold.specs.KeyStep.{Stepped}
 use Rattle.public_fold.specs.Journal.{Entry, Journal, Stand, nothing, entry_step, stand_then, stand_after, steps_from, steps_of}
 use Rattle.public_fold.specs.Journal.Entry.{Session, Made, Did}
 use Rattle.public_fold.specs.Lengths.{entry_payload, payloads_from, end_of}
-use Rattle.public_fold.specs.Valid.{IsNext, FollowOn, BeginsWell, IsValid}
+use Rattle.public_fold.specs.Valid.{FollowOn, BeginsWell, IsValid}
 
 pub stand_after-append : (at : Stand) (xs ys : List Entry) → stand_after at (xs ++ ys) ≡ stand_after (stand_after at xs) ys
 unfolding stand_after

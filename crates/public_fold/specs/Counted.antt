@@ -1,5 +1,5 @@
 -- What numbers stand in a store.
-use Rattle.std.specs.Prelude.{ℕ, ◌≤◌, List, [], ◌∷◌}
+use Rattle.std.specs.Prelude.{◌≤◌}
 use Rattle.cry_base.specs.Sets.{In}
 use Rattle.cry_base.specs.Store.{Store, FolderEntry, FileEntry, HolderEntry}
 

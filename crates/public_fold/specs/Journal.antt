@@ -1,15 +1,14 @@
 -- What was done to a store, and what stands after it. This project's own, docs/FORMAT.md.
-use Rattle.std.specs.Prelude.{ℕ, ◌+◌, List, [], ◌∷◌, ◌++◌}
+use Rattle.std.specs.Prelude.{ℕ, List, [], ◌∷◌}
 use Rattle.cry_base.specs.Requests.{Request}
 use Rattle.cry_base.specs.Store.{Store, no_store, root_store}
 use Rattle.cry_base.specs.Stepping.{effect}
-use Rattle.cry_base.specs.declared.roles.Role.{Role}
 use Rattle.role_graph.specs.Edges.{edges}
 use Rattle.move_plan.specs.Note.{Note}
 use Rattle.move_plan.specs.Note.Note.{Root}
 use Rattle.move_plan.specs.Noting.{note_of}
 use Rattle.move_plan.specs.Change.{change_of}
-use Rattle.public_fold.specs.Records.{Link, Content, pieces_of}
+use Rattle.public_fold.specs.Records.{pieces_of}
 use Rattle.public_fold.specs.KeyStep.{KeyState, Stepped, no_keys, next_epoch, key_step}
 
 -- an opening for writing; the making of the root under the keys that were drawn; an accepted command with those that it drew

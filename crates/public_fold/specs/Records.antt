@@ -1,5 +1,5 @@
 -- What a command publishes, by serials and not by bytes. This project's own, docs/FORMAT.md, "Records".
-use Rattle.std.specs.Prelude.{ℕ, ◌+◌, Bool, true, false, cond, ◌==◌, List, [], ◌∷◌, ◌++◌, length, Option, Some, None}
+use Rattle.std.specs.Prelude.{ℕ, cond, ◌==◌, List, [], ◌∷◌, ◌++◌, length, Some, None}
 use Rattle.cry_base.specs.Store.{Store, folder_entry, file_entry, holder_entry}
 use Rattle.cry_base.specs.declared.roles.Edge.{Edge}
 use Rattle.cry_base.specs.declared.roles.Role.{Role}

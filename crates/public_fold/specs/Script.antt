@@ -8,8 +8,8 @@ use Rattle.cry_base.specs.Texts.{hex_of}
 use Rattle.cry_base.specs.declared.commands.Refusal.{Refusal}
 use Rattle.cry_base.specs.declared.limits.Limits.{Limits}
 use Rattle.cry_base.specs.declared.commands.Refusal.TheVariants.{Full}
-use Rattle.public_fold.specs.Journal.{Entry, Journal, Stand, nothing, first_key, entry_step, stand_after}
-use Rattle.public_fold.specs.Journal.Entry.{Session, Made, Did}
+use Rattle.public_fold.specs.Journal.{Journal, nothing, first_key, entry_step, stand_after}
+use Rattle.public_fold.specs.Journal.Entry.{Session, Did}
 use Rattle.public_fold.specs.Lengths.{entry_payload, end_of}
 
 -- how many keys a command draws, 32 bytes each

@@ -1,5 +1,5 @@
 -- Which journals there are. This project's own, docs/FORMAT.md.
-use Rattle.std.specs.Prelude.{◌≡◌, ℕ, ◌≤◌, List, [], ◌∷◌, length, Option, None}
+use Rattle.std.specs.Prelude.{◌≡◌, ◌≤◌, List, [], ◌∷◌, length, None}
 use Rattle.cry_base.specs.Refusing.{refusal_of}
 use Rattle.public_fold.specs.Journal.{Entry, Journal, Stand, nothing, entry_step, stand_then}
 use Rattle.public_fold.specs.Journal.Entry.{Session, Made, Did}

@@ -1,5 +1,5 @@
 -- Worked rows of journals, and the words that open them to a computation.
-use Rattle.std.specs.Prelude.{ℕ, zero, suc, ◌-◌, Bool, true, false, List, [], ◌∷◌, ◌++◌, map, length, codes, replicate, slice_get, Option, Some, None}
+use Rattle.std.specs.Prelude.{ℕ, zero, suc, ◌-◌, Bool, List, [], ◌∷◌, ◌++◌, map, length, codes, replicate, slice_get, Some, None}
 use Rattle.std.specs.Fmt.{digits}
 use Rattle.public_fold.specs.Script.{draws_of, due_payload, due_end, answer_with, answer, spell_reply, done_reply, keys_from, accepted_going, line_going, line_reply, script_replies, script_going, opened, script}
 use Rattle.cry_base.specs.Requests.{Request}

@@ -13,21 +13,18 @@ ghost use Rattle.public_fold.specs.Valid.{IsValid};
 /// The first entries of a valid journal are one, from the two on that make the store.
 pub fn prefix_is_valid()
     ensures { (m more : Journal) → 2 ≤ length m → IsValid (m ++ more) → IsValid m }
-{
-}
+{}
 
 /// What was published stays, whatever follows, and the log never gets shorter.
 pub fn steps_grow()
     ensures published { (m more : Journal) → steps_of (m ++ more) ≡ steps_of m ++ steps_from (stand_after nothing m) more }
     ensures end { (m more : Journal) → end_of m ≤ end_of (m ++ more) }
-{
-}
+{}
 
 /// No number that stands is above the count of its kind ever made.
 pub fn numbers_are_counted()
     ensures { (m : Journal) → AreCounted (store_of m) }
-{
-}
+{}
 
 /// A refused command changes nothing, and draws nothing.
 pub fn refused_changes_nothing()
@@ -35,5 +32,4 @@ pub fn refused_changes_nothing()
         answer limits g.journal g.begun r ≡ Some why → script_going limits g (r ∷ []) ≡ g }
     ensures reply { (limits : Limits) (g : Going) (r : Request) (why : Refusal) →
         answer limits g.journal g.begun r ≡ Some why → script_replies limits g (r ∷ []) ≡ Refused why ∷ [] }
-{
-}
+{}

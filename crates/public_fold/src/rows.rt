@@ -18,23 +18,20 @@ pub fn fresh_store()
     ensures links { map (λ s. map (λ l. l.nonce) s.links) (step_at fresh 2)
         ≡ (4294967301 ∷ 4294967302 ∷ 4294967303 ∷ 4294967304 ∷ 4294967305 ∷ []) ∷ [] }
     ensures contents { map (λ s. map (λ c. c.nonce) s.contents) (step_at fresh 2) ≡ (4294967306 ∷ []) ∷ [] }
-{
-}
+{}
 
 /// A folder, a file, and the file's new name: the store's length.
 #[tactic(auto, unfolding(crate::specs::WorkedSteps::journals))]
 pub fn tree_and_rename()
     ensures { end_of renaming ≡ 2273 }
-{
-}
+{}
 
 /// A file written empty in a second session, which draws no key.
 #[tactic(auto, unfolding(crate::specs::WorkedSteps::journals))]
 pub fn empty_rewrite_in_a_second_session()
     ensures length { end_of rewriting ≡ 2566 }
     ensures renewed { renewals_at rewriting 8 ≡ [] ∷ [] }
-{
-}
+{}
 
 /// A folder, a file, a holder and a grant: the store's length, and the link that the grant publishes.
 #[tactic(auto, unfolding(crate::specs::WorkedSteps::journals))]
@@ -42,8 +39,7 @@ pub fn grant()
     ensures length { end_of granting ≡ 2558 }
     ensures links { map (λ s. s.links) (step_at granting 7)
         ≡ (record { edge = grant_edge 1 2; from_serial = 0x200000010; to_serial = 0x200000000; nonce = 0x200000012 } ∷ []) ∷ [] }
-{
-}
+{}
 
 /// Taking a grant back publishes two links.
 #[tactic(auto, unfolding(crate::specs::WorkedSteps::journals))]
@@ -51,8 +47,7 @@ pub fn revoked()
     ensures length { end_of revoking ≡ 2991 }
     ensures renewed { renewals_at revoking 9 ≡ (clear_of 2 ∷ []) ∷ [] }
     ensures links { links_at revoking 9 ≡ 2 ∷ [] }
-{
-}
+{}
 
 /// The first write after it renews what leads to the file.
 #[tactic(auto, unfolding(crate::specs::WorkedSteps::journals))]
@@ -61,8 +56,7 @@ pub fn written_after_revocation()
     ensures renewed { renewals_at writing_again 11 ≡ (sub_of 2 ∷ files_of 2 ∷ file_role 1 ∷ []) ∷ [] }
     ensures links { links_at writing_again 11 ≡ 5 ∷ [] }
     ensures contents { contents_at writing_again 11 ≡ 1 ∷ [] }
-{
-}
+{}
 
 /// A folder's new name after a revocation is sealed under keys that only those who may read it reach.
 #[tactic(auto, unfolding(crate::specs::WorkedSteps::journals))]
@@ -70,8 +64,7 @@ pub fn rename_after_revocation()
     ensures length { end_of renaming_again ≡ 5294 }
     ensures renewed { renewals_at renaming_again 11 ≡ (sub_of 2 ∷ sub_of 3 ∷ back_of 2 ∷ back_of 3 ∷ data_of 2 ∷ []) ∷ [] }
     ensures links { links_at renaming_again 11 ≡ 12 ∷ [] }
-{
-}
+{}
 
 /// A folder that leaves a granted one takes clean keys along, and its file gets one when it is next written.
 #[tactic(auto, unfolding(crate::specs::WorkedSteps::journals))]
@@ -81,8 +74,7 @@ pub fn move_away_from_a_grant()
     ensures links { links_at moving_away 10 ≡ 6 ∷ [] }
     ensures renewed_by_the_write { renewals_at moving_away 11 ≡ (files_of 4 ∷ file_role 1 ∷ []) ∷ [] }
     ensures links_of_the_write { links_at moving_away 11 ≡ 2 ∷ [] }
-{
-}
+{}
 
 /// A script's replies and the journal after it, with the keys drawn from 255 down.
 #[tactic(auto, unfolding(crate::specs::WorkedSteps::journals))]
@@ -90,8 +82,7 @@ pub fn script_of_a_grant()
     ensures replies { map spell_reply (script limits_now fresh (MakeFolder (codes "/a") ∷ WriteFile (codes "/a/x") (0 ∷ 255 ∷ []) ∷ MakeFolder (codes "/a") ∷ AddHolder ∷ Grant 1 (codes "/a") ∷ []) (down_from 255 224)).0
         ≡ codes "ok" ∷ codes "ok" ∷ codes "refused exists" ∷ codes "holder 1 3f3e3d3c3b3a393837363534333231302f2e2d2c2b2a29282726252423222120" ∷ codes "ok" ∷ [] }
     ensures length { end_of (script limits_now fresh (MakeFolder (codes "/a") ∷ WriteFile (codes "/a/x") (0 ∷ 255 ∷ []) ∷ MakeFolder (codes "/a") ∷ AddHolder ∷ Grant 1 (codes "/a") ∷ []) (down_from 255 224)).1 ≡ 2558 }
-{
-}
+{}
 
 /// A command whose batch would end past the store limit is refused, and one that ends at it is not.
 #[tactic(auto, unfolding(crate::specs::WorkedSteps::journals))]
@@ -100,8 +91,7 @@ pub fn store_limit()
     ensures fits { answer (limited 1801) fresh false (MakeFolder (codes "/a")) ≡ None }
     ensures later { answer (limited 1691) fresh true (MakeFolder (codes "/a")) ≡ None }
     ensures later_full { answer (limited 1690) fresh true (MakeFolder (codes "/a")) ≡ Some Full }
-{
-}
+{}
 
 /// The edges that each key step leaves are those of the store after it.
 #[tactic(auto, unfolding(crate::specs::WorkedSteps::journals))]
@@ -110,5 +100,4 @@ pub fn steps_leave_the_edges_of_the_store()
     ensures renaming_again { edges_agree nothing renaming_again ≡ replicate 11 true }
     ensures moving_away { edges_agree nothing moving_away ≡ replicate 11 true }
     ensures dropping { edges_agree nothing dropping ≡ replicate 13 true }
-{
-}
+{}

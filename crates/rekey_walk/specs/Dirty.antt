@@ -1,5 +1,5 @@
 -- Which keys a revoked reader may know, and which of them are due for renewal. This project's own, docs/FORMAT.md.
-use Rattle.std.specs.Prelude.{ℕ, Bool, true, false, cond, List, [], ◌∷◌, ◌++◌, filter}
+use Rattle.std.specs.Prelude.{Bool, cond, List, [], ◌∷◌, ◌++◌, filter}
 use Rattle.std.specs.List.{list_any}
 use Rattle.cry_base.specs.Sets.{has}
 use Rattle.cry_base.specs.declared.roles.Edge.{Edge}

@@ -10,13 +10,11 @@ ghost use Rattle.rekey_walk.specs.Dirty.{mark, plan};
 pub fn marks_of_a_revocation()
     ensures { mark [] (edges granted) (clear_of 2)
         ≡ clear_of 2 ∷ sub_of 2 ∷ back_of 1 ∷ back_of 2 ∷ files_of 2 ∷ data_of 1 ∷ data_of 2 ∷ file_role 1 ∷ [] }
-{
-}
+{}
 
 /// A file written under those marks renews the ways from the folder down to it, and nothing beside them.
 #[tactic(auto, unfolding(crate::specs::WorkedMarks::marks))]
 pub fn plan_of_a_write()
     ensures { plan (sub_of 2 ∷ back_of 1 ∷ back_of 2 ∷ files_of 2 ∷ data_of 1 ∷ data_of 2 ∷ file_role 1 ∷ [])
         (edges granted) (file_role 1 ∷ []) ≡ sub_of 2 ∷ files_of 2 ∷ file_role 1 ∷ [] }
-{
-}
+{}

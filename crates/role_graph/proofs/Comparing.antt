@@ -1,8 +1,8 @@
 -- Roles are compared by variant and number.
-use Rattle.std.proofs.Common.{◌≡◌, ℕ, zero, suc, Bool, true, false, ◌&&◌, ◌==◌, ◌↔◌, List, [], ◌∷◌, IsTrue, ◌⊎◌, inl, inr, ⊎_elim, refl, sym, ap, ◌∙◌, subst}
+use Rattle.std.proofs.Common.{◌≡◌, ℕ, zero, suc, true, ◌==◌, ◌↔◌, List, [], ◌∷◌, inl, ⊎_elim, refl, sym, ap, ◌∙◌, subst}
 use Rattle.std.proofs.lemmas.Bool.{and_parts, and_from, eqb-true, eq-eqb}
-use Rattle.cry_base.specs.Sets.{In, Path, Tells, reach, has}
-use Rattle.cry_base.proofs.Reaching.{reach_told, FromSet, has-in, in-has}
+use Rattle.cry_base.specs.Sets.{In, Tells}
+use Rattle.cry_base.proofs.Reaching.{reach_told, FromSet}
 use Rattle.cry_base.specs.declared.roles.Edge.{Edge}
 use Rattle.cry_base.specs.declared.roles.Role.{Role}
 use Rattle.cry_base.specs.declared.roles.Role.TheVariants.{Owner, Holder, Clear, Sub, Back, Files, Data, File}
@@ -51,8 +51,9 @@ reach_along_told es roles r = reach_told Role same_role same_role_tells (pairs_o
 
 pub reach_one : (es : List Edge) (a b : Role) → In b (reach_along es (a ∷ [])) ↔ Reaches es a b
 reach_one es a b = (
-    λ i. let told = (reach_along_told es (a ∷ []) b).0 i in from_only a told.0 told.1 told.2,
-    λ way. (reach_along_told es (a ∷ []) b).1 (a, inl refl, way))
+  λ i. let told = (reach_along_told es (a ∷ []) b).0 i in from_only a told.0 told.1 told.2,
+  λ way. (reach_along_told es (a ∷ []) b).1 (a, inl refl, way),
+)
   where
     from_only : (a c : Role) → In c (a ∷ []) → Reaches es c b → Reaches es a b
     from_only a c i way = ⊎_elim (λ e. subst (λ x. Reaches es x b) e way) (λ n. absurd n) i

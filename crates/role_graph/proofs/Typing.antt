@@ -1,10 +1,10 @@
 -- Which edges there are by their kinds, what the owner reaches, and what the owner is shown.
-use Rattle.std.proofs.Common.{◌≡◌, ℕ, Bool, true, false, cond, not, ◌&&◌, ◌||◌, ◌==◌, ◌↔◌, ◌⊎◌, List, [], ◌∷◌, ◌++◌, map, Option, Some, None, IsTrue, inl, inr, ⊎_elim, refl, sym, ap, ◌∙◌, subst}
+use Rattle.std.proofs.Common.{◌≡◌, ℕ, Bool, true, false, cond, not, ◌&&◌, ◌||◌, ◌==◌, List, [], ◌∷◌, map, Some, inl, inr, ⊎_elim, refl, sym, ap, ◌∙◌, subst}
 use Rattle.std.specs.List.{find}
 use Rattle.std.proofs.lemmas.Bool.{eq-eqb, false≢true, and_parts, or_cases, not-true}
-use Rattle.cry_base.specs.Sets.{In, Path}
+use Rattle.cry_base.specs.Sets.{In}
 use Rattle.cry_base.specs.Sets.Path.{Here, On}
-use Rattle.cry_base.specs.Store.{Store, FolderEntry, FileEntry, GrantEntry, folder_node, file_node, folder_entry, file_entry, nodes_of}
+use Rattle.cry_base.specs.Store.{Store, FolderEntry, FileEntry, folder_node, file_node, folder_entry, file_entry, nodes_of}
 use Rattle.cry_base.specs.declared.roles.Edge.{Edge}
 use Rattle.cry_base.specs.declared.roles.Node.{Node}
 use Rattle.cry_base.specs.declared.roles.Role.{Role}
@@ -13,7 +13,9 @@ use Rattle.role_graph.specs.Roles.{holder_role, clear_of, sub_of, back_of, files
 use Rattle.role_graph.specs.Edges.{edge, folder_edges, parent_edges, grant_edge, file_edge, edges, pairs_of, Reaches, IsOwnEdge, IsParentEdge, IsGrantEdge, IsFileEdge, IsEdge}
 use Rattle.role_graph.specs.Rights.{IsShown}
 use Rattle.role_graph.specs.Rights.Who.{TheOwner}
-use Rattle.role_graph.proofs.Edging.{In-append, In-map, edges_told}
+use Rattle.cry_base.proofs.Finding.{found-find}
+use Rattle.cry_base.proofs.Members.{In-append, In-map}
+use Rattle.role_graph.proofs.Edging.{edges_told}
 
 -- the three tests of an edge at once
 is_typed : Edge → Bool
@@ -24,9 +26,9 @@ unfolding is_typed folder_edges edge is_root_role is_sealing_role is_clear_role 
 own_typed f e i = ⊎_elim
     (λ s. ap is_typed s)
     (λ a. ⊎_elim (λ s. ap is_typed s)
-      (λ b. ⊎_elim (λ s. ap is_typed s)
-        (λ c. ⊎_elim (λ s. ap is_typed s)
-          (λ d. ⊎_elim (λ s. ap is_typed s) (λ n. absurd n) d) c) b) a) i
+    (λ b. ⊎_elim (λ s. ap is_typed s)
+    (λ c. ⊎_elim (λ s. ap is_typed s)
+    (λ d. ⊎_elim (λ s. ap is_typed s) (λ n. absurd n) d) c) b) a) i
 
 parent_typed : (f p : ℕ) (e : Edge) → In e (parent_edges f p) → is_typed e ≡ true
 unfolding is_typed parent_edges edge is_root_role is_sealing_role is_clear_role variant_of sub_of back_of
@@ -44,8 +46,8 @@ edge_typed : (s : Store) (e : Edge) → IsEdge s e → is_typed e ≡ true
 edge_typed s e w = ⊎_elim
     (λ (o : IsOwnEdge s e). own_typed o.0.id e o.2)
     (λ v. ⊎_elim
-      (λ (p : IsParentEdge s e). parent_typed p.0.id p.0.parent e p.3)
-      (λ u. ⊎_elim (λ (g : IsGrantEdge s e). grant_typed g.0.holder g.0.folder e g.2) (λ (x : IsFileEdge s e). file_typed x.0.folder x.0.id e x.2) u) v) w
+    (λ (p : IsParentEdge s e). parent_typed p.0.id p.0.parent e p.3)
+    (λ u. ⊎_elim (λ (g : IsGrantEdge s e). grant_typed g.0.holder g.0.folder e g.2) (λ (x : IsFileEdge s e). file_typed x.0.folder x.0.id e x.2) u) v) w
 
 parts : (e : Edge) → is_typed e ≡ true → (is_root_role e.to ≡ false) × (is_sealing_role e.from ≡ false) × (is_clear_role e.to ≡ true → is_root_role e.from ≡ true)
 unfolding is_typed
@@ -55,8 +57,9 @@ parts e t =
       not-true (is_root_role e.to) one.0,
       not-true (is_sealing_role e.from) two.0,
       λ clear. ⊎_elim
-        (λ n. absurd (false≢true (sym (not-true (is_clear_role e.to) n) ∙ clear)))
-        (λ r. r) (or_cases (not (is_clear_role e.to)) (is_root_role e.from) two.1))
+          (λ n. absurd (false≢true (sym (not-true (is_clear_role e.to) n) ∙ clear)))
+          (λ r. r) (or_cases (not (is_clear_role e.to)) (is_root_role e.from) two.1),
+    )
 
 pub typed : (s : Store) (e : Edge) → In e (edges s) → (is_root_role e.to ≡ false) × (is_sealing_role e.from ≡ false) × (is_clear_role e.to ≡ true → is_root_role e.from ≡ true)
 typed s e i = parts e (edge_typed s e ((edges_told s e).0 i))
@@ -94,11 +97,11 @@ pub folder_reached : (s : Store) (f : FolderEntry) (r : Role) → In f s.folders
 unfolding folder_roles
 folder_reached s f r i j =
     let P : Role → Type 0 = λ x. Reaches (edges s) Owner x in ⊎_elim
-      (λ e. subst P (sym e) (to_clear s f i))
-      (λ a. ⊎_elim (λ e. subst P (sym e) (to_sub s f i))
-        (λ b. ⊎_elim (λ e. subst P (sym e) (to_back s f i))
-          (λ c. ⊎_elim (λ e. subst P (sym e) (to_files s f i))
-            (λ d. ⊎_elim (λ e. subst P (sym e) (to_data s f i)) (λ n. absurd n) d) c) b) a) j
+    (λ e. subst P (sym e) (to_clear s f i))
+    (λ a. ⊎_elim (λ e. subst P (sym e) (to_sub s f i))
+    (λ b. ⊎_elim (λ e. subst P (sym e) (to_back s f i))
+    (λ c. ⊎_elim (λ e. subst P (sym e) (to_files s f i))
+    (λ d. ⊎_elim (λ e. subst P (sym e) (to_data s f i)) (λ n. absurd n) d) c) b) a) j
 
 pub file_reached : (s : Store) (f : FolderEntry) (x : FileEntry) → In f s.folders → In x s.files → x.folder ≡ f.id → Reaches (edges s) Owner (file_role x.id)
 unfolding file_edge edge
@@ -106,24 +109,13 @@ file_reached s f x i j e =
     let P : ℕ → Type 0 = λ n. Reaches (edges s) Owner (files_of n) in
     On (subst P (sym e) (to_files s f i)) (stands s (file_edge x.folder x.id) (inr (inr (inr (x, j, refl)))))
 
--- what is there and passes is found, or something before it
-found : (X : Type 0) (p : X → Bool) (x : X) (xs : List X) → In x xs → p x ≡ true → (y : X) × (find p xs ≡ Some y)
-found X p x [] = λ i t. absurd i
-found X p x (z ∷ zs) = λ i t.
-    (elim (p z) as (λ b. p z ≡ b → (y : X) × (cond b (Some z) (find p zs) ≡ Some y)) [
-      true ↦ λ s. (z, refl)
-    | false ↦ λ s. ⊎_elim
-        (λ (e : x ≡ z). absurd (false≢true (sym s ∙ ap p (sym e) ∙ t)))
-        (λ r. found X p x zs r t) i
-    ]) refl
-
 pub owner_shown : (s : Store) (node : Node) → In node (nodes_of s) → IsShown s TheOwner node
 unfolding nodes_of folder_node file_node folder_entry file_entry
 owner_shown s node i = ⊎_elim
     (λ a. let w = (In-map FolderEntry Node (λ e. folder_node e.id) node s.folders).0 a in
-      let told = found FolderEntry (λ e. e.id == w.0.id) w.0 s.folders w.1 (eq-eqb w.0.id w.0.id refl) in
-      subst (λ n. IsShown s TheOwner n) (sym w.2) (told.0, told.1, tt))
+    let told = found-find FolderEntry (λ e. e.id == w.0.id) w.0 s.folders w.1 (eq-eqb w.0.id w.0.id refl) in
+    subst (λ n. IsShown s TheOwner n) (sym w.2) (told.0, told.1, tt))
     (λ a. let w = (In-map FileEntry Node (λ e. file_node e.id) node s.files).0 a in
-      let told = found FileEntry (λ e. e.id == w.0.id) w.0 s.files w.1 (eq-eqb w.0.id w.0.id refl) in
-      subst (λ n. IsShown s TheOwner n) (sym w.2) (told.0, told.1, tt))
+    let told = found-find FileEntry (λ e. e.id == w.0.id) w.0 s.files w.1 (eq-eqb w.0.id w.0.id refl) in
+    subst (λ n. IsShown s TheOwner n) (sym w.2) (told.0, told.1, tt))
     ((In-append Node node (map (λ e. folder_node e.id) s.folders) (map (λ e. file_node e.id) s.files)).0 i)

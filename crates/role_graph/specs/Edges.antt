@@ -1,6 +1,6 @@
 -- Which key leads to which. This project's own, docs/FORMAT.md, "Kinds of links".
-use Rattle.std.specs.Prelude.{◌≡◌, ◌≢◌, ◌⊎◌, ℕ, Bool, true, false, cond, not, ◌&&◌, ◌||◌, nat_lt, ◌==◌, List, [], ◌∷◌, ◌++◌, map, filter}
-use Rattle.cry_base.specs.Sets.{In, Path, reach, has}
+use Rattle.std.specs.Prelude.{◌≡◌, ◌≢◌, ◌⊎◌, ℕ, Bool, cond, ◌&&◌, ◌||◌, nat_lt, ◌==◌, List, [], ◌∷◌, ◌++◌, map, flat_map}
+use Rattle.cry_base.specs.Sets.{In, Path, reach}
 use Rattle.cry_base.specs.Store.{Store, FolderEntry, FileEntry, GrantEntry}
 use Rattle.cry_base.specs.declared.roles.Edge.{Edge}
 use Rattle.cry_base.specs.declared.roles.Role.{Role}
@@ -14,7 +14,7 @@ edge kind from to = record { kind = kind; from = from; to = to }
 -- whether a stands before b: by kind, then by the number that it is from, then by the number that it leads to
 unfoldable pub edge_before : Edge → Edge → Bool
 edge_before a b =
-       nat_lt a.kind b.kind
+    nat_lt a.kind b.kind
     || (a.kind == b.kind && (nat_lt (role_id a.from) (role_id b.from)
     || (role_id a.from == role_id b.from && nat_lt (role_id a.to) (role_id b.to))))
 
@@ -30,7 +30,7 @@ in_order before (x ∷ xs) = put_in_order before x (in_order before xs)
 -- the edges of a folder within itself, and of a folder and its parent
 unfoldable pub folder_edges : ℕ → List Edge
 folder_edges f =
-      edge 1 Owner (clear_of f)
+    edge 1 Owner (clear_of f)
     ∷ edge 3 (clear_of f) (sub_of f)
     ∷ edge 4 (sub_of f) (back_of f)
     ∷ edge 5 (sub_of f) (files_of f)
@@ -47,16 +47,11 @@ grant_edge h f = edge 2 (holder_role h) (clear_of f)
 unfoldable pub file_edge : ℕ → ℕ → Edge
 file_edge f x = edge 9 (files_of f) (file_role x)
 
--- the lists that a function gives, one after the other
-unfoldable pub each_of : {X Y : Type 0} → (X → List Y) → List X → List Y
-each_of f [] = []
-each_of f (x ∷ xs) = f x ++ each_of f xs
-
 -- the edges of the nine kinds, in their order. The root alone has no parent
 unfoldable pub edges : Store → List Edge
 edges s = in_order edge_before (
-       each_of (λ e. folder_edges e.id) s.folders
-    ++ each_of (λ e. cond (e.parent == 0) [] (parent_edges e.id e.parent)) s.folders
+    flat_map (λ e. folder_edges e.id) s.folders
+    ++ flat_map (λ e. cond (e.parent == 0) [] (parent_edges e.id e.parent)) s.folders
     ++ map (λ g. grant_edge g.holder g.folder) s.grants
     ++ map (λ e. file_edge e.folder e.id) s.files)
 

@@ -1,5 +1,5 @@
 -- Who may read what, by the tree and the grants alone. No key is mentioned here.
-use Rattle.std.specs.Prelude.{◌≡◌, ℕ, Bool, true, false, ◌||◌, ◌==◌, ◌⊎◌, List, [], ◌∷◌, ◌++◌, map, filter, Option, Some, None, MatchOption}
+use Rattle.std.specs.Prelude.{◌≡◌, ℕ, Bool, true, false, ◌||◌, ◌==◌, ◌⊎◌, List, map, filter, Option, Some, None}
 use Rattle.cry_base.specs.Sets.{In, Path, has, reach}
 use Rattle.cry_base.specs.Store.{Store, GrantEntry, FileEntry, FolderEntry, file_entry, folder_entry}
 use Rattle.cry_base.specs.declared.roles.Node.{Node}

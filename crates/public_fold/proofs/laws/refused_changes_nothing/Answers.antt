@@ -1,5 +1,5 @@
-use Rattle.std.proofs.Common.{◌≡◌, [], ◌∷◌, Some, ap}
-use Rattle.public_fold.specs.Script.{answer, line_going, line_reply, script_going, script_replies}
+use Rattle.std.proofs.Common.{[], ◌∷◌, ap}
+use Rattle.public_fold.specs.Script.{line_going, line_reply, script_going, script_replies}
 use Rattle.public_fold.proofs.laws.refused_changes_nothing.Goals as goal
 
 pub returns : goal.returns
