@@ -1,5 +1,5 @@
 -- Worked rows of journals, and the words that open them to a computation.
-use Rattle.std.specs.Prelude.{ℕ, zero, suc, ◌-◌, Bool, List, [], ◌∷◌, ◌++◌, map, length, codes, replicate, slice_get, Some, None}
+use Rattle.std.specs.Prelude.{Option, ℕ, zero, suc, ◌-◌, Bool, List, [], ◌∷◌, ◌++◌, map, length, codes, replicate, slice_get, Some, None}
 use Rattle.std.specs.Fmt.{digits}
 use Rattle.public_fold.specs.Script.{draws_of, due_payload, due_end, answer_with, answer, spell_reply, done_reply, keys_from, accepted_going, line_going, line_reply, script_replies, script_going, opened, script}
 use Rattle.cry_base.specs.Requests.{Request}
@@ -18,6 +18,8 @@ use Rattle.public_fold.specs.KeyStep.{Stepped, no_keys, next_epoch, without, key
 use Rattle.public_fold.specs.Journal.{Entry, Journal, Stand, nothing, first_key, note_step, entry_step, entry_store, stand_then, stand_after, store_of, keys_of, steps_from, steps_of}
 use Rattle.public_fold.specs.Journal.Entry.{Session, Made, Did}
 use Rattle.public_fold.specs.Lengths.{note_len, content_len, payload_len, entry_payload, payloads_from, end_of}
+use Rattle.public_fold.specs.Attempts.{begun_journal, epoch_attempt, command_attempt, attempts_at, course_then, attempts}
+use Rattle.public_fold.specs.StandFits.{has_count, note_fits, entry_fits, all_fit}
 
 -- n keys of 32 bytes. What a row says hangs on their number and length alone
 unfoldable pub some_keys : ℕ → List (List ℕ)
@@ -41,6 +43,10 @@ rewriting = renaming ++ (Session ∷ does 0 (WriteFile (codes "/a/y") []) ∷ []
 -- the rows "grant", "revoked" and "written after revocation"
 unfoldable pub granting : Journal
 granting = fresh ++ (Session ∷ does 5 (MakeFolder (codes "/a")) ∷ does 1 (WriteFile (codes "/a/x") (0 ∷ 255 ∷ [])) ∷ does 1 AddHolder ∷ does 0 (Grant 1 (codes "/a")) ∷ [])
+
+-- "grant" without its last batch
+unfoldable pub granting_stopped : Journal
+granting_stopped = fresh ++ (Session ∷ does 5 (MakeFolder (codes "/a")) ∷ does 1 (WriteFile (codes "/a/x") (0 ∷ 255 ∷ [])) ∷ does 1 AddHolder ∷ [])
 
 unfoldable pub revoking : Journal
 revoking = granting ++ (Session ∷ does 1 (Revoke 1 (codes "/a")) ∷ [])
@@ -66,6 +72,11 @@ dropping = granting ++ (Session ∷ does 0 (Relocate (codes "/a/x") (codes "/"))
 unfoldable pub step_at : Journal → ℕ → List Stepped
 step_at m zero = []
 step_at m (suc n) = elim (slice_get (steps_of m) n) [ None ↦ [] | Some s ↦ s ∷ [] ]
+
+-- the nonces of a step's links
+unfoldable pub nonces_in : Option Stepped → List ℕ
+nonces_in None = []
+nonces_in (Some s) = map (λ l. l.nonce) s.links
 
 -- what a batch renews, how many links and contents it has
 unfoldable pub renewals_at : Journal → ℕ → List (List Role)
@@ -105,5 +116,5 @@ edges_agree at (entry ∷ entries) = edges_agree_at at entry ∷ edges_agree (st
 
 -- every word of a journal
 unfoldable pub journals : Unit {0}
-unfolding digits draws_of due_payload due_end answer_with answer spell_reply done_reply keys_from accepted_going line_going line_reply script_replies script_going opened script down_from limited limits_now entry_change edges_agree_at edges_agree marks changes folder_piece file_piece holder_piece pieces_of sealing_role text_of no_keys next_epoch without keys_without edges_left dirty_left renewed next_serial numbered given keys_then newest present edges_then is_published published_edges link_of links_from content_of contents_from published step_with key_step nothing first_key note_step entry_step entry_store stand_then stand_after store_of keys_of steps_from steps_of note_len content_len payload_len entry_payload payloads_from end_of some_keys does fresh renaming rewriting granting revoking writing_again renaming_again moving_away dropping step_at renewals_at links_at contents_at
+unfolding begun_journal epoch_attempt command_attempt attempts_at course_then attempts has_count note_fits entry_fits all_fit digits draws_of due_payload due_end answer_with answer spell_reply done_reply keys_from accepted_going line_going line_reply script_replies script_going opened script down_from limited limits_now entry_change edges_agree_at edges_agree marks changes folder_piece file_piece holder_piece pieces_of sealing_role text_of no_keys next_epoch without keys_without edges_left dirty_left renewed next_serial numbered given keys_then newest present edges_then is_published published_edges link_of links_from content_of contents_from published step_with key_step nothing first_key note_step entry_step entry_store stand_then stand_after store_of keys_of steps_from steps_of note_len content_len payload_len entry_payload payloads_from end_of some_keys does fresh renaming rewriting granting granting_stopped revoking writing_again renaming_again moving_away dropping step_at nonces_in renewals_at links_at contents_at
 journals = tt

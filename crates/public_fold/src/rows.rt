@@ -7,7 +7,11 @@ ghost use Rattle.public_fold.specs.Lengths.{end_of, payloads_from};
 ghost use Rattle.cry_base.specs.Requests.Request.{AddHolder, MakeFolder, WriteFile, Grant};
 ghost use Rattle.cry_base.specs.declared.commands.Refusal.TheVariants.{Full};
 ghost use Rattle.public_fold.specs.Script.{script, spell_reply, answer};
-ghost use Rattle.public_fold.specs.WorkedSteps.{down_from, limited, limits_now, edges_agree, fresh, renaming, rewriting, granting, revoking, writing_again, renaming_again, moving_away, dropping, step_at, renewals_at, links_at, contents_at};
+ghost use Rattle.public_fold.specs.Attempts.{attempts};
+ghost use Rattle.public_fold.specs.Attempts.Event.{Enters, IsAbandoned, LosesEpoch, Reopens};
+ghost use Rattle.public_fold.specs.StandFits.{all_fit};
+ghost use Rattle.public_fold.specs.Valid.{IsValid};
+ghost use Rattle.public_fold.specs.WorkedSteps.{granting_stopped, nonces_in, some_keys, down_from, limited, limits_now, edges_agree, fresh, renaming, rewriting, granting, revoking, writing_again, renaming_again, moving_away, dropping, step_at, renewals_at, links_at, contents_at};
 
 /// A fresh store has 819 bytes. Its keys, links and content are numbered in one row.
 #[tactic(auto, unfolding(crate::specs::WorkedSteps::journals))]
@@ -101,3 +105,28 @@ pub fn steps_leave_the_edges_of_the_store()
     ensures moving_away { edges_agree nothing moving_away ≡ replicate 11 true }
     ensures dropping { edges_agree nothing dropping ≡ replicate 13 true }
 {}
+
+/// A grant whose batch a stop cut short: the next session has the next epoch, and its link another nonce.
+#[tactic(auto, unfolding(crate::specs::WorkedSteps::journals))]
+pub fn stop_in_the_first_write()
+    ensures epochs { map (λ a. a.epoch) (attempts (record { journal = fresh; begun = false })
+        (Enters (MakeFolder (codes "/a")) (some_keys 5) ∷ Enters AddHolder (some_keys 1) ∷ IsAbandoned (Grant 1 (codes "/a")) []
+            ∷ Reopens ∷ LosesEpoch ∷ Reopens ∷ Enters (Grant 1 (codes "/a")) [] ∷ [])) ≡ 2 ∷ 2 ∷ 2 ∷ 2 ∷ 3 ∷ 3 ∷ 3 ∷ [] }
+    ensures numbers { map (λ a. a.number) (attempts (record { journal = fresh; begun = false })
+        (Enters (MakeFolder (codes "/a")) (some_keys 5) ∷ Enters AddHolder (some_keys 1) ∷ IsAbandoned (Grant 1 (codes "/a")) []
+            ∷ Reopens ∷ LosesEpoch ∷ Reopens ∷ Enters (Grant 1 (codes "/a")) [] ∷ [])) ≡ 3 ∷ 4 ∷ 5 ∷ 6 ∷ 6 ∷ 6 ∷ 7 ∷ [] }
+    ensures nonces { map (λ a. nonces_in a.holds) (attempts (record { journal = granting_stopped; begun = false }) (Enters (Grant 1 (codes "/a")) [] ∷ []))
+        ≡ [] ∷ (12884901888 ∷ []) ∷ [] }
+{
+}
+
+/// The journals of these rows are valid, and each of their notes fits where it comes.
+#[tactic(auto, unfolding(crate::specs::WorkedSteps::journals))]
+pub fn worked_journals_are_valid()
+    ensures written { IsValid writing_again }
+    ensures renamed { IsValid renaming_again }
+    ensures moved { IsValid moving_away }
+    ensures dropped { IsValid dropping }
+    ensures fit { map (all_fit nothing) (rewriting ∷ writing_again ∷ renaming_again ∷ moving_away ∷ dropping ∷ []) ≡ true ∷ true ∷ true ∷ true ∷ true ∷ [] }
+{
+}
