@@ -1,11 +1,12 @@
 //! Worked rows of histories, each computed by the checker from the definitions.
-ghost use Rattle.std.specs.Prelude.{◌≡◌, [], ◌∷◌, ◌++◌, codes, true, false};
+ghost use Rattle.std.specs.Prelude.{◌≡◌, [], ◌∷◌, ◌++◌, codes, true, false, map};
 ghost use Rattle.cry_base.specs.Requests.Request.{Relocate, Rename, MakeFolder};
 ghost use Rattle.cry_base.specs.Texts.{ended_lines};
 ghost use Rattle.role_graph.specs.Rights.Who.{TheOwner, TheHolder};
 ghost use Rattle.public_fold.specs.Journal.{nothing};
 ghost use Rattle.public_fold.specs.WorkedSteps.{fresh, renaming, rewriting, granting, revoking, writing_again, renaming_again, moving_away, does};
 ghost use Rattle.closure_laws.specs.Gains.{gains_from};
+ghost use Rattle.closure_laws.specs.Secrecy.{keeps_secret};
 ghost use Rattle.closure_laws.specs.Seen.{seen, spell_seen};
 
 /// The owner derives each name and each file as it was ever written.
@@ -58,3 +59,14 @@ pub fn gains_of_a_grant()
     ensures moved { gains_from nothing (granting ++ (does 5 (MakeFolder (codes "/a/c")) ∷ does 5 (MakeFolder (codes "/b")) ∷ does 0 (Relocate (codes "/b") (codes "/a")) ∷ [])) 1
         ≡ false ∷ false ∷ false ∷ false ∷ false ∷ false ∷ true ∷ false ∷ false ∷ true ∷ [] }
 {}
+
+/// On the worked journals nothing is derived that was written while it wasn't shown, unless the holder gained something
+/// later; the last one moves a folder into a grant after it was written.
+#[tactic(auto, unfolding(crate::specs::WorkedHistories::histories))]
+pub fn worked_journals_keep_secrets()
+    ensures written { map (keeps_secret writing_again) (1 ∷ 2 ∷ 3 ∷ []) ≡ true ∷ true ∷ true ∷ [] }
+    ensures renamed { map (keeps_secret renaming_again) (1 ∷ 2 ∷ []) ≡ true ∷ true ∷ [] }
+    ensures moved { map (keeps_secret moving_away) (1 ∷ []) ≡ true ∷ [] }
+    ensures gained { map (keeps_secret (granting ++ (does 5 (MakeFolder (codes "/b")) ∷ does 0 (Relocate (codes "/b") (codes "/a")) ∷ []))) (1 ∷ []) ≡ true ∷ [] }
+{
+}
