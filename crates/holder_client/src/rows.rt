@@ -5,6 +5,7 @@ ghost use Rattle.cry_base.specs.Store.{root_store};
 ghost use Rattle.cry_base.specs.Texts.{ended_lines};
 ghost use Rattle.cry_base.specs.WorkedRows.{granted, store_after};
 ghost use Rattle.role_graph.specs.Rights.Who.{TheOwner, TheHolder};
+ghost use Rattle.holder_client.specs.WorkedViews.{moved_away};
 ghost use Rattle.holder_client.specs.View.{view, spell_view};
 
 /// A fresh store shows its root.
@@ -43,3 +44,22 @@ pub fn two_grants_one_revoked()
 pub fn revoked()
     ensures { view (store_after granted (Revoke 1 (codes "/a") ∷ [])) (TheHolder 1) ≡ [] }
 {}
+
+/// After a folder's new name the paths below it are new, for those who may see them.
+#[tactic(auto, unfolding(crate::specs::WorkedViews::views))]
+pub fn rename_after_revocation()
+    ensures { spell_view (view (store_after root_store
+            (MakeFolder (codes "/a") ∷ MakeFolder (codes "/a/b") ∷ AddHolder ∷ AddHolder ∷ Grant 1 (codes "/a") ∷ Grant 2 (codes "/a/b")
+            ∷ Revoke 1 (codes "/a") ∷ Rename (codes "/a") (codes "z") ∷ [])) (TheHolder 2))
+        ≡ ended_lines (codes "ancestor /" ∷ codes "ancestor /z" ∷ codes "folder /z/b" ∷ []) }
+{
+}
+
+/// What was moved out of a granted folder isn't shown any more; the owner sees it where it is, a file after its folder.
+#[tactic(auto, unfolding(crate::specs::WorkedViews::views))]
+pub fn move_away_from_a_grant()
+    ensures holder { spell_view (view moved_away (TheHolder 1)) ≡ ended_lines (codes "ancestor /" ∷ codes "folder /s" ∷ []) }
+    ensures owner { spell_view (view moved_away TheOwner)
+        ≡ ended_lines (codes "folder /" ∷ codes "folder /p" ∷ codes "folder /p/d" ∷ codes "file /p/d/f 02" ∷ codes "folder /s" ∷ []) }
+{
+}
