@@ -1,5 +1,5 @@
 -- What is derived and gained by computing is so by the definitions.
-use Rattle.std.proofs.Common.{◌≡◌, ℕ, Bool, false, not, ◌&&◌, ◌==◌, ◌↔◌, ◌⊎◌, List, [], ◌∷◌, IsTrue, inl, inr, ⊎_elim, refl, sym, ◌∙◌, subst}
+use Rattle.std.proofs.Common.{ℕ, Bool, false, not, ◌&&◌, ◌==◌, ◌↔◌, ◌⊎◌, List, [], ◌∷◌, IsTrue, inl, inr, ⊎_elim, refl, sym, ◌∙◌, subst}
 use Rattle.std.specs.List.{list_any}
 use Rattle.std.proofs.lemmas.Bool.{or_cases, or_left, or_right, and_parts, and_from, false≢true, not-true, not_from_false, false_from_ne_true, eqb-true, eq-eqb}
 use Rattle.cry_base.specs.Sets.{In}

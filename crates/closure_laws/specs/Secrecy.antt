@@ -1,10 +1,10 @@
 -- Revocation: what a holder derives of what was written while its object wasn't shown.
 use Rattle.std.specs.Prelude.{◌≡◌, ℕ, Bool, true, false, not, ◌&&◌, ◌||◌, ◌==◌, ◌⊎◌, List, [], ◌∷◌, ◌++◌, Option, Some, None}
-use Rattle.std.specs.List.{list_all, list_any}
-use Rattle.cry_base.specs.Sets.{In, has}
+use Rattle.std.specs.List.{list_all}
+use Rattle.cry_base.specs.Sets.{has}
 use Rattle.cry_base.specs.Store.{Store, folder_node, file_node}
 use Rattle.cry_base.specs.declared.roles.Node.{Node}
-use Rattle.role_graph.specs.Rights.{Who, IsShown, shown}
+use Rattle.role_graph.specs.Rights.{IsShown, shown}
 use Rattle.role_graph.specs.Rights.Who.{TheHolder}
 use Rattle.public_fold.specs.Records.{Content, Piece}
 use Rattle.public_fold.specs.Journal.{Entry, Journal, Stand, nothing, entry_step, stand_then, stand_after}
@@ -47,7 +47,7 @@ kept_content known s h gain c = shown_node s h (node_of_piece c.piece) || gain |
 unfoldable pub keeps_from : List ℕ → ℕ → Stand → List Entry → Bool
 keeps_from known h at [] = true
 keeps_from known h at (entry ∷ entries) =
-       list_all (kept_content known (stand_then at entry).store h (gains_later (stand_then at entry) entries h)) (entry_step at entry).contents
+    list_all (kept_content known (stand_then at entry).store h (gains_later (stand_then at entry) entries h)) (entry_step at entry).contents
     && keeps_from known h (stand_then at entry) entries
 
 -- the serials that a holder derives

@@ -21,11 +21,9 @@ pub fn gains_are_told()
 pub fn history_grows()
     ensures published { (m more : Journal) → (rest : List Published) × (history (m ++ more) ≡ history m ++ rest) }
     ensures derived { (m more : Journal) (a b : ℕ) → Derives (history m) a b → Derives (history (m ++ more)) a b }
-{
-}
+{}
 
 /// What an audit shows is what the history holds and a trail from one's own key leads to, holders' keys apart.
 pub fn seen_is_derived()
     ensures { (m : Journal) (who : Who) (x : Sight) → In x (seen m who) ↔ IsSeen m who x }
-{
-}
+{}

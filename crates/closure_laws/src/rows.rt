@@ -68,5 +68,4 @@ pub fn worked_journals_keep_secrets()
     ensures renamed { map (keeps_secret renaming_again) (1 ∷ 2 ∷ []) ≡ true ∷ true ∷ [] }
     ensures moved { map (keeps_secret moving_away) (1 ∷ []) ≡ true ∷ [] }
     ensures gained { map (keeps_secret (granting ++ (does 5 (MakeFolder (codes "/b")) ∷ does 0 (Relocate (codes "/b") (codes "/a")) ∷ []))) (1 ∷ []) ≡ true ∷ [] }
-{
-}
+{}

@@ -1,9 +1,8 @@
 -- Paths are what names spell, and a path finds a node that has it.
-use Rattle.std.proofs.Common.{◌≡◌, ℕ, ◌+◌, ◌≤◌, Bool, true, false, cond, not, ◌&&◌, ◌||◌, ◌==◌, ◌↔◌, ◌⊎◌, List, [], ◌∷◌, ◌++◌, length, flat_map, Option, Some, None, IsTrue, inl, inr, ⊎_elim, refl, sym, ap, ◌∙◌, subst, append-nil}
-use Rattle.std.specs.List.{list_all, find}
-use Rattle.std.specs.Prelude.{bytes_eq, codes, MatchOption}
-use Rattle.std.proofs.lemmas.Bool.{eqb-true, eq-eqb, ne_eqb, false≢true, and_parts, and_from, cond-false}
-use Rattle.cry_base.specs.Sets.{In}
+use Rattle.std.proofs.Common.{◌≡◌, ℕ, Bool, true, false, cond, not, ◌&&◌, ◌==◌, ◌↔◌, List, [], ◌∷◌, ◌++◌, length, flat_map, IsTrue, refl, sym, ap, ◌∙◌, subst, append-nil}
+use Rattle.std.specs.List.{list_all}
+use Rattle.std.specs.Prelude.{bytes_eq, codes}
+use Rattle.std.proofs.lemmas.Bool.{eqb-true, ne_eqb, false≢true, and_parts, and_from, cond-false}
 use Rattle.cry_base.specs.Naming.{is_between, is_name_byte, is_name, spell_path, onto_first, split_at_slashes, names_behind, names_of, is_path, IsPath}
 
 abbrev slashed : List ℕ → List ℕ

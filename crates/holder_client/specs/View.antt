@@ -36,7 +36,7 @@ view s who = in_order (λ a b. bytes_before (line_path a) (line_path b)) (
 -- the line is that of a folder that is named, or of a file that is allowed
 abbrev pub IsLine : Store → Who → Line → Type 0
 IsLine s who l =
-      ((f : FolderEntry) × In f s.folders × IsNamedTo s who f.id × (l ≡ folder_line s who f))
+    ((f : FolderEntry) × In f s.folders × IsNamedTo s who f.id × (l ≡ folder_line s who f))
     ⊎ ((x : FileEntry) × In x s.files × IsAllowedTo s who x.folder × (l ≡ file_line s x))
 
 -- no line stands before one that comes earlier

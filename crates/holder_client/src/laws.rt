@@ -9,5 +9,4 @@ ghost use Rattle.holder_client.specs.View.{Ascends, IsLine, Line, view};
 pub fn view_is_what_is_shown()
     ensures lines { (s : Store) (who : Who) (l : Line) → In l (view s who) ↔ IsLine s who l }
     ensures order { (s : Store) (who : Who) → Ascends (view s who) }
-{
-}
+{}

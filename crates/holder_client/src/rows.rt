@@ -49,11 +49,10 @@ pub fn revoked()
 #[tactic(auto, unfolding(crate::specs::WorkedViews::views))]
 pub fn rename_after_revocation()
     ensures { spell_view (view (store_after root_store
-            (MakeFolder (codes "/a") ∷ MakeFolder (codes "/a/b") ∷ AddHolder ∷ AddHolder ∷ Grant 1 (codes "/a") ∷ Grant 2 (codes "/a/b")
-            ∷ Revoke 1 (codes "/a") ∷ Rename (codes "/a") (codes "z") ∷ [])) (TheHolder 2))
+        (MakeFolder (codes "/a") ∷ MakeFolder (codes "/a/b") ∷ AddHolder ∷ AddHolder ∷ Grant 1 (codes "/a") ∷ Grant 2 (codes "/a/b")
+        ∷ Revoke 1 (codes "/a") ∷ Rename (codes "/a") (codes "z") ∷ [])) (TheHolder 2))
         ≡ ended_lines (codes "ancestor /" ∷ codes "ancestor /z" ∷ codes "folder /z/b" ∷ []) }
-{
-}
+{}
 
 /// What was moved out of a granted folder isn't shown any more; the owner sees it where it is, a file after its folder.
 #[tactic(auto, unfolding(crate::specs::WorkedViews::views))]
@@ -61,5 +60,4 @@ pub fn move_away_from_a_grant()
     ensures holder { spell_view (view moved_away (TheHolder 1)) ≡ ended_lines (codes "ancestor /" ∷ codes "folder /s" ∷ []) }
     ensures owner { spell_view (view moved_away TheOwner)
         ≡ ended_lines (codes "folder /" ∷ codes "folder /p" ∷ codes "folder /p/d" ∷ codes "file /p/d/f 02" ∷ codes "folder /s" ∷ []) }
-{
-}
+{}

@@ -1,5 +1,5 @@
 -- No edge and no change hangs on a name, a file's bytes or a holder's key.
-use Rattle.std.proofs.Common.{◌≡◌, ℕ, Bool, true, false, cond, ◌==◌, List, [], ◌∷◌, ◌++◌, map, flat_map, Option, Some, None, refl, sym, ap, ◌∙◌}
+use Rattle.std.proofs.Common.{◌≡◌, ℕ, true, false, cond, ◌==◌, List, [], ◌∷◌, ◌++◌, map, flat_map, Some, None, refl, ap}
 use Rattle.std.specs.List.{find, filter}
 use Rattle.std.specs.Prelude.{◌||◌}
 use Rattle.cry_base.specs.Sets.{has}
@@ -9,7 +9,7 @@ use Rattle.cry_base.specs.declared.roles.Edge.{Edge}
 use Rattle.role_graph.specs.Edges.{edge_before, in_order, folder_edges, parent_edges, grant_edge, file_edge, edges}
 use Rattle.move_plan.specs.Note.{Note}
 use Rattle.move_plan.specs.Note.Note.{Root, NewHolder, NewFolder, NewFile, Rewrite, NameFile, NameFolder, DropFile, DropFolder, ShiftFile, ShiftFolder, Give, Take}
-use Rattle.move_plan.specs.Change.{Change, no_change, change_of, edges_at, edge_into_file, folder_of_file, parent_of_folder}
+use Rattle.move_plan.specs.Change.{no_change, change_of, edges_at, edge_into_file, folder_of_file, parent_of_folder}
 use Rattle.move_plan.specs.Fitting.{public_of}
 
 flat-map : (X Y : Type 0) (f : X → X) (g : X → List Y) → ((x : X) → g (f x) ≡ g x) → (xs : List X) → flat_map g (map f xs) ≡ flat_map g xs
@@ -33,16 +33,16 @@ parent_found : (f : ℕ) (xs : List FolderEntry) → elim (find (λ e. e.id == f
 parent_found f [] = refl
 parent_found f (x ∷ xs) =
     elim (x.id == f) as (λ b. elim (cond b (Some (record x { name = [] })) (find (λ e. e.id == f) (map (λ (e : FolderEntry). record e { name = [] }) xs))) as (λ o. ℕ) [ None ↦ 0 | Some e ↦ e.parent ] ≡ elim (cond b (Some x) (find (λ e. e.id == f) xs)) as (λ o. ℕ) [ None ↦ 0 | Some e ↦ e.parent ]) [
-      true ↦ refl
-    | false ↦ parent_found f xs
+      | true ↦ refl
+      | false ↦ parent_found f xs
     ]
 
 folder_found : (x : ℕ) (xs : List FileEntry) → elim (find (λ e. e.id == x) (map (λ (e : FileEntry). record e { name = []; bytes = [] }) xs)) as (λ o. ℕ) [ None ↦ 0 | Some e ↦ e.folder ] ≡ elim (find (λ e. e.id == x) xs) as (λ o. ℕ) [ None ↦ 0 | Some e ↦ e.folder ]
 folder_found x [] = refl
 folder_found x (y ∷ ys) =
     elim (y.id == x) as (λ b. elim (cond b (Some (record y { name = []; bytes = [] })) (find (λ e. e.id == x) (map (λ (e : FileEntry). record e { name = []; bytes = [] }) ys))) as (λ o. ℕ) [ None ↦ 0 | Some e ↦ e.folder ] ≡ elim (cond b (Some y) (find (λ e. e.id == x) ys)) as (λ o. ℕ) [ None ↦ 0 | Some e ↦ e.folder ]) [
-      true ↦ refl
-    | false ↦ folder_found x ys
+      | true ↦ refl
+      | false ↦ folder_found x ys
     ]
 
 parent_public : (s : Store) (f : ℕ) → parent_of_folder (public_of s) f ≡ parent_of_folder s f

@@ -1,5 +1,5 @@
 -- Which notes fit a store. This project's own, docs/FORMAT.md, "The key step".
-use Rattle.std.specs.Prelude.{ℕ, ◌+◌, Bool, true, false, not, ◌&&◌, ◌||◌, nat_lt, nat_le, ◌==◌, is_some, Some, List, [], map}
+use Rattle.std.specs.Prelude.{ℕ, ◌+◌, Bool, true, false, not, ◌&&◌, ◌||◌, nat_lt, nat_le, ◌==◌, is_some, Some, [], map}
 use Rattle.cry_base.specs.Refusing.{has_child, height_of}
 use Rattle.cry_base.specs.Store.{Store, FolderEntry, FileEntry, HolderEntry, folder_node, folder_entry, file_entry, holder_entry, has_grant, depth_of, is_within}
 use Rattle.move_plan.specs.Note.{Note}
@@ -23,7 +23,7 @@ is_other_folder s f = folder_stands s f && not (f == 1)
 -- the folder g, with all below it, may go into q
 unfoldable pub may_go_into : Store → ℕ → ℕ → Bool
 may_go_into s g q =
-       is_other_folder s g && folder_stands s q
+    is_other_folder s g && folder_stands s q
     && not (parent_of_folder s g == q) && not (is_within s q g)
     && nat_le (depth_of s (folder_node q) + 1 + height_of s (Some (folder_node g))) 64
 

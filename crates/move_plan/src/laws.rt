@@ -10,5 +10,4 @@ ghost use Rattle.move_plan.specs.Note.{Note};
 pub fn changes_are_public()
     ensures edges_seen { (s : Store) → edges (public_of s) ≡ edges s }
     ensures changes_seen { (s : Store) (note : Note) → change_of (public_of s) note ≡ change_of s note }
-{
-}
+{}

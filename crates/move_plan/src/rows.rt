@@ -34,5 +34,4 @@ pub fn notes_that_fit()
     ensures misfit { map (fits granted) (Root ∷ NewHolder 1 [] ∷ NewFolder 4 2 ∷ NewFile 2 3 ∷ Rewrite 2 ∷ NameFolder 1 ∷ DropFolder 2 ∷ ShiftFile 1 2 ∷ ShiftFolder 2 1 ∷ ShiftFolder 2 2 ∷ ShiftFolder 1 2 ∷ Give 1 2 ∷ Give 2 1 ∷ Take 1 1 ∷ [])
         ≡ false ∷ false ∷ false ∷ false ∷ false ∷ false ∷ false ∷ false ∷ false ∷ false ∷ false ∷ false ∷ false ∷ false ∷ [] }
     ensures no_root { map (fits no_store) (Root ∷ NewHolder 1 [] ∷ []) ≡ true ∷ false ∷ [] }
-{
-}
+{}

@@ -2,7 +2,7 @@
 use Rattle.std.specs.Prelude.{ℕ, ◌+◌, Bool, true, false, cond, List, [], ◌∷◌, ◌++◌, length, Option, Some, None}
 use Rattle.cry_base.specs.Requests.{Request}
 use Rattle.public_fold.specs.KeyStep.{Stepped}
-use Rattle.public_fold.specs.Journal.{Entry, Journal, nothing, stand_after, entry_step, keys_of}
+use Rattle.public_fold.specs.Journal.{Journal, nothing, stand_after, entry_step, keys_of}
 use Rattle.public_fold.specs.Journal.Entry.{Session, Did}
 
 -- what may happen to a store: a command is refused; its batch enters the journal; its batch is written and abandoned;

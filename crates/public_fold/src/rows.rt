@@ -111,14 +111,13 @@ pub fn steps_leave_the_edges_of_the_store()
 pub fn stop_in_the_first_write()
     ensures epochs { map (λ a. a.epoch) (attempts (record { journal = fresh; begun = false })
         (Enters (MakeFolder (codes "/a")) (some_keys 5) ∷ Enters AddHolder (some_keys 1) ∷ IsAbandoned (Grant 1 (codes "/a")) []
-            ∷ Reopens ∷ LosesEpoch ∷ Reopens ∷ Enters (Grant 1 (codes "/a")) [] ∷ [])) ≡ 2 ∷ 2 ∷ 2 ∷ 2 ∷ 3 ∷ 3 ∷ 3 ∷ [] }
+        ∷ Reopens ∷ LosesEpoch ∷ Reopens ∷ Enters (Grant 1 (codes "/a")) [] ∷ [])) ≡ 2 ∷ 2 ∷ 2 ∷ 2 ∷ 3 ∷ 3 ∷ 3 ∷ [] }
     ensures numbers { map (λ a. a.number) (attempts (record { journal = fresh; begun = false })
         (Enters (MakeFolder (codes "/a")) (some_keys 5) ∷ Enters AddHolder (some_keys 1) ∷ IsAbandoned (Grant 1 (codes "/a")) []
-            ∷ Reopens ∷ LosesEpoch ∷ Reopens ∷ Enters (Grant 1 (codes "/a")) [] ∷ [])) ≡ 3 ∷ 4 ∷ 5 ∷ 6 ∷ 6 ∷ 6 ∷ 7 ∷ [] }
+        ∷ Reopens ∷ LosesEpoch ∷ Reopens ∷ Enters (Grant 1 (codes "/a")) [] ∷ [])) ≡ 3 ∷ 4 ∷ 5 ∷ 6 ∷ 6 ∷ 6 ∷ 7 ∷ [] }
     ensures nonces { map (λ a. nonces_in a.holds) (attempts (record { journal = granting_stopped; begun = false }) (Enters (Grant 1 (codes "/a")) [] ∷ []))
         ≡ [] ∷ (12884901888 ∷ []) ∷ [] }
-{
-}
+{}
 
 /// The journals of these rows are valid, and each of their notes fits where it comes.
 #[tactic(auto, unfolding(crate::specs::WorkedSteps::journals))]
@@ -128,5 +127,4 @@ pub fn worked_journals_are_valid()
     ensures moved { IsValid moving_away }
     ensures dropped { IsValid dropping }
     ensures fit { map (all_fit nothing) (rewriting ∷ writing_again ∷ renaming_again ∷ moving_away ∷ dropping ∷ []) ≡ true ∷ true ∷ true ∷ true ∷ true ∷ [] }
-{
-}
+{}

@@ -1,6 +1,5 @@
 -- Which edges there are by their kinds, what the owner reaches, and what the owner is shown.
-use Rattle.std.proofs.Common.{◌≡◌, ℕ, Bool, true, false, cond, not, ◌&&◌, ◌||◌, ◌==◌, List, [], ◌∷◌, map, Some, inl, inr, ⊎_elim, refl, sym, ap, ◌∙◌, subst}
-use Rattle.std.specs.List.{find}
+use Rattle.std.proofs.Common.{◌≡◌, ℕ, Bool, true, false, not, ◌&&◌, ◌||◌, ◌==◌, map, inl, inr, ⊎_elim, refl, sym, ap, ◌∙◌, subst}
 use Rattle.std.proofs.lemmas.Bool.{eq-eqb, false≢true, and_parts, or_cases, not-true}
 use Rattle.cry_base.specs.Sets.{In}
 use Rattle.cry_base.specs.Sets.Path.{Here, On}

@@ -8,7 +8,8 @@ ghost use Rattle.cry_base.specs.declared.roles.Role.{Role};
 ghost use Rattle.role_graph.specs.Rights.Who.{TheOwner};
 ghost use Rattle.cry_base.specs.Store.{FolderEntry, FileEntry, nodes_of};
 ghost use Rattle.role_graph.specs.Edges.{Reaches, reach_along, edges, IsEdge};
-ghost use Rattle.role_graph.specs.Roles.{is_root_role, is_sealing_role, is_clear_role, folder_roles, file_role};
+ghost use Rattle.role_graph.specs.RightsByReach.{IsRightful, IsSettled, IsStandingRole};
+ghost use Rattle.role_graph.specs.Roles.{holder_role, is_root_role, is_sealing_role, is_clear_role, folder_roles, file_role};
 ghost use Rattle.cry_base.specs.declared.roles.Role.TheVariants.{Owner};
 ghost use Rattle.role_graph.specs.Rights.{IsAllowed, IsNamed, IsShown, IsOpen, Who, allowed, named, shown, node_allowed};
 
@@ -44,4 +45,11 @@ pub fn owner_reaches_all()
 /// The owner is shown everything that stands.
 pub fn owner_is_shown_all()
     ensures { (s : Store) (node : Node) → In node (nodes_of s) → IsShown s TheOwner node }
+{}
+
+/// A holder's key leads to a folder's or file's role exactly where the holder has the right that the role stands for: its
+/// clearance key where the grant is on it, its subfolder and files keys where it is allowed, its backlink and data keys
+/// where it is named, a file's key where the file is allowed.
+pub fn reach_is_the_rights()
+    ensures { (s : Store) → IsSettled s → (h : ℕ) (r : Role) → IsStandingRole s r → Reaches (edges s) (holder_role h) r ↔ IsRightful s h r }
 {}
