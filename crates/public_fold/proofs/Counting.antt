@@ -115,7 +115,7 @@ effect_counted s (Relocate path into) key c = put s (node_at s path) (id_of (nod
 effect_counted s (Grant holder path) key c = record { each_folder = c.each_folder; each_file = c.each_file; each_holder = c.each_holder }
 effect_counted s (Revoke holder path) key c = no_grant s holder (id_of (node_at s path)) c
 
-root_counted : AreCounted root_store
+pub root_counted : AreCounted root_store
 unfolding root_store no_store
 root_counted = record {
   each_folder = λ e i. ⊎_elim (λ (s : e ≡ record { id = 1; parent = 0; name = [] }). let h : e.id ≡ 1 = ap (λ (x : FolderEntry). x.id) s in omega arith) (λ n. absurd n) i;

@@ -1,8 +1,12 @@
 //! Laws of journals.
-ghost use Rattle.std.specs.Prelude.{◌≡◌, ◌≤◌, ℕ, List, [], ◌∷◌, ◌++◌, length, Some};
+ghost use Rattle.std.specs.Prelude.{◌↔◌, ℕ, ◌≡◌, ◌≤◌, List, [], ◌∷◌, ◌++◌, length, Some};
 ghost use Rattle.cry_base.specs.Requests.{Request};
 ghost use Rattle.cry_base.specs.declared.commands.Refusal.{Refusal};
 ghost use Rattle.cry_base.specs.declared.limits.Limits.{Limits};
+ghost use Rattle.cry_base.specs.declared.roles.Role.{Role};
+ghost use Rattle.role_graph.specs.Edges.{Reaches, edges};
+ghost use Rattle.role_graph.specs.RightsByReach.{IsRightful, IsSettled, IsStandingRole};
+ghost use Rattle.role_graph.specs.Roles.{holder_role};
 ghost use Rattle.public_fold.specs.Counted.{AreCounted};
 ghost use Rattle.public_fold.specs.Journal.{Journal, nothing, stand_after, steps_of, steps_from, store_of};
 ghost use Rattle.public_fold.specs.Lengths.{end_of};
@@ -32,4 +36,11 @@ pub fn refused_changes_nothing()
         answer limits g.journal g.begun r ≡ Some why → script_going limits g (r ∷ []) ≡ g }
     ensures reply { (limits : Limits) (g : Going) (r : Request) (why : Refusal) →
         answer limits g.journal g.begun r ≡ Some why → script_replies limits g (r ∷ []) ≡ Refused why ∷ [] }
+{}
+
+/// In the store of a valid journal a holder's key leads to a role exactly where the holder has the right that it stands for.
+pub fn reach_is_the_rights_in_journals()
+    ensures settled { (m : Journal) → IsValid m → IsSettled (store_of m) }
+    ensures rights { (m : Journal) → IsValid m → (h : ℕ) (r : Role) → IsStandingRole (store_of m) r →
+        Reaches (edges (store_of m)) (holder_role h) r ↔ IsRightful (store_of m) h r }
 {}
