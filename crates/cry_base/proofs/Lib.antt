@@ -1,0 +1,4 @@
+pub mod Finding
+pub mod Members
+pub mod Paths
+pub mod Reaching

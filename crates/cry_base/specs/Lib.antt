@@ -1,3 +1,12 @@
 pub mod Lending
 pub mod Limits
 pub mod Listed
+pub mod Naming
+pub mod Refusals
+pub mod Refusing
+pub mod Requests
+pub mod Sets
+pub mod Stepping
+pub mod Store
+pub mod Texts
+pub mod WorkedRows

@@ -1,12 +1,16 @@
 //! The words that every crate of cryptree speaks: ids, roles, lists with room, limits.
 #![tactic(auto)]
 
+mod commands;
 mod ids;
+pub mod laws;
 mod limits;
 mod list;
 mod memory;
 mod roles;
+pub mod rows;
 
+pub use commands::{Command, Refusal};
 pub use ids::{Epoch, FileId, FolderId, HolderId, Serial};
 pub use limits::{Limits, limits_of};
 pub use list::{List, Text};

@@ -1,0 +1,5 @@
+pub mod History
+pub mod Gains
+pub mod Secrecy
+pub mod Seen
+pub mod WorkedHistories

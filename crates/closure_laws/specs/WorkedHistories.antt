@@ -1,0 +1,12 @@
+-- Opens the words of histories, and those below them, to a computation.
+use Rattle.std.specs.Fmt.{digits}
+use Rattle.public_fold.specs.WorkedSteps.{journals}
+use Rattle.closure_laws.specs.History.{published_from, history, trails, derived, own_serial}
+use Rattle.closure_laws.specs.Gains.{gives_grant, is_gained_node, gains, gains_from}
+use Rattle.closure_laws.specs.Seen.{sight_of, sights_in, sights_from, seen, spell_sight, spell_seen}
+use Rattle.closure_laws.specs.Secrecy.{node_of_piece, shown_node, gains_later, kept_content, keeps_from, known_to, keeps_secret}
+
+-- every word of a history
+unfoldable pub histories : Unit {0}
+unfolding node_of_piece shown_node gains_later kept_content keeps_from known_to keeps_secret digits journals published_from history trails derived own_serial gives_grant is_gained_node gains gains_from sight_of sights_in sights_from seen spell_sight spell_seen
+histories = tt

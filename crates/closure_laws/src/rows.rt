@@ -1,0 +1,71 @@
+//! Worked rows of histories, each computed by the checker from the definitions.
+ghost use Rattle.std.specs.Prelude.{◌≡◌, [], ◌∷◌, ◌++◌, codes, true, false, map};
+ghost use Rattle.cry_base.specs.Requests.Request.{Relocate, Rename, MakeFolder};
+ghost use Rattle.cry_base.specs.Texts.{ended_lines};
+ghost use Rattle.role_graph.specs.Rights.Who.{TheOwner, TheHolder};
+ghost use Rattle.public_fold.specs.Journal.{nothing};
+ghost use Rattle.public_fold.specs.WorkedSteps.{fresh, renaming, rewriting, granting, revoking, writing_again, renaming_again, moving_away, does};
+ghost use Rattle.closure_laws.specs.Gains.{gains_from};
+ghost use Rattle.closure_laws.specs.Secrecy.{keeps_secret};
+ghost use Rattle.closure_laws.specs.Seen.{seen, spell_seen};
+
+/// The owner derives each name and each file as it was ever written.
+#[tactic(auto, unfolding(crate::specs::WorkedHistories::histories))]
+pub fn empty_rewrite_in_a_second_session()
+    ensures { spell_seen (seen rewriting TheOwner)
+        ≡ ended_lines (codes "folder 2 1 " ∷ codes "folder 4 2 a" ∷ codes "file 5 1 x 00ff" ∷ codes "file 6 1 y 00ff" ∷ codes "file 8 1 y " ∷ []) }
+{}
+
+/// What a holder derived before a revocation stays derived; a holder who was never made derives nothing.
+#[tactic(auto, unfolding(crate::specs::WorkedHistories::histories))]
+pub fn revoked()
+    ensures holder { spell_seen (seen revoking (TheHolder 1))
+        ≡ ended_lines (codes "folder 2 1 " ∷ codes "folder 4 2 a" ∷ codes "file 5 1 x 00ff" ∷ []) }
+    ensures stranger { seen revoking (TheHolder 2) ≡ [] }
+{}
+
+/// What is written after it isn't derived, save by who was granted it.
+#[tactic(auto, unfolding(crate::specs::WorkedHistories::histories))]
+pub fn written_after_revocation()
+    ensures revoked_holder { spell_seen (seen writing_again (TheHolder 1))
+        ≡ ended_lines (codes "folder 2 1 " ∷ codes "folder 4 2 a" ∷ codes "file 5 1 x 00ff" ∷ []) }
+    ensures new_holder { spell_seen (seen writing_again (TheHolder 2))
+        ≡ ended_lines (codes "folder 2 1 " ∷ codes "folder 4 2 a" ∷ codes "file 5 1 x 00ff" ∷ codes "file 11 1 x 01" ∷ []) }
+    ensures owner { spell_seen (seen writing_again TheOwner)
+        ≡ ended_lines (codes "folder 2 1 " ∷ codes "folder 4 2 a" ∷ codes "file 5 1 x 00ff" ∷ codes "file 11 1 x 01" ∷ []) }
+{}
+
+/// A folder's new name isn't derived by the holder whose grant on it was taken back.
+#[tactic(auto, unfolding(crate::specs::WorkedHistories::histories))]
+pub fn rename_after_revocation()
+    ensures revoked_holder { spell_seen (seen renaming_again (TheHolder 1))
+        ≡ ended_lines (codes "folder 2 1 " ∷ codes "folder 4 2 a" ∷ codes "folder 5 3 b" ∷ []) }
+    ensures other_holder { spell_seen (seen renaming_again (TheHolder 2))
+        ≡ ended_lines (codes "folder 2 1 " ∷ codes "folder 4 2 a" ∷ codes "folder 5 3 b" ∷ codes "folder 11 2 z" ∷ []) }
+{}
+
+/// A file written after its folder was moved out of a grant isn't derived by the holder.
+#[tactic(auto, unfolding(crate::specs::WorkedHistories::histories))]
+pub fn move_away_from_a_grant()
+    ensures { spell_seen (seen moving_away (TheHolder 1))
+        ≡ ended_lines (codes "folder 2 1 " ∷ codes "folder 4 2 s" ∷ codes "folder 6 4 d" ∷ codes "file 7 1 f 01" ∷ []) }
+{}
+
+/// A grant is a gain for its holder alone, and so is a move into what is granted; a new folder there is none.
+#[tactic(auto, unfolding(crate::specs::WorkedHistories::histories))]
+pub fn gains_of_a_grant()
+    ensures granted { gains_from nothing granting 1 ≡ false ∷ false ∷ false ∷ false ∷ false ∷ false ∷ true ∷ [] }
+    ensures others { gains_from nothing granting 2 ≡ false ∷ false ∷ false ∷ false ∷ false ∷ false ∷ false ∷ [] }
+    ensures moved { gains_from nothing (granting ++ (does 5 (MakeFolder (codes "/a/c")) ∷ does 5 (MakeFolder (codes "/b")) ∷ does 0 (Relocate (codes "/b") (codes "/a")) ∷ [])) 1
+        ≡ false ∷ false ∷ false ∷ false ∷ false ∷ false ∷ true ∷ false ∷ false ∷ true ∷ [] }
+{}
+
+/// On the worked journals nothing is derived that was written while it wasn't shown, unless the holder gained something
+/// later; the last one moves a folder into a grant after it was written.
+#[tactic(auto, unfolding(crate::specs::WorkedHistories::histories))]
+pub fn worked_journals_keep_secrets()
+    ensures written { map (keeps_secret writing_again) (1 ∷ 2 ∷ 3 ∷ []) ≡ true ∷ true ∷ true ∷ [] }
+    ensures renamed { map (keeps_secret renaming_again) (1 ∷ 2 ∷ []) ≡ true ∷ true ∷ [] }
+    ensures moved { map (keeps_secret moving_away) (1 ∷ []) ≡ true ∷ [] }
+    ensures gained { map (keeps_secret (granting ++ (does 5 (MakeFolder (codes "/b")) ∷ does 0 (Relocate (codes "/b") (codes "/a")) ∷ []))) (1 ∷ []) ≡ true ∷ [] }
+{}

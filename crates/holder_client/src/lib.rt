@@ -1,0 +1,5 @@
+//! What a holder's client shows.
+#![tactic(auto)]
+
+pub mod laws;
+pub mod rows;

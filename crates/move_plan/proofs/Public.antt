@@ -1,0 +1,78 @@
+-- No edge and no change hangs on a name, a file's bytes or a holder's key.
+use Rattle.std.proofs.Common.{◌≡◌, ℕ, true, false, cond, ◌==◌, List, [], ◌∷◌, ◌++◌, map, flat_map, Some, None, refl, ap}
+use Rattle.std.specs.List.{find, filter}
+use Rattle.std.specs.Prelude.{◌||◌}
+use Rattle.cry_base.specs.Sets.{has}
+use Rattle.role_graph.specs.Roles.{same_role, folder_roles, file_role, files_of, sub_of, back_of}
+use Rattle.cry_base.specs.Store.{Store, FolderEntry, FileEntry, GrantEntry, folder_entry, file_entry}
+use Rattle.cry_base.specs.declared.roles.Edge.{Edge}
+use Rattle.role_graph.specs.Edges.{edge_before, in_order, folder_edges, parent_edges, grant_edge, file_edge, edges}
+use Rattle.move_plan.specs.Note.{Note}
+use Rattle.move_plan.specs.Note.Note.{Root, NewHolder, NewFolder, NewFile, Rewrite, NameFile, NameFolder, DropFile, DropFolder, ShiftFile, ShiftFolder, Give, Take}
+use Rattle.move_plan.specs.Change.{no_change, change_of, edges_at, edge_into_file, folder_of_file, parent_of_folder}
+use Rattle.move_plan.specs.Fitting.{public_of}
+
+flat-map : (X Y : Type 0) (f : X → X) (g : X → List Y) → ((x : X) → g (f x) ≡ g x) → (xs : List X) → flat_map g (map f xs) ≡ flat_map g xs
+flat-map X Y f g same [] = refl
+flat-map X Y f g same (x ∷ xs) = λ i. same x i ++ flat-map X Y f g same xs i
+
+map-map : (X Y : Type 0) (f : X → X) (g : X → Y) → ((x : X) → g (f x) ≡ g x) → (xs : List X) → map g (map f xs) ≡ map g xs
+map-map X Y f g same [] = refl
+map-map X Y f g same (x ∷ xs) = λ i. same x i ∷ map-map X Y f g same xs i
+
+pub edges_public : (s : Store) → edges (public_of s) ≡ edges s
+unfolding edges public_of
+edges_public s =
+    let own = flat-map FolderEntry Edge (λ e. record e { name = [] }) (λ e. folder_edges e.id) (λ e. refl) s.folders in
+    let parents = flat-map FolderEntry Edge (λ e. record e { name = [] }) (λ e. cond (e.parent == 0) [] (parent_edges e.id e.parent)) (λ e. refl) s.folders in
+    let files = map-map FileEntry Edge (λ e. record e { name = []; bytes = [] }) (λ e. file_edge e.folder e.id) (λ e. refl) s.files in
+    λ i. in_order edge_before (((own i ++ parents i) ++ map (λ (g : GrantEntry). grant_edge g.holder g.folder) s.grants) ++ files i)
+
+-- a folder's parent and a file's folder
+parent_found : (f : ℕ) (xs : List FolderEntry) → elim (find (λ e. e.id == f) (map (λ (e : FolderEntry). record e { name = [] }) xs)) as (λ o. ℕ) [ None ↦ 0 | Some e ↦ e.parent ] ≡ elim (find (λ e. e.id == f) xs) as (λ o. ℕ) [ None ↦ 0 | Some e ↦ e.parent ]
+parent_found f [] = refl
+parent_found f (x ∷ xs) =
+    elim (x.id == f) as (λ b. elim (cond b (Some (record x { name = [] })) (find (λ e. e.id == f) (map (λ (e : FolderEntry). record e { name = [] }) xs))) as (λ o. ℕ) [ None ↦ 0 | Some e ↦ e.parent ] ≡ elim (cond b (Some x) (find (λ e. e.id == f) xs)) as (λ o. ℕ) [ None ↦ 0 | Some e ↦ e.parent ]) [
+      | true ↦ refl
+      | false ↦ parent_found f xs
+    ]
+
+folder_found : (x : ℕ) (xs : List FileEntry) → elim (find (λ e. e.id == x) (map (λ (e : FileEntry). record e { name = []; bytes = [] }) xs)) as (λ o. ℕ) [ None ↦ 0 | Some e ↦ e.folder ] ≡ elim (find (λ e. e.id == x) xs) as (λ o. ℕ) [ None ↦ 0 | Some e ↦ e.folder ]
+folder_found x [] = refl
+folder_found x (y ∷ ys) =
+    elim (y.id == x) as (λ b. elim (cond b (Some (record y { name = []; bytes = [] })) (find (λ e. e.id == x) (map (λ (e : FileEntry). record e { name = []; bytes = [] }) ys))) as (λ o. ℕ) [ None ↦ 0 | Some e ↦ e.folder ] ≡ elim (cond b (Some y) (find (λ e. e.id == x) ys)) as (λ o. ℕ) [ None ↦ 0 | Some e ↦ e.folder ]) [
+      | true ↦ refl
+      | false ↦ folder_found x ys
+    ]
+
+parent_public : (s : Store) (f : ℕ) → parent_of_folder (public_of s) f ≡ parent_of_folder s f
+unfolding parent_of_folder folder_entry public_of
+parent_public s f = parent_found f s.folders
+
+folder_public : (s : Store) (x : ℕ) → folder_of_file (public_of s) x ≡ folder_of_file s x
+unfolding folder_of_file file_entry public_of
+folder_public s x = folder_found x s.files
+
+into_public : (s : Store) (x : ℕ) → edge_into_file (public_of s) x ≡ edge_into_file s x
+unfolding edge_into_file
+into_public s x = ap (λ f. file_edge f x) (folder_public s x)
+
+at_public : (s : Store) (f : ℕ) → edges_at (public_of s) f ≡ edges_at s f
+unfolding edges_at
+at_public s f = ap (λ (es : List Edge). filter (λ e. has same_role (folder_roles f) e.from || has same_role (folder_roles f) e.to) es) (edges_public s)
+
+pub change_public : (s : Store) (note : Note) → change_of (public_of s) note ≡ change_of s note
+unfolding change_of no_change
+change_public s Root = refl
+change_public s (NewHolder h check) = refl
+change_public s (NewFolder f p) = refl
+change_public s (NewFile x f) = refl
+change_public s (Rewrite x) = refl
+change_public s (NameFile x) = refl
+change_public s (NameFolder f) = refl
+change_public s (DropFile x) = ap (λ e. record { removed = e ∷ []; gone = file_role x ∷ []; wanted = []; fresh = []; added = [] }) (into_public s x)
+change_public s (DropFolder f) = ap (λ es. record { removed = es; gone = folder_roles f; wanted = []; fresh = []; added = [] }) (at_public s f)
+change_public s (ShiftFile x g) = ap (λ e. record { removed = e ∷ []; gone = []; wanted = files_of g ∷ []; fresh = []; added = file_edge g x ∷ [] }) (into_public s x)
+change_public s (ShiftFolder g q) = ap (λ p. record { removed = parent_edges g p; gone = []; wanted = sub_of q ∷ back_of g ∷ []; fresh = []; added = parent_edges g q }) (parent_public s g)
+change_public s (Give h f) = refl
+change_public s (Take h f) = refl

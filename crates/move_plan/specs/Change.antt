@@ -1,0 +1,53 @@
+-- What a note changes among the keys. This project's own, docs/FORMAT.md, "The key step".
+use Rattle.std.specs.Prelude.{ℕ, ◌||◌, List, [], ◌∷◌, ◌++◌, filter, Some, None}
+use Rattle.cry_base.specs.Sets.{has}
+use Rattle.cry_base.specs.Store.{Store, file_entry, folder_entry}
+use Rattle.cry_base.specs.declared.roles.Edge.{Edge}
+use Rattle.cry_base.specs.declared.roles.Role.{Role}
+use Rattle.role_graph.specs.Roles.{same_role, holder_role, clear_of, sub_of, back_of, files_of, data_of, file_role, folder_roles}
+use Rattle.role_graph.specs.Edges.{edges, folder_edges, parent_edges, grant_edge, file_edge, in_order, edge_before}
+use Rattle.move_plan.specs.Note.{Note}
+use Rattle.move_plan.specs.Note.Note.{Root, NewHolder, NewFolder, NewFile, Rewrite, NameFile, NameFolder, DropFile, DropFolder, ShiftFile, ShiftFolder, Give, Take}
+
+-- the edges and roles that go, the roles that must be clean for what is added or written, and the roles and edges that come
+pub record Change : Type 0 where
+  pub removed : List Edge
+  pub gone : List Role
+  pub wanted : List Role
+  pub fresh : List Role
+  pub added : List Edge
+
+-- nothing
+unfoldable pub no_change : Change
+no_change = record { removed = []; gone = []; wanted = []; fresh = []; added = [] }
+
+-- the folder that a file is in, and the parent of a folder
+unfoldable pub folder_of_file : Store → ℕ → ℕ
+folder_of_file s x = elim (file_entry s x) [ None ↦ 0 | Some e ↦ e.folder ]
+
+unfoldable pub parent_of_folder : Store → ℕ → ℕ
+parent_of_folder s f = elim (folder_entry s f) [ None ↦ 0 | Some e ↦ e.parent ]
+
+-- the edges with a role of the folder at an end
+unfoldable pub edges_at : Store → ℕ → List Edge
+edges_at s f = filter (λ e. has same_role (folder_roles f) e.from || has same_role (folder_roles f) e.to) (edges s)
+
+-- the edge into a file's key as it stands
+unfoldable pub edge_into_file : Store → ℕ → Edge
+edge_into_file s x = file_edge (folder_of_file s x) x
+
+-- the change of each note, as the table in docs/FORMAT.md says
+unfoldable pub change_of : Store → Note → Change
+change_of s Root = record no_change { fresh = folder_roles 1; added = folder_edges 1 }
+change_of s (NewHolder h check) = record no_change { fresh = holder_role h ∷ [] }
+change_of s (NewFolder f p) = record no_change { wanted = sub_of p ∷ []; fresh = folder_roles f; added = in_order edge_before (folder_edges f ++ parent_edges f p) }
+change_of s (NewFile x f) = record no_change { wanted = files_of f ∷ []; fresh = file_role x ∷ []; added = file_edge f x ∷ [] }
+change_of s (Rewrite x) = record no_change { wanted = file_role x ∷ [] }
+change_of s (NameFile x) = record no_change { wanted = file_role x ∷ [] }
+change_of s (NameFolder f) = record no_change { wanted = data_of f ∷ [] }
+change_of s (DropFile x) = record no_change { removed = edge_into_file s x ∷ []; gone = file_role x ∷ [] }
+change_of s (DropFolder f) = record no_change { removed = edges_at s f; gone = folder_roles f }
+change_of s (ShiftFile x g) = record no_change { removed = edge_into_file s x ∷ []; wanted = files_of g ∷ []; added = file_edge g x ∷ [] }
+change_of s (ShiftFolder g q) = record no_change { removed = parent_edges g (parent_of_folder s g); wanted = sub_of q ∷ back_of g ∷ []; added = parent_edges g q }
+change_of s (Give h f) = record no_change { added = grant_edge h f ∷ [] }
+change_of s (Take h f) = record no_change { removed = grant_edge h f ∷ []; wanted = clear_of f ∷ [] }

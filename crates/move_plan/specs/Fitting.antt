@@ -1,0 +1,60 @@
+-- Which notes fit a store. This project's own, docs/FORMAT.md, "The key step".
+use Rattle.std.specs.Prelude.{ℕ, ◌+◌, Bool, true, false, not, ◌&&◌, ◌||◌, nat_lt, nat_le, ◌==◌, is_some, Some, [], map}
+use Rattle.cry_base.specs.Refusing.{has_child, height_of}
+use Rattle.cry_base.specs.Store.{Store, FolderEntry, FileEntry, HolderEntry, folder_node, folder_entry, file_entry, holder_entry, has_grant, depth_of, is_within}
+use Rattle.move_plan.specs.Note.{Note}
+use Rattle.move_plan.specs.Note.Note.{Root, NewHolder, NewFolder, NewFile, Rewrite, NameFile, NameFolder, DropFile, DropFolder, ShiftFile, ShiftFolder, Give, Take}
+use Rattle.move_plan.specs.Change.{folder_of_file, parent_of_folder}
+
+-- the folder stands, and something may be put into it; the file stands
+unfoldable pub folder_stands : Store → ℕ → Bool
+folder_stands s f = is_some (folder_entry s f)
+
+unfoldable pub has_depth_left : Store → ℕ → Bool
+has_depth_left s f = folder_stands s f && nat_lt (depth_of s (folder_node f)) 64
+
+unfoldable pub file_stands : Store → ℕ → Bool
+file_stands s x = is_some (file_entry s x)
+
+-- the root is folder 1
+unfoldable pub is_other_folder : Store → ℕ → Bool
+is_other_folder s f = folder_stands s f && not (f == 1)
+
+-- the folder g, with all below it, may go into q
+unfoldable pub may_go_into : Store → ℕ → ℕ → Bool
+may_go_into s g q =
+    is_other_folder s g && folder_stands s q
+    && not (parent_of_folder s g == q) && not (is_within s q g)
+    && nat_le (depth_of s (folder_node q) + 1 + height_of s (Some (folder_node g))) 64
+
+-- the condition of each note, as the table in docs/FORMAT.md says, where the root stands
+unfoldable pub row_fits : Store → Note → Bool
+row_fits s Root = s.folders_made == 0
+row_fits s (NewHolder h check) = h == s.holders_made + 1
+row_fits s (NewFolder f p) = f == s.folders_made + 1 && has_depth_left s p
+row_fits s (NewFile x f) = x == s.files_made + 1 && has_depth_left s f
+row_fits s (Rewrite x) = file_stands s x
+row_fits s (NameFile x) = file_stands s x
+row_fits s (NameFolder f) = is_other_folder s f
+row_fits s (DropFile x) = file_stands s x
+row_fits s (DropFolder f) = is_other_folder s f && not (has_child s f)
+row_fits s (ShiftFile x g) = file_stands s x && has_depth_left s g && not (folder_of_file s x == g)
+row_fits s (ShiftFolder g q) = may_go_into s g q
+row_fits s (Give h f) = is_some (holder_entry s h) && folder_stands s f && not (has_grant s h f)
+row_fits s (Take h f) = has_grant s h f
+
+-- the note fits the store: every note but Root needs that the root stands
+unfoldable pub needs_root : Note → Bool
+needs_root Root = false
+needs_root note = true
+
+unfoldable pub fits : Store → Note → Bool
+fits s note = row_fits s note && (not (needs_root note) || folder_stands s 1)
+
+-- the store as everyone may see it: no name, no bytes of a file, no holder's key
+unfoldable pub public_of : Store → Store
+public_of s = record s {
+  folders = map (λ (e : FolderEntry). record e { name = [] }) s.folders;
+  files = map (λ (e : FileEntry). record e { name = []; bytes = [] }) s.files;
+  holders = map (λ (e : HolderEntry). record e { key = [] }) s.holders;
+}

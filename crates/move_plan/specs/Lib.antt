@@ -1,0 +1,5 @@
+pub mod Note
+pub mod Noting
+pub mod Change
+pub mod Fitting
+pub mod WorkedChanges

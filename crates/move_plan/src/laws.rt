@@ -1,0 +1,13 @@
+//! Laws of notes and changes.
+ghost use Rattle.std.specs.Prelude.{◌≡◌};
+ghost use Rattle.cry_base.specs.Store.{Store};
+ghost use Rattle.role_graph.specs.Edges.{edges};
+ghost use Rattle.move_plan.specs.Change.{change_of};
+ghost use Rattle.move_plan.specs.Fitting.{public_of};
+ghost use Rattle.move_plan.specs.Note.{Note};
+
+/// The edges, and what a note changes, follow from what everyone may see.
+pub fn changes_are_public()
+    ensures edges_seen { (s : Store) → edges (public_of s) ≡ edges s }
+    ensures changes_seen { (s : Store) (note : Note) → change_of (public_of s) note ≡ change_of s note }
+{}

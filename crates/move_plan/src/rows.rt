@@ -1,0 +1,37 @@
+//! Worked rows of notes and changes, each computed by the checker from the definitions.
+ghost use Rattle.std.specs.Prelude.{◌≡◌, [], ◌∷◌, codes, map, true, false};
+ghost use Rattle.cry_base.specs.Requests.Request.{AddHolder, MakeFolder, WriteFile, Remove, Rename, Relocate, Grant, Revoke};
+ghost use Rattle.cry_base.specs.Store.{no_store};
+ghost use Rattle.cry_base.specs.WorkedRows.{granted};
+ghost use Rattle.move_plan.specs.Fitting.{fits};
+ghost use Rattle.role_graph.specs.Edges.{edge};
+ghost use Rattle.role_graph.specs.Roles.{sub_of, back_of, clear_of};
+ghost use Rattle.move_plan.specs.Change.{change_of};
+ghost use Rattle.move_plan.specs.Note.Note.{Root, NewHolder, NewFolder, NewFile, Rewrite, NameFile, NameFolder, DropFile, DropFolder, ShiftFile, ShiftFolder, Give, Take};
+ghost use Rattle.move_plan.specs.Noting.{note_of};
+
+/// The notes of commands on a store with the folder /a and the file /a/x.
+#[tactic(auto, unfolding(crate::specs::WorkedChanges::changes))]
+pub fn notes_of_commands()
+    ensures holder { note_of granted AddHolder (7 ∷ []) ≡ NewHolder 2 (7 ∷ []) }
+    ensures folder { note_of granted (MakeFolder (codes "/a/b")) [] ≡ NewFolder 3 2 }
+    ensures file { note_of granted (WriteFile (codes "/y") []) [] ≡ NewFile 2 1 }
+    ensures rewrite { note_of granted (WriteFile (codes "/a/x") []) [] ≡ Rewrite 1 }
+    ensures name_file { note_of granted (Rename (codes "/a/x") (codes "y")) [] ≡ NameFile 1 }
+    ensures name_folder { note_of granted (Rename (codes "/a") (codes "y")) [] ≡ NameFolder 2 }
+    ensures drop_file { note_of granted (Remove (codes "/a/x")) [] ≡ DropFile 1 }
+    ensures shift_file { note_of granted (Relocate (codes "/a/x") (codes "/")) [] ≡ ShiftFile 1 1 }
+    ensures give { note_of granted (Grant 1 (codes "/")) [] ≡ Give 1 1 }
+    ensures take { note_of granted (Revoke 1 (codes "/a")) [] ≡ Take 1 2 }
+{}
+
+/// What fits a store with the folder /a, the file /a/x, a holder and a grant on /a: the next numbers, what stands, and
+/// no move of a folder into itself or to where it is.
+#[tactic(auto, unfolding(crate::specs::WorkedChanges::changes))]
+pub fn notes_that_fit()
+    ensures fit { map (fits granted) (NewHolder 2 [] ∷ NewFolder 3 2 ∷ NewFile 2 2 ∷ Rewrite 1 ∷ NameFolder 2 ∷ DropFile 1 ∷ ShiftFile 1 1 ∷ Give 1 1 ∷ Take 1 2 ∷ [])
+        ≡ true ∷ true ∷ true ∷ true ∷ true ∷ true ∷ true ∷ true ∷ true ∷ [] }
+    ensures misfit { map (fits granted) (Root ∷ NewHolder 1 [] ∷ NewFolder 4 2 ∷ NewFile 2 3 ∷ Rewrite 2 ∷ NameFolder 1 ∷ DropFolder 2 ∷ ShiftFile 1 2 ∷ ShiftFolder 2 1 ∷ ShiftFolder 2 2 ∷ ShiftFolder 1 2 ∷ Give 1 2 ∷ Give 2 1 ∷ Take 1 1 ∷ [])
+        ≡ false ∷ false ∷ false ∷ false ∷ false ∷ false ∷ false ∷ false ∷ false ∷ false ∷ false ∷ false ∷ false ∷ false ∷ [] }
+    ensures no_root { map (fits no_store) (Root ∷ NewHolder 1 [] ∷ []) ≡ true ∷ false ∷ [] }
+{}

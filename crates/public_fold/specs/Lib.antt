@@ -1,0 +1,10 @@
+pub mod Records
+pub mod KeyStep
+pub mod Journal
+pub mod Lengths
+pub mod Valid
+pub mod Attempts
+pub mod Counted
+pub mod StandFits
+pub mod Script
+pub mod WorkedSteps

@@ -1,0 +1,31 @@
+-- Which journals there are. This project's own, docs/FORMAT.md.
+use Rattle.std.specs.Prelude.{◌≡◌, ◌≤◌, List, [], ◌∷◌, length, None}
+use Rattle.cry_base.specs.Refusing.{refusal_of}
+use Rattle.public_fold.specs.Journal.{Entry, Journal, Stand, nothing, entry_step, stand_then}
+use Rattle.public_fold.specs.Journal.Entry.{Session, Made, Did}
+use Rattle.public_fold.specs.Lengths.{end_of}
+
+-- the entry may come next: a command is accepted, and drew a key for each that its step gives
+abbrev pub IsNext : Stand → Entry → Type 0
+IsNext at Session = Unit {0}
+IsNext at (Made keys) = ⊥
+IsNext at (Did request keys) = (refusal_of at.store request 1048576 ≡ None) × (length keys ≡ length (entry_step at (Did request keys)).given)
+
+-- so may each of the entries, one after another
+abbrev pub FollowOn : Stand → List Entry → Type 0
+FollowOn at [] = Unit {0}
+FollowOn at (entry ∷ entries) = IsNext at entry × FollowOn (stand_then at entry) entries
+
+-- the first two entries make the store, under five keys
+abbrev pub BeginsWell : Journal → Type 0
+BeginsWell [] = ⊥
+BeginsWell (Session ∷ []) = ⊥
+BeginsWell (Session ∷ Session ∷ entries) = ⊥
+BeginsWell (Session ∷ Made keys ∷ entries) = (length keys ≡ 5) × FollowOn (stand_then (stand_then nothing Session) (Made keys)) entries
+BeginsWell (Session ∷ Did request keys ∷ entries) = ⊥
+BeginsWell (Made keys ∷ entries) = ⊥
+BeginsWell (Did request keys ∷ entries) = ⊥
+
+-- a journal of the one version there is: its log ends within the store limit
+abbrev pub IsValid : Journal → Type 0
+IsValid m = BeginsWell m × (end_of m ≤ 268435456)

@@ -1,0 +1,120 @@
+-- Worked rows of journals, and the words that open them to a computation.
+use Rattle.std.specs.Prelude.{Option, ℕ, zero, suc, ◌-◌, Bool, List, [], ◌∷◌, ◌++◌, map, length, codes, replicate, slice_get, Some, None}
+use Rattle.std.specs.Fmt.{digits}
+use Rattle.public_fold.specs.Script.{draws_of, due_payload, due_end, answer_with, answer, spell_reply, done_reply, keys_from, accepted_going, line_going, line_reply, script_replies, script_going, opened, script}
+use Rattle.cry_base.specs.Requests.{Request}
+use Rattle.cry_base.specs.Requests.Request.{AddHolder, MakeFolder, WriteFile, Grant, Revoke, Remove, Rename, Relocate}
+use Rattle.cry_base.specs.declared.limits.Limits.{Limits}
+use Rattle.cry_base.specs.declared.roles.Role.{Role}
+use Rattle.std.specs.Cmp.Lexicographic.{pointwise}
+use Rattle.role_graph.specs.Edges.{edges, same_edge}
+use Rattle.move_plan.specs.Note.Note.{Root}
+use Rattle.move_plan.specs.Noting.{note_of}
+use Rattle.move_plan.specs.Change.{Change, no_change, change_of}
+use Rattle.rekey_walk.specs.WorkedMarks.{marks}
+use Rattle.move_plan.specs.WorkedChanges.{changes}
+use Rattle.public_fold.specs.Records.{folder_piece, file_piece, holder_piece, pieces_of, sealing_role, text_of}
+use Rattle.public_fold.specs.KeyStep.{Stepped, no_keys, next_epoch, without, keys_without, edges_left, dirty_left, renewed, next_serial, numbered, given, keys_then, newest, present, edges_then, is_published, published_edges, link_of, links_from, content_of, contents_from, published, step_with, key_step}
+use Rattle.public_fold.specs.Journal.{Entry, Journal, Stand, nothing, first_key, note_step, entry_step, entry_store, stand_then, stand_after, store_of, keys_of, steps_from, steps_of}
+use Rattle.public_fold.specs.Journal.Entry.{Session, Made, Did}
+use Rattle.public_fold.specs.Lengths.{note_len, content_len, payload_len, entry_payload, payloads_from, end_of}
+use Rattle.public_fold.specs.Attempts.{begun_journal, epoch_attempt, command_attempt, attempts_at, course_then, attempts}
+use Rattle.public_fold.specs.StandFits.{has_count, note_fits, entry_fits, all_fit}
+
+-- n keys of 32 bytes. What a row says hangs on their number and length alone
+unfoldable pub some_keys : ℕ → List (List ℕ)
+some_keys n = replicate n (replicate 32 1)
+
+-- a command that draws n keys
+unfoldable pub does : ℕ → Request → Entry
+does n r = Did r (some_keys n)
+
+-- a fresh store
+unfoldable pub fresh : Journal
+fresh = Session ∷ Made (some_keys 5) ∷ []
+
+-- the rows "tree and rename" and "empty rewrite in a second session"
+unfoldable pub renaming : Journal
+renaming = fresh ++ (Session ∷ does 5 (MakeFolder (codes "/a")) ∷ does 1 (WriteFile (codes "/a/x") (0 ∷ 255 ∷ [])) ∷ does 0 (Rename (codes "/a/x") (codes "y")) ∷ [])
+
+unfoldable pub rewriting : Journal
+rewriting = renaming ++ (Session ∷ does 0 (WriteFile (codes "/a/y") []) ∷ [])
+
+-- the rows "grant", "revoked" and "written after revocation"
+unfoldable pub granting : Journal
+granting = fresh ++ (Session ∷ does 5 (MakeFolder (codes "/a")) ∷ does 1 (WriteFile (codes "/a/x") (0 ∷ 255 ∷ [])) ∷ does 1 AddHolder ∷ does 0 (Grant 1 (codes "/a")) ∷ [])
+
+-- "grant" without its last batch
+unfoldable pub granting_stopped : Journal
+granting_stopped = fresh ++ (Session ∷ does 5 (MakeFolder (codes "/a")) ∷ does 1 (WriteFile (codes "/a/x") (0 ∷ 255 ∷ [])) ∷ does 1 AddHolder ∷ [])
+
+unfoldable pub revoking : Journal
+revoking = granting ++ (Session ∷ does 1 (Revoke 1 (codes "/a")) ∷ [])
+
+unfoldable pub writing_again : Journal
+writing_again = revoking ++ (Session ∷ does 3 (WriteFile (codes "/a/x") (1 ∷ [])) ∷ does 1 AddHolder ∷ does 0 (Grant 2 (codes "/")) ∷ [])
+
+-- the row "rename after revocation"
+unfoldable pub renaming_again : Journal
+renaming_again = fresh ++ (Session ∷ does 5 (MakeFolder (codes "/a")) ∷ does 5 (MakeFolder (codes "/a/b")) ∷ does 1 AddHolder ∷ does 1 AddHolder
+    ∷ does 0 (Grant 1 (codes "/a")) ∷ does 0 (Grant 2 (codes "/a/b")) ∷ does 1 (Revoke 1 (codes "/a")) ∷ does 5 (Rename (codes "/a") (codes "z")) ∷ [])
+
+-- the row "move away from a grant"
+unfoldable pub moving_away : Journal
+moving_away = fresh ++ (Session ∷ does 5 (MakeFolder (codes "/s")) ∷ does 5 (MakeFolder (codes "/p")) ∷ does 5 (MakeFolder (codes "/s/d")) ∷ does 1 (WriteFile (codes "/s/d/f") (1 ∷ []))
+    ∷ does 1 AddHolder ∷ does 0 (Grant 1 (codes "/s")) ∷ does 2 (Relocate (codes "/s/d") (codes "/p")) ∷ does 2 (WriteFile (codes "/p/d/f") (2 ∷ [])) ∷ [])
+
+-- after "grant", the file moved to the root and back, a folder granted and dropped with its grant, the file dropped
+unfoldable pub dropping : Journal
+dropping = granting ++ (Session ∷ does 0 (Relocate (codes "/a/x") (codes "/")) ∷ does 5 (MakeFolder (codes "/a/b")) ∷ does 0 (Grant 1 (codes "/a/b")) ∷ does 0 (Remove (codes "/a/b")) ∷ does 0 (Remove (codes "/x")) ∷ [])
+
+-- the step of batch n, from 1
+unfoldable pub step_at : Journal → ℕ → List Stepped
+step_at m zero = []
+step_at m (suc n) = elim (slice_get (steps_of m) n) [ None ↦ [] | Some s ↦ s ∷ [] ]
+
+-- the nonces of a step's links
+unfoldable pub nonces_in : Option Stepped → List ℕ
+nonces_in None = []
+nonces_in (Some s) = map (λ l. l.nonce) s.links
+
+-- what a batch renews, how many links and contents it has
+unfoldable pub renewals_at : Journal → ℕ → List (List Role)
+renewals_at m n = map (λ s. s.renewals) (step_at m n)
+
+unfoldable pub links_at : Journal → ℕ → List ℕ
+links_at m n = map (λ s. length s.links) (step_at m n)
+
+unfoldable pub contents_at : Journal → ℕ → List ℕ
+contents_at m n = map (λ s. length s.contents) (step_at m n)
+
+-- n bytes from b down, each one less than the one before
+unfoldable pub down_from : ℕ → ℕ → List ℕ
+down_from b zero = []
+down_from b (suc n) = b ∷ down_from (b - 1) n
+
+-- the limits of the one version, and limits with another end of the store
+unfoldable pub limited : ℕ → Limits
+limited store_bytes = record { store_bytes = store_bytes; file_bytes = 1048576 }
+
+unfoldable pub limits_now : Limits
+limits_now = limited 268435456
+
+-- the change of an entry, and whether the edges that it leaves are those of the store after it
+unfoldable pub entry_change : Stand → Entry → Change
+entry_change at Session = no_change
+entry_change at (Made keys) = change_of at.store Root
+entry_change at (Did request keys) = change_of at.store (note_of at.store request [])
+
+unfoldable pub edges_agree_at : Stand → Entry → Bool
+edges_agree_at at entry = pointwise same_edge (edges_then (edges at.store) (entry_change at entry)) (edges (entry_store at.store entry))
+
+-- whether the edges that each key step leaves are those of the store after it
+unfoldable pub edges_agree : Stand → List Entry → List Bool
+edges_agree at [] = []
+edges_agree at (entry ∷ entries) = edges_agree_at at entry ∷ edges_agree (stand_then at entry) entries
+
+-- every word of a journal
+unfoldable pub journals : Unit {0}
+unfolding begun_journal epoch_attempt command_attempt attempts_at course_then attempts has_count note_fits entry_fits all_fit digits draws_of due_payload due_end answer_with answer spell_reply done_reply keys_from accepted_going line_going line_reply script_replies script_going opened script down_from limited limits_now entry_change edges_agree_at edges_agree marks changes folder_piece file_piece holder_piece pieces_of sealing_role text_of no_keys next_epoch without keys_without edges_left dirty_left renewed next_serial numbered given keys_then newest present edges_then is_published published_edges link_of links_from content_of contents_from published step_with key_step nothing first_key note_step entry_step entry_store stand_then stand_after store_of keys_of steps_from steps_of note_len content_len payload_len entry_payload payloads_from end_of some_keys does fresh renaming rewriting granting granting_stopped revoking writing_again renaming_again moving_away dropping step_at nonces_in renewals_at links_at contents_at
+journals = tt

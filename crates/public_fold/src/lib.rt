@@ -1,0 +1,5 @@
+//! What stands in public after each payload, and what the next one has to hold.
+#![tactic(auto)]
+
+pub mod laws;
+pub mod rows;

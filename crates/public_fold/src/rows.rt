@@ -1,0 +1,130 @@
+//! Worked rows of journals, each computed by the checker from the definitions.
+ghost use Rattle.std.specs.Prelude.{◌≡◌, ◌*◌, ◌^◌, ◌+◌, [], ◌∷◌, map, codes, length, true, false, Some, None, replicate};
+ghost use Rattle.role_graph.specs.Edges.{grant_edge};
+ghost use Rattle.role_graph.specs.Roles.{clear_of, sub_of, back_of, files_of, data_of, file_role};
+ghost use Rattle.public_fold.specs.Journal.{nothing};
+ghost use Rattle.public_fold.specs.Lengths.{end_of, payloads_from};
+ghost use Rattle.cry_base.specs.Requests.Request.{AddHolder, MakeFolder, WriteFile, Grant};
+ghost use Rattle.cry_base.specs.declared.commands.Refusal.TheVariants.{Full};
+ghost use Rattle.public_fold.specs.Script.{script, spell_reply, answer};
+ghost use Rattle.public_fold.specs.Attempts.{attempts};
+ghost use Rattle.public_fold.specs.Attempts.Event.{Enters, IsAbandoned, LosesEpoch, Reopens};
+ghost use Rattle.public_fold.specs.StandFits.{all_fit};
+ghost use Rattle.public_fold.specs.Valid.{IsValid};
+ghost use Rattle.public_fold.specs.WorkedSteps.{granting_stopped, nonces_in, some_keys, down_from, limited, limits_now, edges_agree, fresh, renaming, rewriting, granting, revoking, writing_again, renaming_again, moving_away, dropping, step_at, renewals_at, links_at, contents_at};
+
+/// A fresh store has 819 bytes. Its keys, links and content are numbered in one row.
+#[tactic(auto, unfolding(crate::specs::WorkedSteps::journals))]
+pub fn fresh_store()
+    ensures length { end_of fresh ≡ 819 }
+    ensures keys { map (λ s. map (λ key. key.1) s.given) (step_at fresh 2)
+        ≡ (4294967296 ∷ 4294967297 ∷ 4294967298 ∷ 4294967299 ∷ 4294967300 ∷ []) ∷ [] }
+    ensures links { map (λ s. map (λ l. l.nonce) s.links) (step_at fresh 2)
+        ≡ (4294967301 ∷ 4294967302 ∷ 4294967303 ∷ 4294967304 ∷ 4294967305 ∷ []) ∷ [] }
+    ensures contents { map (λ s. map (λ c. c.nonce) s.contents) (step_at fresh 2) ≡ (4294967306 ∷ []) ∷ [] }
+{}
+
+/// A folder, a file, and the file's new name: the store's length.
+#[tactic(auto, unfolding(crate::specs::WorkedSteps::journals))]
+pub fn tree_and_rename()
+    ensures { end_of renaming ≡ 2273 }
+{}
+
+/// A file written empty in a second session, which draws no key.
+#[tactic(auto, unfolding(crate::specs::WorkedSteps::journals))]
+pub fn empty_rewrite_in_a_second_session()
+    ensures length { end_of rewriting ≡ 2566 }
+    ensures renewed { renewals_at rewriting 8 ≡ [] ∷ [] }
+{}
+
+/// A folder, a file, a holder and a grant: the store's length, and the link that the grant publishes.
+#[tactic(auto, unfolding(crate::specs::WorkedSteps::journals))]
+pub fn grant()
+    ensures length { end_of granting ≡ 2558 }
+    ensures links { map (λ s. s.links) (step_at granting 7)
+        ≡ (record { edge = grant_edge 1 2; from_serial = 0x200000010; to_serial = 0x200000000; nonce = 0x200000012 } ∷ []) ∷ [] }
+{}
+
+/// Taking a grant back publishes two links.
+#[tactic(auto, unfolding(crate::specs::WorkedSteps::journals))]
+pub fn revoked()
+    ensures length { end_of revoking ≡ 2991 }
+    ensures renewed { renewals_at revoking 9 ≡ (clear_of 2 ∷ []) ∷ [] }
+    ensures links { links_at revoking 9 ≡ 2 ∷ [] }
+{}
+
+/// The first write after it renews what leads to the file.
+#[tactic(auto, unfolding(crate::specs::WorkedSteps::journals))]
+pub fn written_after_revocation()
+    ensures length { end_of writing_again ≡ 4245 }
+    ensures renewed { renewals_at writing_again 11 ≡ (sub_of 2 ∷ files_of 2 ∷ file_role 1 ∷ []) ∷ [] }
+    ensures links { links_at writing_again 11 ≡ 5 ∷ [] }
+    ensures contents { contents_at writing_again 11 ≡ 1 ∷ [] }
+{}
+
+/// A folder's new name after a revocation is sealed under keys that only those who may read it reach.
+#[tactic(auto, unfolding(crate::specs::WorkedSteps::journals))]
+pub fn rename_after_revocation()
+    ensures length { end_of renaming_again ≡ 5294 }
+    ensures renewed { renewals_at renaming_again 11 ≡ (sub_of 2 ∷ sub_of 3 ∷ back_of 2 ∷ back_of 3 ∷ data_of 2 ∷ []) ∷ [] }
+    ensures links { links_at renaming_again 11 ≡ 12 ∷ [] }
+{}
+
+/// A folder that leaves a granted one takes clean keys along, and its file gets one when it is next written.
+#[tactic(auto, unfolding(crate::specs::WorkedSteps::journals))]
+pub fn move_away_from_a_grant()
+    ensures length { end_of moving_away ≡ 5396 }
+    ensures renewed { renewals_at moving_away 10 ≡ (sub_of 4 ∷ back_of 4 ∷ []) ∷ [] }
+    ensures links { links_at moving_away 10 ≡ 6 ∷ [] }
+    ensures renewed_by_the_write { renewals_at moving_away 11 ≡ (files_of 4 ∷ file_role 1 ∷ []) ∷ [] }
+    ensures links_of_the_write { links_at moving_away 11 ≡ 2 ∷ [] }
+{}
+
+/// A script's replies and the journal after it, with the keys drawn from 255 down.
+#[tactic(auto, unfolding(crate::specs::WorkedSteps::journals))]
+pub fn script_of_a_grant()
+    ensures replies { map spell_reply (script limits_now fresh (MakeFolder (codes "/a") ∷ WriteFile (codes "/a/x") (0 ∷ 255 ∷ []) ∷ MakeFolder (codes "/a") ∷ AddHolder ∷ Grant 1 (codes "/a") ∷ []) (down_from 255 224)).0
+        ≡ codes "ok" ∷ codes "ok" ∷ codes "refused exists" ∷ codes "holder 1 3f3e3d3c3b3a393837363534333231302f2e2d2c2b2a29282726252423222120" ∷ codes "ok" ∷ [] }
+    ensures length { end_of (script limits_now fresh (MakeFolder (codes "/a") ∷ WriteFile (codes "/a/x") (0 ∷ 255 ∷ []) ∷ MakeFolder (codes "/a") ∷ AddHolder ∷ Grant 1 (codes "/a") ∷ []) (down_from 255 224)).1 ≡ 2558 }
+{}
+
+/// A command whose batch would end past the store limit is refused, and one that ends at it is not.
+#[tactic(auto, unfolding(crate::specs::WorkedSteps::journals))]
+pub fn store_limit()
+    ensures first_of_session { answer (limited 1800) fresh false (MakeFolder (codes "/a")) ≡ Some Full }
+    ensures fits { answer (limited 1801) fresh false (MakeFolder (codes "/a")) ≡ None }
+    ensures later { answer (limited 1691) fresh true (MakeFolder (codes "/a")) ≡ None }
+    ensures later_full { answer (limited 1690) fresh true (MakeFolder (codes "/a")) ≡ Some Full }
+{}
+
+/// The edges that each key step leaves are those of the store after it.
+#[tactic(auto, unfolding(crate::specs::WorkedSteps::journals))]
+pub fn steps_leave_the_edges_of_the_store()
+    ensures writing_again { edges_agree nothing writing_again ≡ replicate 13 true }
+    ensures renaming_again { edges_agree nothing renaming_again ≡ replicate 11 true }
+    ensures moving_away { edges_agree nothing moving_away ≡ replicate 11 true }
+    ensures dropping { edges_agree nothing dropping ≡ replicate 13 true }
+{}
+
+/// A grant whose batch a stop cut short: the next session has the next epoch, and its link another nonce.
+#[tactic(auto, unfolding(crate::specs::WorkedSteps::journals))]
+pub fn stop_in_the_first_write()
+    ensures epochs { map (λ a. a.epoch) (attempts (record { journal = fresh; begun = false })
+        (Enters (MakeFolder (codes "/a")) (some_keys 5) ∷ Enters AddHolder (some_keys 1) ∷ IsAbandoned (Grant 1 (codes "/a")) []
+        ∷ Reopens ∷ LosesEpoch ∷ Reopens ∷ Enters (Grant 1 (codes "/a")) [] ∷ [])) ≡ 2 ∷ 2 ∷ 2 ∷ 2 ∷ 3 ∷ 3 ∷ 3 ∷ [] }
+    ensures numbers { map (λ a. a.number) (attempts (record { journal = fresh; begun = false })
+        (Enters (MakeFolder (codes "/a")) (some_keys 5) ∷ Enters AddHolder (some_keys 1) ∷ IsAbandoned (Grant 1 (codes "/a")) []
+        ∷ Reopens ∷ LosesEpoch ∷ Reopens ∷ Enters (Grant 1 (codes "/a")) [] ∷ [])) ≡ 3 ∷ 4 ∷ 5 ∷ 6 ∷ 6 ∷ 6 ∷ 7 ∷ [] }
+    ensures nonces { map (λ a. nonces_in a.holds) (attempts (record { journal = granting_stopped; begun = false }) (Enters (Grant 1 (codes "/a")) [] ∷ []))
+        ≡ [] ∷ (12884901888 ∷ []) ∷ [] }
+{}
+
+/// The journals of these rows are valid, and each of their notes fits where it comes.
+#[tactic(auto, unfolding(crate::specs::WorkedSteps::journals))]
+pub fn worked_journals_are_valid()
+    ensures written { IsValid writing_again }
+    ensures renamed { IsValid renaming_again }
+    ensures moved { IsValid moving_away }
+    ensures dropped { IsValid dropping }
+    ensures fit { map (all_fit nothing) (rewriting ∷ writing_again ∷ renaming_again ∷ moving_away ∷ dropping ∷ []) ≡ true ∷ true ∷ true ∷ true ∷ true ∷ [] }
+{}

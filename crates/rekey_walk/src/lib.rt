@@ -1,0 +1,5 @@
+//! Which keys are dirty, and which of them a change renews.
+#![tactic(auto)]
+
+pub mod laws;
+pub mod rows;

@@ -1,0 +1,5 @@
+pub mod Comparing
+pub mod Edging
+pub mod Granting
+pub mod Rightful
+pub mod Typing

@@ -1,0 +1,5 @@
+pub mod Rights
+pub mod RightsByReach
+pub mod Roles
+pub mod Edges
+pub mod WorkedGraph

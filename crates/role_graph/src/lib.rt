@@ -1,0 +1,5 @@
+//! Which roles lead to which, and who may read what.
+#![tactic(auto)]
+
+pub mod laws;
+pub mod rows;
