@@ -1,6 +1,7 @@
 //! The words that every crate of cryptree speaks: ids, roles, lists with room, limits.
 #![tactic(auto)]
 
+mod client;
 mod commands;
 mod ids;
 pub mod laws;
@@ -10,6 +11,7 @@ mod memory;
 mod roles;
 pub mod rows;
 
+pub use client::{Bundle, Line};
 pub use commands::{Command, Refusal};
 pub use ids::{Epoch, FileId, FolderId, HolderId, Serial};
 pub use limits::{Limits, limits_of};
