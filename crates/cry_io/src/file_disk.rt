@@ -81,7 +81,7 @@ impl Disk for FileDisk {
         self.size
     }
 
-    /// Besides what each disk promises: it succeeds only where there is a file.
+    /// It succeeds only where there is a file.
     fn read_at(&mut self, place: u64, buf: &mut [u8]) -> Result<(), Failed>
         requires { place + length buf.old ≤ self.old.size }
         ensures size { self.new.size ≡ self.old.size }
@@ -97,8 +97,9 @@ impl Disk for FileDisk {
         if is_read { Ok(()) } else { Err(self.fail()) }
     }
 
-    /// After a failure the size is read from the file again, since some of the bytes may stand past it. Where
-    /// that fails too, all later calls fail: no sync may then claim that the size stays.
+    /// It succeeds only where there is a file. After a failure the size is read from the file again, since some
+    /// of the bytes may stand past it. Where that fails too, all later calls fail: no sync may then claim that
+    /// the size stays.
     fn write_at(&mut self, place: u64, bytes: &[u8]) -> Result<(), Failed>
         requires inside { place ≤ self.old.size }
         requires fits { place + length bytes.now < 2 ^ 64 }
@@ -126,19 +127,24 @@ impl Disk for FileDisk {
         Err(self.fail())
     }
 
-    /// The size is part of what must stay.
+    /// The size is part of what must stay. After a failure all later calls fail: the system may have given up
+    /// bytes that it couldn't write, and its next sync would still succeed.
     fn sync(&mut self) -> Result<(), Failed>
         ensures size { self.new.size ≡ self.old.size }
         ensures counts { CountsFault result self.old.faults self.new.faults }
 
         ensures open { OnOk result (IsTrue self.old.is_open) }
-        ensures same { self.new.is_open ≡ self.old.is_open }
+        ensures stays_closed { IsTrue self.new.is_open → IsTrue self.old.is_open }
     {
         let is_synced = match &self.file {
             Some(file) => file.sync_all().is_ok(),
             None => false,
         };
-        if is_synced { Ok(()) } else { Err(self.fail()) }
+        if is_synced {
+            return Ok(());
+        }
+        self.file = None;
+        Err(self.fail())
     }
 }
 
