@@ -1,9 +1,7 @@
 //! A file of the operating system as a disk. Nothing proved knows what a file holds, so it tells neither its
 //! bytes nor what a stop may leave: this is the trusted edge.
-ghost use Rattle.std.specs.Prelude.{◌≡◌, ◌+◌, ◌≤◌, ◌^◌, ◌<◌, ◌↔◌, ◌⊎◌, ℕ, List, Some, length, max, is_some, true, slice_range, IsTrue, OnOk, OnErr};
+ghost use Rattle.std.specs.Prelude.{◌≡◌, ◌+◌, ◌≤◌, ◌^◌, ◌<◌, ◌⊎◌, length, max, IsTrue, IsSome, OnOk};
 ghost use Rattle.cry_io.specs.Counts.{CountsFault};
-ghost use Rattle.cry_io.specs.Stops.{Written, Torn, Follows, Elapses};
-ghost use Rattle.cry_io.specs.Told.{WhereTold, WhereBothTold};
 ghost use Rattle.cry_io.specs.Untold.{no_bytes, NoStop, NoSince, untold};
 
 use crate::tally::Tally;
@@ -35,8 +33,8 @@ impl Model for FileDisk {
 impl FileDisk {
     /// The disk over a file, and over none where there is none or its size can't be read. No call has failed.
     pub fn over(file: Option<File>) -> FileDisk
-        ensures only_open { IsTrue result.is_open → is_some file ≡ true }
-        ensures no_size { IsTrue result.is_open ⊎ (result.size ≡ 0) }
+        ensures open { IsTrue result.is_open → IsSome file }
+        ensures empty { IsTrue result.is_open ⊎ (result.size ≡ 0) }
         ensures faults { result.faults ≡ 0 }
     {
         let size = match &file {
@@ -83,14 +81,10 @@ impl Disk for FileDisk {
         self.size
     }
 
-    /// Besides what each disk promises: it succeeds only where there is a file.
+    /// It succeeds only where there is a file.
     fn read_at(&mut self, place: u64, buf: &mut [u8]) -> Result<(), Failed>
         requires { place + length buf.old ≤ self.old.size }
-        ensures bytes { OnOk result (WhereTold no_bytes (λ s. buf.new ≡ slice_range s place (place + length buf.old))) }
-        ensures shown { no_bytes ≡ no_bytes }
         ensures size { self.new.size ≡ self.old.size }
-        ensures stops { (c : List ℕ) → NoStop c ↔ NoStop c }
-        ensures time { Elapses 0 0 NoSince NoSince no_bytes NoStop }
         ensures counts { CountsFault result self.old.faults self.new.faults }
 
         ensures open { OnOk result (IsTrue self.old.is_open) }
@@ -103,20 +97,15 @@ impl Disk for FileDisk {
         if is_read { Ok(()) } else { Err(self.fail()) }
     }
 
-    /// After a failure the size is read from the file again, since some of the bytes may stand past it. Where
-    /// that fails too, all later calls fail: no sync may then claim that the size stays.
+    /// It succeeds only where there is a file. After a failure the size is read from the file again, since some
+    /// of the bytes may stand past it. Where that fails too, all later calls fail: no sync may then claim that
+    /// the size stays.
     fn write_at(&mut self, place: u64, bytes: &[u8]) -> Result<(), Failed>
         requires inside { place ≤ self.old.size }
         requires fits { place + length bytes.now < 2 ^ 64 }
-        ensures told { is_some no_bytes ≡ is_some no_bytes }
-        ensures written { OnOk result (WhereBothTold no_bytes no_bytes (Written place bytes.now)) }
-        ensures torn { OnErr result (WhereBothTold no_bytes no_bytes (Torn place (length bytes.now))) }
         ensures size { OnOk result (self.new.size ≡ max self.old.size (place + length bytes.now)) }
         ensures no_shorter { self.old.size ≤ self.new.size }
         ensures no_longer { self.new.size ≤ max self.old.size (place + length bytes.now) }
-        ensures stops { (c : List ℕ) → NoStop c → Follows (Torn place (length bytes.now)) NoStop c }
-        ensures all_stops { OnOk result ((c : List ℕ) → Follows (Torn place (length bytes.now)) NoStop c → NoStop c) }
-        ensures time { Elapses 0 0 NoSince NoSince no_bytes NoStop }
         ensures counts { CountsFault result self.old.faults self.new.faults }
 
         ensures open { OnOk result (IsTrue self.old.is_open) }
@@ -138,23 +127,24 @@ impl Disk for FileDisk {
         Err(self.fail())
     }
 
-    /// The size is part of what must stay.
+    /// The size is part of what must stay. After a failure all later calls fail: the system may have given up
+    /// bytes that it couldn't write, and its next sync would still succeed.
     fn sync(&mut self) -> Result<(), Failed>
-        ensures durable { OnOk result ((c : List ℕ) → NoStop c → no_bytes ≡ Some c) }
-        ensures shown { no_bytes ≡ no_bytes }
         ensures size { self.new.size ≡ self.old.size }
-        ensures stops { (c : List ℕ) → NoStop c → NoStop c }
-        ensures time { Elapses 0 0 NoSince NoSince no_bytes NoStop }
         ensures counts { CountsFault result self.old.faults self.new.faults }
 
         ensures open { OnOk result (IsTrue self.old.is_open) }
-        ensures same { self.new.is_open ≡ self.old.is_open }
+        ensures stays_closed { IsTrue self.new.is_open → IsTrue self.old.is_open }
     {
         let is_synced = match &self.file {
             Some(file) => file.sync_all().is_ok(),
             None => false,
         };
-        if is_synced { Ok(()) } else { Err(self.fail()) }
+        if is_synced {
+            return Ok(());
+        }
+        self.file = None;
+        Err(self.fail())
     }
 }
 

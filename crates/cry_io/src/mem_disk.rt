@@ -1,13 +1,11 @@
 //! A disk in memory.
-ghost use Rattle.std.specs.Prelude.{◌≡◌, ◌<◌, ◌≤◌, ◌↔◌, ◌⊎◌, ◌+◌, ◌-◌, ◌^◌, [], ◌∷◌, None, Some, length, max, is_some, slice_range, IfOk, OnOk, OnErr, IsErr};
-ghost use Rattle.cry_io.specs.Counts.{CountsFault};
+ghost use Rattle.std.specs.Prelude.{◌≡◌, ◌<◌, ◌≤◌, ◌↔◌, ◌⊎◌, ◌+◌, ◌-◌, ◌^◌, [], ◌∷◌, None, Some, length, slice_range, IfOk, OnOk, OnErr, IsErr};
 ghost use Rattle.cry_io.specs.Events.{Stays};
 ghost use Rattle.cry_io.specs.Fakes.{read, wrote, synced, refused};
 ghost use Rattle.cry_io.specs.Leaving.{shown_of, Leaves, Since};
 ghost use Rattle.cry_io.specs.LeavingLaws.{shown_length, shown_left, now_counts, now_only};
 ghost use Rattle.cry_io.specs.Schedules.{IsToFail, counted};
-ghost use Rattle.cry_io.specs.Stops.{Written, Torn, Follows, Elapses};
-ghost use Rattle.cry_io.specs.Told.{WhereTold, WhereBothTold};
+ghost use Rattle.cry_io.specs.Told.{WhereTold};
 
 use crate::platter::Platter;
 use crate::schedule::Schedule;
@@ -140,16 +138,10 @@ impl Disk for MemDisk {
         self.platter.shown().len() as u64
     }
 
-    /// Besides what each disk promises: it fails exactly where it was told to.
+    /// It fails exactly where it was told to.
     fn read_at(&mut self, place: u64, buf: &mut [u8]) -> Result<(), Failed>
         requires { place + length buf.old ≤ length (shown_of self.old.events) }
         ensures bytes { OnOk result (WhereTold (Some (shown_of self.old.events)) (λ s. buf.new ≡ slice_range s place (place + length buf.old))) }
-        ensures shown { Some (shown_of self.new.events) ≡ Some (shown_of self.old.events) }
-        ensures size { length (shown_of self.new.events) ≡ length (shown_of self.old.events) }
-        ensures stops { (c : _) → Leaves self.new.events c ↔ Leaves self.old.events c }
-        ensures time { Elapses (length self.old.events) (length self.new.events) (Since self.old.events) (Since self.new.events) (Some (shown_of self.new.events)) (Leaves self.new.events) }
-        ensures counts { CountsFault result self.old.faults self.new.faults }
-
         ensures fails { IsErr result ↔ IsToFail self.old.schedule }
         ensures ok { OnOk result (self.new ≡ read self.old) }
         ensures err { OnErr result (self.new ≡ refused self.old) }
@@ -160,20 +152,10 @@ impl Disk for MemDisk {
         Ok(())
     }
 
+    /// It fails exactly where it was told to, where the range ends past the room, and where the units are too few.
     fn write_at(&mut self, place: u64, bytes: &[u8]) -> Result<(), Failed>
         requires inside { place ≤ length (shown_of self.old.events) }
         requires fits { place + length bytes.now < 2 ^ 64 }
-        ensures told { is_some (Some (shown_of self.new.events)) ≡ is_some (Some (shown_of self.old.events)) }
-        ensures written { OnOk result (WhereBothTold (Some (shown_of self.old.events)) (Some (shown_of self.new.events)) (Written place bytes.now)) }
-        ensures torn { OnErr result (WhereBothTold (Some (shown_of self.old.events)) (Some (shown_of self.new.events)) (Torn place (length bytes.now))) }
-        ensures size { OnOk result (length (shown_of self.new.events) ≡ max (length (shown_of self.old.events)) (place + length bytes.now)) }
-        ensures no_shorter { length (shown_of self.old.events) ≤ length (shown_of self.new.events) }
-        ensures no_longer { length (shown_of self.new.events) ≤ max (length (shown_of self.old.events)) (place + length bytes.now) }
-        ensures stops { (c : _) → Leaves self.new.events c → Follows (Torn place (length bytes.now)) (Leaves self.old.events) c }
-        ensures all_stops { OnOk result ((c : _) → Follows (Torn place (length bytes.now)) (Leaves self.old.events) c → Leaves self.new.events c) }
-        ensures time { Elapses (length self.old.events) (length self.new.events) (Since self.old.events) (Since self.new.events) (Some (shown_of self.new.events)) (Leaves self.new.events) }
-        ensures counts { CountsFault result self.old.faults self.new.faults }
-
         ensures fails { IsErr result ↔ IsToFail self.old.schedule
             ⊎ (self.old.room < place + length bytes.now) ⊎ (self.old.units < 1 + length bytes.now) }
         ensures ok { OnOk result (self.new ≡ wrote place bytes.now self.old) }
@@ -184,14 +166,9 @@ impl Disk for MemDisk {
         Ok(())
     }
 
+    /// It fails exactly where it was told to, and where no unit is left.
     fn sync(&mut self) -> Result<(), Failed>
-        ensures durable { OnOk result ((c : _) → Leaves self.new.events c → Some (shown_of self.new.events) ≡ Some c) }
-        ensures shown { Some (shown_of self.new.events) ≡ Some (shown_of self.old.events) }
-        ensures size { length (shown_of self.new.events) ≡ length (shown_of self.old.events) }
         ensures stops { (c : _) → Leaves self.new.events c → Leaves self.old.events c }
-        ensures time { Elapses (length self.old.events) (length self.new.events) (Since self.old.events) (Since self.new.events) (Some (shown_of self.new.events)) (Leaves self.new.events) }
-        ensures counts { CountsFault result self.old.faults self.new.faults }
-
         ensures fails { IsErr result ↔ IsToFail self.old.schedule ⊎ (self.old.units < 1) }
         ensures ok { OnOk result (self.new ≡ synced self.old) }
         ensures err { OnErr result (self.new ≡ refused self.old) }

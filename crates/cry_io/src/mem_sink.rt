@@ -1,8 +1,5 @@
 //! A sink in memory.
-ghost use Rattle.std.specs.Prelude.{◌≡◌, ◌<◌, ◌≤◌, ◌↔◌, ◌⊎◌, ◌+◌, ◌-◌, [], None, Some, length, min, is_some, IfOk, IsErr, MatchResult};
-ghost use Rattle.cry_io.specs.Counts.{CountsFault};
-ghost use Rattle.cry_io.specs.Told.{WhereBothTold};
-ghost use Rattle.cry_io.specs.Streams.{Takes};
+ghost use Rattle.std.specs.Prelude.{◌≡◌, ◌<◌, ◌≤◌, ◌↔◌, ◌⊎◌, ◌+◌, ◌-◌, [], None, Some, length, min, IfOk, IsErr, MatchResult};
 ghost use Rattle.cry_io.specs.Schedules.{IsToFail};
 ghost use Rattle.cry_io.specs.Fakes.{filled, unfilled};
 
@@ -77,15 +74,9 @@ impl Sink for MemSink {
 
     ghost faults = { λ s. s.faults };
 
-    /// Besides what each sink promises: which calls fail, how many bytes are taken, and what stays. A call
-    /// fails where it was told to, or where there is a piece and no room for any of it.
+    /// It fails exactly where it was told to, and where there is a piece and no room for any of it. Else it takes
+    /// the piece, or as many of its first bytes as fit.
     fn write(&mut self, piece: &[u8]) -> Result<usize, Failed>
-        ensures within { IfOk result (λ n. n ≤ length piece.now) }
-        ensures goes_on { IfOk result (λ n. 0 < length piece.now → 0 < n) }
-        ensures told { is_some (Some self.new.written) ≡ is_some (Some self.old.written) }
-        ensures bytes { WhereBothTold (Some self.old.written) (Some self.new.written) (Takes result piece.now) }
-        ensures counts { CountsFault result self.old.faults self.new.faults }
-
         ensures fails { IsErr result ↔ IsToFail self.old.schedule
             ⊎ ((0 < length piece.now) × (self.old.room ≤ length self.old.written)) }
         ensures as_many { IfOk result (λ n. n ≡ min (length piece.now) (self.old.room - length self.old.written)) }

@@ -1,6 +1,5 @@
 //! A source in memory.
-ghost use Rattle.std.specs.Prelude.{◌≡◌, ◌<◌, ◌≤◌, ◌↔◌, ◌++◌, ℕ, None, Some, length, take, drop, min, is_some, IfOk, IsErr, MatchResult};
-ghost use Rattle.cry_io.specs.Counts.{CountsFault};
+ghost use Rattle.std.specs.Prelude.{◌≡◌, ◌<◌, ◌≤◌, ◌↔◌, ◌++◌, None, Some, length, take, drop, min, IfOk, IsErr, MatchResult};
 ghost use Rattle.cry_io.specs.Told.{WhereBothTold};
 ghost use Rattle.cry_io.specs.Streams.{Reads, IsAtEnd};
 ghost use Rattle.cry_io.specs.Schedules.{IsToFail};
@@ -70,13 +69,11 @@ impl Source for MemSource {
 
     ghost faults = { λ s. s.faults };
 
-    /// Besides what each source promises: which calls fail, how many bytes come, and what stays.
+    /// It fails exactly where it was told to, and else gives as many bytes as the step, the buffer and what is
+    /// left allow.
     fn read(&mut self, buf: &mut [u8]) -> Result<usize, Failed>
-        ensures within { IfOk result (λ n. n ≤ length buf.old) }
-        ensures told { is_some (Some self.new.left) ≡ is_some (Some self.old.left) }
         ensures bytes { WhereBothTold (Some self.old.left) (Some self.new.left) (Reads result buf.new) }
         ensures at_end { WhereBothTold (Some self.old.left) (Some self.new.left) (IsAtEnd result buf.old) }
-        ensures counts { CountsFault result self.old.faults self.new.faults }
 
         ensures fails { IsErr result ↔ IsToFail self.old.schedule }
         ensures as_many { IfOk result (λ n. n ≡ min (min self.old.step (length buf.old)) (length self.old.left)) }
