@@ -2,7 +2,7 @@
 ghost use Rattle.std.specs.Prelude.{◌≡◌, map, Ok, IfOk, IfErr};
 ghost use Rattle.record_format.specs.Fields.{repeat_at};
 ghost use Rattle.record_format.specs.Plain.{PlainPayload, plain_content, plain_payload};
-ghost use Rattle.record_format.specs.Reading.{Gives, Answers, note_of_one, note_of_two, new_holder_at, one_id_at, two_ids_at, note_at, link_at, content_at, payload_at, whole_payload, payload_or_place, IsPlaceIn};
+ghost use Rattle.record_format.specs.Reading.{Gives, Answers, note_of_one, note_of_two, new_holder_at, one_id_at, two_ids_at, note_at, link_at, content_at, payload_at, whole_payload, payload_or_place, IsPlaceIn, EndsABeginning};
 ghost use Rattle.record_format.specs.Spellable.{IsSpellable};
 ghost use Rattle.record_format.specs.Spelling.{spell_payload};
 
@@ -229,6 +229,7 @@ pub fn read_payload(alloc: Global, bytes: &[u8]) -> Result<Payload, PayloadFault
     // Which place it is.
     ensures exact { Answers result (payload_or_place bytes.now) }
     ensures inside { IfErr result (IsPlaceIn bytes.now) }
+    ensures before { IfErr result (EndsABeginning bytes.now) }
 {
     match whole_of(alloc, bytes) {
         Ok(payload) => Ok(payload),
