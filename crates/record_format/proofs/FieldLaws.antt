@@ -13,11 +13,11 @@ use Rattle.record_format.proofs.Lengths.{length-be32, length-be64}
 abbrev pub IsBytes : List ℕ → Type 0
 IsBytes bytes = (i : ℕ) → get_or bytes i 0 < 256
 
-IsBytes-after : (front rest bytes : List ℕ) → bytes ≡ front ++ rest → IsBytes bytes → IsBytes rest
+pub IsBytes-after : (front rest bytes : List ℕ) → bytes ≡ front ++ rest → IsBytes bytes → IsBytes rest
 IsBytes-after front rest bytes parts are i =
     rw (← get_or-append-add front rest i 0, ← parts) (are (length front + i))
 
-IsBytes-before : (front rest bytes : List ℕ) → bytes ≡ front ++ rest → IsBytes bytes → IsBytes front
+pub IsBytes-before : (front rest bytes : List ℕ) → bytes ≡ front ++ rest → IsBytes bytes → IsBytes front
 IsBytes-before front rest bytes parts are i =
     elim (cases_lt i (length front)) [
       | inl lt ↦ rw (← get_or_append_left front rest 0 i lt, ← parts) (are i)

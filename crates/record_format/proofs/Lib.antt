@@ -4,3 +4,6 @@ pub mod FieldLaws
 pub mod RecordLaws
 pub mod NoteLaws
 pub mod PayloadLaws
+pub mod Beginnings
+pub mod Stops
+pub mod Places

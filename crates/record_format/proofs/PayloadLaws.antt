@@ -17,7 +17,7 @@ payload_parts : (p : PlainPayload) (rest : List ℕ) → spell_payload p ++ rest
 unfolding spell_payload
 payload_parts p rest = simp append_assoc
 
-payload_takes : (bytes : List ℕ) (x : PlainPayload × List ℕ) → IsBytes bytes → payload_at bytes ≡ Ok x → (bytes ≡ spell_payload x.0 ++ x.1) × IsSpellable x.0
+pub payload_takes : (bytes : List ℕ) (x : PlainPayload × List ℕ) → IsBytes bytes → payload_at bytes ≡ Ok x → (bytes ≡ spell_payload x.0 ++ x.1) × IsSpellable x.0
 unfolding payload_at
 payload_takes bytes x are e =
     took_then note_field _ bytes x are e (λ note r1 p1 a1 f1 e1.

@@ -1,6 +1,6 @@
 -- The payload that bytes spell, or the place of the first field that is cut short or has a value that isn't allowed:
 -- this project's own, docs/FORMAT.md, "Notes and payloads".
-use Rattle.std.specs.Prelude.{ℕ, ◌≡◌, ◌≤◌, ◌-◌, List, length, Result, Ok, Err, ◌==◌, ◌&&◌, nat_le, if◌then◌else◌}
+use Rattle.std.specs.Prelude.{ℕ, ◌≡◌, ◌≤◌, ◌-◌, List, ◌++◌, length, take, Result, Ok, Err, ◌==◌, ◌&&◌, nat_le, if◌then◌else◌}
 use Rattle.std.specs.Int.{w32, w64}
 use Rattle.record_format.specs.declared.fault.PayloadFault.{PayloadFault}
 use Rattle.record_format.specs.declared.fault.PayloadFault.TheVariants as faults
@@ -12,7 +12,8 @@ use Rattle.record_format.specs.declared.note.Note.TheVariants.{Root, NewHolder, 
 use Rattle.record_format.specs.declared.payload.Payload.{Payload}
 use Rattle.record_format.specs.Fields.{Read, ◌>>=◌, byte_between, bytes_at, number_at, number_between, repeat_at}
 use Rattle.record_format.specs.Plain.{PlainContent, PlainPayload, plain_payload}
-use Rattle.record_format.specs.Spellable.{shortest_text, longest_text}
+use Rattle.record_format.specs.Spellable.{IsSpellable, shortest_text, longest_text}
+use Rattle.record_format.specs.Spelling.{spell_payload}
 
 -- the note of a code with one id: 5 to 9
 abbrev pub note_of_one : ℕ → ℕ → Note
@@ -156,3 +157,8 @@ Answers (Err fault) wanted = Faults fault wanted
 abbrev pub IsPlaceIn : List ℕ → PayloadFault → Type 0
 IsPlaceIn bytes (faults.Format at) = at ≤ length bytes
 IsPlaceIn bytes faults.OutOfMemory = Unit {0}
+
+-- what stands before the place begins the spelling of a payload: so nothing before it is wrong
+abbrev pub EndsABeginning : List ℕ → PayloadFault → Type 0
+EndsABeginning bytes (faults.Format at) = (p : PlainPayload) × IsSpellable p × (more : List ℕ) × (spell_payload p ≡ take at bytes ++ more)
+EndsABeginning bytes faults.OutOfMemory = Unit {0}

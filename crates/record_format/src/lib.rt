@@ -13,7 +13,7 @@ mod writing;
 
 pub use content::{ContentRecord, content_header};
 pub use fault::PayloadFault;
-pub use laws::{spelling_is_prefix_free, spelling_reads_back};
+pub use laws::{spelling_has_its_size, spelling_is_prefix_free, spelling_reads_back};
 pub use link::{LinkRecord, link_header};
 pub use note::Note;
 pub use payload::{Payload, payload_len};

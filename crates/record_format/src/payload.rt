@@ -1,9 +1,9 @@
 //! What a batch of one command carries: the note's code and fields, the number of links and the number of
 //! contents (4 bytes each, big-endian), the links, the contents (docs/FORMAT.md, "Notes and payloads").
-ghost use Rattle.std.specs.Prelude.{◌≡◌, ◌+◌, ◌<◌, ◌^◌, length, map};
+ghost use Rattle.std.specs.Prelude.{◌≡◌, ◌+◌, ◌<◌, ◌^◌, length};
 ghost use Rattle.std.specs.List.{sum_by};
-ghost use Rattle.record_format.specs.Plain.{plain_content, plain_payload};
-ghost use Rattle.record_format.specs.Sizes.{note_size, content_size, payload_size};
+ghost use Rattle.record_format.specs.Plain.{plain_payload};
+ghost use Rattle.record_format.specs.Sizes.{note_size, payload_size};
 ghost use Rattle.record_format.specs.Spellable.{IsSpellable};
 ghost use Rattle.record_format.specs.Spelling.{spell_payload};
 

@@ -1,9 +1,9 @@
 //! Bytes to payloads, from left to right.
-ghost use Rattle.std.specs.Prelude.{◌≡◌, ◌<◌, ◌≤◌, ◌-◌, List, length, map, Ok, IfOk, IfErr};
+ghost use Rattle.std.specs.Prelude.{◌≡◌, map, Ok, IfOk, IfErr};
 ghost use Rattle.record_format.specs.Fields.{repeat_at};
 ghost use Rattle.record_format.specs.Plain.{PlainPayload, plain_content, plain_payload};
-ghost use Rattle.record_format.specs.Reading.{Gives, Answers, note_of_one, note_of_two, new_holder_at, one_id_at, two_ids_at, note_at, link_at, content_at, payload_at, whole_payload, payload_or_place, IsPlaceIn};
-ghost use Rattle.record_format.specs.Spellable.{IsSpellable, shortest_text, longest_text};
+ghost use Rattle.record_format.specs.Reading.{Gives, Answers, note_of_one, note_of_two, new_holder_at, one_id_at, two_ids_at, note_at, link_at, content_at, payload_at, whole_payload, payload_or_place, IsPlaceIn, EndsABeginning};
+ghost use Rattle.record_format.specs.Spellable.{IsSpellable};
 ghost use Rattle.record_format.specs.Spelling.{spell_payload};
 
 use crate::content::text_range;
@@ -220,15 +220,18 @@ fn whole_of(alloc: Global, bytes: &[u8]) -> Result<Payload, Stop>
 
 /// The payload that the bytes spell, all of the bytes.
 ///
-/// The answer comes in the time of the bytes, whatever counts they claim. `Format` comes where they spell no payload.
+/// `Format` comes exactly where they spell none: `at` is the offset in bytes of the first field that is cut short or
+/// has a value that isn't allowed, or of the first byte after the last record (docs/FORMAT.md, "Notes and payloads").
+/// The answer comes in the time of the bytes, whatever counts they claim.
 pub fn read_payload(alloc: Global, bytes: &[u8]) -> Result<Payload, PayloadFault>
     // What is read is spelled so.
     ensures found { IfOk result (λ p. IsSpellable (plain_payload p) × (bytes.now ≡ spell_payload (plain_payload p))) }
     // What is spelled so is read, unless memory ran out.
     ensures only { (p : PlainPayload) → IsSpellable p → bytes.now ≡ spell_payload p → Answers result (Ok p) }
-    // Which place it is.
+    // Which place it is. What stands before it begins the spelling of a payload.
     ensures exact { Answers result (payload_or_place bytes.now) }
     ensures inside { IfErr result (IsPlaceIn bytes.now) }
+    ensures before { IfErr result (EndsABeginning bytes.now) }
 {
     match whole_of(alloc, bytes) {
         Ok(payload) => Ok(payload),

@@ -1,9 +1,9 @@
 //! Payloads to bytes.
-ghost use Rattle.std.specs.Prelude.{◌≡◌, ◌+◌, ◌*◌, ◌<◌, ◌≤◌, ◌^◌, ◌∷◌, ◌++◌, [], length, map, All, OnOk, OnErr, IsOk};
+ghost use Rattle.std.specs.Prelude.{◌≡◌, ◌+◌, ◌*◌, ◌<◌, ◌≤◌, ◌^◌, ◌∷◌, ◌++◌, length, map, All, OnOk, OnErr, IsOk};
 ghost use Rattle.std.specs.List.{flat_map, sum_by};
 ghost use Rattle.record_format.specs.Plain.{plain_content, plain_payload};
 ghost use Rattle.record_format.specs.Sizes.{note_size, content_size, payload_size};
-ghost use Rattle.record_format.specs.Spellable.{IsContent, IsSpellable};
+ghost use Rattle.record_format.specs.Spellable.{IsSpellable};
 ghost use Rattle.record_format.specs.Spelling.{be32, spell_note, spell_link, spell_content, spell_payload};
 
 use crate::{ContentRecord, LinkRecord, Note, Payload, content_header, link_header, payload_len};

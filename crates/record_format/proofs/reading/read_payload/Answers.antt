@@ -2,6 +2,7 @@ use Rattle.std.proofs.Common.{◌≡◌, length, Ok, Err, sym, ap, subst, ◌∙
 use Rattle.record_format.specs.Plain.{plain_payload}
 use Rattle.record_format.specs.Reading.{whole_payload}
 use Rattle.record_format.proofs.PayloadLaws.{IsLeft, whole_takes, whole_again, whole_left}
+use Rattle.record_format.proofs.Places.{before_place}
 use Rattle.record_format.proofs.reading.read_payload.Goals as goal
 
 pub overflow_sub-result : goal.overflow_sub-result
@@ -21,3 +22,8 @@ returns-in-Err-Bad-clause-only c = λ p fits e.
     let stopped : whole_payload c.args.bytes.now ≡ Err c.in-Err-Bad.left = rw c.in-Err-Bad.field-0-is at c.in-Err-Bad.ensures in
     let wrong : Ok p ≡ Err c.in-Err-Bad.left = sym (whole_again p fits) ∙ ap whole_payload (sym e) ∙ stopped in
     absurd (cc)
+
+pub returns-in-Err-Bad-clause-before : goal.returns-in-Err-Bad-clause-before
+returns-in-Err-Bad-clause-before c =
+    let stopped : whole_payload c.args.bytes.now ≡ Err c.in-Err-Bad.left = rw c.in-Err-Bad.field-0-is at c.in-Err-Bad.ensures in
+    before_place c.args.bytes.now c.in-Err-Bad.left (λ i. omega (arith, c.type_inv.bytes i)) stopped
