@@ -1,5 +1,6 @@
 pub mod History
 pub mod Gains
+pub mod Invariants
 pub mod Secrecy
 pub mod Seen
 pub mod WorkedHistories

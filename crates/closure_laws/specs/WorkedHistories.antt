@@ -5,8 +5,9 @@ use Rattle.closure_laws.specs.History.{published_from, history, trails, derived,
 use Rattle.closure_laws.specs.Gains.{gives_grant, is_gained_node, gains, gains_from}
 use Rattle.closure_laws.specs.Seen.{sight_of, sights_in, sights_from, seen, spell_sight, spell_seen}
 use Rattle.closure_laws.specs.Secrecy.{node_of_piece, shown_node, gains_later, kept_content, keeps_from, known_to, keeps_secret}
+use Rattle.closure_laws.specs.Invariants.{dirt_is_closed, is_linked, edges_are_linked, links_are_clean, holds_from, invariants_hold}
 
 -- every word of a history
 unfoldable pub histories : Unit {0}
-unfolding node_of_piece shown_node gains_later kept_content keeps_from known_to keeps_secret digits journals published_from history trails derived own_serial gives_grant is_gained_node gains gains_from sight_of sights_in sights_from seen spell_sight spell_seen
+unfolding dirt_is_closed is_linked edges_are_linked links_are_clean holds_from invariants_hold node_of_piece shown_node gains_later kept_content keeps_from known_to keeps_secret digits journals published_from history trails derived own_serial gives_grant is_gained_node gains gains_from sight_of sights_in sights_from seen spell_sight spell_seen
 histories = tt

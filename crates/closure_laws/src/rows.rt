@@ -4,8 +4,9 @@ ghost use Rattle.cry_base.specs.Requests.Request.{Relocate, Rename, MakeFolder};
 ghost use Rattle.cry_base.specs.Texts.{ended_lines};
 ghost use Rattle.role_graph.specs.Rights.Who.{TheOwner, TheHolder};
 ghost use Rattle.public_fold.specs.Journal.{nothing};
-ghost use Rattle.public_fold.specs.WorkedSteps.{fresh, renaming, rewriting, granting, revoking, writing_again, renaming_again, moving_away, does};
+ghost use Rattle.public_fold.specs.WorkedSteps.{fresh, renaming, rewriting, granting, revoking, writing_again, renaming_again, moving_away, does, dropping};
 ghost use Rattle.closure_laws.specs.Gains.{gains_from};
+ghost use Rattle.closure_laws.specs.Invariants.{invariants_hold};
 ghost use Rattle.closure_laws.specs.Secrecy.{keeps_secret};
 ghost use Rattle.closure_laws.specs.Seen.{seen, spell_seen};
 
@@ -69,3 +70,11 @@ pub fn worked_journals_keep_secrets()
     ensures moved { map (keeps_secret moving_away) (1 ∷ []) ≡ true ∷ [] }
     ensures gained { map (keeps_secret (granting ++ (does 5 (MakeFolder (codes "/b")) ∷ does 0 (Relocate (codes "/b") (codes "/a")) ∷ []))) (1 ∷ []) ≡ true ∷ [] }
 {}
+
+/// After each entry of the worked journals what is dirty is so with all behind it, each edge has a link between present
+/// keys, and no link leaves a dirty key.
+#[tactic(auto, unfolding(crate::specs::WorkedHistories::histories))]
+pub fn worked_journals_keep_their_keys()
+    ensures { map invariants_hold (rewriting ∷ writing_again ∷ renaming_again ∷ moving_away ∷ dropping ∷ []) ≡ true ∷ true ∷ true ∷ true ∷ true ∷ [] }
+{
+}

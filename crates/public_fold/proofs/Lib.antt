@@ -1,3 +1,4 @@
 pub mod Counting
 pub mod Prefixes
+pub mod Serials
 pub mod Settling

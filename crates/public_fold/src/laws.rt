@@ -1,5 +1,5 @@
 //! Laws of journals.
-ghost use Rattle.std.specs.Prelude.{◌↔◌, ℕ, ◌≡◌, ◌≤◌, List, [], ◌∷◌, ◌++◌, length, Some};
+ghost use Rattle.std.specs.Prelude.{◌<◌, ◌+◌, ◌↔◌, ℕ, ◌≡◌, ◌≤◌, List, [], ◌∷◌, ◌++◌, length, Some};
 ghost use Rattle.cry_base.specs.Requests.{Request};
 ghost use Rattle.cry_base.specs.declared.commands.Refusal.{Refusal};
 ghost use Rattle.cry_base.specs.declared.limits.Limits.{Limits};
@@ -7,6 +7,11 @@ ghost use Rattle.cry_base.specs.declared.roles.Role.{Role};
 ghost use Rattle.role_graph.specs.Edges.{Reaches, edges};
 ghost use Rattle.role_graph.specs.RightsByReach.{IsRightful, IsSettled, IsStandingRole};
 ghost use Rattle.role_graph.specs.Roles.{holder_role};
+ghost use Rattle.cry_base.specs.Sets.{In};
+ghost use Rattle.cry_base.specs.declared.roles.Edge.{Edge};
+ghost use Rattle.move_plan.specs.Change.{Change};
+ghost use Rattle.public_fold.specs.KeyStep.{KeyState, key_step, next_serial};
+ghost use Rattle.public_fold.specs.Records.{Content, Link, Piece};
 ghost use Rattle.public_fold.specs.Counted.{AreCounted};
 ghost use Rattle.public_fold.specs.Journal.{Journal, nothing, stand_after, steps_of, steps_from, store_of};
 ghost use Rattle.public_fold.specs.Lengths.{end_of};
@@ -43,4 +48,17 @@ pub fn reach_is_the_rights_in_journals()
     ensures settled { (m : Journal) → IsValid m → IsSettled (store_of m) }
     ensures rights { (m : Journal) → IsValid m → (h : ℕ) (r : Role) → IsStandingRole (store_of m) r →
         Reaches (edges (store_of m)) (holder_role h) r ↔ IsRightful (store_of m) h r }
+{}
+
+/// A step takes its serials from the counter: the keys' first, then the links', then the contents', and the counter ends
+/// behind all of them.
+pub fn serials_are_counted()
+    ensures keys { (k : KeyState) (before : List Edge) (c : Change) (pieces : List Piece) (key : Role × ℕ) →
+        In key (key_step k before c pieces).given → (next_serial k ≤ key.1) × (key.1 < next_serial (key_step k before c pieces).after) }
+    ensures links { (k : KeyState) (before : List Edge) (c : Change) (pieces : List Piece) (l : Link) →
+        In l (key_step k before c pieces).links
+        → (next_serial k + length (key_step k before c pieces).given ≤ l.nonce) × (l.nonce < next_serial (key_step k before c pieces).after) }
+    ensures contents { (k : KeyState) (before : List Edge) (c : Change) (pieces : List Piece) (x : Content) →
+        In x (key_step k before c pieces).contents
+        → (next_serial k + length (key_step k before c pieces).given + length (key_step k before c pieces).links ≤ x.nonce) × (x.nonce < next_serial (key_step k before c pieces).after) }
 {}
