@@ -1,14 +1,13 @@
 -- The payload of a fresh store has a spelling, of 557 bytes.
-use Rattle.std.proofs.Common.{◌≡◌, ℕ, ◌+◌, ◌*◌, ◌^◌, ◌<◌, ◌≤◌, List, [], ◌∷◌, ◌++◌, length, take, drop, append_assoc, arith, refl, sym, ap, ◌∙◌}
+use Rattle.std.proofs.Common.{◌≡◌, ℕ, ◌+◌, ◌*◌, ◌^◌, ◌<◌, ◌≤◌, List, [], ◌∷◌, ◌++◌, length, drop, append_assoc, arith, refl, sym, ◌∙◌}
 use Rattle.std.specs.Prelude.{All, codes}
-use Rattle.std.specs.List.{AllByRecursion}
 use Rattle.std.proofs.lemmas.List.{length-take-le, length-drop, append-nil}
 use Rattle.std.proofs.lemmas.List.Elements.{All-from_recursion}
 use Rattle.hmac_seal.proofs.HmacLemmas.{length-hmac}
 use Rattle.chacha_seal.specs.Keys.{KeyParts}
-use Rattle.chacha_seal.specs.Sealing.{tag_key, check_of, sealed, seal_tag}
+use Rattle.chacha_seal.specs.Sealing.{tag_key, check_of, seal_tag}
 use Rattle.record_format.specs.Sizes.{payload_size}
-use Rattle.record_format.specs.Spellable.{IsLink, IsContent, IsNote, IsSpellable}
+use Rattle.record_format.specs.Spellable.{IsLink, IsContent, IsSpellable}
 use Rattle.cryptree_cli.specs.Commit.{Appends}
 use Rattle.cryptree_cli.specs.Fresh.{piece, owner_key, root_key, root_links, root_name, root_payload, epoch_batch, root_batch, fresh_image}
 use Rattle.cryptree_cli.specs.Image.{batch_veil, owner_tag, spell_batch, spell_header, spell_batches, image}

@@ -1,5 +1,5 @@
 -- Memory that is taken before anything is drawn or written.
-use Rattle.std.specs.Prelude.{◌≡◌, ◌≤◌, ℕ, []}
+use Rattle.std.specs.Prelude.{◌≡◌, ◌≤◌, []}
 use Rattle.cryptree_cli.specs.declared.room.MakeRoom.{MakeRoom}
 use Rattle.cryptree_cli.specs.declared.room.StoreRoom.{StoreRoom}
 

@@ -1,9 +1,9 @@
-use Rattle.std.proofs.Common.{◌≡◌, ◌<◌, ◌+◌, List, ℕ, ◌++◌, length, arith, sym, ap, ◌∙◌, subst, inl, inr, length-append}
+use Rattle.std.proofs.Common.{◌≡◌, length, arith, sym, ap, ◌∙◌, subst, length-append}
 use Rattle.cry_io.specs.Told.{WhereTold}
 use Rattle.cry_io.proofs.ToldLemmas.{told_again}
 use Rattle.cryptree_cli.specs.declared.status.Status.{Status}
 use Rattle.cryptree_cli.specs.declared.status.Status.TheVariants.{Done, DiskFault, WriteFault}
-use Rattle.cryptree_cli.specs.Top.{IsShort, EndsShort}
+use Rattle.cryptree_cli.specs.Top.{EndsShort}
 use Rattle.cryptree_cli.proofs.MakeLemmas.{is_short, ends_short}
 use Rattle.cryptree_cli.proofs.make.make.Goals as goal
 

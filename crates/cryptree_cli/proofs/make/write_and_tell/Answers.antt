@@ -1,6 +1,6 @@
-use Rattle.std.proofs.Common.{◌≡◌, ◌≤◌, List, ℕ, [], ◌++◌, length, take, ap, ◌∙◌, subst}
-use Rattle.cryptree_cli.specs.Fresh.{piece, owner_line}
-use Rattle.cryptree_cli.specs.Top.{PrintsFront, PrintsAll, line_drawn}
+use Rattle.std.proofs.Common.{◌≡◌, List, ℕ, ◌++◌, ap, ◌∙◌, subst}
+use Rattle.cryptree_cli.specs.Fresh.{owner_line}
+use Rattle.cryptree_cli.specs.Top.{PrintsFront, line_drawn}
 use Rattle.cryptree_cli.proofs.make.write_and_tell.Goals as goal
 
 pub returns-in_default-print-clause-cut_short : goal.returns-in_default-print-clause-cut_short

@@ -1,4 +1,4 @@
-use Rattle.std.proofs.Common.{◌≡◌, ◌<◌, ◌≤◌, ◌-◌, ◌+◌, ◌++◌, length, take, drop, arith, sym, ap, ◌∙◌, length-drop, Ok}
+use Rattle.std.proofs.Common.{◌-◌, ◌++◌, length, take, arith, sym, ap, ◌∙◌, length-drop, Ok}
 use Rattle.std.proofs.lemmas.Grind.{common_steps}
 use Rattle.std.proofs.lemmas.List.{length-take}
 use Rattle.cry_io.proofs.ToldLemmas.{told_again}

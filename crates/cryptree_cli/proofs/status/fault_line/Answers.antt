@@ -1,4 +1,3 @@
-use Rattle.std.proofs.Common.{◌≡◌, ◌++◌, OnOk}
 use Rattle.cryptree_cli.proofs.status.fault_line.Goals as goal
 
 pub returns-in-OutOfMemory-clause-line : goal.returns-in-OutOfMemory-clause-line

@@ -1,4 +1,4 @@
-use Rattle.std.proofs.Common.{◌≡◌, length, length-append, arith, sym, ap, ◌∙◌, subst}
+use Rattle.std.proofs.Common.{length, length-append, arith, sym, ap, subst}
 use Rattle.record_format.specs.Plain.{plain_payload}
 use Rattle.record_format.specs.Sizes.{payload_size}
 use Rattle.record_format.specs.Spellable.{IsSpellable}

@@ -1,4 +1,4 @@
-use Rattle.std.proofs.Common.{◌≡◌, ℕ, List, [], ◌∷◌, ◌++◌, length, sym, ap, ◌∙◌, subst}
+use Rattle.std.proofs.Common.{◌≡◌, ℕ, List, [], ◌∷◌, ◌++◌, sym, ap, ◌∙◌, subst}
 use Rattle.std.specs.Prelude.{codes}
 use Rattle.std.proofs.lemmas.Result.{on_ok_weaker}
 use Rattle.cry_io.proofs.ToldLemmas.{told_again}
