@@ -76,5 +76,4 @@ pub fn worked_journals_keep_secrets()
 #[tactic(auto, unfolding(crate::specs::WorkedHistories::histories))]
 pub fn worked_journals_keep_their_keys()
     ensures { map invariants_hold (rewriting ∷ writing_again ∷ renaming_again ∷ moving_away ∷ dropping ∷ []) ≡ true ∷ true ∷ true ∷ true ∷ true ∷ [] }
-{
-}
+{}

@@ -1,1 +1,2 @@
+pub mod OwnPath
 pub mod Viewing
