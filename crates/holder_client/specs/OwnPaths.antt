@@ -1,5 +1,6 @@
 -- What a store needs so that no two nodes have one path.
-use Rattle.std.specs.Prelude.{◌≡◌, ◌≢◌, List, [], ◌∷◌, IsTrue}
+use Rattle.std.specs.Prelude.{◌≡◌, ◌≢◌, List, [], ◌∷◌, IsTrue, Bool, true, false, not, ◌&&◌, ◌||◌, ◌==◌, bytes_eq}
+use Rattle.std.specs.List.{list_all}
 use Rattle.cry_base.specs.Naming.{is_name}
 use Rattle.cry_base.specs.Sets.{In}
 use Rattle.cry_base.specs.Store.{Store, FolderEntry, FileEntry, way_to_root}
@@ -20,3 +21,34 @@ pub record HasOwnNames (s : Store) : Type 0 where
   pub one_root : (a : FolderEntry) → In a s.folders → a.parent ≡ 0 → a.id ≡ 1
   pub folder_way : (a : FolderEntry) → In a s.folders → IsWhole (way_to_root s a.id)
   pub file_way : (b : FileEntry) → In b s.files → IsWhole (way_to_root s b.folder)
+
+-- the same, computed
+unfoldable pub is_whole : List FolderEntry → Bool
+is_whole [] = false
+is_whole (e ∷ []) = e.parent == 0
+is_whole (e ∷ d ∷ ds) = not (e.parent == 0) && is_whole (d ∷ ds)
+
+-- whether the one test passes wherever the other does
+unfoldable pub only_if : Bool → Bool → Bool
+only_if a b = not a || b
+
+unfoldable pub is_same_file : FileEntry → FileEntry → Bool
+is_same_file a b = (a.id == b.id && a.folder == b.folder) && (bytes_eq a.name b.name && bytes_eq a.bytes b.bytes)
+
+unfoldable pub folders_differ : List FolderEntry → Bool
+folders_differ fs = list_all (λ (a : FolderEntry). list_all (λ (b : FolderEntry). only_if (a.parent == b.parent && bytes_eq a.name b.name) (a.id == b.id)) fs) fs
+
+unfoldable pub files_differ : List FileEntry → Bool
+files_differ xs = list_all (λ (a : FileEntry). list_all (λ (b : FileEntry). only_if (a.folder == b.folder && bytes_eq a.name b.name) (is_same_file a b)) xs) xs
+
+unfoldable pub kinds_differ : List FolderEntry → List FileEntry → Bool
+kinds_differ fs xs = list_all (λ (a : FolderEntry). list_all (λ (b : FileEntry). not (a.parent == b.folder && bytes_eq a.name b.name)) xs) fs
+
+unfoldable pub folders_are_named : List FolderEntry → Bool
+folders_are_named fs = list_all (λ (a : FolderEntry). (a.parent == 0 || is_name a.name) && only_if (a.parent == 0) (a.id == 1)) fs
+
+unfoldable pub ways_are_whole : Store → Bool
+ways_are_whole s = list_all (λ (a : FolderEntry). is_whole (way_to_root s a.id)) s.folders && list_all (λ (b : FileEntry). is_name b.name && is_whole (way_to_root s b.folder)) s.files
+
+unfoldable pub has_own_names : Store → Bool
+has_own_names s = (folders_differ s.folders && (files_differ s.files && kinds_differ s.folders s.files)) && (folders_are_named s.folders && ways_are_whole s)
