@@ -51,21 +51,21 @@ own_names s t =
     let named = and_parts (folders_are_named s.folders) (ways_are_whole s) halves.1 in
     let ways = and_parts (list_all (λ (a : FolderEntry). is_whole (way_to_root s a.id)) s.folders) (list_all (λ (b : FileEntry). is_name b.name && is_whole (way_to_root s b.folder)) s.files) named.1 in
     let folder = λ (a : FolderEntry) (i : In a s.folders). and_parts (a.parent == 0 || is_name a.name) (only_if (a.parent == 0) (a.id == 1))
-      (each FolderEntry (λ a. (a.parent == 0 || is_name a.name) && only_if (a.parent == 0) (a.id == 1)) a s.folders named.0 i) in
+    (each FolderEntry (λ a. (a.parent == 0 || is_name a.name) && only_if (a.parent == 0) (a.id == 1)) a s.folders named.0 i) in
     let file = λ (b : FileEntry) (j : In b s.files). and_parts (is_name b.name) (is_whole (way_to_root s b.folder))
-      (each FileEntry (λ b. is_name b.name && is_whole (way_to_root s b.folder)) b s.files ways.1 j) in record {
+    (each FileEntry (λ b. is_name b.name && is_whole (way_to_root s b.folder)) b s.files ways.1 j) in record {
       two_folders = λ a b i j p n.
-        let row = each FolderEntry (λ a. list_all (λ (b : FolderEntry). only_if (a.parent == b.parent && bytes_eq a.name b.name) (a.id == b.id)) s.folders) a s.folders differ.0 i in
-        let cell = each FolderEntry (λ b. only_if (a.parent == b.parent && bytes_eq a.name b.name) (a.id == b.id)) b s.folders row j in
-        eqb-true a.id b.id (follows (a.parent == b.parent && bytes_eq a.name b.name) (a.id == b.id) cell (both_are a.parent b.parent a.name b.name p n));
+          let row = each FolderEntry (λ a. list_all (λ (b : FolderEntry). only_if (a.parent == b.parent && bytes_eq a.name b.name) (a.id == b.id)) s.folders) a s.folders differ.0 i in
+          let cell = each FolderEntry (λ b. only_if (a.parent == b.parent && bytes_eq a.name b.name) (a.id == b.id)) b s.folders row j in
+          eqb-true a.id b.id (follows (a.parent == b.parent && bytes_eq a.name b.name) (a.id == b.id) cell (both_are a.parent b.parent a.name b.name p n));
       two_files = λ a b i j p n.
-        let row = each FileEntry (λ a. list_all (λ (b : FileEntry). only_if (a.folder == b.folder && bytes_eq a.name b.name) (is_same_file a b)) s.files) a s.files others.0 i in
-        let cell = each FileEntry (λ b. only_if (a.folder == b.folder && bytes_eq a.name b.name) (is_same_file a b)) b s.files row j in
-        same_entry a b (follows (a.folder == b.folder && bytes_eq a.name b.name) (is_same_file a b) cell (both_are a.folder b.folder a.name b.name p n));
+          let row = each FileEntry (λ a. list_all (λ (b : FileEntry). only_if (a.folder == b.folder && bytes_eq a.name b.name) (is_same_file a b)) s.files) a s.files others.0 i in
+          let cell = each FileEntry (λ b. only_if (a.folder == b.folder && bytes_eq a.name b.name) (is_same_file a b)) b s.files row j in
+          same_entry a b (follows (a.folder == b.folder && bytes_eq a.name b.name) (is_same_file a b) cell (both_are a.folder b.folder a.name b.name p n));
       folder_and_file = λ a b i j p n.
-        let row = each FolderEntry (λ a. list_all (λ (b : FileEntry). not (a.parent == b.folder && bytes_eq a.name b.name)) s.files) a s.folders others.1 i in
-        let cell = each FileEntry (λ b. not (a.parent == b.folder && bytes_eq a.name b.name)) b s.files row j in
-        false≢true (sym (not-true (a.parent == b.folder && bytes_eq a.name b.name) cell) ∙ both_are a.parent b.folder a.name b.name p n);
+          let row = each FolderEntry (λ a. list_all (λ (b : FileEntry). not (a.parent == b.folder && bytes_eq a.name b.name)) s.files) a s.folders others.1 i in
+          let cell = each FileEntry (λ b. not (a.parent == b.folder && bytes_eq a.name b.name)) b s.files row j in
+          false≢true (sym (not-true (a.parent == b.folder && bytes_eq a.name b.name) cell) ∙ both_are a.parent b.folder a.name b.name p n);
       folder_name = λ a i n. ⊎_elim (λ z. absurd (n (eqb-true a.parent 0 z))) (λ r. r) (or_cases (a.parent == 0) (is_name a.name) (folder a i).0);
       file_name = λ b j. (file b j).0;
       one_root = λ a i z. eqb-true a.id 1 (follows (a.parent == 0) (a.id == 1) (folder a i).1 (eq-eqb a.parent 0 z));

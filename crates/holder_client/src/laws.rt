@@ -20,5 +20,4 @@ pub fn paths_in_a_view_differ()
 /// A store that passes the computed test has names of its own.
 pub fn own_names_are_told()
     ensures { (s : Store) → IsTrue (has_own_names s) → HasOwnNames s }
-{
-}
+{}
