@@ -1,9 +1,8 @@
 -- What holds of the keys after each entry, computed for one journal.
-use Rattle.std.specs.Prelude.{ℕ, Bool, true, false, not, ◌&&◌, ◌||◌, ◌==◌, List, [], ◌∷◌, ◌++◌, map}
+use Rattle.std.specs.Prelude.{Bool, not, ◌&&◌, ◌==◌, List, [], ◌∷◌, ◌++◌}
 use Rattle.std.specs.List.{list_all, list_any}
 use Rattle.cry_base.specs.Sets.{has}
 use Rattle.cry_base.specs.declared.roles.Edge.{Edge}
-use Rattle.cry_base.specs.declared.roles.Role.{Role}
 use Rattle.role_graph.specs.Roles.{same_role}
 use Rattle.role_graph.specs.Edges.{edges, reach_along, same_edge}
 use Rattle.public_fold.specs.Records.{Link}
@@ -30,7 +29,7 @@ links_are_clean s = list_all (λ l. not (has same_role s.after.dirty l.edge.from
 unfoldable pub holds_from : List Link → Stand → List Entry → Bool
 holds_from links at [] = dirt_is_closed at && edges_are_linked at links
 holds_from links at (entry ∷ entries) =
-       dirt_is_closed at && edges_are_linked at links && links_are_clean (entry_step at entry)
+    dirt_is_closed at && edges_are_linked at links && links_are_clean (entry_step at entry)
     && holds_from (links ++ (entry_step at entry).links) (stand_then at entry) entries
 
 unfoldable pub invariants_hold : Journal → Bool

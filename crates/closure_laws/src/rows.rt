@@ -4,7 +4,7 @@ ghost use Rattle.cry_base.specs.Requests.Request.{Relocate, Rename, MakeFolder};
 ghost use Rattle.cry_base.specs.Texts.{ended_lines};
 ghost use Rattle.role_graph.specs.Rights.Who.{TheOwner, TheHolder};
 ghost use Rattle.public_fold.specs.Journal.{nothing};
-ghost use Rattle.public_fold.specs.WorkedSteps.{fresh, renaming, rewriting, granting, revoking, writing_again, renaming_again, moving_away, does, dropping};
+ghost use Rattle.public_fold.specs.WorkedSteps.{fresh, renaming, rewriting, granting, revoking, writing_again, renaming_again, moving_away, does, dropping, making_again};
 ghost use Rattle.closure_laws.specs.Gains.{gains_from};
 ghost use Rattle.closure_laws.specs.Invariants.{invariants_hold};
 ghost use Rattle.closure_laws.specs.Secrecy.{keeps_secret};
@@ -68,6 +68,7 @@ pub fn worked_journals_keep_secrets()
     ensures written { map (keeps_secret writing_again) (1 ∷ 2 ∷ 3 ∷ []) ≡ true ∷ true ∷ true ∷ [] }
     ensures renamed { map (keeps_secret renaming_again) (1 ∷ 2 ∷ []) ≡ true ∷ true ∷ [] }
     ensures moved { map (keeps_secret moving_away) (1 ∷ []) ≡ true ∷ [] }
+    ensures made { map (keeps_secret making_again) (1 ∷ []) ≡ true ∷ [] }
     ensures gained { map (keeps_secret (granting ++ (does 5 (MakeFolder (codes "/b")) ∷ does 0 (Relocate (codes "/b") (codes "/a")) ∷ []))) (1 ∷ []) ≡ true ∷ [] }
 {}
 
@@ -75,6 +76,5 @@ pub fn worked_journals_keep_secrets()
 /// keys, and no link leaves a dirty key.
 #[tactic(auto, unfolding(crate::specs::WorkedHistories::histories))]
 pub fn worked_journals_keep_their_keys()
-    ensures { map invariants_hold (rewriting ∷ writing_again ∷ renaming_again ∷ moving_away ∷ dropping ∷ []) ≡ true ∷ true ∷ true ∷ true ∷ true ∷ [] }
-{
-}
+    ensures { map invariants_hold (rewriting ∷ writing_again ∷ renaming_again ∷ moving_away ∷ making_again ∷ dropping ∷ []) ≡ true ∷ true ∷ true ∷ true ∷ true ∷ true ∷ [] }
+{}

@@ -1,1 +1,3 @@
+pub mod OwnNames
+pub mod OwnPath
 pub mod Viewing

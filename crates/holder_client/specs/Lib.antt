@@ -1,2 +1,3 @@
+pub mod OwnPaths
 pub mod View
 pub mod WorkedViews

@@ -1,11 +1,12 @@
 //! Worked rows of views, each computed by the checker from the definitions.
-ghost use Rattle.std.specs.Prelude.{◌≡◌, [], ◌∷◌, codes};
+ghost use Rattle.std.specs.Prelude.{◌≡◌, [], ◌∷◌, codes, map, true, false};
 ghost use Rattle.cry_base.specs.Requests.Request.{AddHolder, MakeFolder, WriteFile, Rename, Grant, Revoke};
 ghost use Rattle.cry_base.specs.Store.{root_store};
 ghost use Rattle.cry_base.specs.Texts.{ended_lines};
 ghost use Rattle.cry_base.specs.WorkedRows.{granted, store_after};
 ghost use Rattle.role_graph.specs.Rights.Who.{TheOwner, TheHolder};
 ghost use Rattle.holder_client.specs.WorkedViews.{moved_away};
+ghost use Rattle.holder_client.specs.OwnPaths.{has_own_names};
 ghost use Rattle.holder_client.specs.View.{view, spell_view};
 
 /// A fresh store shows its root.
@@ -60,4 +61,11 @@ pub fn move_away_from_a_grant()
     ensures holder { spell_view (view moved_away (TheHolder 1)) ≡ ended_lines (codes "ancestor /" ∷ codes "folder /s" ∷ []) }
     ensures owner { spell_view (view moved_away TheOwner)
         ≡ ended_lines (codes "folder /" ∷ codes "folder /p" ∷ codes "folder /p/d" ∷ codes "file /p/d/f 02" ∷ codes "folder /s" ∷ []) }
+{}
+
+/// The worked stores have names of their own, and one with two nodes of one name hasn't.
+#[tactic(auto, unfolding(crate::specs::WorkedViews::views))]
+pub fn worked_stores_have_own_names()
+    ensures worked { map has_own_names (root_store ∷ granted ∷ moved_away ∷ store_after moved_away (Rename (codes "/s") (codes "t") ∷ []) ∷ []) ≡ true ∷ true ∷ true ∷ true ∷ [] }
+    ensures twice { has_own_names (record granted { files = record { id = 1; folder = 1; name = codes "a"; bytes = [] } ∷ [] }) ≡ false }
 {}

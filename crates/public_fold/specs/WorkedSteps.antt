@@ -64,6 +64,13 @@ unfoldable pub moving_away : Journal
 moving_away = fresh ++ (Session ∷ does 5 (MakeFolder (codes "/s")) ∷ does 5 (MakeFolder (codes "/p")) ∷ does 5 (MakeFolder (codes "/s/d")) ∷ does 1 (WriteFile (codes "/s/d/f") (1 ∷ []))
     ∷ does 1 AddHolder ∷ does 0 (Grant 1 (codes "/s")) ∷ does 2 (Relocate (codes "/s/d") (codes "/p")) ∷ does 2 (WriteFile (codes "/p/d/f") (2 ∷ [])) ∷ [])
 
+-- after "revoked", what is put into the folder under its dirty keys: a file moved in; and after two more revocations
+-- a new folder, and a new file and the folder's new name
+unfoldable pub making_again : Journal
+making_again = revoking ++ (Session ∷ does 1 (WriteFile (codes "/y") (3 ∷ [])) ∷ does 2 (Relocate (codes "/y") (codes "/a"))
+    ∷ does 0 (Grant 1 (codes "/a")) ∷ does 1 (Revoke 1 (codes "/a")) ∷ does 6 (MakeFolder (codes "/a/n"))
+    ∷ does 0 (Grant 1 (codes "/a")) ∷ does 1 (Revoke 1 (codes "/a")) ∷ does 3 (WriteFile (codes "/a/w") (4 ∷ [])) ∷ does 4 (Rename (codes "/a") (codes "b")) ∷ [])
+
 -- after "grant", the file moved to the root and back, a folder granted and dropped with its grant, the file dropped
 unfoldable pub dropping : Journal
 dropping = granting ++ (Session ∷ does 0 (Relocate (codes "/a/x") (codes "/")) ∷ does 5 (MakeFolder (codes "/a/b")) ∷ does 0 (Grant 1 (codes "/a/b")) ∷ does 0 (Remove (codes "/a/b")) ∷ does 0 (Remove (codes "/x")) ∷ [])
@@ -116,5 +123,5 @@ edges_agree at (entry ∷ entries) = edges_agree_at at entry ∷ edges_agree (st
 
 -- every word of a journal
 unfoldable pub journals : Unit {0}
-unfolding begun_journal epoch_attempt command_attempt attempts_at course_then attempts has_count note_fits entry_fits all_fit digits draws_of due_payload due_end answer_with answer spell_reply done_reply keys_from accepted_going line_going line_reply script_replies script_going opened script down_from limited limits_now entry_change edges_agree_at edges_agree marks changes folder_piece file_piece holder_piece pieces_of sealing_role text_of no_keys next_epoch without keys_without edges_left dirty_left renewed next_serial numbered given keys_then newest present edges_then is_published published_edges link_of links_from content_of contents_from published step_with key_step nothing first_key note_step entry_step entry_store stand_then stand_after store_of keys_of steps_from steps_of note_len content_len payload_len entry_payload payloads_from end_of some_keys does fresh renaming rewriting granting granting_stopped revoking writing_again renaming_again moving_away dropping step_at nonces_in renewals_at links_at contents_at
+unfolding begun_journal epoch_attempt command_attempt attempts_at course_then attempts has_count note_fits entry_fits all_fit digits draws_of due_payload due_end answer_with answer spell_reply done_reply keys_from accepted_going line_going line_reply script_replies script_going opened script down_from limited limits_now entry_change edges_agree_at edges_agree marks changes folder_piece file_piece holder_piece pieces_of sealing_role text_of no_keys next_epoch without keys_without edges_left dirty_left renewed next_serial numbered given keys_then newest present edges_then is_published published_edges link_of links_from content_of contents_from published step_with key_step nothing first_key note_step entry_step entry_store stand_then stand_after store_of keys_of steps_from steps_of note_len content_len payload_len entry_payload payloads_from end_of some_keys does fresh renaming rewriting granting granting_stopped revoking writing_again renaming_again moving_away making_again dropping step_at nonces_in renewals_at links_at contents_at
 journals = tt

@@ -11,7 +11,7 @@ ghost use Rattle.public_fold.specs.Attempts.{attempts};
 ghost use Rattle.public_fold.specs.Attempts.Event.{Enters, IsAbandoned, LosesEpoch, Reopens};
 ghost use Rattle.public_fold.specs.StandFits.{all_fit};
 ghost use Rattle.public_fold.specs.Valid.{IsValid};
-ghost use Rattle.public_fold.specs.WorkedSteps.{granting_stopped, nonces_in, some_keys, down_from, limited, limits_now, edges_agree, fresh, renaming, rewriting, granting, revoking, writing_again, renaming_again, moving_away, dropping, step_at, renewals_at, links_at, contents_at};
+ghost use Rattle.public_fold.specs.WorkedSteps.{granting_stopped, nonces_in, some_keys, down_from, limited, limits_now, edges_agree, fresh, renaming, rewriting, granting, revoking, writing_again, renaming_again, moving_away, making_again, dropping, step_at, renewals_at, links_at, contents_at};
 
 /// A fresh store has 819 bytes. Its keys, links and content are numbered in one row.
 #[tactic(auto, unfolding(crate::specs::WorkedSteps::journals))]
@@ -103,6 +103,7 @@ pub fn steps_leave_the_edges_of_the_store()
     ensures writing_again { edges_agree nothing writing_again ≡ replicate 13 true }
     ensures renaming_again { edges_agree nothing renaming_again ≡ replicate 11 true }
     ensures moving_away { edges_agree nothing moving_away ≡ replicate 11 true }
+    ensures making_again { edges_agree nothing making_again ≡ replicate 19 true }
     ensures dropping { edges_agree nothing dropping ≡ replicate 13 true }
 {}
 
@@ -125,6 +126,16 @@ pub fn worked_journals_are_valid()
     ensures written { IsValid writing_again }
     ensures renamed { IsValid renaming_again }
     ensures moved { IsValid moving_away }
+    ensures made_again { IsValid making_again }
     ensures dropped { IsValid dropping }
-    ensures fit { map (all_fit nothing) (rewriting ∷ writing_again ∷ renaming_again ∷ moving_away ∷ dropping ∷ []) ≡ true ∷ true ∷ true ∷ true ∷ true ∷ [] }
+    ensures fit { map (all_fit nothing) (rewriting ∷ writing_again ∷ renaming_again ∷ moving_away ∷ making_again ∷ dropping ∷ []) ≡ true ∷ true ∷ true ∷ true ∷ true ∷ true ∷ [] }
+{}
+
+/// What is put into a folder after a revocation comes under keys that are renewed for it.
+#[tactic(auto, unfolding(crate::specs::WorkedSteps::journals))]
+pub fn made_after_revocation()
+    ensures file_moved_in { renewals_at making_again 12 ≡ (sub_of 2 ∷ files_of 2 ∷ []) ∷ [] }
+    ensures folder_made { renewals_at making_again 15 ≡ (sub_of 2 ∷ []) ∷ [] }
+    ensures file_made { renewals_at making_again 18 ≡ (sub_of 2 ∷ files_of 2 ∷ []) ∷ [] }
+    ensures renamed { renewals_at making_again 19 ≡ (sub_of 3 ∷ back_of 2 ∷ back_of 3 ∷ data_of 2 ∷ []) ∷ [] }
 {}

@@ -17,3 +17,37 @@ returns-clause-moved c = ((refl, (tt, ((refl, refl), ((refl, refl), ((refl, refl
 pub returns-clause-dropped : goal.returns-clause-dropped
 unfolding journals
 returns-clause-dropped c = ((refl, (tt, ((refl, refl), ((refl, refl), ((refl, refl), ((refl, refl), (tt, ((refl, refl), ((refl, refl), ((refl, refl), ((refl, refl), ((refl, refl), tt)))))))))))), lit≤ tt)
+
+pub returns-clause-made_again : goal.returns-clause-made_again
+unfolding journals
+returns-clause-made_again c = (
+  (
+    refl,
+    (
+      tt,
+      (
+        (refl, refl),
+        (
+          (refl, refl),
+          (
+            (refl, refl),
+            (
+              (refl, refl),
+              (
+                tt,
+                (
+                  (refl, refl),
+                  (
+                    tt,
+                    ((refl, refl), ((refl, refl), ((refl, refl), ((refl, refl), ((refl, refl), ((refl, refl), ((refl, refl), ((refl, refl), ((refl, refl), tt))))))))),
+                  ),
+                ),
+              ),
+            ),
+          ),
+        ),
+      ),
+    ),
+  ),
+  lit≤ tt,
+)

@@ -1,0 +1,5 @@
+use Rattle.holder_client.proofs.OwnPath.{own_paths}
+use Rattle.holder_client.proofs.laws.paths_in_a_view_differ.Goals as goal
+
+pub returns : goal.returns
+returns c = own_paths
