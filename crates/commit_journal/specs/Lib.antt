@@ -1,0 +1,6 @@
+pub mod Answering
+pub mod Image
+pub mod Log
+pub mod Placed
+pub mod Reading
+pub mod Turns
