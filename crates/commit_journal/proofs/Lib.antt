@@ -1,2 +1,4 @@
 pub mod Judged
+pub mod Pieces
+pub mod Spelled
 pub mod Walked

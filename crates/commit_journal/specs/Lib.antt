@@ -1,5 +1,6 @@
 pub mod Answering
 pub mod Image
+pub mod Laws
 pub mod Log
 pub mod Placed
 pub mod Reading

@@ -5,10 +5,13 @@ mod batch_type;
 mod fault;
 mod head;
 mod judge;
+mod laws;
 mod past;
 mod placed;
 mod reading;
 
 pub use batch_type::BatchType;
 pub use fault::OpenFault;
+pub use laws::image_is_read_back;
 pub use placed::{Body, Placed};
+pub use reading::read_owner;

@@ -1,0 +1,7 @@
+//! Laws of the log, for whoever reasons about images that were written or will be read.
+ghost use Rattle.commit_journal.specs.Laws.{IsReadBack};
+
+/// Law: the image of published batches, with a closed gate behind it, is read as these batches, whatever follows.
+pub fn image_is_read_back()
+    ensures { IsReadBack }
+{}
