@@ -46,7 +46,7 @@ goes_on-fault faults.OutOfMemory turn rest is = tt
 
 -- ---- one turn
 
-turn-nil : (owner : List ℕ) (past : Past) → turn_at owner past [] ≡ Err (Damaged past.at)
+pub turn-nil : (owner : List ℕ) (past : Past) → turn_at owner past [] ≡ Err (Damaged past.at)
 unfolding turn_at and_then
 turn-nil owner past = rw (head_short past [] (omega arith)) refl
 

@@ -40,3 +40,8 @@ abbrev pub IsReadBack : Type 0
 IsReadBack = (owner : List ℕ) (bodies : List PlainBody) (gate : ℕ) (behind : List ℕ) → AreBodies 0 bodies →
     length (image owner (batches_from 0 0 bodies)) + 1 ≤ 268435456 → gate ≢ 1 →
     log_verdict owner (image owner (batches_from 0 0 bodies) ++ gate ∷ behind) ≡ Ok (placed_from 42 0 0 bodies)
+
+-- a log that is read stays the same, whatever bytes follow the image: nothing behind its first closed gate is looked at
+abbrev pub IsBlindBehind : Type 0
+IsBlindBehind = (owner front behind : List ℕ) (placed : List PlainPlaced) →
+    log_verdict owner front ≡ Ok placed → log_verdict owner (front ++ behind) ≡ Ok placed

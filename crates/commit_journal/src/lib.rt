@@ -8,10 +8,15 @@ mod judge;
 mod laws;
 mod past;
 mod placed;
+mod places;
 mod reading;
 
 pub use batch_type::BatchType;
 pub use fault::OpenFault;
-pub use laws::image_is_read_back;
+pub use laws::{image_is_read_back, nothing_behind_is_looked_at};
 pub use placed::{Body, Placed};
+pub use places::{content_place, link_place};
 pub use reading::read_owner;
+
+#[cfg(test)]
+mod tests;

@@ -1,4 +1,4 @@
-//! A batch that was read, and where it stands.
+//! A batch that was read.
 use cry_base::Epoch;
 use record_format::Payload;
 
