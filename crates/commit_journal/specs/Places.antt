@@ -1,0 +1,38 @@
+-- Where the records of a payload stand. This project's own, docs/FORMAT.md, "Records" and "Notes and payloads".
+use Rattle.std.specs.Prelude.{◌≡◌, ℕ, ◌+◌, ◌*◌, ◌<◌, ◌^◌, length, take}
+use Rattle.std.specs.List.{sum_by}
+use Rattle.record_format.specs.Plain.{PlainPayload, plain_payload}
+use Rattle.record_format.specs.Sizes.{note_size, content_size, payload_size}
+use Rattle.record_format.specs.Spellable.{IsSpellable}
+use Rattle.commit_journal.specs.declared.placed.Body.{Body}
+use Rattle.commit_journal.specs.declared.placed.Body.TheVariants.{Commands, NewEpoch}
+
+-- the bytes before a link: the note, two counts, the links before it
+abbrev pub link_offset : PlainPayload → ℕ → ℕ
+link_offset p index = note_size p.note + 8 + 98 * index
+
+-- the bytes before a content: the note, two counts, the links, the contents before it
+abbrev pub content_offset : PlainPayload → ℕ → ℕ
+content_offset p index = note_size p.note + 8 + 98 * length p.links + sum_by content_size (take index p.contents)
+
+-- a payload that has a spelling, which ends at a place of 64 bits
+abbrev pub IsPlacedAt : ℕ → PlainPayload → Type 0
+IsPlacedAt place p = IsSpellable p × (place + payload_size p < 2 ^ 64)
+
+-- a command with such a link
+abbrev pub HasLink : ℕ → ℕ → Body → Type 0
+HasLink place index (Commands payload) = IsPlacedAt place (plain_payload payload) × (index < length payload.links.items)
+HasLink place index NewEpoch = ⊥
+
+abbrev pub IsLinkPlace : ℕ → ℕ → ℕ → Body → Type 0
+IsLinkPlace place index result (Commands payload) = result ≡ place + link_offset (plain_payload payload) index
+IsLinkPlace place index result NewEpoch = ⊥
+
+-- a command with such a content
+abbrev pub HasContent : ℕ → ℕ → Body → Type 0
+HasContent place index (Commands payload) = IsPlacedAt place (plain_payload payload) × (index < length payload.contents.items)
+HasContent place index NewEpoch = ⊥
+
+abbrev pub IsContentPlace : ℕ → ℕ → ℕ → Body → Type 0
+IsContentPlace place index result (Commands payload) = result ≡ place + content_offset (plain_payload payload) index
+IsContentPlace place index result NewEpoch = ⊥

@@ -1,0 +1,171 @@
+//! Judges a whole batch in memory (docs/FORMAT.md, "The file"):
+//!
+//! ```text
+//!  0  13  head                  45+L   32  check
+//! 13  32  slot                  77+L   32  owner tag
+//! 45   L  masked payload       109+L    1  next gate
+//! ```
+ghost use Rattle.std.specs.Prelude.{◌≡◌, ◌≢◌, ◌+◌, ◌≤◌, ◌^◌, length, slice_range, Err, IfOk};
+ghost use Rattle.chacha_seal.specs.Sealing.{masked};
+ghost use Rattle.commit_journal.specs.Answering.{Answers};
+ghost use Rattle.commit_journal.specs.Placed.{plain_body};
+ghost use Rattle.commit_journal.specs.Log as log;
+ghost use Rattle.commit_journal.specs.Turns.{plain_option, GoesOnAt};
+
+use crate::head::{BATCH_LEN, HEAD_LEN, Head};
+use crate::past::Past;
+use crate::{Body, OpenFault, Placed};
+use chacha_seal::{Key, OwnerK, mask_in_place, owner_tag_key};
+use hmac_seal::{Hmac, hmac, tags_equal};
+use record_format::{PayloadFault, read_payload};
+use std::alloc::Global;
+
+const SLOT: usize = 13;
+
+const PAYLOAD: usize = 45;
+
+const EPOCH: u8 = 2;
+
+/// A gate with this byte is open, one with any other is closed.
+pub(crate) const OPEN: u8 = 1;
+
+/// One batch more, and what is known behind it.
+#[derive(Debug, Drop)]
+pub(crate) struct Turn {
+    pub(crate) placed: Placed,
+    pub(crate) past: Past,
+}
+
+fn array_at(bytes: &[u8], from: usize) -> [u8; 32]
+    requires { from + 32 ≤ length bytes.now }
+    ensures { result ≡ slice_range bytes.now from (from + 32) }
+{
+    let mut array = [0; 32];
+    array.copy_from_slice(&bytes[from..from + 32]);
+    array
+}
+
+#[tactic(auto, unfolding(crate::specs::Log::tag_due))]
+fn tag_due(owner: &Key<OwnerK>, previous: &[u8; 32], size: usize, batch: &[u8]) -> [u8; 32]
+    requires { length batch.now ≡ 110 + size }
+    ensures { result ≡ log.tag_due owner.now.bytes previous.now size batch.now }
+{
+    let mut tag = Hmac::start(&owner_tag_key(owner));
+    tag.add(previous);
+    tag.add(&batch[..HEAD_LEN]);
+    tag.add(&batch[PAYLOAD..PAYLOAD + size]);
+    tag.add(&batch[PAYLOAD + size..PAYLOAD + size + 32]);
+    tag.end()
+}
+
+/// Takes the veil away from a payload, and reads it.
+#[tactic(auto, unfolding(crate::specs::Log::body_of))]
+fn body_of(
+    alloc: Global,
+    past: &Past,
+    head: &Head,
+    slot: &[u8; 32],
+    payload: &mut [u8],
+) -> Result<Body, OpenFault>
+    requires { past.now.at ≤ 2 ^ 32 }
+    ensures answer { Answers plain_body result (log.placed_body past.now (log.body_of head.now (masked slot.now payload.old))) }
+    ensures no_disk { result ≢ Err OpenFault.DiskFault }
+{
+    if head.type_byte == EPOCH {
+        return Ok(Body::NewEpoch);
+    }
+    mask_in_place(slot, payload);
+    match read_payload(alloc, payload) {
+        Ok(payload) => Ok(Body::Commands(payload)),
+        Err(PayloadFault::Format { at }) => Err(OpenFault::Damaged {
+            at: past.at + PAYLOAD as u64 + at as u64,
+        }),
+        Err(PayloadFault::OutOfMemory) => Err(OpenFault::OutOfMemory),
+    }
+}
+
+#[tactic(auto, unfolding(crate::specs::Log::published_turn, crate::specs::Answering::and_then))]
+fn judge_published(
+    alloc: Global,
+    past: &Past,
+    head: &Head,
+    batch: &mut [u8],
+) -> Result<Option<Turn>, OpenFault>
+    requires whole { length batch.old ≡ 110 + head.now.size }
+    requires fits { past.now.at ≤ 2 ^ 32 }
+    ensures answer { Answers plain_option result (log.published_turn past.now head.now batch.old) }
+    ensures next { IfOk result (GoesOnAt (past.now.at + (110 + head.now.size))) }
+    ensures no_disk { result ≢ Err OpenFault.DiskFault }
+{
+    let size = head.size as usize;
+    let slot = array_at(batch, SLOT);
+    let check = array_at(batch, PAYLOAD + size);
+    let tag = array_at(batch, PAYLOAD + size + 32);
+    let gate = batch[PAYLOAD + size + 64];
+    if !tags_equal(&hmac(&slot, &batch[PAYLOAD..PAYLOAD + size], &[]), &check) {
+        if gate == OPEN {
+            return Err(OpenFault::Tampered {
+                batch: head.number,
+                at: past.at + SLOT as u64,
+            });
+        }
+        return Ok(None);
+    }
+    let body = body_of(
+        alloc,
+        past,
+        head,
+        &slot,
+        &mut batch[PAYLOAD..PAYLOAD + size],
+    )?;
+    Ok(Some(turn_of(past, head, body, tag, gate)))
+}
+
+fn turn_of(past: &Past, head: &Head, body: Body, tag: [u8; 32], gate: u8) -> Turn
+    requires { past.now.at ≤ 2 ^ 32 }
+    ensures placed { result.placed ≡ record { batch = head.now.number; epoch = head.now.epoch; place = past.now.at + 45; body = body } }
+    ensures past { result.past ≡ record { at = past.now.at + (110 + head.now.size); number = head.now.number; epoch = head.now.epoch; tag = tag; gate = gate } }
+{
+    Turn {
+        placed: Placed {
+            batch: head.number,
+            epoch: head.epoch,
+            place: past.at + PAYLOAD as u64,
+            body,
+        },
+        past: Past {
+            at: past.at + (BATCH_LEN + u64::from(head.size)),
+            number: head.number,
+            epoch: head.epoch,
+            tag,
+            gate,
+        },
+    }
+}
+
+/// Judges the bytes of a batch behind an open gate, and leaves its payload unmasked in them where it is published.
+/// The result is `None` where the batch ends the log, since nobody was given its payload.
+#[tactic(auto, unfolding(crate::specs::Log::tagged_turn))]
+pub(crate) fn judge(
+    alloc: Global,
+    owner: &Key<OwnerK>,
+    past: &Past,
+    head: &Head,
+    batch: &mut [u8],
+) -> Result<Option<Turn>, OpenFault>
+    requires whole { length batch.old ≡ 110 + head.now.size }
+    requires fits { past.now.at ≤ 2 ^ 32 }
+    ensures answer { Answers plain_option result (log.tagged_turn owner.now.bytes past.now head.now batch.old) }
+    ensures next { IfOk result (GoesOnAt (past.now.at + (110 + head.now.size))) }
+    ensures no_disk { result ≢ Err OpenFault.DiskFault }
+{
+    let size = head.size as usize;
+    let tag = array_at(batch, PAYLOAD + size + 32);
+    if !tags_equal(&tag_due(owner, &past.tag, size, batch), &tag) {
+        return Err(OpenFault::Tampered {
+            batch: head.number,
+            at: past.at + (PAYLOAD + size + 32) as u64,
+        });
+    }
+    judge_published(alloc, past, head, batch)
+}

@@ -1,0 +1,13 @@
+//! What is known between two batches.
+use cry_base::Epoch;
+
+/// The log up to a gate: where the next batch would begin, the number and epoch of the last one (0 for none), the tag
+/// that the next owner tag hangs on, and the gate's byte.
+#[derive(Clone, Copy, Debug)]
+pub(crate) struct Past {
+    pub(crate) at: u64,
+    pub(crate) number: u32,
+    pub(crate) epoch: Epoch,
+    pub(crate) tag: [u8; 32],
+    pub(crate) gate: u8,
+}

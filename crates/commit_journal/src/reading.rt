@@ -1,0 +1,146 @@
+//! Reads the log of a store file, gate by gate. The file is never written.
+ghost use Rattle.std.specs.Prelude.{◌≡◌, ◌≢◌, ◌<◌, ◌≤◌, ◌+◌, ◌^◌, Err, length, drop, slice_range, IfOk, OnOk};
+ghost use Rattle.cry_io.specs.Told.{WhereTold};
+ghost use Rattle.commit_journal.specs.Answering.{Answers};
+ghost use Rattle.commit_journal.specs.Log as log;
+ghost use Rattle.commit_journal.specs.Placed.{plain_log};
+ghost use Rattle.commit_journal.specs.Reading.{IsOnlyRead};
+ghost use Rattle.commit_journal.specs.Turns.{plain_option, GoesOnWithin};
+
+use crate::head::{BATCH_LEN, HEAD_LEN, Head, head_of, is_batch};
+use crate::judge::{OPEN, Turn, judge};
+use crate::past::Past;
+use crate::{OpenFault, Placed};
+use chacha_seal::{Key, OwnerK, check_of};
+use cry_base::{Epoch, List};
+use cry_io::Disk;
+use hmac_seal::tags_equal;
+use std::alloc::Global;
+
+const HEADER_LEN: usize = 42;
+
+const MAGIC: [u8; 9] = *b"CRYPTREE\x01";
+
+fn array_at(bytes: &[u8; HEADER_LEN]) -> [u8; 32]
+    ensures { result ≡ slice_range bytes.now 9 41 }
+{
+    let mut array = [0; 32];
+    array.copy_from_slice(&bytes[9..41]);
+    array
+}
+
+/// What is known behind the header.
+#[tactic(auto, unfolding(crate::specs::Log::start_of))]
+fn start_of(owner: &Key<OwnerK>, header: &[u8; HEADER_LEN]) -> Result<Past, OpenFault>
+    ensures answer { Answers (λ past. past) result (log.start_of owner.now.bytes header.now) }
+    ensures place { IfOk result (λ past. past.at ≡ 42) }
+    ensures no_disk { result ≢ Err OpenFault.DiskFault }
+{
+    if header[..9] != MAGIC[..] {
+        return Err(OpenFault::NotAStore);
+    }
+    let check = array_at(header);
+    if !tags_equal(&check, &check_of(owner.bytes())) {
+        return Err(OpenFault::WrongKey);
+    }
+    Ok(Past {
+        at: HEADER_LEN as u64,
+        number: 0,
+        epoch: Epoch(0),
+        tag: check,
+        gate: header[41],
+    })
+}
+
+fn read_start<D: Disk>(disk: &mut D, owner: &Key<OwnerK>) -> Result<Past, OpenFault>
+    ensures answer { WhereTold (D.shown disk.old) (λ s. Answers (λ past. past) result (log.start_at owner.now.bytes s)) }
+    ensures place { IfOk result (λ past. past.at ≡ 42) }
+    ensures inside { OnOk result (42 ≤ D.size_of disk.old) }
+    ensures read_only { IsOnlyRead D.shown D.size_of D.may_leave disk.old disk.new }
+    ensures counts { D.faults disk.old ≤ D.faults disk.new }
+    ensures disk_fault { result ≡ Err OpenFault.DiskFault → D.faults disk.old < D.faults disk.new }
+{
+    if disk.size() < HEADER_LEN as u64 {
+        return Err(OpenFault::NotAStore);
+    }
+    let mut header = [0; HEADER_LEN];
+    disk.read_at(0, &mut header)?;
+    start_of(owner, &header)
+}
+
+/// The head of the batch that stands behind an open gate.
+fn read_head<D: Disk>(disk: &mut D, past: &Past) -> Result<Head, OpenFault>
+    requires small { past.now.at ≤ 2 ^ 32 }
+    requires inside { past.now.at ≤ D.size_of disk.old }
+    ensures answer { WhereTold (D.shown disk.old) (λ s. Answers (λ head. head) result (log.head_at past.now (drop past.now.at s))) }
+    ensures inside { IfOk result (λ head. past.now.at + (110 + head.size) ≤ D.size_of disk.old) }
+    ensures small { IfOk result (λ head. past.now.at + (110 + head.size) ≤ 268435456) }
+    ensures read_only { IsOnlyRead D.shown D.size_of D.may_leave disk.old disk.new }
+    ensures counts { D.faults disk.old ≤ D.faults disk.new }
+    ensures disk_fault { result ≡ Err OpenFault.DiskFault → D.faults disk.old < D.faults disk.new }
+{
+    let left = disk.size() - past.at;
+    if left < BATCH_LEN {
+        return Err(OpenFault::Damaged { at: past.at });
+    }
+    let mut bytes = [0; HEAD_LEN];
+    disk.read_at(past.at, &mut bytes)?;
+    let head = head_of(&bytes);
+    if !is_batch(past, &head, left) {
+        return Err(OpenFault::Damaged { at: past.at });
+    }
+    Ok(head)
+}
+
+/// What stands behind an open gate. The memory that it takes is no more than the disk backs.
+fn read_turn<D: Disk>(
+    alloc: Global,
+    disk: &mut D,
+    owner: &Key<OwnerK>,
+    past: &Past,
+) -> Result<Option<Turn>, OpenFault>
+    requires small { past.now.at ≤ 2 ^ 32 }
+    requires inside { past.now.at ≤ D.size_of disk.old }
+    ensures answer { WhereTold (D.shown disk.old)
+        (λ s. Answers plain_option result (log.turn_at owner.now.bytes past.now (drop past.now.at s))) }
+    ensures next { IfOk result (GoesOnWithin past.now.at (D.size_of disk.old)) }
+    ensures read_only { IsOnlyRead D.shown D.size_of D.may_leave disk.old disk.new }
+    ensures counts { D.faults disk.old ≤ D.faults disk.new }
+    ensures disk_fault { result ≡ Err OpenFault.DiskFault → D.faults disk.old < D.faults disk.new }
+{
+    let head = read_head(disk, past)?;
+    let mut batch = Vec::from_elem(alloc, 0, BATCH_LEN as usize + head.size as usize)?;
+    disk.read_at(past.at, &mut batch)?;
+    judge(alloc, owner, past, &head, &mut batch)
+}
+
+/// The batches of the log, in order, as the owner's key reads them: each is published and has the owner tag that
+/// follows from the batches before it (docs/FORMAT.md, "Reading"). The disk is never written.
+///
+/// `NotAStore` and `WrongKey` come of the header. `Damaged` comes behind an open gate where no batch stands, with the
+/// place of its first byte, and for a payload that has no form, with the place of its first bad field. `Tampered`
+/// comes for a wrong owner tag, with its place, and for an unpublished batch before an open gate, with the place of
+/// its slot. The first of these ends the call; an unpublished batch before a closed gate ends the log.
+pub fn read_owner<D: Disk>(
+    alloc: Global,
+    disk: &mut D,
+    owner: &Key<OwnerK>,
+) -> Result<List<Placed>, OpenFault>
+    ensures verdict { WhereTold (D.shown disk.old)
+        (λ s. Answers plain_log result (log.log_verdict owner.now.bytes s)) }
+    ensures read_only { IsOnlyRead D.shown D.size_of D.may_leave disk.old disk.new }
+    ensures counts { D.faults disk.old ≤ D.faults disk.new }
+    ensures disk_fault { result ≡ Err OpenFault.DiskFault → D.faults disk.old < D.faults disk.new }
+{
+    let mut past = read_start(disk, owner)?;
+    let mut log = List::new(alloc);
+    while past.gate == OPEN {
+        let Some(turn) = read_turn(alloc, disk, owner, &past)? else {
+            return Ok(log);
+        };
+        let Turn { placed, past: next } = turn;
+        log.push(placed)?;
+        past = next;
+    }
+    Ok(log)
+}
