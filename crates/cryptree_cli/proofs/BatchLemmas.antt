@@ -8,9 +8,9 @@ use Rattle.chacha_seal.specs.Sealing.{owner_tag_key, masked}
 use Rattle.chacha_seal.proofs.StreamLemmas.{length-xor_stream}
 use Rattle.record_format.specs.Spelling.{be32}
 use Rattle.record_format.proofs.Lengths.{length-be32}
-use Rattle.cryptree_cli.specs.declared.batch.BatchType.{BatchType}
+use Rattle.commit_journal.specs.declared.batch_type.BatchType.{BatchType}
 use Rattle.cryptree_cli.specs.Commit.{with_slot}
-use Rattle.cryptree_cli.specs.Image.{Batch, head_bytes, batch_head, batch_veil, masked_payload, batch_check, owner_tag, spell_batch, empty_slot}
+use Rattle.commit_journal.specs.Image.{Batch, head_bytes, batch_head, batch_veil, masked_payload, batch_check, owner_tag, spell_batch, empty_slot}
 use Rattle.cryptree_cli.proofs.OutsideLemmas.{take-all}
 use borrow.Rule.Slice.PartMut.{post_of}
 

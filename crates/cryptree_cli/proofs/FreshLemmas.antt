@@ -10,7 +10,7 @@ use Rattle.record_format.specs.Sizes.{payload_size}
 use Rattle.record_format.specs.Spellable.{IsLink, IsContent, IsSpellable}
 use Rattle.cryptree_cli.specs.Commit.{Appends}
 use Rattle.cryptree_cli.specs.Fresh.{piece, owner_key, root_key, root_links, root_name, root_payload, epoch_batch, root_batch, fresh_image}
-use Rattle.cryptree_cli.specs.Image.{batch_veil, owner_tag, spell_batch, spell_header, spell_batches, image}
+use Rattle.commit_journal.specs.Image.{batch_veil, owner_tag, spell_batch, spell_header, spell_batches, image}
 use Rattle.cryptree_cli.specs.Sealed.{sealed_link, sealed_content}
 use Rattle.cryptree_cli.proofs.SealedLemmas.{length-sealed}
 

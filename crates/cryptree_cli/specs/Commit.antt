@@ -1,6 +1,6 @@
 -- What committing a batch leaves. This project's own, docs/FORMAT.md, "Committing".
 use Rattle.std.specs.Prelude.{◌≡◌, ℕ, List, [], ◌∷◌, ◌++◌, take, drop}
-use Rattle.cryptree_cli.specs.Image.{Batch, batch_veil, spell_batch}
+use Rattle.commit_journal.specs.Image.{Batch, batch_veil, spell_batch}
 
 -- a batch with these bytes in its slot
 abbrev pub with_slot : List ℕ → List ℕ → List ℕ

@@ -8,8 +8,8 @@ use Rattle.record_format.specs.declared.link.LinkRecord.{LinkRecord}
 use Rattle.record_format.specs.declared.note.Note.TheVariants.{Root}
 use Rattle.record_format.specs.Plain.{PlainContent, PlainPayload}
 use Rattle.record_format.specs.Spelling.{spell_payload}
-use Rattle.cryptree_cli.specs.declared.batch.BatchType.TheVariants.{Command, NewEpoch}
-use Rattle.cryptree_cli.specs.Image.{Batch, image}
+use Rattle.commit_journal.specs.declared.batch_type.BatchType.TheVariants.{Command, NewEpoch}
+use Rattle.commit_journal.specs.Image.{Batch, image}
 use Rattle.cryptree_cli.specs.Sealed.{sealed_link, sealed_content}
 
 -- key i of those drawn, 32 bytes: the owner's, and then the root's

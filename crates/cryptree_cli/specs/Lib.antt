@@ -1,6 +1,5 @@
 pub mod Commit
 pub mod Fresh
-pub mod Image
 pub mod Outside
 pub mod Room
 pub mod Sealed

@@ -10,20 +10,12 @@
 ghost use Rattle.std.specs.Prelude.{◌≡◌, ◌+◌, ◌≤◌, ℕ, List, [], ◌∷◌, ◌++◌, length, take, drop};
 ghost use Rattle.hmac_seal.specs.Hmac as mac;
 ghost use Rattle.chacha_seal.specs.Sealing as sealing;
-ghost use Rattle.cryptree_cli.specs.Image as image;
+ghost use Rattle.commit_journal.specs.Image as image;
 
 use chacha_seal::{Key, OwnerK, mask_in_place, owner_tag_key};
+use commit_journal::BatchType;
 use cry_base::{Epoch, Text};
 use hmac_seal::{Hmac, hmac};
-
-/// What a batch is.
-#[derive(Clone, Copy, Debug, PartialEq, Eq)]
-pub enum BatchType {
-    /// It carries the payload of one command.
-    Command,
-    /// It begins an epoch, and its payload is empty.
-    NewEpoch,
-}
 
 /// The bytes that a batch has beside its payload.
 pub(crate) const BATCH_LEN: usize = 110;

@@ -5,14 +5,15 @@ ghost use Rattle.cry_io.specs.Stops.{IsDurable};
 ghost use Rattle.cry_io.specs.Told.{WhereTold, WhereBothTold};
 ghost use Rattle.cryptree_cli.specs.Commit.{Appends};
 ghost use Rattle.cryptree_cli.specs.Fresh as fresh;
-ghost use Rattle.cryptree_cli.specs.Image as image;
+ghost use Rattle.commit_journal.specs.Image as image;
 ghost use Rattle.cryptree_cli.specs.Room.{IsRoomForStore};
 
-use crate::batch::{BatchType, begin, finish};
+use crate::batch::{begin, finish};
 use crate::commit::{commit, write_and_sync};
 use crate::fresh::{DRAWN, FIRST_EPOCH, owner_key, root_payload};
 use crate::room::{RootRoom, StoreRoom};
 use chacha_seal::{Key, OwnerK, check_of, veil_key};
+use commit_journal::BatchType;
 use cry_base::Text;
 use cry_io::{Disk, Failed};
 use record_format::{payload_len, put_payload};

@@ -1,6 +1,6 @@
 use Rattle.std.proofs.Common.{[], ◌∷◌, ◌++◌, length, arith, ap, ◌∙◌, length-append}
 use Rattle.record_format.specs.Spelling.{be32}
-use Rattle.cryptree_cli.specs.Image.{type_byte, head_bytes, empty_slot}
+use Rattle.commit_journal.specs.Image.{type_byte, head_bytes, empty_slot}
 use Rattle.cryptree_cli.proofs.BatchLemmas.{head_parts, length-head_bytes, length-empty_slot}
 use Rattle.cryptree_cli.proofs.batch.begin.Goals as goal
 

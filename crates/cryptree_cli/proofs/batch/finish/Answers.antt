@@ -2,7 +2,7 @@ use Rattle.std.proofs.Common.{◌≡◌, [], ◌∷◌, ◌++◌, length, take, 
 use Rattle.std.proofs.lemmas.List.{length-take-le, length-drop}
 use Rattle.hmac_seal.specs.Hmac.{hmac}
 use Rattle.chacha_seal.specs.Sealing.{masked}
-use Rattle.cryptree_cli.specs.Image.{Batch, batch_head, empty_slot}
+use Rattle.commit_journal.specs.Image.{Batch, batch_head, empty_slot}
 use Rattle.cryptree_cli.proofs.BatchLemmas.{Parts, parts_of, length-masked, length-empty_slot, owner_tag_is, spelled}
 use Rattle.cryptree_cli.proofs.batch.finish.Goals as goal
 

@@ -1,6 +1,6 @@
 use Rattle.std.proofs.Common.{[], ◌∷◌, ◌++◌, ap, ◌∙◌}
 use Rattle.cryptree_cli.specs.Commit.{with_slot}
-use Rattle.cryptree_cli.specs.Image.{spell_batch, empty_slot}
+use Rattle.commit_journal.specs.Image.{spell_batch, empty_slot}
 use Rattle.cryptree_cli.proofs.BatchLemmas.{with_slot-spelled, length-empty_slot}
 use Rattle.cryptree_cli.proofs.store.append.Goals as goal
 

@@ -5,7 +5,7 @@ use Rattle.cry_io.proofs.ToldLemmas.{told_again}
 use Rattle.chacha_seal.specs.Sealing.{check_of}
 use Rattle.cryptree_cli.specs.Commit.{Appends}
 use Rattle.cryptree_cli.specs.Fresh.{piece, epoch_batch}
-use Rattle.cryptree_cli.specs.Image.{owner_tag}
+use Rattle.commit_journal.specs.Image.{owner_tag}
 use Rattle.cryptree_cli.proofs.CommitLemmas.{written_first}
 use Rattle.cryptree_cli.proofs.FreshLemmas.{fresh_is}
 use Rattle.cryptree_cli.proofs.store.write_store.Goals as goal
