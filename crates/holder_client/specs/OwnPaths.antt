@@ -1,5 +1,5 @@
 -- What a store needs so that no two nodes have one path.
-use Rattle.std.specs.Prelude.{◌≡◌, ◌≢◌, List, [], ◌∷◌, IsTrue, Bool, true, false, not, ◌&&◌, ◌||◌, ◌==◌, bytes_eq}
+use Rattle.std.specs.Prelude.{◌≡◌, ◌≢◌, List, [], ◌∷◌, IsTrue, Bool, false, not, ◌&&◌, ◌||◌, ◌==◌, bytes_eq}
 use Rattle.std.specs.List.{list_all}
 use Rattle.cry_base.specs.Naming.{is_name}
 use Rattle.cry_base.specs.Sets.{In}
