@@ -1,0 +1,5 @@
+pub mod BundleLines
+pub mod HexText
+pub mod Numbers
+pub mod PrintedLengths
+pub mod Results

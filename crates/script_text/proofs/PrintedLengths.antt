@@ -1,0 +1,19 @@
+-- How long the printed lines are.
+use Rattle.std.proofs.Common.{◌≡◌, ℕ, ◌+◌, ◌*◌, List, length, arith, length-append}
+use Rattle.script_text.specs.Printing.{owner_line, path_line, file_line}
+use Rattle.script_text.proofs.HexText.{length-hex_of}
+
+pub length-owner_line : (key : List ℕ) → length (owner_line key) ≡ 2 * length key + 7
+unfolding owner_line
+length-owner_line key = simp (length-append, length-hex_of) (omega arith)
+
+pub length-path_line : (word path : List ℕ) → length (path_line word path) ≡ length word + length path + 1
+unfolding path_line
+length-path_line word path = simp length-append (omega arith)
+
+pub length-file_line : (path bytes : List ℕ) → length (file_line path bytes) ≡ length path + 2 * length bytes + 7
+unfolding file_line
+length-file_line path bytes = simp (length-append, length-hex_of) (omega arith)
+
+-- all of them
+pub ruleset lengths = (length-owner_line, length-path_line, length-file_line, length-hex_of)

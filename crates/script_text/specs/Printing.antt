@@ -1,0 +1,23 @@
+-- Printed lines, each ended by the byte 0x0a. This project's own, docs/FORMAT.md, "Lines".
+use Rattle.std.specs.Prelude.{ℕ, List, [], ◌∷◌, ◌++◌, codes}
+use Rattle.cry_base.specs.Texts.{hex_of}
+use Rattle.cry_base.specs.declared.client.Line.{Line}
+use Rattle.cry_base.specs.declared.client.Line.TheVariants.{Ancestor, Folder, File}
+
+-- an owner's key
+unfoldable pub owner_line : List ℕ → List ℕ
+owner_line key = codes "owner " ++ (hex_of key ++ 10 ∷ [])
+
+-- a word and a path
+unfoldable pub path_line : List ℕ → List ℕ → List ℕ
+path_line word path = word ++ (path ++ 10 ∷ [])
+
+-- a path and a file's bytes, with the space between them where there are none too
+unfoldable pub file_line : List ℕ → List ℕ → List ℕ
+file_line path bytes = codes "file " ++ (path ++ (32 ∷ (hex_of bytes ++ 10 ∷ [])))
+
+-- one line of a view
+abbrev pub spell_line : Line → List ℕ
+spell_line (Ancestor path) = path_line (codes "ancestor ") path.items
+spell_line (Folder path) = path_line (codes "folder ") path.items
+spell_line (File path bytes) = file_line path.items bytes.items

@@ -1,0 +1,28 @@
+//! Laws of the lines, for whoever reasons about lines that were printed or will be read.
+ghost use Rattle.std.specs.Prelude.{◌≡◌, ◌≤◌, ◌↔◌, ◌∷◌, ◌++◌, [], ℕ, List, Some, length};
+ghost use Rattle.cry_base.specs.Texts.{hex_of};
+ghost use Rattle.cry_base.specs.declared.client.Bundle.{Bundle};
+ghost use Rattle.cry_base.specs.declared.client.Bundle.TheVariants.{Owner};
+ghost use Rattle.hex.specs.Hex.{IsBytes, encode_lower};
+ghost use Rattle.script_text.specs.Printing.{owner_line};
+ghost use Rattle.script_text.specs.Reading.{IsBundleLine, bundle_of};
+
+/// Law: the bundle that is read from a line is the one whose line it is.
+pub fn bundles_are_spelled()
+    ensures { (line : List ℕ) (bundle : Bundle) → (bundle_of line ≡ Some bundle) ↔ IsBundleLine line bundle }
+{}
+
+/// Law: a bundle's line has at most 82 bytes, so a longer line needs no more of it to be kept.
+pub fn bundle_lines_are_short()
+    ensures { (line : List ℕ) (bundle : Bundle) → bundle_of line ≡ Some bundle → length line ≤ 82 }
+{}
+
+/// Law: what `print_owner` prints, without its newline, is read as that owner's bundle.
+pub fn owner_line_reads_back()
+    ensures { (key line : List ℕ) → length key ≡ 32 → IsBytes key → owner_line key ≡ line ++ 10 ∷ [] → bundle_of line ≡ Some (Owner key) }
+{}
+
+/// Law: bytes are printed as the crate `hex` encodes them in lower case.
+pub fn hex_is_in_lower_case()
+    ensures { (bytes : List ℕ) → IsBytes bytes → hex_of bytes ≡ encode_lower bytes }
+{}
