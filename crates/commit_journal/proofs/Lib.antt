@@ -1,6 +1,10 @@
 pub mod Followed
 pub mod Judged
+pub mod KeptLemmas
 pub mod Pieces
 pub mod Spelled
+pub mod Standings
+pub mod Stood
+pub mod Stopped
 pub mod Tails
 pub mod Walked

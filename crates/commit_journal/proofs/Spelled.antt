@@ -234,7 +234,7 @@ others_may : (epoch number : ℕ) (body : PlainBody) (bodies : List PlainBody) �
 others_may epoch number (Commands payload) bodies are = are.2
 others_may epoch number NewEpoch bodies are = are
 
-length-spell_batch : (owner previous : List ℕ) (b : Batch) → length (spell_batch owner previous (batch_veil owner b) b) ≡ 109 + length b.payload
+pub length-spell_batch : (owner previous : List ℕ) (b : Batch) → length (spell_batch owner previous (batch_veil owner b) b) ≡ 109 + length b.payload
 length-spell_batch owner previous b =
     let bytes = spell_batch owner previous (batch_veil owner b) b in
     omega (
@@ -321,7 +321,7 @@ start_spelled owner gate =
     (piece magic (check_of owner) (gate ∷ []) header 9 41 refl refl (omega arith))
     (item (magic ++ check_of owner) [] header gate 41 refl (omega (arith, length-append magic (check_of owner))))
 
-length-header : (owner : List ℕ) → length (spell_header owner) ≡ 41
+pub length-header : (owner : List ℕ) → length (spell_header owner) ≡ 41
 unfolding spell_header
 length-header owner = omega (arith, length-check_of owner)
 

@@ -1,11 +1,14 @@
 -- Laws of the verdict on a log. This project's own, docs/FORMAT.md, "The file" and "Reading".
-use Rattle.std.specs.Prelude.{◌≡◌, ◌≢◌, ◌≤◌, ◌+◌, ℕ, List, [], ◌∷◌, ◌++◌, length, Ok}
+use Rattle.std.specs.Prelude.{◌≡◌, ◌≢◌, ◌<◌, ◌≤◌, ◌+◌, ℕ, List, [], ◌∷◌, ◌++◌, length, Ok, slice_range, slice_index_or}
+use Rattle.record_format.specs.declared.link.LinkRecord.{LinkRecord}
+use Rattle.record_format.specs.Plain.{PlainContent, PlainPayload}
 use Rattle.record_format.specs.Spellable.{IsSpellable}
-use Rattle.record_format.specs.Spelling.{spell_payload}
+use Rattle.record_format.specs.Spelling.{spell_payload, spell_link, spell_content}
 use Rattle.commit_journal.specs.declared.batch_type.BatchType.TheVariants as types
 use Rattle.commit_journal.specs.Image.{Batch, image}
 use Rattle.commit_journal.specs.Log.{log_verdict}
 use Rattle.commit_journal.specs.Placed.{PlainBody, Commands, NewEpoch, PlainPlaced}
+use Rattle.commit_journal.specs.Places.{link_offset, content_offset}
 
 -- the batch with this body, where so many batches and so many epochs are before it
 abbrev pub batch_of : ℕ → ℕ → PlainBody → Batch
@@ -45,3 +48,11 @@ IsReadBack = (owner : List ℕ) (bodies : List PlainBody) (gate : ℕ) (behind :
 abbrev pub IsBlindBehind : Type 0
 IsBlindBehind = (owner front behind : List ℕ) (placed : List PlainPlaced) →
     log_verdict owner front ≡ Ok placed → log_verdict owner (front ++ behind) ≡ Ok placed
+
+-- the records of a payload stand in its spelling where their offsets say
+abbrev pub RecordsStand : Type 0
+RecordsStand = (p : PlainPayload) → IsSpellable p →
+    ((i : ℕ) (d : LinkRecord) → i < length p.links →
+    slice_range (spell_payload p) (link_offset p i) (link_offset p (i + 1)) ≡ spell_link (slice_index_or p.links i d))
+    × ((i : ℕ) (d : PlainContent) → i < length p.contents →
+    slice_range (spell_payload p) (content_offset p i) (content_offset p (i + 1)) ≡ spell_content (slice_index_or p.contents i d))

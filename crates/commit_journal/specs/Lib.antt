@@ -6,3 +6,7 @@ pub mod Placed
 pub mod Places
 pub mod Reading
 pub mod Turns
+pub mod Gates
+pub mod Holding
+pub mod Publishing
+pub mod Standing

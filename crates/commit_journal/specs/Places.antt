@@ -1,11 +1,13 @@
 -- Where the records of a payload stand. This project's own, docs/FORMAT.md, "Records" and "Notes and payloads".
-use Rattle.std.specs.Prelude.{◌≡◌, ℕ, ◌+◌, ◌*◌, ◌<◌, ◌^◌, length, take}
+use Rattle.std.specs.Prelude.{◌≡◌, ℕ, ◌+◌, ◌*◌, ◌<◌, ◌≤◌, ◌^◌, length, take, Option, None, Some}
 use Rattle.std.specs.List.{sum_by}
 use Rattle.record_format.specs.Plain.{PlainPayload, plain_payload}
 use Rattle.record_format.specs.Sizes.{note_size, content_size, payload_size}
 use Rattle.record_format.specs.Spellable.{IsSpellable}
+use Rattle.commit_journal.specs.declared.judge.Turn.{Turn}
 use Rattle.commit_journal.specs.declared.placed.Body.{Body}
 use Rattle.commit_journal.specs.declared.placed.Body.TheVariants.{Commands, NewEpoch}
+use Rattle.commit_journal.specs.declared.placed.Placed.{Placed}
 
 -- the bytes before a link: the note, two counts, the links before it
 abbrev pub link_offset : PlainPayload → ℕ → ℕ
@@ -36,3 +38,24 @@ HasContent place index NewEpoch = ⊥
 abbrev pub IsContentPlace : ℕ → ℕ → ℕ → Body → Type 0
 IsContentPlace place index result (Commands payload) = result ≡ place + content_offset (plain_payload payload) index
 IsContentPlace place index result NewEpoch = ⊥
+
+-- a payload has a spelling of so many bytes
+abbrev pub HasSize : ℕ → Body → Type 0
+HasSize size (Commands payload) = IsSpellable (plain_payload payload) × (payload_size (plain_payload payload) ≡ size)
+HasSize size NewEpoch = Unit {0}
+
+-- a payload has a spelling, which ends within a store
+abbrev pub EndsWithin : ℕ → Body → Type 0
+EndsWithin place (Commands payload) = IsSpellable (plain_payload payload) × (place + payload_size (plain_payload payload) ≤ 268435456)
+EndsWithin place NewEpoch = Unit {0}
+
+-- a batch that stands behind the header of a store, and ends within it
+pub record IsStanding (p : Placed) : Type 0 where
+  pub behind : 87 ≤ p.place
+  pub within : p.place ≤ 268435456
+  pub payload : EndsWithin p.place p.body
+
+-- each turn's batch stands
+abbrev pub TurnStands : Option Turn → Type 0
+TurnStands None = Unit {0}
+TurnStands (Some turn) = IsStanding turn.placed

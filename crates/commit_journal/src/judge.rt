@@ -10,6 +10,7 @@ ghost use Rattle.chacha_seal.specs.Sealing.{masked};
 ghost use Rattle.commit_journal.specs.Answering.{Answers};
 ghost use Rattle.commit_journal.specs.Placed.{plain_body};
 ghost use Rattle.commit_journal.specs.Log as log;
+ghost use Rattle.commit_journal.specs.Places.{HasSize, IsStanding, TurnStands};
 ghost use Rattle.commit_journal.specs.Turns.{plain_option, GoesOnAt};
 
 use crate::head::{BATCH_LEN, HEAD_LEN, Head};
@@ -68,6 +69,7 @@ fn body_of(
     payload: &mut [u8],
 ) -> Result<Body, OpenFault>
     requires { past.now.at ≤ 2 ^ 32 }
+    ensures size { IfOk result (HasSize (length payload.old)) }
     ensures answer { Answers plain_body result (log.placed_body past.now (log.body_of head.now (masked slot.now payload.old))) }
     ensures no_disk { result ≢ Err OpenFault.DiskFault }
 {
@@ -92,9 +94,11 @@ fn judge_published(
     batch: &mut [u8],
 ) -> Result<Option<Turn>, OpenFault>
     requires whole { length batch.old ≡ 110 + head.now.size }
-    requires fits { past.now.at ≤ 2 ^ 32 }
+    requires behind { 42 ≤ past.now.at }
+    requires fits { past.now.at + (110 + head.now.size) ≤ 268435456 }
     ensures answer { Answers plain_option result (log.published_turn past.now head.now batch.old) }
     ensures next { IfOk result (GoesOnAt (past.now.at + (110 + head.now.size))) }
+    ensures stands { IfOk result TurnStands }
     ensures no_disk { result ≢ Err OpenFault.DiskFault }
 {
     let size = head.size as usize;
@@ -122,7 +126,10 @@ fn judge_published(
 }
 
 fn turn_of(past: &Past, head: &Head, body: Body, tag: [u8; 32], gate: u8) -> Turn
-    requires { past.now.at ≤ 2 ^ 32 }
+    requires behind { 42 ≤ past.now.at }
+    requires fits { past.now.at + (110 + head.now.size) ≤ 268435456 }
+    requires size { HasSize head.now.size body }
+    ensures stands { IsStanding result.placed }
     ensures placed { result.placed ≡ record { batch = head.now.number; epoch = head.now.epoch; place = past.now.at + 45; body = body } }
     ensures past { result.past ≡ record { at = past.now.at + (110 + head.now.size); number = head.now.number; epoch = head.now.epoch; tag = tag; gate = gate } }
 {
@@ -154,9 +161,11 @@ pub(crate) fn judge(
     batch: &mut [u8],
 ) -> Result<Option<Turn>, OpenFault>
     requires whole { length batch.old ≡ 110 + head.now.size }
-    requires fits { past.now.at ≤ 2 ^ 32 }
+    requires behind { 42 ≤ past.now.at }
+    requires fits { past.now.at + (110 + head.now.size) ≤ 268435456 }
     ensures answer { Answers plain_option result (log.tagged_turn owner.now.bytes past.now head.now batch.old) }
     ensures next { IfOk result (GoesOnAt (past.now.at + (110 + head.now.size))) }
+    ensures stands { IfOk result TurnStands }
     ensures no_disk { result ≢ Err OpenFault.DiskFault }
 {
     let size = head.size as usize;

@@ -5,18 +5,28 @@ mod batch_type;
 mod fault;
 mod head;
 mod judge;
+mod keeping;
 mod laws;
 mod past;
 mod placed;
 mod places;
 mod reading;
+mod standing;
 
 pub use batch_type::BatchType;
 pub use fault::OpenFault;
-pub use laws::{image_is_read_back, nothing_behind_is_looked_at};
+pub use keeping::{
+    holding_is_widened, kept_at_the_start, kept_by_two_calls, settled_disk_holds, time_goes_on,
+};
+pub use laws::{image_is_read_back, nothing_behind_is_looked_at, records_stand_at_their_places};
 pub use placed::{Body, Placed};
 pub use places::{content_place, link_place};
 pub use reading::read_owner;
+pub use standing::{
+    image_has_its_length, image_of_a_prefix, standing_bytes_are_read_as_published,
+    standing_bytes_tell_their_batches, steps_of_a_commit, whole_image_is_published,
+    whole_image_stands_for_its_batches,
+};
 
 #[cfg(test)]
 mod tests;

@@ -1,9 +1,10 @@
 //! Reads the log of a store file, gate by gate. The file is never written.
-ghost use Rattle.std.specs.Prelude.{◌≡◌, ◌≢◌, ◌<◌, ◌≤◌, ◌+◌, ◌^◌, Err, length, drop, slice_range, IfOk, OnOk};
+ghost use Rattle.std.specs.Prelude.{◌≡◌, ◌≢◌, ◌<◌, ◌≤◌, ◌+◌, ◌^◌, Err, length, drop, slice_range, IfOk, OnOk, All};
 ghost use Rattle.cry_io.specs.Told.{WhereTold};
 ghost use Rattle.commit_journal.specs.Answering.{Answers};
 ghost use Rattle.commit_journal.specs.Log as log;
 ghost use Rattle.commit_journal.specs.Placed.{plain_log};
+ghost use Rattle.commit_journal.specs.Places.{IsStanding, TurnStands};
 ghost use Rattle.commit_journal.specs.Reading.{IsOnlyRead};
 ghost use Rattle.commit_journal.specs.Turns.{plain_option, GoesOnWithin};
 
@@ -99,11 +100,13 @@ fn read_turn<D: Disk>(
     owner: &Key<OwnerK>,
     past: &Past,
 ) -> Result<Option<Turn>, OpenFault>
+    requires behind { 42 ≤ past.now.at }
     requires small { past.now.at ≤ 2 ^ 32 }
     requires inside { past.now.at ≤ D.size_of disk.old }
     ensures answer { WhereTold (D.shown disk.old)
         (λ s. Answers plain_option result (log.turn_at owner.now.bytes past.now (drop past.now.at s))) }
     ensures next { IfOk result (GoesOnWithin past.now.at (D.size_of disk.old)) }
+    ensures stands { IfOk result TurnStands }
     ensures read_only { IsOnlyRead D.shown D.size_of D.may_leave disk.old disk.new }
     ensures counts { D.faults disk.old ≤ D.faults disk.new }
     ensures disk_fault { result ≡ Err OpenFault.DiskFault → D.faults disk.old < D.faults disk.new }
@@ -128,6 +131,7 @@ pub fn read_owner<D: Disk>(
 ) -> Result<List<Placed>, OpenFault>
     ensures verdict { WhereTold (D.shown disk.old)
         (λ s. Answers plain_log result (log.log_verdict owner.now.bytes s)) }
+    ensures stands { IfOk result (λ log. All IsStanding log.items) }
     ensures read_only { IsOnlyRead D.shown D.size_of D.may_leave disk.old disk.new }
     ensures counts { D.faults disk.old ≤ D.faults disk.new }
     ensures disk_fault { result ≡ Err OpenFault.DiskFault → D.faults disk.old < D.faults disk.new }

@@ -1,9 +1,11 @@
 use Rattle.std.proofs.Common.{◌≡◌, [], ◌∷◌, ◌++◌, false, eqb, eq-eqb, map, drop, None, Some, Ok, ap, subst, ◌∙◌, arith}
 use Rattle.std.proofs.lemmas.Bool.Decides.{nat_tests}
 use Rattle.std.proofs.lemmas.List.{map_push}
+use Rattle.std.proofs.lemmas.List.Elements.{All-nil, All-cons, All-append}
 use Rattle.std.proofs.lemmas.Result.{err_from_is_err_and}
 use Rattle.commit_journal.specs.Log.{log_at, log_verdict, start_at, turn_at, before}
 use Rattle.commit_journal.specs.Placed.{plain_placed}
+use Rattle.commit_journal.specs.Places.{IsStanding, TurnStands}
 use Rattle.commit_journal.specs.Turns.{plain_option, plain_turn, GoesOnWithin}
 use Rattle.commit_journal.proofs.Judged.{fault_first}
 use Rattle.commit_journal.proofs.Walked.{before-fault, before-end, walk_ends, walk_closed, walk_fails, so_far_starts, so_far_more, only_read_twice}
@@ -18,6 +20,8 @@ returns-in_err-past-clause-verdict g c = λ s is.
 
 pub loop-past-init : goal.loop-past-init
 loop-past-init g c = record {
+  behind = omega (arith, c.in_ok-past.ensures.place);
+  stands = rw c.new-log.ensures (All-nil IsStanding);
   small = omega (arith, c.in_ok-past.ensures.place);
   inside = omega (arith, c.in_ok-past.ensures.place, c.in_ok-past.ensures.inside, c.in_ok-past.ensures.read_only.same_size);
   read_only = c.in_ok-past.ensures.read_only;
@@ -61,8 +65,11 @@ loop-past-preserved g c =
     let pushed : map plain_placed c.push.new.self.items ≡ front ++ plain_placed turn.placed ∷ [] =
     rw c.in_ok-push.ensures.items (map_push plain_placed c.loop-past.log.items turn.placed)
     in
+    let standing : IsStanding turn.placed = subst TurnStands c.in-Some.is c.in_ok-turn.ensures.stands in
     let gate = eq-eqb past.gate 1 c.loop-past-test.true in
     record {
+      behind = omega (arith, next.0, c.loop-past.invariant.behind);
+      stands = rw c.in_ok-push.ensures.items (All-append IsStanding c.loop-past.log.items (turn.placed ∷ []) c.loop-past.invariant.stands (All-cons IsStanding turn.placed [] standing (All-nil IsStanding)));
       small = next.2;
       inside = omega (arith, next.1, read.same_size);
       read_only = only_read_twice g.D.Disk.shown g.D.Disk.size_of g.D.Disk.may_leave c.args.disk.now c.loop-past.disk c.read_turn.new.disk c.loop-past.invariant.read_only read;

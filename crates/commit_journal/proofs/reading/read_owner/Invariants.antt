@@ -1,13 +1,17 @@
+use Rattle.std.specs.Prelude.{All}
 use Rattle.std.proofs.Common.{◌≡◌, ◌≤◌, ◌-◌, ℕ, List, Some, map}
 use Rattle.commit_journal.specs.Placed.{plain_placed}
+use Rattle.commit_journal.specs.Places.{IsStanding}
 use Rattle.commit_journal.specs.Reading.{IsOnlyRead}
 use Rattle.commit_journal.proofs.Walked.{IsSoFar}
 use Rattle.commit_journal.proofs.reading.read_owner.Given as goal
 
 abbrev pub invariant-loop-past : goal.invariant-loop-past
 invariant-loop-past g l = record {
+  behind : 42 ≤ l.past.at;
   small : l.past.at ≤ 268435456;
   inside : l.past.at ≤ g.D.Disk.size_of l.disk;
+  stands : All IsStanding l.log.items;
   read_only : IsOnlyRead g.D.Disk.shown g.D.Disk.size_of g.D.Disk.may_leave l.fn.disk l.disk;
   counts : g.D.Disk.faults l.fn.disk ≤ g.D.Disk.faults l.disk;
   so_far : (s : List ℕ) → g.D.Disk.shown l.fn.disk ≡ Some s → IsSoFar l.owner.bytes s (map plain_placed l.log.items) l.past;
