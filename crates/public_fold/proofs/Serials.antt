@@ -8,7 +8,7 @@ use Rattle.move_plan.specs.Change.{Change}
 use Rattle.public_fold.specs.Records.{Link, Piece, Content}
 use Rattle.public_fold.specs.KeyStep.{KeyState, next_serial, numbered, given, keys_then, published_edges, renewed, link_of, links_from, content_of, contents_from, published, step_with, key_step}
 
-numbered-between : (X : Type 0) (n : ℕ) (xs : List X) (q : X × ℕ) → In q (numbered n xs) → (n ≤ q.1) × (q.1 < n + length xs)
+pub numbered-between : (X : Type 0) (n : ℕ) (xs : List X) (q : X × ℕ) → In q (numbered n xs) → (n ≤ q.1) × (q.1 < n + length xs)
 unfolding numbered
 numbered-between X n [] q i = absurd i
 numbered-between X n (x ∷ xs) q i = ⊎_elim
@@ -16,7 +16,7 @@ numbered-between X n (x ∷ xs) q i = ⊎_elim
     (λ r. let told = numbered-between X (n + 1) xs q r in let low : n + 1 ≤ q.1 = told.0 in let high : q.1 < (n + 1) + length xs = told.1 in (omega arith, omega arith))
     i
 
-numbered-length : (X : Type 0) (n : ℕ) (xs : List X) → length (numbered n xs) ≡ length xs
+pub numbered-length : (X : Type 0) (n : ℕ) (xs : List X) → length (numbered n xs) ≡ length xs
 unfolding numbered
 numbered-length X n [] = refl
 numbered-length X n (x ∷ xs) = ap suc (numbered-length X (n + 1) xs)

@@ -24,7 +24,7 @@ use Rattle.public_fold.specs.Valid.{FollowOn, BeginsWell, IsValid}
 use Rattle.public_fold.proofs.Counting.{effect_counted, root_counted}
 
 -- where nothing is found, nothing passes
-find-none : (X : Type 0) (p : X → Bool) (x : X) (xs : List X) → find p xs ≡ None → In x xs → p x ≡ false
+pub find-none : (X : Type 0) (p : X → Bool) (x : X) (xs : List X) → find p xs ≡ None → In x xs → p x ≡ false
 find-none X p x [] = λ e i. absurd i
 find-none X p x (z ∷ zs) =
     (elim (p z) as (λ b. p z ≡ b → cond b (Some z) (find p zs) ≡ None → In x (z ∷ zs) → p x ≡ false) [
@@ -37,13 +37,13 @@ map-none X Y f None e = refl
 map-none X Y f (Some x) e = absurd cc
 
 -- no cause applies to what isn't refused
-no_cause : (s : Store) (r : Request) (n : ℕ) (t : Bool) (why : Refusal) → refusal_of s r n ≡ None → In (let c : Bool × Refusal = (t, why) in c) (causes s r n) → t ≡ false
+pub no_cause : (s : Store) (r : Request) (n : ℕ) (t : Bool) (why : Refusal) → refusal_of s r n ≡ None → In (let c : Bool × Refusal = (t, why) in c) (causes s r n) → t ≡ false
 unfolding refusal_of
 no_cause s r n t why e i =
     find-none (Bool × Refusal) (λ c. c.0) (t, why) (causes s r n) (map-none (Bool × Refusal) Refusal (λ c. c.1) (find (λ c. c.0) (causes s r n)) e) i
 
 -- a node of the store that is a folder stands there
-folder_stands : (s : Store) (f : ℕ) → In (folder_node f) (nodes_of s) → HasFolder s f
+pub folder_stands : (s : Store) (f : ℕ) → In (folder_node f) (nodes_of s) → HasFolder s f
 unfolding nodes_of folder_node file_node id_of is_file
 folder_stands s f i = ⊎_elim
     (λ a. let w = (In-map FolderEntry Node (λ e. folder_node e.id) (folder_node f) s.folders).0 a in
@@ -168,7 +168,7 @@ put s None into ok = ok
 put s (Some (Folder f)) into ok = one_folder s f.0 (λ e. record e { parent = into }) (λ e. refl) (λ a b p. refl) ok
 put s (Some (File x)) into ok = same_tree s (with_file s x.0 (λ e. record e { folder = into })) refl refl ok
 
-effect_settled : (s : Store) (r : Request) (key : List ℕ) (n : ℕ) → refusal_of s r n ≡ None → AreCounted s → IsSettled s → IsSettled (effect s r key)
+pub effect_settled : (s : Store) (r : Request) (key : List ℕ) (n : ℕ) → refusal_of s r n ≡ None → AreCounted s → IsSettled s → IsSettled (effect s r key)
 unfolding effect with_new_holder
 effect_settled s AddHolder key n e c ok = same_tree s (with_new_holder s key) refl refl ok
 effect_settled s (MakeFolder path) key n e c ok = new_folder s (id_of (node_at s (parent_path path))) (last_name (names_of path)) c ok
@@ -187,7 +187,7 @@ effect_settled s (Grant h path) key n e c ok =
     }
 effect_settled s (Revoke h path) key n e c ok = no_grant s h (id_of (node_at s path)) ok
 
-root_settled : IsSettled root_store
+pub root_settled : IsSettled root_store
 unfolding root_store no_store
 root_settled =
     let root : FolderEntry = record { id = 1; parent = 0; name = [] } in record {

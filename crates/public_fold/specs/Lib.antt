@@ -5,6 +5,8 @@ pub mod Lengths
 pub mod Valid
 pub mod Attempts
 pub mod Counted
+pub mod Keyed
 pub mod StandFits
 pub mod Script
+pub mod Tree
 pub mod WorkedSteps

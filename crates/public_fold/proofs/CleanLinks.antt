@@ -1,0 +1,106 @@
+-- No link leaves a key that is dirty after its command.
+use Rattle.std.proofs.Common.{◌≡◌, ℕ, ◌+◌, ◌||◌, List, [], ◌∷◌, ◌++◌, length, inl, inr, ⊎_elim, sym, ap, ◌∙◌, subst}
+use Rattle.std.proofs.lemmas.Bool.{or_cases, false≢true}
+use Rattle.cry_base.specs.Sets.{In, has}
+use Rattle.cry_base.specs.Sets.Path.{Here}
+use Rattle.cry_base.specs.Store.{Store, no_store, root_store}
+use Rattle.cry_base.specs.Stepping.{effect}
+use Rattle.cry_base.specs.declared.roles.Edge.{Edge}
+use Rattle.cry_base.specs.declared.roles.Role.{Role}
+use Rattle.cry_base.proofs.Members.{In-append, In-map, In-filter}
+use Rattle.cry_base.proofs.Reaching.{has-in}
+use Rattle.role_graph.specs.Roles.{same_role}
+use Rattle.role_graph.specs.Edges.{edges, same_edge}
+use Rattle.role_graph.proofs.Comparing.{same_role_tells}
+use Rattle.move_plan.specs.Change.{Change, change_of}
+use Rattle.move_plan.specs.Note.Note.{Root}
+use Rattle.move_plan.specs.Noting.{note_of}
+use Rattle.public_fold.specs.Journal.{Journal, Entry, Stand, nothing, first_key, note_step, entry_step, entry_store, stand_then, steps_from, steps_of}
+use Rattle.public_fold.specs.Journal.Entry.{Session, Made, Did}
+use Rattle.public_fold.specs.Keyed.{KeysHold, LeavesClean}
+use Rattle.public_fold.specs.KeyStep.{KeyState, Stepped, no_keys, next_epoch, next_serial, numbered, given, keys_then, renewed, dirty_left, edges_then, is_published, published_edges, link_of, links_from, published, step_with, key_step}
+use Rattle.public_fold.specs.Records.{Link, Piece, pieces_of}
+use Rattle.public_fold.specs.Valid.{FollowOn, BeginsWell, IsValid}
+use Rattle.public_fold.proofs.EdgesThen.{then_told, same_edge_tells}
+use Rattle.public_fold.proofs.KeepingKeys.{IsMove, without_told, marked_stands, marked_no_root, planned_told, closed_then, keys_after}
+use Rattle.public_fold.proofs.KeyMoves.{IsSound, effect_sound, root_sound, command_moves, root_moves, nothing_holds, epoch_holds}
+
+-- what is numbered is of the list
+numbered-of : (n : ℕ) (es : List Edge) (q : Edge × ℕ) → In q (numbered n es) → In q.0 es
+unfolding numbered
+numbered-of n [] q i = i
+numbered-of n (x ∷ xs) q i = ⊎_elim (λ s. inl (ap (λ (z : Edge × ℕ). z.0) s)) (λ r. inr (numbered-of (n + 1) xs q r)) i
+
+module _ (s t : Store) (k : KeyState) (c : Change) (links : List Link) (mv : IsMove s c t) (ok : KeysHold s k links) where
+  -- an edge that is published leaves no role that stays dirty
+  edge_clean : (e : Edge) → In e (published_edges (edges s) c (renewed k (edges s) c)) → In e.from (dirty_left k (edges s) c) → (In e.from (renewed k (edges s) c) → ⊥) → ⊥
+  unfolding published_edges is_published
+  edge_clean e i d out =
+      let p = renewed k (edges s) c in
+      let w = In-filter Edge (is_published c p) e (edges_then (edges s) c) i in
+      let new = λ (r : Role) (dirty : In r (dirty_left k (edges s) c)) (f : In r c.fresh). mv.fresh_is_new r f (marked_stands s t k c links mv ok r dirty) in
+      ⊎_elim
+      (λ u. ⊎_elim
+      (λ a. ⊎_elim
+      (λ root. false≢true (sym (marked_no_root s t k c links mv ok e.from d) ∙ root))
+      (λ v. ⊎_elim
+      (λ wanted. out ((planned_told s t k c links mv ok e.from).1 (d, (e.from, wanted, Here))))
+      (λ f. new e.from d f) v)
+      (mv.sources e (has-in Edge same_edge same_edge_tells c.added e a)))
+      (λ b. ⊎_elim out (λ f. new e.from d f) ((In-append Role e.from p c.fresh).0 (has-in Role same_role same_role_tells (p ++ c.fresh) e.from b)))
+      (or_cases (has same_edge c.added e) (has same_role (p ++ c.fresh) e.from) u))
+      (λ b.
+      let to = closed_then s t k c links mv ok e ((mv.leads e).0 ((then_told s c e).0 w.0)) d out in
+      ⊎_elim to.1 (λ f. new e.to to.0 f) ((In-append Role e.to p c.fresh).0 (has-in Role same_role same_role_tells (p ++ c.fresh) e.to b)))
+      (or_cases (has same_edge c.added e || has same_role (p ++ c.fresh) e.from) (has same_role (p ++ c.fresh) e.to) w.1)
+
+  links_clean : (pieces : List Piece) → LeavesClean (key_step k (edges s) c pieces)
+  unfolding key_step step_with published links_from link_of
+  links_clean pieces l i d =
+      let p = renewed k (edges s) c in
+      let es = published_edges (edges s) c p in
+      let n = next_serial k + length (given k c p) in
+      let w = (In-map (Edge × ℕ) Link (link_of (keys_then k c p)) l (numbered n es)).0 i in
+      let same : l.edge ≡ w.0.0 = ap (λ (x : Link). x.edge) w.2 in
+      let left = (without_told p (dirty_left k (edges s) c) l.edge.from).0 d in
+      edge_clean w.0.0 (numbered-of n es w.0 w.1) (subst (λ (e : Edge). In e.from (dirty_left k (edges s) c)) same left.0) (λ r. left.1 (subst (λ (e : Edge). In e.from p) (sym same) r))
+
+after_clean : (entries : List Entry) (at : Stand) (links : List Link) → IsSound at.store → KeysHold at.store at.keys links → FollowOn at entries → (step : Stepped) → In step (steps_from at entries) → LeavesClean step
+unfolding stand_then entry_store entry_step note_step steps_from
+after_clean [] at links sound ok f step i = absurd i
+after_clean (Session ∷ entries) at links sound ok f step i = ⊎_elim
+    (λ q l j d. subst (In l) (ap (λ (x : Stepped). x.links) q) j)
+    (λ r. after_clean entries (stand_then at Session) links sound (epoch_holds at.store at.keys links ok) f.1 step r) i
+after_clean (Made keys ∷ entries) at links sound ok f step i = absurd f.0
+after_clean (Did request keys ∷ entries) at links sound ok f step i =
+    let s = at.store in
+    let t = effect s request (first_key keys) in
+    let note = note_of s request [] in
+    let c = change_of s note in
+    let mv = command_moves s request (first_key keys) [] 1048576 f.0.0 sound in
+    let here : Stepped = note_step at note t in ⊎_elim
+    (λ q. subst LeavesClean (sym q) (links_clean s t at.keys c links mv ok (pieces_of note t)))
+    (λ r. after_clean entries (stand_then at (Did request keys)) (links ++ here.links) (effect_sound s request (first_key keys) 1048576 f.0.0 sound)
+    (keys_after s t at.keys c links mv ok (pieces_of note t)) f.1 step r) i
+
+begun_clean : (m : Journal) → BeginsWell m → (step : Stepped) → In step (steps_from nothing m) → LeavesClean step
+unfolding stand_then entry_store entry_step note_step steps_from nothing
+begun_clean [] b step i = absurd b
+begun_clean (Session ∷ []) b step i = absurd b
+begun_clean (Session ∷ Session ∷ es) b step i = absurd b
+begun_clean (Session ∷ Made keys ∷ es) b step i =
+    let at = stand_then (stand_then nothing Session) (Made keys) in
+    let k : KeyState = next_epoch no_keys in
+    let c = change_of no_store Root in
+    let here : Stepped = note_step (stand_then nothing Session) Root root_store in ⊎_elim
+    (λ q l j d. subst (In l) (ap (λ (x : Stepped). x.links) q) j)
+    (λ r. ⊎_elim
+    (λ q. subst LeavesClean (sym q) (links_clean no_store root_store k c [] root_moves nothing_holds (pieces_of Root root_store)))
+    (λ u. after_clean es at here.links root_sound (keys_after no_store root_store k c [] root_moves nothing_holds (pieces_of Root root_store)) b.1 step u) r) i
+begun_clean (Session ∷ Did request keys ∷ es) b step i = absurd b
+begun_clean (Made keys ∷ es) b step i = absurd b
+begun_clean (Did request keys ∷ es) b step i = absurd b
+
+pub journal_clean : (m : Journal) → IsValid m → (step : Stepped) → In step (steps_of m) → LeavesClean step
+unfolding steps_of
+journal_clean m v step i = begun_clean m v.0 step i

@@ -1,0 +1,5 @@
+use Rattle.public_fold.proofs.EdgesAfter.{edges_after}
+use Rattle.public_fold.proofs.tree_laws.steps_leave_the_edges.Goals as goal
+
+pub returns : goal.returns
+returns c = edges_after
