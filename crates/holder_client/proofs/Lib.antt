@@ -1,3 +1,7 @@
+pub mod Counted
+pub mod FreshShown
+pub mod Opened
 pub mod OwnNames
 pub mod OwnPath
+pub mod Viewed
 pub mod Viewing

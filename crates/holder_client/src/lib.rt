@@ -1,5 +1,16 @@
 //! What a holder's client shows.
 #![tactic(auto)]
 
+mod fault;
 pub mod laws;
+mod records;
+mod root;
 pub mod rows;
+mod showing;
+mod visits;
+
+pub use fault::ClientFault;
+pub use showing::view;
+
+#[cfg(test)]
+mod tests;
