@@ -1,2 +1,4 @@
 pub mod Gaining
 pub mod Growing
+pub mod OwnNames
+pub mod Serving

@@ -2,4 +2,6 @@
 #![tactic(auto)]
 
 pub mod laws;
+pub mod right_laws;
 pub mod rows;
+pub mod view_laws;
