@@ -1,0 +1,5 @@
+pub mod Bytes
+pub mod Journals
+pub mod Keys
+pub mod Notes
+pub mod WorkedBytes

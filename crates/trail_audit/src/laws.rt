@@ -1,0 +1,41 @@
+//! Laws of right keys and forged records.
+ghost use Rattle.std.specs.Prelude.{◌≡◌, ℕ, List, ◌++◌};
+ghost use Rattle.chacha_seal.specs.Keys.{KeyParts};
+ghost use Rattle.commit_journal.specs.Laws.{AreBodies};
+ghost use Rattle.cry_base.specs.Sets.{In};
+ghost use Rattle.key_links.specs.Sealed.{sealed_content, sealed_link};
+ghost use Rattle.public_fold.specs.Journal.{Journal};
+ghost use Rattle.record_format.specs.declared.link.LinkRecord.{LinkRecord};
+ghost use Rattle.store_owner.specs.Bytes.{bodies_of};
+ghost use Rattle.store_owner.specs.Journals.{StandsWholeForJournal};
+ghost use Rattle.store_owner.specs.Keys.{key_bytes};
+ghost use Rattle.trail_audit.specs.Forged.{IsForged, records_of};
+ghost use Rattle.trail_audit.specs.Records.{IsTagged, PlainRecord, records_in, sealing_serial};
+ghost use Rattle.trail_audit.specs.Records.PlainRecord.{AContent};
+ghost use Rattle.trail_audit.specs.Right.{IsRight, LeadsOn, target_of};
+
+/// Law: more links take no right key away, and from a right key nothing is right that isn't right from the bundle's.
+pub fn right_keys_grow()
+    ensures links { (links more : List LinkRecord) (bundle key : KeyParts) → IsRight links bundle key → IsRight (links ++ more) bundle key }
+    ensures onward { (links : List LinkRecord) (bundle key further : KeyParts) → IsRight links bundle key → IsRight links key further → IsRight links bundle further }
+{}
+
+/// Law: a sealed link leads on from its source to its target, and a sealed text has the right tag under its key.
+pub fn sealed_records_lead_on()
+    ensures link { (kind : ℕ) (from to : KeyParts) (nonce : ℕ) → LeadsOn from (sealed_link kind from to nonce) }
+    ensures target { (kind : ℕ) (from to : KeyParts) (nonce : ℕ) → target_of from (sealed_link kind from to nonce) ≡ to }
+    ensures content { (kind : ℕ) (key : KeyParts) (object nonce : ℕ) (text : List ℕ) → IsTagged key.bytes (AContent (sealed_content kind key object nonce text)) }
+{}
+
+/// Law: a record that the journal published isn't forged under the key that it was sealed with.
+pub fn own_records_are_not_forged()
+    ensures { (owner : List ℕ) (m : Journal) (bytes : List ℕ) (r : PlainRecord) (forged : IsForged owner m bytes r) →
+        In r (records_of owner m) → key_bytes owner m (sealing_serial r) ≡ forged.key.bytes → ⊥ }
+{}
+
+/// Law: the records that stand in the whole image of a journal are those that it published, if each of its payloads has a
+/// spelling.
+pub fn whole_image_has_the_own_records()
+    ensures { (owner : List ℕ) (m : Journal) (bytes : List ℕ) → StandsWholeForJournal owner m bytes → AreBodies 0 (bodies_of owner m) →
+        records_in bytes ≡ records_of owner m }
+{}
