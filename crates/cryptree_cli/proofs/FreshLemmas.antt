@@ -9,9 +9,9 @@ use Rattle.chacha_seal.specs.Sealing.{tag_key, check_of, seal_tag}
 use Rattle.record_format.specs.Sizes.{payload_size}
 use Rattle.record_format.specs.Spellable.{IsLink, IsContent, IsSpellable}
 use Rattle.cryptree_cli.specs.Commit.{Appends}
-use Rattle.cryptree_cli.specs.Fresh.{piece, owner_key, root_key, root_links, root_name, root_payload, epoch_batch, root_batch, fresh_image}
+use Rattle.key_links.specs.Fresh.{piece, owner_key, root_key, root_links, root_name, root_payload, epoch_batch, root_batch, fresh_image}
 use Rattle.commit_journal.specs.Image.{batch_veil, owner_tag, spell_batch, spell_header, spell_batches, image}
-use Rattle.cryptree_cli.specs.Sealed.{sealed_link, sealed_content}
+use Rattle.key_links.specs.Sealed.{sealed_link, sealed_content}
 use Rattle.cryptree_cli.proofs.SealedLemmas.{length-sealed}
 
 pub length-seal_tag : (key header cipher : List ℕ) → length (seal_tag key header cipher) ≡ 32

@@ -7,7 +7,7 @@ use Rattle.chacha_seal.proofs.StreamLemmas.{length-xor_stream}
 use Rattle.record_format.specs.declared.link.LinkRecord.{LinkRecord}
 use Rattle.record_format.specs.Plain.{PlainContent}
 use Rattle.record_format.specs.Spelling.{link_head, content_head}
-use Rattle.cryptree_cli.specs.Sealed.{sealed_link, sealed_content}
+use Rattle.key_links.specs.Sealed.{sealed_link, sealed_content}
 
 -- sealing keeps the length
 pub length-sealed : (key : List ℕ) (nonce : ℕ) (text : List ℕ) → length (sealed key nonce text) ≡ length text

@@ -1,8 +1,9 @@
 pub mod Commit
-pub mod Fresh
+pub mod Heard
+pub mod Input
+pub mod Listing
 pub mod Outside
 pub mod Room
-pub mod Sealed
 pub mod Status
 pub mod Top
 pub mod Words

@@ -8,13 +8,19 @@ use Rattle.cryptree_cli.specs.declared.status.Status.{Status}
 use Rattle.cryptree_cli.specs.declared.status.Status.TheVariants.{RandomFault, RandomShort, OutOfMemory}
 use Rattle.cryptree_cli.specs.declared.words.Form.{Form}
 use Rattle.cryptree_cli.specs.declared.words.Form.TheVariants.{Make, Help, Version}
+use Rattle.cryptree_cli.specs.declared.words.Form.TheVariants as forms
 use Rattle.cryptree_cli.specs.declared.texts.TheConstants.{HELP, VERSION}
-use Rattle.cryptree_cli.specs.Fresh.{piece, fresh_image, owner_line}
+use Rattle.key_links.specs.Fresh.{piece, fresh_image}
+use Rattle.script_text.specs.Printing.{owner_line}
 use Rattle.cryptree_cli.specs.Words.{form_of_words}
 
 -- the words ask for a store to be made
 abbrev pub IsMake : List (Listed ℕ) → Type 0
 IsMake words = form_of_words words ≡ Some Make
+
+-- the words ask for a key's view
+abbrev pub IsList : List (Listed ℕ) → Type 0
+IsList words = form_of_words words ≡ Some forms.List
 
 -- the text that the words ask for, where they ask for one
 abbrev pub text_of : Option Form → Option (List ℕ)

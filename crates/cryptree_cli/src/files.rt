@@ -6,13 +6,13 @@ use std::os::fd::AsRawFd;
 /// The highest number of a standard stream.
 const STDERR: i32 = 2;
 
-/// Opens the store's file to read and write, and makes it where it is to be made and is missing. `None` where it
-/// can't be opened.
+/// Opens the store's file to read, and where it is to be made to write too, making it where it is missing. `None` where
+/// it can't be opened.
 pub(crate) fn open_store(rt: &HostRuntime, path: &[u8], make: bool) -> Option<File> {
     let path = std::str::from_utf8(path).ok()?;
     let file = OpenOptions::new()
         .read(true)
-        .write(true)
+        .write(make)
         .create(make)
         .open(rt, path)
         .ok()?;

@@ -1,9 +1,9 @@
 //! What `make` publishes: the root's keys and its empty name.
 ghost use Rattle.std.specs.Prelude.{◌≡◌, ◌<◌, ◌≤◌, [], ◌∷◌, ◌++◌, length};
 ghost use Rattle.chacha_seal.specs.Serials.{serial_of};
-ghost use Rattle.cryptree_cli.specs.Sealed.{sealed_link};
+ghost use Rattle.key_links.specs.Sealed.{sealed_link};
 ghost use Rattle.record_format.specs.Plain.{plain_payload};
-ghost use Rattle.cryptree_cli.specs.Fresh as fresh;
+ghost use Rattle.key_links.specs.Fresh as fresh;
 
 use crate::room::RootRoom;
 use crate::sealed::{content, link};

@@ -2,19 +2,19 @@
 ghost use Rattle.std.specs.Prelude.{◌≡◌, ◌≢◌, ◌<◌, ◌≤◌, ◌⊎◌, ◌↔◌, ℕ, length, is_some, IsTrue};
 ghost use Rattle.cry_io.specs.Stops.{IsDurable};
 ghost use Rattle.cry_io.specs.Told.{WhereTold, WhereBothTold};
-ghost use Rattle.cryptree_cli.specs.Fresh.{fresh_image};
+ghost use Rattle.key_links.specs.Fresh.{fresh_image};
 ghost use Rattle.cryptree_cli.specs.Outside.{IsShortOf};
 ghost use Rattle.cryptree_cli.specs.Room.{IsRoomForMake};
-ghost use Rattle.cryptree_cli.specs.Status.{is_before_draw, is_before_write, is_before_print};
+ghost use Rattle.cryptree_cli.specs.Status.{is_make_answer, is_before_draw, is_before_write, is_before_print};
 ghost use Rattle.cryptree_cli.specs.Top.{Makes, PrintsAll, PrintsFront, IsShort, EndsShort, line_drawn, drawn_status};
 
 use crate::fresh::{DRAWN, owner_key};
 use crate::outside::{DrawFault, draw, print};
-use crate::owner_line::put_owner_line;
 use crate::room::MakeRoom;
 use crate::status::Status;
 use crate::store::write_store;
 use cry_io::{Disk, Sink, Source};
+use script_text::print_owner;
 use std::alloc::Global;
 
 /// Makes a store on an empty disk with the next 192 random bytes, and prints its owner's line.
@@ -24,6 +24,7 @@ pub(crate) fn make<R: Source, D: Disk, W: Sink>(
     disk: &mut D,
     out: &mut W,
 ) -> Status
+    ensures answers { IsTrue (is_make_answer result) }
     ensures not_blank { (result ≡ Status.NotBlank) ↔ (D.size_of disk.old ≢ 0) }
     ensures short { (left need : ℕ) → result ≡ Status.RandomShort left need →
         IsShort left need (R.left random.old) (R.left random.new) }
@@ -31,7 +32,6 @@ pub(crate) fn make<R: Source, D: Disk, W: Sink>(
     ensures random_fault { result ≡ Status.RandomFault → R.faults random.old < R.faults random.new }
     ensures disk_fault { result ≡ Status.DiskFault → D.faults disk.old < D.faults disk.new }
     ensures write_fault { result ≡ Status.WriteFault → W.faults out.old < W.faults out.new }
-    ensures no_usage { result ≢ Status.Usage }
 
     ensures made { result ≡ Status.Done → Makes PrintsAll
         (R.left random.old) (R.left random.new) (D.shown disk.new) (W.written out.old) (W.written out.new) }
@@ -100,7 +100,9 @@ fn write_and_tell<D: Disk, W: Sink>(
     let Ok(()) = write_store(disk, drawn, store) else {
         return Status::DiskFault;
     };
-    put_owner_line(owner_key(drawn).bytes(), &mut line);
+    let Ok(()) = print_owner(owner_key(drawn).bytes(), &mut line) else {
+        unreachable!();
+    };
     let Ok(()) = print(out, line.as_slice()) else {
         return Status::WriteFault;
     };

@@ -2,7 +2,6 @@
 ghost use Rattle.std.specs.Prelude.{IfOk};
 
 use crate::batch::BATCH_LEN;
-use crate::owner_line::OWNER_LINE_LEN;
 use cry_base::{List, Mem, Text};
 use record_format::{ContentRecord, LinkRecord};
 use std::alloc::Global;
@@ -10,6 +9,8 @@ use std::alloc::Global;
 const ROOT_PAYLOAD_LEN: usize = 557;
 
 const ROOT_LINKS: usize = 5;
+
+const OWNER_LINE_LEN: usize = 71;
 
 /// Room for the records of the root.
 #[derive(Drop)]

@@ -1,7 +1,7 @@
 //! Keys and texts sealed under keys, as records (docs/FORMAT.md, "Records").
 ghost use Rattle.std.specs.Prelude.{◌≡◌, ◌<◌, ◌^◌, length};
 ghost use Rattle.record_format.specs.Plain.{plain_content};
-ghost use Rattle.cryptree_cli.specs.Sealed.{sealed_link, sealed_content};
+ghost use Rattle.key_links.specs.Sealed.{sealed_link, sealed_content};
 
 use chacha_seal::{Key, Nonce, seal_in_place};
 use cry_base::{List, Text};

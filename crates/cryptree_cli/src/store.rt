@@ -4,7 +4,7 @@ ghost use Rattle.cry_io.specs.Counts.{CountsFault};
 ghost use Rattle.cry_io.specs.Stops.{IsDurable};
 ghost use Rattle.cry_io.specs.Told.{WhereTold, WhereBothTold};
 ghost use Rattle.cryptree_cli.specs.Commit.{Appends};
-ghost use Rattle.cryptree_cli.specs.Fresh as fresh;
+ghost use Rattle.key_links.specs.Fresh as fresh;
 ghost use Rattle.commit_journal.specs.Image as image;
 ghost use Rattle.cryptree_cli.specs.Room.{IsRoomForStore};
 

@@ -20,6 +20,8 @@ const OWNER_LINE: &[u8] =
 
 const MAKE: [&[u8]; 3] = [b"store", b"random", b"make"];
 
+const LIST: [&[u8]; 3] = [b"store", b"-", b"list"];
+
 /// The calls of the disk that `make` makes: a write and a sync of the header, three of each for either batch.
 const DISK_CALLS: u64 = 14;
 
@@ -71,8 +73,19 @@ fn run_top<W: Sink>(
     disk: &mut MemDisk,
     out: &mut W,
 ) -> Mem<Status> {
+    run_with(alloc, given, &mut nothing(alloc), random, disk, out)
+}
+
+fn run_with<W: Sink>(
+    alloc: Global,
+    given: &[&[u8]],
+    input: &mut MemSource,
+    random: &mut MemSource,
+    disk: &mut MemDisk,
+    out: &mut W,
+) -> Mem<Status> {
     let words = words(alloc, given)?;
-    Ok(top(alloc, &words, &mut nothing(alloc), random, disk, out))
+    Ok(top(alloc, &words, input, random, disk, out))
 }
 
 fn nothing(alloc: Global) -> MemSource {
@@ -90,6 +103,24 @@ fn a_fresh_store_is_the_worked_image(rt: HostRuntime) -> Result<(), Fail> {
     assert_eq!(rt; out.written(), OWNER_LINE);
     assert_eq!(rt; disk.bytes().len(), 819);
     assert_eq!(rt; Sha256::digest(disk.bytes()), FRESH_DIGEST);
+    Ok(())
+}
+
+#[test]
+fn a_fresh_store_is_listed_to_its_owner(rt: HostRuntime) -> Result<(), Fail> {
+    let alloc = rt.alloc();
+    let mut random = counting(alloc, 192, 192, &[])?;
+    let mut disk = blank(alloc, &[])?;
+    let mut made = MemSink::make(alloc, 100, List::new(alloc))?;
+    run_top(alloc, &MAKE, &mut random, &mut disk, &mut made)?;
+
+    let mut line = List::new(alloc);
+    line.append(OWNER_LINE)?;
+    let mut input = MemSource::make(line, 5, List::new(alloc));
+    let mut out = MemSink::make(alloc, 100, List::new(alloc))?;
+    let status = run_with(alloc, &LIST, &mut input, &mut random, &mut disk, &mut out)?;
+    assert_eq!(rt; status, Status::Done);
+    assert_eq!(rt; out.written(), b"folder /\n".as_slice());
     Ok(())
 }
 
@@ -222,13 +253,28 @@ fn each_status_has_its_number_and_its_line(rt: HostRuntime) -> Result<(), Fail> 
         left: 191,
         need: 192,
     };
-    let table: [(Status, u8, &[u8]); 8] = [
+    let tampered = Status::Tampered { batch: 7, at: 2395 };
+    let table: [(Status, u8, &[u8]); 14] = [
         (Status::Done, 0, b""),
         (Status::Usage, 2, b"cryptree: usage\n"),
+        (
+            Status::BadScript { line: 4 },
+            3,
+            b"cryptree: bad script line 4\n",
+        ),
+        (Status::ReadFault, 4, b"cryptree: read fault\n"),
         (Status::WriteFault, 5, b"cryptree: write fault\n"),
         (Status::DiskFault, 6, b"cryptree: disk fault\n"),
         (Status::RandomFault, 7, b"cryptree: random fault\n"),
         (short, 8, b"cryptree: random 191 of 192\n"),
+        (Status::NotAStore, 9, b"cryptree: not a store\n"),
+        (
+            Status::Damaged { at: 2333 },
+            10,
+            b"cryptree: damaged at 2333\n",
+        ),
+        (Status::WrongKey, 11, b"cryptree: wrong key\n"),
+        (tampered, 12, b"cryptree: tampered batch 7 at 2395\n"),
         (Status::OutOfMemory, 13, b"cryptree: out of memory\n"),
         (Status::NotBlank, 14, b"cryptree: not blank\n"),
     ];

@@ -1,11 +1,15 @@
 //! The call that the program makes.
-ghost use Rattle.std.specs.Prelude.{◌≡◌, ◌≢◌, ◌<◌, ◌≤◌, ◌⊎◌, ◌↔◌, ℕ, length, is_some, None, IsTrue, IsSome};
+ghost use Rattle.std.specs.Prelude.{◌≡◌, ◌≢◌, ◌<◌, ◌≤◌, ◌⊎◌, ◌↔◌, ℕ, [], length, is_some, None, IsTrue, IsSome};
 ghost use Rattle.cry_io.specs.Stops.{IsDurable};
 ghost use Rattle.cry_io.specs.Told.{WhereTold, WhereBothTold};
-ghost use Rattle.cryptree_cli.specs.Status.{is_before_draw, is_before_write, is_before_print};
-ghost use Rattle.cryptree_cli.specs.Top.{IsMake, Makes, PrintsAll, PrintsFront, IsShort, EndsShort, text_of};
+ghost use Rattle.commit_journal.specs.Reading.{IsOnlyRead};
+ghost use Rattle.cryptree_cli.specs.Input.{input_answer};
+ghost use Rattle.cryptree_cli.specs.Listing.{InputDecides, ListsAs, ListsFresh, owner_in, list_answer, is_list_answer, is_before_read};
+ghost use Rattle.cryptree_cli.specs.Status.{is_make_answer, is_before_draw, is_before_write, is_before_print};
+ghost use Rattle.cryptree_cli.specs.Top.{IsMake, IsList, Makes, PrintsAll, PrintsFront, IsShort, EndsShort, text_of};
 ghost use Rattle.cryptree_cli.specs.Words.{form_of_words};
 
+use crate::list::list;
 use crate::make::make;
 use crate::outside::print;
 use crate::status::Status;
@@ -23,18 +27,21 @@ use std::alloc::Global;
 pub fn top<S: Source, R: Source, D: Disk, W: Sink>(
     alloc: Global,
     words: &List<Text>,
-    _input: &mut S,
+    input: &mut S,
     random: &mut R,
     disk: &mut D,
     out: &mut W,
 ) -> Status
     // When each answer comes.
     ensures usage { (result ≡ Status.Usage) ↔ (form_of_words words.now.items ≡ None) }
+    ensures make_answers { IsMake words.now.items → IsTrue (is_make_answer result) }
+    ensures list_answers { IsList words.now.items → IsTrue (is_list_answer result) }
     ensures not_blank { (result ≡ Status.NotBlank) ↔ (IsMake words.now.items × (D.size_of disk.old ≢ 0)) }
     ensures short { (left need : ℕ) → result ≡ Status.RandomShort left need →
         IsShort left need (R.left random.old) (R.left random.new) }
     ensures short_only { IsMake words.now.items → D.size_of disk.old ≡ 0 →
         WhereTold (R.left random.old) (EndsShort result) }
+    ensures read_fault { result ≡ Status.ReadFault → S.faults input.old < S.faults input.new }
     ensures random_fault { result ≡ Status.RandomFault → R.faults random.old < R.faults random.new }
     ensures disk_fault { result ≡ Status.DiskFault → D.faults disk.old < D.faults disk.new }
     ensures write_fault { result ≡ Status.WriteFault → W.faults out.old < W.faults out.new }
@@ -53,6 +60,18 @@ pub fn top<S: Source, R: Source, D: Disk, W: Sink>(
     ensures stays { IsMake words.now.items → (result ≡ Status.Done) ⊎ (result ≡ Status.WriteFault) →
         IsDurable (D.may_leave disk.new) (D.shown disk.new) × (D.size_of disk.new ≡ 819) }
 
+    // What `list` does: it reads the input to its end, reads the store, and prints what the key shows in one piece.
+    ensures list_input { IsList words.now.items → WhereTold (S.left input.old) (λ typed.
+        InputDecides result (owner_in (input_answer typed))) }
+    ensures listed { IsList words.now.items → WhereTold (S.left input.old) (λ typed. WhereTold (D.shown disk.old) (λ image.
+        ListsAs result (list_answer typed image) (W.written out.old) (W.written out.new))) }
+    ensures fresh_listed { IsList words.now.items →
+        WhereTold (S.left input.old) (λ typed. WhereTold (D.shown disk.old) (λ image.
+        ListsFresh result (owner_in (input_answer typed)) image (W.written out.old) (W.written out.new))) }
+    ensures list_read_to_end { IsList words.now.items → result ≡ Status.Done → WhereTold (S.left input.new) (λ rest. rest ≡ []) }
+    ensures list_reads_only { IsList words.now.items →
+        (random.new ≡ random.old) × IsOnlyRead D.shown D.size_of D.may_leave disk.old disk.new }
+
     // What the texts do: nothing but print.
     ensures text { WhereTold (text_of (form_of_words words.now.items)) (λ text.
         (result ≡ Status.Done) × WhereBothTold (W.written out.old) (W.written out.new) (PrintsAll text)
@@ -61,15 +80,18 @@ pub fn top<S: Source, R: Source, D: Disk, W: Sink>(
         (random.new ≡ random.old) × (disk.new ≡ disk.old) }
 
     // What an answer leaves as it was.
-    ensures input_kept { _input.new ≡ _input.old }
+    ensures input_kept { IsList words.now.items ⊎ (input.new ≡ input.old) }
     ensures random_kept { IsTrue (is_before_draw result) → random.new ≡ random.old }
-    ensures disk_kept { IsTrue (is_before_write result) → disk.new ≡ disk.old }
+    ensures disk_kept { IsTrue (is_before_write result) → IsList words.now.items ⊎ (disk.new ≡ disk.old) }
+    ensures disk_unread { IsTrue (is_before_read result) → disk.new ≡ disk.old }
     ensures out_kept { IsTrue (is_before_print result) → out.new ≡ out.old }
 
     // What is told stays told, and counts never fall.
+    ensures input_told { is_some (S.left input.new) ≡ is_some (S.left input.old) }
     ensures random_told { is_some (R.left random.new) ≡ is_some (R.left random.old) }
     ensures disk_told { is_some (D.shown disk.new) ≡ is_some (D.shown disk.old) }
     ensures out_told { is_some (W.written out.new) ≡ is_some (W.written out.old) }
+    ensures input_counts { S.faults input.old ≤ S.faults input.new }
     ensures random_counts { R.faults random.old ≤ R.faults random.new }
     ensures disk_counts { D.faults disk.old ≤ D.faults disk.new }
     ensures out_counts { W.faults out.old ≤ W.faults out.new }
@@ -77,6 +99,7 @@ pub fn top<S: Source, R: Source, D: Disk, W: Sink>(
     match form_of(words) {
         None => Status::Usage,
         Some(Form::Make) => make(alloc, random, disk, out),
+        Some(Form::List) => list(alloc, input, disk, out),
         Some(Form::Help) => tell(HELP, out),
         Some(Form::Version) => tell(VERSION, out),
     }

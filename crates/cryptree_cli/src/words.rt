@@ -9,6 +9,8 @@ use cry_base::{List, Text};
 pub enum Form {
     /// `STORE RANDOM make`
     Make,
+    /// `STORE RANDOM list`
+    List,
     /// `--help`
     Help,
     /// `--version`
@@ -43,6 +45,8 @@ fn command_of(word: &Text) -> Option<Form>
 {
     if word.as_slice() == b"make".as_slice() {
         Some(Form::Make)
+    } else if word.as_slice() == b"list".as_slice() {
+        Some(Form::List)
     } else {
         None
     }

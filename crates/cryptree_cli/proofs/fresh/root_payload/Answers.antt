@@ -1,5 +1,5 @@
 use Rattle.std.proofs.Common.{refl}
-use Rattle.cryptree_cli.specs.Fresh.{root_payload, root_links, root_name}
+use Rattle.key_links.specs.Fresh.{root_payload, root_links, root_name}
 use Rattle.cryptree_cli.proofs.fresh.root_payload.Goals as goal
 
 pub returns : goal.returns

@@ -1,6 +1,6 @@
 use Rattle.std.proofs.Common.{◌≡◌, ℕ, List, ap, subst}
 use Rattle.cryptree_cli.specs.Commit.{Appends}
-use Rattle.cryptree_cli.specs.Fresh.{piece, root_batch}
+use Rattle.key_links.specs.Fresh.{piece, root_batch}
 use Rattle.cryptree_cli.proofs.store.append_root.Goals as goal
 
 pub returns-clause-appended : goal.returns-clause-appended

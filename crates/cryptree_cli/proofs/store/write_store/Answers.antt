@@ -4,7 +4,7 @@ use Rattle.std.proofs.lemmas.Result.{on_ok_weaker}
 use Rattle.cry_io.proofs.ToldLemmas.{told_again}
 use Rattle.chacha_seal.specs.Sealing.{check_of}
 use Rattle.cryptree_cli.specs.Commit.{Appends}
-use Rattle.cryptree_cli.specs.Fresh.{piece, epoch_batch}
+use Rattle.key_links.specs.Fresh.{piece, epoch_batch}
 use Rattle.commit_journal.specs.Image.{owner_tag}
 use Rattle.cryptree_cli.proofs.CommitLemmas.{written_first}
 use Rattle.cryptree_cli.proofs.FreshLemmas.{fresh_is}
