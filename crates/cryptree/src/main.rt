@@ -1,30 +1,13 @@
 //! cryptree: shared folders in one store file, on a disk that nobody has to trust.
 #![tactic(auto)]
 
-mod batch;
-mod commit;
 mod files;
-mod fresh;
-mod heard;
-mod input;
-mod list;
-mod make;
-mod outside;
-mod room;
-mod sealed;
-mod status;
-mod store;
-#[cfg(test)]
-mod tests;
-mod texts;
-mod top;
-mod words;
 
 use crate::files::{Random, open_store};
-use crate::status::{Status, fault_line};
-use crate::top::top;
 use cry_base::{List, Mem, Text};
 use cry_io::{FileDisk, StdSink, StdSource};
+use cryptree_cli::status::{Status, fault_line};
+use cryptree_cli::top::top;
 use std::process::ExitCode;
 use std::{env, io};
 
