@@ -1,0 +1,65 @@
+-- Rows stay rising.
+use Rattle.std.proofs.Common.{◌≡◌, ℕ, suc, ◌<◌, Bool, true, false, cond, not, ◌==◌, nat_lt, List, [], ◌∷◌, ◌++◌, map, filter, refl, sym, arith}
+use Rattle.std.specs.List.{All, AllPairs}
+use Rattle.std.proofs.lemmas.Bool.{ltb-true, eqb-true}
+use Rattle.std.proofs.lemmas.List.Elements.{All-nil, All-cons, All-head, All-tail, All-append, All-weaker, All-map}
+use Rattle.std.proofs.lemmas.List.Kept.{AllPairs-cons, AllPairs-filter}
+use Rattle.sorted_table.specs.Rows.{IsRising, with_row, without, replaced}
+
+AllPairs-nil : (T : Type 0) (R : T → T → Type 0) → AllPairs R []
+AllPairs-nil T R = λ i j d lt within. absurd (omega arith)
+
+AllPairs-head : (T : Type 0) (R : T → T → Type 0) (x : T) (xs : List T) → AllPairs R (x ∷ xs) → All (R x) xs
+AllPairs-head T R x xs pairs = λ k d within. pairs 0 (suc k) d (omega arith) (omega arith)
+
+AllPairs-tail : (T : Type 0) (R : T → T → Type 0) (x : T) (xs : List T) → AllPairs R (x ∷ xs) → AllPairs R xs
+AllPairs-tail T R x xs pairs = λ i j d lt within. pairs (suc i) (suc j) d (omega arith) (omega arith)
+
+AllPairs-append : (T : Type 0) (R : T → T → Type 0) (xs ys : List T) → AllPairs R xs → AllPairs R ys → All (λ x. All (R x) ys) xs → AllPairs R (xs ++ ys)
+AllPairs-append T R [] ys front behind across = behind
+AllPairs-append T R (x ∷ xs) ys front behind across =
+    AllPairs-cons R x (xs ++ ys)
+    (All-append (R x) xs ys (AllPairs-head T R x xs front) (All-head (λ x. All (R x) ys) x xs across))
+    (AllPairs-append T R xs ys (AllPairs-tail T R x xs front) behind (All-tail (λ x. All (R x) ys) x xs across))
+
+-- what passes has what the test tells
+All-filter : (T : Type 0) (p : T → Bool) (P : T → Type 0) → ((x : T) → p x ≡ true → P x) → (xs : List T) → All P (filter p xs)
+All-filter T p P tells [] = All-nil P
+All-filter T p P tells (x ∷ xs) =
+    (elim (p x) as (λ b. p x ≡ b → All P (cond b (x ∷ filter p xs) (filter p xs))) [
+      | true ↦ λ yes'. All-cons P x (filter p xs) (tells x yes') (All-filter T p P tells xs)
+      | false ↦ λ no'. All-filter T p P tells xs
+    ]) refl
+
+module _ (T : Type 0) (rank : T → ℕ) (rows : List T) (rising : IsRising rank rows) where
+  pub rising-with_row : (row : T) → IsRising rank (with_row rank rows row)
+  rising-with_row row =
+      let R : T → T → Type 0 = λ x y. rank x < rank y in
+      let lower = filter (λ r. nat_lt (rank r) (rank row)) rows in
+      let higher = filter (λ r. nat_lt (rank row) (rank r)) rows in
+      let over : All (R row) higher = All-filter T (λ r. nat_lt (rank row) (rank r)) (R row) (λ x told. ltb-true _ _ told) rows in
+      let under : All (λ x. R x row) lower = All-filter T (λ r. nat_lt (rank r) (rank row)) (λ x. R x row) (λ x told. ltb-true _ _ told) rows in
+      AllPairs-append T R lower (row ∷ higher)
+      (AllPairs-filter R (λ r. nat_lt (rank r) (rank row)) rows rising)
+      (AllPairs-cons R row higher over (AllPairs-filter R (λ r. nat_lt (rank row) (rank r)) rows rising))
+      (All-weaker (λ x. R x row) (λ x. All (R x) (row ∷ higher)) (λ x low. All-cons (R x) row higher low
+      (All-weaker (R row) (R x) (λ y high. omega arith) higher over)) lower under)
+
+  pub rising-without : (k : ℕ) → IsRising rank (without rank rows k)
+  rising-without k = AllPairs-filter (λ x y. rank x < rank y) (λ r. not (rank r == k)) rows rising
+
+-- a change that keeps each row's rank keeps the order
+pub rising-map : (T : Type 0) (rank : T → ℕ) (f : T → T) → ((x : T) → rank (f x) ≡ rank x) → (rows : List T) → IsRising rank rows → IsRising rank (map f rows)
+rising-map T rank f keeps [] rising = rising
+rising-map T rank f keeps (x ∷ xs) rising =
+    let R : T → T → Type 0 = λ x y. rank x < rank y in
+    AllPairs-cons R (f x) (map f xs)
+    (All-map (R (f x)) f xs (All-weaker (R x) (λ y. R (f x) (f y)) (λ y up. let a = keeps x in let b = keeps y in omega arith) xs (AllPairs-head T R x xs rising)))
+    (rising-map T rank f keeps xs (AllPairs-tail T R x xs rising))
+
+pub rising-replaced : (T : Type 0) (rank : T → ℕ) (rows : List T) → IsRising rank rows → (row : T) → IsRising rank (replaced rank rows row)
+rising-replaced T rank rows rising row = rising-map T rank (λ r. cond (rank r == rank row) row r)
+    (λ x. (elim (rank x == rank row) as (λ b. (rank x == rank row) ≡ b → rank (cond b row x) ≡ rank x) [
+      | true ↦ λ same. sym (eqb-true _ _ same)
+      | false ↦ λ other. refl
+    ]) refl) rows rising

@@ -1,0 +1,35 @@
+//! What puts rows in order, and what a row is looked up by.
+ghost use Rattle.std.specs.Prelude.{◌≡◌, ℕ};
+ghost use Rattle.std.specs.Ordering.{nat_cmp};
+
+use std::cmp::Ordering;
+
+/// A row's rank decides its place in a table. Two rows of one rank never stand in one table.
+pub trait Ranked {
+    ghost rank: { Self → ℕ };
+
+    /// How this row's rank compares with the other's.
+    fn compare(&self, other: &Self) -> Ordering
+        ensures { result ≡ nat_cmp (rank self.now) (rank other.now) };
+}
+
+/// What a row is looked up by: the rank that is sought, without a row that has it.
+pub trait Key<T: Ranked> {
+    ghost sought: { Self → ℕ };
+
+    /// How the row's rank compares with the one that is sought.
+    fn compare_row(&self, row: &T) -> Ordering
+        ensures { result ≡ nat_cmp (T.rank row.now) (sought self.now) };
+}
+
+/// The rank of a row at hand.
+#[derive(Drop)]
+pub(crate) struct SameRank<'a, T>(pub(crate) &'a T);
+
+impl<'a, T: Ranked> Key<T> for SameRank<'a, T> {
+    ghost sought = { λ key. T.rank key.0.now };
+
+    fn compare_row(&self, row: &T) -> Ordering {
+        row.compare(self.0)
+    }
+}

@@ -1,0 +1,131 @@
+//! Rows in ascending order of their ranks.
+ghost use Rattle.std.specs.Prelude.{◌≡◌, ◌+◌, ◌≤◌, [], length, IsOk, IsSome, OnOk, IfOk, IfErr, None};
+ghost use Rattle.std.specs.Option.{option_copied};
+ghost use Rattle.sorted_table.specs.Places.{IsAt, IsGapFor};
+ghost use Rattle.sorted_table.specs.Rows.{IsRising, row_at, with_row, without, replaced};
+
+use crate::ranked::SameRank;
+use crate::{Key, Ranked};
+use cry_base::Mem;
+use std::alloc::Global;
+use std::marker::Model;
+
+/// Rows in ascending order of their ranks, which all differ. `spare` is how many more fit without memory; it may be
+/// more than was asked for. A look-up among n rows compares about log2(n) times; a row that comes or goes moves those
+/// behind it.
+#[derive(Drop)]
+pub struct Table<T: Ranked> {
+    rows: Vec<T>,
+}
+
+impl<T: Ranked> Model for Table<T> {
+    ghost use Rattle.std.specs.Prelude.{◌-◌, vec_len, vec_capacity};
+    ghost use Rattle.sorted_table.specs.Rows.{IsRising};
+    ghost use Rattle.sorted_table.specs.Tabled.{Tabled};
+
+    ghost Value = { Tabled T };
+
+    ghost view = { λ t. record { rows = t.rows.items; spare = vec_capacity t.rows - vec_len t.rows } };
+
+    ghost invariant = { λ t. IsRising T.rank t.rows.items };
+}
+
+impl<T: Ranked> Table<T> {
+    /// A table without rows. It takes no memory.
+    pub fn new(alloc: Global) -> Self
+        ensures { result.rows ≡ [] }
+    {
+        Table {
+            rows: Vec::new(alloc),
+        }
+    }
+
+    /// The rows in ascending order.
+    pub fn as_slice(&self) -> &[T]
+        ensures rows { result.now ≡ self.now.rows }
+        ensures rising { IsRising T.rank self.now.rows }
+    {
+        &self.rows
+    }
+
+    /// The row with the key's rank.
+    pub fn find<K: Key<T>>(&self, key: &K) -> Option<&T>
+        ensures row { option_copied result ≡ row_at T.rank self.now.rows (K.sought key.now) }
+        ensures rising { IsRising T.rank self.now.rows }
+    {
+        match place_of(&self.rows, key) {
+            Ok(at) => Some(&self.rows[at]),
+            Err(_) => None,
+        }
+    }
+
+    /// Makes room for at least `more` rows beside those that are there.
+    pub fn reserve(&mut self, more: usize) -> Mem<()>
+        ensures rows { self.new.rows ≡ self.old.rows }
+        ensures room { OnOk result (more ≤ self.new.spare) }
+        ensures kept { self.old.spare ≤ self.new.spare }
+        ensures has_room { more ≤ self.old.spare → IsOk result }
+    {
+        self.rows.reserve(more)?;
+        Ok(())
+    }
+}
+
+impl<T: Ranked + Drop> Table<T> {
+    /// Adds a row whose rank no row has, where there is room. It takes no memory.
+    pub fn insert(&mut self, row: T)
+        requires room { 1 ≤ self.old.spare }
+        requires absent { row_at T.rank self.old.rows (T.rank row) ≡ None }
+        ensures rows { self.new.rows ≡ with_row T.rank self.old.rows row }
+        ensures spare { self.old.spare ≤ self.new.spare + 1 }
+    {
+        let Err(at) = place_of(&self.rows, &SameRank(&row)) else {
+            unreachable!();
+        };
+        let _ = self.rows.insert(at, row);
+    }
+
+    /// Puts a row into the place of the one that has its rank.
+    pub fn replace(&mut self, row: T)
+        requires { IsSome (row_at T.rank self.old.rows (T.rank row)) }
+        ensures rows { self.new.rows ≡ replaced T.rank self.old.rows row }
+        ensures spare { self.new.spare ≡ self.old.spare }
+    {
+        let Ok(at) = place_of(&self.rows, &SameRank(&row)) else {
+            unreachable!();
+        };
+        self.rows[at] = row;
+    }
+
+    /// Takes the row with the key's rank out, where there is one.
+    pub fn remove<K: Key<T>>(&mut self, key: &K) -> Option<T>
+        ensures row { result ≡ row_at T.rank self.old.rows (K.sought key.now) }
+        ensures rows { self.new.rows ≡ without T.rank self.old.rows (K.sought key.now) }
+        ensures spare { self.old.spare ≤ self.new.spare }
+    {
+        match place_of(&self.rows, key) {
+            Ok(at) => Some(self.rows.remove(at)),
+            Err(_) => None,
+        }
+    }
+}
+
+impl<T: Ranked + Copy> Table<T> {
+    /// An equal table, with a buffer of its own.
+    pub fn copy(&self) -> Mem<Self>
+        ensures { IfOk result (λ copy. copy.rows ≡ self.now.rows) }
+    {
+        Ok(Table {
+            rows: Vec::from_slice(*self.rows.allocator(), &self.rows)?,
+        })
+    }
+}
+
+// Where the key's row is, or where it would go.
+fn place_of<T: Ranked, K: Key<T>>(rows: &[T], key: &K) -> Result<usize, usize>
+    requires { IsRising T.rank rows.now }
+    ensures found { IfOk result (IsAt T.rank rows.now (K.sought key.now)) }
+    ensures absent { IfErr result (IsGapFor T.rank rows.now (K.sought key.now)) }
+{
+    rows.binary_search_by(|row| key.compare_row(row))
+}
