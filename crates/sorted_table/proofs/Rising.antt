@@ -1,6 +1,6 @@
 -- Rows stay rising.
 use Rattle.std.proofs.Common.{◌≡◌, ℕ, suc, ◌<◌, Bool, true, false, cond, not, ◌==◌, nat_lt, List, [], ◌∷◌, ◌++◌, map, filter, refl, sym, arith}
-use Rattle.std.specs.List.{All, AllPairs}
+use Rattle.std.specs.List.{All, AllPairs, items_where_true}
 use Rattle.std.proofs.lemmas.Bool.{ltb-true, eqb-true}
 use Rattle.std.proofs.lemmas.List.Elements.{All-nil, All-cons, All-head, All-tail, All-append, All-weaker, All-map}
 use Rattle.std.proofs.lemmas.List.Kept.{AllPairs-cons, AllPairs-filter}
@@ -63,3 +63,18 @@ rising-replaced T rank rows rising row = rising-map T rank (λ r. cond (rank r =
       | true ↦ λ same. sym (eqb-true _ _ same)
       | false ↦ λ other. refl
     ]) refl) rows rising
+
+-- what a test keeps stands in the order that it had
+All-items_where_true : (T : Type 0) (P : T → Type 0) (bs : List Bool) (xs : List T) → All P xs → All P (items_where_true bs xs)
+All-items_where_true T P [] xs all = All-nil P
+All-items_where_true T P (b ∷ bs) [] all = All-nil P
+All-items_where_true T P (true ∷ bs) (x ∷ xs) all = All-cons P x (items_where_true bs xs) (All-head P x xs all) (All-items_where_true T P bs xs (All-tail P x xs all))
+All-items_where_true T P (false ∷ bs) (x ∷ xs) all = All-items_where_true T P bs xs (All-tail P x xs all)
+
+pub rising-items_where_true : (T : Type 0) (rank : T → ℕ) (bs : List Bool) (rows : List T) → IsRising rank rows → IsRising rank (items_where_true bs rows)
+rising-items_where_true T rank [] rows rising = AllPairs-nil T (λ x y. rank x < rank y)
+rising-items_where_true T rank (b ∷ bs) [] rising = AllPairs-nil T (λ x y. rank x < rank y)
+rising-items_where_true T rank (true ∷ bs) (x ∷ xs) rising =
+    let R : T → T → Type 0 = λ x y. rank x < rank y in
+    AllPairs-cons R x (items_where_true bs xs) (All-items_where_true T (R x) bs xs (AllPairs-head T R x xs rising)) (rising-items_where_true T rank bs xs (AllPairs-tail T R x xs rising))
+rising-items_where_true T rank (false ∷ bs) (x ∷ xs) rising = rising-items_where_true T rank bs xs (AllPairs-tail T (λ x y. rank x < rank y) x xs rising)

@@ -1,5 +1,7 @@
 //! Rows in ascending order of their ranks.
 ghost use Rattle.std.specs.Prelude.{◌≡◌, ◌+◌, ◌≤◌, [], length, IsOk, IsSome, OnOk, IfOk, IfErr, None};
+ghost use Rattle.std.specs.Fn.{CalledAt};
+ghost use Rattle.std.specs.List.Retain.{IsFiltered};
 ghost use Rattle.std.specs.Option.{option_copied};
 ghost use Rattle.sorted_table.specs.Places.{IsAt, IsGapFor};
 ghost use Rattle.sorted_table.specs.Rows.{IsRising, row_at, with_row, without, replaced};
@@ -107,6 +109,15 @@ impl<T: Ranked + Drop> Table<T> {
             Ok(at) => Some(self.rows.remove(at)),
             Err(_) => None,
         }
+    }
+
+    /// Takes out all rows that the test doesn't keep. It looks at each row once.
+    pub fn retain<F: FnMut(&T) -> bool>(&mut self, keep: F)
+        requires { F.IsAlwaysCallable keep }
+        ensures rows { IsFiltered (CalledAt F.FnMut) keep self.old.rows self.new.rows }
+        ensures spare { self.old.spare ≤ self.new.spare }
+    {
+        self.rows.retain(keep);
     }
 }
 
