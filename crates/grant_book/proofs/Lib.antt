@@ -1,0 +1,4 @@
+pub mod Fitted
+pub mod Lists
+pub mod Matched
+pub mod Ordered

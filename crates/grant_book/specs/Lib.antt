@@ -1,0 +1,5 @@
+pub mod Fitting
+pub mod Granted
+pub mod Matching
+pub mod Ranks
+pub mod Refused

@@ -1,0 +1,76 @@
+//! One grant, and its place among all.
+ghost use Rattle.std.specs.Prelude.{◌≡◌, ◌<◌, ◌^◌, ◌==◌};
+ghost use Rattle.grant_book.specs.Granted.{grant_of};
+ghost use Rattle.grant_book.specs.Ranks.{rank_of};
+
+use cry_base::{FolderId, HolderId};
+use sorted_table::{Key, Ranked};
+use std::cmp::Ordering;
+use std::marker::Model;
+
+/// The holder may read the folder and all below it.
+#[derive(Clone, Copy, Debug, PartialEq, Eq)]
+pub struct Grant {
+    /// Who may read.
+    pub holder: HolderId,
+    /// The folder that was granted.
+    pub folder: FolderId,
+}
+
+impl Model for Grant {
+    ghost use Rattle.cry_base.specs.Store.{GrantEntry};
+
+    ghost Value = { GrantEntry };
+
+    ghost view = { λ grant. record { holder = grant.holder.0; folder = grant.folder.0 } };
+
+    ghost inverse = { λ entry. record { holder = record { 0 = entry.holder }; folder = record { 0 = entry.folder } } };
+}
+
+impl Grant {
+    /// The grant of a folder to a holder.
+    pub fn new(holder: HolderId, folder: FolderId) -> Grant
+        ensures grant { result ≡ grant_of holder.0 folder.0 }
+        ensures numbered { folder.0 < 2 ^ 32 }
+    {
+        let _number = folder.0;
+        Grant { holder, folder }
+    }
+
+    /// Whether it is a grant on that very folder.
+    pub(crate) fn is_on(&self, folder: FolderId) -> bool
+        ensures { result ≡ (self.now.folder == folder.0) }
+    {
+        self.folder.0 == folder.0
+    }
+
+    /// Whether it is a grant to the holder.
+    pub(crate) fn is_of(&self, holder: HolderId) -> bool
+        ensures { result ≡ (self.now.holder == holder.0) }
+    {
+        self.holder.0 == holder.0
+    }
+
+    // Orders grants by holder and then by folder.
+    fn rank(self) -> u64
+        ensures { result ≡ rank_of self }
+    {
+        u64::from(self.holder.0) * 0x1_0000_0000 + u64::from(self.folder.0)
+    }
+}
+
+impl Ranked for Grant {
+    ghost rank = { rank_of };
+
+    fn compare(&self, other: &Self) -> Ordering {
+        self.rank().cmp(&other.rank())
+    }
+}
+
+impl Key<Grant> for Grant {
+    ghost sought = { rank_of };
+
+    fn compare_row(&self, row: &Grant) -> Ordering {
+        row.compare(self)
+    }
+}
