@@ -4,7 +4,6 @@
 mod counter;
 mod derived;
 mod key;
-mod kinds;
 mod nonce;
 mod opening;
 mod sealing;
@@ -13,7 +12,7 @@ mod stream;
 pub use counter::Counter;
 pub use derived::{check_of, owner_tag_key, veil_key};
 pub use key::{FreshKey, Key};
-pub use kinds::{BackK, ClearK, DataK, FileK, FilesK, HolderK, OwnerK, SubK};
+pub use kind_table::{BackK, ClearK, DataK, FileK, FilesK, HolderK, OwnerK, SubK};
 pub use nonce::Nonce;
 pub use opening::{BadTag, open_in_place, open_key};
 pub use sealing::{mask_in_place, seal_in_place};

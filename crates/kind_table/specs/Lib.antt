@@ -1,0 +1,4 @@
+pub mod Kinds
+pub mod Reached
+pub mod Rows
+pub mod Sealing
