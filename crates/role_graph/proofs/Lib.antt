@@ -3,3 +3,4 @@ pub mod Edging
 pub mod Granting
 pub mod Rightful
 pub mod Typing
+pub mod RowsOfEdges

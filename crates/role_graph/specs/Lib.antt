@@ -3,3 +3,4 @@ pub mod RightsByReach
 pub mod Roles
 pub mod Edges
 pub mod WorkedGraph
+pub mod Tabled
