@@ -1,5 +1,5 @@
 -- The tests of kinds say what they are to say.
-use Rattle.std.proofs.Common.{◌≡◌, ℕ, zero, suc, ◌<◌, Bool, ◌↔◌, IsTrue, refl, sym, ap, ◌∙◌, lit<}
+use Rattle.std.proofs.Common.{◌≡◌, ℕ, zero, suc, ◌<◌, ◌↔◌, IsTrue, refl, sym, ap, ◌∙◌, lit<}
 use Rattle.std.proofs.lemmas.Bool.{and_parts, and_from}
 use denote.Enum.Bare.{same_true, true_same}
 use Rattle.kind_table.specs.Kinds.{place_of, same_kind}

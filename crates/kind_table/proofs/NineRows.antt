@@ -1,5 +1,5 @@
 -- What the tests of kinds find of the nine rows.
-use Rattle.std.proofs.Common.{◌≡◌, ◌≢◌, Bool, true, false, not, ◌||◌, ◌&&◌, ◌⊎◌, List, [], ◌∷◌, IsTrue, refl, sym, ◌∙◌, ⊎_elim, inl, inr, subst}
+use Rattle.std.proofs.Common.{◌≡◌, ◌≢◌, Bool, true, not, ◌||◌, ◌&&◌, ◌⊎◌, List, [], ◌∷◌, refl, sym, ◌∙◌, ⊎_elim, inl, inr, subst}
 use Rattle.std.specs.List.{list_all}
 use Rattle.std.proofs.lemmas.Bool.{false≢true, and_parts, or_cases, not-true}
 use Rattle.cry_base.specs.Sets.{In}

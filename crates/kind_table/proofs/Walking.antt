@@ -1,7 +1,7 @@
 -- What a walk along the rows of a table keeps, and where it ends.
 use Rattle.std.proofs.Common.{◌≡◌, ℕ, zero, suc, ◌+◌, ◌<◌, ◌≤◌, Bool, true, false, ◌⊎◌, ◌↔◌, List, [], ◌∷◌, length, take, get_or, set, refl, sym, ap, ◌∙◌, subst, inl, inr, ⊎_elim, arith, ◌==◌}
 use Rattle.std.proofs.lemmas.Bool.{false≢true, eqb-true, eqb-false}
-use Rattle.std.proofs.lemmas.List.{take_more, take_all, get_or-set_same, get_or-set_other, length-set}
+use Rattle.std.proofs.lemmas.List.{take_more, take_all, get_or-set_other, length-set}
 use Rattle.cry_base.specs.Sets.{In, Path}
 use Rattle.cry_base.specs.Sets.Path.{Here, On}
 use Rattle.cry_base.proofs.Members.{In-append, In-map}

@@ -10,13 +10,13 @@ loop-row-preserved g c =
     let told = c.follow.ensures in
     elim c.if-follow.branch [
       | then-follow w ↦
-        let new = w.if-follow.true in
-        subst (Walked _ _ _ _ _) (sym w.grew-is)
-        (walked_more _ _ _ _ _ c.follow.new.self.has _ _ before within (told.added new) (told.came new) (told.new new))
+          let new = w.if-follow.true in
+          subst (Walked _ _ _ _ _) (sym w.grew-is)
+          (walked_more _ _ _ _ _ c.follow.new.self.has _ _ before within (told.added new) (told.came new) (told.new new))
       | else-follow w ↦
-        let old = w.if-follow.false in
-        subst (Walked _ _ _ _ _) (sym w.grew-is)
-        (walked_kept _ _ _ _ _ c.follow.new.self.has _ _ before within (told.kept old) (told.done old))
+          let old = w.if-follow.false in
+          subst (Walked _ _ _ _ _) (sym w.grew-is)
+          (walked_kept _ _ _ _ _ c.follow.new.self.has _ _ before within (told.kept old) (told.done old))
     ]
 
 pub returns-clause-within : goal.returns-clause-within
