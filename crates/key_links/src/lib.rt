@@ -7,3 +7,6 @@ mod links;
 
 pub use contents::{open_content, seal_content};
 pub use links::{follow, link};
+
+#[cfg(test)]
+mod tests;
