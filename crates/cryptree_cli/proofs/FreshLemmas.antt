@@ -12,7 +12,7 @@ use Rattle.cryptree_cli.specs.Commit.{Appends}
 use Rattle.key_links.specs.Fresh.{piece, owner_key, root_key, root_links, root_name, root_payload, epoch_batch, root_batch, fresh_image}
 use Rattle.commit_journal.specs.Image.{batch_veil, owner_tag, spell_batch, spell_header, spell_batches, image}
 use Rattle.key_links.specs.Sealed.{sealed_link, sealed_content}
-use Rattle.cryptree_cli.proofs.SealedLemmas.{length-sealed}
+use Rattle.chacha_seal.proofs.SealingLemmas.{length-sealed}
 
 pub length-seal_tag : (key header cipher : List ℕ) → length (seal_tag key header cipher) ≡ 32
 unfolding seal_tag

@@ -5,4 +5,3 @@ pub mod InputLemmas
 pub mod ListingLemmas
 pub mod MakeLemmas
 pub mod OutsideLemmas
-pub mod SealedLemmas

@@ -6,9 +6,9 @@ ghost use Rattle.record_format.specs.Plain.{plain_payload};
 ghost use Rattle.key_links.specs.Fresh as fresh;
 
 use crate::room::RootRoom;
-use crate::sealed::{content, link};
 use chacha_seal::{BackK, ClearK, Counter, DataK, FilesK, FreshKey, Key, OwnerK, SubK};
 use cry_base::{Epoch, List};
+use key_links::{link, seal_content};
 use record_format::{LinkRecord, Note, Payload};
 
 /// The random bytes that `make` draws: the owner's key, and the root's five.
@@ -18,8 +18,6 @@ pub(crate) const DRAWN: usize = 192;
 pub(crate) const FIRST_EPOCH: Epoch = Epoch(1);
 
 const ROOT: u32 = 1;
-
-const NAME: u8 = 1;
 
 fn piece(drawn: &[u8; DRAWN], index: usize) -> [u8; 32]
     requires { index < 6 }
@@ -82,11 +80,11 @@ fn put_links(
         ∷ sealed_link 7 keys.now.back keys.now.«data» (serial_of 1 9)
         ∷ []) }
 {
-    links.put(link(1, owner, &keys.clear, counter.next()));
-    links.put(link(3, &keys.clear, &keys.sub, counter.next()));
-    links.put(link(4, &keys.sub, &keys.back, counter.next()));
-    links.put(link(5, &keys.sub, &keys.files, counter.next()));
-    links.put(link(7, &keys.back, &keys.data, counter.next()));
+    links.put(link(owner, &keys.clear, counter.next()));
+    links.put(link(&keys.clear, &keys.sub, counter.next()));
+    links.put(link(&keys.sub, &keys.back, counter.next()));
+    links.put(link(&keys.sub, &keys.files, counter.next()));
+    links.put(link(&keys.back, &keys.data, counter.next()));
 }
 
 /// What `make` publishes with the keys drawn.
@@ -104,7 +102,7 @@ pub(crate) fn root_payload(drawn: &[u8; DRAWN], room: RootRoom) -> Payload
     let mut counter = Counter::new(FIRST_EPOCH);
     let keys = root_keys(drawn, &mut counter);
     put_links(&owner_key(drawn), &keys, &mut counter, &mut links);
-    contents.put(content(NAME, &keys.data, ROOT, counter.next(), name));
+    contents.put(seal_content(&keys.data, ROOT, counter.next(), name));
     Payload {
         note: Note::Root,
         links,

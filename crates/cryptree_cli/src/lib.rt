@@ -10,7 +10,6 @@ mod list;
 mod make;
 mod outside;
 mod room;
-mod sealed;
 pub mod status;
 mod store;
 mod texts;

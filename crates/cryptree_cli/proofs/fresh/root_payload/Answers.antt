@@ -9,7 +9,7 @@ returns c =
     rw (
       c.put.ensures.items,
       c.requires.contents.0,
-      c.content.ensures,
+      c.seal_content.ensures,
       c.next.ensures.serial,
       c.put_links.ensures.counted,
       c.requires.name,
