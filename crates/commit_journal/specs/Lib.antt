@@ -2,6 +2,7 @@ pub mod Answering
 pub mod Image
 pub mod Laws
 pub mod Log
+pub mod Logs
 pub mod Placed
 pub mod Places
 pub mod Reading

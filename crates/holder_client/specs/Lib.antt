@@ -1,8 +1,15 @@
 pub mod Answering
+pub mod Asking
+pub mod Folding
+pub mod Judging
 pub mod Lines
 pub mod OwnPaths
+pub mod Placing
 pub mod Root
 pub mod Shown
+pub mod Told
 pub mod Verdict
 pub mod View
+pub mod Visiting
+pub mod Visits
 pub mod WorkedViews

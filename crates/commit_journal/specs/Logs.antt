@@ -1,0 +1,57 @@
+-- The batches of a log as who reads it may read them: the owner as `log_verdict` says, and a holder, and the owner who
+-- opens it for writing. This project's own, docs/FORMAT.md, "Reading" and "Opening for writing".
+use Rattle.std.specs.Prelude.{ℕ, zero, suc, ◌+◌, ◌-◌, ◌==◌, nat_le, if◌then◌else◌, List, [], ◌∷◌, ◌++◌, length, take, drop, codes, slice_index, slice_range, Option, None, Some, Result, Ok, Err}
+use Rattle.std.specs.Str.{bytes_eq}
+use Rattle.chacha_seal.specs.Sealing.{veil_of, masked}
+use Rattle.commit_journal.specs.declared.head.Head.{Head}
+use Rattle.commit_journal.specs.declared.past.Past.{Past}
+use Rattle.commit_journal.specs.Answering.{Fault, NotAStore, Tampered, and_then}
+use Rattle.commit_journal.specs.Log.{PlainTurn, payload_in, tag_in, tag_due, body_of, placed_body, turn_of, published_turn, head_at, goes_on, start_at}
+use Rattle.commit_journal.specs.Placed.{PlainPlaced}
+
+-- the batches behind a gate, as each turn gives them, by the bytes behind it, of which the first so many belong to the
+-- batch before
+unfoldable pub walk_at : (Past → List ℕ → Result (Option PlainTurn) Fault) → Past → ℕ → List ℕ → Result (List PlainPlaced) Fault
+walk_at turn past skip [] = if past.gate == 1 then goes_on (turn past []) (λ _. Ok []) else Ok []
+walk_at turn past (suc skip) (byte ∷ rest) = walk_at turn past skip rest
+walk_at turn past zero (byte ∷ rest) =
+    if past.gate == 1
+    then goes_on (turn past (byte ∷ rest)) (λ next. walk_at turn next.past (next.past.at - (past.at + 1)) rest)
+    else Ok []
+
+-- for a holder no owner tag is tested: what its slot publishes is read
+unfoldable pub holder_turn : Past → List ℕ → Result (Option PlainTurn) Fault
+holder_turn past rest = and_then (head_at past rest) (λ head. published_turn past head (take (110 + head.size) rest))
+
+-- what is known behind the header, for who has no owner's key
+unfoldable pub unowned_start : List ℕ → Result Past Fault
+unowned_start bytes =
+    if nat_le 42 (length bytes)
+    then (if bytes_eq (take 9 bytes) (codes "CRYPTREE" ++ 1 ∷ [])
+    then Ok (record { at = 42; number = 0; epoch = record { 0 = 0 }; tag = slice_range bytes 9 41; gate = slice_index bytes 41 })
+    else Err NotAStore)
+    else Err NotAStore
+
+-- the batches that a holder reads, or the first test that fails
+unfoldable pub holder_log : List ℕ → Result (List PlainPlaced) Fault
+holder_log bytes = and_then (unowned_start bytes) (λ past. walk_at holder_turn past 0 (drop 42 bytes))
+
+-- a batch unmasked with the veil key that the owner computes, published or not
+unfoldable pub recovered_turn : List ℕ → Past → Head → List ℕ → Result (Option PlainTurn) Fault
+recovered_turn owner past head batch =
+    and_then (placed_body past (body_of head (masked (veil_of owner head.epoch.0 head.number) (payload_in head.size batch))))
+    (λ body. Ok (Some (turn_of past head batch body)))
+
+-- for the owner who opens for writing the owner tag is tested, and no slot is looked at
+unfoldable pub tagged_recovered : List ℕ → Past → Head → List ℕ → Result (Option PlainTurn) Fault
+tagged_recovered owner past head batch =
+    if bytes_eq (tag_due owner past.tag head.size batch) (tag_in head.size batch)
+    then recovered_turn owner past head batch
+    else Err (Tampered head.number (past.at + 77 + head.size))
+
+unfoldable pub writer_turn : List ℕ → Past → List ℕ → Result (Option PlainTurn) Fault
+writer_turn owner past rest = and_then (head_at past rest) (λ head. tagged_recovered owner past head (take (110 + head.size) rest))
+
+-- the batches that the owner who opens for writing reads, or the first test that fails
+unfoldable pub writer_log : List ℕ → List ℕ → Result (List PlainPlaced) Fault
+writer_log owner bytes = and_then (start_at owner bytes) (λ past. walk_at (writer_turn owner) past 0 (drop 42 bytes))

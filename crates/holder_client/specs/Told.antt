@@ -1,0 +1,40 @@
+-- What a payload's note tells everyone. This project's own, docs/FORMAT.md, "Notes and payloads" and "The key step".
+use Rattle.std.specs.Prelude.{[], ◌∷◌, ◌++◌}
+use Rattle.cry_base.specs.Store.{Store, root_store}
+use Rattle.cry_base.specs.Stepping.{with_new_holder, with_new_folder, with_new_file, with_folder, with_file, without_folder, without_file, without_grant}
+use Rattle.move_plan.specs.Note.{Note}
+use Rattle.move_plan.specs.Note.Note.{Root, NewHolder, NewFolder, NewFile, Rewrite, NameFile, NameFolder, DropFile, DropFolder, ShiftFile, ShiftFolder, Give, Take}
+use Rattle.record_format.specs.declared.note.Note.{Note as Declared}
+use Rattle.record_format.specs.declared.note.Note.TheVariants as declared
+
+-- the note of a payload as a note of the model: its ids as numbers
+unfoldable pub told_note : Declared → Note
+told_note declared.Root = Root
+told_note (declared.NewHolder holder check) = NewHolder holder.0 check
+told_note (declared.NewFolder folder parent) = NewFolder folder.0 parent.0
+told_note (declared.NewFile file folder) = NewFile file.0 folder.0
+told_note (declared.Rewrite file) = Rewrite file.0
+told_note (declared.NameFile file) = NameFile file.0
+told_note (declared.NameFolder folder) = NameFolder folder.0
+told_note (declared.DropFile file) = DropFile file.0
+told_note (declared.DropFolder folder) = DropFolder folder.0
+told_note (declared.ShiftFile file into) = ShiftFile file.0 into.0
+told_note (declared.ShiftFolder folder into) = ShiftFolder folder.0 into.0
+told_note (declared.Give holder folder) = Give holder.0 folder.0
+told_note (declared.Take holder folder) = Take holder.0 folder.0
+
+-- the store after a note, as everyone may see it: no name, no byte of a file, no holder's key
+unfoldable pub told_store : Store → Note → Store
+told_store s Root = root_store
+told_store s (NewHolder h check) = with_new_holder s []
+told_store s (NewFolder f p) = with_new_folder s p []
+told_store s (NewFile x f) = with_new_file s f [] []
+told_store s (Rewrite x) = s
+told_store s (NameFile x) = s
+told_store s (NameFolder f) = s
+told_store s (DropFile x) = without_file s x
+told_store s (DropFolder f) = without_folder s f
+told_store s (ShiftFile x g) = with_file s x (λ e. record e { folder = g })
+told_store s (ShiftFolder g q) = with_folder s g (λ e. record e { parent = q })
+told_store s (Give h f) = record s { grants = s.grants ++ record { holder = h; folder = f } ∷ [] }
+told_store s (Take h f) = without_grant s h f
