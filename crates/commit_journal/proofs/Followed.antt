@@ -13,12 +13,12 @@ use Rattle.commit_journal.proofs.Walked.{log_at-skip, walk_closed, turn-nil}
 
 -- ---- an answer is that of each step before it
 
-and_then_ok : {A B : Type 0} (read : Result A Fault) (f : A → Result B Fault) (y : B) → and_then read f ≡ Ok y → (x : A) × (read ≡ Ok x) × (f x ≡ Ok y)
+pub and_then_ok : {A B : Type 0} (read : Result A Fault) (f : A → Result B Fault) (y : B) → and_then read f ≡ Ok y → (x : A) × (read ≡ Ok x) × (f x ≡ Ok y)
 unfolding and_then
 and_then_ok (Ok x) f y is = (x, refl, is)
 and_then_ok (Err fault) f y is = absurd (cc)
 
-guard_ok : {A : Type 0} (test : Bool) (x y : A) (fault : Fault) → cond test (Ok x) (Err fault) ≡ Ok y → (test ≡ true) × (x ≡ y)
+pub guard_ok : {A : Type 0} (test : Bool) (x y : A) (fault : Fault) → cond test (Ok x) (Err fault) ≡ Ok y → (test ≡ true) × (x ≡ y)
 guard_ok true x y fault is = (refl, cc)
 guard_ok false x y fault is = absurd (cc)
 
@@ -28,13 +28,13 @@ first_of_two : (a b : Bool) → (a && b) ≡ true → a ≡ true
 first_of_two true b is = refl
 first_of_two false b is = absurd (cc)
 
-batch_inside : (past : Past) (head : Head) (left : ℕ) → is_batch past head left ≡ true → 110 + head.size ≤ left
+pub batch_inside : (past : Past) (head : Head) (left : ℕ) → is_batch past head left ≡ true → 110 + head.size ≤ left
 unfolding is_batch
 batch_inside past head left is =
     let test : nat_le (110 + head.size) left ≡ true = first_of_two (nat_le (110 + head.size) left) _ is in
     grind (arith, nat_tests)
 
-batch_more : (past : Past) (head : Head) (left more : ℕ) → is_batch past head left ≡ true → is_batch past head (left + more) ≡ true
+pub batch_more : (past : Past) (head : Head) (left more : ℕ) → is_batch past head left ≡ true → is_batch past head (left + more) ≡ true
 unfolding is_batch
 batch_more past head left more is =
     let test : nat_le (110 + head.size) left ≡ true = first_of_two (nat_le (110 + head.size) left) _ is in
@@ -62,7 +62,7 @@ turn_more owner past rest behind turn is =
 
 -- ---- the walk
 
-before_ok : (front : List PlainPlaced) (log : Result (List PlainPlaced) Fault) (placed : List PlainPlaced) → before front log ≡ Ok placed
+pub before_ok : (front : List PlainPlaced) (log : Result (List PlainPlaced) Fault) (placed : List PlainPlaced) → before front log ≡ Ok placed
     → (others : List PlainPlaced) × (log ≡ Ok others) × (front ++ others ≡ placed)
 unfolding before
 before_ok front (Ok others) placed is = (others, refl, cc)
@@ -114,7 +114,7 @@ log_more owner behind (byte ∷ rest) = λ past skip. passed_more owner behind b
 
 -- ---- the whole image
 
-long_enough : (test : Bool) (start : Result Past Fault) (past : Past) (n : ℕ) → nat_le 42 n ≡ test → cond test start (Err NotAStore) ≡ Ok past → 42 ≤ n
+pub long_enough : (test : Bool) (start : Result Past Fault) (past : Past) (n : ℕ) → nat_le 42 n ≡ test → cond test start (Err NotAStore) ≡ Ok past → 42 ≤ n
 long_enough true start past n test is = grind (arith, nat_tests)
 long_enough false start past n test is = absurd (cc)
 

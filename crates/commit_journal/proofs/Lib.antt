@@ -8,3 +8,4 @@ pub mod Stood
 pub mod Stopped
 pub mod Tails
 pub mod Walked
+pub mod Walks

@@ -19,22 +19,23 @@ walk_at turn past zero (byte ∷ rest) =
     then goes_on (turn past (byte ∷ rest)) (λ next. walk_at turn next.past (next.past.at - (past.at + 1)) rest)
     else Ok []
 
--- for a holder no owner tag is tested: what its slot publishes is read
-unfoldable pub holder_turn : Past → List ℕ → Result (Option PlainTurn) Fault
-holder_turn past rest = and_then (head_at past rest) (λ head. published_turn past head (take (110 + head.size) rest))
+-- what stands behind an open gate, where these bytes are left, if the whole of a batch is judged so
+unfoldable pub turn_by : (Past → Head → List ℕ → Result (Option PlainTurn) Fault) → Past → List ℕ → Result (Option PlainTurn) Fault
+turn_by judge past rest = and_then (head_at past rest) (λ head. judge past head (take (110 + head.size) rest))
 
 -- what is known behind the header, for who has no owner's key
-unfoldable pub unowned_start : List ℕ → Result Past Fault
-unowned_start bytes =
-    if nat_le 42 (length bytes)
-    then (if bytes_eq (take 9 bytes) (codes "CRYPTREE" ++ 1 ∷ [])
-    then Ok (record { at = 42; number = 0; epoch = record { 0 = 0 }; tag = slice_range bytes 9 41; gate = slice_index bytes 41 })
-    else Err NotAStore)
+unfoldable pub unowned_start_of : List ℕ → Result Past Fault
+unowned_start_of header =
+    if bytes_eq (take 9 header) (codes "CRYPTREE" ++ 1 ∷ [])
+    then Ok (record { at = 42; number = 0; epoch = record { 0 = 0 }; tag = slice_range header 9 41; gate = slice_index header 41 })
     else Err NotAStore
 
--- the batches that a holder reads, or the first test that fails
+unfoldable pub unowned_start : List ℕ → Result Past Fault
+unowned_start bytes = if nat_le 42 (length bytes) then unowned_start_of (take 42 bytes) else Err NotAStore
+
+-- the batches that a holder reads, or the first test that fails: no owner tag is tested, and what a slot publishes is read
 unfoldable pub holder_log : List ℕ → Result (List PlainPlaced) Fault
-holder_log bytes = and_then (unowned_start bytes) (λ past. walk_at holder_turn past 0 (drop 42 bytes))
+holder_log bytes = and_then (unowned_start bytes) (λ past. walk_at (turn_by published_turn) past 0 (drop 42 bytes))
 
 -- a batch unmasked with the veil key that the owner computes, published or not
 unfoldable pub recovered_turn : List ℕ → Past → Head → List ℕ → Result (Option PlainTurn) Fault
@@ -49,9 +50,6 @@ tagged_recovered owner past head batch =
     then recovered_turn owner past head batch
     else Err (Tampered head.number (past.at + 77 + head.size))
 
-unfoldable pub writer_turn : List ℕ → Past → List ℕ → Result (Option PlainTurn) Fault
-writer_turn owner past rest = and_then (head_at past rest) (λ head. tagged_recovered owner past head (take (110 + head.size) rest))
-
 -- the batches that the owner who opens for writing reads, or the first test that fails
 unfoldable pub writer_log : List ℕ → List ℕ → Result (List PlainPlaced) Fault
-writer_log owner bytes = and_then (start_at owner bytes) (λ past. walk_at (writer_turn owner) past 0 (drop 42 bytes))
+writer_log owner bytes = and_then (start_at owner bytes) (λ past. walk_at (turn_by (tagged_recovered owner)) past 0 (drop 42 bytes))

@@ -7,6 +7,7 @@ mod head;
 mod judge;
 mod keeping;
 mod laws;
+mod log_laws;
 mod past;
 mod placed;
 mod places;
@@ -19,6 +20,7 @@ pub use keeping::{
     holding_is_widened, kept_at_the_start, kept_by_two_calls, settled_disk_holds, time_goes_on,
 };
 pub use laws::{image_is_read_back, nothing_behind_is_looked_at, records_stand_at_their_places};
+pub use log_laws::{nobody_looks_behind, owner_walks_the_log};
 pub use placed::{Body, Placed};
 pub use places::{content_place, link_place};
 pub use reading::read_owner;

@@ -1,0 +1,17 @@
+//! Laws of the logs, as whoever reads them reads them.
+ghost use Rattle.std.specs.Prelude.{◌≡◌, ◌++◌, List, ℕ, drop, Ok};
+ghost use Rattle.commit_journal.specs.Answering.{and_then};
+ghost use Rattle.commit_journal.specs.Log.{turn_at, start_at, log_verdict};
+ghost use Rattle.commit_journal.specs.Logs.{walk_at, holder_log, writer_log};
+ghost use Rattle.commit_journal.specs.Placed.{PlainPlaced};
+
+/// Law: the walk from gate to gate, by the turns of a reader who has the owner's key, gives that reader's log.
+pub fn owner_walks_the_log()
+    ensures { (owner bytes : List ℕ) → and_then (start_at owner bytes) (λ past. walk_at (turn_at owner) past 0 (drop 42 bytes)) ≡ log_verdict owner bytes }
+{}
+
+/// Law: what a holder, or the owner who opens for writing, reads as a log is read as the same log with more bytes behind it.
+pub fn nobody_looks_behind()
+    ensures holder { (front behind : List ℕ) (placed : List PlainPlaced) → holder_log front ≡ Ok placed → holder_log (front ++ behind) ≡ Ok placed }
+    ensures writer { (owner front behind : List ℕ) (placed : List PlainPlaced) → writer_log owner front ≡ Ok placed → writer_log owner (front ++ behind) ≡ Ok placed }
+{}
