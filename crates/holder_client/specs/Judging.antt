@@ -61,10 +61,19 @@ unfoldable pub holder_reads : List ℕ → Reading → Option (List ℕ) → Res
 holder_reads key r None = Err (NoHolder r.stand.store.holders_made)
 holder_reads key r (Some check) = if bytes_eq check (check_of key) then Ok r else Err (OfBytes WrongKey)
 
--- the log as the bundle's reader reads it, with what its payloads make
-unfoldable pub read_with : Bundle → List ℕ → Result Reading Failure
-read_with (bundles.Owner key) bytes = of_bytes (read_through (log_verdict key bytes))
-read_with (bundles.Holder h key) bytes = then_on (of_bytes (read_through (holder_log bytes))) (λ r. holder_reads key r (published_check h.0 r.log))
+-- the log as the bundle's reader reads it
+unfoldable pub bundle_log : Bundle → List ℕ → Result (List PlainPlaced) Fault
+bundle_log (bundles.Owner key) bytes = log_verdict key bytes
+bundle_log (bundles.Holder h key) bytes = holder_log bytes
+
+-- the owner's key was tested with the header; a holder's is once the payloads are followed
+unfoldable pub may_read : Bundle → Reading → Result Reading Failure
+may_read (bundles.Owner key) r = Ok r
+may_read (bundles.Holder h key) r = holder_reads key r (published_check h.0 r.log)
+
+-- the log that was read, with what its payloads make, where the bundle's reader may read it
+unfoldable pub read_with : Bundle → Result (List PlainPlaced) Fault → Result Reading Failure
+read_with bundle log = then_on (of_bytes (read_through log)) (may_read bundle)
 
 -- who reads with a bundle, and what is open before the first visit: the bundle's own key, and no name
 unfoldable pub who_of : Bundle → Who
@@ -78,9 +87,13 @@ first_key (bundles.Holder h key) = (holder_role h.0, key)
 unfoldable pub opened_first : Bundle → Reading → Opened
 opened_first bundle r = record { keys = first_key bundle ∷ []; store = r.stand.store }
 
--- the whole view: every visit, and then what the store with all that was opened shows
-unfoldable pub shown_with : Bundle → List ℕ → Result (List Line) Failure
-shown_with bundle bytes =
-    then_on (read_with bundle bytes) (λ r.
+-- the view of a log: every visit, and then what the store with all that was opened shows
+unfoldable pub view_with : Bundle → Result (List PlainPlaced) Fault → Result (List Line) Failure
+view_with bundle log =
+    then_on (read_with bundle log) (λ r.
     then_on (of_bytes (visit_all r (all_visits r.stand.store (who_of bundle)) (opened_first bundle r))) (λ o.
     Ok (view o.store (who_of bundle))))
+
+-- the view of a store's bytes
+unfoldable pub shown_with : Bundle → List ℕ → Result (List Line) Failure
+shown_with bundle bytes = view_with bundle (bundle_log bundle bytes)

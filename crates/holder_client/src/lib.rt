@@ -7,6 +7,7 @@ mod records;
 mod root;
 pub mod rows;
 mod showing;
+pub mod verdict_laws;
 mod visits;
 
 pub use fault::ClientFault;
