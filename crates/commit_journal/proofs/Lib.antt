@@ -1,3 +1,4 @@
+pub mod Epochs
 pub mod Followed
 pub mod Judged
 pub mod KeptLemmas

@@ -1,13 +1,13 @@
 -- The batches of a log as who reads it may read them: the owner as `log_verdict` says, and a holder, and the owner who
 -- opens it for writing. This project's own, docs/FORMAT.md, "Reading" and "Opening for writing".
-use Rattle.std.specs.Prelude.{ℕ, zero, suc, ◌+◌, ◌-◌, ◌==◌, nat_le, if◌then◌else◌, List, [], ◌∷◌, ◌++◌, length, take, drop, codes, slice_index, slice_range, Option, None, Some, Result, Ok, Err}
+use Rattle.std.specs.Prelude.{◌≡◌, ◌≤◌, ℕ, zero, suc, ◌+◌, ◌-◌, ◌==◌, nat_le, if◌then◌else◌, List, [], ◌∷◌, ◌++◌, length, take, drop, codes, slice_index, slice_range, Option, None, Some, Result, Ok, Err}
 use Rattle.std.specs.Str.{bytes_eq}
 use Rattle.chacha_seal.specs.Sealing.{veil_of, masked}
 use Rattle.commit_journal.specs.declared.head.Head.{Head}
 use Rattle.commit_journal.specs.declared.past.Past.{Past}
 use Rattle.commit_journal.specs.Answering.{Fault, NotAStore, Tampered, and_then}
 use Rattle.commit_journal.specs.Log.{PlainTurn, payload_in, tag_in, tag_due, body_of, placed_body, turn_of, published_turn, head_at, goes_on, start_at}
-use Rattle.commit_journal.specs.Placed.{PlainPlaced}
+use Rattle.commit_journal.specs.Placed.{PlainBody, Commands, NewEpoch, PlainPlaced}
 
 -- the batches behind a gate, as each turn gives them, by the bytes behind it, of which the first so many belong to the
 -- batch before
@@ -53,3 +53,13 @@ tagged_recovered owner past head batch =
 -- the batches that the owner who opens for writing reads, or the first test that fails
 unfoldable pub writer_log : List ℕ → List ℕ → Result (List PlainPlaced) Fault
 writer_log owner bytes = and_then (start_at owner bytes) (λ past. walk_at (turn_by (tagged_recovered owner)) past 0 (drop 42 bytes))
+
+-- the epoch of a batch behind another one: an epoch batch begins the next, a command stands in the one that was begun last
+abbrev pub IsInEpoch : ℕ → ℕ → PlainBody → Type 0
+IsInEpoch before epoch (Commands payload) = (1 ≤ before) × (epoch ≡ before)
+IsInEpoch before epoch NewEpoch = epoch ≡ before + 1
+
+-- so do the batches of a log, one after another
+abbrev pub AreInEpochs : ℕ → List PlainPlaced → Type 0
+AreInEpochs before [] = Unit {0}
+AreInEpochs before (p ∷ log) = IsInEpoch before p.epoch.0 p.body × AreInEpochs p.epoch.0 log

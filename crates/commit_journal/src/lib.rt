@@ -20,7 +20,9 @@ pub use keeping::{
     holding_is_widened, kept_at_the_start, kept_by_two_calls, settled_disk_holds, time_goes_on,
 };
 pub use laws::{image_is_read_back, nothing_behind_is_looked_at, records_stand_at_their_places};
-pub use log_laws::{nobody_looks_behind, owner_walks_the_log};
+pub use log_laws::{
+    epochs_count_up, holder_reads_the_owners_log, nobody_looks_behind, owner_walks_the_log,
+};
 pub use placed::{Body, Placed};
 pub use places::{content_place, link_place};
 pub use reading::read_owner;

@@ -2,7 +2,7 @@
 ghost use Rattle.std.specs.Prelude.{◌≡◌, ◌++◌, List, ℕ, drop, Ok};
 ghost use Rattle.commit_journal.specs.Answering.{and_then};
 ghost use Rattle.commit_journal.specs.Log.{turn_at, start_at, log_verdict};
-ghost use Rattle.commit_journal.specs.Logs.{walk_at, holder_log, writer_log};
+ghost use Rattle.commit_journal.specs.Logs.{walk_at, holder_log, writer_log, AreInEpochs};
 ghost use Rattle.commit_journal.specs.Placed.{PlainPlaced};
 
 /// Law: the walk from gate to gate, by the turns of a reader who has the owner's key, gives that reader's log.
@@ -14,4 +14,14 @@ pub fn owner_walks_the_log()
 pub fn nobody_looks_behind()
     ensures holder { (front behind : List ℕ) (placed : List PlainPlaced) → holder_log front ≡ Ok placed → holder_log (front ++ behind) ≡ Ok placed }
     ensures writer { (owner front behind : List ℕ) (placed : List PlainPlaced) → writer_log owner front ≡ Ok placed → writer_log owner (front ++ behind) ≡ Ok placed }
+{}
+
+/// Law: where the owner reads a log, a holder reads the same.
+pub fn holder_reads_the_owners_log()
+    ensures { (owner bytes : List ℕ) (log : List PlainPlaced) → log_verdict owner bytes ≡ Ok log → holder_log bytes ≡ Ok log }
+{}
+
+/// Law: in a log that the owner reads, an epoch batch begins the next epoch, and a command stands in the last one begun.
+pub fn epochs_count_up()
+    ensures { (owner bytes : List ℕ) (log : List PlainPlaced) → log_verdict owner bytes ≡ Ok log → AreInEpochs 0 log }
 {}

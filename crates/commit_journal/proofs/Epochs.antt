@@ -1,0 +1,212 @@
+-- The epochs of a log that the owner reads count up, and a holder reads what the owner reads.
+use Rattle.std.proofs.Common.{◌≡◌, ℕ, zero, suc, ◌+◌, ◌-◌, ◌≤◌, Bool, true, false, cond, eqb, List, [], ◌∷◌, ◌++◌, length, take, drop, Option, None, Some, Result, Ok, Err, refl, sym, ap, ◌∙◌, subst, arith}
+use Rattle.std.specs.Prelude.{nat_le, ◌&&◌, codes, slice_index, slice_range}
+use Rattle.std.proofs.lemmas.Bool.{eqb-true, and_parts}
+use Rattle.std.proofs.lemmas.Bool.Decides.{nat_tests}
+use Rattle.std.specs.Str.{bytes_eq}
+use Rattle.chacha_seal.specs.Sealing.{check_of, masked}
+use Rattle.hmac_seal.specs.Hmac.{hmac}
+use Rattle.record_format.specs.Plain.{PlainPayload}
+use Rattle.record_format.specs.Reading.{payload_or_place}
+use Rattle.commit_journal.specs.declared.head.Head.{Head}
+use Rattle.commit_journal.specs.declared.past.Past.{Past}
+use Rattle.commit_journal.specs.Answering.{Fault, NotAStore, WrongKey, Damaged, Tampered, and_then}
+use Rattle.commit_journal.specs.Log.{PlainTurn, head_of, is_batch, fits_epoch, slot_in, payload_in, check_in, gate_in, as_commands, body_of, placed_body, turn_of, published_turn, tagged_turn, head_at, turn_at, before, goes_on, log_at, start_of, start_at, log_verdict}
+use Rattle.commit_journal.specs.Logs.{walk_at, turn_by, unowned_start_of, unowned_start, holder_log, IsInEpoch, AreInEpochs}
+use Rattle.commit_journal.specs.Placed.{PlainBody, Commands, NewEpoch, PlainPlaced}
+use Rattle.commit_journal.proofs.Followed.{and_then_ok, guard_ok, before_ok}
+use Rattle.commit_journal.proofs.Walked.{turn-nil}
+
+-- ---- what a turn that was read tells
+
+passed_ok : {A : Type 0} (test : Bool) (x : Result A Fault) (fault : Fault) (y : A) → cond test x (Err fault) ≡ Ok y → x ≡ Ok y
+passed_ok true x fault y is = is
+passed_ok false x fault y is = absurd (cc)
+
+-- a turn was published, or ends the log
+published_ok : (test open_gate : Bool) (x : Result (Option PlainTurn) Fault) (fault : Fault) (t : PlainTurn) → cond test x (cond open_gate (Err fault) (Ok None)) ≡ Ok (Some t) → x ≡ Ok (Some t)
+published_ok true open_gate x fault t is = is
+published_ok false true x fault t is = absurd (cc)
+published_ok false false x fault t is = absurd (cc)
+
+placed_ok : (past : Past) (read : Result PlainBody ℕ) (body : PlainBody) → placed_body past read ≡ Ok body → read ≡ Ok body
+placed_ok past (Ok b) body is = cc
+placed_ok past (Err at) body is = absurd (cc)
+
+commands_ok : (read : Result PlainPayload ℕ) (body : PlainBody) → as_commands read ≡ Ok body → (p : PlainPayload) × (body ≡ Commands p)
+commands_ok (Ok p) body is = (p, cc)
+commands_ok (Err at) body is = absurd (cc)
+
+-- a body by its type byte, in an epoch that fits
+body_in : (two : Bool) (before_it epoch size type_byte : ℕ) (read : Result PlainPayload ℕ) (body : PlainBody) →
+    cond two (Ok NewEpoch) (as_commands read) ≡ Ok body →
+    cond two (eqb size 0 && eqb epoch (before_it + 1)) (eqb type_byte 1 && (nat_le 1 before_it && eqb epoch before_it)) ≡ true →
+    IsInEpoch before_it epoch body
+body_in true before_it epoch size type_byte read body is fits =
+    let same : NewEpoch ≡ body = cc in
+    subst (IsInEpoch before_it epoch) same (eqb-true epoch (before_it + 1) (and_parts (eqb size 0) (eqb epoch (before_it + 1)) fits).1)
+body_in false before_it epoch size type_byte read body is fits =
+    let told = commands_ok read body is in
+    let parts = and_parts (nat_le 1 before_it) (eqb epoch before_it) (and_parts (eqb type_byte 1) (nat_le 1 before_it && eqb epoch before_it) fits).1 in
+    let begun : nat_le 1 before_it ≡ true = parts.0 in
+    let low : 1 ≤ before_it = grind (arith, nat_tests) in
+    subst (IsInEpoch before_it epoch) (sym told.1) (low, eqb-true epoch before_it parts.1)
+
+-- the turn's batch is in its epoch, and what follows counts on from it
+abbrev IsTurnIn : Past → PlainTurn → Type 0
+IsTurnIn past t = IsInEpoch past.epoch.0 t.placed.epoch.0 t.placed.body × (t.past.epoch.0 ≡ t.placed.epoch.0)
+
+published_in : (past : Past) (head : Head) (batch : List ℕ) (t : PlainTurn) → fits_epoch past head ≡ true → published_turn past head batch ≡ Ok (Some t) → IsTurnIn past t
+unfolding published_turn body_of
+published_in past head batch t fits is =
+    let payload : List ℕ = masked (slot_in batch) (payload_in head.size batch) in
+    let turn : PlainBody → Result (Option PlainTurn) Fault = λ body. Ok (Some (turn_of past head batch body)) in
+    let x : Result (Option PlainTurn) Fault = and_then (placed_body past (body_of head payload)) turn in
+    let read : x ≡ Ok (Some t) =
+    published_ok (bytes_eq (hmac (slot_in batch) (payload_in head.size batch)) (check_in head.size batch)) (eqb (gate_in head.size batch) 1) x (Tampered head.number (past.at + 13)) t is
+    in
+    let step = and_then_ok (placed_body past (body_of head payload)) turn (Some t) read in
+    let body_read : body_of head payload ≡ Ok step.0 = placed_ok past (body_of head payload) step.0 step.1 in
+    let inside : IsInEpoch past.epoch.0 head.epoch.0 step.0 =
+    body_in (eqb head.type_byte 2) past.epoch.0 head.epoch.0 head.size head.type_byte (payload_or_place payload) step.0 body_read fits
+    in
+    let last : Ok (Some (turn_of past head batch step.0)) ≡ Ok (Some t) = step.2 in
+    let same : turn_of past head batch step.0 ≡ t = cc in
+    subst (IsTurnIn past) same (inside, refl)
+
+turn_in : (owner : List ℕ) (past : Past) (rest : List ℕ) (t : PlainTurn) → turn_at owner past rest ≡ Ok (Some t) → IsTurnIn past t
+unfolding turn_at head_at is_batch tagged_turn
+turn_in owner past rest t is =
+    let head = head_of (take 13 rest) in
+    let step = and_then_ok (head_at past rest) (λ h. tagged_turn owner past h (take (110 + h.size) rest)) (Some t) is in
+    let guard = guard_ok (is_batch past head (length rest)) head step.0 (Damaged past.at) step.1 in
+    let first = and_parts (nat_le (110 + head.size) (length rest)) _ guard.0 in
+    let second = and_parts (nat_le (past.at + (110 + head.size)) 268435456) _ first.1 in
+    let third = and_parts (eqb head.number (past.number + 1)) (fits_epoch past head) second.1 in
+    let tagged : tagged_turn owner past head (take (110 + head.size) rest) ≡ Ok (Some t) =
+    ap (λ h. tagged_turn owner past h (take (110 + h.size) rest)) guard.1 ∙ step.2
+    in
+    published_in past head (take (110 + head.size) rest) t third.1 (passed_ok _ _ _ (Some t) tagged)
+
+-- ---- the walk
+
+ended_in : (owner : List ℕ) (past : Past) (test : Bool) (log : List PlainPlaced) → cond test (goes_on (turn_at owner past []) (λ _. Ok [])) (Ok []) ≡ Ok log → AreInEpochs past.epoch.0 log
+unfolding goes_on
+ended_in owner past true log is = let wrong : Err (Damaged past.at) ≡ Ok log = ap (λ t. goes_on t (λ _. Ok [])) (sym (turn-nil owner past)) ∙ is in absurd (cc)
+ended_in owner past false log is = let same : [] ≡ log = cc in subst (AreInEpochs past.epoch.0) same tt
+
+abbrev RestIn : List ℕ → List ℕ → Type 0
+RestIn owner rest = (p : Past) (skip : ℕ) (log : List PlainPlaced) → log_at owner p skip rest ≡ Ok log → AreInEpochs p.epoch.0 log
+
+goes_on_in : (owner : List ℕ) (past : Past) (rest : List ℕ) (turn : Result (Option PlainTurn) Fault) → ((t : PlainTurn) → turn ≡ Ok (Some t) → IsTurnIn past t) → RestIn owner rest →
+    (log : List PlainPlaced) → goes_on turn (λ t. log_at owner t.past (t.past.at - (past.at + 1)) rest) ≡ Ok log → AreInEpochs past.epoch.0 log
+unfolding goes_on before
+goes_on_in owner past rest (Ok (Some t)) told others log is =
+    let step = before_ok (t.placed ∷ []) (log_at owner t.past (t.past.at - (past.at + 1)) rest) log is in
+    let this = told t refl in
+    let next : AreInEpochs t.placed.epoch.0 step.0 = subst (λ e. AreInEpochs e step.0) this.1 (others t.past (t.past.at - (past.at + 1)) step.0 step.1) in
+    subst (AreInEpochs past.epoch.0) step.2 (this.0, next)
+goes_on_in owner past rest (Ok None) told others log is = let same : [] ≡ log = cc in subst (AreInEpochs past.epoch.0) same tt
+goes_on_in owner past rest (Err fault) told others log is = absurd (cc)
+
+step_in : (owner : List ℕ) (past : Past) (byte : ℕ) (rest : List ℕ) (test : Bool) → RestIn owner rest → (log : List PlainPlaced) →
+    cond test (goes_on (turn_at owner past (byte ∷ rest)) (λ t. log_at owner t.past (t.past.at - (past.at + 1)) rest)) (Ok []) ≡ Ok log → AreInEpochs past.epoch.0 log
+step_in owner past byte rest true others log is = goes_on_in owner past rest (turn_at owner past (byte ∷ rest)) (turn_in owner past (byte ∷ rest)) others log is
+step_in owner past byte rest false others log is = let same : [] ≡ log = cc in subst (AreInEpochs past.epoch.0) same tt
+
+passed_in : (owner : List ℕ) (byte : ℕ) (rest : List ℕ) (past : Past) (skip : ℕ) → RestIn owner rest → (log : List PlainPlaced) → log_at owner past skip (byte ∷ rest) ≡ Ok log → AreInEpochs past.epoch.0 log
+unfolding log_at
+passed_in owner byte rest past zero others log is = step_in owner past byte rest (eqb past.gate 1) others log is
+passed_in owner byte rest past (suc skip) others log is = others past skip log is
+
+log_in : (owner rest : List ℕ) → RestIn owner rest
+unfolding log_at
+log_in owner [] = λ past skip log is. ended_in owner past (eqb past.gate 1) log is
+log_in owner (byte ∷ rest) = λ past skip. passed_in owner byte rest past skip (log_in owner rest)
+
+-- the header is followed by no epoch yet
+abbrev IsBegun : Past → Type 0
+IsBegun past = past.epoch.0 ≡ 0
+
+start_of_begun : (owner header : List ℕ) (a b : Bool) (past : Past) (start : Past) → IsBegun start → cond a (cond b (Ok start) (Err WrongKey)) (Err NotAStore) ≡ Ok past → IsBegun past
+start_of_begun owner header true true past start zero_epoch is = let same : start ≡ past = cc in subst IsBegun same zero_epoch
+start_of_begun owner header true false past start zero_epoch is = absurd (cc)
+start_of_begun owner header false b past start zero_epoch is = absurd (cc)
+
+start_begun : (owner bytes : List ℕ) (past : Past) → start_at owner bytes ≡ Ok past → IsBegun past
+unfolding start_at start_of
+start_begun owner bytes past is =
+    let header : List ℕ = take 42 bytes in
+    let start : Past = record { at = 42; number = 0; epoch = record { 0 = 0 }; tag = slice_range header 9 41; gate = slice_index header 41 } in
+    start_of_begun owner header (bytes_eq (take 9 header) (codes "CRYPTREE" ++ 1 ∷ [])) (bytes_eq (slice_range header 9 41) (check_of owner)) past start refl
+    (passed_ok (nat_le 42 (length bytes)) (start_of owner header) NotAStore past is)
+
+pub log_epochs : (owner bytes : List ℕ) (log : List PlainPlaced) → log_verdict owner bytes ≡ Ok log → AreInEpochs 0 log
+unfolding log_verdict
+log_epochs owner bytes log is =
+    let step = and_then_ok (start_at owner bytes) (λ past. log_at owner past 0 (drop 42 bytes)) log is in
+    subst (λ e. AreInEpochs e log) (start_begun owner bytes step.0 step.1) (log_in owner (drop 42 bytes) step.0 0 log step.2)
+
+-- ---- a holder reads what the owner reads
+
+turn_too : (owner : List ℕ) (past : Past) (rest : List ℕ) (turn : Option PlainTurn) → turn_at owner past rest ≡ Ok turn → turn_by published_turn past rest ≡ Ok turn
+unfolding turn_at tagged_turn turn_by and_then
+turn_too owner past rest turn is =
+    let step = and_then_ok (head_at past rest) (λ h. tagged_turn owner past h (take (110 + h.size) rest)) turn is in
+    ap (λ r. and_then r (λ h. published_turn past h (take (110 + h.size) rest))) step.1 ∙ passed_ok _ _ _ turn step.2
+
+abbrev IsReadToo : List ℕ → List ℕ → Type 0
+IsReadToo owner rest = (past : Past) (skip : ℕ) (log : List PlainPlaced) → log_at owner past skip rest ≡ Ok log → walk_at (turn_by published_turn) past skip rest ≡ Ok log
+
+goes_on_too : (owner : List ℕ) (past : Past) (rest : List ℕ) (turn other : Result (Option PlainTurn) Fault) (log : List PlainPlaced) →
+    ((t : Option PlainTurn) → turn ≡ Ok t → other ≡ Ok t) → IsReadToo owner rest →
+    goes_on turn (λ t. log_at owner t.past (t.past.at - (past.at + 1)) rest) ≡ Ok log →
+    goes_on other (λ t. walk_at (turn_by published_turn) t.past (t.past.at - (past.at + 1)) rest) ≡ Ok log
+unfolding goes_on before
+goes_on_too owner past rest (Ok (Some t)) other log same more is =
+    let step = before_ok (t.placed ∷ []) (log_at owner t.past (t.past.at - (past.at + 1)) rest) log is in
+    let others = more t.past (t.past.at - (past.at + 1)) step.0 step.1 in
+    rw (same (Some t) refl, others) (ap Ok step.2)
+goes_on_too owner past rest (Ok None) other log same more is = rw (same None refl) is
+goes_on_too owner past rest (Err fault) other log same more is = absurd (cc)
+
+step_too : (owner : List ℕ) (past : Past) (byte : ℕ) (rest : List ℕ) (test : Bool) (log : List PlainPlaced) → IsReadToo owner rest →
+    cond test (goes_on (turn_at owner past (byte ∷ rest)) (λ t. log_at owner t.past (t.past.at - (past.at + 1)) rest)) (Ok []) ≡ Ok log →
+    cond test (goes_on (turn_by published_turn past (byte ∷ rest)) (λ t. walk_at (turn_by published_turn) t.past (t.past.at - (past.at + 1)) rest)) (Ok []) ≡ Ok log
+step_too owner past byte rest true log more is =
+    goes_on_too owner past rest (turn_at owner past (byte ∷ rest)) (turn_by published_turn past (byte ∷ rest)) log (turn_too owner past (byte ∷ rest)) more is
+step_too owner past byte rest false log more is = is
+
+ended_too : (owner : List ℕ) (past : Past) (test : Bool) (log : List PlainPlaced) → cond test (goes_on (turn_at owner past []) (λ _. Ok [])) (Ok []) ≡ Ok log →
+    cond test (goes_on (turn_by published_turn past []) (λ _. Ok [])) (Ok []) ≡ Ok log
+unfolding goes_on
+ended_too owner past true log is = let wrong : Err (Damaged past.at) ≡ Ok log = ap (λ t. goes_on t (λ _. Ok [])) (sym (turn-nil owner past)) ∙ is in absurd (cc)
+ended_too owner past false log is = is
+
+passed_too : (owner : List ℕ) (byte : ℕ) (rest : List ℕ) (past : Past) (skip : ℕ) → IsReadToo owner rest → (log : List PlainPlaced) →
+    log_at owner past skip (byte ∷ rest) ≡ Ok log → walk_at (turn_by published_turn) past skip (byte ∷ rest) ≡ Ok log
+unfolding log_at walk_at
+passed_too owner byte rest past zero more log is = step_too owner past byte rest (eqb past.gate 1) log more is
+passed_too owner byte rest past (suc skip) more log is = more past skip log is
+
+walk_too : (owner rest : List ℕ) → IsReadToo owner rest
+unfolding log_at walk_at
+walk_too owner [] = λ past skip log is. ended_too owner past (eqb past.gate 1) log is
+walk_too owner (byte ∷ rest) = λ past skip. passed_too owner byte rest past skip (walk_too owner rest)
+
+start_too : (a b c : Bool) (start past : Past) → cond a (cond b (cond c (Ok start) (Err WrongKey)) (Err NotAStore)) (Err NotAStore) ≡ Ok past → cond a (cond b (Ok start) (Err NotAStore)) (Err NotAStore) ≡ Ok past
+start_too true true true start past is = is
+start_too true true false start past is = absurd (cc)
+start_too true false c start past is = absurd (cc)
+start_too false b c start past is = absurd (cc)
+
+header_too : (owner bytes : List ℕ) (past : Past) → start_at owner bytes ≡ Ok past → unowned_start bytes ≡ Ok past
+unfolding start_at start_of unowned_start unowned_start_of
+header_too owner bytes past is = start_too (nat_le 42 (length bytes)) _ (bytes_eq _ (check_of owner)) _ past is
+
+pub holder_too : (owner bytes : List ℕ) (log : List PlainPlaced) → log_verdict owner bytes ≡ Ok log → holder_log bytes ≡ Ok log
+unfolding log_verdict holder_log and_then
+holder_too owner bytes log is =
+    let step = and_then_ok (start_at owner bytes) (λ past. log_at owner past 0 (drop 42 bytes)) log is in
+    ap (λ r. and_then r (λ past. walk_at (turn_by published_turn) past 0 (drop 42 bytes))) (header_too owner bytes step.0 step.1)
+    ∙ walk_too owner (drop 42 bytes) step.0 0 log step.2
