@@ -123,7 +123,7 @@ first_placed = record { batch = 1; epoch = record { 0 = 1 }; place = 87; body = 
 abbrev pub second_placed : List ℕ → PlainPlaced
 second_placed drawn = record { batch = 2; epoch = record { 0 = 1 }; place = 197; body = Commands (root_payload drawn) }
 
-fresh_log : (drawn : List ℕ) → length drawn ≡ 192 → log_verdict (piece drawn 0) (fresh_image drawn) ≡ Ok (first_placed ∷ second_placed drawn ∷ [])
+pub fresh_log : (drawn : List ℕ) → length drawn ≡ 192 → log_verdict (piece drawn 0) (fresh_image drawn) ≡ Ok (first_placed ∷ second_placed drawn ∷ [])
 unfolding fresh_image bodies
 fresh_log drawn all =
     image_read (piece drawn 0) (bodies drawn) 0 [] (omega arith, root_spellable drawn all, tt) (omega (arith, length-image drawn all)) (λ e. absurd (omega arith))
@@ -147,7 +147,7 @@ fresh_records : (drawn : List ℕ) → records_of 2 206 696 (root_links drawn) (
 unfolding records_of root_links
 fresh_records drawn = refl
 
-fresh_fits : (drawn : List ℕ) → fits_root (fresh_root drawn) ≡ true
+pub fresh_fits : (drawn : List ℕ) → fits_root (fresh_root drawn) ≡ true
 unfolding fits_root leads names root_name sealed_link sealed_content
 fresh_fits drawn =
     let nothing : length (sealed (piece drawn 5) 4294967306 []) ≡ 0 = length-sealed (piece drawn 5) 4294967306 [] in

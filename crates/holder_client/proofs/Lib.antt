@@ -3,6 +3,7 @@ pub mod FreshShown
 pub mod Opened
 pub mod OwnNames
 pub mod OwnPath
+pub mod SameShown
 pub mod Verdicts
 pub mod Viewed
 pub mod Viewing

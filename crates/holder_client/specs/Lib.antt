@@ -12,4 +12,5 @@ pub mod Verdict
 pub mod View
 pub mod Visiting
 pub mod Visits
+pub mod WorkedVerdicts
 pub mod WorkedViews

@@ -8,6 +8,7 @@ mod root;
 pub mod rows;
 mod showing;
 pub mod verdict_laws;
+pub mod verdict_rows;
 mod visits;
 
 pub use fault::ClientFault;

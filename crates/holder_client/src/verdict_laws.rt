@@ -1,9 +1,17 @@
 //! Laws of the verdict over every image.
-ghost use Rattle.std.specs.Prelude.{◌≡◌, ◌<◌, ◌++◌, List, ℕ, length, Ok, Some};
-ghost use Rattle.commit_journal.specs.Answering.{NotAStore};
+ghost use Rattle.std.specs.Prelude.{◌≡◌, ◌<◌, ◌≤◌, ◌++◌, List, ℕ, length, Ok, Err, Some, None};
+ghost use Rattle.cry_base.specs.Store.{root_store};
+ghost use Rattle.cry_base.specs.declared.client.Bundle.{Bundle};
+ghost use Rattle.cry_base.specs.declared.ids.HolderId.{HolderId};
+ghost use Rattle.commit_journal.specs.Answering.{Fault, NotAStore};
+ghost use Rattle.commit_journal.specs.Log.{log_verdict};
 ghost use Rattle.commit_journal.specs.Placed.{PlainPlaced};
-ghost use Rattle.holder_client.specs.Asking.{Asking, asked_log, verdict};
-ghost use Rattle.holder_client.specs.Judging.{OfBytes};
+ghost use Rattle.role_graph.specs.Rights.Who.{TheOwner};
+ghost use Rattle.key_links.specs.Fresh.{piece, fresh_image};
+ghost use Rattle.holder_client.specs.Asking.{Asking, ToList, asked_log, verdict};
+ghost use Rattle.holder_client.specs.Judging.{OfBytes, NoHolder, of_bytes, shown_with};
+ghost use Rattle.holder_client.specs.Verdict.{view_verdict};
+ghost use Rattle.holder_client.specs.View.{view};
 
 /// Law: fewer bytes than a header are no store, whoever asks for whatever.
 pub fn cut_header_is_no_store()
@@ -15,4 +23,18 @@ pub fn cut_header_is_no_store()
 pub fn verdict_is_of_the_log()
     ensures log { (asking : Asking) (a b : List ℕ) → asked_log asking a ≡ asked_log asking b → verdict asking a ≡ verdict asking b }
     ensures behind { (asking : Asking) (front behind : List ℕ) (placed : List PlainPlaced) → asked_log asking front ≡ Ok placed → verdict asking (front ++ behind) ≡ verdict asking front }
+{}
+
+/// Law: where the log holds what makes a store and no more, or isn't read, the verdict with the owner's key is the one that
+/// `view` answers.
+pub fn listed_logs_are_judged_alike()
+    ensures read { (owner bytes : List ℕ) (log : List PlainPlaced) → log_verdict owner bytes ≡ Ok log → length log ≤ 2 → shown_with (Bundle.Owner owner) bytes ≡ of_bytes (view_verdict owner bytes) }
+    ensures failed { (owner bytes : List ℕ) (fault : Fault) → log_verdict owner bytes ≡ Err fault → shown_with (Bundle.Owner owner) bytes ≡ of_bytes (view_verdict owner bytes) }
+{}
+
+/// Law: a store fresh from `make` passes all tests and shows its owner the root; nobody else is a holder of it.
+pub fn fresh_store_passes()
+    ensures shows { (drawn : List ℕ) → length drawn ≡ 192 → shown_with (Bundle.Owner (piece drawn 0)) (fresh_image drawn) ≡ Ok (view root_store TheOwner) }
+    ensures passes { (drawn : List ℕ) → length drawn ≡ 192 → verdict (ToList (Bundle.Owner (piece drawn 0))) (fresh_image drawn) ≡ None }
+    ensures stranger { (drawn key : List ℕ) (holder : HolderId) → length drawn ≡ 192 → verdict (ToList (Bundle.Holder holder key)) (fresh_image drawn) ≡ Some (NoHolder 0) }
 {}
