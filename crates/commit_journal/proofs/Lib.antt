@@ -10,3 +10,4 @@ pub mod Stopped
 pub mod Tails
 pub mod Walked
 pub mod Walks
+pub mod Written

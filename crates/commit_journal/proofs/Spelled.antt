@@ -138,7 +138,7 @@ next_fits past NewEpoch left may inside small =
     let five : eqb (past.epoch.0 + 1) (past.epoch.0 + 1) ≡ true = eq-eqb _ _ refl in
     rw (one, two, three, five) refl
 
-next_body : (past : Past) (body : PlainBody) → MayFollow past.epoch.0 body → body_of (next_head past body) (next_batch past body).payload ≡ Ok body
+pub next_body : (past : Past) (body : PlainBody) → MayFollow past.epoch.0 body → body_of (next_head past body) (next_batch past body).payload ≡ Ok body
 unfolding body_of
 next_body past (Commands payload) may = ap as_commands (reads_back payload may.1)
 next_body past NewEpoch may = refl

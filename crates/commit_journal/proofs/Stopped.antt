@@ -28,10 +28,10 @@ use Rattle.commit_journal.proofs.Walked.{walks_on, walk_ends, walk_closed}
 
 -- ---- a batch with any slot, in its parts
 
-abbrev slotted_bytes : List ℕ → List ℕ → List ℕ → Batch → ℕ → List ℕ
+abbrev pub slotted_bytes : List ℕ → List ℕ → List ℕ → Batch → ℕ → List ℕ
 slotted_bytes owner previous slot b gate = joined (batch_head b) slot (masked_payload owner b) (batch_check owner b) (owner_tag owner previous b) gate
 
-slotted_parts : (owner previous slot : List ℕ) (b : Batch) (gate : ℕ) → length slot ≡ 32 →
+pub slotted_parts : (owner previous slot : List ℕ) (b : Batch) (gate : ℕ) → length slot ≡ 32 →
     Parts (batch_head b) slot (masked_payload owner b) (batch_check owner b) (owner_tag owner previous b) gate (length b.payload) (slotted_bytes owner previous slot b gate)
 slotted_parts owner previous slot b gate slot_size =
     let head = batch_head b in
@@ -65,14 +65,14 @@ slotted_parts owner previous slot b gate slot_size =
       );
     }
 
-with_gate : (owner previous slot : List ℕ) (b : Batch) (gate : ℕ) (more : List ℕ) →
+pub with_gate : (owner previous slot : List ℕ) (b : Batch) (gate : ℕ) (more : List ℕ) →
     spell_batch owner previous slot b ++ gate ∷ more ≡ slotted_bytes owner previous slot b gate ++ more
 unfolding spell_batch
 with_gate owner previous slot b gate more = simp append_assoc
 
 -- ---- an unpublished batch ends the log
 
-next_fits : (past : Past) (body : PlainBody) (left : ℕ) → MayFollow past.epoch.0 body → 110 + length (next_batch past body).payload ≤ left →
+pub next_fits : (past : Past) (body : PlainBody) (left : ℕ) → MayFollow past.epoch.0 body → 110 + length (next_batch past body).payload ≤ left →
     past.at + (110 + length (next_batch past body).payload) ≤ 268435456 → is_batch past (next_head past body) left ≡ true
 unfolding is_batch
 next_fits past (Commands payload) left may inside small =
@@ -129,11 +129,11 @@ judged_unpublished owner past body slot gate slot_size differ shut =
 abbrev pub Small : Past → PlainBody → Type 0
 Small past body = (past.number + 1 < 2 ^ 32) × (past.epoch.0 + 1 < 2 ^ 32) × (past.at + (110 + length (next_batch past body).payload) ≤ 268435456)
 
-next_number : (past : Past) (body : PlainBody) → Small past body → (next_batch past body).number < 2 ^ 32
+pub next_number : (past : Past) (body : PlainBody) → Small past body → (next_batch past body).number < 2 ^ 32
 next_number past (Commands payload) small = small.0
 next_number past NewEpoch small = small.0
 
-next_epoch : (past : Past) (body : PlainBody) → Small past body → (next_batch past body).epoch < 2 ^ 32
+pub next_epoch : (past : Past) (body : PlainBody) → Small past body → (next_batch past body).epoch < 2 ^ 32
 next_epoch past (Commands payload) small = let s = small.1 in omega arith
 next_epoch past NewEpoch small = small.1
 
@@ -162,22 +162,22 @@ turn_unpublished owner past body slot gate more slot_size may small differ shut 
 
 -- ---- the walk
 
-same_heads : (x y : ℕ) (xs ys : List ℕ) → x ∷ xs ≡ y ∷ ys → (x ≡ y) × (xs ≡ ys)
+pub same_heads : (x y : ℕ) (xs ys : List ℕ) → x ∷ xs ≡ y ∷ ys → (x ≡ y) × (xs ≡ ys)
 same_heads x y xs ys is = (cc, cc)
 
-first_may : (epoch : ℕ) (body : PlainBody) (bodies : List PlainBody) → AreBodies epoch (body ∷ bodies) → MayFollow epoch body
+pub first_may : (epoch : ℕ) (body : PlainBody) (bodies : List PlainBody) → AreBodies epoch (body ∷ bodies) → MayFollow epoch body
 first_may epoch (Commands payload) bodies are = (are.0, are.1)
 first_may epoch NewEpoch bodies are = tt
 
-others_may : (epoch number : ℕ) (body : PlainBody) (bodies : List PlainBody) → AreBodies epoch (body ∷ bodies) → AreBodies (batch_of number epoch body).epoch bodies
+pub others_may : (epoch number : ℕ) (body : PlainBody) (bodies : List PlainBody) → AreBodies epoch (body ∷ bodies) → AreBodies (batch_of number epoch body).epoch bodies
 others_may epoch number (Commands payload) bodies are = are.2
 others_may epoch number NewEpoch bodies are = are
 
-number_rises : (number epoch : ℕ) (body : PlainBody) → (batch_of number epoch body).number ≡ number + 1
+pub number_rises : (number epoch : ℕ) (body : PlainBody) → (batch_of number epoch body).number ≡ number + 1
 number_rises number epoch (Commands payload) = refl
 number_rises number epoch NewEpoch = refl
 
-epoch_bound : (number epoch : ℕ) (body : PlainBody) → (batch_of number epoch body).epoch ≤ epoch + 1
+pub epoch_bound : (number epoch : ℕ) (body : PlainBody) → (batch_of number epoch body).epoch ≤ epoch + 1
 epoch_bound number epoch (Commands payload) = omega arith
 epoch_bound number epoch NewEpoch = omega arith
 
@@ -202,7 +202,7 @@ walks_over owner past body rest gate more may small is =
     walks_on owner past rest (next_turn owner past body gate) open_gate (ap (turn_at owner past) heads.1 ∙ turn) (omega arith)
     ∙ ap (λ r. before ((next_turn owner past body gate).placed ∷ []) (log_at owner now 0 r)) there
 
-closed_gate : (gate : ℕ) → gate ≢ 1 → eqb gate 1 ≡ false
+pub closed_gate : (gate : ℕ) → gate ≢ 1 → eqb gate 1 ≡ false
 closed_gate gate shut = grind (arith, nat_tests)
 
 -- the last batch
@@ -244,11 +244,11 @@ published_none : (owner slot : List ℕ) → published_of {X = PlainBody} owner 
 unfolding published_of is_last_published
 published_none owner slot = refl
 
-before_ok : (first : PlainPlaced) (others : List PlainPlaced) → before (first ∷ []) (Ok others) ≡ Ok (first ∷ others)
+pub before_ok : (first : PlainPlaced) (others : List PlainPlaced) → before (first ∷ []) (Ok others) ≡ Ok (first ∷ others)
 unfolding before
 before_ok first others = refl
 
-begins_slotted : (owner previous slot : List ℕ) (b : Batch) (bs : List Batch) → (others : List ℕ) × (spell_slotted owner previous slot (b ∷ bs) ≡ 1 ∷ others)
+pub begins_slotted : (owner previous slot : List ℕ) (b : Batch) (bs : List Batch) → (others : List ℕ) × (spell_slotted owner previous slot (b ∷ bs) ≡ 1 ∷ others)
 unfolding spell_slotted
 begins_slotted owner previous slot b [] = (spell_batch owner previous slot b, refl)
 begins_slotted owner previous slot b (next ∷ bs) = (spell_batch owner previous (batch_veil owner b) b ++ spell_slotted owner (owner_tag owner previous b) slot (next ∷ bs), refl)
@@ -304,7 +304,7 @@ start_is owner header gate one two three =
     let b : bytes_eq (slice_range header 9 41) (check_of owner) ≡ true = (bytes_eq-Decides (slice_range header 9 41) (check_of owner)).1 two in
     rw (a, b, two, three) refl
 
-start_spelled : (owner : List ℕ) (gate : ℕ) → start_of owner (spell_header owner ++ gate ∷ []) ≡ Ok (first_past owner gate)
+pub start_spelled : (owner : List ℕ) (gate : ℕ) → start_of owner (spell_header owner ++ gate ∷ []) ≡ Ok (first_past owner gate)
 unfolding spell_header
 start_spelled owner gate =
     let header = (magic ++ check_of owner) ++ gate ∷ [] in
@@ -314,7 +314,7 @@ start_spelled owner gate =
     (piece magic (check_of owner) (gate ∷ []) header 9 41 refl refl (omega arith))
     (item (magic ++ check_of owner) [] header gate 41 refl (omega (arith, length-append magic (check_of owner))))
 
-begins : (owner previous slot : List ℕ) (bs : List Batch) (gate : ℕ) (behind : List ℕ) → (g : ℕ) × (more : List ℕ) × (spell_slotted owner previous slot bs ++ gate ∷ behind ≡ g ∷ more)
+pub begins : (owner previous slot : List ℕ) (bs : List Batch) (gate : ℕ) (behind : List ℕ) → (g : ℕ) × (more : List ℕ) × (spell_slotted owner previous slot bs ++ gate ∷ behind ≡ g ∷ more)
 unfolding spell_slotted
 begins owner previous slot [] gate behind = (gate, behind, refl)
 begins owner previous slot (b ∷ bs) gate behind =

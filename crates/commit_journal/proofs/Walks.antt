@@ -67,20 +67,20 @@ turn_ahead judge past rest behind turn is =
     ∙ ap (λ h. judge past h (take (110 + h.size) rest)) guard.1
     ∙ step.2
 
-turn_none : (judge : Judges) (past : Past) → turn_by judge past [] ≡ Err (Damaged past.at)
+pub turn_none : (judge : Judges) (past : Past) → turn_by judge past [] ≡ Err (Damaged past.at)
 unfolding turn_by and_then
 turn_none judge past = rw (head_short past [] (omega arith)) refl
 
 -- ---- the walk
 
-walk-skip : (turns : Turns) (past : Past) (skip : ℕ) (rest : List ℕ) → walk_at turns past skip rest ≡ walk_at turns past 0 (drop skip rest)
+pub walk-skip : (turns : Turns) (past : Past) (skip : ℕ) (rest : List ℕ) → walk_at turns past skip rest ≡ walk_at turns past 0 (drop skip rest)
 unfolding walk_at
 walk-skip turns past zero [] = refl
 walk-skip turns past (suc skip) [] = refl
 walk-skip turns past zero (byte ∷ rest) = refl
 walk-skip turns past (suc skip) (byte ∷ rest) = walk-skip turns past skip rest
 
-walk_shut : (turns : Turns) (past : Past) (rest : List ℕ) → eqb past.gate 1 ≡ false → walk_at turns past 0 rest ≡ Ok []
+pub walk_shut : (turns : Turns) (past : Past) (rest : List ℕ) → eqb past.gate 1 ≡ false → walk_at turns past 0 rest ≡ Ok []
 unfolding walk_at
 walk_shut turns past [] gate = rw gate refl
 walk_shut turns past (byte ∷ rest) gate = rw gate refl

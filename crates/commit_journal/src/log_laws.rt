@@ -1,9 +1,13 @@
 //! Laws of the logs, as whoever reads them reads them.
-ghost use Rattle.std.specs.Prelude.{◌≡◌, ◌++◌, List, ℕ, drop, Ok};
+ghost use Rattle.std.specs.List.{sum_by};
+ghost use Rattle.std.specs.Prelude.{◌≡◌, ◌++◌, ◌+◌, ◌≤◌, List, ℕ, drop, length, Ok};
 ghost use Rattle.commit_journal.specs.Answering.{and_then};
+ghost use Rattle.commit_journal.specs.Image.{Batch};
+ghost use Rattle.commit_journal.specs.Laws.{AreBodies, batches_from, placed_from};
 ghost use Rattle.commit_journal.specs.Log.{turn_at, start_at, log_verdict};
 ghost use Rattle.commit_journal.specs.Logs.{walk_at, holder_log, writer_log, AreInEpochs};
-ghost use Rattle.commit_journal.specs.Placed.{PlainPlaced};
+ghost use Rattle.commit_journal.specs.Placed.{PlainBody, PlainPlaced};
+ghost use Rattle.commit_journal.specs.Standing.{StandsFor};
 
 /// Law: the walk from gate to gate, by the turns of a reader who has the owner's key, gives that reader's log.
 pub fn owner_walks_the_log()
@@ -24,4 +28,10 @@ pub fn holder_reads_the_owners_log()
 /// Law: in a log that the owner reads, an epoch batch begins the next epoch, and a command stands in the last one begun.
 pub fn epochs_count_up()
     ensures { (owner bytes : List ℕ) (log : List PlainPlaced) → log_verdict owner bytes ≡ Ok log → AreInEpochs 0 log }
+{}
+
+/// Law: bytes that stand for batches are opened for writing as these very batches, whatever the last slot holds.
+pub fn standing_bytes_are_opened_whole()
+    ensures { (owner : List ℕ) (bodies : List PlainBody) (bytes : List ℕ) → StandsFor owner (batches_from 0 0 bodies) bytes → AreBodies 0 bodies →
+        42 + sum_by (λ (b : Batch). 110 + length b.payload) (batches_from 0 0 bodies) ≤ 268435456 → writer_log owner bytes ≡ Ok (placed_from 42 0 0 bodies) }
 {}
