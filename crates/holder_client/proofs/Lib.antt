@@ -4,6 +4,7 @@ pub mod Opened
 pub mod OwnNames
 pub mod OwnPath
 pub mod SameShown
+pub mod ToldLemmas
 pub mod Verdicts
 pub mod Viewed
 pub mod Viewing

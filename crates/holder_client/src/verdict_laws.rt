@@ -1,15 +1,21 @@
 //! Laws of the verdict over every image.
 ghost use Rattle.std.specs.Prelude.{◌≡◌, ◌<◌, ◌≤◌, ◌++◌, List, ℕ, length, Ok, Err, Some, None};
-ghost use Rattle.cry_base.specs.Store.{root_store};
+ghost use Rattle.cry_base.specs.Refusing.{refusal_of};
+ghost use Rattle.cry_base.specs.Requests.{Request};
+ghost use Rattle.cry_base.specs.Stepping.{effect};
+ghost use Rattle.cry_base.specs.Store.{Store, root_store};
 ghost use Rattle.cry_base.specs.declared.client.Bundle.{Bundle};
 ghost use Rattle.cry_base.specs.declared.ids.HolderId.{HolderId};
 ghost use Rattle.commit_journal.specs.Answering.{Fault, NotAStore};
 ghost use Rattle.commit_journal.specs.Log.{log_verdict};
 ghost use Rattle.commit_journal.specs.Placed.{PlainPlaced};
+ghost use Rattle.move_plan.specs.Fitting.{public_of};
+ghost use Rattle.move_plan.specs.Noting.{note_of};
 ghost use Rattle.role_graph.specs.Rights.Who.{TheOwner};
 ghost use Rattle.key_links.specs.Fresh.{piece, fresh_image};
 ghost use Rattle.holder_client.specs.Asking.{Asking, ToList, asked_log, verdict};
 ghost use Rattle.holder_client.specs.Judging.{OfBytes, NoHolder, of_bytes, shown_with};
+ghost use Rattle.holder_client.specs.Told.{told_store};
 ghost use Rattle.holder_client.specs.Verdict.{view_verdict};
 ghost use Rattle.holder_client.specs.View.{view};
 
@@ -37,4 +43,10 @@ pub fn fresh_store_passes()
     ensures shows { (drawn : List ℕ) → length drawn ≡ 192 → shown_with (Bundle.Owner (piece drawn 0)) (fresh_image drawn) ≡ Ok (view root_store TheOwner) }
     ensures passes { (drawn : List ℕ) → length drawn ≡ 192 → verdict (ToList (Bundle.Owner (piece drawn 0))) (fresh_image drawn) ≡ None }
     ensures stranger { (drawn key : List ℕ) (holder : HolderId) → length drawn ≡ 192 → verdict (ToList (Bundle.Holder holder key)) (fresh_image drawn) ≡ Some (NoHolder 0) }
+{}
+
+/// Law: what a note tells everyone of a store is what its command does to it, for each command that is accepted.
+pub fn notes_tell_what_commands_do()
+    ensures { (s : Store) (r : Request) (key check : List ℕ) (file_bytes : ℕ) → refusal_of s r file_bytes ≡ None →
+        public_of (effect s r key) ≡ told_store (public_of s) (note_of s r check) }
 {}
