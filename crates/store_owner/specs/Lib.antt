@@ -1,5 +1,7 @@
 pub mod Bytes
+pub mod Folds
 pub mod Journals
 pub mod Keys
 pub mod Notes
 pub mod WorkedBytes
+pub mod WorkedFolds

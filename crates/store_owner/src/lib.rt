@@ -1,6 +1,7 @@
 //! The owner's side of a store: the bytes of a journal, and what of them a disk may hold.
 #![tactic(auto)]
 
+pub mod folding;
 pub mod holding;
 pub mod laws;
 pub mod rows;
