@@ -1,3 +1,4 @@
+pub mod Ascending
 pub mod Rights
 pub mod RightsByReach
 pub mod Roles

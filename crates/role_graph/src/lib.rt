@@ -2,5 +2,8 @@
 #![tactic(auto)]
 
 pub mod laws;
+mod role_set;
 pub mod rows;
 pub mod tabled;
+
+pub use role_set::RoleSet;
