@@ -17,7 +17,8 @@ use Rattle.role_graph.specs.Roles.{same_role, role_before, variant_of, role_id, 
 use Rattle.role_graph.specs.Edges.{edge, edges, same_edge, folder_edges, file_edge, IsEdge}
 use Rattle.role_graph.specs.RightsByReach.{HasFolder}
 use Rattle.role_graph.proofs.Comparing.{same_role_tells}
-use Rattle.rekey_walk.specs.Dirty.{with_role, ascending, plan}
+use Rattle.role_graph.specs.Ascending.{with_role, ascending}
+use Rattle.rekey_walk.specs.Dirty.{plan}
 use Rattle.move_plan.specs.Change.{Change, no_change, change_of}
 use Rattle.move_plan.specs.Note.{Note}
 use Rattle.move_plan.specs.Note.Note.{Root, NewHolder, NewFolder, NewFile, Rewrite, NameFile, NameFolder, DropFile, DropFolder, ShiftFile, ShiftFolder, Give, Take}

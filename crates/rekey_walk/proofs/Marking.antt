@@ -1,45 +1,17 @@
 -- Marks and plans hold what paths lead to.
-use Rattle.std.proofs.Common.{◌≡◌, Bool, true, false, cond, ◌↔◌, ◌⊎◌, List, [], ◌∷◌, ◌++◌, filter, IsTrue, inl, inr, ⊎_elim, refl, sym, ◌∙◌, subst}
+use Rattle.std.proofs.Common.{◌≡◌, ◌↔◌, ◌⊎◌, List, [], ◌∷◌, ◌++◌, filter, IsTrue, inl, inr, ⊎_elim, refl, subst}
 use Rattle.std.specs.List.{list_any}
-use Rattle.std.proofs.lemmas.Bool.{or_cases, or_left, or_right, false≢true}
 use Rattle.cry_base.specs.Sets.{In, has}
 use Rattle.cry_base.specs.declared.roles.Edge.{Edge}
 use Rattle.cry_base.specs.declared.roles.Role.{Role}
 use Rattle.cry_base.proofs.Members.{In-append, In-filter, filter-In, In-any}
 use Rattle.cry_base.proofs.Reaching.{has-in, in-has}
-use Rattle.role_graph.specs.Roles.{same_role, role_before}
+use Rattle.role_graph.specs.Ascending.{ascending}
+use Rattle.role_graph.specs.Roles.{same_role}
 use Rattle.role_graph.specs.Edges.{Reaches, reach_along}
 use Rattle.role_graph.proofs.Comparing.{same_role_tells, reach_one}
-use Rattle.rekey_walk.specs.Dirty.{with_role, ascending, mark, mark_all, leads_to_any, plan}
-
-with_role-in : (r q : Role) (xs : List Role) → In q (with_role r xs) → (q ≡ r) ⊎ In q xs
-unfolding with_role
-with_role-in r q [] = λ i. ⊎_elim (λ e. inl e) (λ n. absurd n) i
-with_role-in r q (x ∷ xs) =
-    elim (role_before x r) as (λ b. In q (cond b (x ∷ with_role r xs) (cond (same_role r x) (x ∷ xs) (r ∷ x ∷ xs))) → (q ≡ r) ⊎ In q (x ∷ xs)) [
-      | true ↦ λ i. ⊎_elim (λ e. inr (inl e)) (λ t. ⊎_elim (λ e. inl e) (λ u. inr (inr u)) (with_role-in r q xs t)) i
-      | false ↦ elim (same_role r x) as (λ b. In q (cond b (x ∷ xs) (r ∷ x ∷ xs)) → (q ≡ r) ⊎ In q (x ∷ xs)) [ true ↦ λ i. inr i | false ↦ λ i. i ]
-    ]
-
-in-with_role : (r q : Role) (xs : List Role) → (q ≡ r) ⊎ In q xs → In q (with_role r xs)
-unfolding with_role
-in-with_role r q [] = λ i. ⊎_elim (λ e. inl e) (λ n. absurd n) i
-in-with_role r q (x ∷ xs) =
-    elim (role_before x r) as (λ b. (q ≡ r) ⊎ In q (x ∷ xs) → In q (cond b (x ∷ with_role r xs) (cond (same_role r x) (x ∷ xs) (r ∷ x ∷ xs)))) [
-      | true ↦ λ i. ⊎_elim (λ e. inr (in-with_role r q xs (inl e))) (λ t. ⊎_elim (λ e. inl e) (λ u. inr (in-with_role r q xs (inr u))) t) i
-      | false ↦ (elim (same_role r x) as (λ b. same_role r x ≡ b → (q ≡ r) ⊎ In q (x ∷ xs) → In q (cond b (x ∷ xs) (r ∷ x ∷ xs))) [
-        | true ↦ λ t i. ⊎_elim (λ e. inl (e ∙ (same_role_tells r x).0 t)) (λ u. u) i
-        | false ↦ λ t i. i
-      ]) refl
-    ]
-
-pub ascending_told : (r : Role) (xs : List Role) → In r (ascending xs) ↔ In r xs
-unfolding ascending
-ascending_told r [] = (λ i. i, λ i. i)
-ascending_told r (x ∷ xs) = (
-  λ i. ⊎_elim (λ e. inl e) (λ t. inr ((ascending_told r xs).0 t)) (with_role-in x r (ascending xs) i),
-  λ i. in-with_role x r (ascending xs) (⊎_elim (λ e. inl e) (λ t. inr ((ascending_told r xs).1 t)) i),
-)
+use Rattle.role_graph.proofs.Rising.{ascending_told}
+use Rattle.rekey_walk.specs.Dirty.{mark, mark_all, leads_to_any, plan}
 
 pub mark_told : (dirty : List Role) (es : List Edge) (target r : Role) → In r (mark dirty es target) ↔ (In r dirty ⊎ Reaches es target r)
 unfolding mark

@@ -1,21 +1,12 @@
 -- Which keys a revoked reader may know, and which of them are due for renewal. This project's own, docs/FORMAT.md.
-use Rattle.std.specs.Prelude.{Bool, cond, List, [], ◌∷◌, ◌++◌, filter}
+use Rattle.std.specs.Prelude.{Bool, List, [], ◌∷◌, ◌++◌, filter}
 use Rattle.std.specs.List.{list_any}
 use Rattle.cry_base.specs.Sets.{has}
 use Rattle.cry_base.specs.declared.roles.Edge.{Edge}
 use Rattle.cry_base.specs.declared.roles.Role.{Role}
-use Rattle.role_graph.specs.Roles.{same_role, role_before}
+use Rattle.role_graph.specs.Ascending.{ascending}
+use Rattle.role_graph.specs.Roles.{same_role}
 use Rattle.role_graph.specs.Edges.{reach_along}
-
--- the role at its place in an ascending list, once
-unfoldable pub with_role : Role → List Role → List Role
-with_role r [] = r ∷ []
-with_role r (x ∷ xs) = cond (role_before x r) (x ∷ with_role r xs) (cond (same_role r x) (x ∷ xs) (r ∷ x ∷ xs))
-
--- the roles ascending, each once
-unfoldable pub ascending : List Role → List Role
-ascending [] = []
-ascending (x ∷ xs) = with_role x (ascending xs)
 
 -- the dirty roles, and all that edges lead to from a role, that role included
 unfoldable pub mark : List Role → List Edge → Role → List Role

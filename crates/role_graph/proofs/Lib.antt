@@ -1,6 +1,7 @@
 pub mod Comparing
 pub mod Edging
 pub mod Granting
+pub mod Growing
 pub mod Placing
 pub mod Rightful
 pub mod Rising

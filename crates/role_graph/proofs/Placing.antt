@@ -7,9 +7,9 @@ use Rattle.cry_base.specs.Sets.{In, has}
 use Rattle.cry_base.specs.declared.roles.Role.{Role}
 use Rattle.cry_base.specs.declared.roles.Role.TheVariants.{Owner}
 use Rattle.role_graph.specs.Roles.{same_role, role_before}
-use Rattle.role_graph.specs.Ascending.{IsAscending, with_role, without}
+use Rattle.role_graph.specs.Ascending.{IsAscending, with_role, without_role}
 use Rattle.role_graph.proofs.Comparing.{same_role_tells}
-use Rattle.role_graph.proofs.Rising.{Before, other_than, before_on, one_before, before_other, after_other, others_lack, others_stay}
+use Rattle.role_graph.proofs.Rising.{Before, other_than, before_on, one_before, before_other, after_other, others_lack, others_stay, get_or-In}
 
 -- all roles below the index stand before the role, and none from it on
 pub record IsPlace (r : Role) (xs : List Role) (i : ℕ) : Type 0 where
@@ -50,8 +50,8 @@ absent_has r [] i a w other = refl
 absent_has r (x ∷ xs) zero a w other = others_lack r (x ∷ xs) (all_others r x xs a (first_above r x xs w) (apart r x (other (omega arith))))
 absent_has r (x ∷ xs) (suc i) a w other = rw (after_other r x (first_below r x xs i w)) (absent_has r xs i a.1 (later r x xs i w) (λ p. other (omega arith)))
 
-pub absent_stays : (r : Role) (xs : List Role) (i : ℕ) → IsAscending xs → IsPlace r xs i → OtherAt r xs i → without r xs ≡ xs
-unfolding without
+pub absent_stays : (r : Role) (xs : List Role) (i : ℕ) → IsAscending xs → IsPlace r xs i → OtherAt r xs i → without_role r xs ≡ xs
+unfolding without_role
 absent_stays r [] i a w other = refl
 absent_stays r (x ∷ xs) zero a w other = others_stay r (x ∷ xs) (all_others r x xs a (first_above r x xs w) (apart r x (other (omega arith))))
 absent_stays r (x ∷ xs) (suc i) a w other = rw (after_other r x (first_below r x xs i w)) (ap (λ zs. x ∷ zs) (absent_stays r xs i a.1 (later r x xs i w) (λ p. other (omega arith))))
@@ -71,8 +71,8 @@ present_has r [] i same = let p : i < 0 = same.0 in absurd (omega arith)
 present_has r (x ∷ xs) zero same = inl (sym ((same_role_tells x r).0 same.1))
 present_has r (x ∷ xs) (suc i) same = inr (present_has r xs i (omega (arith, same.0), same.1))
 
-pub present_goes : (r : Role) (xs : List Role) (i : ℕ) → IsAscending xs → IsPlace r xs i → SameAt r xs i → remove xs i ≡ without r xs
-unfolding without
+pub present_goes : (r : Role) (xs : List Role) (i : ℕ) → IsAscending xs → IsPlace r xs i → SameAt r xs i → remove xs i ≡ without_role r xs
+unfolding without_role
 present_goes r [] i a w same = let p : i < 0 = same.0 in absurd (omega arith)
 present_goes r (x ∷ xs) zero a w same =
     let e : x ≡ r = (same_role_tells x r).0 same.1 in
@@ -85,14 +85,9 @@ present_with r [] i w same = let p : i < 0 = same.0 in absurd (omega arith)
 present_with r (x ∷ xs) zero w same = let e : x ≡ r = (same_role_tells x r).0 same.1 in rw (first_above r x xs w, (same_role_tells r x).1 (sym e))
 present_with r (x ∷ xs) (suc i) w same = rw (first_below r x xs i w) (ap (λ zs. x ∷ zs) (present_with r xs i (later r x xs i w) (omega (arith, same.0), same.1)))
 
-stands : (k : ℕ) (d : Role) (ys : List Role) → k < length ys → In (get_or ys k d) ys
-stands k d [] p = absurd (omega arith)
-stands zero d (y ∷ ys) p = inl refl
-stands (suc k) d (y ∷ ys) p = inr (stands k d ys (omega arith))
-
 from_first : (r x : Role) (xs : List Role) → IsAscending (x ∷ xs) → IsPartitionedBy (λ y. role_before y r) xs → (i j : ℕ) (d : Role) → i ≤ j → j < length (x ∷ xs) → role_before (get_or (x ∷ xs) j d) r ≡ true → role_before (get_or (x ∷ xs) i d) r ≡ true
 from_first r x xs a rest zero zero d p q e = e
-from_first r x xs a rest zero (suc j) d p q e = before_on x (get_or xs j d) r (a.0 (get_or xs j d) (stands j d xs (omega arith))) e
+from_first r x xs a rest zero (suc j) d p q e = before_on x (get_or xs j d) r (a.0 (get_or xs j d) (get_or-In Role xs j d (omega arith))) e
 from_first r x xs a rest (suc i) zero d p q e = absurd (omega arith)
 from_first r x xs a rest (suc i) (suc j) d p q e = rest i j d (omega arith) (omega arith) e
 

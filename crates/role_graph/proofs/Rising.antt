@@ -1,13 +1,14 @@
 -- Roles in their order: what stands before what, and what a role that is put in its place changes.
-use Rattle.std.proofs.Common.{◌≡◌, ◌≢◌, ℕ, ◌≤◌, ◌<◌, Bool, true, false, cond, not, ◌==◌, ◌&&◌, ◌⊎◌, ◌↔◌, List, [], ◌∷◌, filter, inl, inr, ⊎_elim, refl, sym, ap, ◌∙◌, subst, arith}
+use Rattle.std.proofs.Common.{◌≡◌, ◌≢◌, ℕ, zero, suc, ◌≤◌, ◌<◌, Bool, true, false, cond, not, ◌==◌, ◌&&◌, ◌⊎◌, ◌↔◌, List, [], ◌∷◌, ◌++◌, ◌+◌, length, get_or, take, filter, inl, inr, ⊎_elim, refl, sym, ap, ◌∙◌, subst, arith}
 use Rattle.std.specs.Prelude.{nat_lt}
 use Rattle.std.specs.List.{list_any}
 use Rattle.std.proofs.lemmas.Bool.{or_right, or_left, or_parts, and_parts, and_from, or_cases, false≢true, cases_Bool, ltb-true, lt-ltb, ltb-false, eqb-true, eq-eqb, cases_order}
+use Rattle.std.proofs.lemmas.List.{take_more}
 use Rattle.cry_base.specs.Sets.{In, has}
 use Rattle.cry_base.specs.declared.roles.Role.{Role}
-use Rattle.cry_base.proofs.Members.{In-filter}
+use Rattle.cry_base.proofs.Members.{In-append, In-filter}
 use Rattle.role_graph.specs.Roles.{same_role, role_before, variant_of, role_id}
-use Rattle.role_graph.specs.Ascending.{IsAscending, with_role, ascending, without}
+use Rattle.role_graph.specs.Ascending.{IsAscending, with_role, ascending, without_role}
 use Rattle.role_graph.proofs.Comparing.{same_role_tells}
 
 -- the one stands before the other
@@ -132,20 +133,48 @@ unfolding has
 others_lack r [] told = refl
 others_lack r (y ∷ ys) told = rw (told y (inl refl)) (others_lack r ys (λ z i. told z (inr i)))
 
-pub others_stay : (r : Role) (ys : List Role) → ((y : Role) → In y ys → same_role r y ≡ false) → without r ys ≡ ys
-unfolding without
+pub others_stay : (r : Role) (ys : List Role) → ((y : Role) → In y ys → same_role r y ≡ false) → without_role r ys ≡ ys
+unfolding without_role
 others_stay r [] told = refl
 others_stay r (y ∷ ys) told = rw (told y (inl refl)) (ap (λ zs. y ∷ zs) (others_stay r ys (λ z i. told z (inr i))))
 
-without-in : (r q : Role) (xs : List Role) → In q (without r xs) → In q xs
-unfolding without
-without-in r q xs i = (In-filter Role (λ x. not (same_role r x)) q xs i).0
+without_role-in : (r q : Role) (xs : List Role) → In q (without_role r xs) → In q xs
+unfolding without_role
+without_role-in r q xs i = (In-filter Role (λ x. not (same_role r x)) q xs i).0
 
-pub without_ascending : (r : Role) (xs : List Role) → IsAscending xs → IsAscending (without r xs)
-unfolding without
+pub without_ascending : (r : Role) (xs : List Role) → IsAscending xs → IsAscending (without_role r xs)
+unfolding without_role
 without_ascending r [] a = tt
 without_ascending r (x ∷ xs) a =
     elim (not (same_role r x)) as (λ b. IsAscending (cond b (x ∷ filter (λ q. not (same_role r q)) xs) (filter (λ q. not (same_role r q)) xs))) [
-      | true ↦ (λ y i. a.0 y (without-in r y xs i), without_ascending r xs a.1)
+      | true ↦ (λ y i. a.0 y (without_role-in r y xs i), without_ascending r xs a.1)
       | false ↦ without_ascending r xs a.1
     ]
+
+pub get_or-In : (X : Type 0) (xs : List X) (k : ℕ) (d : X) → k < length xs → In (get_or xs k d) xs
+get_or-In X [] k d p = absurd (omega arith)
+get_or-In X (x ∷ xs) zero d p = inl refl
+get_or-In X (x ∷ xs) (suc k) d p = inr (get_or-In X xs k d (omega arith))
+
+-- a set with one more role of a list
+pub added_more : (rs : List Role) (i : ℕ) (d : Role) → i < length rs → (old before new : List Role) → new ≡ with_role (get_or rs i d) before → ((r : Role) → In r before → In r old ⊎ In r (take i rs)) → (r : Role) → In r new → In r old ⊎ In r (take (i + 1) rs)
+added_more rs i d p old before new same told r j =
+    let more : In r (take i rs ++ get_or rs i d ∷ []) → In r (take (i + 1) rs) = subst (In r) (sym (take_more rs i d p)) in
+    ⊎_elim
+    (λ e. inr (more ((In-append Role r (take i rs) (get_or rs i d ∷ [])).1 (inr (inl e)))))
+    (λ u. ⊎_elim (λ o. inl o) (λ t. inr (more ((In-append Role r (take i rs) (get_or rs i d ∷ [])).1 (inl t)))) (told r u))
+    (with_role-in (get_or rs i d) r before (subst (In r) same j))
+
+pub all_more : (rs : List Role) (i : ℕ) (d : Role) → i < length rs → (before new : List Role) → new ≡ with_role (get_or rs i d) before → ((r : Role) → In r (take i rs) → In r before) → (r : Role) → In r (take (i + 1) rs) → In r new
+all_more rs i d p before new same told r j = subst (In r) (sym same) (in-with_role (get_or rs i d) r before (⊎_elim
+    (λ t. inr (told r t))
+    (λ l. ⊎_elim (λ e. inl e) (λ n. absurd n) l)
+    ((In-append Role r (take i rs) (get_or rs i d ∷ [])).0 (subst (In r) (take_more rs i d p) j))))
+
+pub kept_more : (role : Role) (old before new : List Role) → new ≡ with_role role before → ((r : Role) → In r old → In r before) → (r : Role) → In r old → In r new
+kept_more role old before new same told r i = subst (In r) (sym same) (in-with_role role r before (inr (told r i)))
+
+pub in_front : (X : Type 0) (r : X) (i : ℕ) (xs : List X) → In r (take i xs) → In r xs
+in_front X r zero xs = λ n. absurd n
+in_front X r (suc i) [] = λ n. absurd n
+in_front X r (suc i) (x ∷ xs) = λ j. ⊎_elim (λ e. inl e) (λ u. inr (in_front X r i xs u)) j

@@ -20,5 +20,5 @@ ascending [] = []
 ascending (x ∷ xs) = with_role x (ascending xs)
 
 -- all roles but the one
-unfoldable pub without : Role → List Role → List Role
-without r rs = filter (λ q. not (same_role r q)) rs
+unfoldable pub without_role : Role → List Role → List Role
+without_role r rs = filter (λ q. not (same_role r q)) rs

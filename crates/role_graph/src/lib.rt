@@ -2,8 +2,13 @@
 #![tactic(auto)]
 
 pub mod laws;
+mod reaching;
 mod role_set;
 pub mod rows;
 pub mod tabled;
 
+pub use reaching::{reach, leading_to};
 pub use role_set::RoleSet;
+
+#[cfg(test)]
+mod tests;

@@ -1,7 +1,8 @@
 //! A set of roles that is kept in their order.
-ghost use Rattle.std.specs.Prelude.{◌≡◌, ◌<◌, ◌≤◌, not, [], filter, insert, remove, is_ok, length, IfOk, IfErr, OnOk, OnErr};
-ghost use Rattle.cry_base.specs.Sets.{has};
-ghost use Rattle.role_graph.specs.Ascending.{IsAscending, with_role, without};
+ghost use Rattle.std.specs.Prelude.{◌≡◌, ◌<◌, ◌≤◌, ◌⊎◌, [], insert, remove, is_ok, length, IfOk, IfErr, OnOk, OnErr};
+ghost use Rattle.cry_base.specs.Sets.{In, has};
+ghost use Rattle.cry_base.specs.declared.roles.Role.{Role as AnyRole};
+ghost use Rattle.role_graph.specs.Ascending.{IsAscending, with_role, without_role};
 ghost use Rattle.role_graph.specs.Roles.{same_role, role_before};
 
 use cry_base::{List, Mem, Role};
@@ -55,6 +56,7 @@ impl RoleSet {
     pub fn insert(&mut self, role: Role) -> Mem<()>
         ensures ok { OnOk result (self.new ≡ with_role role self.old) }
         ensures err { OnErr result (self.new ≡ self.old) }
+        ensures ascending { IsAscending self.new }
     {
         if let Err(place) = find(self.roles.as_slice(), role) {
             self.roles.insert(place, role)?;
@@ -62,9 +64,23 @@ impl RoleSet {
         Ok(())
     }
 
+    /// Adds the roles. At `Err` all that were in the set still are, and some of the roles may be.
+    pub fn extend(&mut self, roles: &[Role]) -> Mem<()>
+        ensures kept { (r : AnyRole) → In r self.old → In r self.new }
+        ensures added { (r : AnyRole) → In r self.new → In r self.old ⊎ In r roles.now }
+        ensures all { OnOk result ((r : AnyRole) → In r roles.now → In r self.new) }
+        ensures ascending { IsAscending self.new }
+    {
+        self.roles.reserve(roles.len())?;
+        for role in roles {
+            self.insert(*role)?;
+        }
+        Ok(())
+    }
+
     /// Takes the role out, where it is in the set. It takes no memory.
     pub fn remove(&mut self, role: Role)
-        ensures { self.new ≡ without role self.old }
+        ensures { self.new ≡ without_role role self.old }
     {
         if let Ok(place) = find(self.roles.as_slice(), role) {
             let _role = self.roles.remove(place);
@@ -96,8 +112,8 @@ impl RoleSet {
 fn find(roles: &[Role], role: Role) -> Result<usize, usize>
     requires { IsAscending roles.now }
     ensures present { is_ok result ≡ has same_role roles.now role }
-    ensures found { IfOk result (λ i. (i < length roles.now) × (remove roles.now i ≡ without role roles.now) × (with_role role roles.now ≡ roles.now)) }
-    ensures absent { IfErr result (λ i. (i ≤ length roles.now) × (insert roles.now i role ≡ with_role role roles.now) × (without role roles.now ≡ roles.now)) }
+    ensures found { IfOk result (λ i. (i < length roles.now) × (remove roles.now i ≡ without_role role roles.now) × (with_role role roles.now ≡ roles.now)) }
+    ensures absent { IfErr result (λ i. (i ≤ length roles.now) × (insert roles.now i role ≡ with_role role roles.now) × (without_role role roles.now ≡ roles.now)) }
 {
     let place = roles.partition_point(|other| is_before(*other, role));
     if place < roles.len() && is_same(roles[place], role) {

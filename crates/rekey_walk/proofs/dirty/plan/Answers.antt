@@ -1,0 +1,17 @@
+use Rattle.std.proofs.Common.{◌≡◌, IfOk, filter, ap, ◌∙◌}
+use Rattle.std.proofs.lemmas.Result.{IfOk-weaker}
+use Rattle.cry_base.specs.Sets.{has}
+use Rattle.role_graph.specs.Roles.{same_role}
+use Rattle.rekey_walk.specs.Dirty.{plan}
+use Rattle.rekey_walk.proofs.Planning.{planned_is}
+use Rattle.rekey_walk.proofs.dirty.plan.Goals as goal
+
+pub returns : goal.returns
+returns c =
+    let dirty = c.args.dirty.now in
+    let es = c.args.edges.now in
+    let wanted = c.args.wanted.now in
+    let leading = c.in_ok-leading.leading in
+    let told = planned_is dirty es wanted leading c.as_slice.ensures.ascending c.in_ok-leading.ensures in
+    IfOk-weaker c.common.result (λ l. l.items ≡ filter (has same_role leading) c.as_slice.result.now) (λ l. l.items ≡ plan dirty es wanted)
+    (λ l e. e ∙ (ap (filter (has same_role leading)) c.as_slice.ensures.roles ∙ told)) c.common.ensures

@@ -1,0 +1,101 @@
+//! The roles whose keys a revoked reader may know, and which of them a change renews.
+ghost use Rattle.std.specs.Prelude.{◌≡◌, [], filter, IfOk, OnOk, OnErr};
+ghost use Rattle.cry_base.specs.Sets.{has};
+ghost use Rattle.role_graph.specs.Ascending.{IsAscending, without_role};
+ghost use Rattle.role_graph.specs.Roles.{same_role};
+ghost use Rattle.rekey_walk.specs.Dirty.{mark, plan as plan_of};
+
+use cry_base::{Edge, List, Mem, Role};
+use role_graph::{RoleSet, leading_to, reach};
+use std::alloc::Global;
+use std::marker::Model;
+
+/// Roles in their order, each once: the keys of these are renewed before anything new is sealed under them.
+#[derive(Debug, Drop)]
+pub struct Dirty {
+    roles: RoleSet,
+}
+
+impl Model for Dirty {
+    ghost use Rattle.std.specs.Prelude.{List};
+    ghost use Rattle.cry_base.specs.declared.roles.Role.{Role};
+
+    ghost Value = { List Role };
+
+    ghost view = { λ d. d.roles };
+}
+
+impl Dirty {
+    /// No dirty role. It takes no memory.
+    pub fn new(alloc: Global) -> Self
+        ensures { result ≡ [] }
+    {
+        Dirty {
+            roles: RoleSet::new(alloc),
+        }
+    }
+
+    /// The same roles once more.
+    pub fn copy(&self) -> Mem<Dirty>
+        ensures { IfOk result (λ d. d ≡ self.now) }
+    {
+        Ok(Dirty {
+            roles: self.roles.copy()?,
+        })
+    }
+
+    /// The roles in their order.
+    pub fn as_slice(&self) -> &[Role]
+        ensures roles { result.now ≡ self.now }
+        ensures ascending { IsAscending self.now }
+    {
+        self.roles.as_slice()
+    }
+
+    /// Whether the role is dirty.
+    pub fn has(&self, role: Role) -> bool
+        ensures { result ≡ has same_role self.now role }
+    {
+        self.roles.has(role)
+    }
+
+    /// Makes the role clean. It takes no memory.
+    pub fn clean(&mut self, role: Role)
+        ensures { self.new ≡ without_role role self.old }
+    {
+        self.roles.remove(role);
+    }
+}
+
+/// Makes dirty all that edges lead to from the target, the target included. At `Err` nothing has changed.
+pub fn mark_from(alloc: Global, dirty: &mut Dirty, edges: &[Edge], target: Role) -> Mem<()>
+    ensures ok { OnOk result (dirty.new ≡ mark dirty.old edges.now target) }
+    ensures err { OnErr result (dirty.new ≡ dirty.old) }
+{
+    let reached = reach(alloc, edges, target)?;
+    let mut marked = dirty.roles.copy()?;
+    marked.extend(reached.as_slice())?;
+    dirty.roles = marked;
+    Ok(())
+}
+
+/// The dirty roles from which edges lead to a wanted one, the dirty wanted ones included, in their order.
+pub fn plan(alloc: Global, dirty: &Dirty, edges: &[Edge], wanted: &[Role]) -> Mem<List<Role>>
+    ensures { IfOk result (λ l. l.items ≡ plan_of dirty.now edges.now wanted.now) }
+{
+    let leading = leading_to(alloc, edges, wanted)?;
+    common(alloc, dirty.as_slice(), &leading)
+}
+
+/// Those of the roles that are in the set.
+fn common(alloc: Global, roles: &[Role], set: &RoleSet) -> Mem<List<Role>>
+    ensures { IfOk result (λ l. l.items ≡ filter (has same_role set.now) roles.now) }
+{
+    let mut found = List::new(alloc);
+    for role in roles {
+        if set.has(*role) {
+            found.push(*role)?;
+        }
+    }
+    Ok(found)
+}
