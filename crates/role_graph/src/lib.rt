@@ -7,7 +7,7 @@ mod role_set;
 pub mod rows;
 pub mod tabled;
 
-pub use reaching::{reach, leading_to};
+pub use reaching::{leading_to, reach};
 pub use role_set::RoleSet;
 
 #[cfg(test)]

@@ -2,17 +2,16 @@ use super::*;
 use cry_base::{Edge, FileId, FolderId, HolderId, Role};
 use std::test::Fail;
 
-/// A role of each kind in turn.
+/// A role of its own for each number.
 fn role_at(n: u32) -> Role {
-    match n % 8 {
-        0 => Role::Owner,
+    match n % 7 {
+        0 => Role::File(FileId(n)),
         1 => Role::Holder(HolderId(n)),
         2 => Role::Clear(FolderId(n)),
         3 => Role::Sub(FolderId(n)),
         4 => Role::Back(FolderId(n)),
         5 => Role::Files(FolderId(n)),
-        6 => Role::Data(FolderId(n)),
-        _ => Role::File(FileId(n)),
+        _ => Role::Data(FolderId(n)),
     }
 }
 
@@ -45,7 +44,7 @@ fn plain_closure(ends: &[(u32, u32)]) -> [bool; 12] {
 fn numbers_of(roles: &[Role]) -> [bool; 12] {
     let mut found = [false; 12];
     for n in 0..12u32 {
-        found[n as usize] = roles.contains(&role_at(n + 8));
+        found[n as usize] = roles.contains(&role_at(n));
     }
     found
 }
@@ -59,13 +58,13 @@ fn reach_is_a_plain_closure_forth_and_back(rt: HostRuntime) -> Result<(), Fail> 
         for (from, to) in ends {
             edges.push(Edge {
                 kind: 1,
-                from: role_at(from + 8),
-                to: role_at(to + 8),
+                from: role_at(from),
+                to: role_at(to),
             })?;
         }
-        let reached = reach(rt.alloc(), &edges, role_at(9))?;
+        let reached = reach(rt.alloc(), &edges, role_at(1))?;
         assert_eq!(rt; numbers_of(reached.as_slice()), plain_closure(&ends));
-        let leading = leading_to(rt.alloc(), &edges, &[role_at(9)])?;
+        let leading = leading_to(rt.alloc(), &edges, &[role_at(1)])?;
         assert_eq!(rt; numbers_of(leading.as_slice()), plain_closure(&turned));
     }
     Ok(())
@@ -74,11 +73,11 @@ fn reach_is_a_plain_closure_forth_and_back(rt: HostRuntime) -> Result<(), Fail> 
 #[test]
 fn a_set_of_roles_is_changed(rt: HostRuntime) -> Result<(), Fail> {
     let mut set = RoleSet::new(rt.alloc());
-    set.insert(role_at(11))?;
-    set.extend(&[role_at(9), role_at(11), role_at(10)])?;
-    set.remove(role_at(10));
-    assert!(rt; set.has(role_at(9)) && !set.has(role_at(10)));
+    set.insert(role_at(3))?;
+    set.extend(&[role_at(1), role_at(3), role_at(2)])?;
+    set.remove(role_at(2));
+    assert!(rt; set.has(role_at(1)) && !set.has(role_at(2)));
     let copy = set.copy()?.to_list()?;
-    assert_eq!(rt; copy.as_slice(), [role_at(9), role_at(11)].as_slice());
+    assert_eq!(rt; copy.as_slice(), [role_at(1), role_at(3)].as_slice());
     Ok(())
 }

@@ -7,7 +7,7 @@ use Rattle.role_graph.proofs.reaching.close.Given as goal
 abbrev pub invariant-loop : goal.invariant-loop
 invariant-loop l = record {
   kept : (r : Role) → In r l.initial.reached → In r l.reached;
-  reached : (r : Role) → In r l.reached → IsReached l.edges l.initial.reached r
+  reached : (r : Role) → In r l.reached → IsReached l.edges l.initial.reached r;
 }
 
 abbrev pub decreases-loop : goal.decreases-loop

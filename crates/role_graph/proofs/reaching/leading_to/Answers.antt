@@ -12,4 +12,4 @@ returns c =
     let targets = c.args.targets.now in
     let told = subst (λ zs. IfOk c.reach_all.result (λ s. (r : Role) → In r s ↔ IsReached zs targets r)) (c.as_slice.ensures ∙ c.in_ok-turned.ensures) c.reach_all.ensures in
     IfOk-weaker c.reach_all.result _ (λ s. (r : Role) → In r s ↔ IsLeading es targets r)
-      (λ s t r. (λ i. (turned_told es targets r).0 ((t r).0 i), λ w. (t r).1 ((turned_told es targets r).1 w))) told
+    (λ s t r. (λ i. (turned_told es targets r).0 ((t r).0 i), λ w. (t r).1 ((turned_told es targets r).1 w))) told

@@ -9,5 +9,5 @@ invariant-loop-edge l = record {
   kept : (r : Role) → In r l.initial.reached → In r l.reached;
   reached : (r : Role) → In r l.reached → IsReached l.edges l.initial.reached r;
   closed : l.grew ≡ false → IsClosed (take l.edge-index l.edges) l.reached;
-  fewer : l.grew ≡ true → count_outside l.edges l.reached < count_outside l.edges l.initial.reached
+  fewer : l.grew ≡ true → count_outside l.edges l.reached < count_outside l.edges l.initial.reached;
 }

@@ -12,7 +12,7 @@ returns-clause-reached c =
     let from = c.args.from in
     let told = c.in_ok-reach_all.ensures in
     IfOk-weaker c.to_list-2.result (λ l. l.items ≡ c.in_ok-reach_all.field-0) (λ l. (r : Role) → In r l.items ↔ Reaches es from r)
-      (λ l e r. (
-        λ i. (one_reached es from r).0 ((told r).0 (subst (In r) e i)),
-        λ way. subst (In r) (sym e) ((told r).1 ((one_reached es from r).1 way)),
-      )) c.to_list-2.ensures
+    (λ l e r. (
+      λ i. (one_reached es from r).0 ((told r).0 (subst (In r) e i)),
+      λ way. subst (In r) (sym e) ((told r).1 ((one_reached es from r).1 way)),
+    )) c.to_list-2.ensures

@@ -11,9 +11,9 @@ use Rattle.role_graph.proofs.role_set.find.Goals.{Then-is_same, Joined-else-plac
 
 found : (c : Then-is_same) → IsPlace c.args.role c.args.roles.now c.partition_point-place.result
 found c =
-  let xs = c.args.roles.now in
-  let point = IsPartitionPoint-from_clause (λ p. role_before p c.args.role) xs c.partition_point-place.result c.partition_point-place.ensures.partitioned (partitioned c.args.role xs c.requires) (λ a r q k. search rules) in
-  record { within = omega arith; below = λ k d p. point.0 k d (omega arith) p; above = point.1 }
+    let xs = c.args.roles.now in
+    let point = IsPartitionPoint-from_clause (λ p. role_before p c.args.role) xs c.partition_point-place.result c.partition_point-place.ensures.partitioned (partitioned c.args.role xs c.requires) (λ a r q k. search rules) in
+    record { within = omega arith; below = λ k d p. point.0 k d (omega arith) p; above = point.1 }
 
 same : (c : Then-is_same) → SameAt c.args.role c.args.roles.now c.partition_point-place.result
 same c = (c.if-place-roles.true, sym (c.if-is_same.ensures))
@@ -26,9 +26,9 @@ returns-then-is_same-clause-found c = (c.if-place-roles.true, present_goes _ _ _
 
 lacked : (c : Joined-else-place-roles) → IsPlace c.args.role c.args.roles.now c.partition_point-place.result
 lacked c =
-  let xs = c.args.roles.now in
-  let point = IsPartitionPoint-from_clause (λ p. role_before p c.args.role) xs c.partition_point-place.result c.partition_point-place.ensures.partitioned (partitioned c.args.role xs c.requires) (λ a r q k. search rules) in
-  record { within = c.partition_point-place.ensures.bound; below = λ k d p. point.0 k d (omega arith) p; above = point.1 }
+    let xs = c.args.roles.now in
+    let point = IsPartitionPoint-from_clause (λ p. role_before p c.args.role) xs c.partition_point-place.result c.partition_point-place.ensures.partitioned (partitioned c.args.role xs c.requires) (λ a r q k. search rules) in
+    record { within = c.partition_point-place.ensures.bound; below = λ k d p. point.0 k d (omega arith) p; above = point.1 }
 
 other : (c : Joined-else-place-roles) → OtherAt c.args.role c.args.roles.now c.partition_point-place.result
 other c p = elim c.else-place-roles.branch [

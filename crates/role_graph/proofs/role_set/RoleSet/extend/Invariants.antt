@@ -9,5 +9,5 @@ invariant-loop-role l = record {
   kept : (r : Role) → In r l.initial.self → In r l.self;
   added : (r : Role) → In r l.self → In r l.initial.self ⊎ In r (take l.role-index l.roles);
   all : (r : Role) → In r (take l.role-index l.roles) → In r l.self;
-  ascending : IsAscending l.self
+  ascending : IsAscending l.self;
 }
