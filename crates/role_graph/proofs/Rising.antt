@@ -1,7 +1,6 @@
 -- Roles in their order: what stands before what, and what a role that is put in its place changes.
 use Rattle.std.proofs.Common.{◌≡◌, ◌≢◌, ℕ, zero, suc, ◌≤◌, ◌<◌, Bool, true, false, cond, not, ◌==◌, ◌&&◌, ◌⊎◌, ◌↔◌, List, [], ◌∷◌, ◌++◌, ◌+◌, length, get_or, take, filter, inl, inr, ⊎_elim, refl, sym, ap, ◌∙◌, subst, arith}
 use Rattle.std.specs.Prelude.{nat_lt}
-use Rattle.std.specs.List.{list_any}
 use Rattle.std.proofs.lemmas.Bool.{or_right, or_left, or_parts, and_parts, and_from, or_cases, false≢true, cases_Bool, ltb-true, lt-ltb, ltb-false, eqb-true, eq-eqb, cases_order}
 use Rattle.std.proofs.lemmas.List.{take_more}
 use Rattle.cry_base.specs.Sets.{In, has}

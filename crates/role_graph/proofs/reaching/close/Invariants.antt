@@ -1,4 +1,3 @@
-use Rattle.std.proofs.Common.{ℕ}
 use Rattle.cry_base.specs.Sets.{In}
 use Rattle.cry_base.specs.declared.roles.Role.{Role}
 use Rattle.role_graph.specs.Closing.{IsReached, count_outside}

@@ -1,11 +1,10 @@
-use Rattle.std.proofs.Common.{◌≡◌, ◌<◌, ◌≤◌, false, ℕ, List, length, get_or, sym, subst, rules, arith}
+use Rattle.std.proofs.Common.{sym, rules, arith}
 use Rattle.std.proofs.lemmas.List.Sorted.{IsPartitionPoint-from_clause}
 use Rattle.cry_base.specs.declared.roles.Role.{Role}
 use Rattle.cry_base.proofs.Reaching.{in-has}
 use Rattle.role_graph.specs.Roles.{same_role, role_before}
 use Rattle.role_graph.proofs.Comparing.{same_role_tells}
 use Rattle.role_graph.proofs.Placing.{IsPlace, SameAt, OtherAt, partitioned, present_has, present_goes, present_with, absent_has, absent_insert, absent_stays}
-use Rattle.role_graph.proofs.Rising.{other_than}
 use Rattle.role_graph.proofs.role_set.find.Goals as goal
 use Rattle.role_graph.proofs.role_set.find.Goals.{Then-is_same, Joined-else-place-roles, else-place-roles-via-then-place-roles+else-is_same, else-place-roles-via-else-place-roles}
 
