@@ -6,7 +6,6 @@ use Rattle.cry_base.specs.declared.roles.Edge.{Edge}
 use Rattle.cry_base.specs.declared.roles.Role.{Role}
 use Rattle.cry_base.proofs.Members.{In-append, In-filter, filter-In, In-any}
 use Rattle.cry_base.proofs.Reaching.{has-in, in-has}
-use Rattle.role_graph.specs.Ascending.{ascending}
 use Rattle.role_graph.specs.Roles.{same_role}
 use Rattle.role_graph.specs.Edges.{Reaches, reach_along}
 use Rattle.role_graph.proofs.Comparing.{same_role_tells, reach_one}

@@ -5,7 +5,7 @@ use Rattle.cry_base.specs.declared.roles.Edge.{Edge}
 use Rattle.cry_base.specs.declared.roles.Role.{Role}
 use Rattle.cry_base.proofs.Members.{In-filter, filter-In}
 use Rattle.cry_base.proofs.Reaching.{has-in, in-has}
-use Rattle.role_graph.specs.Ascending.{IsAscending, ascending}
+use Rattle.role_graph.specs.Ascending.{IsAscending}
 use Rattle.role_graph.specs.Closing.{IsLeading}
 use Rattle.role_graph.specs.Edges.{Reaches}
 use Rattle.role_graph.specs.Roles.{same_role}

@@ -1,4 +1,4 @@
-use Rattle.std.proofs.Common.{◌≡◌, IfOk, filter, ap, ◌∙◌}
+use Rattle.std.proofs.Common.{◌≡◌, filter, ap, ◌∙◌}
 use Rattle.std.proofs.lemmas.Result.{IfOk-weaker}
 use Rattle.cry_base.specs.Sets.{has}
 use Rattle.role_graph.specs.Roles.{same_role}
