@@ -1,0 +1,6 @@
+//! The folder tree: who is in which folder, under which name, and what a path finds.
+#![tactic(auto)]
+
+mod naming;
+
+pub use naming::{name_ok, path_ok};
