@@ -1,2 +1,5 @@
+pub mod Added
+pub mod Lookups
 pub mod Splitting
+pub mod Treed
 pub mod Ways

@@ -126,3 +126,8 @@ rises_few (suc n) xs f r =
     let less : length (others xs f) < length xs = others_less xs f r.0 r.1 in
     let le : n ≤ length (others xs f) = rises_few n (others xs f) r.0.parent (rises_others xs (suc n) f r n r.0.parent (omega arith) r.2) in
     omega (arith, less, le)
+
+-- where two lists agree on all that the way meets, it is the same in both
+pub rises_like : (xs ys : List FolderEntry) (P : ℕ → Type 0) → ((g : ℕ) → P g → at ys g ≡ at xs g) → ((g : ℕ) (e : FolderEntry) → P g → at xs g ≡ Some e → P e.parent) → (n f : ℕ) → P f → Rises xs n f → Rises ys n f
+rises_like xs ys P same on zero f p r = same f p ∙ r
+rises_like xs ys P same on (suc n) f p r = (r.0, same f p ∙ r.1, rises_like xs ys P same on n r.0.parent (on f r.0 p r.1) r.2)

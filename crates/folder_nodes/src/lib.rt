@@ -2,5 +2,7 @@
 #![tactic(auto)]
 
 mod naming;
+mod rows;
 
 pub use naming::{name_ok, path_ok};
+pub use rows::{FileRow, FolderRow};
