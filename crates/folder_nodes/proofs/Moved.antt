@@ -148,3 +148,122 @@ rises_moved s tree g q ng nq eg stands rg rq (suc n) f within r =
           let z : FolderEntry × (at (map (put g q) s.folders) f ≡ Some r.0) = (r.0, at_put g q s.folders f ∙ ap (option_map (put g q)) r.1 ∙ ap (λ b. Some (cond b (record r.0 { parent = q }) r.0)) t) in
           (suc w.0, omega (arith, w.1), (r.0, z.1, w.2))
     ]) refl
+
+not-false-true : (b : Bool) → (b ≡ true → ⊥) → b ≡ false
+not-false-true true h = absurd (h refl)
+not-false-true false h = refl
+
+-- how long the ways are behind a move that fits
+ways_moved : (s : Store) → IsTree s → (g q ng nq : ℕ) (eg : FolderEntry) → folder_entry s g ≡ Some eg → Rises s.folders ng g → Rises s.folders nq q → is_within s q g ≡ false → (f : ℕ) → (m n : ℕ) × Rises s.folders n f × Rises (map (put g q) s.folders) m f × (is_within s f g ≡ false → m ≡ n) × (is_within s f g ≡ true → m + ng ≡ n + suc nq)
+ways_moved s tree g q ng nq eg stands rg rq out f =
+    let w = rises s tree f in
+    (elim (is_within s f g) as (λ b. is_within s f g ≡ b → (m n : ℕ) × Rises s.folders n f × Rises (map (put g q) s.folders) m f × (is_within s f g ≡ false → m ≡ n) × (is_within s f g ≡ true → m + ng ≡ n + suc nq)) [
+      | true ↦ λ t. let v = rises_moved s tree g q ng nq eg stands rg (rises_apart s tree g q nq q out rq) w.0 f t w.2 in (v.0, w.0, w.2, v.2, λ no'. absurd (false≢true (sym no' ∙ t)), λ _. v.1)
+      | false ↦ λ t. (w.0, w.0, w.2, rises_apart s tree g q w.0 f t w.2, λ _. refl, λ yes'. absurd (false≢true (sym t ∙ yes')))
+    ]) refl
+
+-- the folder's own way is not empty
+levels_some : (s : Store) (n f : ℕ) (e : FolderEntry) → folder_entry s f ≡ Some e → Rises s.folders n f → 1 ≤ n
+unfolding folder_entry
+levels_some s zero f e p r = absurd (cc)
+levels_some s (suc n) f e p r = omega arith
+
+module _ (s : Store) (tree : IsTree s) (g q : ℕ) (eg ep : FolderEntry) (stands : folder_entry s g ≡ Some eg) (into : folder_entry s q ≡ Some ep) (out : is_within s q g ≡ false) (fits : depth_of s (folder_node q) + 1 + height_of s (Some (folder_node g)) ≤ 64) where
+  -- a folder in the moved one stays within 64 names, and a file in it too
+  moved_fits : (ng nq m n f : ℕ) (e : FolderEntry) → folder_entry s f ≡ Some e → Rises s.folders ng g → Rises s.folders nq q → Rises s.folders n f → is_within s f g ≡ true → m + ng ≡ n + suc nq → (m ≤ 65) × ((x : ℕ) (ex : FileEntry) → file_entry s x ≡ Some ex → ex.id ≡ x → ex.folder ≡ f → m ≤ 64)
+  unfolding height_of folder_node folder_entry
+  moved_fits ng nq m n f e here rg rq r within sum =
+      let d = deepest s g in
+      let q_depth : depth_of s (folder_node q) ≡ nq - 1 = depth_told s q ∙ ap (λ k. k - 1) (levels_are s nq q rq) in
+      let g_depth : depth_of s (folder_node g) ≡ ng - 1 = depth_told s g ∙ ap (λ k. k - 1) (levels_are s ng g rg) in
+      let f_depth : depth_of s (folder_node f) ≡ n - 1 = depth_told s f ∙ ap (λ k. k - 1) (levels_are s n f r) in
+      let q_some : 1 ≤ nq = levels_some s nq q ep into rq in
+      let g_some : 1 ≤ ng = levels_some s ng g eg stands rg in
+      let f_some : 1 ≤ n = levels_some s n f e here r in
+      let f_below : depth_of s (folder_node f) ≤ d = folder_below s g f e here within in
+      let self : is_within s g g ≡ true = within_on s tree g g eg stands ∙ ap (λ b. b || is_within s eg.parent g) (eq-eqb eg.id g (at_id s.folders g eg stands)) in
+      let g_below : depth_of s (folder_node g) ≤ d = folder_below s g g eg stands self in
+      let room : depth_of s (folder_node q) + 1 + (d - depth_of s (folder_node g)) ≤ 64 = fits in
+      (
+        omega (arith, q_depth, g_depth, f_depth, q_some, g_some, f_some, f_below, g_below, room, sum),
+        λ x ex p same folder.
+        let inside : is_within s ex.folder g ≡ true = ap (λ z. is_within s z g) folder ∙ within in
+        let x_below : depth_of s (file_node x) ≤ d = file_below s g x ex p same inside in
+        let x_depth : depth_of s (file_node x) ≡ length (way_to_root s ex.folder) - 1 + 1 = file_depth_told s x ex p in
+        let levels : length (way_to_root s ex.folder) ≡ n = ap (λ z. length (way_to_root s z)) folder ∙ levels_are s n f r in
+        omega (arith, q_depth, g_depth, x_depth, levels, q_some, g_some, f_some, x_below, g_below, room, sum),
+      )
+
+  pub folder_moved : g ≢ 1 → IsTree (with_folder s g (λ e. record e { parent = q }))
+  unfolding folder_entry with_folder way_to_root
+  folder_moved not_root =
+      let xs = s.folders in
+      let ys = map (put g q) xs in
+      let wg = rises s tree g in
+      let wq = rises s tree q in
+      let ways = ways_moved s tree g q wg.0 wq.0 eg stands wg.2 wq.2 out in
+      let short : (f : ℕ) → (m : ℕ) × (m ≤ 65) × Rises ys m f = λ f.
+          let w = ways f in
+          (elim (at xs f) as (λ o. at xs f ≡ o → (m : ℕ) × (m ≤ 65) × Rises ys m f) [
+            | None ↦ λ p. (0, omega arith, at_put g q xs f ∙ ap (option_map (put g q)) p)
+            | Some e ↦ λ p.
+                (elim (is_within s f g) as (λ b. is_within s f g ≡ b → (m : ℕ) × (m ≤ 65) × Rises ys m f) [
+                  | true ↦ λ t. (w.0, (moved_fits wg.0 wq.0 w.0 w.1 f e p wg.2 wq.2 w.2 t (w.5 t)).0, w.3)
+                  | false ↦ λ t. let v = rises s tree f in let same : w.1 ≡ v.0 = rises_same xs w.1 v.0 f w.2 v.2 in let keeps : w.0 ≡ w.1 = w.4 t in (w.0, omega (arith, same, keeps, v.1), w.3)
+                ]) refl
+          ]) refl in
+      record {
+        folders_ascend = pairs_map FolderEntry (λ a b. a.id < b.id) (put g q) (λ x y h. let a : (put g q x).id ≡ x.id = put_id g q x in let b : (put g q y).id ≡ y.id = put_id g q y in omega (arith, a, b, h)) xs tree.folders_ascend;
+        files_ascend = tree.files_ascend;
+        folders_made = All-map (λ (e : FolderEntry). (1 ≤ e.id) × (e.id ≤ s.folders_made)) (put g q) xs (All-weaker (λ (e : FolderEntry). (1 ≤ e.id) × (e.id ≤ s.folders_made)) (λ e. (1 ≤ (put g q e).id) × ((put g q e).id ≤ s.folders_made)) (λ e w. let a : (put g q e).id ≡ e.id = put_id g q e in (omega (arith, a, w.0), omega (arith, a, w.1))) xs tree.folders_made);
+        files_made = tree.files_made;
+        root = λ h. let w = tree.root h in (w.0, at_rest g q xs 1 (λ same. not_root (sym same)) ∙ w.1, w.2);
+        parents_stand = All-map (λ (e : FolderEntry). e.id ≢ 1 → (p : FolderEntry) × (at ys e.parent ≡ Some p)) (put g q) xs
+            (All-weaker (λ (e : FolderEntry). e.id ≢ 1 → (p : FolderEntry) × (at xs e.parent ≡ Some p)) (λ e. (put g q e).id ≢ 1 → (p : FolderEntry) × (at ys (put g q e).parent ≡ Some p))
+            (λ e w apart.
+            let put_stands : (b : Bool) → e.id == g ≡ b → (p : FolderEntry) × (at ys (let z : FolderEntry = cond b (record e { parent = q }) e in z.parent) ≡ Some p) = λ b.
+                elim b as (λ b. e.id == g ≡ b → (p : FolderEntry) × (at ys (let z : FolderEntry = cond b (record e { parent = q }) e in z.parent) ≡ Some p)) [
+                  | true ↦ λ t. at_stays g q xs q ep into
+                  | false ↦ λ t. let v = w (λ one. apart (put_id g q e ∙ one)) in at_stays g q xs e.parent v.0 v.1
+                ] in
+            put_stands (e.id == g) refl) xs tree.parents_stand);
+        ways_end = λ f. let w = short f in let e : length (way_up 66 ys f) ≡ w.0 = rises_way ys w.0 66 f w.2 (omega (arith, w.1)) in omega (arith, e, w.1);
+        files_stand = All-weaker
+            (λ (x : FileEntry). ((p : FolderEntry) × (at xs x.folder ≡ Some p) × (length (way_up (length xs) xs x.folder) ≤ 64)) × (find (λ z. z.id == x.id) s.files ≡ Some x))
+            (λ (x : FileEntry). (p : FolderEntry) × (at ys x.folder ≡ Some p) × (length (way_up (length ys) ys x.folder) ≤ 64))
+            (λ x v.
+            let w = ways x.folder in
+            let old : length (way_up (length xs) xs x.folder) ≡ w.1 = levels_are s w.1 x.folder w.2 in
+            let young : length (way_up (length ys) ys x.folder) ≡ w.0 = levels_are (with_folder s g (λ e. record e { parent = q })) w.0 x.folder w.3 in
+            let few : w.0 ≤ 64 =
+                (elim (is_within s x.folder g) as (λ b. is_within s x.folder g ≡ b → w.0 ≤ 64) [
+                  | true ↦ λ t. (moved_fits wg.0 wq.0 w.0 w.1 x.folder v.0.0 v.0.1 wg.2 wq.2 w.2 t (w.5 t)).1 x.id x (unfold file_entry in v.1) refl refl
+                  | false ↦ λ t. let keeps : w.0 ≡ w.1 = w.4 t in omega (arith, keeps, old, v.0.2)
+                ]) refl in
+            let stays = at_stays g q xs x.folder v.0.0 v.0.1 in
+            (stays.0, stays.1, omega (arith, young, few))) s.files
+            (λ k d h. (tree.files_stand k d h, files_found s.files tree.files_ascend k d h));
+      }
+
+-- one file put into another folder
+abbrev put_file : ℕ → ℕ → FileEntry → FileEntry
+put_file x q e = cond (e.id == x) (record e { folder = q }) e
+
+put_file_id : (x q : ℕ) (e : FileEntry) → (put_file x q e).id ≡ e.id
+put_file_id x q e = elim (e.id == x) as (λ b. (let z : FileEntry = cond b (record e { folder = q }) e in z.id) ≡ e.id) [ true ↦ refl | false ↦ refl ]
+
+pub file_moved : (s : Store) → IsTree s → (x q : ℕ) (p : FolderEntry) → folder_entry s q ≡ Some p → length (way_to_root s q) ≤ 64 → IsTree (with_file s x (λ e. record e { folder = q }))
+unfolding folder_entry with_file way_to_root
+file_moved s tree x q p into few =
+    let P : FileEntry → Type 0 = λ e. (p : FolderEntry) × (at s.folders e.folder ≡ Some p) × (length (way_up (length s.folders) s.folders e.folder) ≤ 64) in
+    record {
+      folders_ascend = tree.folders_ascend;
+      files_ascend = pairs_map FileEntry (λ a b. a.id < b.id) (put_file x q) (λ a b h. let u : (put_file x q a).id ≡ a.id = put_file_id x q a in let v : (put_file x q b).id ≡ b.id = put_file_id x q b in omega (arith, u, v, h)) s.files tree.files_ascend;
+      folders_made = tree.folders_made;
+      files_made = All-map (λ (e : FileEntry). (1 ≤ e.id) × (e.id ≤ s.files_made)) (put_file x q) s.files (All-weaker (λ (e : FileEntry). (1 ≤ e.id) × (e.id ≤ s.files_made)) (λ e. (1 ≤ (put_file x q e).id) × ((put_file x q e).id ≤ s.files_made)) (λ e w. let a : (put_file x q e).id ≡ e.id = put_file_id x q e in (omega (arith, a, w.0), omega (arith, a, w.1))) s.files tree.files_made);
+      root = tree.root;
+      parents_stand = tree.parents_stand;
+      ways_end = tree.ways_end;
+      files_stand = All-map P (put_file x q) s.files (All-weaker P (λ e. P (put_file x q e)) (λ e w.
+          elim (e.id == x) as (λ b. P (cond b (record e { folder = q }) e)) [ true ↦ (p, into, few) | false ↦ w ]) s.files tree.files_stand);
+    }
