@@ -8,7 +8,7 @@ use Rattle.cry_base.specs.Stepping.{with_new_folder, with_new_file}
 use Rattle.folder_nodes.specs.Trees.{IsTree}
 use Rattle.folder_nodes.proofs.Lookups.{find-append, find-front, All-found, All-push, pairs_push}
 use Rattle.folder_nodes.proofs.Treed.{rises, levels_are}
-use Rattle.folder_nodes.proofs.Ways.{at, at_id, Rises, rises_way, rises_like}
+use Rattle.folder_nodes.proofs.Upward.{at, at_id, Rises, rises_way, rises_like}
 
 -- a folder that stands was made, and its parent is one that was made or none
 pub stands_made : (s : Store) → IsTree s → (f : ℕ) (e : FolderEntry) → folder_entry s f ≡ Some e → (1 ≤ f) × (f ≤ s.folders_made)
@@ -37,8 +37,7 @@ pub parent_cases : (s : Store) → IsTree s → (f : ℕ) (e : FolderEntry) → 
 unfolding folder_entry
 parent_cases s tree f e p =
     let made = stands_made s tree f e p in
-    let root = tree.root (omega (arith, made.0, made.1)) in
-    (
+    let root = tree.root (omega (arith, made.0, made.1)) in (
       λ one. let same : root.0 ≡ e = cc (ap (λ z. at s.folders z) one) in sym (ap (λ (z : FolderEntry). z.parent) same) ∙ root.2,
       λ ne. All-found FolderEntry (λ e. e.id ≢ 1 → (p : FolderEntry) × (folder_entry s e.parent ≡ Some p)) (λ e. e.id == f) s.folders e tree.parents_stand p (λ one. ne (sym (at_id s.folders f e p) ∙ one)),
     )
@@ -73,12 +72,12 @@ grown s tree p n r few ne first stands =
     let fresh : at xs k ≡ None = nothing_at s tree k (omega arith) in
     let front : (g : ℕ) (e : FolderEntry) → at xs g ≡ Some e → at ys g ≡ Some e = λ g e q. find-front FolderEntry (λ z. z.id == g) xs (new ∷ []) e q in
     let like : (m f : ℕ) → f ≢ k → Rises xs m f → Rises ys m f =
-        rises_like xs ys (λ g. g ≢ k) (λ g apart. at_added xs new g apart) (λ g e apart q same. let made : e.parent ≤ s.folders_made = parent_made s tree g e q in omega (arith, made, same)) in
+    rises_like xs ys (λ g. g ≢ k) (λ g apart. at_added xs new g apart) (λ g e apart q same. let made : e.parent ≤ s.folders_made = parent_made s tree g e q in omega (arith, made, same)) in
     let ways : (f : ℕ) → (m : ℕ) × (m ≤ 65) × Rises ys m f = λ f.
-        (elim (f == k) as (λ b. f == k ≡ b → (m : ℕ) × (m ≤ 65) × Rises ys m f) [
-          | true ↦ λ t. let same : f ≡ k = eqb-true f k t in (suc n, omega (arith, few), subst (λ z. Rises ys (suc n) z) (sym same) (new, at_new xs new fresh, like n p ne r))
-          | false ↦ λ t. let w = rises s tree f in (w.0, w.1, like w.0 f (λ same. let u : f == k ≡ true = eq-eqb f k same in absurd (cc)) w.2)
-        ]) refl in
+    (elim (f == k) as (λ b. f == k ≡ b → (m : ℕ) × (m ≤ 65) × Rises ys m f) [
+      | true ↦ λ t. let same : f ≡ k = eqb-true f k t in (suc n, omega (arith, few), subst (λ z. Rises ys (suc n) z) (sym same) (new, at_new xs new fresh, like n p ne r))
+      | false ↦ λ t. let w = rises s tree f in (w.0, w.1, like w.0 f (λ same. let u : f == k ≡ true = eq-eqb f k same in absurd (cc)) w.2)
+    ]) refl in
     record {
       folders_ascend = pairs_push FolderEntry (λ a b. a.id < b.id) xs new tree.folders_ascend (All-weaker (λ e. (1 ≤ e.id) × (e.id ≤ s.folders_made)) (λ e. e.id < k) (λ e w. omega (arith, w.1)) xs tree.folders_made);
       files_ascend = tree.files_ascend;

@@ -1,7 +1,10 @@
 pub mod Added
+pub mod Climbing
+pub mod Heights
 pub mod Lookups
 pub mod Moved
 pub mod Removed
+pub mod Rowed
 pub mod Splitting
 pub mod Treed
-pub mod Ways
+pub mod Upward

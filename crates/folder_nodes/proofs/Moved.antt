@@ -11,7 +11,7 @@ use Rattle.cry_base.specs.declared.roles.Node.{Node}
 use Rattle.folder_nodes.specs.Trees.{IsTree}
 use Rattle.folder_nodes.proofs.Lookups.{All-found, pairs_map}
 use Rattle.folder_nodes.proofs.Treed.{rises, levels_are, depth_told, file_depth_told, within_on, within_off}
-use Rattle.folder_nodes.proofs.Ways.{at, at_id, Rises, rises_same, rises_way, rises_like}
+use Rattle.folder_nodes.proofs.Upward.{at, at_id, Rises, rises_same, rises_way, rises_like}
 
 or_left_none : (a b : Bool) → (a || b) ≡ false → (a ≡ false) × (b ≡ false)
 or_left_none true b e = absurd (cc)
@@ -35,7 +35,7 @@ fold_found X v p (x ∷ xs) a y e =
     ]) e
 
 -- how deep a node is, where it is in the folder
-pub depth_in : Store → ℕ → Node → ℕ
+unfoldable pub depth_in : Store → ℕ → Node → ℕ
 depth_in s g node = cond (is_node_within s g node) (depth_of s node) 0
 
 fold_two : (X : Type 0) (v : X → ℕ) (xs ys : List X) (a : ℕ) → fold max a (map v (xs ++ ys)) ≡ fold max (fold max a (map v xs)) (map v ys)
@@ -55,7 +55,7 @@ deepest_told s g =
     ∙ fold_map FileEntry Node v (λ e. file_node e.id) s.files (fold max 0 (map v (map (λ (e : FolderEntry). folder_node e.id) s.folders)))
     ∙ ap (λ n. fold max n (map (λ (e : FileEntry). v (file_node e.id)) s.files)) (fold_map FolderEntry Node v (λ e. folder_node e.id) s.folders 0)
 
-folder_below : (s : Store) (g f : ℕ) (e : FolderEntry) → folder_entry s f ≡ Some e → is_within s f g ≡ true → depth_of s (folder_node f) ≤ deepest s g
+pub folder_below : (s : Store) (g f : ℕ) (e : FolderEntry) → folder_entry s f ≡ Some e → is_within s f g ≡ true → depth_of s (folder_node f) ≤ deepest s g
 unfolding folder_entry depth_in is_node_within folder_node
 folder_below s g f e p within =
     let v : FolderEntry → ℕ = λ e. cond (is_within s e.id g) (depth_of s (folder_node e.id)) 0 in
@@ -78,7 +78,7 @@ file_below s g x e p same within =
     omega (arith, all, here)
 
 -- each file of ascending ones is found by its number
-files_found : (xs : List FileEntry) → AllPairs (λ (a b : FileEntry). a.id < b.id) xs → All (λ (e : FileEntry). find (λ z. z.id == e.id) xs ≡ Some e) xs
+pub files_found : (xs : List FileEntry) → AllPairs (λ (a b : FileEntry). a.id < b.id) xs → All (λ (e : FileEntry). find (λ z. z.id == e.id) xs ≡ Some e) xs
 files_found [] pairs = All-nil (λ (e : FileEntry). find (λ (z : FileEntry). z.id == e.id) [] ≡ Some e)
 files_found (x ∷ xs) pairs =
     All-cons (λ (e : FileEntry). find (λ z. z.id == e.id) (x ∷ xs) ≡ Some e) x xs
@@ -124,12 +124,12 @@ unfolding folder_entry
 rises_apart s tree g q =
     rises_like s.folders (map (put g q) s.folders) (λ f. is_within s f g ≡ false)
     (λ f out.
-        (elim (at s.folders f) as (λ o. at s.folders f ≡ o → at (map (put g q) s.folders) f ≡ o) [
-          | None ↦ λ p. at_put g q s.folders f ∙ ap (option_map (put g q)) p
-          | Some e ↦ λ p.
-              let both = or_left_none (e.id == g) (is_within s e.parent g) (sym (within_on s tree f g e p) ∙ out) in
-              at_put g q s.folders f ∙ ap (option_map (put g q)) p ∙ ap (λ b. Some (cond b (record e { parent = q }) e)) both.0
-        ]) refl)
+    (elim (at s.folders f) as (λ o. at s.folders f ≡ o → at (map (put g q) s.folders) f ≡ o) [
+      | None ↦ λ p. at_put g q s.folders f ∙ ap (option_map (put g q)) p
+      | Some e ↦ λ p.
+          let both = or_left_none (e.id == g) (is_within s e.parent g) (sym (within_on s tree f g e p) ∙ out) in
+          at_put g q s.folders f ∙ ap (option_map (put g q)) p ∙ ap (λ b. Some (cond b (record e { parent = q }) e)) both.0
+    ]) refl)
     (λ f e out p. (or_left_none (e.id == g) (is_within s e.parent g) (sym (within_on s tree f g e p) ∙ out)).1)
 
 -- a way that meets it goes on from the new parent
@@ -183,15 +183,14 @@ module _ (s : Store) (tree : IsTree s) (g q : ℕ) (eg ep : FolderEntry) (stands
       let f_below : depth_of s (folder_node f) ≤ d = folder_below s g f e here within in
       let self : is_within s g g ≡ true = within_on s tree g g eg stands ∙ ap (λ b. b || is_within s eg.parent g) (eq-eqb eg.id g (at_id s.folders g eg stands)) in
       let g_below : depth_of s (folder_node g) ≤ d = folder_below s g g eg stands self in
-      let room : depth_of s (folder_node q) + 1 + (d - depth_of s (folder_node g)) ≤ 64 = fits in
-      (
+      let room : depth_of s (folder_node q) + 1 + (d - depth_of s (folder_node g)) ≤ 64 = fits in (
         omega (arith, q_depth, g_depth, f_depth, q_some, g_some, f_some, f_below, g_below, room, sum),
         λ x ex p same folder.
-        let inside : is_within s ex.folder g ≡ true = ap (λ z. is_within s z g) folder ∙ within in
-        let x_below : depth_of s (file_node x) ≤ d = file_below s g x ex p same inside in
-        let x_depth : depth_of s (file_node x) ≡ length (way_to_root s ex.folder) - 1 + 1 = file_depth_told s x ex p in
-        let levels : length (way_to_root s ex.folder) ≡ n = ap (λ z. length (way_to_root s z)) folder ∙ levels_are s n f r in
-        omega (arith, q_depth, g_depth, x_depth, levels, q_some, g_some, f_some, x_below, g_below, room, sum),
+            let inside : is_within s ex.folder g ≡ true = ap (λ z. is_within s z g) folder ∙ within in
+            let x_below : depth_of s (file_node x) ≤ d = file_below s g x ex p same inside in
+            let x_depth : depth_of s (file_node x) ≡ length (way_to_root s ex.folder) - 1 + 1 = file_depth_told s x ex p in
+            let levels : length (way_to_root s ex.folder) ≡ n = ap (λ z. length (way_to_root s z)) folder ∙ levels_are s n f r in
+            omega (arith, q_depth, g_depth, x_depth, levels, q_some, g_some, f_some, x_below, g_below, room, sum),
       )
 
   pub folder_moved : g ≢ 1 → IsTree (with_folder s g (λ e. record e { parent = q }))
@@ -203,15 +202,15 @@ module _ (s : Store) (tree : IsTree s) (g q : ℕ) (eg ep : FolderEntry) (stands
       let wq = rises s tree q in
       let ways = ways_moved s tree g q wg.0 wq.0 eg stands wg.2 wq.2 out in
       let short : (f : ℕ) → (m : ℕ) × (m ≤ 65) × Rises ys m f = λ f.
-          let w = ways f in
-          (elim (at xs f) as (λ o. at xs f ≡ o → (m : ℕ) × (m ≤ 65) × Rises ys m f) [
-            | None ↦ λ p. (0, omega arith, at_put g q xs f ∙ ap (option_map (put g q)) p)
-            | Some e ↦ λ p.
-                (elim (is_within s f g) as (λ b. is_within s f g ≡ b → (m : ℕ) × (m ≤ 65) × Rises ys m f) [
-                  | true ↦ λ t. (w.0, (moved_fits wg.0 wq.0 w.0 w.1 f e p wg.2 wq.2 w.2 t (w.5 t)).0, w.3)
-                  | false ↦ λ t. let v = rises s tree f in let same : w.1 ≡ v.0 = rises_same xs w.1 v.0 f w.2 v.2 in let keeps : w.0 ≡ w.1 = w.4 t in (w.0, omega (arith, same, keeps, v.1), w.3)
-                ]) refl
-          ]) refl in
+      let w = ways f in
+      (elim (at xs f) as (λ o. at xs f ≡ o → (m : ℕ) × (m ≤ 65) × Rises ys m f) [
+        | None ↦ λ p. (0, omega arith, at_put g q xs f ∙ ap (option_map (put g q)) p)
+        | Some e ↦ λ p.
+            (elim (is_within s f g) as (λ b. is_within s f g ≡ b → (m : ℕ) × (m ≤ 65) × Rises ys m f) [
+              | true ↦ λ t. (w.0, (moved_fits wg.0 wq.0 w.0 w.1 f e p wg.2 wq.2 w.2 t (w.5 t)).0, w.3)
+              | false ↦ λ t. let v = rises s tree f in let same : w.1 ≡ v.0 = rises_same xs w.1 v.0 f w.2 v.2 in let keeps : w.0 ≡ w.1 = w.4 t in (w.0, omega (arith, same, keeps, v.1), w.3)
+            ]) refl
+      ]) refl in
       record {
         folders_ascend = pairs_map FolderEntry (λ a b. a.id < b.id) (put g q) (λ x y h. let a : (put g q x).id ≡ x.id = put_id g q x in let b : (put g q y).id ≡ y.id = put_id g q y in omega (arith, a, b, h)) xs tree.folders_ascend;
         files_ascend = tree.files_ascend;
@@ -222,10 +221,10 @@ module _ (s : Store) (tree : IsTree s) (g q : ℕ) (eg ep : FolderEntry) (stands
             (All-weaker (λ (e : FolderEntry). e.id ≢ 1 → (p : FolderEntry) × (at xs e.parent ≡ Some p)) (λ e. (put g q e).id ≢ 1 → (p : FolderEntry) × (at ys (put g q e).parent ≡ Some p))
             (λ e w apart.
             let put_stands : (b : Bool) → e.id == g ≡ b → (p : FolderEntry) × (at ys (let z : FolderEntry = cond b (record e { parent = q }) e in z.parent) ≡ Some p) = λ b.
-                elim b as (λ b. e.id == g ≡ b → (p : FolderEntry) × (at ys (let z : FolderEntry = cond b (record e { parent = q }) e in z.parent) ≡ Some p)) [
-                  | true ↦ λ t. at_stays g q xs q ep into
-                  | false ↦ λ t. let v = w (λ one. apart (put_id g q e ∙ one)) in at_stays g q xs e.parent v.0 v.1
-                ] in
+            elim b as (λ b. e.id == g ≡ b → (p : FolderEntry) × (at ys (let z : FolderEntry = cond b (record e { parent = q }) e in z.parent) ≡ Some p)) [
+              | true ↦ λ t. at_stays g q xs q ep into
+              | false ↦ λ t. let v = w (λ one. apart (put_id g q e ∙ one)) in at_stays g q xs e.parent v.0 v.1
+            ] in
             put_stands (e.id == g) refl) xs tree.parents_stand);
         ways_end = λ f. let w = short f in let e : length (way_up 66 ys f) ≡ w.0 = rises_way ys w.0 66 f w.2 (omega (arith, w.1)) in omega (arith, e, w.1);
         files_stand = All-weaker
@@ -236,10 +235,10 @@ module _ (s : Store) (tree : IsTree s) (g q : ℕ) (eg ep : FolderEntry) (stands
             let old : length (way_up (length xs) xs x.folder) ≡ w.1 = levels_are s w.1 x.folder w.2 in
             let young : length (way_up (length ys) ys x.folder) ≡ w.0 = levels_are (with_folder s g (λ e. record e { parent = q })) w.0 x.folder w.3 in
             let few : w.0 ≤ 64 =
-                (elim (is_within s x.folder g) as (λ b. is_within s x.folder g ≡ b → w.0 ≤ 64) [
-                  | true ↦ λ t. (moved_fits wg.0 wq.0 w.0 w.1 x.folder v.0.0 v.0.1 wg.2 wq.2 w.2 t (w.5 t)).1 x.id x (unfold file_entry in v.1) refl refl
-                  | false ↦ λ t. let keeps : w.0 ≡ w.1 = w.4 t in omega (arith, keeps, old, v.0.2)
-                ]) refl in
+            (elim (is_within s x.folder g) as (λ b. is_within s x.folder g ≡ b → w.0 ≤ 64) [
+              | true ↦ λ t. (moved_fits wg.0 wq.0 w.0 w.1 x.folder v.0.0 v.0.1 wg.2 wq.2 w.2 t (w.5 t)).1 x.id x (unfold file_entry in v.1) refl refl
+              | false ↦ λ t. let keeps : w.0 ≡ w.1 = w.4 t in omega (arith, keeps, old, v.0.2)
+            ]) refl in
             let stays = at_stays g q xs x.folder v.0.0 v.0.1 in
             (stays.0, stays.1, omega (arith, young, few))) s.files
             (λ k d h. (tree.files_stand k d h, files_found s.files tree.files_ascend k d h));

@@ -10,7 +10,7 @@ use Rattle.cry_base.specs.Stepping.{without_folder, without_file}
 use Rattle.folder_nodes.specs.Trees.{IsTree}
 use Rattle.folder_nodes.proofs.Lookups.{All-found, All-kept, All-none}
 use Rattle.folder_nodes.proofs.Treed.{rises, levels_are}
-use Rattle.folder_nodes.proofs.Ways.{at, at_id, at_others, at_itself, others, Rises, rises_way, rises_like}
+use Rattle.folder_nodes.proofs.Upward.{at, at_id, at_others, at_itself, others, Rises, rises_way, rises_like}
 
 or_none : (a b : Bool) → (a || b) ≡ false → (a ≡ false) × (b ≡ false)
 or_none true b e = absurd (cc)
@@ -28,12 +28,12 @@ folder_removed s tree f not_root childless =
     let no_folder : All (λ (e : FolderEntry). e.parent == f ≡ false) xs = All-none FolderEntry (λ e. e.parent == f) xs none.0 in
     let no_file : All (λ (e : FileEntry). e.folder == f ≡ false) s.files = All-none FileEntry (λ e. e.folder == f) s.files none.1 in
     let like : (m g : ℕ) → g ≢ f → Rises xs m g → Rises ys m g =
-        rises_like xs ys (λ g. g ≢ f) (λ g apart. at_others xs f g apart) (λ g e apart q. apart_told e.parent f (All-found FolderEntry (λ e. e.parent == f ≡ false) (λ e. e.id == g) xs e no_folder q)) in
+    rises_like xs ys (λ g. g ≢ f) (λ g apart. at_others xs f g apart) (λ g e apart q. apart_told e.parent f (All-found FolderEntry (λ e. e.parent == f ≡ false) (λ e. e.id == g) xs e no_folder q)) in
     let ways : (g : ℕ) → (m : ℕ) × (m ≤ 65) × Rises ys m g = λ g.
-        (elim (g == f) as (λ b. g == f ≡ b → (m : ℕ) × (m ≤ 65) × Rises ys m g) [
-          | true ↦ λ t. (0, omega arith, subst (λ z. at ys z ≡ None) (sym (eqb-true g f t)) (at_itself xs f))
-          | false ↦ λ t. let w = rises s tree g in (w.0, w.1, like w.0 g (apart_told g f t) w.2)
-        ]) refl in
+    (elim (g == f) as (λ b. g == f ≡ b → (m : ℕ) × (m ≤ 65) × Rises ys m g) [
+      | true ↦ λ t. (0, omega arith, subst (λ z. at ys z ≡ None) (sym (eqb-true g f t)) (at_itself xs f))
+      | false ↦ λ t. let w = rises s tree g in (w.0, w.1, like w.0 g (apart_told g f t) w.2)
+    ]) refl in
     record {
       folders_ascend = AllPairs-filter (λ (a b : FolderEntry). a.id < b.id) (λ e. not (e.id == f)) xs tree.folders_ascend;
       files_ascend = tree.files_ascend;

@@ -1,8 +1,12 @@
 //! The folder tree: who is in which folder, under which name, and what a path finds.
 #![tactic(auto)]
 
+mod changes;
 mod naming;
 mod rows;
+mod shape;
+mod ways;
 
 pub use naming::{name_ok, path_ok};
 pub use rows::{FileRow, FolderRow};
+pub use shape::Shape;

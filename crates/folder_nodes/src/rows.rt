@@ -1,5 +1,7 @@
 //! The rows of a shape: who is in which folder.
 use cry_base::{FileId, FolderId};
+use sorted_table::{Key, Ranked};
+use std::cmp::Ordering;
 
 /// A folder in the folder with the number `parent`, which is 0 for the root.
 #[derive(Clone, Copy, Debug, PartialEq, Eq)]
@@ -17,4 +19,44 @@ pub struct FileRow {
     pub id: FileId,
     /// The folder that it is in.
     pub folder: FolderId,
+}
+
+impl Ranked for FolderRow {
+    ghost rank = { λ row. row.id.0 };
+
+    fn compare(&self, other: &Self) -> Ordering {
+        self.id.0.cmp(&other.id.0)
+    }
+}
+
+impl Ranked for FileRow {
+    ghost rank = { λ row. row.id.0 };
+
+    fn compare(&self, other: &Self) -> Ordering {
+        self.id.0.cmp(&other.id.0)
+    }
+}
+
+/// The number of a folder that is looked up.
+#[derive(Drop)]
+pub(crate) struct FolderKey(pub(crate) u32);
+
+impl Key<FolderRow> for FolderKey {
+    ghost sought = { λ key. key.0 };
+
+    fn compare_row(&self, row: &FolderRow) -> Ordering {
+        row.id.0.cmp(&self.0)
+    }
+}
+
+/// The number of a file that is looked up.
+#[derive(Drop)]
+pub(crate) struct FileKey(pub(crate) u32);
+
+impl Key<FileRow> for FileKey {
+    ghost sought = { λ key. key.0 };
+
+    fn compare_row(&self, row: &FileRow) -> Ordering {
+        row.id.0.cmp(&self.0)
+    }
 }
