@@ -10,3 +10,6 @@ mod ways;
 pub use naming::{name_ok, path_ok};
 pub use rows::{FileRow, FolderRow};
 pub use shape::Shape;
+
+#[cfg(test)]
+mod tests;
