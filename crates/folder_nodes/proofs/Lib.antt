@@ -8,3 +8,4 @@ pub mod Rowed
 pub mod Splitting
 pub mod Treed
 pub mod Upward
+pub mod Walks
