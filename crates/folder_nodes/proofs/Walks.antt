@@ -4,7 +4,7 @@ use Rattle.std.specs.Prelude.{bytes_eq, is_some}
 use Rattle.std.specs.List.{All, AllPairs, list_all}
 use Rattle.std.specs.Option.{option_map, unwrap_or}
 use Rattle.std.proofs.lemmas.Bool.{eqb-true, eq-eqb, ne_eqb, false≢true, and_parts, and_from}
-use Rattle.std.proofs.lemmas.List.Elements.{All-nil, All-cons, All-weaker}
+use Rattle.std.proofs.lemmas.List.Elements.{All-nil, All-cons, All-head, All-tail, All-weaker}
 use lib.Pointwise.{pointwise_decides}
 use Rattle.cry_base.specs.Naming.{is_name, is_path, names_of, spell_path}
 use Rattle.cry_base.specs.Sets.{In}
@@ -97,8 +97,7 @@ folder_walked s named (suc n) f e r p =
           let above = folder_walked s named n e.parent up.0 way up.1 in
           let id : e.id ≡ f = at_id s.folders f e p in
           let own = All-found FolderEntry (λ (e : FolderEntry). e.id ≢ 1 → IsTrue (is_name e.name) × (child_of s e.parent e.name ≡ Some (folder_node e.id))) (λ e. e.id == f) s.folders e named.folder_names p (λ one. apart (sym id ∙ one)) in
-          let names : folder_names s f ≡ folder_names s e.parent ++ e.name ∷ [] = names_on s named.tree f e up.0 p up.1 in
-          (
+          let names : folder_names s f ≡ folder_names s e.parent ++ e.name ∷ [] = names_on s named.tree f e up.0 p up.1 in (
             ap (walk s 1) names ∙ walk_append s 1 e.parent (folder_names s e.parent) (e.name ∷ []) above.0 ∙ walk_one s e.parent e.name (folder_node f) (own.1 ∙ ap (λ z. Some (folder_node z)) id),
             ap (list_all is_name) names ∙ all_push (List ℕ) is_name (folder_names s e.parent) e.name above.1 own.0,
           )
@@ -112,8 +111,7 @@ file_walked s named x e p id =
     let place = All-found FileEntry (λ (e : FileEntry). (q : FolderEntry) × (folder_entry s e.folder ≡ Some q) × (length (way_to_root s e.folder) ≤ 64)) (λ e. e.id == x) s.files e named.tree.files_stand p in
     let way = rises s named.tree e.folder in
     let above = folder_walked s named way.0 e.folder place.0 way.2 place.1 in
-    let names : node_names s (file_node x) ≡ folder_names s e.folder ++ e.name ∷ [] = file_names_are s x e p in
-    (
+    let names : node_names s (file_node x) ≡ folder_names s e.folder ++ e.name ∷ [] = file_names_are s x e p in (
       ap (walk s 1) names ∙ walk_append s 1 e.folder (folder_names s e.folder) (e.name ∷ []) above.0 ∙ walk_one s e.folder e.name (file_node x) (own.1 ∙ ap (λ z. Some (file_node z)) id),
       ap (list_all is_name) names ∙ all_push (List ℕ) is_name (folder_names s e.folder) e.name above.1 own.0,
     )
@@ -169,11 +167,10 @@ folder_ends s named f e stands n g p =
     let w = found_in FolderEntry (λ e. e.parent == f && bytes_eq e.name n) s.folders g p in
     let both = and_parts (g.parent == f) (bytes_eq g.name n) w.1 in
     let parent : g.parent ≡ f = eqb-true g.parent f both.0 in
-    let entry = All-found FolderEntry (λ (e : FolderEntry). find (λ z. z.id == e.id) s.folders ≡ Some e) (λ e. e.parent == f && bytes_eq e.name n) s.folders g (folders_found s.folders named.tree.folders_ascend) p in
-    (
+    let entry = All-found FolderEntry (λ (e : FolderEntry). find (λ z. z.id == e.id) s.folders ≡ Some e) (λ e. e.parent == f && bytes_eq e.name n) s.folders g (folders_found s.folders named.tree.folders_ascend) p in (
       entry,
       names_on s named.tree g.id g e entry (subst (λ z. at s.folders z ≡ Some e) (sym parent) stands)
-      ∙ ap (λ z. folder_names s z ++ g.name ∷ []) parent ∙ ap (λ z. folder_names s f ++ z ∷ []) (bytes_told g.name n both.1),
+          ∙ ap (λ z. folder_names s z ++ g.name ∷ []) parent ∙ ap (λ z. folder_names s f ++ z ∷ []) (bytes_told g.name n both.1),
     )
 
 entry_id : (s : Store) (f : ℕ) (e : FolderEntry) → folder_entry s f ≡ Some e → e.id ≡ f
@@ -209,3 +206,82 @@ walk_ends s named (n ∷ ns) f e stands node w =
     ends_on s named f e stands n ns (λ g eg p node q. walk_ends s named ns g eg p node q)
     (find (λ (e : FolderEntry). e.parent == f && bytes_eq e.name n) s.folders) refl
     (find (λ (e : FileEntry). e.folder == f && bytes_eq e.name n) s.files) refl node w
+
+All-in : (X : Type 0) (P : X → Type 0) (xs : List X) (x : X) → All P xs → In x xs → P x
+All-in X P [] x all i = absurd i
+All-in X P (y ∷ xs) x all i = ⊎_elim (λ (e : x ≡ y). subst P (sym e) (All-head P y xs all)) (λ r. All-in X P xs x (All-tail P y xs all) r) i
+
+-- what stands is where its names lead; and where anything stands the root does
+Led : Store → Node → Type 0
+Led s node = (walk s 1 (node_names s node) ≡ Some node) × (list_all is_name (node_names s node) ≡ true) × (is_some (folder_entry s 1) ≡ true)
+
+root_stands : (s : Store) → IsNamedTree s → (f : ℕ) (e : FolderEntry) → folder_entry s f ≡ Some e → is_some (folder_entry s 1) ≡ true
+root_stands s named f e p =
+    let made = stands_made s named.tree f e p in
+    let w = named.tree.root (omega (arith, made.0, made.1)) in
+    ap (λ (o : Option FolderEntry). is_some o) w.1
+
+node_led : (s : Store) → IsNamedTree s → (node : Node) → In node (nodes_of s) → Led s node
+unfolding Led nodes_of folder_entry file_entry node_names folder_node
+node_led s named node i = ⊎_elim
+    (λ a.
+    let w = (In-map FolderEntry Node (λ e. folder_node e.id) node s.folders).0 a in
+    let entry : at s.folders w.0.id ≡ Some w.0 = All-in FolderEntry (λ (e : FolderEntry). find (λ z. z.id == e.id) s.folders ≡ Some e) s.folders w.0 (folders_found s.folders named.tree.folders_ascend) w.1 in
+    let way = rises s named.tree w.0.id in
+    let told = folder_walked s named way.0 w.0.id w.0 way.2 entry in
+    subst (λ z. Led s z) (sym w.2) (told.0, told.1, root_stands s named w.0.id w.0 entry))
+    (λ b.
+    let w = (In-map FileEntry Node (λ e. file_node e.id) node s.files).0 b in
+    let entry : find (λ (z : FileEntry). z.id == w.0.id) s.files ≡ Some w.0 = All-in FileEntry (λ (e : FileEntry). find (λ z. z.id == e.id) s.files ≡ Some e) s.files w.0 (files_found s.files named.tree.files_ascend) w.1 in
+    let told = file_walked s named w.0.id w.0 entry refl in
+    let place = All-found FileEntry (λ (e : FileEntry). (q : FolderEntry) × (at s.folders e.folder ≡ Some q) × (length (way_to_root s e.folder) ≤ 64)) (λ e. e.id == w.0.id) s.files w.0 named.tree.files_stand entry in
+    subst (λ z. Led s z) (sym w.2) (told.0, told.1, root_stands s named w.0.folder place.0 place.1))
+    ((In-append Node node (map (λ (e : FolderEntry). folder_node e.id) s.folders) (map (λ (e : FileEntry). file_node e.id) s.files)).0 i)
+
+walked_found : (s : Store) → IsNamedTree s → (path : List ℕ) (node : Node) → node_at s path ≡ Some node → Some node ≡ walked s path
+unfolding walked Led path_of
+walked_found s named path node e =
+    let told = node_found s path node e in
+    let led = node_led s named node told.0 in
+    let spelled : path ≡ spell_path (node_names s node) = sym told.1 in
+    let form : is_path path ≡ true = (path_told path).1 (node_names s node, led.1, spelled) in
+    let names : names_of path ≡ node_names s node = ap names_of spelled ∙ names_told (node_names s node) led.1 in
+    sym (ap (λ b. cond (b && is_some (folder_entry s 1)) (walk s 1 (names_of path)) None) form
+    ∙ ap (λ b. cond b (walk s 1 (names_of path)) None) led.2
+    ∙ ap (walk s 1) names ∙ led.0)
+
+path_spelled : (s : Store) (node : Node) (names : List (List ℕ)) → node_names s node ≡ names → path_of s node ≡ spell_path names
+unfolding path_of
+path_spelled s node names e = ap spell_path e
+
+walked_lost : (s : Store) → IsNamedTree s → (path : List ℕ) → node_at s path ≡ None → None ≡ walked s path
+unfolding walked
+walked_lost s named path e =
+    (elim (is_path path) as (λ b. is_path path ≡ b → None ≡ cond (b && is_some (folder_entry s 1)) (walk s 1 (names_of path)) None) [
+      | false ↦ λ t. refl
+      | true ↦ λ t.
+          (elim (folder_entry s 1) as (λ o. folder_entry s 1 ≡ o → None ≡ cond (is_some o) (walk s 1 (names_of path)) None) [
+            | None ↦ λ p. refl
+            | Some root ↦ λ p. no_walk root p t (walk s 1 (names_of path)) refl
+          ]) refl
+    ]) refl
+  where
+    no_walk : (root : FolderEntry) → folder_entry s 1 ≡ Some root → is_path path ≡ true → (o : Option Node) → walk s 1 (names_of path) ≡ o → None ≡ o
+    no_walk root p t None w = refl
+    no_walk root p t (Some node) w =
+        let ends = walk_ends s named (names_of path) 1 root p node w in
+        let spelled = (path_told path).0 t in
+        let names : names_of path ≡ spelled.0 = ap names_of spelled.2 ∙ names_told spelled.0 spelled.1 in
+        let here : node_names s node ≡ spelled.0 = ends.1 ∙ ap (λ l. l ++ names_of path) (names_root s named.tree root p) ∙ names in
+        let other = node_finds s node ends.0 in
+        let same : path_of s node ≡ path = path_spelled s node spelled.0 here ∙ sym spelled.2 in
+        let found : node_at s path ≡ Some other.0 = ap (node_at s) (sym same) ∙ other.1 in
+        absurd (cc)
+
+-- a path finds what a walk along it finds
+pub walked_told : (s : Store) → IsNamedTree s → (path : List ℕ) → node_at s path ≡ walked s path
+walked_told s named path =
+    (elim (node_at s path) as (λ o. node_at s path ≡ o → o ≡ walked s path) [
+      | None ↦ λ e. walked_lost s named path e
+      | Some node ↦ λ e. walked_found s named path node e
+    ]) refl

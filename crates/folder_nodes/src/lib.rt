@@ -2,6 +2,7 @@
 #![tactic(auto)]
 
 mod changes;
+pub mod laws;
 mod naming;
 mod rows;
 mod shape;
