@@ -1,5 +1,8 @@
 pub mod Epochs
+pub mod BatchLemmas
+pub mod CommitLemmas
 pub mod Followed
+pub mod JournalLemmas
 pub mod Judged
 pub mod KeptLemmas
 pub mod Pieces

@@ -11,3 +11,5 @@ pub mod Gates
 pub mod Holding
 pub mod Publishing
 pub mod Standing
+pub mod Committing
+pub mod Journals

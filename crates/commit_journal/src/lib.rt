@@ -1,9 +1,12 @@
 //! The log of batches in a store file: what each of them is, and how it is read (docs/FORMAT.md, "The file").
 #![tactic(auto)]
 
+mod batch;
 mod batch_type;
+mod commit_fault;
 mod fault;
 mod head;
+mod journal;
 mod judge;
 mod keeping;
 mod laws;
@@ -13,9 +16,12 @@ mod placed;
 mod places;
 mod reading;
 mod standing;
+mod steps;
 
 pub use batch_type::BatchType;
+pub use commit_fault::CommitFault;
 pub use fault::OpenFault;
+pub use journal::Journal;
 pub use keeping::{
     holding_is_widened, kept_at_the_start, kept_by_two_calls, settled_disk_holds, time_goes_on,
 };

@@ -2,6 +2,7 @@
 ghost use Rattle.std.specs.Prelude.{◌≡◌, length, IfOk};
 
 mod fresh;
+mod writing;
 
 use super::*;
 use chacha_seal::{Key, OwnerK};

@@ -1,0 +1,22 @@
+use Rattle.std.proofs.Common.{◌∙◌, rules}
+use Rattle.std.proofs.lemmas.Result.{on_ok_weaker}
+use Rattle.cry_io.proofs.ToldLemmas.{told_again}
+use Rattle.commit_journal.proofs.CommitLemmas.{committed}
+use Rattle.commit_journal.proofs.steps.append.Goals as goal
+
+pub returns-clause-committed : goal.returns-clause-committed
+returns-clause-committed g c =
+    let shown = g.D.Disk.shown in
+    on_ok_weaker c.unveil.result
+    (λ third. λ x y was is. λ front behind gate ends split.
+    let one = told_again (shown c.args.disk.now) (shown c.stage.new.disk) x c.in_ok-stage.ensures.told was in
+    let two = told_again (shown c.stage.new.disk) (shown c.open_gate.new.disk) one.0 c.in_ok-open_gate.ensures.told one.1 in
+    committed c.args.end gate front behind c.args.batch.now c.args.veil.now x one.0 two.0 y
+    ends
+    c.requires.whole
+    (search rules)
+    split
+    (c.in_ok-stage.ensures.written x one.0 was one.1)
+    (c.in_ok-open_gate.ensures.written one.0 two.0 one.1 two.1)
+    (third two.0 y two.1 is))
+    c.unveil.ensures.written

@@ -1,0 +1,287 @@
+//! A journal that is open for writing: it knows what its next batch follows, and commits it.
+ghost use Rattle.std.specs.Prelude.{◌≡◌, ◌↔◌, ◌+◌, ◌-◌, ◌*◌, ◌<◌, ◌≤◌, ◌^◌, [], ◌∷◌, ◌++◌, codes, false, if◌then◌else◌, is_some, None, Some, Err, IfOk, IfErr, OnOk, MatchResult, IsTrue};
+ghost use Rattle.cry_io.specs.Counts.{CountsFault};
+ghost use Rattle.cry_io.specs.Stops.{IsDurable};
+ghost use Rattle.cry_io.specs.Told.{WhereTold};
+ghost use Rattle.record_format.specs.Plain.{plain_payload};
+ghost use Rattle.record_format.specs.Sizes.{payload_size};
+ghost use Rattle.record_format.specs.Spellable.{IsSpellable};
+ghost use Rattle.record_format.specs.Spelling.{spell_payload};
+ghost use Rattle.commit_journal.specs.Image.{image};
+ghost use Rattle.commit_journal.specs.Journals as journals;
+
+use crate::CommitFault;
+use crate::batch::{EPOCH_BATCH_LEN, EpochBatch, command_batch, epoch_batch};
+use crate::head::BATCH_LEN;
+use crate::past::Past;
+use crate::steps::{append, write_and_sync};
+use chacha_seal::{Key, OwnerK, check_of, veil_key};
+use cry_base::{Epoch, Limits, List, Mem, OutOfMemory, Text};
+use cry_io::Disk;
+use record_format::{Payload, payload_len};
+use std::alloc::Global;
+use std::marker::Model;
+use std::mem;
+
+const HEADER_LEN: usize = 42;
+
+const CLOSED: u8 = 0;
+
+/// The log of a store, to whose end batches are committed. It keeps nothing of a batch but the place where it begins.
+#[derive(Drop)]
+pub struct Journal {
+    alloc: Global,
+    owner: Key<OwnerK>,
+    past: Past,
+    begun: bool,
+    closed: bool,
+    limit: u64,
+    starts: List<u64>,
+    batch: Text,
+}
+
+impl Model for Journal {
+    ghost use Rattle.std.specs.Prelude.{◌≡◌, ◌+◌, ◌-◌, ◌*◌, ◌≤◌, []};
+    ghost use Rattle.commit_journal.specs.Journals.{JournalState};
+
+    ghost Value = { JournalState };
+
+    ghost view = { λ j. record {
+      owner = j.owner.bytes;
+      batches = j.past.number;
+      epoch = j.past.epoch.0;
+      has_epoch = j.begun;
+      end = j.past.at;
+      tag = j.past.tag;
+      limit = j.limit;
+      is_closed = j.closed;
+      spare = j.starts.spare;
+      room = j.batch.spare - 110;
+    } };
+
+    ghost invariant = { λ j. (42 + 110 * j.past.number ≤ j.past.at) × (j.past.at ≤ 268435456)
+        × (j.past.epoch.0 ≤ j.past.number) × (j.limit ≤ 268435456) × (j.batch.items ≡ []) };
+}
+
+fn header(check: &[u8; 32]) -> [u8; HEADER_LEN]
+    ensures { result ≡ (codes "CRYPTREE" ++ 1 ∷ check.now) ++ 0 ∷ [] }
+{
+    let mut header = [0; HEADER_LEN];
+    header[..8].copy_from_slice(b"CRYPTREE");
+    header[8] = 1;
+    header[9..41].copy_from_slice(check);
+    header
+}
+
+fn epoch_len(has_epoch: bool) -> u64
+    ensures { result ≡ (if has_epoch then 0 else 110) }
+{
+    if has_epoch { 0 } else { BATCH_LEN }
+}
+
+impl Journal {
+    /// Makes the journal of a store without batches on an empty disk: its header, behind which the gate is closed.
+    ///
+    /// `DiskFault` comes only where the disk's faults rose in this call; the disk is then to be thrown away. Another fault
+    /// never comes.
+    pub fn make<D: Disk>(
+        alloc: Global,
+        disk: &mut D,
+        owner: &Key<OwnerK>,
+        limits: Limits,
+    ) -> Result<Journal, CommitFault>
+        requires blank { D.size_of disk.old ≡ 0 }
+        requires fits { 42 ≤ limits.store_bytes }
+        requires known { limits.store_bytes ≤ 268435456 }
+        ensures state { IfOk result (λ j. j ≡ journals.empty_journal owner.now.bytes limits.store_bytes j) }
+        ensures stands { IfOk result (journals.IsJournalOf []) }
+        ensures shows { OnOk result (WhereTold (D.shown disk.new) (λ s. s ≡ image owner.now.bytes [] ++ 0 ∷ [])) }
+        ensures durable { OnOk result (IsDurable (D.may_leave disk.new) (D.shown disk.new)) }
+        ensures size { OnOk result (D.size_of disk.new ≡ 42) }
+        ensures told { is_some (D.shown disk.new) ≡ is_some (D.shown disk.old) }
+        ensures fault { IfErr result (λ fault. fault ≡ CommitFault.DiskFault) }
+        ensures counts { CountsFault result (D.faults disk.old) (D.faults disk.new) }
+    {
+        let check = check_of(owner.bytes());
+        let Ok(()) = write_and_sync(disk, 0, &header(&check)) else {
+            return Err(CommitFault::DiskFault);
+        };
+        Ok(Journal {
+            alloc,
+            owner: Key::owner(*owner.bytes()),
+            past: Past {
+                at: HEADER_LEN as u64,
+                number: 0,
+                epoch: Epoch(0),
+                tag: check,
+                gate: CLOSED,
+            },
+            begun: false,
+            closed: false,
+            limit: limits.store_bytes,
+            starts: List::new(alloc),
+            batch: List::new(alloc),
+        })
+    }
+
+    /// Whether this journal has begun an epoch: the commands that it commits stand in it.
+    pub fn has_epoch(&self) -> bool
+        ensures { result ≡ self.now.has_epoch }
+    {
+        self.begun
+    }
+
+    /// Whether a command with a payload of so many bytes ends within the store limit, and the epoch that it still needs.
+    pub fn fits(&self, payload: u64) -> bool
+        ensures { IsTrue result ↔ (journals.end_with self.now payload ≤ self.now.limit) }
+    {
+        let least = self.past.at + BATCH_LEN + epoch_len(self.begun);
+        least <= self.limit && payload <= self.limit - least
+    }
+
+    /// Takes the memory for two batches, of which one has a payload of so many bytes.
+    pub fn prepare(&mut self, payload: u64) -> Mem<()>
+        ensures state { self.new ≡ record self.old { spare = self.new.spare; room = self.new.room } }
+        ensures spare { OnOk result (2 ≤ self.new.spare) }
+        ensures room { OnOk result (payload ≤ self.new.room) }
+        ensures spare_kept { self.old.spare ≤ self.new.spare }
+        ensures room_kept { self.old.room ≤ self.new.room }
+    {
+        let Some(bytes) = payload.checked_add(BATCH_LEN) else {
+            return Err(OutOfMemory);
+        };
+        self.starts.reserve(2)?;
+        self.batch.reserve(bytes as usize)
+    }
+
+    fn refusal(&self, payload: u64) -> Option<CommitFault>
+        requires { payload < 2 ^ 63 }
+        ensures { result ≡ journals.refusal self.now payload }
+    {
+        let need = BATCH_LEN + payload;
+        if self.closed {
+            return Some(CommitFault::Closed);
+        }
+        if self.limit < self.past.at + need {
+            return Some(CommitFault::Full {
+                need,
+                left: self.limit.saturating_sub(self.past.at),
+            });
+        }
+        None
+    }
+
+    /// Commits a batch that begins the next epoch, and answers that epoch. It takes no memory.
+    ///
+    /// `Closed` comes exactly where an earlier call of this journal answered `DiskFault`, and else `Full` exactly where the
+    /// batch would end past the store limit; nothing is changed by either. `DiskFault` comes only where the disk's faults
+    /// rose in this call, and closes the journal. `OutOfMemory` never comes.
+    pub fn begin_epoch<D: Disk>(&mut self, disk: &mut D) -> Result<Epoch, CommitFault>
+        requires spare { 1 ≤ self.old.spare }
+        requires inside { self.old.is_closed ≡ false → self.old.end ≤ D.size_of disk.old }
+        ensures refused { (fault : CommitFault) → journals.refusal self.old 0 ≡ Some fault →
+            (result ≡ Err fault) × (self.new ≡ self.old) × (disk.new ≡ disk.old) }
+        ensures taken { journals.refusal self.old 0 ≡ None → IfErr result (λ fault. fault ≡ CommitFault.DiskFault) }
+        ensures behind { OnOk result (journals.IsBehind (journals.next_epoch self.old) self.old self.new) }
+        ensures joined { OnOk result (journals.Joins (journals.next_epoch self.old) self.old self.new (D.shown disk.old) (D.shown disk.new)) }
+        ensures epoch { IfOk result (λ epoch. epoch.0 ≡ self.old.epoch + 1) }
+        ensures begun { OnOk result (IsTrue self.new.has_epoch) }
+        ensures spare { MatchResult result (λ _. self.old.spare ≤ self.new.spare + 1) (λ _. self.new.spare ≡ self.old.spare) }
+        ensures room { self.new.room ≡ self.old.room }
+        ensures owner { self.new.owner ≡ self.old.owner }
+        ensures durable { OnOk result (IsDurable (D.may_leave disk.new) (D.shown disk.new)) }
+        ensures inside { OnOk result (self.new.end ≤ D.size_of disk.new) }
+        ensures told { is_some (D.shown disk.new) ≡ is_some (D.shown disk.old) }
+        ensures counts { D.faults disk.old ≤ D.faults disk.new }
+        ensures disk_fault { result ≡ Err CommitFault.DiskFault → (D.faults disk.old < D.faults disk.new) × IsTrue self.new.is_closed }
+    {
+        if let Some(fault) = self.refusal(0) {
+            return Err(fault);
+        }
+        let end = self.past.at;
+        let number = self.past.number + 1;
+        let epoch = Epoch(self.past.epoch.0 + 1);
+        let veil = veil_key(&self.owner, epoch, number);
+        let EpochBatch { bytes, tag } = epoch_batch(
+            &self.owner,
+            &self.past.tag,
+            &veil,
+            number,
+            epoch,
+        );
+        let Ok(()) = append(disk, end, &bytes, &veil) else {
+            self.closed = true;
+            return Err(CommitFault::DiskFault);
+        };
+        self.starts.put(end);
+        self.past = Past {
+            at: end + EPOCH_BATCH_LEN as u64,
+            number,
+            epoch,
+            tag,
+            gate: CLOSED,
+        };
+        self.begun = true;
+        Ok(epoch)
+    }
+
+    /// Commits a command, in the epoch that this journal began last. It takes no memory: `prepare` took it.
+    ///
+    /// `Closed` comes exactly where an earlier call of this journal answered `DiskFault`, and else `Full` exactly where the
+    /// batch would end past the store limit; nothing is changed by either. `DiskFault` comes only where the disk's faults
+    /// rose in this call, and closes the journal. `OutOfMemory` never comes.
+    pub fn commit<D: Disk>(&mut self, disk: &mut D, payload: &Payload) -> Result<(), CommitFault>
+        requires begun { IsTrue self.old.has_epoch }
+        requires spellable { IsSpellable (plain_payload payload.now) }
+        requires spare { 1 ≤ self.old.spare }
+        requires room { payload_size (plain_payload payload.now) ≤ self.old.room }
+        requires inside { self.old.is_closed ≡ false → self.old.end ≤ D.size_of disk.old }
+        ensures refused { (fault : CommitFault) → journals.refusal self.old (payload_size (plain_payload payload.now)) ≡ Some fault →
+            (result ≡ Err fault) × (self.new ≡ self.old) × (disk.new ≡ disk.old) }
+        ensures taken { journals.refusal self.old (payload_size (plain_payload payload.now)) ≡ None →
+            IfErr result (λ fault. fault ≡ CommitFault.DiskFault) }
+        ensures behind { OnOk result (journals.IsBehind (journals.next_command self.old (spell_payload (plain_payload payload.now))) self.old self.new) }
+        ensures joined { OnOk result (journals.Joins (journals.next_command self.old (spell_payload (plain_payload payload.now)))
+            self.old self.new (D.shown disk.old) (D.shown disk.new)) }
+        ensures begun { self.new.has_epoch ≡ self.old.has_epoch }
+        ensures spare { MatchResult result (λ _. self.old.spare ≤ self.new.spare + 1) (λ _. self.new.spare ≡ self.old.spare) }
+        ensures owner { self.new.owner ≡ self.old.owner }
+        ensures durable { OnOk result (IsDurable (D.may_leave disk.new) (D.shown disk.new)) }
+        ensures inside { OnOk result (self.new.end ≤ D.size_of disk.new) }
+        ensures told { is_some (D.shown disk.new) ≡ is_some (D.shown disk.old) }
+        ensures counts { D.faults disk.old ≤ D.faults disk.new }
+        ensures disk_fault { result ≡ Err CommitFault.DiskFault → (D.faults disk.old < D.faults disk.new) × IsTrue self.new.is_closed }
+    {
+        let size = payload_len(payload);
+        if let Some(fault) = self.refusal(size) {
+            return Err(fault);
+        }
+        let end = self.past.at;
+        let number = self.past.number + 1;
+        let epoch = self.past.epoch;
+        let veil = veil_key(&self.owner, epoch, number);
+        let mut batch = mem::replace(&mut self.batch, List::new(self.alloc));
+        let tag = command_batch(
+            &self.owner,
+            &self.past.tag,
+            &veil,
+            number,
+            epoch,
+            payload,
+            &mut batch,
+        );
+        let Ok(()) = append(disk, end, batch.as_slice(), &veil) else {
+            self.closed = true;
+            return Err(CommitFault::DiskFault);
+        };
+        self.starts.put(end);
+        self.past = Past {
+            at: end + (BATCH_LEN + size),
+            number,
+            epoch,
+            tag,
+            gate: CLOSED,
+        };
+        Ok(())
+    }
+}
