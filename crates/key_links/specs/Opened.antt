@@ -4,7 +4,7 @@ use Rattle.chacha_seal.specs.Keys.{KeyParts}
 use Rattle.chacha_seal.specs.Sealing.{sealed, seal_tag}
 use Rattle.record_format.specs.declared.content.ContentRecord.{ContentRecord}
 use Rattle.record_format.specs.declared.link.LinkRecord.{LinkRecord}
-use Rattle.record_format.specs.Plain.{PlainContent, plain_content}
+use Rattle.record_format.specs.Plain.{PlainContent}
 use Rattle.record_format.specs.Spelling.{link_head, content_head}
 
 -- the link has this kind, and leads on from this key

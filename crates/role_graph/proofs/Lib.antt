@@ -7,3 +7,4 @@ pub mod Rightful
 pub mod Rising
 pub mod Typing
 pub mod RowsOfEdges
+pub mod Typing

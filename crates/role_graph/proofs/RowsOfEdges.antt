@@ -1,5 +1,5 @@
 -- The kinds of edges are the rows of the table.
-use Rattle.std.proofs.Common.{◌≡◌, ℕ, List, [], ◌∷◌, inl, inr, ⊎_elim, refl, sym, subst}
+use Rattle.std.proofs.Common.{◌≡◌, ℕ, [], ◌∷◌, inl, inr, ⊎_elim, refl, sym, subst}
 use Rattle.cry_base.specs.Sets.{In}
 use Rattle.cry_base.specs.Store.{Store, FolderEntry, FileEntry, GrantEntry, root_store}
 use Rattle.cry_base.specs.declared.roles.Edge.{Edge}
@@ -71,7 +71,7 @@ leaf = record { id = 1; folder = 2; name = []; bytes = [] }
 small : Store
 small = record root_store { folders = top ∷ child ∷ []; grants = given ∷ []; files = leaf ∷ [] }
 
-abbrev pub HasEdge : Row → Type 0
+abbrev HasEdge : Row → Type 0
 HasEdge r = (s : Store) × (e : Edge) × In e (edges s) × (row_of e ≡ r)
 
 has_edge : (e : Edge) → IsEdge small e → HasEdge (row_of e)

@@ -1,4 +1,4 @@
-use Rattle.std.proofs.Common.{◌≡◌, ℕ, List, length, sym, ap, ◌∙◌}
+use Rattle.std.proofs.Common.{◌≡◌, length, sym, ap, ◌∙◌}
 use Rattle.chacha_seal.specs.Sealing.{sealed, seal_tag}
 use Rattle.chacha_seal.proofs.SealingLemmas.{length-sealed}
 use Rattle.record_format.specs.Plain.{plain_content}
