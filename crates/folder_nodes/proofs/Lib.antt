@@ -3,9 +3,11 @@ pub mod Climbing
 pub mod Heights
 pub mod Lookups
 pub mod Moved
+pub mod Placing
 pub mod Removed
 pub mod Rowed
 pub mod Splitting
+pub mod Titled
 pub mod Treed
 pub mod Upward
 pub mod Walks

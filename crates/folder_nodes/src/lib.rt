@@ -3,11 +3,14 @@
 
 mod changes;
 pub mod laws;
+mod names;
 mod naming;
 mod rows;
 mod shape;
+mod titles;
 mod ways;
 
+pub use names::Names;
 pub use naming::{name_ok, path_ok};
 pub use rows::{FileRow, FolderRow};
 pub use shape::Shape;
