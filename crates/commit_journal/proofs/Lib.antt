@@ -5,6 +5,7 @@ pub mod Followed
 pub mod JournalLemmas
 pub mod Judged
 pub mod KeptLemmas
+pub mod OwnedLemmas
 pub mod Pieces
 pub mod Spelled
 pub mod Standings

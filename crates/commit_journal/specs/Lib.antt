@@ -13,3 +13,4 @@ pub mod Publishing
 pub mod Standing
 pub mod Committing
 pub mod Journals
+pub mod Opening

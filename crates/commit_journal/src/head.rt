@@ -7,6 +7,7 @@
 ghost use Rattle.std.specs.Prelude.{◌≡◌, ◌+◌, ◌≤◌, ◌^◌, slice_range, IsTrue};
 ghost use Rattle.std.specs.Int.{w32, from_be_bytes};
 ghost use Rattle.commit_journal.specs.Log as log;
+ghost use Rattle.commit_journal.specs.Opening as opening;
 
 use crate::past::Past;
 use cry_base::Epoch;
@@ -67,6 +68,7 @@ pub(crate) fn is_batch(past: &Past, head: &Head, left: u64) -> bool
     ensures exact { result ≡ log.is_batch past.now head.now left }
     ensures inside { IsTrue result → 110 + head.now.size ≤ left }
     ensures small { IsTrue result → past.now.at + (110 + head.now.size) ≤ 268435456 }
+    ensures next { IsTrue result → opening.IsNext past.now head.now }
 {
     let len = BATCH_LEN + u64::from(head.size);
     len <= left

@@ -9,6 +9,7 @@ ghost use Rattle.record_format.specs.Spellable.{IsSpellable};
 ghost use Rattle.record_format.specs.Spelling.{spell_payload};
 ghost use Rattle.commit_journal.specs.Image.{image};
 ghost use Rattle.commit_journal.specs.Journals as journals;
+ghost use Rattle.commit_journal.specs.Opening as opening;
 
 use crate::CommitFault;
 use crate::batch::{EPOCH_BATCH_LEN, EpochBatch, command_batch, epoch_batch};
@@ -122,6 +123,29 @@ impl Journal {
             starts: List::new(alloc),
             batch: List::new(alloc),
         })
+    }
+
+    /// A journal that goes on behind a log. It takes no memory.
+    pub(crate) fn behind(
+        alloc: Global,
+        owner: &Key<OwnerK>,
+        past: Past,
+        store_bytes: u64,
+    ) -> Journal
+        requires room { opening.HasRoom past }
+        requires known { store_bytes ≤ 268435456 }
+        ensures { result ≡ opening.journal_behind owner.now.bytes store_bytes past result }
+    {
+        Journal {
+            alloc,
+            owner: Key::owner(*owner.bytes()),
+            past,
+            begun: false,
+            closed: false,
+            limit: store_bytes,
+            starts: List::new(alloc),
+            batch: List::new(alloc),
+        }
     }
 
     /// Whether this journal has begun an epoch: the commands that it commits stand in it.

@@ -23,7 +23,7 @@ use std::alloc::Global;
 
 const SLOT: usize = 13;
 
-const PAYLOAD: usize = 45;
+pub(crate) const PAYLOAD: usize = 45;
 
 const EPOCH: u8 = 2;
 
@@ -37,7 +37,7 @@ pub(crate) struct Turn {
     pub(crate) past: Past,
 }
 
-fn array_at(bytes: &[u8], from: usize) -> [u8; 32]
+pub(crate) fn array_at(bytes: &[u8], from: usize) -> [u8; 32]
     requires { from + 32 ≤ length bytes.now }
     ensures { result ≡ slice_range bytes.now from (from + 32) }
 {
@@ -47,7 +47,12 @@ fn array_at(bytes: &[u8], from: usize) -> [u8; 32]
 }
 
 #[tactic(auto, unfolding(crate::specs::Log::tag_due))]
-fn tag_due(owner: &Key<OwnerK>, previous: &[u8; 32], size: usize, batch: &[u8]) -> [u8; 32]
+pub(crate) fn tag_due(
+    owner: &Key<OwnerK>,
+    previous: &[u8; 32],
+    size: usize,
+    batch: &[u8],
+) -> [u8; 32]
     requires { length batch.now ≡ 110 + size }
     ensures { result ≡ log.tag_due owner.now.bytes previous.now size batch.now }
 {
@@ -61,7 +66,7 @@ fn tag_due(owner: &Key<OwnerK>, previous: &[u8; 32], size: usize, batch: &[u8]) 
 
 /// Takes the veil away from a payload, and reads it.
 #[tactic(auto, unfolding(crate::specs::Log::body_of))]
-fn body_of(
+pub(crate) fn body_of(
     alloc: Global,
     past: &Past,
     head: &Head,
@@ -125,7 +130,7 @@ fn judge_published(
     Ok(Some(turn_of(past, head, body, tag, gate)))
 }
 
-fn turn_of(past: &Past, head: &Head, body: Body, tag: [u8; 32], gate: u8) -> Turn
+pub(crate) fn turn_of(past: &Past, head: &Head, body: Body, tag: [u8; 32], gate: u8) -> Turn
     requires behind { 42 ≤ past.now.at }
     requires fits { past.now.at + (110 + head.now.size) ≤ 268435456 }
     requires size { HasSize head.now.size body }

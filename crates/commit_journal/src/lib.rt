@@ -11,6 +11,8 @@ mod judge;
 mod keeping;
 mod laws;
 mod log_laws;
+mod opening;
+mod owned;
 mod past;
 mod placed;
 mod places;
@@ -30,6 +32,7 @@ pub use log_laws::{
     epochs_count_up, holder_reads_the_owners_log, nobody_looks_behind, owner_walks_the_log,
     standing_bytes_are_opened_whole,
 };
+pub use opening::Opened;
 pub use placed::{Body, Placed};
 pub use places::{content_place, link_place};
 pub use reading::read_owner;

@@ -3,6 +3,7 @@ ghost use Rattle.std.specs.Prelude.{◌≡◌, ◌≢◌, ◌<◌, ◌≤◌, �
 ghost use Rattle.cry_io.specs.Told.{WhereTold};
 ghost use Rattle.commit_journal.specs.Answering.{Answers};
 ghost use Rattle.commit_journal.specs.Log as log;
+ghost use Rattle.commit_journal.specs.Opening as opening;
 ghost use Rattle.commit_journal.specs.Placed.{plain_log};
 ghost use Rattle.commit_journal.specs.Places.{IsStanding, TurnStands};
 ghost use Rattle.commit_journal.specs.Reading.{IsOnlyRead};
@@ -35,6 +36,7 @@ fn array_at(bytes: &[u8; HEADER_LEN]) -> [u8; 32]
 fn start_of(owner: &Key<OwnerK>, header: &[u8; HEADER_LEN]) -> Result<Past, OpenFault>
     ensures answer { Answers (λ past. past) result (log.start_of owner.now.bytes header.now) }
     ensures place { IfOk result (λ past. past.at ≡ 42) }
+    ensures fresh { IfOk result (λ past. (past.number ≡ 0) × (past.epoch.0 ≡ 0)) }
     ensures no_disk { result ≢ Err OpenFault.DiskFault }
 {
     if header[..9] != MAGIC[..] {
@@ -53,9 +55,10 @@ fn start_of(owner: &Key<OwnerK>, header: &[u8; HEADER_LEN]) -> Result<Past, Open
     })
 }
 
-fn read_start<D: Disk>(disk: &mut D, owner: &Key<OwnerK>) -> Result<Past, OpenFault>
+pub(crate) fn read_start<D: Disk>(disk: &mut D, owner: &Key<OwnerK>) -> Result<Past, OpenFault>
     ensures answer { WhereTold (D.shown disk.old) (λ s. Answers (λ past. past) result (log.start_at owner.now.bytes s)) }
     ensures place { IfOk result (λ past. past.at ≡ 42) }
+    ensures fresh { IfOk result (λ past. (past.number ≡ 0) × (past.epoch.0 ≡ 0)) }
     ensures inside { OnOk result (42 ≤ D.size_of disk.old) }
     ensures read_only { IsOnlyRead D.shown D.size_of D.may_leave disk.old disk.new }
     ensures counts { D.faults disk.old ≤ D.faults disk.new }
@@ -70,12 +73,13 @@ fn read_start<D: Disk>(disk: &mut D, owner: &Key<OwnerK>) -> Result<Past, OpenFa
 }
 
 /// The head of the batch that stands behind an open gate.
-fn read_head<D: Disk>(disk: &mut D, past: &Past) -> Result<Head, OpenFault>
+pub(crate) fn read_head<D: Disk>(disk: &mut D, past: &Past) -> Result<Head, OpenFault>
     requires small { past.now.at ≤ 2 ^ 32 }
     requires inside { past.now.at ≤ D.size_of disk.old }
     ensures answer { WhereTold (D.shown disk.old) (λ s. Answers (λ head. head) result (log.head_at past.now (drop past.now.at s))) }
     ensures inside { IfOk result (λ head. past.now.at + (110 + head.size) ≤ D.size_of disk.old) }
     ensures small { IfOk result (λ head. past.now.at + (110 + head.size) ≤ 268435456) }
+    ensures next { IfOk result (opening.IsNext past.now) }
     ensures read_only { IsOnlyRead D.shown D.size_of D.may_leave disk.old disk.new }
     ensures counts { D.faults disk.old ≤ D.faults disk.new }
     ensures disk_fault { result ≡ Err OpenFault.DiskFault → D.faults disk.old < D.faults disk.new }

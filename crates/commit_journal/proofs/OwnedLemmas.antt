@@ -1,0 +1,173 @@
+-- The walk of a store that is opened for writing, one turn at a time.
+use Rattle.std.proofs.Common.{◌≡◌, ℕ, zero, suc, ◌+◌, ◌-◌, ◌<◌, ◌≤◌, Bool, true, false, cond, eqb, List, [], ◌∷◌, ◌++◌, length, map, get_or, take, drop, drop-cons, Result, Ok, Err, refl, sym, ap, ◌∙◌, arith, append_assoc}
+use Rattle.std.specs.Prelude.{nat_le, slice_range}
+use Rattle.std.specs.Str.{bytes_eq}
+use Rattle.std.proofs.Math.ListN.{drop_of_length-le}
+use Rattle.std.proofs.lemmas.List.{append-nil, drop-drop, take-append-drop}
+use Rattle.std.proofs.lemmas.Slice.Eq.{bytes_eq-Decides}
+use Rattle.chacha_seal.specs.Sealing.{veil_of, masked}
+use Rattle.commit_journal.specs.declared.fault.OpenFault.{OpenFault}
+use Rattle.commit_journal.specs.declared.fault.OpenFault.TheVariants as faults
+use Rattle.commit_journal.specs.declared.head.Head.{Head}
+use Rattle.commit_journal.specs.declared.past.Past.{Past}
+use Rattle.commit_journal.specs.Answering.{Fault, Damaged, and_then, IsFault}
+use Rattle.commit_journal.specs.Log.{PlainTurn, tag_due, tag_in, payload_in, body_of, placed_body, turn_of, head_at, start_at}
+use Rattle.commit_journal.specs.Opening.{OwnedLog, ends_here, owned_at, owned_before, owned_head, owned_log, owned_turn, opening_verdict, slots_filled, written_at}
+use Rattle.commit_journal.specs.declared.placed.Placed.{Placed}
+use Rattle.commit_journal.specs.Placed.{PlainPlaced, plain_placed}
+use Rattle.commit_journal.proofs.Judged.{fault_first, head_short}
+
+-- ---- batches read before others
+
+pub owned_before-nil : (log : Result OwnedLog Fault) → owned_before [] log ≡ log
+unfolding owned_before
+owned_before-nil (Ok log) = refl
+owned_before-nil (Err fault) = refl
+
+pub owned_before-twice : (a b : List PlainPlaced) (log : Result OwnedLog Fault) → owned_before a (owned_before b log) ≡ owned_before (a ++ b) log
+unfolding owned_before
+owned_before-twice a b (Ok log) = ap (λ (ps : List PlainPlaced). Ok (record log { placed = ps })) (sym (append_assoc a b log.placed))
+owned_before-twice a b (Err fault) = refl
+
+pub owned_before-fault : (fault : OpenFault) (front : List PlainPlaced) (log : Result OwnedLog Fault) → IsFault fault log → IsFault fault (owned_before front log)
+unfolding owned_before
+owned_before-fault faults.NotAStore front log is = rw is refl
+owned_before-fault faults.WrongKey front log is = rw is refl
+owned_before-fault (faults.Damaged at) front log is = rw is refl
+owned_before-fault (faults.Tampered batch at) front log is = rw is refl
+owned_before-fault faults.DiskFault front log is = tt
+owned_before-fault faults.OutOfMemory front log is = tt
+
+pub owned_before-end : (front : List PlainPlaced) (past : Past) → owned_before front (Ok (ends_here past)) ≡ Ok (record (ends_here past) { placed = front })
+unfolding owned_before
+owned_before-end front past = ap (λ (ps : List PlainPlaced). Ok (record (ends_here past) { placed = ps })) (append-nil front)
+
+-- ---- one turn
+
+-- a head is tested against the store limit
+pub owned_head_tested : (limit : ℕ) (past : Past) (rest : List ℕ) (head : Head) → head_at past rest ≡ Ok head →
+    owned_head limit past rest ≡ cond (nat_le (past.at + (110 + head.size)) limit) (Ok head) (Err (Damaged past.at))
+unfolding owned_head and_then
+owned_head_tested limit past rest head is = rw is refl
+
+-- a batch that was read behind its head
+pub owned_turn_is : (limit : ℕ) (owner : List ℕ) (past : Past) (rest : List ℕ) (head : Head) (batch : List ℕ) → owned_head limit past rest ≡ Ok head →
+    batch ≡ take (110 + head.size) rest → owned_at limit owner past rest ≡ owned_turn owner past head batch
+unfolding owned_at and_then
+owned_turn_is limit owner past rest head batch head_is batch_is = rw (head_is, batch_is) refl
+
+-- a batch with the right owner tag
+pub owned_is : (owner : List ℕ) (past : Past) (head : Head) (batch tag due : List ℕ) → due ≡ tag_due owner past.tag head.size batch →
+    tag ≡ slice_range batch (45 + head.size + 32) (45 + head.size + 32 + 32) → due ≡ tag →
+    owned_turn owner past head batch
+    ≡ and_then (placed_body past (body_of head (masked (veil_of owner head.epoch.0 head.number) (payload_in head.size batch))))
+    (λ body. Ok (turn_of past head batch body))
+unfolding owned_turn
+owned_is owner past head batch tag due due_is tag_is same =
+    let begins : 45 + head.size + 32 ≡ 77 + head.size = omega arith in
+    let ends : 45 + head.size + 32 + 32 ≡ 109 + head.size = omega arith in
+    let made : tag_due owner past.tag head.size batch ≡ tag_in head.size batch =
+    sym due_is ∙ same ∙ tag_is
+    ∙ ap (λ i. slice_range batch i (45 + head.size + 32 + 32)) begins
+    ∙ ap (λ j. slice_range batch (77 + head.size) j) ends
+    in
+    let test : bytes_eq (tag_due owner past.tag head.size batch) (tag_in head.size batch) ≡ true =
+    (bytes_eq-Decides (tag_due owner past.tag head.size batch) (tag_in head.size batch)).1 made
+    in
+    rw test refl
+
+owned_at-nil : (limit : ℕ) (owner : List ℕ) (past : Past) → owned_at limit owner past [] ≡ Err (Damaged past.at)
+unfolding owned_at owned_head and_then
+owned_at-nil limit owner past = rw (head_short past [] (omega arith)) refl
+
+-- bytes that are passed over
+owned_log-skip : (limit : ℕ) (owner : List ℕ) (past : Past) (skip : ℕ) (rest : List ℕ) → owned_log limit owner past skip rest ≡ owned_log limit owner past 0 (drop skip rest)
+unfolding owned_log
+owned_log-skip limit owner past zero [] = refl
+owned_log-skip limit owner past (suc skip) [] = refl
+owned_log-skip limit owner past zero (byte ∷ rest) = refl
+owned_log-skip limit owner past (suc skip) (byte ∷ rest) = owned_log-skip limit owner past skip rest
+
+-- a batch more
+owned_walks_on : (limit : ℕ) (owner : List ℕ) (past : Past) (rest : List ℕ) (turn : PlainTurn) → eqb past.gate 1 ≡ true →
+    owned_at limit owner past rest ≡ Ok turn → past.at < turn.past.at →
+    owned_log limit owner past 0 rest ≡ owned_before (turn.placed ∷ []) (owned_log limit owner turn.past 0 (drop (turn.past.at - past.at) rest))
+unfolding owned_log and_then
+owned_walks_on limit owner past [] turn gate is ahead = let wrong : Ok turn ≡ Err (Damaged past.at) = sym is ∙ owned_at-nil limit owner past in absurd (cc)
+owned_walks_on limit owner past (byte ∷ rest) turn gate is ahead =
+    let far : turn.past.at - past.at ≡ suc (turn.past.at - (past.at + 1)) = omega arith in
+    rw (gate, is, far) (ap (owned_before (turn.placed ∷ [])) (owned_log-skip limit owner turn.past (turn.past.at - (past.at + 1)) rest))
+
+-- the end of the log before a closed gate
+pub owned_closed : (limit : ℕ) (owner : List ℕ) (past : Past) (rest : List ℕ) → eqb past.gate 1 ≡ false → owned_log limit owner past 0 rest ≡ Ok (ends_here past)
+unfolding owned_log
+owned_closed limit owner past [] gate = rw gate refl
+owned_closed limit owner past (byte ∷ rest) gate = rw gate refl
+
+-- a test that fails
+pub owned_fails : (fault : OpenFault) (limit : ℕ) (owner : List ℕ) (past : Past) (rest : List ℕ) → eqb past.gate 1 ≡ true →
+    IsFault fault (owned_at limit owner past rest) → IsFault fault (owned_log limit owner past 0 rest)
+unfolding owned_log
+owned_fails fault limit owner past [] gate is = rw gate (fault_first fault (owned_at limit owner past []) (λ _. Ok (ends_here past)) is)
+owned_fails fault limit owner past (byte ∷ rest) gate is =
+    rw gate (fault_first fault (owned_at limit owner past (byte ∷ rest))
+    (λ turn. owned_before (turn.placed ∷ []) (owned_log limit owner turn.past (turn.past.at - (past.at + 1)) rest)) is)
+
+-- ---- the whole walk
+
+-- what was read so far comes before what the rest is
+abbrev pub IsSoFarOwned : ℕ → List ℕ → List ℕ → List PlainPlaced → Past → Type 0
+IsSoFarOwned limit owner s front past = opening_verdict limit owner s ≡ owned_before front (owned_log limit owner past 0 (drop past.at s))
+
+pub owned_starts : (limit : ℕ) (owner s : List ℕ) (past : Past) → start_at owner s ≡ Ok past → past.at ≡ 42 → IsSoFarOwned limit owner s [] past
+unfolding opening_verdict and_then
+owned_starts limit owner s past is at =
+    ap (λ r. and_then r (λ p. owned_log limit owner p 0 (drop 42 s))) is
+    ∙ sym (owned_before-nil (owned_log limit owner past 0 (drop 42 s)))
+    ∙ ap (λ n. owned_before [] (owned_log limit owner past 0 (drop n s))) (sym at)
+
+pub owned_more : (limit : ℕ) (owner s : List ℕ) (front : List PlainPlaced) (past : Past) (turn : PlainTurn) → eqb past.gate 1 ≡ true →
+    owned_at limit owner past (drop past.at s) ≡ Ok turn → past.at < turn.past.at → IsSoFarOwned limit owner s front past →
+    IsSoFarOwned limit owner s (front ++ turn.placed ∷ []) turn.past
+owned_more limit owner s front past turn gate is ahead so_far =
+    let there : drop (turn.past.at - past.at) (drop past.at s) ≡ drop turn.past.at s =
+    drop-drop (turn.past.at - past.at) past.at s ∙ ap (λ n. drop n s) (omega arith)
+    in
+    so_far
+    ∙ ap (owned_before front) (owned_walks_on limit owner past (drop past.at s) turn gate is ahead ∙ ap (λ r. owned_before (turn.placed ∷ []) (owned_log limit owner turn.past 0 r)) there)
+    ∙ owned_before-twice front (turn.placed ∷ []) (owned_log limit owner turn.past 0 (drop turn.past.at s))
+
+-- ---- the slots
+
+-- a slot that holds its veil key is as if it had been written
+pub same_slot : (place : ℕ) (veil x : List ℕ) → length veil ≡ 32 → veil ≡ slice_range x place (place + 32) → x ≡ written_at place veil x
+same_slot place veil x size veil_is =
+    let short : place + 32 - place ≡ 32 = omega arith in
+    let slot : take 32 (drop place x) ≡ veil = sym (veil_is ∙ ap (λ n. take n (drop place x)) short) in
+    let last : 32 + place ≡ place + length veil = omega (arith, size) in
+    let behind : drop 32 (drop place x) ≡ drop (place + length veil) x = drop-drop 32 place x ∙ ap (λ n. drop n x) (omega (arith, last)) in
+    sym (take-append-drop place x)
+    ∙ ap (λ r. take place x ++ r) (sym (take-append-drop 32 (drop place x)))
+    ∙ ap (λ r. take place x ++ (take 32 (drop place x) ++ r)) behind
+    ∙ ap (λ r. take place x ++ (r ++ drop (place + length veil) x)) slot
+    ∙ sym (append_assoc (take place x) veil (drop (place + length veil) x))
+
+-- one slot more
+pub filled_more : (owner : List ℕ) (log : List Placed) (i : ℕ) (p : Placed) (y z : List ℕ) → i < length log → p ≡ get_or log i p →
+    z ≡ written_at (p.place - 32) (veil_of owner p.epoch.0 p.batch) y →
+    slots_filled owner (map plain_placed (drop i log)) y ≡ slots_filled owner (map plain_placed (drop (i + 1) log)) z
+unfolding slots_filled
+filled_more owner log i p y z within is z_is =
+    let rest = map plain_placed (drop (suc i) log) in
+    let next : suc i ≡ i + 1 = omega arith in
+    ap (λ (ps : List Placed). slots_filled owner (map plain_placed ps) y) (drop-cons log i p within)
+    ∙ ap (λ (q : Placed). slots_filled owner rest (written_at (q.place - 32) (veil_of owner q.epoch.0 q.batch) y)) (sym is)
+    ∙ ap (λ w. slots_filled owner rest w) (sym z_is)
+    ∙ ap (λ n. slots_filled owner (map plain_placed (drop n log)) z) next
+
+-- no slot more
+pub filled_all : (owner : List ℕ) (log : List Placed) (i : ℕ) (y : List ℕ) → length log ≤ i → slots_filled owner (map plain_placed (drop i log)) y ≡ y
+unfolding slots_filled
+filled_all owner log i y short =
+    let none : drop i log ≡ [] = drop_of_length-le log short in
+    ap (λ (ps : List Placed). slots_filled owner (map plain_placed ps) y) none

@@ -1,0 +1,93 @@
+use Rattle.std.proofs.Common.{◌≡◌, ◌≤◌, ℕ, [], ◌∷◌, ◌++◌, false, eqb, eq-eqb, map, drop, Ok, ap, subst, ◌∙◌, arith}
+use Rattle.std.specs.Prelude.{All}
+use Rattle.std.proofs.lemmas.Bool.Decides.{nat_tests}
+use Rattle.std.proofs.lemmas.List.{map_push}
+use Rattle.std.proofs.lemmas.List.Elements.{All-nil, All-cons, All-append}
+use Rattle.std.proofs.lemmas.Result.{err_from_is_err_and}
+use Rattle.commit_journal.specs.declared.placed.Placed.{Placed}
+use Rattle.commit_journal.specs.Log.{start_at}
+use Rattle.commit_journal.specs.Opening.{owned_log, opening_verdict, owned_at, owned_before}
+use Rattle.commit_journal.specs.Placed.{plain_placed}
+use Rattle.commit_journal.specs.Places.{IsStanding}
+use Rattle.commit_journal.specs.Turns.{plain_turn}
+use Rattle.commit_journal.proofs.Judged.{fault_first}
+use Rattle.commit_journal.proofs.OwnedLemmas.{owned_before-fault, owned_before-end, owned_closed, owned_fails, owned_starts, owned_more}
+use Rattle.commit_journal.proofs.Walked.{only_read_twice}
+use Rattle.commit_journal.proofs.opening.walk.Goals as goal
+
+pub returns-in_err-past-clause-verdict : goal.returns-in_err-past-clause-verdict
+unfolding opening_verdict
+returns-in_err-past-clause-verdict g c = λ s is.
+    let p = err_from_is_err_and c.from_residual.result c.from_residual.ensures.1 in
+    let owner = c.args.owner.now.bytes in
+    rw (p.1, p.2) (fault_first c.in_err-past.field-0.0 (start_at owner s) (λ past. owned_log c.args.limit owner past 0 (drop 42 s)) (c.in_err-past.ensures.answer s is))
+
+pub loop-past-init : goal.loop-past-init
+loop-past-init g c =
+    let on_disk : Placed → Type 0 = λ p. p.place ≤ g.D.Disk.size_of c.args.disk.now in
+    record {
+      room = record {
+        behind = omega (arith, c.in_ok-past.ensures.place, c.in_ok-past.ensures.fresh.0);
+        within = omega (arith, c.in_ok-past.ensures.place);
+        epochs = omega (arith, c.in_ok-past.ensures.fresh.1);
+      };
+      inside = omega (arith, c.in_ok-past.ensures.place, c.in_ok-past.ensures.inside, c.in_ok-past.ensures.read_only.same_size);
+      stands = rw c.new-log.ensures (All-nil IsStanding);
+      on_disk = rw c.new-log.ensures (All-nil on_disk);
+      read_only = c.in_ok-past.ensures.read_only;
+      counts = c.in_ok-past.ensures.counts;
+      so_far = λ s is. rw c.new-log.ensures (owned_starts c.args.limit c.args.owner.now.bytes s c.in_ok-past.past (c.in_ok-past.ensures.answer s is) c.in_ok-past.ensures.place);
+    }
+
+pub returns-in_err-turn-clause-verdict : goal.returns-in_err-turn-clause-verdict
+returns-in_err-turn-clause-verdict g c = λ s is.
+    let p = err_from_is_err_and c.from_residual-in_err-turn.result c.from_residual-in_err-turn.ensures.1 in
+    let owner = c.args.owner.now.bytes in
+    let past = c.loop-past.past in
+    let fault = c.in_err-turn.field-0.0 in
+    let gate = eq-eqb past.gate 1 c.loop-past-test.true in
+    let wrong = owned_fails fault c.args.limit owner past (drop past.at s) gate (c.in_err-turn.ensures.answer s (c.loop-past.invariant.read_only.same_bytes ∙ is)) in
+    rw (p.1, p.2, c.loop-past.invariant.so_far s is)
+    (owned_before-fault fault (map plain_placed c.loop-past.log.items) (owned_log c.args.limit owner past 0 (drop past.at s)) wrong)
+
+pub loop-past-preserved : goal.loop-past-preserved
+loop-past-preserved g c =
+    let owner = c.args.owner.now.bytes in
+    let past = c.loop-past.past in
+    let turn = c.in_ok-turn.turn in
+    let front = map plain_placed c.loop-past.log.items in
+    let read = c.in_ok-turn.ensures.read_only in
+    let next = c.in_ok-turn.ensures.next in
+    let room = c.loop-past.invariant.room in
+    let pushed : map plain_placed c.push.new.self.items ≡ front ++ plain_placed turn.placed ∷ [] =
+    rw c.in_ok-push.ensures.items (map_push plain_placed c.loop-past.log.items turn.placed)
+    in
+    let gate = eq-eqb past.gate 1 c.loop-past-test.true in
+    let on_disk : Placed → Type 0 = λ p. p.place ≤ g.D.Disk.size_of c.args.disk.now in
+    let there : on_disk turn.placed = omega (arith, next.place, next.ahead, next.inside, c.loop-past.invariant.read_only.same_size) in
+    record {
+      room = record {
+        behind = omega (arith, next.ahead, next.number, room.behind);
+        within = next.within;
+        epochs = omega (arith, next.number, next.epoch, room.epochs);
+      };
+      inside = omega (arith, next.inside, read.same_size);
+      stands = rw c.in_ok-push.ensures.items (All-append IsStanding c.loop-past.log.items (turn.placed ∷ []) c.loop-past.invariant.stands (All-cons IsStanding turn.placed [] c.in_ok-turn.ensures.stands (All-nil IsStanding)));
+      on_disk = rw c.in_ok-push.ensures.items (All-append on_disk c.loop-past.log.items (turn.placed ∷ []) c.loop-past.invariant.on_disk (All-cons on_disk turn.placed [] there (All-nil on_disk)));
+      read_only = only_read_twice g.D.Disk.shown g.D.Disk.size_of g.D.Disk.may_leave c.args.disk.now c.loop-past.disk c.read_owned.new.disk c.loop-past.invariant.read_only read;
+      counts = omega (arith, c.loop-past.invariant.counts, c.in_ok-turn.ensures.counts);
+      so_far = λ s is.
+          let judged : owned_at c.args.limit owner past (drop past.at s) ≡ Ok (plain_turn turn) =
+          c.in_ok-turn.ensures.answer s (c.loop-past.invariant.read_only.same_bytes ∙ is)
+          in
+          rw pushed (owned_more c.args.limit owner s front past (plain_turn turn) gate judged (omega (arith, next.ahead)) (c.loop-past.invariant.so_far s is));
+    }
+
+pub returns-clause-verdict : goal.returns-clause-verdict
+returns-clause-verdict g c = λ s is.
+    let owner = c.args.owner.now.bytes in
+    let past = c.loop-past.past in
+    let front = map plain_placed c.loop-past.log.items in
+    let shut = c.loop-past-test.false in
+    let gate : eqb past.gate 1 ≡ false = grind (arith, nat_tests) in
+    c.loop-past.invariant.so_far s is ∙ ap (owned_before front) (owned_closed c.args.limit owner past (drop past.at s) gate) ∙ owned_before-end front past

@@ -1,0 +1,22 @@
+use Rattle.std.specs.Prelude.{All}
+use Rattle.std.proofs.Common.{◌≡◌, ◌≤◌, ◌-◌, ℕ, List, Some, map}
+use Rattle.commit_journal.specs.Opening.{HasRoom}
+use Rattle.commit_journal.specs.Placed.{plain_placed}
+use Rattle.commit_journal.specs.Places.{IsStanding}
+use Rattle.commit_journal.specs.Reading.{IsOnlyRead}
+use Rattle.commit_journal.proofs.OwnedLemmas.{IsSoFarOwned}
+use Rattle.commit_journal.proofs.opening.walk.Given as goal
+
+abbrev pub invariant-loop-past : goal.invariant-loop-past
+invariant-loop-past g l = record {
+  room : HasRoom l.past;
+  inside : l.past.at ≤ g.D.Disk.size_of l.disk;
+  stands : All IsStanding l.log.items;
+  on_disk : All (λ p. p.place ≤ g.D.Disk.size_of l.fn.disk) l.log.items;
+  read_only : IsOnlyRead g.D.Disk.shown g.D.Disk.size_of g.D.Disk.may_leave l.fn.disk l.disk;
+  counts : g.D.Disk.faults l.fn.disk ≤ g.D.Disk.faults l.disk;
+  so_far : (s : List ℕ) → g.D.Disk.shown l.fn.disk ≡ Some s → IsSoFarOwned l.limit l.owner.bytes s (map plain_placed l.log.items) l.past;
+}
+
+abbrev pub decreases-loop-past : goal.decreases-loop-past
+decreases-loop-past g l = g.D.Disk.size_of l.disk - l.past.at

@@ -1,0 +1,133 @@
+-- What the owner's key reads of a store that is opened for writing, and the slots that are then filled. This project's own,
+-- docs/FORMAT.md, "Opening for writing".
+use Rattle.std.specs.Prelude.{◌≡◌, ◌≤◌, ℕ, zero, suc, ◌+◌, ◌-◌, ◌*◌, false, ◌==◌, nat_le, if◌then◌else◌, List, [], ◌∷◌, ◌++◌, length, take, drop, Result, Ok, Err}
+use Rattle.std.specs.Str.{bytes_eq}
+use Rattle.chacha_seal.specs.Sealing.{veil_of, masked}
+use Rattle.commit_journal.specs.declared.head.Head.{Head}
+use Rattle.commit_journal.specs.declared.judge.Turn.{Turn}
+use Rattle.commit_journal.specs.declared.opening.Opened.{Opened}
+use Rattle.commit_journal.specs.declared.opening.Walked.{Walked}
+use Rattle.commit_journal.specs.declared.past.Past.{Past}
+use Rattle.commit_journal.specs.Answering.{Fault, Damaged, Tampered, and_then}
+use Rattle.commit_journal.specs.Log.{PlainTurn, tag_due, tag_in, payload_in, body_of, placed_body, turn_of, head_at, start_at}
+use Rattle.commit_journal.specs.Journals.{JournalState}
+use Rattle.commit_journal.specs.Placed.{PlainPlaced, plain_log}
+
+-- the head of the batch behind an open gate, which ends within the store limit
+unfoldable pub owned_head : ℕ → Past → List ℕ → Result Head Fault
+owned_head limit past rest =
+    and_then (head_at past rest) (λ head. if nat_le (past.at + (110 + head.size)) limit then Ok head else Err (Damaged past.at))
+
+-- the whole of it, unmasked with the veil key that the owner computes: whether it is published is not asked
+unfoldable pub owned_turn : List ℕ → Past → Head → List ℕ → Result PlainTurn Fault
+owned_turn owner past head batch =
+    if bytes_eq (tag_due owner past.tag head.size batch) (tag_in head.size batch)
+    then and_then (placed_body past (body_of head (masked (veil_of owner head.epoch.0 head.number) (payload_in head.size batch))))
+    (λ body. Ok (turn_of past head batch body))
+    else Err (Tampered head.number (past.at + 77 + head.size))
+
+unfoldable pub owned_at : ℕ → List ℕ → Past → List ℕ → Result PlainTurn Fault
+owned_at limit owner past rest =
+    and_then (owned_head limit past rest) (λ head. owned_turn owner past head (take (110 + head.size) rest))
+
+-- the batches of a log, and what the next batch follows: how many there are, the last epoch, the end, the last owner tag
+pub record OwnedLog : Type 0 where
+  pub placed : List PlainPlaced
+  pub batches : ℕ
+  pub epoch : ℕ
+  pub end : ℕ
+  pub tag : List ℕ
+
+-- a log that ends here
+abbrev pub ends_here : Past → OwnedLog
+ends_here past = record { placed = []; batches = past.number; epoch = past.epoch.0; end = past.at; tag = past.tag }
+
+-- batches read before those of the rest of the log
+unfoldable pub owned_before : List PlainPlaced → Result OwnedLog Fault → Result OwnedLog Fault
+owned_before front (Ok log) = Ok (record log { placed = front ++ log.placed })
+owned_before front (Err fault) = Err fault
+
+-- the log behind a gate, by the bytes behind it, of which the first so many belong to the batch before
+unfoldable pub owned_log : ℕ → List ℕ → Past → ℕ → List ℕ → Result OwnedLog Fault
+owned_log limit owner past skip [] =
+    if past.gate == 1 then and_then (owned_at limit owner past []) (λ _. Ok (ends_here past)) else Ok (ends_here past)
+owned_log limit owner past (suc skip) (byte ∷ rest) = owned_log limit owner past skip rest
+owned_log limit owner past zero (byte ∷ rest) =
+    if past.gate == 1
+    then and_then (owned_at limit owner past (byte ∷ rest))
+    (λ turn. owned_before (turn.placed ∷ []) (owned_log limit owner turn.past (turn.past.at - (past.at + 1)) rest))
+    else Ok (ends_here past)
+
+-- the log of an image, or the first test that fails
+unfoldable pub opening_verdict : ℕ → List ℕ → List ℕ → Result OwnedLog Fault
+opening_verdict limit owner bytes = and_then (start_at owner bytes) (λ past. owned_log limit owner past 0 (drop 42 bytes))
+
+-- the image with other bytes at a place
+abbrev pub written_at : ℕ → List ℕ → List ℕ → List ℕ
+written_at place bytes image = take place image ++ bytes ++ drop (place + length bytes) image
+
+-- the image with the veil key in the slot of each of these batches. A slot stands 32 bytes before its payload
+unfoldable pub slots_filled : List ℕ → List PlainPlaced → List ℕ → List ℕ
+slots_filled owner [] image = image
+slots_filled owner (p ∷ ps) image = slots_filled owner ps (written_at (p.place - 32) (veil_of owner p.epoch.0 p.batch) image)
+
+-- a log that was walked, and a journal that was opened on it, without the room that they have
+abbrev pub plain_walked : Walked → OwnedLog
+plain_walked w = record { placed = plain_log w.placed; batches = w.past.number; epoch = w.past.epoch.0; end = w.past.at; tag = w.past.tag }
+
+abbrev pub plain_opened : Opened → OwnedLog
+plain_opened o = record {
+  placed = plain_log o.placed;
+  batches = o.journal.batches;
+  epoch = o.journal.epoch;
+  end = o.journal.end;
+  tag = o.journal.tag;
+}
+
+-- the journal that goes on behind a log. What it has room for is not said
+abbrev pub journal_behind : List ℕ → ℕ → Past → JournalState → JournalState
+journal_behind owner limit past j = record {
+  owner = owner;
+  batches = past.number;
+  epoch = past.epoch.0;
+  has_epoch = false;
+  end = past.at;
+  tag = past.tag;
+  limit = limit;
+  is_closed = false;
+  spare = j.spare;
+  room = j.room;
+}
+
+-- a journal that was opened with this key and this limit: it has begun no epoch, and is open
+pub record IsOpened (owner : List ℕ) (limit : ℕ) (j : JournalState) : Type 0 where
+  pub key : j.owner ≡ owner
+  pub bound : j.limit ≡ limit
+  pub not_begun : j.has_epoch ≡ false
+  pub not_closed : j.is_closed ≡ false
+
+-- each batch has its bytes, and no more epochs were begun than there are batches
+pub record HasRoom (past : Past) : Type 0 where
+  pub behind : 42 + 110 * past.number ≤ past.at
+  pub within : past.at ≤ 268435456
+  pub epochs : past.epoch.0 ≤ past.number
+
+-- the head is that of the next batch
+abbrev pub IsNext : Past → Head → Type 0
+IsNext past head = (head.number ≡ past.number + 1) × (head.epoch.0 ≤ past.epoch.0 + 1)
+
+-- the turn of the batch with this head
+pub record IsTurnOf (past : Past) (head : Head) (turn : Turn) : Type 0 where
+  pub place : turn.placed.place ≡ past.at + 45
+  pub next : turn.past.at ≡ past.at + (110 + head.size)
+  pub number : turn.past.number ≡ head.number
+  pub epoch : turn.past.epoch.0 ≡ head.epoch.0
+
+-- the turn of the next batch, which ends within so many bytes
+pub record IsNextTurn (past : Past) (size : ℕ) (turn : Turn) : Type 0 where
+  pub place : turn.placed.place ≡ past.at + 45
+  pub ahead : past.at + 110 ≤ turn.past.at
+  pub inside : turn.past.at ≤ size
+  pub within : turn.past.at ≤ 268435456
+  pub number : turn.past.number ≡ past.number + 1
+  pub epoch : turn.past.epoch.0 ≤ past.epoch.0 + 1
