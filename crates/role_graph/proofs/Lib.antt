@@ -7,4 +7,3 @@ pub mod Rightful
 pub mod Rising
 pub mod Typing
 pub mod RowsOfEdges
-pub mod Typing
