@@ -6,7 +6,7 @@ use Rattle.std.proofs.lemmas.List.{take-append-le, drop-append-le}
 use Rattle.commit_journal.specs.declared.head.Head.{Head}
 use Rattle.commit_journal.specs.declared.past.Past.{Past}
 use Rattle.commit_journal.specs.Answering.{Fault, NotAStore, Damaged, and_then}
-use Rattle.commit_journal.specs.Log.{PlainTurn, head_of, is_batch, head_at, tagged_turn, turn_at, published_turn, goes_on, before, log_at, start_of, start_at, log_verdict}
+use Rattle.commit_journal.specs.Log.{PlainTurn, head_of, is_batch, head_at, turn_at, published_turn, goes_on, before, log_at, start_of, start_at, log_verdict}
 use Rattle.commit_journal.specs.Logs.{walk_at, turn_by, tagged_recovered, unowned_start_of, unowned_start, holder_log, writer_log}
 use Rattle.commit_journal.specs.Placed.{PlainPlaced}
 use Rattle.commit_journal.proofs.Followed.{and_then_ok, guard_ok, batch_inside, batch_more, before_ok, long_enough}

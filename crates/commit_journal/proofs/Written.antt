@@ -1,20 +1,20 @@
 -- Bytes that stand for batches are opened for writing as these very batches, whatever the last slot holds.
-use Rattle.std.proofs.Common.{◌≡◌, ◌≢◌, ℕ, zero, suc, ◌+◌, ◌-◌, ◌<◌, ◌≤◌, true, false, cond, eqb, eq-eqb, List, [], ◌∷◌, ◌++◌, length, take, drop, Option, None, Some, Result, Ok, Err, append_assoc, arith, refl, sym, ap, ◌∙◌, length-append}
+use Rattle.std.proofs.Common.{◌≡◌, ◌≢◌, ℕ, suc, ◌+◌, ◌-◌, ◌<◌, ◌≤◌, true, cond, eqb, eq-eqb, List, [], ◌∷◌, ◌++◌, length, take, drop, Option, Some, Result, Ok, Err, append_assoc, arith, refl, sym, ap, ◌∙◌, length-append}
 use Rattle.std.specs.List.{sum_by}
 use Rattle.std.specs.Str.{bytes_eq}
 use Rattle.std.proofs.Math.Seq.{drop-append_seam}
 use Rattle.std.proofs.lemmas.List.Sums.{sum_by-cons}
 use Rattle.std.proofs.lemmas.Slice.Eq.{bytes_eq-Decides}
 use Rattle.hmac_seal.specs.Hmac.{hmac}
-use Rattle.chacha_seal.specs.Sealing.{check_of, veil_of, masked, owner_tag_key}
+use Rattle.chacha_seal.specs.Sealing.{check_of, masked, owner_tag_key}
 use Rattle.chacha_seal.proofs.SealingLemmas.{masked-masked, length-veil_of}
 use Rattle.commit_journal.specs.declared.past.Past.{Past}
 use Rattle.commit_journal.specs.Answering.{Fault, Damaged, Tampered, and_then}
-use Rattle.commit_journal.specs.Image.{Batch, batch_head, batch_veil, masked_payload, batch_check, owner_tag, spell_batch, spell_header}
+use Rattle.commit_journal.specs.Image.{Batch, batch_head, batch_veil, masked_payload, owner_tag, spell_batch, spell_header}
 use Rattle.commit_journal.specs.Laws.{batch_of, batches_from, placed_from, AreBodies}
 use Rattle.commit_journal.specs.Log.{PlainTurn, payload_in, check_in, tag_in, is_batch, body_of, placed_body, turn_of, tag_due, head_of, head_at, before, goes_on, start_of, start_at}
 use Rattle.commit_journal.specs.Logs.{walk_at, turn_by, recovered_turn, tagged_recovered, writer_log}
-use Rattle.commit_journal.specs.Placed.{PlainBody, PlainPlaced}
+use Rattle.commit_journal.specs.Placed.{PlainBody}
 use Rattle.commit_journal.specs.Standing.{spell_slotted, slotted_image, StandsFor}
 use Rattle.commit_journal.proofs.Judged.{start_long, head_tested}
 use Rattle.commit_journal.proofs.Pieces.{front, length-head_bytes, head_is}

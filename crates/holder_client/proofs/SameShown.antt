@@ -1,9 +1,9 @@
 -- On a log that holds what makes a store, and no more, the general verdict with the owner's key is the verdict that the
 -- listing answers.
-use Rattle.std.proofs.Common.{◌≡◌, ℕ, zero, suc, ◌+◌, ◌*◌, ◌≤◌, Bool, true, false, cond, eqb, List, [], ◌∷◌, length, Option, None, Some, Result, Ok, Err, refl, sym, ap, ◌∙◌, subst, arith}
+use Rattle.std.proofs.Common.{◌≡◌, ℕ, zero, suc, ◌+◌, ◌≤◌, Bool, true, false, cond, eqb, List, [], ◌∷◌, length, Option, None, Some, Result, Ok, Err, refl, sym, ap, ◌∙◌, subst, arith}
 use Rattle.std.specs.Prelude.{◌&&◌, not, ◌||◌, nat_le, codes}
 use Rattle.std.specs.Str.{bytes_eq}
-use Rattle.std.proofs.lemmas.Bool.{eqb-true, and_parts, and_from}
+use Rattle.std.proofs.lemmas.Bool.{eqb-true, and_parts}
 use Rattle.chacha_seal.specs.Sealing.{sealed, seal_tag}
 use Rattle.chacha_seal.specs.Stream.{xor_stream, xor_from}
 use Rattle.cry_base.specs.declared.client.Bundle.TheVariants as bundles
@@ -11,12 +11,11 @@ use Rattle.cry_base.specs.declared.ids.Epoch.{Epoch}
 use Rattle.cry_base.specs.declared.ids.HolderId.{HolderId}
 use Rattle.cry_base.specs.declared.roles.Role.{Role}
 use Rattle.cry_base.specs.declared.roles.Role.TheVariants.{Owner}
-use Rattle.cry_base.specs.Store.{Store, no_store, root_store}
+use Rattle.cry_base.specs.Store.{no_store, root_store}
 use Rattle.record_format.specs.declared.link.LinkRecord.{LinkRecord}
 use Rattle.record_format.specs.declared.note.Note.{Note as Declared}
 use Rattle.record_format.specs.declared.note.Note.TheVariants as declared
 use Rattle.record_format.specs.Plain.{PlainContent, PlainPayload}
-use Rattle.record_format.specs.Spellable.{shortest_text, longest_text}
 use Rattle.record_format.specs.Spelling.{content_head}
 use Rattle.commit_journal.specs.Answering.{Fault, Damaged, Tampered, and_then}
 use Rattle.commit_journal.specs.Log.{log_verdict}
@@ -36,7 +35,7 @@ use Rattle.move_plan.specs.Note.Note.{Root}
 use Rattle.move_plan.specs.Fitting.{row_fits, needs_root, fits, folder_stands}
 use Rattle.public_fold.specs.Journal.{Stand, nothing}
 use Rattle.public_fold.specs.KeyStep.{Stepped, no_keys, next_epoch}
-use Rattle.public_fold.specs.StandFits.{has_count, note_fits}
+use Rattle.public_fold.specs.StandFits.{has_count}
 use Rattle.holder_client.specs.Folding.{has_link_head, has_content_head, has_length, are_due, has_heads, fits_step, payload_fits, told_step, told_stand, stand_behind, folded}
 use Rattle.holder_client.specs.Judging.{Failure, OfBytes, NoHolder, then_on, of_bytes, read_through, check_in, body_check, published_check, holder_reads, bundle_log, may_read, read_with, view_with, shown_with}
 use Rattle.holder_client.specs.Root.{PlainRoot, leads, names, fits_root, is_root, records_of, if_fit, root_in, ends_with, fold_log}

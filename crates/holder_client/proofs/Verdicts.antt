@@ -5,7 +5,7 @@ use Rattle.std.proofs.lemmas.Bool.Decides.{nat_tests}
 use Rattle.cry_base.specs.declared.client.Bundle.{Bundle}
 use Rattle.cry_base.specs.declared.client.Bundle.TheVariants as bundles
 use Rattle.commit_journal.specs.Answering.{Fault, NotAStore, and_then}
-use Rattle.commit_journal.specs.Log.{start_at, log_verdict}
+use Rattle.commit_journal.specs.Log.{log_verdict}
 use Rattle.commit_journal.specs.Logs.{unowned_start, holder_log, writer_log}
 use Rattle.commit_journal.specs.Placed.{PlainPlaced}
 use Rattle.commit_journal.proofs.Followed.{verdict_more}

@@ -5,7 +5,6 @@ use Rattle.std.specs.Str.{bytes_eq}
 use Rattle.cry_base.specs.Naming.{is_path, parent_path}
 use Rattle.cry_base.specs.Store.{Store, FolderEntry, FileEntry, folder_node, path_of}
 use Rattle.cry_base.specs.declared.client.Bundle.{Bundle}
-use Rattle.cry_base.specs.declared.client.Bundle.TheVariants as bundles
 use Rattle.cry_base.specs.declared.roles.Role.TheVariants.{Owner}
 use Rattle.commit_journal.specs.Answering.{Fault, Damaged}
 use Rattle.commit_journal.specs.Logs.{writer_log}

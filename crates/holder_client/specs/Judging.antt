@@ -17,7 +17,7 @@ use Rattle.move_plan.specs.Note.{Note}
 use Rattle.move_plan.specs.Note.Note.{NewHolder}
 use Rattle.public_fold.specs.Journal.{nothing}
 use Rattle.holder_client.specs.Folding.{folded}
-use Rattle.commit_journal.specs.Logs.{holder_log, writer_log}
+use Rattle.commit_journal.specs.Logs.{holder_log}
 use Rattle.holder_client.specs.Told.{told_note}
 use Rattle.holder_client.specs.View.{Line, view}
 use Rattle.holder_client.specs.Visits.{all_visits}

@@ -10,7 +10,7 @@ use Rattle.commit_journal.specs.Answering.{Fault, Damaged, and_then}
 use Rattle.commit_journal.specs.Placed.{PlainPlaced}
 use Rattle.role_graph.specs.Roles.{same_role, data_of, file_role}
 use Rattle.public_fold.specs.Journal.{Stand}
-use Rattle.holder_client.specs.Placing.{PlacedLink, PlacedContent, link_for, content_for}
+use Rattle.holder_client.specs.Placing.{link_for, content_for}
 use Rattle.holder_client.specs.Verdict.{open_link, open_content}
 use Rattle.holder_client.specs.Visits.{Visit}
 use Rattle.holder_client.specs.Visits.Visit.{ToKey, ToName, ToFile, ToHolder}
@@ -30,16 +30,16 @@ unfoldable pub key_of : List (Role × List ℕ) → Role → Option (List ℕ)
 key_of [] role = None
 key_of (key ∷ keys) role = if same_role key.0 role then Some key.1 else key_of keys role
 
--- what a visit needs: its record, and the key of its source. After a log that folds neither is wanting; a store in which
--- one were would be damaged behind its header
+-- what a visit needs: its record, and the key of its source. Were one wanting, the store would be damaged behind its header
 unfoldable pub needed : {A B : Type 0} → Option A → (A → Result B Fault) → Result B Fault
 needed None go_on = Err (Damaged 42)
 needed (Some x) go_on = go_on x
 
--- the link of an edge is opened with the key of its source
+-- one key more
 unfoldable pub with_key : Opened → Role → List ℕ → Result Opened Fault
 with_key o role key = Ok (record o { keys = (role, key) ∷ o.keys })
 
+-- the link of an edge, opened with the key of its source
 unfoldable pub visit_edge : Reading → Opened → Edge → Result Opened Fault
 visit_edge r o e =
     needed (key_of o.keys e.from) (λ key. needed (link_for r.stand.keys r.log e) (λ l. and_then (open_link l.batch l.at key l.link) (with_key o e.to)))
