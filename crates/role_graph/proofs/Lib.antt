@@ -5,5 +5,6 @@ pub mod Growing
 pub mod Placing
 pub mod Rightful
 pub mod Rising
+pub mod Standing
 pub mod Typing
 pub mod RowsOfEdges

@@ -3,11 +3,13 @@
 
 pub mod laws;
 mod reaching;
+mod rights;
 mod role_set;
 pub mod rows;
 pub mod tabled;
 
 pub use reaching::{leading_to, reach};
+pub use rights::{allowed, named};
 pub use role_set::RoleSet;
 
 #[cfg(test)]
