@@ -1,5 +1,6 @@
 pub mod Added
 pub mod Climbing
+pub mod Finds
 pub mod Heights
 pub mod Lookups
 pub mod Moved

@@ -2,6 +2,7 @@
 use Rattle.std.specs.Prelude.{◌≡◌, ◌≢◌, ℕ, ◌&&◌, ◌==◌, cond, List, [], ◌∷◌, find, Option, Some, None, option_map, is_some, IsTrue, bytes_eq, All}
 use Rattle.cry_base.specs.Naming.{is_name, is_path, names_of}
 use Rattle.cry_base.specs.Store.{Store, FolderEntry, FileEntry, folder_node, file_node, folder_entry}
+use Rattle.cry_base.specs.declared.ids.FileId.{FileId}
 use Rattle.cry_base.specs.declared.roles.Node.{Node}
 use Rattle.cry_base.specs.declared.roles.Node.TheVariants.{Folder, File}
 use Rattle.folder_nodes.specs.Trees.{IsTree}
@@ -23,6 +24,16 @@ on_from None names into = None
 on_from (Some (Folder g)) names into = into g.0
 on_from (Some (File x)) [] into = Some (File x)
 on_from (Some (File x)) (name ∷ names) into = None
+
+-- the file as a node
+abbrev pub file_found : Option FileId → Option Node
+file_found None = None
+file_found (Some x) = Some (File x)
+
+-- the file, where no name is left
+abbrev pub last_of : FileId → List (List ℕ) → Option Node
+last_of x [] = Some (File x)
+last_of x (name ∷ names) = None
 
 -- what the names lead to from the folder
 unfoldable pub walk : Store → ℕ → List (List ℕ) → Option Node

@@ -2,6 +2,7 @@
 #![tactic(auto)]
 
 mod changes;
+mod finding;
 pub mod laws;
 mod names;
 mod naming;
@@ -10,6 +11,7 @@ mod shape;
 mod titles;
 mod ways;
 
+pub use finding::find;
 pub use names::Names;
 pub use naming::{name_ok, path_ok};
 pub use rows::{FileRow, FolderRow};
