@@ -2,7 +2,6 @@
 ghost use Rattle.std.specs.Prelude.{◌≡◌, length, IfOk};
 
 mod fresh;
-mod writing;
 
 use super::*;
 use chacha_seal::{Key, OwnerK};
