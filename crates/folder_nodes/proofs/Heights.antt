@@ -1,10 +1,10 @@
 -- The deepest node of a folder, row by row.
-use Rattle.std.proofs.Common.{◌≡◌, ℕ, ◌+◌, ◌-◌, ◌≤◌, max, Bool, true, false, cond, ◌==◌, ◌||◌, List, [], ◌∷◌, length, map, find, Option, Some, None, refl, sym, ap, ◌∙◌, subst, arith}
+use Rattle.std.proofs.Common.{◌≡◌, ℕ, ◌+◌, ◌≤◌, max, false, cond, ◌==◌, ◌||◌, List, [], ◌∷◌, map, find, Option, Some, None, refl, sym, ap, ◌∙◌, subst}
 use Rattle.std.specs.List.{All, fold}
 use Rattle.std.proofs.lemmas.Bool.{eq-eqb}
 use Rattle.std.proofs.lemmas.List.Elements.{All-head, All-tail, All-weaker}
-use Rattle.cry_base.specs.Refusing.{deepest, height_of, is_node_within}
-use Rattle.cry_base.specs.Store.{Store, FolderEntry, FileEntry, way_to_root, folder_entry, file_entry, folder_node, file_node, depth_of, is_within}
+use Rattle.cry_base.specs.Refusing.{deepest, is_node_within}
+use Rattle.cry_base.specs.Store.{Store, FolderEntry, FileEntry, folder_entry, file_entry, folder_node, file_node, depth_of, is_within}
 use Rattle.folder_nodes.specs.Bare.{folder_of_row, file_of_row, bare_store}
 use Rattle.folder_nodes.specs.Trees.{IsTree}
 use Rattle.folder_nodes.specs.declared.rows.FolderRow.{FolderRow}

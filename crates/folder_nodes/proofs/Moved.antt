@@ -3,13 +3,13 @@ use Rattle.std.proofs.Common.{◌≡◌, ◌≢◌, ℕ, zero, suc, ◌+◌, ◌
 use Rattle.std.specs.List.{All, AllPairs, fold}
 use Rattle.std.specs.Option.{option_map}
 use Rattle.std.proofs.lemmas.Bool.{eqb-true, eq-eqb, ne_eqb, false≢true}
-use Rattle.std.proofs.lemmas.List.Elements.{All-weaker, All-map, All-nil, All-cons, All-head, All-tail}
+use Rattle.std.proofs.lemmas.List.Elements.{All-weaker, All-map, All-nil, All-cons}
 use Rattle.cry_base.specs.Refusing.{deepest, height_of, is_node_within}
 use Rattle.cry_base.specs.Store.{Store, FolderEntry, FileEntry, way_up, way_to_root, folder_entry, file_entry, folder_node, file_node, nodes_of, depth_of, is_within}
 use Rattle.cry_base.specs.Stepping.{with_folder, with_file}
 use Rattle.cry_base.specs.declared.roles.Node.{Node}
 use Rattle.folder_nodes.specs.Trees.{IsTree}
-use Rattle.folder_nodes.proofs.Lookups.{All-found, pairs_map}
+use Rattle.folder_nodes.proofs.Lookups.{pairs_map}
 use Rattle.folder_nodes.proofs.Treed.{rises, levels_are, depth_told, file_depth_told, within_on, within_off}
 use Rattle.folder_nodes.proofs.Upward.{at, at_id, Rises, rises_same, rises_way, rises_like}
 

@@ -1,5 +1,5 @@
 -- A tree stays one where a folder without children or a file is removed.
-use Rattle.std.proofs.Common.{◌≡◌, ◌≢◌, ℕ, zero, suc, ◌<◌, ◌≤◌, Bool, true, false, cond, not, ◌==◌, ◌||◌, List, length, filter, find, Option, Some, None, refl, sym, ap, ◌∙◌, subst, arith}
+use Rattle.std.proofs.Common.{◌≡◌, ◌≢◌, ℕ, ◌<◌, ◌≤◌, Bool, true, false, not, ◌==◌, ◌||◌, length, Some, None, refl, sym, ◌∙◌, subst, arith}
 use Rattle.std.specs.List.{All, list_any}
 use Rattle.std.proofs.lemmas.Bool.{eqb-true, eq-eqb}
 use Rattle.std.proofs.lemmas.List.Elements.{All-weaker}
@@ -10,7 +10,7 @@ use Rattle.cry_base.specs.Stepping.{without_folder, without_file}
 use Rattle.folder_nodes.specs.Trees.{IsTree}
 use Rattle.folder_nodes.proofs.Lookups.{All-found, All-kept, All-none}
 use Rattle.folder_nodes.proofs.Treed.{rises, levels_are}
-use Rattle.folder_nodes.proofs.Upward.{at, at_id, at_others, at_itself, others, Rises, rises_way, rises_like}
+use Rattle.folder_nodes.proofs.Upward.{at, at_others, at_itself, others, Rises, rises_way, rises_like}
 
 or_none : (a b : Bool) → (a || b) ≡ false → (a ≡ false) × (b ≡ false)
 or_none true b e = absurd (cc)

@@ -1,13 +1,13 @@
 -- What is done to rows is done to the plain store that they stand for.
-use Rattle.std.proofs.Common.{◌≡◌, ◌≢◌, ℕ, zero, suc, ◌+◌, ◌-◌, ◌<◌, ◌≤◌, Bool, true, false, cond, not, ◌==◌, ◌||◌, List, [], ◌∷◌, ◌++◌, length, map, filter, find, Option, Some, None, refl, sym, ap, ◌∙◌, subst, arith}
+use Rattle.std.proofs.Common.{◌≡◌, ℕ, ◌+◌, ◌-◌, ◌<◌, ◌≤◌, Bool, true, false, cond, not, ◌==◌, ◌||◌, List, [], ◌∷◌, ◌++◌, length, map, filter, find, Option, Some, None, refl, sym, ap, ◌∙◌, subst, arith}
 use Rattle.std.specs.Prelude.{nat_lt}
-use Rattle.std.specs.List.{All, AllPairs, list_any}
+use Rattle.std.specs.List.{All, list_any}
 use Rattle.std.specs.Option.{option_map}
-use Rattle.std.proofs.lemmas.Bool.{lt-ltb, le-ltb, ltb-false}
+use Rattle.std.proofs.lemmas.Bool.{lt-ltb, le-ltb}
 use Rattle.std.proofs.lemmas.List.{map-append}
 use Rattle.std.proofs.lemmas.List.Elements.{All-nil, All-cons, All-head, All-tail, All-weaker}
 use Rattle.cry_base.specs.Refusing.{has_child}
-use Rattle.cry_base.specs.Store.{Store, FolderEntry, FileEntry, no_store, and_above, way_up, way_to_root, folder_entry, file_entry}
+use Rattle.cry_base.specs.Store.{Store, FolderEntry, FileEntry, and_above, way_up, way_to_root, folder_entry, file_entry}
 use Rattle.cry_base.specs.Stepping.{with_new_folder, with_new_file, with_folder, with_file, without_folder, without_file}
 use Rattle.sorted_table.specs.Rows.{row_at, with_row, without, replaced}
 use Rattle.folder_nodes.specs.Bare.{folder_of_row, file_of_row, bare_store}
@@ -16,7 +16,6 @@ use Rattle.folder_nodes.specs.declared.rows.FolderRow.{FolderRow}
 use Rattle.folder_nodes.specs.declared.rows.FileRow.{FileRow}
 use Rattle.std.proofs.lemmas.Bool.{eqb-true, false≢true}
 use Rattle.cry_base.specs.declared.ids.FolderId.{FolderId}
-use Rattle.cry_base.specs.declared.ids.FileId.{FileId}
 use Rattle.folder_nodes.specs.Changing.{HasPlace, HasPlaceFor, number_of}
 use Rattle.folder_nodes.proofs.Added.{nothing_at, tree_begun, folder_added}
 use Rattle.folder_nodes.proofs.Treed.{depth_told}

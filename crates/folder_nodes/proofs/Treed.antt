@@ -1,11 +1,11 @@
 -- What a tree's ways up are, and what they tell of depths.
-use Rattle.std.proofs.Common.{◌≡◌, ◌≢◌, ℕ, zero, suc, ◌+◌, ◌-◌, ◌<◌, ◌≤◌, Bool, true, false, cond, ◌==◌, ◌||◌, List, [], ◌∷◌, ◌++◌, length, map, drop, Option, Some, None, refl, sym, ap, ◌∙◌, subst, arith, length-append, length-drop}
+use Rattle.std.proofs.Common.{◌≡◌, ℕ, zero, suc, ◌+◌, ◌-◌, ◌≤◌, false, ◌==◌, ◌||◌, List, [], ◌∷◌, length, map, drop, Option, Some, None, refl, ap, ◌∙◌, arith, length-append, length-drop}
 use Rattle.std.proofs.lemmas.List.{length-map}
 use Rattle.std.specs.List.{list_any}
 use Rattle.std.specs.Option.{unwrap_or, option_map}
 use Rattle.cry_base.specs.Store.{Store, FolderEntry, FileEntry, backwards, way_up, way_to_root, folder_entry, file_entry, folder_node, file_node, folder_names, file_names, node_names, depth_of, is_within}
 use Rattle.folder_nodes.specs.Trees.{IsTree}
-use Rattle.folder_nodes.proofs.Upward.{at, Rises, rises_way, rises_fuel, rises_few, rises_same, way_rises, way_none, way_some}
+use Rattle.folder_nodes.proofs.Upward.{Rises, rises_way, rises_fuel, rises_few, way_rises, way_none, way_some}
 
 -- each way up ends
 pub rises : (s : Store) → IsTree s → (f : ℕ) → (n : ℕ) × (n ≤ 65) × Rises s.folders n f

@@ -1,5 +1,5 @@
 -- What contracts see of a shape.
-use Rattle.std.specs.Prelude.{ℕ, List, [], map, min}
+use Rattle.std.specs.Prelude.{ℕ, List, [], map}
 use Rattle.cry_base.specs.Store.{Store, FolderEntry, FileEntry}
 use Rattle.folder_nodes.specs.declared.rows.FolderRow.{FolderRow}
 use Rattle.folder_nodes.specs.declared.rows.FileRow.{FileRow}

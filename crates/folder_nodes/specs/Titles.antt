@@ -1,5 +1,5 @@
 -- What contracts see of names.
-use Rattle.std.specs.Prelude.{ℕ, Bool, false, ◌==◌, List, [], map, find, Option, Some, None, option_map}
+use Rattle.std.specs.Prelude.{ℕ, Bool, false, ◌==◌, List, [], map, find, Option, Some, None}
 use Rattle.cry_base.specs.Store.{Store, FolderEntry, FileEntry}
 use Rattle.cry_base.specs.declared.roles.Node.{Node}
 use Rattle.cry_base.specs.declared.roles.Node.TheVariants.{Folder, File}

@@ -1,5 +1,4 @@
 -- A row of names as contracts see it.
-use Rattle.std.specs.Prelude.{List, map}
 use Rattle.folder_nodes.specs.Titles.{Title}
 use Rattle.folder_nodes.specs.declared.titles.NameRow.{NameRow}
 

@@ -22,7 +22,7 @@ pub fn find(shape: &Shape, names: &Names, path: &[u8]) -> Option<Node>
     walk_path(shape, names, path)
 }
 
-fn walk_path(shape: &Shape, names: &Names, path: &[u8]) -> Option<Node>
+pub(crate) fn walk_path(shape: &Shape, names: &Names, path: &[u8]) -> Option<Node>
     ensures { result ≡ walked (tree_store shape.now.tree names.now) path.now }
 {
     if !path_ok(path) {

@@ -1,6 +1,4 @@
-use Rattle.std.proofs.Common.{◌≡◌, ◌∙◌, List, Option, Some, None, sym, ap}
-use Rattle.cry_base.specs.Naming.{names_behind}
-use Rattle.cry_base.specs.declared.roles.Node.{Node}
+use Rattle.std.proofs.Common.{◌≡◌, ◌∙◌, Some, None, sym, ap}
 use Rattle.cry_base.specs.declared.roles.Node.TheVariants.{Folder, File}
 use Rattle.folder_nodes.specs.Pieces.{pieces_of}
 use Rattle.folder_nodes.specs.Titles.{tree_store}

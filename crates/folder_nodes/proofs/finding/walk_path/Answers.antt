@@ -1,4 +1,4 @@
-use Rattle.std.proofs.Common.{◌≡◌, ◌∙◌, true, false, sym, ap}
+use Rattle.std.proofs.Common.{◌≡◌, ◌∙◌, true, false, ap}
 use Rattle.std.specs.Prelude.{is_some}
 use Rattle.cry_base.specs.Naming.{is_path, names_behind}
 use Rattle.cry_base.specs.Store.{folder_entry}

@@ -1,4 +1,4 @@
-use Rattle.std.proofs.Common.{add-one, sym}
+use Rattle.std.proofs.Common.{add-one}
 use Rattle.std.proofs.lemmas.List.{take_rest}
 use Rattle.folder_nodes.proofs.Splitting.{split_found, split_not_found}
 use Rattle.folder_nodes.proofs.naming.first_piece.Goals as goal

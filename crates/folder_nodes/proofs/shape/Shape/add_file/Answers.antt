@@ -1,4 +1,4 @@
-use Rattle.std.proofs.Common.{◌≡◌, sym, subst}
+use Rattle.std.proofs.Common.{sym, subst}
 use Rattle.folder_nodes.specs.Bare.{Shaped, bare_store}
 use Rattle.folder_nodes.specs.Changing.{HasPlace}
 use Rattle.folder_nodes.specs.Trees.{IsTree}

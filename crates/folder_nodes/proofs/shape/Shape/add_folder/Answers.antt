@@ -1,5 +1,4 @@
-use Rattle.std.proofs.Common.{◌≡◌, ◌+◌, [], sym, subst}
-use Rattle.cry_base.specs.Stepping.{with_new_folder}
+use Rattle.std.proofs.Common.{sym, subst}
 use Rattle.folder_nodes.specs.Bare.{Shaped, bare_store}
 use Rattle.folder_nodes.specs.Changing.{HasPlaceFor, number_of}
 use Rattle.folder_nodes.specs.Trees.{IsTree}

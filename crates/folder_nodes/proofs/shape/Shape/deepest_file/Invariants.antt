@@ -1,4 +1,4 @@
-use Rattle.std.proofs.Common.{◌≡◌, ◌+◌, ◌≤◌, max, cond, map, take}
+use Rattle.std.proofs.Common.{◌≡◌, ◌+◌, max, cond, map, take}
 use Rattle.std.specs.List.{fold}
 use Rattle.cry_base.specs.Store.{depth_of, folder_node, is_within}
 use Rattle.folder_nodes.proofs.shape.Shape.deepest_file.Given as goal

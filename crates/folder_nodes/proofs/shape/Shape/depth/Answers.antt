@@ -1,4 +1,3 @@
-use Rattle.std.proofs.Common.{◌≤◌, arith}
 use Rattle.folder_nodes.proofs.Climbing.{climb_on, climb_end, climb_full}
 use Rattle.folder_nodes.proofs.shape.Shape.depth.Goals as goal
 

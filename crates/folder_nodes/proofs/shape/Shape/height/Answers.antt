@@ -1,4 +1,4 @@
-use Rattle.std.proofs.Common.{◌≡◌, ◌-◌, ◌≤◌, ◌∙◌, ap, arith, max, map, sym, subst}
+use Rattle.std.proofs.Common.{◌≡◌, ◌-◌, ◌≤◌, ◌∙◌, ap, arith, max, map, subst}
 use Rattle.std.specs.List.{fold}
 use Rattle.cry_base.specs.Refusing.{deepest, height_of}
 use Rattle.cry_base.specs.Store.{FolderEntry, folder_entry, folder_node, depth_of}

@@ -1,4 +1,4 @@
-use Rattle.std.proofs.Common.{◌≡◌, ◌∙◌, sym, ap, not, ◌||◌, ◌==◌, List}
+use Rattle.std.proofs.Common.{◌∙◌, sym, ap, not, ◌||◌, ◌==◌, List}
 use Rattle.std.specs.List.{list_any}
 use Rattle.folder_nodes.specs.declared.rows.FolderRow.{FolderRow}
 use Rattle.folder_nodes.specs.declared.rows.FileRow.{FileRow}

@@ -1,4 +1,4 @@
-use Rattle.std.proofs.Common.{◌≡◌, sym, subst}
+use Rattle.std.proofs.Common.{sym, subst}
 use Rattle.std.specs.Prelude.{IsSome}
 use Rattle.cry_base.specs.Store.{file_entry}
 use Rattle.folder_nodes.specs.Bare.{Shaped, bare_store}
