@@ -2,6 +2,7 @@
 ghost use Rattle.std.specs.Prelude.{◌≡◌, length, IfOk};
 
 mod fresh;
+mod writing;
 
 use super::*;
 use chacha_seal::{Key, OwnerK};
@@ -31,7 +32,7 @@ fn disk(alloc: Global, at: usize, byte: u8, fails: &[u64]) -> Result<MemDisk, Fa
     for number in fails {
         numbers.push(*number)?;
     }
-    Ok(MemDisk::make(alloc, image, FRESH.len(), 0, numbers, None)?)
+    Ok(MemDisk::make(alloc, image, FRESH.len(), 100, numbers, None)?)
 }
 
 #[test]
