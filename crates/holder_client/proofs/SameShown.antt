@@ -30,8 +30,8 @@ use Rattle.holder_client.proofs.FreshShown.{first_placed, second_placed, fresh_l
 use Rattle.role_graph.specs.Rights.Who.{TheOwner}
 use Rattle.role_graph.specs.Roles.{clear_of, sub_of, back_of, files_of, data_of}
 use Rattle.role_graph.specs.Edges.{edge}
-use Rattle.move_plan.specs.Note.{Note}
-use Rattle.move_plan.specs.Note.Note.{Root}
+use Rattle.record_format.specs.Noted.{Note}
+use Rattle.record_format.specs.Noted.Note.{Root}
 use Rattle.move_plan.specs.Fitting.{row_fits, needs_root, fits, folder_stands}
 use Rattle.public_fold.specs.Journal.{Stand, nothing}
 use Rattle.public_fold.specs.KeyStep.{Stepped, no_keys, next_epoch}

@@ -6,7 +6,7 @@ use Rattle.record_format.specs.Spellable.{shortest_text, longest_text}
 use Rattle.commit_journal.specs.Answering.{Fault, Damaged, and_then}
 use Rattle.commit_journal.specs.Placed.{PlainBody, Commands, NewEpoch, PlainPlaced}
 use Rattle.role_graph.specs.Roles.{role_id}
-use Rattle.move_plan.specs.Note.{Note}
+use Rattle.record_format.specs.Noted.{Note}
 use Rattle.public_fold.specs.Journal.{Stand, note_step}
 use Rattle.public_fold.specs.KeyStep.{Stepped, next_epoch}
 use Rattle.public_fold.specs.Records.{Link, Content}

@@ -13,8 +13,8 @@ use Rattle.commit_journal.specs.Placed.{PlainBody, Commands, NewEpoch, PlainPlac
 use Rattle.role_graph.specs.Rights.{Who}
 use Rattle.role_graph.specs.Rights.Who.{TheOwner, TheHolder}
 use Rattle.role_graph.specs.Roles.{holder_role}
-use Rattle.move_plan.specs.Note.{Note}
-use Rattle.move_plan.specs.Note.Note.{NewHolder}
+use Rattle.record_format.specs.Noted.{Note}
+use Rattle.record_format.specs.Noted.Note.{NewHolder}
 use Rattle.public_fold.specs.Journal.{nothing}
 use Rattle.holder_client.specs.Folding.{folded}
 use Rattle.commit_journal.specs.Logs.{holder_log}

@@ -1,4 +1,3 @@
-pub mod Note
 pub mod Noting
 pub mod Change
 pub mod Fitting

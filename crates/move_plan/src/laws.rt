@@ -4,7 +4,7 @@ ghost use Rattle.cry_base.specs.Store.{Store};
 ghost use Rattle.role_graph.specs.Edges.{edges};
 ghost use Rattle.move_plan.specs.Change.{change_of};
 ghost use Rattle.move_plan.specs.Fitting.{public_of};
-ghost use Rattle.move_plan.specs.Note.{Note};
+ghost use Rattle.record_format.specs.Noted.{Note};
 
 /// The edges, and what a note changes, follow from what everyone may see.
 pub fn changes_are_public()

@@ -7,7 +7,7 @@ ghost use Rattle.move_plan.specs.Fitting.{fits};
 ghost use Rattle.role_graph.specs.Edges.{edge};
 ghost use Rattle.role_graph.specs.Roles.{sub_of, back_of, clear_of};
 ghost use Rattle.move_plan.specs.Change.{change_of};
-ghost use Rattle.move_plan.specs.Note.Note.{Root, NewHolder, NewFolder, NewFile, Rewrite, NameFile, NameFolder, DropFile, DropFolder, ShiftFile, ShiftFolder, Give, Take};
+ghost use Rattle.record_format.specs.Noted.Note.{Root, NewHolder, NewFolder, NewFile, Rewrite, NameFile, NameFolder, DropFile, DropFolder, ShiftFile, ShiftFolder, Give, Take};
 ghost use Rattle.move_plan.specs.Noting.{note_of};
 
 /// The notes of commands on a store with the folder /a and the file /a/x.

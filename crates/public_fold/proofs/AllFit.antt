@@ -7,7 +7,7 @@ use Rattle.cry_base.specs.Store.{Store, no_store, root_store}
 use Rattle.cry_base.specs.Stepping.{effect}
 use Rattle.move_plan.specs.Change.{Change, change_of}
 use Rattle.move_plan.specs.Fitting.{row_fits, needs_root, fits}
-use Rattle.move_plan.specs.Note.Note.{Root}
+use Rattle.record_format.specs.Noted.Note.{Root}
 use Rattle.move_plan.specs.Noting.{note_of}
 use Rattle.role_graph.specs.Edges.{edges}
 use Rattle.public_fold.specs.Journal.{Journal, Entry, Stand, nothing, first_key, note_step, entry_step, entry_store, stand_then}

@@ -13,7 +13,7 @@ use Rattle.role_graph.specs.Roles.{same_role}
 use Rattle.role_graph.specs.Edges.{edges, same_edge}
 use Rattle.role_graph.proofs.Comparing.{same_role_tells}
 use Rattle.move_plan.specs.Change.{Change, change_of}
-use Rattle.move_plan.specs.Note.Note.{Root}
+use Rattle.record_format.specs.Noted.Note.{Root}
 use Rattle.move_plan.specs.Noting.{note_of}
 use Rattle.public_fold.specs.Journal.{Journal, Entry, Stand, nothing, first_key, note_step, entry_step, entry_store, stand_then, steps_from, steps_of}
 use Rattle.public_fold.specs.Journal.Entry.{Session, Made, Did}

@@ -21,8 +21,8 @@ use Rattle.role_graph.specs.Edges.{edge, edge_before, folder_edges, parent_edges
 use Rattle.role_graph.specs.RightsByReach.{HasFolder, IsSettled}
 use Rattle.role_graph.proofs.Edging.{In-order, edges_told}
 use Rattle.move_plan.specs.Change.{Change, no_change, change_of, edge_into_file, parent_of_folder}
-use Rattle.move_plan.specs.Note.{Note}
-use Rattle.move_plan.specs.Note.Note.{Root, NewHolder, NewFolder, NewFile, Rewrite, NameFile, NameFolder, DropFile, DropFolder, ShiftFile, ShiftFolder, Give, Take}
+use Rattle.record_format.specs.Noted.{Note}
+use Rattle.record_format.specs.Noted.Note.{Root, NewHolder, NewFolder, NewFile, Rewrite, NameFile, NameFolder, DropFile, DropFolder, ShiftFile, ShiftFolder, Give, Take}
 use Rattle.move_plan.specs.Noting.{write_note, remove_note, rename_note, move_note, note_of}
 use Rattle.public_fold.specs.Counted.{AreCounted}
 use Rattle.public_fold.specs.Journal.{Journal, Entry, Stand, nothing, first_key, note_step, entry_step, entry_store, stand_then, stand_after, steps_from, steps_of, store_of, keys_of}

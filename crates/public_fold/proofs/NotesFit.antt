@@ -12,7 +12,7 @@ use Rattle.cry_base.specs.declared.roles.Node.TheVariants.{Folder, File}
 use Rattle.cry_base.proofs.Finding.{node_found}
 use Rattle.move_plan.specs.Change.{folder_of_file, parent_of_folder}
 use Rattle.move_plan.specs.Fitting.{folder_stands, has_depth_left, file_stands, is_other_folder, may_go_into, row_fits, needs_root, fits}
-use Rattle.move_plan.specs.Note.{Note}
+use Rattle.record_format.specs.Noted.{Note}
 use Rattle.move_plan.specs.Noting.{write_note, remove_note, rename_note, move_note, note_of}
 use Rattle.public_fold.specs.Journal.{Journal, store_of}
 use Rattle.public_fold.specs.Valid.{IsValid}

@@ -20,8 +20,8 @@ use Rattle.role_graph.proofs.Comparing.{same_role_tells}
 use Rattle.role_graph.specs.Ascending.{with_role, ascending}
 use Rattle.rekey_walk.specs.Dirty.{plan}
 use Rattle.move_plan.specs.Change.{Change, no_change, change_of}
-use Rattle.move_plan.specs.Note.{Note}
-use Rattle.move_plan.specs.Note.Note.{Root, NewHolder, NewFolder, NewFile, Rewrite, NameFile, NameFolder, DropFile, DropFolder, ShiftFile, ShiftFolder, Give, Take}
+use Rattle.record_format.specs.Noted.{Note}
+use Rattle.record_format.specs.Noted.Note.{Root, NewHolder, NewFolder, NewFile, Rewrite, NameFile, NameFolder, DropFile, DropFolder, ShiftFile, ShiftFolder, Give, Take}
 use Rattle.move_plan.specs.Noting.{note_of}
 use Rattle.public_fold.specs.Journal.{Journal, Entry, Stand, nothing, first_key, note_step, entry_step, entry_store, stand_then, stand_after, keys_of}
 use Rattle.public_fold.specs.Journal.Entry.{Session, Made, Did}

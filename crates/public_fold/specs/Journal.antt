@@ -4,8 +4,8 @@ use Rattle.cry_base.specs.Requests.{Request}
 use Rattle.cry_base.specs.Store.{Store, no_store, root_store}
 use Rattle.cry_base.specs.Stepping.{effect}
 use Rattle.role_graph.specs.Edges.{edges}
-use Rattle.move_plan.specs.Note.{Note}
-use Rattle.move_plan.specs.Note.Note.{Root}
+use Rattle.record_format.specs.Noted.{Note}
+use Rattle.record_format.specs.Noted.Note.{Root}
 use Rattle.move_plan.specs.Noting.{note_of}
 use Rattle.move_plan.specs.Change.{change_of}
 use Rattle.public_fold.specs.Records.{pieces_of}

@@ -1,12 +1,12 @@
 -- Which notes fit what stands. This project's own, docs/FORMAT.md, "The key step".
 use Rattle.std.specs.Prelude.{◌-◌, ◌^◌, Bool, true, ◌&&◌, nat_lt, List, [], ◌∷◌}
-use Rattle.move_plan.specs.Note.{Note}
+use Rattle.record_format.specs.Noted.{Note}
 use Rattle.move_plan.specs.Noting.{note_of}
 use Rattle.move_plan.specs.Fitting.{fits}
 use Rattle.public_fold.specs.KeyStep.{Stepped}
 use Rattle.public_fold.specs.Journal.{Entry, Stand, stand_then, entry_step}
 use Rattle.public_fold.specs.Journal.Entry.{Session, Made, Did}
-use Rattle.move_plan.specs.Note.Note.{Root}
+use Rattle.record_format.specs.Noted.Note.{Root}
 
 -- the serials that a step takes leave the epoch's count below 2^32 - 1
 unfoldable pub has_count : Stepped → Bool

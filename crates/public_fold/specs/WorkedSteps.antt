@@ -8,7 +8,7 @@ use Rattle.cry_base.specs.declared.limits.Limits.{Limits}
 use Rattle.cry_base.specs.declared.roles.Role.{Role}
 use Rattle.std.specs.Cmp.Lexicographic.{pointwise}
 use Rattle.role_graph.specs.Edges.{edges, same_edge}
-use Rattle.move_plan.specs.Note.Note.{Root}
+use Rattle.record_format.specs.Noted.Note.{Root}
 use Rattle.move_plan.specs.Noting.{note_of}
 use Rattle.move_plan.specs.Change.{Change, no_change, change_of}
 use Rattle.rekey_walk.specs.WorkedMarks.{marks}

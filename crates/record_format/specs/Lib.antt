@@ -5,3 +5,4 @@ pub mod Spellable
 pub mod Fields
 pub mod Reading
 pub mod Laws
+pub mod Noted

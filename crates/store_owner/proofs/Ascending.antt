@@ -14,8 +14,8 @@ use Rattle.role_graph.specs.Edges.{edges}
 use Rattle.role_graph.specs.Roles.{role_id}
 use Rattle.move_plan.specs.Change.{Change, change_of}
 use Rattle.move_plan.specs.Fitting.{fits}
-use Rattle.move_plan.specs.Note.{Note}
-use Rattle.move_plan.specs.Note.Note.{Root}
+use Rattle.record_format.specs.Noted.{Note}
+use Rattle.record_format.specs.Noted.Note.{Root}
 use Rattle.move_plan.specs.Noting.{note_of}
 use Rattle.public_fold.specs.Records.{Piece, pieces_of}
 use Rattle.public_fold.specs.KeyStep.{KeyState, no_keys, next_epoch, next_serial, numbered, given, renewed, published, step_with, key_step}

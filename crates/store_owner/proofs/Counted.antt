@@ -11,8 +11,8 @@ use Rattle.cry_base.proofs.Members.{In-append, In-map, In-filter}
 use Rattle.role_graph.specs.Edges.{edges}
 use Rattle.role_graph.specs.Roles.{same_role, role_id}
 use Rattle.move_plan.specs.Change.{Change, change_of}
-use Rattle.move_plan.specs.Note.{Note}
-use Rattle.move_plan.specs.Note.Note.{Root}
+use Rattle.record_format.specs.Noted.{Note}
+use Rattle.record_format.specs.Noted.Note.{Root}
 use Rattle.move_plan.specs.Noting.{note_of}
 use Rattle.cry_base.specs.Requests.{Request}
 use Rattle.cry_base.specs.Stepping.{effect}

@@ -21,8 +21,8 @@ use Rattle.commit_journal.specs.Placed.{PlainBody, Commands, NewEpoch}
 use Rattle.commit_journal.proofs.Standings.{length-image}
 use Rattle.key_links.proofs.SealedLemmas.{length-sealed_link, length-sealed_content}
 use Rattle.role_graph.specs.Roles.{role_id}
-use Rattle.move_plan.specs.Note.{Note}
-use Rattle.move_plan.specs.Note.Note.{Root, NewHolder, NewFolder, NewFile, Rewrite, NameFile, NameFolder, DropFile, DropFolder, ShiftFile, ShiftFolder, Give, Take}
+use Rattle.record_format.specs.Noted.{Note}
+use Rattle.record_format.specs.Noted.Note.{Root, NewHolder, NewFolder, NewFile, Rewrite, NameFile, NameFolder, DropFile, DropFolder, ShiftFile, ShiftFolder, Give, Take}
 use Rattle.move_plan.specs.Noting.{note_of, write_note, remove_note, rename_note, move_note}
 use Rattle.public_fold.specs.Records.{Link, Content, sealing_role, text_of}
 use Rattle.public_fold.specs.KeyStep.{Stepped}

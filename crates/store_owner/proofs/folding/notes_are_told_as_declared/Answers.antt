@@ -1,7 +1,7 @@
 use Rattle.std.proofs.Common.{◌≡◌, refl}
 use Rattle.holder_client.specs.Told.{told_note}
-use Rattle.move_plan.specs.Note.{Note}
-use Rattle.move_plan.specs.Note.Note.{Root, NewHolder, NewFolder, NewFile, Rewrite, NameFile, NameFolder, DropFile, DropFolder, ShiftFile, ShiftFolder, Give, Take}
+use Rattle.record_format.specs.Noted.{Note}
+use Rattle.record_format.specs.Noted.Note.{Root, NewHolder, NewFolder, NewFile, Rewrite, NameFile, NameFolder, DropFile, DropFolder, ShiftFile, ShiftFolder, Give, Take}
 use Rattle.record_format.specs.declared.note.Note.{Note as Declared}
 use Rattle.record_format.specs.declared.note.Note.TheVariants as declared
 use Rattle.store_owner.specs.Notes.{declared_note}
