@@ -1,4 +1,6 @@
 //! `make` over fakes: the worked store, and faults in the middle of things.
+ghost use Rattle.std.specs.Prelude;
+
 use crate::fakes::{MAKE, OWNER_LINE, blank, counting, run_top};
 use cry_base::List;
 use cry_io::{Failed, MemDisk, MemSink, Sink};
