@@ -15,3 +15,4 @@ pub mod Tails
 pub mod Walked
 pub mod Walks
 pub mod Written
+pub mod Writers

@@ -14,3 +14,4 @@ pub mod Standing
 pub mod Committing
 pub mod Journals
 pub mod Opening
+pub mod WholeLogs

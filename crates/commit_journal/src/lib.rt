@@ -12,6 +12,7 @@ mod keeping;
 mod laws;
 mod log_laws;
 mod opening;
+mod opening_laws;
 mod owned;
 mod past;
 mod placed;
@@ -33,6 +34,7 @@ pub use log_laws::{
     standing_bytes_are_opened_whole,
 };
 pub use opening::Opened;
+pub use opening_laws::owner_opens_the_writers_log;
 pub use placed::{Body, Placed};
 pub use places::{content_place, link_place};
 pub use reading::read_owner;
