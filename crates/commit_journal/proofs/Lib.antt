@@ -8,6 +8,8 @@ pub mod KeptLemmas
 pub mod OwnedLemmas
 pub mod Pieces
 pub mod Spelled
+pub mod Refilled
+pub mod Reopened
 pub mod Standings
 pub mod Stood
 pub mod Stopped

@@ -89,7 +89,7 @@ owned_log-skip limit owner past zero (byte ∷ rest) = refl
 owned_log-skip limit owner past (suc skip) (byte ∷ rest) = owned_log-skip limit owner past skip rest
 
 -- a batch more
-owned_walks_on : (limit : ℕ) (owner : List ℕ) (past : Past) (rest : List ℕ) (turn : PlainTurn) → eqb past.gate 1 ≡ true →
+pub owned_walks_on : (limit : ℕ) (owner : List ℕ) (past : Past) (rest : List ℕ) (turn : PlainTurn) → eqb past.gate 1 ≡ true →
     owned_at limit owner past rest ≡ Ok turn → past.at < turn.past.at →
     owned_log limit owner past 0 rest ≡ owned_before (turn.placed ∷ []) (owned_log limit owner turn.past 0 (drop (turn.past.at - past.at) rest))
 unfolding owned_log and_then

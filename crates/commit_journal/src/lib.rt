@@ -34,7 +34,9 @@ pub use log_laws::{
     standing_bytes_are_opened_whole,
 };
 pub use opening::Opened;
-pub use opening_laws::owner_opens_the_writers_log;
+pub use opening_laws::{
+    filled_bytes_stand_whole, owner_opens_the_writers_log, standing_bytes_are_opened_as_their_log,
+};
 pub use placed::{Body, Placed};
 pub use places::{content_place, link_place};
 pub use reading::read_owner;
