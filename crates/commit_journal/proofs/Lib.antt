@@ -5,6 +5,7 @@ pub mod Followed
 pub mod JournalLemmas
 pub mod Judged
 pub mod KeptLemmas
+pub mod OpenedJournals
 pub mod OwnedLemmas
 pub mod Pieces
 pub mod Spelled
@@ -17,4 +18,5 @@ pub mod Tails
 pub mod Walked
 pub mod Walks
 pub mod Written
+pub mod Wider
 pub mod Writers

@@ -43,7 +43,7 @@ unfolding and_then
 head_tested past head left true is = rw (ends_within past head left is) refl
 head_tested past head left false is = refl
 
-same_head : (past : Past) (rest : List ℕ) → owned_head 268435456 past rest ≡ head_at past rest
+pub same_head : (past : Past) (rest : List ℕ) → owned_head 268435456 past rest ≡ head_at past rest
 unfolding owned_head head_at
 same_head past rest = head_tested past (head_of (take 13 rest)) (length rest) (is_batch past (head_of (take 13 rest)) (length rest)) refl
 

@@ -35,7 +35,9 @@ pub use log_laws::{
 };
 pub use opening::Opened;
 pub use opening_laws::{
-    filled_bytes_stand_whole, owner_opens_the_writers_log, standing_bytes_are_opened_as_their_log,
+    filled_bytes_stand_whole, opened_batches_are_the_writers,
+    opened_journal_stands_for_its_batches, owner_opens_the_writers_log,
+    standing_bytes_are_never_refused, standing_bytes_are_opened_as_their_log,
 };
 pub use placed::{Body, Placed};
 pub use places::{content_place, link_place};

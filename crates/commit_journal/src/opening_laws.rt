@@ -8,7 +8,7 @@ ghost use Rattle.commit_journal.specs.Journals.{IsJournalOf};
 ghost use Rattle.commit_journal.specs.Laws.{batches_from, placed_from};
 ghost use Rattle.commit_journal.specs.Logs.{writer_log};
 ghost use Rattle.commit_journal.specs.Opening.{IsOpened, OwnedLog, opening_verdict, plain_opened, slots_filled};
-ghost use Rattle.commit_journal.specs.Placed.{PlainBody};
+ghost use Rattle.commit_journal.specs.Placed.{PlainBody, plain_log};
 ghost use Rattle.commit_journal.specs.Standing.{StandsFor, StandsWhole};
 ghost use Rattle.commit_journal.specs.WholeLogs.{StandsWithin, whole_log};
 
@@ -29,4 +29,26 @@ pub fn standing_bytes_are_opened_as_their_log()
 pub fn filled_bytes_stand_whole()
     ensures { (owner : List ℕ) (bodies : List PlainBody) (bytes : List ℕ) → StandsFor owner (batches_from 0 0 bodies) bytes →
         StandsWhole owner (batches_from 0 0 bodies) (slots_filled owner (placed_from 42 0 0 bodies) bytes) }
+{}
+
+/// Law: a log that is opened within any store limit is the one that the owner reads who opens for writing.
+pub fn opened_batches_are_the_writers()
+    ensures { (limit : ℕ) (owner bytes : List ℕ) (log : OwnedLog) → opening_verdict limit owner bytes ≡ Ok log → writer_log owner bytes ≡ Ok log.placed }
+{}
+
+/// Law: a journal that was opened on bytes which stand for batches stands for these very batches. They are what was opened
+/// with it, and with their slots filled the bytes stand for them as a whole.
+pub fn opened_journal_stands_for_its_batches()
+    ensures journal { (limit : ℕ) (owner : List ℕ) (bodies : List PlainBody) (bytes : List ℕ) (o : Opened) → limit ≤ 268435456 → StandsWithin limit owner bodies bytes →
+        opening_verdict limit owner bytes ≡ Ok (plain_opened o) → IsOpened owner limit o.journal → IsJournalOf (batches_from 0 0 bodies) o.journal }
+    ensures placed { (limit : ℕ) (owner : List ℕ) (bodies : List PlainBody) (bytes : List ℕ) (o : Opened) → limit ≤ 268435456 → StandsWithin limit owner bodies bytes →
+        opening_verdict limit owner bytes ≡ Ok (plain_opened o) → plain_log o.placed ≡ placed_from 42 0 0 bodies }
+    ensures filled { (limit : ℕ) (owner : List ℕ) (bodies : List PlainBody) (bytes : List ℕ) (o : Opened) → limit ≤ 268435456 → StandsWithin limit owner bodies bytes →
+        opening_verdict limit owner bytes ≡ Ok (plain_opened o) → StandsWhole owner (batches_from 0 0 bodies) (slots_filled owner (plain_log o.placed) bytes) }
+{}
+
+/// Law: bytes that stand for batches within the store limit are opened, if the disk doesn't fail and memory is not wanting.
+pub fn standing_bytes_are_never_refused()
+    ensures { (limit : ℕ) (owner : List ℕ) (bodies : List PlainBody) (bytes : List ℕ) (fault : OpenFault) → limit ≤ 268435456 → StandsWithin limit owner bodies bytes →
+        IsFault fault (opening_verdict limit owner bytes) → (fault ≡ faults.DiskFault) ⊎ (fault ≡ faults.OutOfMemory) }
 {}
