@@ -1,4 +1,5 @@
 pub mod BundleLines
+pub mod Digits
 pub mod HexText
 pub mod Numbers
 pub mod PrintedLengths

@@ -1,12 +1,14 @@
 //! Lines in and out: what a reader is handed, and what is printed.
 #![tactic(auto)]
 
+mod commands;
 mod fault;
 mod hex_text;
 pub mod laws;
 mod printing;
 mod reading;
 
+pub use commands::read_line;
 pub use fault::LineFault;
 pub use printing::{print_line, print_owner};
 pub use reading::read_bundle;

@@ -42,7 +42,7 @@ fn holder_in(fields: &[u8]) -> Option<Bundle>
     Some(Bundle::Holder { holder, key })
 }
 
-fn first_space(fields: &[u8]) -> Option<usize>
+pub(crate) fn first_space(fields: &[u8]) -> Option<usize>
     ensures place { result ≡ position (λ byte. byte == 32) fields.now }
     ensures within { IfSome result (λ place. place < length fields.now) }
 {
@@ -56,7 +56,7 @@ fn key_in(field: &[u8]) -> Option<[u8; 32]>
     <[u8; 32] as FromHex>::from_hex(field).ok()
 }
 
-fn number_in(field: &[u8]) -> Option<u32>
+pub(crate) fn number_in(field: &[u8]) -> Option<u32>
     ensures { result ≡ number_of field.now }
 {
     // `parse` would take a sign and leading zeros too.
