@@ -20,11 +20,12 @@ use Rattle.hex.specs.Hex.{IsBytes, decode_sized, encode_lower, lower_digits}
 use Rattle.hex.proofs.HexLemmas.{length-encode_with, decode_sized-ok, decode_sized-twice, decode_of-encode_lower}
 use Rattle.script_text.specs.Printing.{owner_line}
 use Rattle.script_text.specs.Reading.{IsNumber, IsKey, IsBundleLine, number_of, key_of, behind, holder_of, bundle_behind, bundle_of}
+use Rattle.script_text.proofs.Fields.{behind_told, behind_found, is_space, cut_told, cut_at}
 use Rattle.script_text.proofs.HexText.{hex_of_is}
 use Rattle.script_text.proofs.Numbers.{own, number_told, number_found, number_within}
 
 -- a field that gives a key spells it
-value_told : {E : Type 0} (r : Result (List ℕ) E) (key : List ℕ) → result_ok r ≡ Some key → r ≡ Ok key
+pub value_told : {E : Type 0} (r : Result (List ℕ) E) (key : List ℕ) → result_ok r ≡ Some key → r ≡ Ok key
 value_told (Ok found) key is = ap Ok (same_Some found key is)
 value_told (Err e) key is = cc
 
@@ -37,50 +38,14 @@ key_found : (field key : List ℕ) → IsKey field key → key_of field ≡ Some
 unfolding key_of
 key_found field key is = ap result_ok is
 
--- a line begins with the word that something stands behind
-behind_told : (word line rest : List ℕ) → behind word line ≡ Some rest → line ≡ word ++ rest
-unfolding behind
-behind_told word line rest is =
-    let found = cond_some (pointwise nat_eq (take (length word) line) word) (drop (length word) line) rest is in
-    let front : take (length word) line ≡ word = (bytes_eq-Decides (take (length word) line) word).0 found.0 in
-    sym (take-append-drop (length word) line) ∙ ap (λ f. f ++ drop (length word) line) front ∙ ap (λ r. word ++ r) found.1
-
--- what stands behind the word that a line begins with is found
-behind_found : (word rest : List ℕ) → behind word (word ++ rest) ≡ Some rest
-unfolding behind
-behind_found word rest =
-    let front : take (length word) (word ++ rest) ≡ word = take_at word rest (length word) refl in
-    let same : pointwise nat_eq (take (length word) (word ++ rest)) word ≡ true = (bytes_eq-Decides (take (length word) (word ++ rest)) word).1 front in
-    ap (λ b. cond b (Some (drop (length word) (word ++ rest))) None) same ∙ ap Some (drop_at word rest (length word) refl)
-
-abbrev is_space : ℕ → Bool
-is_space byte = byte == 32
-
--- fields are cut at their first space
-cut_told : (fields : List ℕ) (space : ℕ) → position is_space fields ≡ Some space → fields ≡ take space fields ++ 32 ∷ drop (space + 1) fields
-cut_told fields space is =
-    let at = position-Some is_space fields space 0 is in
-    let byte : get_or fields space 0 ≡ 32 = eqb-true (get_or fields space 0) 32 at.1 in
-    sym (take-append-drop space fields) ∙ ap (λ r. take space fields ++ r) (drop_more fields space 0 at.0 ∙ ap (λ b. b ∷ drop (space + 1) fields) byte)
-
-different : (a b : ℕ) → a ≢ b → (a == b) ≡ false
-different a b apart = grind (arith, nat_tests)
-
 -- a number has no space
-no_space : (number : List ℕ) (holder : ℕ) → IsNumber number holder → (k : ℕ) → k < length number → get_or number k 0 ≢ 32
+pub no_space : (number : List ℕ) (holder : ℕ) → IsNumber number holder → (k : ℕ) → k < length number → get_or number k 0 ≢ 32
 no_space number holder is =
     rw is.spelled (not_in_digits own (decimal holder) 32 (digits_decimal own holder (omega (arith, is.fits))) (λ within. omega arith))
 
-cut_found : (number digits : List ℕ) (holder : ℕ) → IsNumber number holder → position is_space (number ++ 32 ∷ digits) ≡ Some (length number)
-cut_found number digits holder is =
-    let fields : List ℕ = number ++ 32 ∷ digits in
-    let len : length number < length fields = omega (arith, length-append number (32 ∷ digits)) in
-    let place : position_or_len is_space fields ≡ length number =
-    position_or_len_is is_space fields (length number) 0 (omega arith)
-    (λ k before. rw (get_or_append_left number (32 ∷ digits) 0 k before) (different (get_or number k 0) 32 (no_space number holder is k before)))
-    (λ _. rw (get_or_at number 32 digits 0 (length number) refl) refl) in
-    let within : nat_lt (length number) (length fields) ≡ true = lt-ltb (length number) (length fields) len in
-    ap (λ n. cond (nat_lt n (length fields)) (Some n) None) place ∙ ap (λ b. cond b (Some (length number)) None) within
+-- a number is cut off at its space
+pub cut_found : (number digits : List ℕ) (holder : ℕ) → IsNumber number holder → position is_space (number ++ 32 ∷ digits) ≡ Some (length number)
+cut_found number digits holder is = cut_at number digits (no_space number holder is)
 
 owner_told : (line : List ℕ) (bundle : Bundle) (digits : List ℕ) → line ≡ codes "owner " ++ digits → (key : Option (List ℕ)) → key_of digits ≡ key
     → option_map Owner key ≡ Some bundle → IsBundleLine line bundle

@@ -4,6 +4,8 @@ ghost use Rattle.cry_base.specs.Texts.{hex_of};
 ghost use Rattle.cry_base.specs.declared.client.Bundle.{Bundle};
 ghost use Rattle.cry_base.specs.declared.client.Bundle.TheVariants.{Owner};
 ghost use Rattle.hex.specs.Hex.{IsBytes, encode_lower};
+ghost use Rattle.cry_base.specs.Requests.{Request};
+ghost use Rattle.script_text.specs.Commands.{IsCommandLine, request_in};
 ghost use Rattle.script_text.specs.Printing.{owner_line};
 ghost use Rattle.script_text.specs.Reading.{IsBundleLine, bundle_of};
 
@@ -25,4 +27,9 @@ pub fn owner_line_reads_back()
 /// Law: bytes are printed as the crate `hex` encodes them in lower case.
 pub fn hex_is_in_lower_case()
     ensures { (bytes : List ℕ) → IsBytes bytes → hex_of bytes ≡ encode_lower bytes }
+{}
+
+/// Law: what is read from a line is what the line asks for, so that no line asks for two things.
+pub fn commands_are_spelled()
+    ensures { (line : List ℕ) (request : Request) → (request_in line ≡ Some request) ↔ IsCommandLine line request }
 {}
