@@ -1,16 +1,19 @@
 -- A command's line is read as what it asks for, and no other line as a command's.
 use Rattle.std.proofs.Common.{◌≡◌, ℕ, ◌+◌, Bool, true, false, cond, List, [], ◌∷◌, ◌++◌, length, take, drop, Option, Some, None, Result, Ok, Err, refl, sym, ap, subst, ◌∙◌}
-use Rattle.std.specs.Prelude.{nat_eq, codes, position, option_map, option_and_then}
+use Rattle.std.specs.Prelude.{nat_eq, codes, position, option_map, option_and_then, ◌↔◌, IfOk, IsSome}
 use Rattle.std.specs.Cmp.Lexicographic.{pointwise}
 use Rattle.std.specs.Result.{result_ok}
 use Rattle.std.proofs.lemmas.List.{append-nil, take_at, drop_at, drop-drop}
 use Rattle.std.proofs.lemmas.Option.{option_and_then_some, same_Some}
 use Rattle.std.proofs.lemmas.Slice.Eq.{bytes_eq-Decides}
 use Rattle.hex.specs.Hex.{decode_of, decode_pairs}
-use Rattle.cry_base.specs.Requests.{Request}
+use Rattle.cry_base.specs.Requests.{Request, request_of}
+use Rattle.cry_base.specs.declared.commands.Command.{Command}
 use Rattle.cry_base.specs.Requests.Request.{AddHolder, MakeFolder, WriteFile, Remove, Rename, Relocate, Grant, Revoke}
-use Rattle.script_text.specs.Commands.{IsField, IsFieldLine, IsTwoFieldLine, IsGrantLine, IsWriteLine, IsHex, IsHexBehind, IsCommandLine, field_of, field_request, two_field_request, grant_request, bytes_of, file_request, write_parts, write_request, after_word, request_in}
+use Rattle.script_text.specs.Commands.{IsField, IsFieldLine, IsTwoFieldLine, IsGrantLine, IsWriteLine, IsHex, IsHexBehind, IsCommandLine, field_of, field_request, two_field_request, grant_request, bytes_of, file_request, write_parts, write_request, after_word, request_in, Reads}
 use Rattle.script_text.specs.Reading.{IsNumber, behind, number_of}
+use Rattle.script_text.specs.declared.fault.LineFault.{LineFault}
+use Rattle.script_text.specs.declared.fault.LineFault.TheVariants.{BadLine, OutOfMemory}
 use Rattle.script_text.proofs.BundleLines.{cut_found, value_told}
 use Rattle.script_text.proofs.Fields.{behind_told, is_space, cut_told, cut_at, no_cut, field_told, field_found, no_space_in}
 use Rattle.script_text.proofs.Numbers.{number_told, number_found}
@@ -213,3 +216,29 @@ command_found line (Rename path name) is = ap request_in is.spelled ∙ rename_w
 command_found line (Relocate path into) is = ap request_in is.spelled ∙ move_word (path ++ 32 ∷ into) ∙ two_fields_found Relocate path into is.is_first is.is_second
 command_found line (Grant holder path) is = ap request_in is.spelled ∙ grant_word (is.number ++ 32 ∷ path) ∙ grant_found Grant is.number path holder is.is_number is.is_path
 command_found line (Revoke holder path) is = ap request_in is.spelled ∙ revoke_word (is.number ++ 32 ∷ path) ∙ grant_found Revoke is.number path holder is.is_number is.is_path
+
+-- a line asks for one thing
+pub one_command : (line : List ℕ) (one other : Request) → IsCommandLine line one → IsCommandLine line other → one ≡ other
+one_command line one other is_one is_other = same_Some one other (sym (command_found line one is_one) ∙ command_found line other is_other)
+
+asked_for : (asked : Option Request) → IsSome asked → (request : Request) × (asked ≡ Some request)
+asked_for (Some request) is = (request, refl)
+asked_for None is = cc
+
+-- what an answer says of the line
+pub ok_told : (line : List ℕ) (r : Result Command LineFault) → Reads r (request_in line) → IfOk r (λ command. IsCommandLine line (request_of command))
+ok_told line (Ok command) reads = command_told line (request_of command) reads
+ok_told line (Err fault) reads = tt
+
+pub no_memory_told : (line : List ℕ) (r : Result Command LineFault) → Reads r (request_in line) → r ≡ Err OutOfMemory → (request : Request) × IsCommandLine line request
+no_memory_told line (Ok command) reads is = cc
+no_memory_told line (Err BadLine) reads is = cc
+no_memory_told line (Err OutOfMemory) reads is = let asked = asked_for (request_in line) reads in (asked.0, command_told line asked.0 asked.1)
+
+pub bad_line_told : (line : List ℕ) (r : Result Command LineFault) → Reads r (request_in line) → (r ≡ Err BadLine) ↔ ((request : Request) → ¬ IsCommandLine line request)
+bad_line_told line (Ok command) reads = (λ is request spelled. cc, λ none. absurd (none (request_of command) (command_told line (request_of command) reads)))
+bad_line_told line (Err BadLine) reads = (λ is request spelled. let found = command_found line request spelled in cc, λ none. refl)
+bad_line_told line (Err OutOfMemory) reads = (
+  λ is request spelled. cc,
+  λ none. let asked = asked_for (request_in line) reads in absurd (none asked.0 (command_told line asked.0 asked.1)),
+)

@@ -2,7 +2,7 @@
 ghost use Rattle.std.specs.Prelude.{◌≡◌, ◌∷◌, ◌%◌, [], ℕ, List, None, Some, length, IfOk, IfErr, IfSome, IsSome, OnErr, MatchOption, IsTrue, ◌↔◌};
 ghost use Rattle.std.specs.List.{AllPass, list_all};
 ghost use Rattle.hex.specs.Hex.{is_hex_digit};
-ghost use Rattle.cry_base.specs.Requests.{Request};
+ghost use Rattle.cry_base.specs.Requests.{Request, request_of};
 ghost use Rattle.cry_base.specs.Requests.Request.{AddHolder, MakeFolder, WriteFile, Remove, Rename, Relocate, Grant, Revoke};
 ghost use Rattle.script_text.specs.Commands.{IsCommandLine, Reads, bytes_of, field_of, field_request, file_request, grant_request, is_field, is_field_byte, request_in, two_field_request, write_request};
 
@@ -17,9 +17,20 @@ use std::alloc::Global;
 /// is one or more bytes other than space and newline. HEX is two hexadecimal digits for each byte, in either case; it may
 /// be empty, and then the space before it may be missing. N is a decimal number from 1 to 4,294,967,295 without leading
 /// zeros. Any other line is `BadLine`, and asks for no memory: `OutOfMemory` is answered to a command's line alone.
-#[tactic(auto, unfolding(crate::specs::Commands::request_in, crate::specs::Reading::behind))]
 pub fn read_line(alloc: Global, bytes: &[u8]) -> Result<Command, LineFault>
     ensures reads { Reads result (request_in bytes.now) }
+    ensures found { IfOk result (λ command. IsCommandLine bytes.now (request_of command)) }
+    ensures bad_line { (result ≡ Err LineFault.BadLine) ↔ ((request : Request) → ¬ IsCommandLine bytes.now request) }
+    ensures no_memory { result ≡ Err LineFault.OutOfMemory → (request : Request) × IsCommandLine bytes.now request }
+    ensures holder { IsCommandLine bytes.now AddHolder → result ≡ Ok Command.AddHolder }
+{
+    command_in(alloc, bytes)
+}
+
+#[tactic(auto, unfolding(crate::specs::Commands::request_in, crate::specs::Reading::behind))]
+fn command_in(alloc: Global, bytes: &[u8]) -> Result<Command, LineFault>
+    ensures reads { Reads result (request_in bytes.now) }
+    ensures holder { IsCommandLine bytes.now AddHolder → result ≡ Ok Command.AddHolder }
 {
     if bytes == b"holder".as_slice() {
         Ok(Command::AddHolder)

@@ -29,7 +29,8 @@ pub fn hex_is_in_lower_case()
     ensures { (bytes : List ℕ) → IsBytes bytes → hex_of bytes ≡ encode_lower bytes }
 {}
 
-/// Law: what is read from a line is what the line asks for, so that no line asks for two things.
+/// Law: what is read from a line is what the line asks for, and no line asks for two things.
 pub fn commands_are_spelled()
-    ensures { (line : List ℕ) (request : Request) → (request_in line ≡ Some request) ↔ IsCommandLine line request }
+    ensures one { (line : List ℕ) (one other : Request) → IsCommandLine line one → IsCommandLine line other → one ≡ other }
+    ensures read { (line : List ℕ) (request : Request) → (request_in line ≡ Some request) ↔ IsCommandLine line request }
 {}
