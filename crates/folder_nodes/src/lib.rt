@@ -4,6 +4,7 @@
 mod changes;
 mod finding;
 pub mod laws;
+mod listed;
 mod names;
 mod naming;
 mod rows;

@@ -8,7 +8,7 @@ use Rattle.cry_base.proofs.Members.{In-append, In-map, In-flat_map}
 use Rattle.std.specs.List.{flat_map}
 use Rattle.role_graph.specs.Edges.{edge_before, put_in_order, in_order, folder_edges, parent_edges, grant_edge, file_edge, edges, IsParentEdge, IsEdge}
 
-put-in : (X : Type 0) (before : X → X → Bool) (x y : X) (xs : List X) → In y (put_in_order before x xs) ↔ ((y ≡ x) ⊎ In y xs)
+pub put-in : (X : Type 0) (before : X → X → Bool) (x y : X) (xs : List X) → In y (put_in_order before x xs) ↔ ((y ≡ x) ⊎ In y xs)
 unfolding put_in_order
 put-in X before x y [] = (λ i. i, λ e. e)
 put-in X before x y (z ∷ zs) =
