@@ -8,3 +8,7 @@ pub mod Rising
 pub mod Standing
 pub mod Typing
 pub mod RowsOfEdges
+pub mod Ordered
+pub mod Adding
+pub mod Sorting
+pub mod Listing

@@ -5,6 +5,7 @@ use Rattle.std.specs.List.Sorted.{IsSortedBy, IsStableBy, ties}
 use Rattle.std.proofs.lemmas.Bool.{false≢true, and_parts, not-true}
 use Rattle.std.proofs.lemmas.List.Sorted.{sorted_far}
 use Rattle.cry_base.specs.Sets.{In}
+use Rattle.cry_base.proofs.Members.{In-filter}
 use Rattle.role_graph.specs.Edges.{put_in_order, in_order}
 use Rattle.role_graph.proofs.Edging.{put-in}
 
@@ -13,13 +14,6 @@ stands_at X [] x i = absurd i
 stands_at X (y ∷ ys) x i = ⊎_elim
     (λ s. (0, omega arith, λ d. sym s))
     (λ u. let w = stands_at X ys x u in (suc w.0, omega (arith, w.1), w.2)) i
-
-kept_in : (X : Type 0) (p : X → Bool) (x : X) (xs : List X) → In x (filter p xs) → In x xs
-kept_in X p x [] = λ i. i
-kept_in X p x (y ∷ ys) = elim (p y) as (λ b. In x (cond b (y ∷ filter p ys) (filter p ys)) → In x (y ∷ ys)) [
-  | true ↦ λ i. ⊎_elim (λ e. inl e) (λ u. inr (kept_in X p x ys u)) i
-  | false ↦ λ i. inr (kept_in X p x ys i)
-]
 
 without_first : (X : Type 0) (b : Bool) (x : X) (xs ys : List X) → cond b (x ∷ xs) xs ≡ cond b (x ∷ ys) ys → xs ≡ ys
 without_first X true x xs ys e = cc
@@ -105,7 +99,7 @@ sorted_rises X lt (x ∷ xs) far = (
 first_stands : (X : Type 0) (lt : X → X → Bool) → IsStrictWeakOrder lt → (a : X) (xs ys : List X) → ((w : X) → filter (ties lt w) (a ∷ xs) ≡ filter (ties lt w) ys) → In a ys
 first_stands X lt o a xs ys same =
     let here : In a (cond (ties lt a a) (a ∷ filter (ties lt a) xs) (filter (ties lt a) xs)) = subst (λ b. In a (cond b (a ∷ filter (ties lt a) xs) (filter (ties lt a) xs))) (sym (self_tie X lt o a)) (inl refl) in
-    kept_in X (ties lt a) a ys (subst (λ l. In a l) (same a) here)
+    (In-filter X (ties lt a) a ys (subst (λ l. In a l) (same a) here)).0
 
 not_less : (X : Type 0) (lt : X → X → Bool) → IsStrictWeakOrder lt → (a b : X) (ys : List X) → NoneBelow X lt b ys → In a (b ∷ ys) → lt a b ≡ false
 not_less X lt o a b ys none i = ⊎_elim (λ (e : a ≡ b). subst (λ z. lt z b ≡ false) (sym e) (not_itself X lt o b)) (λ u. none a u) i

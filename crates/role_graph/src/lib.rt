@@ -1,6 +1,7 @@
 //! Which roles lead to which, and who may read what.
 #![tactic(auto)]
 
+mod edge_list;
 pub mod laws;
 mod reaching;
 mod rights;
@@ -8,6 +9,7 @@ mod role_set;
 pub mod rows;
 pub mod tabled;
 
+pub use edge_list::edges;
 pub use reaching::{leading_to, reach};
 pub use rights::{allowed, named};
 pub use role_set::RoleSet;

@@ -1,0 +1,151 @@
+//! The edges of all that stands, in their order.
+ghost use Rattle.std.specs.Prelude.{◌≡◌, ◌==◌, ◌++◌, ◌∷◌, [], cond, map, IfOk, OnOk};
+ghost use Rattle.std.specs.List.{flat_map};
+ghost use Rattle.role_graph.specs.Edges as spec;
+ghost use Rattle.role_graph.specs.Edges.{edges as edges_of, edge_before, in_order, folder_edges, parent_edges, grant_edge, file_edge};
+ghost use Rattle.role_graph.specs.PublicStore.{public_store};
+ghost use Rattle.role_graph.specs.Roles.{role_id};
+
+use cry_base::{Edge, FolderId, List, Mem, Role};
+use folder_nodes::{FileRow, FolderRow, Shape};
+use grant_book::{Grant, Grants};
+use std::alloc::Global;
+
+/// The edges of the folders, the grants and the files: by kind, then by the number of the role that the edge leads from,
+/// and then by that of the role that it leads to.
+pub fn edges(alloc: Global, shape: &Shape, grants: &Grants) -> Mem<List<Edge>>
+    ensures { IfOk result (λ l. l.items ≡ edges_of (public_store shape.now.tree grants.now.pairs)) }
+{
+    let mut all = Vec::new(alloc);
+    push_within(&mut all, shape.folders())?;
+    push_between(&mut all, shape.folders())?;
+    push_grants(&mut all, grants.pairs())?;
+    push_files(&mut all, shape.files())?;
+    sort(&mut all)?;
+    to_list(alloc, &all)
+}
+
+/// Adds the edges of each folder within itself.
+fn push_within(all: &mut Vec<Edge>, folders: &[FolderRow]) -> Mem<()>
+    ensures { OnOk result (all.new.items ≡ all.old.items ++ flat_map (λ r. folder_edges r.id.0) folders.now) }
+{
+    for folder in folders {
+        all.extend_from_slice(&within(folder.id))?;
+    }
+    Ok(())
+}
+
+/// Adds the edges of each folder and its parent.
+fn push_between(all: &mut Vec<Edge>, folders: &[FolderRow]) -> Mem<()>
+    ensures { OnOk result (all.new.items ≡ all.old.items ++ flat_map (λ r. cond (r.parent == 0) [] (parent_edges r.id.0 r.parent)) folders.now) }
+{
+    for folder in folders {
+        push_to_parent(all, folder)?;
+    }
+    Ok(())
+}
+
+/// Adds the edges of the folder and its parent, where it has one.
+fn push_to_parent(all: &mut Vec<Edge>, folder: &FolderRow) -> Mem<()>
+    ensures { OnOk result (all.new.items ≡ all.old.items ++ cond (folder.now.parent == 0) [] (parent_edges folder.now.id.0 folder.now.parent)) }
+{
+    if folder.parent != 0 {
+        all.extend_from_slice(&between(folder.id, FolderId(folder.parent)))?;
+    }
+    Ok(())
+}
+
+/// Adds the edge of each grant.
+fn push_grants(all: &mut Vec<Edge>, pairs: &[Grant]) -> Mem<()>
+    ensures { OnOk result (all.new.items ≡ all.old.items ++ map (λ g. grant_edge g.holder g.folder) pairs.now) }
+{
+    for pair in pairs {
+        all.push(of_grant(pair))?;
+    }
+    Ok(())
+}
+
+/// Adds the edge of each file.
+fn push_files(all: &mut Vec<Edge>, files: &[FileRow]) -> Mem<()>
+    ensures { OnOk result (all.new.items ≡ all.old.items ++ map (λ r. file_edge r.folder.0 r.id.0) files.now) }
+{
+    for file in files {
+        all.push(of_file(file))?;
+    }
+    Ok(())
+}
+
+#[tactic(auto, unfolding(crate::specs::Edges::folder_edges, crate::specs::Edges::edge, crate::specs::Roles::clear_of, crate::specs::Roles::sub_of, crate::specs::Roles::back_of, crate::specs::Roles::files_of, crate::specs::Roles::data_of))]
+fn within(f: FolderId) -> [Edge; 5]
+    ensures { result ≡ folder_edges f.0 }
+{
+    [
+        edge_of(1, Role::Owner, Role::Clear(f)),
+        edge_of(3, Role::Clear(f), Role::Sub(f)),
+        edge_of(4, Role::Sub(f), Role::Back(f)),
+        edge_of(5, Role::Sub(f), Role::Files(f)),
+        edge_of(7, Role::Back(f), Role::Data(f)),
+    ]
+}
+
+#[tactic(auto, unfolding(crate::specs::Edges::parent_edges, crate::specs::Edges::edge, crate::specs::Roles::sub_of, crate::specs::Roles::back_of))]
+fn between(f: FolderId, parent: FolderId) -> [Edge; 2]
+    ensures { result ≡ parent_edges f.0 parent.0 }
+{
+    [
+        edge_of(6, Role::Sub(parent), Role::Sub(f)),
+        edge_of(8, Role::Back(f), Role::Back(parent)),
+    ]
+}
+
+#[tactic(auto, unfolding(crate::specs::Edges::grant_edge, crate::specs::Edges::edge, crate::specs::Roles::holder_role, crate::specs::Roles::clear_of))]
+fn of_grant(pair: &Grant) -> Edge
+    ensures { result ≡ grant_edge pair.now.holder pair.now.folder }
+{
+    edge_of(2, Role::Holder(pair.holder), Role::Clear(pair.folder))
+}
+
+#[tactic(auto, unfolding(crate::specs::Edges::file_edge, crate::specs::Edges::edge, crate::specs::Roles::files_of, crate::specs::Roles::file_role))]
+fn of_file(file: &FileRow) -> Edge
+    ensures { result ≡ file_edge file.now.folder.0 file.now.id.0 }
+{
+    edge_of(9, Role::Files(file.folder), Role::File(file.id))
+}
+
+#[tactic(auto, unfolding(crate::specs::Edges::edge))]
+fn edge_of(kind: u8, from: Role, to: Role) -> Edge
+    ensures { result ≡ spec.edge kind from to }
+{
+    Edge { kind, from, to }
+}
+
+/// Puts the edges in their order.
+fn sort(edges: &mut Vec<Edge>) -> Mem<()>
+    ensures { OnOk result (edges.new.items ≡ in_order edge_before edges.old.items) }
+{
+    edges.sort_by_key(|edge| (edge.kind, number_of(edge.from), number_of(edge.to)))?;
+    Ok(())
+}
+
+/// The number of the folder, file or holder that the role is for, and 0 for the owner's.
+#[tactic(auto, unfolding(crate::specs::Roles::role_id))]
+fn number_of(role: Role) -> u32
+    ensures { result ≡ role_id role }
+{
+    match role {
+        Role::Owner => 0,
+        Role::Holder(h) => h.0,
+        Role::Clear(f) | Role::Sub(f) | Role::Back(f) | Role::Files(f) | Role::Data(f) => f.0,
+        Role::File(x) => x.0,
+    }
+}
+
+fn to_list(alloc: Global, edges: &[Edge]) -> Mem<List<Edge>>
+    ensures { IfOk result (λ l. l.items ≡ edges.now) }
+{
+    let mut list = List::new(alloc);
+    for edge in edges {
+        list.push(*edge)?;
+    }
+    Ok(list)
+}
