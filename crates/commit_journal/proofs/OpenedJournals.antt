@@ -1,9 +1,13 @@
 -- A journal that was opened on bytes that stand for batches stands for these batches.
-use Rattle.std.proofs.Common.{◌≡◌, ◌≤◌, ◌⊎◌, inl, inr, ℕ, ◌+◌, List, length, Ok, refl, sym, ap, subst, ◌∙◌}
+use Rattle.std.proofs.Common.{◌≡◌, ◌≤◌, ◌⊎◌, inl, inr, ℕ, ◌+◌, true, false, List, length, Option, None, Some, Ok, refl, sym, ap, subst, ◌∙◌}
+use Rattle.std.specs.Prelude.{is_some}
+use Rattle.cry_io.specs.Stops.{IsDurable}
+use Rattle.cry_io.specs.Told.{WhereBothTold}
 use Rattle.commit_journal.specs.declared.fault.OpenFault.{OpenFault}
 use Rattle.commit_journal.specs.declared.fault.OpenFault.TheVariants as faults
 use Rattle.commit_journal.specs.declared.opening.Opened.{Opened}
 use Rattle.commit_journal.specs.Answering.{IsFault}
+use Rattle.commit_journal.specs.Holding.{IsSettled}
 use Rattle.commit_journal.specs.Image.{image}
 use Rattle.commit_journal.specs.Journals.{IsJournalOf}
 use Rattle.commit_journal.specs.Laws.{batches_from, placed_from}
@@ -51,3 +55,22 @@ not_refused limit owner bodies bytes (faults.Damaged at) known within is = let o
 not_refused limit owner bodies bytes (faults.Tampered batch at) known within is = let ok = sym (opened_standing limit owner bodies bytes known within) ∙ is in absurd (cc)
 not_refused limit owner bodies bytes faults.DiskFault known within is = inl refl
 not_refused limit owner bodies bytes faults.OutOfMemory known within is = inr refl
+
+-- ---- the disk
+
+-- what the disk shows once the slots are filled stands whole, and a stop leaves nothing else
+pub opened_settled : (limit : ℕ) (owner : List ℕ) (bodies : List PlainBody) (bytes : List ℕ) (o : Opened) (was shows : Option (List ℕ)) (may_leave : List ℕ → Type 0) →
+    limit ≤ 268435456 → StandsWithin limit owner bodies bytes → was ≡ Some bytes → opening_verdict limit owner bytes ≡ Ok (plain_opened o) →
+    WhereBothTold was shows (λ x y. y ≡ slots_filled owner (plain_log o.placed) x) → is_some shows ≡ is_some was → IsDurable may_leave shows →
+    IsSettled (StandsWhole owner) (batches_from 0 0 bodies) shows may_leave
+opened_settled limit owner bodies bytes o was None may_leave known within shown is filled told durable =
+    let wrong : false ≡ true = told ∙ ap (λ s. is_some s) shown in absurd (cc)
+opened_settled limit owner bodies bytes o was (Some y) may_leave known within shown is filled told durable =
+    let bs = batches_from 0 0 bodies in
+    let whole : StandsWhole owner bs y =
+    subst (λ b. StandsWhole owner bs b) (sym (filled bytes y shown refl)) (slots_whole limit owner bodies bytes o known within is)
+    in
+    record {
+      shows = (y, refl, whole);
+      leaves = λ c left. subst (λ b. StandsWhole owner bs b) (let both : Some y ≡ Some c = durable c left in let same : y ≡ c = cc in same) whole;
+    }

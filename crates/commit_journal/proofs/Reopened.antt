@@ -1,5 +1,5 @@
 -- Bytes that stand for batches are opened as a log of these very batches, behind whose end the next one follows.
-use Rattle.std.proofs.Common.{◌≡◌, ◌≢◌, ℕ, ◌+◌, ◌-◌, ◌<◌, ◌≤◌, true, cond, eqb, eq-eqb, List, [], ◌∷◌, ◌++◌, length, take, drop, Option, Some, Result, Ok, Err, append_assoc, arith, refl, sym, ap, ◌∙◌, length-append}
+use Rattle.std.proofs.Common.{◌≡◌, ◌≢◌, ℕ, ◌+◌, ◌-◌, ◌≤◌, true, cond, eqb, eq-eqb, List, [], ◌∷◌, ◌++◌, length, take, drop, Result, Ok, Err, append_assoc, arith, refl, sym, ap, ◌∙◌, length-append}
 use Rattle.std.specs.Prelude.{nat_le}
 use Rattle.std.specs.List.{sum_by}
 use Rattle.std.specs.Str.{bytes_eq}
@@ -10,16 +10,15 @@ use Rattle.std.proofs.lemmas.Slice.Eq.{bytes_eq-Decides}
 use Rattle.hmac_seal.specs.Hmac.{hmac}
 use Rattle.chacha_seal.specs.Sealing.{check_of, masked, owner_tag_key}
 use Rattle.chacha_seal.proofs.SealingLemmas.{masked-masked, length-veil_of}
-use Rattle.commit_journal.specs.declared.head.Head.{Head}
 use Rattle.commit_journal.specs.declared.past.Past.{Past}
 use Rattle.commit_journal.specs.Answering.{Fault, Damaged, Tampered, and_then}
-use Rattle.commit_journal.specs.Image.{Batch, batch_head, batch_veil, masked_payload, batch_check, owner_tag, spell_batch, spell_header, image}
+use Rattle.commit_journal.specs.Image.{Batch, batch_head, batch_veil, masked_payload, owner_tag, spell_batch, spell_header, image}
 use Rattle.commit_journal.specs.Journals.{last_epoch}
 use Rattle.commit_journal.specs.Laws.{batch_of, batches_from, placed_from, AreBodies}
 use Rattle.commit_journal.specs.Log.{PlainTurn, payload_in, check_in, tag_in, is_batch, body_of, placed_body, turn_of, tag_due, head_of, head_at, start_of, start_at}
 use Rattle.commit_journal.specs.Opening.{OwnedLog, owned_head, owned_turn, owned_at, owned_before, owned_log, opening_verdict}
 use Rattle.commit_journal.specs.Placed.{PlainBody, PlainPlaced}
-use Rattle.commit_journal.specs.Standing.{spell_slotted, slotted_image, StandsFor, tag_behind}
+use Rattle.commit_journal.specs.Standing.{spell_slotted, slotted_image, tag_behind}
 use Rattle.commit_journal.specs.WholeLogs.{whole_log, StandsWithin}
 use Rattle.commit_journal.proofs.Judged.{start_long, head_tested}
 use Rattle.commit_journal.proofs.OwnedLemmas.{owned_head_tested, owned_turn_is, owned_walks_on, owned_closed}

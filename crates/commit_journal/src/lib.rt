@@ -35,7 +35,7 @@ pub use log_laws::{
 };
 pub use opening::Opened;
 pub use opening_laws::{
-    filled_bytes_stand_whole, opened_batches_are_the_writers,
+    filled_bytes_stand_whole, opened_batches_are_the_writers, opened_disk_is_settled,
     opened_journal_stands_for_its_batches, owner_opens_the_writers_log,
     standing_bytes_are_never_refused, standing_bytes_are_opened_as_their_log,
 };

@@ -1,9 +1,12 @@
 //! Laws of opening for writing: what is opened, of which bytes.
-ghost use Rattle.std.specs.Prelude.{◌≡◌, ◌≤◌, ◌⊎◌, List, ℕ, Ok};
+ghost use Rattle.std.specs.Prelude.{◌≡◌, ◌≤◌, ◌⊎◌, List, ℕ, Ok, Some, is_some};
+ghost use Rattle.cry_io.specs.Stops.{IsDurable};
+ghost use Rattle.cry_io.specs.Told.{WhereBothTold};
 ghost use Rattle.commit_journal.specs.declared.fault.OpenFault.{OpenFault};
 ghost use Rattle.commit_journal.specs.declared.fault.OpenFault.TheVariants as faults;
 ghost use Rattle.commit_journal.specs.declared.opening.Opened.{Opened};
 ghost use Rattle.commit_journal.specs.Answering.{IsFault, and_then};
+ghost use Rattle.commit_journal.specs.Holding.{IsSettled};
 ghost use Rattle.commit_journal.specs.Journals.{IsJournalOf};
 ghost use Rattle.commit_journal.specs.Laws.{batches_from, placed_from};
 ghost use Rattle.commit_journal.specs.Logs.{writer_log};
@@ -11,6 +14,8 @@ ghost use Rattle.commit_journal.specs.Opening.{IsOpened, OwnedLog, opening_verdi
 ghost use Rattle.commit_journal.specs.Placed.{PlainBody, plain_log};
 ghost use Rattle.commit_journal.specs.Standing.{StandsFor, StandsWhole};
 ghost use Rattle.commit_journal.specs.WholeLogs.{StandsWithin, whole_log};
+
+use cry_io::Disk;
 
 /// Law: within the largest store, the batches that are opened, or the fault, are those that the owner reads who opens for
 /// writing.
@@ -51,4 +56,14 @@ pub fn opened_journal_stands_for_its_batches()
 pub fn standing_bytes_are_never_refused()
     ensures { (limit : ℕ) (owner : List ℕ) (bodies : List PlainBody) (bytes : List ℕ) (fault : OpenFault) → limit ≤ 268435456 → StandsWithin limit owner bodies bytes →
         IsFault fault (opening_verdict limit owner bytes) → (fault ≡ faults.DiskFault) ⊎ (fault ≡ faults.OutOfMemory) }
+{}
+
+/// Law: a disk that stood for batches is settled at these very batches once it was opened: it shows them as a whole, and a
+/// stop leaves nothing else.
+pub fn opened_disk_is_settled<D: Disk>(before: &D, after: &D)
+    ensures { (limit : ℕ) (owner : List ℕ) (bodies : List PlainBody) (bytes : List ℕ) (o : Opened) → limit ≤ 268435456 → StandsWithin limit owner bodies bytes →
+        D.shown before.now ≡ Some bytes → opening_verdict limit owner bytes ≡ Ok (plain_opened o) →
+        WhereBothTold (D.shown before.now) (D.shown after.now) (λ x y. y ≡ slots_filled owner (plain_log o.placed) x) →
+        is_some (D.shown after.now) ≡ is_some (D.shown before.now) → IsDurable (D.may_leave after.now) (D.shown after.now) →
+        IsSettled (StandsWhole owner) (batches_from 0 0 bodies) (D.shown after.now) (D.may_leave after.now) }
 {}
