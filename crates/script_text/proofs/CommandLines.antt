@@ -40,12 +40,16 @@ two_field_line_told ask word line fields request spelled is =
     (λ first is_first last.
     let found = map_some (ask first) (field_of (drop (space + 1) fields)) request last in
     let front = field_told (take space fields) first is_first in
-    let back = field_told (drop (space + 1) fields) found.0 found.1 in
-    (first, found.0, found.2, record {
-      spelled = spelled ∙ ap (λ f. word ++ f) (cut_told fields space at_space ∙ ap (λ f. f ++ 32 ∷ drop (space + 1) fields) front.0 ∙ ap (λ f. first ++ 32 ∷ f) back.0);
-      is_first = subst IsField front.0 front.1;
-      is_second = subst IsField back.0 back.1;
-    })))
+    let back = field_told (drop (space + 1) fields) found.0 found.1 in (
+      first,
+      found.0,
+      found.2,
+      record {
+        spelled = spelled ∙ ap (λ f. word ++ f) (cut_told fields space at_space ∙ ap (λ f. f ++ 32 ∷ drop (space + 1) fields) front.0 ∙ ap (λ f. first ++ 32 ∷ f) back.0);
+        is_first = subst IsField front.0 front.1;
+        is_second = subst IsField back.0 back.1;
+      },
+    )))
 
 grant_line_told : (ask : ℕ → List ℕ → Request) (word line fields : List ℕ) (request : Request) → line ≡ word ++ fields → grant_request ask fields ≡ Some request
     → (holder : ℕ) × (path : List ℕ) × (ask holder path ≡ request) × IsGrantLine word line holder path
@@ -55,13 +59,17 @@ grant_line_told ask word line fields request spelled is =
     (λ space at_space then. option_and_then_some _ (number_of (take space fields)) request then
     (λ holder is_number last.
     let found = map_some (ask holder) (field_of (drop (space + 1) fields)) request last in
-    let back = field_told (drop (space + 1) fields) found.0 found.1 in
-    (holder, found.0, found.2, record {
-      number = take space fields;
-      spelled = spelled ∙ ap (λ f. word ++ f) (cut_told fields space at_space ∙ ap (λ f. take space fields ++ 32 ∷ f) back.0);
-      is_number = number_told (take space fields) holder is_number;
-      is_path = subst IsField back.0 back.1;
-    })))
+    let back = field_told (drop (space + 1) fields) found.0 found.1 in (
+      holder,
+      found.0,
+      found.2,
+      record {
+        number = take space fields;
+        spelled = spelled ∙ ap (λ f. word ++ f) (cut_told fields space at_space ∙ ap (λ f. take space fields ++ 32 ∷ f) back.0);
+        is_number = number_told (take space fields) holder is_number;
+        is_path = subst IsField back.0 back.1;
+      },
+    )))
 
 file_told : (path digits : List ℕ) (request : Request) → file_request path digits ≡ Some request
     → (bytes : List ℕ) × (WriteFile path bytes ≡ request) × IsField path × (bytes_of digits ≡ Some bytes)
@@ -84,21 +92,29 @@ no_digits bytes is = sym (same_Some [] bytes is)
 write_parts_told : (line fields : List ℕ) (request : Request) (at : Option ℕ) → line ≡ codes "write " ++ fields → position is_space fields ≡ at → write_parts fields at ≡ Some request
     → (path : List ℕ) × (bytes : List ℕ) × (WriteFile path bytes ≡ request) × IsWriteLine line path bytes
 write_parts_told line fields request (Some space) spelled at_space is =
-    let told = file_told (take space fields) (drop (space + 1) fields) request is in
-    (take space fields, told.0, told.1, record {
-      hex = 32 ∷ drop (space + 1) fields;
-      spelled = spelled ∙ ap (λ f. codes "write " ++ f) (cut_told fields space at_space);
-      is_path = told.2;
-      is_hex = (refl, hex_told (drop (space + 1) fields) told.0 told.3);
-    })
+    let told = file_told (take space fields) (drop (space + 1) fields) request is in (
+      take space fields,
+      told.0,
+      told.1,
+      record {
+        hex = 32 ∷ drop (space + 1) fields;
+        spelled = spelled ∙ ap (λ f. codes "write " ++ f) (cut_told fields space at_space);
+        is_path = told.2;
+        is_hex = (refl, hex_told (drop (space + 1) fields) told.0 told.3);
+      },
+    )
 write_parts_told line fields request None spelled at_space is =
-    let told = file_told fields [] request is in
-    (fields, told.0, told.1, record {
-      hex = [];
-      spelled = spelled ∙ ap (λ f. codes "write " ++ f) (sym (append-nil fields));
-      is_path = told.2;
-      is_hex = no_digits told.0 told.3;
-    })
+    let told = file_told fields [] request is in (
+      fields,
+      told.0,
+      told.1,
+      record {
+        hex = [];
+        spelled = spelled ∙ ap (λ f. codes "write " ++ f) (sym (append-nil fields));
+        is_path = told.2;
+        is_hex = no_digits told.0 told.3;
+      },
+    )
 
 write_line_told : (line fields : List ℕ) (request : Request) → line ≡ codes "write " ++ fields → write_request fields ≡ Some request
     → (path : List ℕ) × (bytes : List ℕ) × (WriteFile path bytes ≡ request) × IsWriteLine line path bytes

@@ -14,4 +14,6 @@ pub use printing::{print_line, print_owner};
 pub use reading::read_bundle;
 
 #[cfg(test)]
+mod command_tests;
+#[cfg(test)]
 mod tests;
