@@ -12,3 +12,7 @@ pub mod Ordered
 pub mod Adding
 pub mod Sorting
 pub mod Listing
+pub mod Falling
+pub mod Joining
+pub mod Lawful
+pub mod Settling

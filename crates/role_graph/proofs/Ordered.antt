@@ -9,7 +9,7 @@ use Rattle.cry_base.proofs.Members.{In-filter}
 use Rattle.role_graph.specs.Edges.{put_in_order, in_order}
 use Rattle.role_graph.proofs.Edging.{put-in}
 
-stands_at : (X : Type 0) (xs : List X) (x : X) → In x xs → (k : ℕ) × (k < length xs) × ((d : X) → get_or xs k d ≡ x)
+pub stands_at : (X : Type 0) (xs : List X) (x : X) → In x xs → (k : ℕ) × (k < length xs) × ((d : X) → get_or xs k d ≡ x)
 stands_at X [] x i = absurd i
 stands_at X (y ∷ ys) x i = ⊎_elim
     (λ s. (0, omega arith, λ d. sym s))

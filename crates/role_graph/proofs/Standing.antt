@@ -21,7 +21,7 @@ place_in (x ∷ xs) e i = ⊎_elim
     (λ u. let w = place_in xs e u in (suc w.0, omega (arith, w.1), w.2)) i
 
 -- a folder that stands is the one that is found by its number
-found_row : (xs : List FolderEntry) → AllPairs (λ (a b : FolderEntry). a.id < b.id) xs → (e : FolderEntry) → In e xs → at xs e.id ≡ Some e
+pub found_row : (xs : List FolderEntry) → AllPairs (λ (a b : FolderEntry). a.id < b.id) xs → (e : FolderEntry) → In e xs → at xs e.id ≡ Some e
 found_row [] pairs e i = absurd i
 found_row (x ∷ xs) pairs e i = ⊎_elim
     (λ (s : e ≡ x). subst (λ (z : FolderEntry). at (x ∷ xs) z.id ≡ Some z) (sym s) (rw (eq-eqb x.id x.id refl) refl))
@@ -31,7 +31,7 @@ found_row (x ∷ xs) pairs e i = ⊎_elim
     rw (ne_eqb x.id e.id (omega arith)) (found_row xs (λ j k d p q. pairs (suc j) (suc k) d (omega arith) (omega arith)) e u))
     i
 
-found_in : (xs : List FolderEntry) (f : ℕ) (e : FolderEntry) → at xs f ≡ Some e → In e xs
+pub found_in : (xs : List FolderEntry) (f : ℕ) (e : FolderEntry) → at xs f ≡ Some e → In e xs
 found_in [] f e = λ p. absurd cc
 found_in (x ∷ xs) f e = elim (x.id == f) as (λ b. cond b (Some x) (at xs f) ≡ Some e → In e (x ∷ xs)) [
   | true ↦ λ p. let h : x ≡ e = cc in inl (sym h)

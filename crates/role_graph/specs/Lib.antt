@@ -1,6 +1,7 @@
 pub mod Ascending
 pub mod Closing
 pub mod Edges
+pub mod Joined
 pub mod PublicStore
 pub mod Rights
 pub mod RightsByReach

@@ -75,8 +75,9 @@ fn push_files(all: &mut Vec<Edge>, files: &[FileRow]) -> Mem<()>
     Ok(())
 }
 
+/// The edges of a folder within itself.
 #[tactic(auto, unfolding(crate::specs::Edges::folder_edges, crate::specs::Edges::edge, crate::specs::Roles::clear_of, crate::specs::Roles::sub_of, crate::specs::Roles::back_of, crate::specs::Roles::files_of, crate::specs::Roles::data_of))]
-fn within(f: FolderId) -> [Edge; 5]
+pub(crate) fn within(f: FolderId) -> [Edge; 5]
     ensures { result ≡ folder_edges f.0 }
 {
     [
@@ -88,8 +89,9 @@ fn within(f: FolderId) -> [Edge; 5]
     ]
 }
 
+/// The edges of a folder and its parent.
 #[tactic(auto, unfolding(crate::specs::Edges::parent_edges, crate::specs::Edges::edge, crate::specs::Roles::sub_of, crate::specs::Roles::back_of))]
-fn between(f: FolderId, parent: FolderId) -> [Edge; 2]
+pub(crate) fn between(f: FolderId, parent: FolderId) -> [Edge; 2]
     ensures { result ≡ parent_edges f.0 parent.0 }
 {
     [
@@ -113,7 +115,7 @@ fn of_file(file: &FileRow) -> Edge
 }
 
 #[tactic(auto, unfolding(crate::specs::Edges::edge))]
-fn edge_of(kind: u8, from: Role, to: Role) -> Edge
+pub(crate) fn edge_of(kind: u8, from: Role, to: Role) -> Edge
     ensures { result ≡ spec.edge kind from to }
 {
     Edge { kind, from, to }
@@ -129,7 +131,7 @@ fn sort(edges: &mut Vec<Edge>) -> Mem<()>
 
 /// The number of the folder, file or holder that the role is for, and 0 for the owner's.
 #[tactic(auto, unfolding(crate::specs::Roles::role_id))]
-fn number_of(role: Role) -> u32
+pub(crate) fn number_of(role: Role) -> u32
     ensures { result ≡ role_id role }
 {
     match role {

@@ -2,17 +2,22 @@
 #![tactic(auto)]
 
 mod edge_list;
+pub mod key_laws;
 pub mod laws;
 mod reaching;
 mod rights;
 mod role_set;
+mod roles;
 pub mod rows;
+mod store_roles;
 pub mod tabled;
 
 pub use edge_list::edges;
 pub use reaching::{leading_to, reach};
 pub use rights::{allowed, named};
 pub use role_set::RoleSet;
+pub use roles::Roles;
+pub use store_roles::StoreRoles;
 
 #[cfg(test)]
 mod tests;

@@ -1,0 +1,139 @@
+//! The edges of a shape and grants, looked up without a list of them.
+ghost use Rattle.std.specs.Prelude.{◌≡◌, ◌≤◌};
+ghost use Rattle.role_graph.specs.Joined as spec;
+ghost use Rattle.role_graph.specs.Joined.{joins, are_joined, is_within, is_between, is_granted, is_into_file, is_found, levels, rank_of};
+ghost use Rattle.role_graph.specs.PublicStore.{public_store};
+ghost use Rattle.role_graph.specs.Roles.{is_root_role};
+
+use crate::Roles;
+use crate::edge_list::{between, edge_of, number_of, within};
+use cry_base::{Edge, FileId, FolderId, HolderId, Role};
+use folder_nodes::Shape;
+use grant_book::Grants;
+
+/// The roles of a shape's folders and files, and of the holders of grants. It takes no memory.
+#[derive(Clone, Copy)]
+pub struct StoreRoles<'a> {
+    /// The folders and the files.
+    pub shape: &'a Shape,
+    /// Who was granted which folder.
+    pub grants: &'a Grants,
+}
+
+impl<'a> Roles for StoreRoles<'a> {
+    ghost is_root = { is_root_role };
+
+    ghost HasEdge = { λ r a b. spec.HasEdge (public_store r.shape.now.tree r.grants.now.pairs) a b };
+
+    ghost rank = { λ r role. rank_of (public_store r.shape.now.tree r.grants.now.pairs) role };
+
+    #[tactic(auto, unfolding(crate::specs::Roles::is_root_role, crate::specs::Roles::variant_of))]
+    fn is_root(&self, role: Role) -> bool {
+        matches!(role, Role::Owner | Role::Holder(_))
+    }
+
+    fn has_edge(&self, from: Role, to: Role) -> bool {
+        self.shape.is_tree();
+        self.is_found(number_of(from), number_of(to), from, to)
+    }
+
+    #[tactic(auto, unfolding(crate::specs::Joined::rank_of, crate::specs::Joined::levels, cry_base::specs::Store::way_to_root))]
+    fn rank(&self, role: Role) -> u32 {
+        match role {
+            Role::Owner | Role::Holder(_) => 134,
+            Role::Clear(_) => 133,
+            Role::Sub(f) => 132 - self.levels(f),
+            Role::Back(f) => 1 + self.levels(f),
+            Role::Files(_) => 1,
+            Role::Data(_) | Role::File(_) => 0,
+        }
+    }
+
+    fn laws(&self) {
+        self.shape.is_tree();
+    }
+}
+
+impl<'a> StoreRoles<'a> {
+    /// Whether the edge is among those that folders, grants and files with the numbers of its ends have.
+    #[tactic(auto, unfolding(crate::specs::Joined::is_found))]
+    fn is_found(&self, a: u32, b: u32, from: Role, to: Role) -> bool
+        ensures { result ≡ is_found self.now.shape.now.tree self.now.grants.now.pairs a b from to }
+    {
+        self.is_within(b, from, to)
+            || (self.is_between(b, from, to)
+                || (self.is_between(a, from, to)
+                    || (self.is_granted(a, b, from, to) || self.is_into_file(b, from, to))))
+    }
+
+    /// Whether the edge is one of the folder's own.
+    #[tactic(auto, unfolding(crate::specs::Joined::is_within))]
+    fn is_within(&self, f: u32, from: Role, to: Role) -> bool
+        ensures { result ≡ is_within self.now.shape.now.tree f from to }
+    {
+        let f = FolderId(f);
+        self.shape.has_folder(f) && has_joined(&within(f), from, to)
+    }
+
+    /// Whether the edge is one of the folder and its parent.
+    #[tactic(auto, unfolding(crate::specs::Joined::is_between))]
+    fn is_between(&self, f: u32, from: Role, to: Role) -> bool
+        ensures { result ≡ is_between self.now.shape.now.tree f from to }
+    {
+        let f = FolderId(f);
+        match self.shape.parent(f) {
+            Some(parent) => has_joined(&between(f, parent), from, to),
+            None => false,
+        }
+    }
+
+    /// Whether the edge is that of the holder's grant on the folder.
+    #[tactic(auto, unfolding(crate::specs::Joined::is_granted, crate::specs::Edges::grant_edge, crate::specs::Edges::edge, crate::specs::Roles::holder_role, crate::specs::Roles::clear_of))]
+    fn is_granted(&self, h: u32, f: u32, from: Role, to: Role) -> bool
+        ensures { result ≡ is_granted self.now.grants.now.pairs h f from to }
+    {
+        let (h, f) = (HolderId(h), FolderId(f));
+        self.grants.has(h, f) && is_joined(&edge_of(2, Role::Holder(h), Role::Clear(f)), from, to)
+    }
+
+    /// Whether the edge is the one into the file.
+    #[tactic(auto, unfolding(crate::specs::Joined::is_into_file, crate::specs::Edges::file_edge, crate::specs::Edges::edge, crate::specs::Roles::files_of, crate::specs::Roles::file_role))]
+    fn is_into_file(&self, x: u32, from: Role, to: Role) -> bool
+        ensures { result ≡ is_into_file self.now.shape.now.tree x from to }
+    {
+        let x = FileId(x);
+        match self.shape.folder_of(x) {
+            Some(f) => is_joined(&edge_of(9, Role::Files(f), Role::File(x)), from, to),
+            None => false,
+        }
+    }
+
+    /// How many folders are on the way from the folder up to the root, both included: 0 where it doesn't stand.
+    fn levels(&self, f: FolderId) -> u32
+        ensures levels { result ≡ levels self.now.shape.now.tree f.0 }
+        ensures within { result ≤ 65 }
+    {
+        self.shape.is_tree();
+        if self.shape.has_folder(f) {
+            self.shape.depth(f) + 1
+        } else {
+            0
+        }
+    }
+}
+
+/// Whether one of the edges leads from the one role to the other.
+#[tactic(auto, unfolding(crate::specs::Joined::are_joined))]
+fn has_joined(edges: &[Edge], from: Role, to: Role) -> bool
+    ensures { result ≡ are_joined edges.now from to }
+{
+    edges.iter().any(|edge| is_joined(edge, from, to))
+}
+
+/// Whether the edge leads from the one role to the other.
+#[tactic(auto, unfolding(crate::specs::Joined::joins, crate::specs::Roles::same_role, crate::specs::Roles::variant_of, crate::specs::Roles::role_id))]
+fn is_joined(edge: &Edge, from: Role, to: Role) -> bool
+    ensures { result ≡ joins from to edge.now }
+{
+    edge.from == from && edge.to == to
+}
