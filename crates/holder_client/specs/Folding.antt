@@ -11,7 +11,8 @@ use Rattle.public_fold.specs.Journal.{Stand, note_step}
 use Rattle.public_fold.specs.KeyStep.{Stepped, next_epoch}
 use Rattle.public_fold.specs.Records.{Link, Content}
 use Rattle.public_fold.specs.StandFits.{note_fits}
-use Rattle.holder_client.specs.Told.{told_note, told_store}
+use Rattle.record_format.specs.Told.{told_note}
+use Rattle.holder_client.specs.Told.{told_store}
 
 -- the record's head is that of the link that is due: kind, ids, serials, nonce
 unfoldable pub has_link_head : Link → LinkRecord → Bool

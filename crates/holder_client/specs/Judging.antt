@@ -18,7 +18,7 @@ use Rattle.record_format.specs.Noted.Note.{NewHolder}
 use Rattle.public_fold.specs.Journal.{nothing}
 use Rattle.holder_client.specs.Folding.{folded}
 use Rattle.commit_journal.specs.Logs.{holder_log}
-use Rattle.holder_client.specs.Told.{told_note}
+use Rattle.record_format.specs.Told.{told_note}
 use Rattle.holder_client.specs.View.{Line, view}
 use Rattle.holder_client.specs.Visits.{all_visits}
 use Rattle.holder_client.specs.Visiting.{Reading, Opened, visit_all}

@@ -1,27 +1,9 @@
--- What a payload's note tells everyone. This project's own, docs/FORMAT.md, "Notes and payloads" and "The key step".
+-- What a note makes of the store that everyone may see. This project's own, docs/FORMAT.md, "The key step".
 use Rattle.std.specs.Prelude.{[], ◌∷◌, ◌++◌}
 use Rattle.cry_base.specs.Store.{Store, root_store}
 use Rattle.cry_base.specs.Stepping.{with_new_holder, with_new_folder, with_new_file, with_folder, with_file, without_folder, without_file, without_grant}
 use Rattle.record_format.specs.Noted.{Note}
 use Rattle.record_format.specs.Noted.Note.{Root, NewHolder, NewFolder, NewFile, Rewrite, NameFile, NameFolder, DropFile, DropFolder, ShiftFile, ShiftFolder, Give, Take}
-use Rattle.record_format.specs.declared.note.Note.{Note as Declared}
-use Rattle.record_format.specs.declared.note.Note.TheVariants as declared
-
--- the note of a payload as a note of the model: its ids as numbers
-unfoldable pub told_note : Declared → Note
-told_note declared.Root = Root
-told_note (declared.NewHolder holder check) = NewHolder holder.0 check
-told_note (declared.NewFolder folder parent) = NewFolder folder.0 parent.0
-told_note (declared.NewFile file folder) = NewFile file.0 folder.0
-told_note (declared.Rewrite file) = Rewrite file.0
-told_note (declared.NameFile file) = NameFile file.0
-told_note (declared.NameFolder folder) = NameFolder folder.0
-told_note (declared.DropFile file) = DropFile file.0
-told_note (declared.DropFolder folder) = DropFolder folder.0
-told_note (declared.ShiftFile file into) = ShiftFile file.0 into.0
-told_note (declared.ShiftFolder folder into) = ShiftFolder folder.0 into.0
-told_note (declared.Give holder folder) = Give holder.0 folder.0
-told_note (declared.Take holder folder) = Take holder.0 folder.0
 
 -- the store after a note, as everyone may see it: no name, no byte of a file, no holder's key
 unfoldable pub told_store : Store → Note → Store

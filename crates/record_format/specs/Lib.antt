@@ -6,3 +6,4 @@ pub mod Fields
 pub mod Reading
 pub mod Laws
 pub mod Noted
+pub mod Told

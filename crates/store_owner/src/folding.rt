@@ -2,7 +2,7 @@
 ghost use Rattle.std.specs.Prelude.{◌≡◌, ℕ, List, Ok};
 ghost use Rattle.commit_journal.specs.Laws.{AreBodies};
 ghost use Rattle.commit_journal.specs.Logs.{holder_log, writer_log};
-ghost use Rattle.holder_client.specs.Told.{told_note};
+ghost use Rattle.record_format.specs.Told.{told_note};
 ghost use Rattle.record_format.specs.Noted.{Note};
 ghost use Rattle.public_fold.specs.Journal.{Journal};
 ghost use Rattle.public_fold.specs.WorkedSteps.{rewriting, granting, writing_again, renaming_again, moving_away};
