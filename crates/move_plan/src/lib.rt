@@ -1,5 +1,15 @@
 //! What each command changes among the keys.
 #![tactic(auto)]
 
+mod change;
+mod changes;
+mod dropping;
+mod edging;
+mod fault;
+mod fitting;
 pub mod laws;
 pub mod rows;
+
+pub use change::{Change, change_of};
+pub use fault::ChangeFault;
+pub use fitting::fits;

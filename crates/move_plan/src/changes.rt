@@ -1,0 +1,201 @@
+//! The change of each kind of note, in whatever store (docs/FORMAT.md, "The key step").
+ghost use Rattle.std.specs.Prelude.{◌≡◌, ℕ, [], ◌∷◌, List as AnyList, IfOk};
+ghost use Rattle.cry_base.specs.Store.{Store};
+ghost use Rattle.move_plan.specs.Change.{change_of as change_of_note, folder_of_file, no_change, parent_of_folder};
+ghost use Rattle.move_plan.specs.Seen.{plain_change};
+ghost use Rattle.record_format.specs.Noted.Note.{Root, NewHolder, NewFolder, NewFile, Rewrite, NameFile, NameFolder, DropFile, ShiftFile, ShiftFolder, Give, Take};
+
+use crate::Change;
+use crate::edging::{
+    edges_of, file_edge, folder_edges, folder_edges_with_parent, folder_roles, grant_edge,
+    parent_edges, roles_of,
+};
+use cry_base::{FileId, FolderId, HolderId, List, Mem, Role};
+use std::alloc::Global;
+
+#[tactic(auto, unfolding(crate::specs::WorkedChanges::changes))]
+pub(crate) fn make_root(alloc: Global) -> Mem<Change>
+    ensures { IfOk result (λ c. (s : Store) → plain_change c ≡ change_of_note s Root) }
+{
+    let root = FolderId(1);
+    let fresh = roles_of(alloc, &folder_roles(root))?;
+    let added = edges_of(alloc, &folder_edges(root))?;
+    Ok(Change {
+        removed: List::new(alloc),
+        gone: List::new(alloc),
+        wanted: List::new(alloc),
+        fresh,
+        added,
+    })
+}
+
+#[tactic(auto, unfolding(crate::specs::WorkedChanges::changes))]
+pub(crate) fn make_holder(alloc: Global, holder: HolderId) -> Mem<Change>
+    ensures { IfOk result (λ c. (s : Store) (check : AnyList ℕ) → plain_change c ≡ change_of_note s (NewHolder holder.0 check)) }
+{
+    let fresh = roles_of(alloc, &[Role::Holder(holder)])?;
+    Ok(Change {
+        removed: List::new(alloc),
+        gone: List::new(alloc),
+        wanted: List::new(alloc),
+        fresh,
+        added: List::new(alloc),
+    })
+}
+
+#[tactic(auto, unfolding(crate::specs::WorkedChanges::changes))]
+pub(crate) fn make_folder(alloc: Global, folder: FolderId, parent: FolderId) -> Mem<Change>
+    ensures { IfOk result (λ c. (s : Store) → plain_change c ≡ change_of_note s (NewFolder folder.0 parent.0)) }
+{
+    let wanted = roles_of(alloc, &[Role::Sub(parent)])?;
+    let fresh = roles_of(alloc, &folder_roles(folder))?;
+    let added = edges_of(alloc, &folder_edges_with_parent(folder, parent))?;
+    Ok(Change {
+        removed: List::new(alloc),
+        gone: List::new(alloc),
+        wanted,
+        fresh,
+        added,
+    })
+}
+
+#[tactic(auto, unfolding(crate::specs::WorkedChanges::changes))]
+pub(crate) fn make_file(alloc: Global, file: FileId, folder: FolderId) -> Mem<Change>
+    ensures { IfOk result (λ c. (s : Store) → plain_change c ≡ change_of_note s (NewFile file.0 folder.0)) }
+{
+    let wanted = roles_of(alloc, &[Role::Files(folder)])?;
+    let fresh = roles_of(alloc, &[Role::File(file)])?;
+    let added = edges_of(alloc, &[file_edge(folder, file)])?;
+    Ok(Change {
+        removed: List::new(alloc),
+        gone: List::new(alloc),
+        wanted,
+        fresh,
+        added,
+    })
+}
+
+#[tactic(auto, unfolding(crate::specs::WorkedChanges::changes))]
+pub(crate) fn rewrite(alloc: Global, file: FileId) -> Mem<Change>
+    ensures { IfOk result (λ c. (s : Store) → plain_change c ≡ change_of_note s (Rewrite file.0)) }
+{
+    only_wanted(alloc, Role::File(file))
+}
+
+#[tactic(auto, unfolding(crate::specs::WorkedChanges::changes))]
+pub(crate) fn name_file(alloc: Global, file: FileId) -> Mem<Change>
+    ensures { IfOk result (λ c. (s : Store) → plain_change c ≡ change_of_note s (NameFile file.0)) }
+{
+    only_wanted(alloc, Role::File(file))
+}
+
+#[tactic(auto, unfolding(crate::specs::WorkedChanges::changes))]
+pub(crate) fn name_folder(alloc: Global, folder: FolderId) -> Mem<Change>
+    ensures { IfOk result (λ c. (s : Store) → plain_change c ≡ change_of_note s (NameFolder folder.0)) }
+{
+    only_wanted(alloc, Role::Data(folder))
+}
+
+/// The change by which the role is cleaned, and nothing else.
+#[tactic(auto, unfolding(crate::specs::WorkedChanges::changes))]
+fn only_wanted(alloc: Global, role: Role) -> Mem<Change>
+    ensures { IfOk result (λ c. plain_change c ≡ record no_change { wanted = role ∷ [] }) }
+{
+    let wanted = roles_of(alloc, &[role])?;
+    Ok(Change {
+        removed: List::new(alloc),
+        gone: List::new(alloc),
+        wanted,
+        fresh: List::new(alloc),
+        added: List::new(alloc),
+    })
+}
+
+/// The change of a file removed from the folder that it is in.
+#[tactic(auto, unfolding(crate::specs::WorkedChanges::changes))]
+pub(crate) fn drop_file(alloc: Global, file: FileId, folder: FolderId) -> Mem<Change>
+    ensures { IfOk result (λ c. (s : Store) → folder.0 ≡ folder_of_file s file.0 → plain_change c ≡ change_of_note s (DropFile file.0)) }
+{
+    let removed = edges_of(alloc, &[file_edge(folder, file)])?;
+    let gone = roles_of(alloc, &[Role::File(file)])?;
+    Ok(Change {
+        removed,
+        gone,
+        wanted: List::new(alloc),
+        fresh: List::new(alloc),
+        added: List::new(alloc),
+    })
+}
+
+/// The change of a file moved from the folder that it is in.
+#[tactic(auto, unfolding(crate::specs::WorkedChanges::changes))]
+pub(crate) fn move_file(
+    alloc: Global,
+    file: FileId,
+    folder: FolderId,
+    into: FolderId,
+) -> Mem<Change>
+    ensures { IfOk result (λ c. (s : Store) → folder.0 ≡ folder_of_file s file.0 → plain_change c ≡ change_of_note s (ShiftFile file.0 into.0)) }
+{
+    let removed = edges_of(alloc, &[file_edge(folder, file)])?;
+    let wanted = roles_of(alloc, &[Role::Files(into)])?;
+    let added = edges_of(alloc, &[file_edge(into, file)])?;
+    Ok(Change {
+        removed,
+        gone: List::new(alloc),
+        wanted,
+        fresh: List::new(alloc),
+        added,
+    })
+}
+
+/// The change of a folder moved from its parent.
+#[tactic(auto, unfolding(crate::specs::WorkedChanges::changes))]
+pub(crate) fn move_folder(
+    alloc: Global,
+    folder: FolderId,
+    parent: FolderId,
+    into: FolderId,
+) -> Mem<Change>
+    ensures { IfOk result (λ c. (s : Store) → parent.0 ≡ parent_of_folder s folder.0 → plain_change c ≡ change_of_note s (ShiftFolder folder.0 into.0)) }
+{
+    let removed = edges_of(alloc, &parent_edges(folder, parent))?;
+    let wanted = roles_of(alloc, &[Role::Sub(into), Role::Back(folder)])?;
+    let added = edges_of(alloc, &parent_edges(folder, into))?;
+    Ok(Change {
+        removed,
+        gone: List::new(alloc),
+        wanted,
+        fresh: List::new(alloc),
+        added,
+    })
+}
+
+#[tactic(auto, unfolding(crate::specs::WorkedChanges::changes))]
+pub(crate) fn give(alloc: Global, holder: HolderId, folder: FolderId) -> Mem<Change>
+    ensures { IfOk result (λ c. (s : Store) → plain_change c ≡ change_of_note s (Give holder.0 folder.0)) }
+{
+    let added = edges_of(alloc, &[grant_edge(holder, folder)])?;
+    Ok(Change {
+        removed: List::new(alloc),
+        gone: List::new(alloc),
+        wanted: List::new(alloc),
+        fresh: List::new(alloc),
+        added,
+    })
+}
+
+#[tactic(auto, unfolding(crate::specs::WorkedChanges::changes))]
+pub(crate) fn take(alloc: Global, holder: HolderId, folder: FolderId) -> Mem<Change>
+    ensures { IfOk result (λ c. (s : Store) → plain_change c ≡ change_of_note s (Take holder.0 folder.0)) }
+{
+    let removed = edges_of(alloc, &[grant_edge(holder, folder)])?;
+    let wanted = roles_of(alloc, &[Role::Clear(folder)])?;
+    Ok(Change {
+        removed,
+        gone: List::new(alloc),
+        wanted,
+        fresh: List::new(alloc),
+        added: List::new(alloc),
+    })
+}

@@ -1,0 +1,220 @@
+//! Which notes fit a shape and grants (docs/FORMAT.md, "The key step"). None of these calls takes memory.
+ghost use Rattle.std.specs.Prelude.{◌≡◌, ◌+◌, ◌==◌, ◌&&◌, ◌||◌, not, nat_le, length, true, IsSome, Some};
+ghost use Rattle.std.specs.List.{list_any};
+ghost use Rattle.cry_base.specs.Refusing.{has_child, height_of};
+ghost use Rattle.cry_base.specs.Store.{depth_of, folder_entry, folder_node, is_within};
+ghost use Rattle.grant_book.specs.Granted.{is_grant};
+ghost use Rattle.grant_book.specs.Refused.{is_holder};
+ghost use Rattle.move_plan.specs.Change.{folder_of_file, parent_of_folder};
+ghost use Rattle.move_plan.specs.Fitting.{file_stands, folder_stands, fits as fits_store, has_depth_left as has_depth_below, is_other_folder as is_other, needs_root, row_fits as row_of_note};
+ghost use Rattle.move_plan.specs.Seen.{seen_store};
+ghost use Rattle.record_format.specs.Told.{told_note};
+
+use cry_base::{FileId, FolderId, HolderId};
+use folder_nodes::Shape;
+use grant_book::Grants;
+use record_format::Note;
+
+const ROOT: FolderId = FolderId(1);
+
+const DEPTH: u32 = 64;
+
+/// Whether the note fits: its row's condition holds, and the root stands where the note isn't the one that makes it. It
+/// goes up from the folders that the note names, and looks at all folders and files for a folder that is removed or moved.
+pub fn fits(shape: &Shape, grants: &Grants, note: &Note) -> bool
+    ensures { result ≡ fits_store (seen_store shape.now.tree grants.now) (told_note note.now) }
+{
+    row_fits(shape, grants, note) && has_root_for(shape, note)
+}
+
+/// Whether the root stands, or the note is the one that makes it.
+#[tactic(auto, unfolding(crate::specs::Fitting::folder_stands))]
+fn has_root_for(shape: &Shape, note: &Note) -> bool
+    ensures { result ≡ (not (needs_root (told_note note.now)) || folder_stands shape.now.tree 1) }
+{
+    is_root(note) || shape.has_folder(ROOT)
+}
+
+#[tactic(auto, unfolding(crate::specs::Fitting::needs_root, record_format::specs::Told::told_note))]
+fn is_root(note: &Note) -> bool
+    ensures { result ≡ not (needs_root (told_note note.now)) }
+{
+    matches!(note, Note::Root)
+}
+
+/// Whether the condition of the note's row holds.
+fn row_fits(shape: &Shape, grants: &Grants, note: &Note) -> bool
+    ensures { result ≡ row_of_note (seen_store shape.now.tree grants.now) (told_note note.now) }
+{
+    match *note {
+        Note::Root => may_make_root(shape),
+        Note::NewHolder { holder, .. } => may_make_holder(grants, holder),
+        Note::NewFolder { folder, parent } => may_make_folder(shape, folder, parent),
+        Note::NewFile { file, folder } => may_make_file(shape, file, folder),
+        Note::Rewrite { file } => has_file(shape, file),
+        Note::NameFile { file } => has_file(shape, file),
+        Note::NameFolder { folder } => is_other_folder(shape, folder),
+        Note::DropFile { file } => has_file(shape, file),
+        Note::DropFolder { folder } => may_drop_folder(shape, folder),
+        Note::ShiftFile { file, into } => may_move_file(shape, file, into),
+        Note::ShiftFolder { folder, into } => may_move_folder(shape, folder, into),
+        Note::Give { holder, folder } => may_give(shape, grants, holder, folder),
+        Note::Take { holder, folder } => grants.has(holder, folder),
+    }
+}
+
+fn may_make_root(shape: &Shape) -> bool
+    ensures { result ≡ (shape.now.tree.folders_made == 0) }
+{
+    shape.folders_made() == 0
+}
+
+fn may_make_holder(grants: &Grants, h: HolderId) -> bool
+    ensures { result ≡ (h.0 == length grants.now.checks + 1) }
+{
+    is_next(h.0, grants.holders())
+}
+
+fn may_make_folder(shape: &Shape, f: FolderId, parent: FolderId) -> bool
+    ensures { result ≡ (f.0 == shape.now.tree.folders_made + 1 && has_depth_below shape.now.tree parent.0) }
+{
+    is_next(f.0, shape.folders_made()) && has_depth_left(shape, parent)
+}
+
+fn may_make_file(shape: &Shape, x: FileId, folder: FolderId) -> bool
+    ensures { result ≡ (x.0 == shape.now.tree.files_made + 1 && has_depth_below shape.now.tree folder.0) }
+{
+    is_next(x.0, shape.files_made()) && has_depth_left(shape, folder)
+}
+
+/// Whether the number is one more than how many were made.
+fn is_next(number: u32, made: u32) -> bool
+    ensures { result ≡ (number == made + 1) }
+{
+    number > made && number - made == 1
+}
+
+#[tactic(auto, unfolding(crate::specs::Fitting::folder_stands, crate::specs::Fitting::has_depth_left))]
+fn has_depth_left(shape: &Shape, f: FolderId) -> bool
+    ensures { result ≡ has_depth_below shape.now.tree f.0 }
+{
+    shape.has_folder(f) && shape.depth(f) < DEPTH
+}
+
+#[tactic(auto, unfolding(crate::specs::Fitting::file_stands))]
+fn has_file(shape: &Shape, x: FileId) -> bool
+    ensures { result ≡ file_stands shape.now.tree x.0 }
+{
+    shape.folder_of(x).is_some()
+}
+
+#[tactic(auto, unfolding(crate::specs::Fitting::folder_stands))]
+fn has_folder(shape: &Shape, f: FolderId) -> bool
+    ensures value { result ≡ folder_stands shape.now.tree f.0 }
+    ensures stands { result ≡ true → IsSome (folder_entry shape.now.tree f.0) }
+{
+    shape.has_folder(f)
+}
+
+#[tactic(auto, unfolding(crate::specs::Fitting::is_other_folder))]
+fn is_other_folder(shape: &Shape, f: FolderId) -> bool
+    ensures value { result ≡ is_other shape.now.tree f.0 }
+    ensures stands { result ≡ true → IsSome (folder_entry shape.now.tree f.0) }
+{
+    has_folder(shape, f) && f.0 != ROOT.0
+}
+
+fn may_drop_folder(shape: &Shape, f: FolderId) -> bool
+    ensures { result ≡ (is_other shape.now.tree f.0 && not (has_child shape.now.tree f.0)) }
+{
+    is_other_folder(shape, f) && shape.is_empty_folder(f)
+}
+
+fn may_move_file(shape: &Shape, x: FileId, into: FolderId) -> bool
+    ensures { result ≡ (file_stands shape.now.tree x.0 && has_depth_below shape.now.tree into.0 && not (folder_of_file shape.now.tree x.0 == into.0)) }
+{
+    has_file(shape, x) && has_depth_left(shape, into) && folder_of(shape, x).0 != into.0
+}
+
+/// Whether the folder, with all below it, may go into the other one.
+fn may_move_folder(shape: &Shape, f: FolderId, into: FolderId) -> bool
+    ensures { let t = shape.now.tree in result ≡ (is_other t f.0 && (folder_stands t into.0 && (not (parent_of_folder t f.0 == into.0) && not (is_within t into.0 f.0)
+        && nat_le (depth_of t (folder_node into.0) + 1 + height_of t (Some (folder_node f.0))) 64))) }
+{
+    is_other_folder(shape, f) && may_leave(shape, f, into)
+}
+
+/// Whether a folder that stands may go into the other one.
+fn may_leave(shape: &Shape, f: FolderId, into: FolderId) -> bool
+    requires { IsSome (folder_entry shape.now.tree f.0) }
+    ensures { let t = shape.now.tree in result ≡ (folder_stands t into.0 && (not (parent_of_folder t f.0 == into.0) && not (is_within t into.0 f.0)
+        && nat_le (depth_of t (folder_node into.0) + 1 + height_of t (Some (folder_node f.0))) 64)) }
+{
+    has_folder(shape, into) && may_enter(shape, f, into)
+}
+
+/// Whether one of two folders that stand may go into the other.
+fn may_enter(shape: &Shape, f: FolderId, into: FolderId) -> bool
+    requires stands { IsSome (folder_entry shape.now.tree f.0) }
+    requires place { IsSome (folder_entry shape.now.tree into.0) }
+    ensures { let t = shape.now.tree in result ≡ (not (parent_of_folder t f.0 == into.0) && not (is_within t into.0 f.0)
+        && nat_le (depth_of t (folder_node into.0) + 1 + height_of t (Some (folder_node f.0))) 64) }
+{
+    parent_of(shape, f).0 != into.0 && is_apart(shape, into, f) && has_levels_left(shape, f, into)
+}
+
+/// Whether the folder is neither the other one nor under it.
+fn is_apart(shape: &Shape, f: FolderId, above: FolderId) -> bool
+    requires { IsSome (folder_entry shape.now.tree f.0) }
+    ensures { result ≡ not (is_within shape.now.tree f.0 above.0) }
+{
+    shape.is_tree();
+    f.0 != above.0 && !shape.is_under(f, above)
+}
+
+/// Whether no node of the folder comes to stand too deep in the other one.
+#[tactic(auto, using(std::proofs::lemmas::Bool::Decides::nat_tests))]
+fn has_levels_left(shape: &Shape, f: FolderId, into: FolderId) -> bool
+    requires stands { IsSome (folder_entry shape.now.tree f.0) }
+    requires place { IsSome (folder_entry shape.now.tree into.0) }
+    ensures { result ≡ nat_le (depth_of shape.now.tree (folder_node into.0) + 1 + height_of shape.now.tree (Some (folder_node f.0))) 64 }
+{
+    let depth = shape.depth(into);
+    let height = shape.height(f);
+    height < DEPTH - depth
+}
+
+fn may_give(shape: &Shape, grants: &Grants, h: HolderId, f: FolderId) -> bool
+    ensures { result ≡ (is_holder grants.now.checks h.0 && folder_stands shape.now.tree f.0 && not (list_any (is_grant h.0 f.0) grants.now.pairs)) }
+{
+    is_made(grants, h) && has_folder(shape, f) && !grants.has(h, f)
+}
+
+/// Whether a holder with the number was made.
+fn is_made(grants: &Grants, h: HolderId) -> bool
+    ensures { result ≡ is_holder grants.now.checks h.0 }
+{
+    1 <= h.0 && h.0 <= grants.holders()
+}
+
+/// The folder that a file is in, and the folder 0 where the file doesn't stand.
+#[tactic(auto, unfolding(crate::specs::Change::folder_of_file))]
+pub(crate) fn folder_of(shape: &Shape, x: FileId) -> FolderId
+    ensures { result.0 ≡ folder_of_file shape.now.tree x.0 }
+{
+    match shape.folder_of(x) {
+        Some(folder) => folder,
+        None => FolderId(0),
+    }
+}
+
+/// The folder that a folder is in, and the folder 0 for the root and where the folder doesn't stand.
+#[tactic(auto, unfolding(crate::specs::Change::parent_of_folder))]
+pub(crate) fn parent_of(shape: &Shape, f: FolderId) -> FolderId
+    ensures { result.0 ≡ parent_of_folder shape.now.tree f.0 }
+{
+    match shape.parent(f) {
+        Some(parent) => parent,
+        None => FolderId(0),
+    }
+}
