@@ -120,7 +120,7 @@ unfolding walked
 walked_no_root s n path e =
     sym (ap (λ b. cond b (walk (tree_store s n) 1 (names_of path)) None) (and_false (is_path path) (is_some (folder_entry (tree_store s n) 1)) (root_same s n ∙ e)))
 
-behind_first : (path : List ℕ) → is_path path ≡ true → names_behind (drop 1 path) ≡ names_of path
+pub behind_first : (path : List ℕ) → is_path path ≡ true → names_behind (drop 1 path) ≡ names_of path
 unfolding is_path names_of
 behind_first [] e = absurd (false≢true e)
 behind_first (slash ∷ bytes) e = refl

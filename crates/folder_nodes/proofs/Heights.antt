@@ -21,11 +21,11 @@ row_depth s f r = cond (is_within s r.id.0 f) (depth_of s (folder_node r.id.0)) 
 abbrev pub file_row_depth : Store → ℕ → FileRow → ℕ
 file_row_depth s f r = cond (is_within s r.folder.0 f) (depth_of s (folder_node r.folder.0) + 1) 0
 
-map_twice : (X Y Z : Type 0) (v : Y → Z) (h : X → Y) (xs : List X) → map v (map h xs) ≡ map (λ x. v (h x)) xs
+pub map_twice : (X Y Z : Type 0) (v : Y → Z) (h : X → Y) (xs : List X) → map v (map h xs) ≡ map (λ x. v (h x)) xs
 map_twice X Y Z v h [] = refl
 map_twice X Y Z v h (x ∷ xs) = ap (λ l. v (h x) ∷ l) (map_twice X Y Z v h xs)
 
-map_same : (X Z : Type 0) (v w : X → Z) (xs : List X) → All (λ x. v x ≡ w x) xs → map v xs ≡ map w xs
+pub map_same : (X Z : Type 0) (v w : X → Z) (xs : List X) → All (λ x. v x ≡ w x) xs → map v xs ≡ map w xs
 map_same X Z v w [] all = refl
 map_same X Z v w (x ∷ xs) all = ap (λ z. z ∷ map v xs) (All-head (λ x. v x ≡ w x) x xs all) ∙ ap (λ l. w x ∷ l) (map_same X Z v w xs (All-tail (λ x. v x ≡ w x) x xs all))
 

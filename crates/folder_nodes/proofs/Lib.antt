@@ -1,9 +1,14 @@
 pub mod Added
+pub mod Causes
+pub mod Checked
 pub mod Climbing
 pub mod Finds
 pub mod Heights
+pub mod Joined
 pub mod Lookups
 pub mod Moved
+pub mod Named
+pub mod Placed
 pub mod Placing
 pub mod Removed
 pub mod Rowed

@@ -129,7 +129,7 @@ folders_found (x ∷ xs) pairs =
 bytes_told : (a b : List ℕ) → bytes_eq a b ≡ true → a ≡ b
 bytes_told a b t = (pointwise_decides (λ x y. (eqb-true x y, eq-eqb x y)) a b).0 t
 
-found_in : (X : Type 0) (p : X → Bool) (xs : List X) (y : X) → find p xs ≡ Some y → In y xs × (p y ≡ true)
+pub found_in : (X : Type 0) (p : X → Bool) (xs : List X) (y : X) → find p xs ≡ Some y → In y xs × (p y ≡ true)
 found_in X p [] y e = absurd (cc)
 found_in X p (x ∷ xs) y e =
     (elim (p x) as (λ b. p x ≡ b → cond b (Some x) (find p xs) ≡ Some y → In y (x ∷ xs) × (p y ≡ true)) [
@@ -173,7 +173,7 @@ folder_ends s named f e stands n g p =
           ∙ ap (λ z. folder_names s z ++ g.name ∷ []) parent ∙ ap (λ z. folder_names s f ++ z ∷ []) (bytes_told g.name n both.1),
     )
 
-entry_id : (s : Store) (f : ℕ) (e : FolderEntry) → folder_entry s f ≡ Some e → e.id ≡ f
+pub entry_id : (s : Store) (f : ℕ) (e : FolderEntry) → folder_entry s f ≡ Some e → e.id ≡ f
 unfolding folder_entry
 entry_id s f e p = at_id s.folders f e p
 
@@ -212,16 +212,16 @@ All-in X P [] x all i = absurd i
 All-in X P (y ∷ xs) x all i = ⊎_elim (λ (e : x ≡ y). subst P (sym e) (All-head P y xs all)) (λ r. All-in X P xs x (All-tail P y xs all) r) i
 
 -- what stands is where its names lead; and where anything stands the root does
-Led : Store → Node → Type 0
+unfoldable pub Led : Store → Node → Type 0
 Led s node = (walk s 1 (node_names s node) ≡ Some node) × (list_all is_name (node_names s node) ≡ true) × (is_some (folder_entry s 1) ≡ true)
 
-root_stands : (s : Store) → IsNamedTree s → (f : ℕ) (e : FolderEntry) → folder_entry s f ≡ Some e → is_some (folder_entry s 1) ≡ true
+pub root_stands : (s : Store) → IsNamedTree s → (f : ℕ) (e : FolderEntry) → folder_entry s f ≡ Some e → is_some (folder_entry s 1) ≡ true
 root_stands s named f e p =
     let made = stands_made s named.tree f e p in
     let w = named.tree.root (omega (arith, made.0, made.1)) in
     ap (λ (o : Option FolderEntry). is_some o) w.1
 
-node_led : (s : Store) → IsNamedTree s → (node : Node) → In node (nodes_of s) → Led s node
+pub node_led : (s : Store) → IsNamedTree s → (node : Node) → In node (nodes_of s) → Led s node
 unfolding Led nodes_of folder_entry file_entry node_names folder_node
 node_led s named node i = ⊎_elim
     (λ a.

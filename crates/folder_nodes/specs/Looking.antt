@@ -20,3 +20,8 @@ folder_id_of (Some e) = Some (record { 0 = e.folder })
 abbrev pub parent_number_of : Option FolderEntry → ℕ
 parent_number_of None = 0
 parent_number_of (Some e) = e.parent
+
+-- the number of the folder that a file is in, and 0 where it doesn't stand
+abbrev pub folder_number_of : Option FileEntry → ℕ
+folder_number_of None = 0
+folder_number_of (Some e) = e.folder

@@ -12,7 +12,7 @@ use crate::naming::first_piece;
 use crate::{FileRow, FolderRow, Names, Shape, path_ok};
 use cry_base::{FileId, FolderId, Node};
 
-const ROOT: FolderId = FolderId(1);
+pub(crate) const ROOT: FolderId = FolderId(1);
 
 /// The folder or file with the path. It goes down from the root, and looks at all nodes on each level.
 pub fn find(shape: &Shape, names: &Names, path: &[u8]) -> Option<Node>
@@ -35,7 +35,7 @@ pub(crate) fn walk_path(shape: &Shape, names: &Names, path: &[u8]) -> Option<Nod
 }
 
 /// What is behind the first byte.
-fn behind_slash(path: &[u8]) -> &[u8]
+pub(crate) fn behind_slash(path: &[u8]) -> &[u8]
     ensures { result.now ≡ drop 1 path.now }
 {
     match path.split_first() {
@@ -66,7 +66,7 @@ fn walk_names(shape: &Shape, names: &Names, behind: &[u8]) -> Option<Node>
 }
 
 /// The file, where no name is left.
-fn last(file: FileId, rest: Option<&[u8]>) -> Option<Node>
+pub(crate) fn last(file: FileId, rest: Option<&[u8]>) -> Option<Node>
     ensures { result ≡ last_of file (pieces_of rest.entry) }
 {
     match rest {
@@ -76,7 +76,7 @@ fn last(file: FileId, rest: Option<&[u8]>) -> Option<Node>
 }
 
 /// The folder or file with this name in the folder.
-fn child(shape: &Shape, names: &Names, f: u32, name: &[u8]) -> Option<Node>
+pub(crate) fn child(shape: &Shape, names: &Names, f: u32, name: &[u8]) -> Option<Node>
     ensures { result ≡ child_of (tree_store shape.now.tree names.now) f name.now }
 {
     match child_folder(shape.folders.as_slice(), names, f, name) {

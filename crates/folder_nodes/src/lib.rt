@@ -2,16 +2,19 @@
 #![tactic(auto)]
 
 mod changes;
+mod checking;
 mod finding;
 pub mod laws;
 mod listed;
 mod names;
 mod naming;
+mod place;
 mod rows;
 mod shape;
 mod titles;
 mod ways;
 
+pub use checking::check_tree;
 pub use finding::find;
 pub use names::Names;
 pub use naming::{name_ok, path_ok};

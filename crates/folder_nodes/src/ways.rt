@@ -2,19 +2,29 @@
 ghost use Rattle.std.specs.Prelude.{◌≡◌, ◌+◌, ◌-◌, ◌≤◌, ◌==◌, ◌&&◌, max, true, not, cond, map, length, Some, IsSome};
 ghost use Rattle.std.specs.List.{fold};
 ghost use Rattle.cry_base.specs.Refusing.{deepest, height_of};
-ghost use Rattle.cry_base.specs.Store.{folder_entry, folder_node, depth_of, is_within, way_to_root};
-ghost use Rattle.folder_nodes.specs.Looking.{parent_number_of};
+ghost use Rattle.cry_base.specs.Store.{folder_entry, file_entry, folder_node, depth_of, is_within, way_to_root};
+ghost use Rattle.folder_nodes.specs.Looking.{parent_number_of, folder_number_of};
 
 use crate::{FileRow, FolderRow, Shape};
 use cry_base::FolderId;
 
 impl Shape {
     /// The number of the folder that a folder is in: 0 above the root.
-    fn parent_number(&self, f: u32) -> u32
+    pub(crate) fn parent_number(&self, f: u32) -> u32
         ensures { result ≡ parent_number_of (folder_entry self.now.tree f) }
     {
         match self.folder_row(f) {
             Some(row) => row.parent,
+            None => 0,
+        }
+    }
+
+    /// The number of the folder that a file is in, and 0 where it doesn't stand.
+    pub(crate) fn folder_number(&self, x: u32) -> u32
+        ensures { result ≡ folder_number_of (file_entry self.now.tree x) }
+    {
+        match self.file_row(x) {
+            Some(row) => row.folder.0,
             None => 0,
         }
     }
