@@ -167,3 +167,42 @@ removal_joins s old new (File x) gone =
     (filter (λ (e : FileEntry). not (e.id == x.0)) s.files)
     (All-passed FileEntry (λ e. Unit {0}) (λ e. not (e.id == x.0)) s.files (all_of FileEntry (λ e. Unit {0}) (λ e. tt) s.files)))
     ∙ sym (filter-map FileEntry FileEntry (named_file old) (λ e. not (e.id == x.0)) s.files))
+
+-- a file keeps what isn't changed
+bytes_stay : (n : Titles) (x : ℕ) (name : List ℕ) (e : FileEntry) → ◌≡◌ {A = FileEntry} (cond (e.id == x) (record e { name = name; bytes = bytes_in (title_at n.files x) }) (named_file n e)) (cond (e.id == x) (record (named_file n e) { name = name }) (named_file n e))
+bytes_stay n x name e =
+    (elim (e.id == x) as (λ k. e.id == x ≡ k → ◌≡◌ {A = FileEntry} (cond k (record e { name = name; bytes = bytes_in (title_at n.files x) }) (named_file n e)) (cond k (record (named_file n e) { name = name }) (named_file n e))) [
+      | true ↦ λ t. ap (λ i. record e { name = name; bytes = bytes_in (title_at n.files i) }) (sym (eqb-true e.id x t))
+      | false ↦ λ t. refl
+    ]) refl
+
+name_stays : (n : Titles) (x : ℕ) (bytes : List ℕ) (e : FileEntry) → ◌≡◌ {A = FileEntry} (cond (e.id == x) (record e { name = name_in (title_at n.files x); bytes = bytes }) (named_file n e)) (cond (e.id == x) (record (named_file n e) { bytes = bytes }) (named_file n e))
+name_stays n x bytes e =
+    (elim (e.id == x) as (λ k. e.id == x ≡ k → ◌≡◌ {A = FileEntry} (cond k (record e { name = name_in (title_at n.files x); bytes = bytes }) (named_file n e)) (cond k (record (named_file n e) { bytes = bytes }) (named_file n e))) [
+      | true ↦ λ t. ap (λ i. record e { name = name_in (title_at n.files i); bytes = bytes }) (sym (eqb-true e.id x t))
+      | false ↦ λ t. refl
+    ]) refl
+
+abbrev changed : ℕ → (FileEntry → FileEntry) → FileEntry → FileEntry
+changed x change e = cond (e.id == x) (change e) e
+
+-- two changes that do the same to each file with its name
+changed_alike : (s : Store) (n : Titles) (x : ℕ) (one other : FileEntry → FileEntry) → ((e : FileEntry) → changed x one (named_file n e) ≡ changed x other (named_file n e)) → with_file (tree_store s n) x one ≡ with_file (tree_store s n) x other
+unfolding tree_store with_file
+changed_alike s n x one other same =
+    ap (λ l. record s { folders = map (named_folder n) s.folders; files = l })
+    (map_twice FileEntry FileEntry FileEntry (changed x one) (named_file n) s.files
+    ∙ map_alike FileEntry FileEntry (λ e. changed x one (named_file n e)) (λ e. changed x other (named_file n e)) same s.files
+    ∙ sym (map_twice FileEntry FileEntry FileEntry (changed x other) (named_file n) s.files))
+
+pub file_rewritten : (s : Store) (old new : Titles) (x : ℕ) (bytes : List ℕ) → IsSet old new (file_node x) (name_in (title_at old.files x)) bytes → tree_store s new ≡ with_file (tree_store s old) x (λ e. record e { bytes = bytes })
+file_rewritten s old new x bytes set =
+    file_set s old new x (name_in (title_at old.files x)) bytes set
+    ∙ changed_alike s old x (λ e. record e { name = name_in (title_at old.files x); bytes = bytes }) (λ e. record e { bytes = bytes }) (λ e. name_stays old x bytes e)
+
+pub name_joins : (s : Store) (old new : Titles) (node : Node) (name : List ℕ) → IsSet old new node name (bytes_in (title_of old node)) → tree_store s new ≡ with_name (tree_store s old) (Some node) name
+unfolding with_name folder_node file_node
+name_joins s old new (Folder f) name set = folder_renamed s old new f.0 name (bytes_in (title_at old.folders f.0)) set
+name_joins s old new (File x) name set =
+    file_set s old new x.0 name (bytes_in (title_at old.files x.0)) set
+    ∙ changed_alike s old x.0 (λ e. record e { name = name; bytes = bytes_in (title_at old.files x.0) }) (λ e. record e { name = name }) (λ e. bytes_stay old x.0 name e)

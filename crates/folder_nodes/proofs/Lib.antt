@@ -11,6 +11,7 @@ pub mod Named
 pub mod Placed
 pub mod Placing
 pub mod Removed
+pub mod Rooted
 pub mod Rowed
 pub mod Splitting
 pub mod Titled

@@ -49,7 +49,7 @@ unfolding and_above
 above_named n up down same None = refl
 above_named n up down same (Some e) = ap (λ l. named_folder n e ∷ l) (same e)
 
-up_named : (n : Titles) (k : ℕ) (xs : List FolderEntry) (f : ℕ) → way_up k (map (named_folder n) xs) f ≡ map (named_folder n) (way_up k xs f)
+pub up_named : (n : Titles) (k : ℕ) (xs : List FolderEntry) (f : ℕ) → way_up k (map (named_folder n) xs) f ≡ map (named_folder n) (way_up k xs f)
 unfolding way_up
 up_named n zero xs f = refl
 up_named n (suc k) xs f =
@@ -62,7 +62,7 @@ way_named s n f =
     let same : length (map (named_folder n) s.folders) ≡ length s.folders = simp length-map in
     ap (λ k. way_up k (map (named_folder n) s.folders) f) same ∙ up_named n (length s.folders) s.folders f
 
-levels_named : (s : Store) (n : Titles) (f : ℕ) → length (way_to_root (tree_store s n) f) ≡ length (way_to_root s f)
+pub levels_named : (s : Store) (n : Titles) (f : ℕ) → length (way_to_root (tree_store s n) f) ≡ length (way_to_root s f)
 levels_named s n f =
     let same : length (map (named_folder n) (way_to_root s f)) ≡ length (way_to_root s f) = simp length-map in
     ap length (way_named s n f) ∙ same
