@@ -59,13 +59,13 @@ unfolding put_in_order
 put_rises X lt o x [] r = (λ y i. absurd i, tt)
 put_rises X lt o x (y ∷ ys) r = (elim (lt y x) as (λ b. lt y x ≡ b → Rises X lt (cond b (y ∷ put_in_order lt x ys) (x ∷ y ∷ ys))) [
   | true ↦ λ e. (
-      λ z i. ⊎_elim (λ (s : z ≡ x). subst (λ u. lt u y ≡ false) (sym s) (o.one_way y x e)) (λ u. r.0 z u) ((put-in X lt x z ys).0 i),
-      put_rises X lt o x ys r.1,
-    )
+    λ z i. ⊎_elim (λ (s : z ≡ x). subst (λ u. lt u y ≡ false) (sym s) (o.one_way y x e)) (λ u. r.0 z u) ((put-in X lt x z ys).0 i),
+    put_rises X lt o x ys r.1,
+  )
   | false ↦ λ e. (
-      λ z i. ⊎_elim (λ (s : z ≡ y). subst (λ u. lt u x ≡ false) (sym s) e) (λ u. o.chain z y x (r.0 z u) e) i,
-      r,
-    )
+    λ z i. ⊎_elim (λ (s : z ≡ y). subst (λ u. lt u x ≡ false) (sym s) e) (λ u. o.chain z y x (r.0 z u) e) i,
+    r,
+  )
 ]) refl
 
 put_keeps : (X : Type 0) (lt : X → X → Bool) → IsStrictWeakOrder lt → (w x : X) (ys : List X) → filter (ties lt w) (put_in_order lt x ys) ≡ filter (ties lt w) (x ∷ ys)
