@@ -25,6 +25,17 @@ pub enum Command {
     Revoke { holder: HolderId, path: Text },
 }
 
+/// What a command is answered.
+#[derive(Clone, Copy, PartialEq, Eq)]
+pub enum Reply {
+    /// It was done.
+    Done,
+    /// A holder was made, with the 32 bytes of the holder's key.
+    Made { holder: HolderId, key: [u8; 32] },
+    /// It was refused, and nothing changed.
+    Refused { why: Refusal },
+}
+
 /// Why a command was refused, in the order in which the causes are tested.
 #[derive(Clone, Copy, Debug, PartialEq, Eq, PartialOrd, Ord, Hash)]
 pub enum Refusal {

@@ -12,7 +12,7 @@ mod roles;
 pub mod rows;
 
 pub use client::{Bundle, Line};
-pub use commands::{Command, Refusal};
+pub use commands::{Command, Refusal, Reply};
 pub use ids::{Epoch, FileId, FolderId, HolderId, Serial};
 pub use limits::{Limits, limits_of};
 pub use list::{List, Text};
