@@ -1,6 +1,9 @@
 -- How long the printed lines are.
 use Rattle.std.proofs.Common.{◌≡◌, ℕ, ◌+◌, ◌*◌, List, length, arith, length-append}
-use Rattle.script_text.specs.Printing.{owner_line, path_line, file_line}
+use Rattle.std.specs.Fmt.{decimal}
+use Rattle.script_text.specs.Printing.{owner_line, path_line, file_line, holder_line, refused_line}
+use Rattle.cry_base.specs.declared.commands.Refusal.{Refusal}
+use Rattle.cry_base.specs.Refusals.{word_of}
 use Rattle.script_text.proofs.HexText.{length-hex_of}
 
 pub length-owner_line : (key : List ℕ) → length (owner_line key) ≡ 2 * length key + 7
@@ -15,5 +18,13 @@ pub length-file_line : (path bytes : List ℕ) → length (file_line path bytes)
 unfolding file_line
 length-file_line path bytes = simp (length-append, length-hex_of) (omega arith)
 
+pub length-holder_line : (holder : ℕ) (key : List ℕ) → length (holder_line holder key) ≡ length (decimal holder) + 2 * length key + 9
+unfolding holder_line
+length-holder_line holder key = simp (length-append, length-hex_of) (omega arith)
+
+pub length-refused_line : (why : Refusal) → length (refused_line why) ≡ length (word_of why) + 9
+unfolding refused_line
+length-refused_line why = simp length-append (omega arith)
+
 -- all of them
-pub ruleset lengths = (length-owner_line, length-path_line, length-file_line, length-hex_of)
+pub ruleset lengths = (length-owner_line, length-path_line, length-file_line, length-holder_line, length-refused_line, length-hex_of)

@@ -1,8 +1,12 @@
 -- Printed lines, each ended by the byte 0x0a. This project's own, docs/FORMAT.md, "Lines".
-use Rattle.std.specs.Prelude.{ℕ, List, [], ◌∷◌, ◌++◌, codes}
+use Rattle.std.specs.Prelude.{ℕ, List, [], ◌∷◌, ◌++◌, codes, decimal}
 use Rattle.cry_base.specs.Texts.{hex_of}
 use Rattle.cry_base.specs.declared.client.Line.{Line}
 use Rattle.cry_base.specs.declared.client.Line.TheVariants.{Ancestor, Folder, File}
+use Rattle.cry_base.specs.declared.commands.Refusal.{Refusal}
+use Rattle.cry_base.specs.declared.commands.Reply.{Reply}
+use Rattle.cry_base.specs.declared.commands.Reply.TheVariants.{Done, Made, Refused}
+use Rattle.cry_base.specs.Refusals.{word_of}
 
 -- an owner's key
 unfoldable pub owner_line : List ℕ → List ℕ
@@ -21,3 +25,17 @@ abbrev pub spell_line : Line → List ℕ
 spell_line (Ancestor path) = path_line (codes "ancestor ") path.items
 spell_line (Folder path) = path_line (codes "folder ") path.items
 spell_line (File path bytes) = file_line path.items bytes.items
+
+-- a holder that was made, by number and key
+unfoldable pub holder_line : ℕ → List ℕ → List ℕ
+holder_line holder key = codes "holder " ++ (decimal holder ++ (32 ∷ (hex_of key ++ 10 ∷ [])))
+
+-- a command that was refused
+unfoldable pub refused_line : Refusal → List ℕ
+refused_line why = codes "refused " ++ (word_of why ++ 10 ∷ [])
+
+-- what a command is answered
+abbrev pub spell_reply : Reply → List ℕ
+spell_reply Done = codes "ok" ++ 10 ∷ []
+spell_reply (Made holder key) = holder_line holder.0 key
+spell_reply (Refused why) = refused_line why

@@ -10,7 +10,7 @@ mod reading;
 
 pub use commands::read_line;
 pub use fault::LineFault;
-pub use printing::{print_line, print_owner};
+pub use printing::{print_line, print_owner, print_reply};
 pub use reading::read_bundle;
 
 #[cfg(test)]

@@ -1,11 +1,18 @@
 //! Lines as they are printed.
-ghost use Rattle.std.specs.Prelude.{◌≡◌, ◌+◌, ◌*◌, ◌^◌, ◌<◌, ◌≤◌, ◌++◌, length, IsOk, IsNone, IfSome, OnOk, OnErr};
-ghost use Rattle.script_text.specs.Printing.{owner_line, path_line, file_line, spell_line};
+ghost use Rattle.std.specs.Prelude.{◌≡◌, ◌+◌, ◌*◌, ◌^◌, ◌<◌, ◌≤◌, ◌++◌, ◌∷◌, [], codes, length, IsOk, IsNone, IfSome, OnOk, OnErr};
+ghost use Rattle.script_text.specs.Printing.{owner_line, path_line, file_line, spell_line, holder_line, refused_line, spell_reply};
 
 use crate::hex_text::put_hex;
-use cry_base::{Line, Mem, OutOfMemory, Text};
+use cry_base::{HolderId, Line, Mem, OutOfMemory, Refusal, Reply, Text};
+use itoa::Buffer;
 
 const OWNER_LINE_LEN: usize = 71;
+
+/// The bytes of a new holder's line beside its number.
+const HOLDER_LINE_LEN: usize = 73;
+
+/// The bytes of a refusal's line beside its word.
+const REFUSED_LINE_LEN: usize = 9;
 
 /// Appends the line `owner HEX` with its newline, the 32 bytes of the key in lower case. At `Err` the text is as it was.
 #[tactic(auto, using(crate::proofs::PrintedLengths::lengths), unfolding(crate::specs::Printing::owner_line))]
@@ -61,6 +68,61 @@ fn print_file(path: &[u8], bytes: &[u8], out: &mut Text) -> Mem<()>
     out.put_all(path);
     out.put(b' ');
     put_hex(bytes, out);
+    out.put(b'\n');
+    Ok(())
+}
+
+/// Appends what a command is answered, with its newline: `ok`, `holder N HEX` with the new holder's number and key, the
+/// key's 32 bytes in lower case, or `refused WORD`. At `Err` the text is as it was.
+pub fn print_reply(reply: &Reply, out: &mut Text) -> Mem<()>
+    ensures line { OnOk result (out.new.items ≡ out.old.items ++ spell_reply reply.now) }
+    ensures err { OnErr result (out.new.items ≡ out.old.items) }
+    ensures has_room { length (spell_reply reply.now) ≤ out.old.spare → IsOk result }
+{
+    match reply {
+        Reply::Done => print_done(out),
+        Reply::Made { holder, key } => print_holder(*holder, key, out),
+        Reply::Refused { why } => print_refusal(*why, out),
+    }
+}
+
+fn print_done(out: &mut Text) -> Mem<()>
+    ensures line { OnOk result (out.new.items ≡ out.old.items ++ (codes "ok" ++ 10 ∷ [])) }
+    ensures err { OnErr result (out.new.items ≡ out.old.items) }
+    ensures has_room { 3 ≤ out.old.spare → IsOk result }
+{
+    out.reserve(3)?;
+    out.put_all(b"ok\n");
+    Ok(())
+}
+
+#[tactic(auto, using(crate::proofs::PrintedLengths::lengths), unfolding(crate::specs::Printing::holder_line))]
+fn print_holder(holder: HolderId, key: &[u8; 32], out: &mut Text) -> Mem<()>
+    ensures line { OnOk result (out.new.items ≡ out.old.items ++ holder_line holder.0 key.now) }
+    ensures err { OnErr result (out.new.items ≡ out.old.items) }
+    ensures has_room { length (holder_line holder.0 key.now) ≤ out.old.spare → IsOk result }
+{
+    let mut digits = Buffer::new();
+    let number = digits.format(holder.0).as_bytes();
+    out.reserve(number.len() + HOLDER_LINE_LEN)?;
+    out.put_all(b"holder ");
+    out.put_all(number);
+    out.put(b' ');
+    put_hex(key.as_slice(), out);
+    out.put(b'\n');
+    Ok(())
+}
+
+#[tactic(auto, using(crate::proofs::PrintedLengths::lengths), unfolding(crate::specs::Printing::refused_line))]
+fn print_refusal(why: Refusal, out: &mut Text) -> Mem<()>
+    ensures line { OnOk result (out.new.items ≡ out.old.items ++ refused_line why) }
+    ensures err { OnErr result (out.new.items ≡ out.old.items) }
+    ensures has_room { length (refused_line why) ≤ out.old.spare → IsOk result }
+{
+    let word = why.word().as_bytes();
+    out.reserve(word.len() + REFUSED_LINE_LEN)?;
+    out.put_all(b"refused ");
+    out.put_all(word);
     out.put(b'\n');
     Ok(())
 }

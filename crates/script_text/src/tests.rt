@@ -1,5 +1,5 @@
 use super::*;
-use cry_base::{Bundle, HolderId, Line, Text};
+use cry_base::{Bundle, HolderId, Line, Refusal, Reply, Text};
 use std::test::Fail;
 
 const KEY: [u8; 32] = [
@@ -94,6 +94,21 @@ fn lines_are_printed_with_their_newline(rt: HostRuntime) -> Result<(), Fail> {
     assert_eq!(rt;
         out.as_slice(),
         b"ancestor /a\nfolder /a/b\nfile /a/b/c 00af\nfile /d \n".as_slice(),
+    );
+    Ok(())
+}
+
+#[test]
+fn replies_are_printed_with_their_newline(rt: HostRuntime) -> Result<(), Fail> {
+    let mut out = Text::new(rt.alloc());
+    print_reply(&Reply::Done, &mut out)?;
+    let holder = HolderId(4_294_967_295);
+    print_reply(&Reply::Made { holder, key: KEY }, &mut out)?;
+    let why = Refusal::InsideItself;
+    print_reply(&Reply::Refused { why }, &mut out)?;
+    assert_eq!(rt;
+        out.as_slice(),
+        b"ok\nholder 4294967295 000102030405060708090a0b0c0d0e0f102132435465768798a9bacbdcedfeff\nrefused inside-itself\n".as_slice(),
     );
     Ok(())
 }
