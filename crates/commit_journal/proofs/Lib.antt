@@ -15,6 +15,7 @@ pub mod Standings
 pub mod Stood
 pub mod Stopped
 pub mod Tails
+pub mod Turned
 pub mod Walked
 pub mod Walks
 pub mod Written

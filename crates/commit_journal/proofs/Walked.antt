@@ -35,7 +35,7 @@ pub before-end : (front : List PlainPlaced) → before front (Ok []) ≡ Ok fron
 unfolding before
 before-end front = ap Ok (append-nil front)
 
-goes_on-fault : (fault : OpenFault) (turn : Result (Option PlainTurn) Fault) (rest : PlainTurn → Result (List PlainPlaced) Fault) → IsFault fault turn → IsFault fault (goes_on turn rest)
+pub goes_on-fault : (fault : OpenFault) (turn : Result (Option PlainTurn) Fault) (rest : PlainTurn → Result (List PlainPlaced) Fault) → IsFault fault turn → IsFault fault (goes_on turn rest)
 unfolding goes_on
 goes_on-fault faults.NotAStore turn rest is = rw is refl
 goes_on-fault faults.WrongKey turn rest is = rw is refl
@@ -78,37 +78,6 @@ pub walk_closed : (owner : List ℕ) (past : Past) (rest : List ℕ) → eqb pas
 unfolding log_at
 walk_closed owner past [] gate = rw gate refl
 walk_closed owner past (byte ∷ rest) gate = rw gate refl
-
--- a test that fails
-pub walk_fails : (fault : OpenFault) (owner : List ℕ) (past : Past) (rest : List ℕ) → eqb past.gate 1 ≡ true → IsFault fault (turn_at owner past rest) → IsFault fault (log_at owner past 0 rest)
-unfolding log_at
-walk_fails fault owner past [] gate is = rw gate (goes_on-fault fault (turn_at owner past []) (λ _. Ok []) is)
-walk_fails fault owner past (byte ∷ rest) gate is =
-    rw gate (goes_on-fault fault (turn_at owner past (byte ∷ rest)) (λ turn. log_at owner turn.past (turn.past.at - (past.at + 1)) rest) is)
-
--- ---- the whole walk
-
--- what was read so far comes before what the rest is
-abbrev pub IsSoFar : List ℕ → List ℕ → List PlainPlaced → Past → Type 0
-IsSoFar owner s front past = log_verdict owner s ≡ before front (log_at owner past 0 (drop past.at s))
-
-pub so_far_starts : (owner s : List ℕ) (past : Past) → start_at owner s ≡ Ok past → past.at ≡ 42 → IsSoFar owner s [] past
-unfolding log_verdict and_then
-so_far_starts owner s past is at =
-    ap (λ r. and_then r (λ p. log_at owner p 0 (drop 42 s))) is
-    ∙ sym (before-nil (log_at owner past 0 (drop 42 s)))
-    ∙ ap (λ n. before [] (log_at owner past 0 (drop n s))) (sym at)
-
-pub so_far_more : (owner s : List ℕ) (front : List PlainPlaced) (past : Past) (turn : PlainTurn) → eqb past.gate 1 ≡ true →
-    turn_at owner past (drop past.at s) ≡ Ok (Some turn) → past.at < turn.past.at → IsSoFar owner s front past →
-    IsSoFar owner s (front ++ turn.placed ∷ []) turn.past
-so_far_more owner s front past turn gate is ahead so_far =
-    let there : drop (turn.past.at - past.at) (drop past.at s) ≡ drop turn.past.at s =
-    drop-drop (turn.past.at - past.at) past.at s ∙ ap (λ n. drop n s) (omega arith)
-    in
-    so_far
-    ∙ ap (before front) (walks_on owner past (drop past.at s) turn gate is ahead ∙ ap (λ r. before (turn.placed ∷ []) (log_at owner turn.past 0 r)) there)
-    ∙ before-before front (turn.placed ∷ []) (log_at owner turn.past 0 (drop turn.past.at s))
 
 -- ---- the disk
 

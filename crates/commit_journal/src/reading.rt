@@ -1,8 +1,9 @@
 //! Reads the log of a store file, gate by gate. The file is never written.
-ghost use Rattle.std.specs.Prelude.{◌≡◌, ◌≢◌, ◌<◌, ◌≤◌, ◌+◌, ◌^◌, Err, length, drop, slice_range, IfOk, OnOk, All};
+ghost use Rattle.std.specs.Prelude.{◌≡◌, ◌≢◌, ◌<◌, ◌≤◌, ◌+◌, ◌^◌, Err, Some, length, drop, slice_range, IfOk, OnOk, All};
 ghost use Rattle.cry_io.specs.Told.{WhereTold};
 ghost use Rattle.commit_journal.specs.Answering.{Answers};
 ghost use Rattle.commit_journal.specs.Log as log;
+ghost use Rattle.commit_journal.specs.Logs.{is_last_known as is_last, known_turn, known_log};
 ghost use Rattle.commit_journal.specs.Opening as opening;
 ghost use Rattle.commit_journal.specs.Placed.{plain_log};
 ghost use Rattle.commit_journal.specs.Places.{IsStanding, TurnStands};
@@ -121,6 +122,67 @@ fn read_turn<D: Disk>(
     judge(alloc, owner, past, &head, &mut batch)
 }
 
+/// What stands behind an open gate, where no more than so many batches are known, or all.
+#[tactic(auto, unfolding(crate::specs::Logs::known_turn, crate::specs::Logs::is_last_known))]
+fn read_known_turn<D: Disk>(
+    alloc: Global,
+    disk: &mut D,
+    owner: &Key<OwnerK>,
+    most: Option<u32>,
+    past: &Past,
+) -> Result<Option<Turn>, OpenFault>
+    requires behind { 42 ≤ past.now.at }
+    requires small { past.now.at ≤ 2 ^ 32 }
+    requires inside { past.now.at ≤ D.size_of disk.old }
+    ensures answer { WhereTold (D.shown disk.old)
+        (λ s. Answers plain_option result (known_turn most owner.now.bytes past.now (drop past.now.at s))) }
+    ensures next { IfOk result (GoesOnWithin past.now.at (D.size_of disk.old)) }
+    ensures stands { IfOk result TurnStands }
+    ensures read_only { IsOnlyRead D.shown D.size_of D.may_leave disk.old disk.new }
+    ensures counts { D.faults disk.old ≤ D.faults disk.new }
+    ensures disk_fault { result ≡ Err OpenFault.DiskFault → D.faults disk.old < D.faults disk.new }
+{
+    if is_last_known(most, past.number) {
+        return Err(OpenFault::Damaged { at: past.at });
+    }
+    read_turn(alloc, disk, owner, past)
+}
+
+#[tactic(auto, unfolding(crate::specs::Logs::is_last_known))]
+fn is_last_known(most: Option<u32>, number: u32) -> bool
+    ensures { result ≡ is_last most number }
+{
+    match most {
+        Some(most) => number == most,
+        None => false,
+    }
+}
+
+fn read_known<D: Disk>(
+    alloc: Global,
+    disk: &mut D,
+    owner: &Key<OwnerK>,
+    most: Option<u32>,
+) -> Result<List<Placed>, OpenFault>
+    ensures verdict { WhereTold (D.shown disk.old) (λ s. Answers plain_log result (known_log most owner.now.bytes s)) }
+    ensures stands { IfOk result (λ log. All IsStanding log.items) }
+    ensures read_only { IsOnlyRead D.shown D.size_of D.may_leave disk.old disk.new }
+    ensures counts { D.faults disk.old ≤ D.faults disk.new }
+    ensures disk_fault { result ≡ Err OpenFault.DiskFault → D.faults disk.old < D.faults disk.new }
+{
+    let mut past = read_start(disk, owner)?;
+    let mut log = List::new(alloc);
+    while past.gate == OPEN {
+        let Some(turn) = read_known_turn(alloc, disk, owner, most, &past)? else {
+            return Ok(log);
+        };
+        let Turn { placed, past: next } = turn;
+        log.push(placed)?;
+        past = next;
+    }
+    Ok(log)
+}
+
 /// The batches of the log, in order, as the owner's key reads them: each is published and has the owner tag that
 /// follows from the batches before it (docs/FORMAT.md, "Reading"). The disk is never written.
 ///
@@ -140,15 +202,22 @@ pub fn read_owner<D: Disk>(
     ensures counts { D.faults disk.old ≤ D.faults disk.new }
     ensures disk_fault { result ≡ Err OpenFault.DiskFault → D.faults disk.old < D.faults disk.new }
 {
-    let mut past = read_start(disk, owner)?;
-    let mut log = List::new(alloc);
-    while past.gate == OPEN {
-        let Some(turn) = read_turn(alloc, disk, owner, &past)? else {
-            return Ok(log);
-        };
-        let Turn { placed, past: next } = turn;
-        log.push(placed)?;
-        past = next;
-    }
-    Ok(log)
+    read_known(alloc, disk, owner, None)
+}
+
+/// The batches of the log, as `read_owner` reads them, for a reader who knows no more than the first `most`: a batch behind
+/// an open gate after these is `Damaged` at its first byte, whatever stands there.
+pub fn read_owner_up_to<D: Disk>(
+    alloc: Global,
+    disk: &mut D,
+    owner: &Key<OwnerK>,
+    most: u32,
+) -> Result<List<Placed>, OpenFault>
+    ensures verdict { WhereTold (D.shown disk.old) (λ s. Answers plain_log result (known_log (Some most) owner.now.bytes s)) }
+    ensures stands { IfOk result (λ log. All IsStanding log.items) }
+    ensures read_only { IsOnlyRead D.shown D.size_of D.may_leave disk.old disk.new }
+    ensures counts { D.faults disk.old ≤ D.faults disk.new }
+    ensures disk_fault { result ≡ Err OpenFault.DiskFault → D.faults disk.old < D.faults disk.new }
+{
+    read_known(alloc, disk, owner, Some(most))
 }

@@ -13,8 +13,9 @@ use Rattle.record_format.proofs.Lengths.{length-spell_payload}
 use Rattle.commit_journal.specs.Answering.{and_then}
 use Rattle.commit_journal.specs.Image.{batch_veil, owner_tag, spell_batch, spell_header, spell_batches, image}
 use Rattle.commit_journal.specs.Log.{log_verdict}
+use Rattle.commit_journal.specs.Logs.{known_log}
 use Rattle.commit_journal.specs.Placed.{PlainBody, Commands, NewEpoch, PlainPlaced}
-use Rattle.commit_journal.proofs.Spelled.{image_read, length-spell_batch, length-header}
+use Rattle.commit_journal.proofs.Spelled.{image_read, image_known, length-spell_batch, length-header}
 use Rattle.key_links.specs.Fresh.{piece, owner_key, root_key, root_links, root_name, root_payload, epoch_batch, root_batch, fresh_image}
 use Rattle.holder_client.specs.View.{FolderLine, view}
 use Rattle.holder_client.specs.WorkedViews.{views}
@@ -128,6 +129,12 @@ unfolding fresh_image bodies
 fresh_log drawn all =
     image_read (piece drawn 0) (bodies drawn) 0 [] (omega arith, root_spellable drawn all, tt) (omega (arith, length-image drawn all)) (λ e. absurd (omega arith))
 
+-- so does a reader who knows two batches
+pub fresh_known : (drawn : List ℕ) → length drawn ≡ 192 → known_log (Some 2) (piece drawn 0) (fresh_image drawn) ≡ Ok (first_placed ∷ second_placed drawn ∷ [])
+unfolding fresh_image bodies
+fresh_known drawn all =
+    image_known (Some 2) (piece drawn 0) (bodies drawn) 0 [] (omega arith) (omega arith, root_spellable drawn all, tt) (omega (arith, length-image drawn all)) (λ e. absurd (omega arith))
+
 -- ---- the records
 
 abbrev pub fresh_root : List ℕ → PlainRoot
@@ -176,4 +183,4 @@ one_line = refl
 
 pub fresh_shown : (drawn : List ℕ) → length drawn ≡ 192 → view_verdict (piece drawn 0) (fresh_image drawn) ≡ Ok (view root_store TheOwner)
 unfolding view_verdict visit and_then
-fresh_shown drawn all = rw (fresh_log drawn all, fresh_folded drawn, fresh_visited drawn, one_line) refl
+fresh_shown drawn all = rw (fresh_known drawn all, fresh_folded drawn, fresh_visited drawn, one_line) refl

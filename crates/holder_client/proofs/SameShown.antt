@@ -19,6 +19,8 @@ use Rattle.record_format.specs.Plain.{PlainContent, PlainPayload}
 use Rattle.record_format.specs.Spelling.{content_head}
 use Rattle.commit_journal.specs.Answering.{Fault, Damaged, Tampered, and_then}
 use Rattle.commit_journal.specs.Log.{log_verdict}
+use Rattle.commit_journal.specs.Logs.{known_log}
+use Rattle.commit_journal.proofs.Turned.{known_is_log}
 use Rattle.commit_journal.specs.Logs.{IsInEpoch, AreInEpochs}
 use Rattle.commit_journal.specs.Placed.{PlainBody, Commands, NewEpoch, PlainPlaced}
 use Rattle.commit_journal.specs.Places.{link_offset, content_offset}
@@ -26,7 +28,7 @@ use Rattle.commit_journal.proofs.Epochs.{log_epochs, holder_too}
 use Rattle.key_links.specs.Fresh.{piece, owner_key, root_key, root_links, root_name as root_name_of, root_payload as fresh_payload, fresh_image}
 use Rattle.key_links.specs.Sealed.{sealed_link}
 use Rattle.holder_client.specs.Asking.{ToList, failure_of, verdict}
-use Rattle.holder_client.proofs.FreshShown.{first_placed, second_placed, fresh_log, fresh_fits, fresh_shown}
+use Rattle.holder_client.proofs.FreshShown.{first_placed, second_placed, fresh_log, fresh_known, fresh_fits, fresh_shown}
 use Rattle.role_graph.specs.Rights.Who.{TheOwner}
 use Rattle.role_graph.specs.Roles.{clear_of, sub_of, back_of, files_of, data_of}
 use Rattle.role_graph.specs.Edges.{edge}
@@ -38,7 +40,7 @@ use Rattle.public_fold.specs.KeyStep.{Stepped, no_keys, next_epoch}
 use Rattle.public_fold.specs.StandFits.{has_count}
 use Rattle.holder_client.specs.Folding.{has_link_head, has_content_head, has_length, are_due, has_heads, fits_step, payload_fits, told_step, told_stand, stand_behind, folded}
 use Rattle.holder_client.specs.Judging.{Failure, OfBytes, NoHolder, then_on, of_bytes, read_through, check_in, body_check, published_check, holder_reads, bundle_log, may_read, read_with, view_with, shown_with}
-use Rattle.holder_client.specs.Root.{PlainRoot, leads, names, fits_root, is_root, records_of, if_fit, root_in, ends_with, fold_log}
+use Rattle.holder_client.specs.Root.{PlainRoot, leads, names, fits_root, is_root, records_of, if_fit, root_in, fold_log}
 use Rattle.record_format.specs.Told.{told_note}
 use Rattle.holder_client.specs.Told.{told_store}
 use Rattle.holder_client.specs.Verdict.{open_link, open_content, visit_root, visit, view_verdict}
@@ -116,8 +118,8 @@ listed_other : (owner : List ℕ) (first : PlainPlaced) (number place : ℕ) (p 
 unfolding fold_log root_in and_then of_bytes
 listed_other owner first number place p other =
     let records = records_of number (place + link_offset p 0) (place + content_offset p 0) p.links p.contents in
-    ap (λ t. of_bytes (and_then (and_then (if_fit place (t && true) records) (λ root. ends_with root [])) (visit owner))) other
-    ∙ ap (λ z. of_bytes (and_then (and_then z (λ root. ends_with root [])) (visit owner))) (if_fit_false place records)
+    ap (λ t. of_bytes (and_then (if_fit place (t && true) records) (visit owner))) other
+    ∙ ap (λ z. of_bytes (and_then z (visit owner))) (if_fit_false place records)
 
 other_note : (owner : List ℕ) (n : ℕ) (e : Epoch) (at number place : ℕ) (p : PlainPayload) → needs_root (told_note p.note) ≡ true → is_root p.note ≡ false →
     general owner (first_batch n e at) number place p ≡ listed owner (first_batch n e at) number place p
@@ -163,7 +165,7 @@ listed_none : (owner : List ℕ) (first : PlainPlaced) (number place : ℕ) (lin
     listed owner first number place (root_payload links contents) ≡ Err (OfBytes (Damaged place))
 unfolding fold_log root_in and_then of_bytes
 listed_none owner first number place links contents none =
-    ap (λ o. of_bytes (and_then (and_then (if_fit place true o) (λ root. ends_with root [])) (visit owner))) none
+    ap (λ o. of_bytes (and_then (if_fit place true o) (visit owner))) none
 
 -- ---- five links and a content
 
@@ -589,24 +591,25 @@ log_same owner (p ∷ []) inside short = one_same owner p.batch p.epoch.0 p.plac
 log_same owner (p ∷ q ∷ []) inside short = two_same owner p.batch p.epoch p.place p.body q inside.0 inside.1.0
 log_same owner (p ∷ q ∷ r ∷ log) inside short = absurd (omega (arith, short))
 
-pub same_shown : (owner bytes : List ℕ) (log : List PlainPlaced) → log_verdict owner bytes ≡ Ok log → length log ≤ 2 → shown_with (bundles.Owner owner) bytes ≡ of_bytes (view_verdict owner bytes)
+pub same_shown : (owner bytes : List ℕ) (log : List PlainPlaced) → known_log (Some 2) owner bytes ≡ Ok log → length log ≤ 2 → shown_with (bundles.Owner owner) bytes ≡ of_bytes (view_verdict owner bytes)
 unfolding shown_with bundle_log view_verdict and_then
 same_shown owner bytes log is short =
-    ap (view_with (bundles.Owner owner)) is
-    ∙ log_same owner log (log_epochs owner bytes log is) short
+    let read = known_is_log (Some 2) owner bytes log is in
+    ap (view_with (bundles.Owner owner)) read
+    ∙ log_same owner log (log_epochs owner bytes log read) short
     ∙ sym (ap (λ l. of_bytes (and_then l (λ placed. and_then (fold_log placed) (visit owner)))) is)
 
-pub same_fault : (owner bytes : List ℕ) (fault : Fault) → log_verdict owner bytes ≡ Err fault → shown_with (bundles.Owner owner) bytes ≡ of_bytes (view_verdict owner bytes)
+pub same_fault : (owner bytes : List ℕ) (fault : Fault) → known_log (Some 2) owner bytes ≡ Err fault → log_verdict owner bytes ≡ Err fault → shown_with (bundles.Owner owner) bytes ≡ of_bytes (view_verdict owner bytes)
 unfolding shown_with bundle_log view_verdict view_with read_with read_through and_then then_on of_bytes
-same_fault owner bytes fault is =
-    ap (view_with (bundles.Owner owner)) is ∙ sym (ap (λ l. of_bytes (and_then l (λ placed. and_then (fold_log placed) (visit owner)))) is)
+same_fault owner bytes fault is other =
+    ap (view_with (bundles.Owner owner)) other ∙ sym (ap (λ l. of_bytes (and_then l (λ placed. and_then (fold_log placed) (visit owner)))) is)
 
 -- ---- a fresh store
 
 pub fresh_passes : (drawn : List ℕ) → length drawn ≡ 192 → shown_with (bundles.Owner (piece drawn 0)) (fresh_image drawn) ≡ Ok (view root_store TheOwner)
 unfolding of_bytes
 fresh_passes drawn all =
-    same_shown (piece drawn 0) (fresh_image drawn) (first_placed ∷ second_placed drawn ∷ []) (fresh_log drawn all) (omega arith) ∙ ap of_bytes (fresh_shown drawn all)
+    same_shown (piece drawn 0) (fresh_image drawn) (first_placed ∷ second_placed drawn ∷ []) (fresh_known drawn all) (omega arith) ∙ ap of_bytes (fresh_shown drawn all)
 
 fresh_payload_fits : (drawn : List ℕ) → payload_fits begun (fresh_payload drawn) ≡ true
 unfolding fresh_payload root_links

@@ -1,6 +1,6 @@
 -- What the command that makes the root publishes, as far as everybody can tell. This project's own, docs/FORMAT.md,
 -- "Kinds of links", "Serials" and "The bytes of a fresh store".
-use Rattle.std.specs.Prelude.{ℕ, ◌+◌, ◌-◌, ◌^◌, ◌<◌, ◌≤◌, ◌==◌, ◌&&◌, Bool, true, false, if◌then◌else◌, List, [], ◌∷◌, length, Option, None, Some, Result, Ok, Err}
+use Rattle.std.specs.Prelude.{ℕ, ◌+◌, ◌^◌, ◌<◌, ◌≤◌, ◌==◌, ◌&&◌, Bool, true, false, if◌then◌else◌, List, [], ◌∷◌, length, Option, None, Some, Result, Ok, Err}
 use Rattle.chacha_seal.specs.Serials.{serial_of}
 use Rattle.record_format.specs.declared.link.LinkRecord.{LinkRecord}
 use Rattle.record_format.specs.declared.note.Note.{Note}
@@ -9,7 +9,6 @@ use Rattle.record_format.specs.Plain.{PlainContent, plain_content}
 use Rattle.commit_journal.specs.Answering.{Fault, Damaged}
 use Rattle.commit_journal.specs.Places.{link_offset, content_offset}
 use Rattle.commit_journal.specs.Placed.{PlainBody, Commands, NewEpoch, PlainPlaced}
-use Rattle.holder_client.specs.Answering.{◌>>=◌}
 use Rattle.holder_client.specs.declared.records.RootRecords.{RootRecords}
 
 -- the root's records, the batch that they stand in, and the places of its first link and its first content
@@ -99,16 +98,11 @@ root_in p (Commands payload) =
     if_fit p.place (is_root payload.note && (p.epoch.0 == 1))
     (records_of p.batch (p.place + link_offset payload 0) (p.place + content_offset payload 0) payload.links payload.contents)
 
--- a batch behind those that may stand there is damaged at its first byte, which is 45 bytes before its payload
-abbrev pub ends_with : Option PlainRoot → List PlainPlaced → Result (Option PlainRoot) Fault
-ends_with root [] = Ok root
-ends_with root (third ∷ others) = Err (Damaged (third.place - 45))
-
--- the root that a log makes: its first batch begins epoch 1, its second one makes the root, and no third one stands
+-- the root that a log makes: its first batch begins epoch 1, and its second one makes the root
 unfoldable pub fold_log : List PlainPlaced → Result (Option PlainRoot) Fault
 fold_log [] = Ok None
 fold_log (first ∷ []) = Ok None
-fold_log (first ∷ second ∷ others) = root_in second second.body >>= λ root. ends_with root others
+fold_log (first ∷ second ∷ others) = root_in second second.body
 
 -- records that can be opened: their places fit, and so does the length of the name
 abbrev pub CanBeOpened : RootRecords → Type 0

@@ -6,7 +6,7 @@ use Rattle.record_format.specs.declared.link.LinkRecord.{LinkRecord}
 use Rattle.record_format.specs.Plain.{PlainContent}
 use Rattle.record_format.specs.Spelling.{link_head, content_head}
 use Rattle.commit_journal.specs.Answering.{Fault, Tampered}
-use Rattle.commit_journal.specs.Log.{log_verdict}
+use Rattle.commit_journal.specs.Logs.{known_log}
 use Rattle.holder_client.specs.Answering.{◌>>=◌}
 use Rattle.holder_client.specs.Root.{PlainRoot, fold_log}
 use Rattle.holder_client.specs.View.{Line, FolderLine}
@@ -41,9 +41,9 @@ unfoldable pub visit : List ℕ → Option PlainRoot → Result (List Line) Faul
 visit owner None = Ok []
 visit owner (Some r) = visit_root owner r
 
--- the log first, then what its payloads make, then the records
+-- the log first, of which the two batches that make a store are known, then what its payloads make, then the records
 unfoldable pub view_verdict : List ℕ → List ℕ → Result (List Line) Fault
 view_verdict owner bytes = do
-  log ← log_verdict owner bytes
+  log ← known_log (Some 2) owner bytes
   root ← fold_log log
   visit owner root

@@ -32,9 +32,6 @@ const OWNER: u32 = 0;
 
 const ROOT: u32 = 1;
 
-/// The bytes of a batch before its payload.
-const BEFORE_PAYLOAD: u64 = 45;
-
 #[tactic(auto, unfolding(crate::specs::Root::leads))]
 fn leads(
     kind: u8,
@@ -130,23 +127,16 @@ fn root_in(placed: &Placed) -> Result<Option<RootRecords<'_>>, ClientFault>
 
 /// The root that a log makes, `None` where none does.
 ///
-/// What is built reads the journals of a fresh store: a payload that isn't the root's is `Damaged` at its first byte,
-/// and a third batch at its own.
-#[tactic(auto, unfolding(crate::specs::Root::fold_log, commit_journal::specs::Answering::and_then))]
+/// What is built reads the journals of a fresh store: a payload that isn't the root's is `Damaged` at its first byte.
+#[tactic(auto, unfolding(crate::specs::Root::fold_log))]
 pub(crate) fn fold_log(log: &[Placed]) -> Result<Option<RootRecords<'_>>, ClientFault>
     requires { All IsStanding log.now }
     ensures answer { Answers spec.plain_option result (spec.fold_log (map plain_placed log.now)) }
     ensures opened { IfOk result spec.RootCanBeOpened }
     ensures no_disk { result ≢ Err ClientFault.DiskFault }
 {
-    let [_, second, others @ ..] = log else {
-        return Ok(None);
-    };
-    let root = root_in(second)?;
-    match others {
-        [third, ..] => Err(ClientFault::Damaged {
-            at: third.place - BEFORE_PAYLOAD,
-        }),
-        [] => Ok(root),
+    match log {
+        [_, second, ..] => root_in(second),
+        _ => Ok(None),
     }
 }

@@ -11,10 +11,13 @@ use crate::ClientFault;
 use crate::root::fold_log;
 use crate::visits::visit_root;
 use chacha_seal::Key;
-use commit_journal::read_owner;
+use commit_journal::read_owner_up_to;
 use cry_base::{Bundle, Line, List, Mem, Text};
 use cry_io::Disk;
 use std::alloc::Global;
+
+/// The batches of a fresh store: an epoch, and the command that makes the root.
+const FRESH_BATCHES: u32 = 2;
 
 /// The root's line.
 fn root_lines(alloc: Global) -> Mem<List<Line>>
@@ -31,9 +34,10 @@ fn root_lines(alloc: Global) -> Mem<List<Line>>
 ///
 /// What is built takes the owner's bundle, and reads the journals of a fresh store: a log in which no command stands
 /// shows nothing, and one whose second batch makes the root shows one line. `NotAStore`, `WrongKey`, `Damaged` and
-/// `Tampered` come as `commit_journal::read_owner` says, and then: `Damaged` at the first byte of a payload that isn't
-/// the root's, and of a third batch; `Tampered` at the first byte of a record with a wrong tag. The first of these ends
-/// the call (docs/FORMAT.md).
+/// `Tampered` come as `commit_journal::read_owner_up_to` says of two batches: what stands behind an open gate after them is
+/// `Damaged` at its first byte, whatever it is. Then come `Damaged` at the first byte of a payload that isn't the
+/// root's, and `Tampered` at the first byte of a record with a wrong tag. The first of these ends the call
+/// (docs/FORMAT.md, "Reading").
 pub fn view<D: Disk>(
     alloc: Global,
     disk: &mut D,
@@ -49,7 +53,7 @@ pub fn view<D: Disk>(
         unreachable!();
     };
     let owner = Key::owner(*key);
-    let log = read_owner(alloc, disk, &owner)?;
+    let log = read_owner_up_to(alloc, disk, &owner, FRESH_BATCHES)?;
     let Some(root) = fold_log(log.as_slice())? else {
         return Ok(List::new(alloc));
     };

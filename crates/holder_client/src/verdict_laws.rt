@@ -8,6 +8,7 @@ ghost use Rattle.cry_base.specs.declared.client.Bundle.{Bundle};
 ghost use Rattle.cry_base.specs.declared.ids.HolderId.{HolderId};
 ghost use Rattle.commit_journal.specs.Answering.{Fault, NotAStore};
 ghost use Rattle.commit_journal.specs.Log.{log_verdict};
+ghost use Rattle.commit_journal.specs.Logs.{known_log};
 ghost use Rattle.commit_journal.specs.Placed.{PlainPlaced};
 ghost use Rattle.move_plan.specs.Fitting.{public_of};
 ghost use Rattle.move_plan.specs.Noting.{note_of};
@@ -31,11 +32,11 @@ pub fn verdict_is_of_the_log()
     ensures behind { (asking : Asking) (front behind : List ℕ) (placed : List PlainPlaced) → asked_log asking front ≡ Ok placed → verdict asking (front ++ behind) ≡ verdict asking front }
 {}
 
-/// Law: where the log holds what makes a store and no more, or isn't read, the verdict with the owner's key is the one that
-/// `view` answers.
+/// Law: where the log holds what makes a store and no more, or fails at these batches, the verdict with the owner's key is the
+/// one that `view` answers.
 pub fn listed_logs_are_judged_alike()
-    ensures read { (owner bytes : List ℕ) (log : List PlainPlaced) → log_verdict owner bytes ≡ Ok log → length log ≤ 2 → shown_with (Bundle.Owner owner) bytes ≡ of_bytes (view_verdict owner bytes) }
-    ensures failed { (owner bytes : List ℕ) (fault : Fault) → log_verdict owner bytes ≡ Err fault → shown_with (Bundle.Owner owner) bytes ≡ of_bytes (view_verdict owner bytes) }
+    ensures read { (owner bytes : List ℕ) (log : List PlainPlaced) → known_log (Some 2) owner bytes ≡ Ok log → length log ≤ 2 → shown_with (Bundle.Owner owner) bytes ≡ of_bytes (view_verdict owner bytes) }
+    ensures failed { (owner bytes : List ℕ) (fault : Fault) → known_log (Some 2) owner bytes ≡ Err fault → log_verdict owner bytes ≡ Err fault → shown_with (Bundle.Owner owner) bytes ≡ of_bytes (view_verdict owner bytes) }
 {}
 
 /// Law: a store fresh from `make` passes all tests and shows its owner the root; nobody else is a holder of it.

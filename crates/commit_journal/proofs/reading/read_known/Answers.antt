@@ -3,20 +3,23 @@ use Rattle.std.proofs.lemmas.Bool.Decides.{nat_tests}
 use Rattle.std.proofs.lemmas.List.{map_push}
 use Rattle.std.proofs.lemmas.List.Elements.{All-nil, All-cons, All-append}
 use Rattle.std.proofs.lemmas.Result.{err_from_is_err_and}
-use Rattle.commit_journal.specs.Log.{log_at, log_verdict, start_at, turn_at, before}
+use Rattle.commit_journal.specs.Log.{start_at, before}
+use Rattle.commit_journal.specs.Logs.{walk_at, known_turn, known_log}
 use Rattle.commit_journal.specs.Placed.{plain_placed}
 use Rattle.commit_journal.specs.Places.{IsStanding, TurnStands}
 use Rattle.commit_journal.specs.Turns.{plain_option, plain_turn, GoesOnWithin}
 use Rattle.commit_journal.proofs.Judged.{fault_first}
-use Rattle.commit_journal.proofs.Walked.{before-fault, before-end, walk_ends, walk_closed, walk_fails, so_far_starts, so_far_more, only_read_twice}
-use Rattle.commit_journal.proofs.reading.read_owner.Goals as goal
+use Rattle.commit_journal.proofs.Turned.{turns_end, turns_fail, so_far_starts, so_far_more}
+use Rattle.commit_journal.proofs.Walked.{before-fault, before-end, only_read_twice}
+use Rattle.commit_journal.proofs.Walks.{walk_shut}
+use Rattle.commit_journal.proofs.reading.read_known.Goals as goal
 
 pub returns-in_err-past-clause-verdict : goal.returns-in_err-past-clause-verdict
-unfolding log_verdict
+unfolding known_log
 returns-in_err-past-clause-verdict g c = λ s is.
     let p = err_from_is_err_and c.from_residual.result c.from_residual.ensures.1 in
     let owner = c.args.owner.now.bytes in
-    rw (p.1, p.2) (fault_first c.in_err-past.field-0.0 (start_at owner s) (λ past. log_at owner past 0 (drop 42 s)) (c.in_err-past.ensures.answer s is))
+    rw (p.1, p.2) (fault_first c.in_err-past.field-0.0 (start_at owner s) (λ past. walk_at (known_turn c.args.most owner) past 0 (drop 42 s)) (c.in_err-past.ensures.answer s is))
 
 pub loop-past-init : goal.loop-past-init
 loop-past-init g c = record {
@@ -26,7 +29,7 @@ loop-past-init g c = record {
   inside = omega (arith, c.in_ok-past.ensures.place, c.in_ok-past.ensures.inside, c.in_ok-past.ensures.read_only.same_size);
   read_only = c.in_ok-past.ensures.read_only;
   counts = c.in_ok-past.ensures.counts;
-  so_far = λ s is. rw c.new-log.ensures (so_far_starts c.args.owner.now.bytes s c.in_ok-past.past (c.in_ok-past.ensures.answer s is) c.in_ok-past.ensures.place);
+  so_far = λ s is. rw c.new-log.ensures (so_far_starts c.args.most c.args.owner.now.bytes s c.in_ok-past.past (c.in_ok-past.ensures.answer s is) c.in_ok-past.ensures.place);
 }
 
 pub returns-in_err-turn-clause-verdict : goal.returns-in_err-turn-clause-verdict
@@ -36,9 +39,9 @@ returns-in_err-turn-clause-verdict g c = λ s is.
     let past = c.loop-past.past in
     let fault = c.in_err-turn.field-0.0 in
     let gate = eq-eqb past.gate 1 c.loop-past-test.true in
-    let wrong = walk_fails fault owner past (drop past.at s) gate (c.in_err-turn.ensures.answer s (c.loop-past.invariant.read_only.same_bytes ∙ is)) in
+    let wrong = turns_fail fault c.args.most owner past (drop past.at s) gate (c.in_err-turn.ensures.answer s (c.loop-past.invariant.read_only.same_bytes ∙ is)) in
     rw (p.1, p.2, c.loop-past.invariant.so_far s is)
-    (before-fault fault (map plain_placed c.loop-past.log.items) (log_at owner past 0 (drop past.at s)) wrong)
+    (before-fault fault (map plain_placed c.loop-past.log.items) (walk_at (known_turn c.args.most owner) past 0 (drop past.at s)) wrong)
 
 pub returns-in_default-clause-verdict : goal.returns-in_default-clause-verdict
 returns-in_default-clause-verdict g c = λ s is.
@@ -47,10 +50,10 @@ returns-in_default-clause-verdict g c = λ s is.
     let front = map plain_placed c.loop-past.log.items in
     let gate = eq-eqb past.gate 1 c.loop-past-test.true in
     let none : c.in_ok-turn.field-0 ≡ None = c.in_default.is in
-    let turn : turn_at owner past (drop past.at s) ≡ Ok None =
+    let turn : known_turn c.args.most owner past (drop past.at s) ≡ Ok None =
     c.in_ok-turn.ensures.answer s (c.loop-past.invariant.read_only.same_bytes ∙ is) ∙ ap (λ t. Ok (plain_option t)) none
     in
-    c.loop-past.invariant.so_far s is ∙ ap (before front) (walk_ends owner past (drop past.at s) gate turn) ∙ before-end front
+    c.loop-past.invariant.so_far s is ∙ ap (before front) (turns_end c.args.most owner past (drop past.at s) gate turn) ∙ before-end front
 
 pub loop-past-preserved : goal.loop-past-preserved
 loop-past-preserved g c =
@@ -72,13 +75,13 @@ loop-past-preserved g c =
       stands = rw c.in_ok-push.ensures.items (All-append IsStanding c.loop-past.log.items (turn.placed ∷ []) c.loop-past.invariant.stands (All-cons IsStanding turn.placed [] standing (All-nil IsStanding)));
       small = next.2;
       inside = omega (arith, next.1, read.same_size);
-      read_only = only_read_twice g.D.Disk.shown g.D.Disk.size_of g.D.Disk.may_leave c.args.disk.now c.loop-past.disk c.read_turn.new.disk c.loop-past.invariant.read_only read;
+      read_only = only_read_twice g.D.Disk.shown g.D.Disk.size_of g.D.Disk.may_leave c.args.disk.now c.loop-past.disk c.read_known_turn.new.disk c.loop-past.invariant.read_only read;
       counts = omega (arith, c.loop-past.invariant.counts, c.in_ok-turn.ensures.counts);
       so_far = λ s is.
-          let judged : turn_at owner past (drop past.at s) ≡ Ok (Some (plain_turn turn)) =
+          let judged : known_turn c.args.most owner past (drop past.at s) ≡ Ok (Some (plain_turn turn)) =
           c.in_ok-turn.ensures.answer s (c.loop-past.invariant.read_only.same_bytes ∙ is) ∙ ap (λ t. Ok (plain_option t)) c.in-Some.is
           in
-          rw pushed (so_far_more owner s front past (plain_turn turn) gate judged next.0 (c.loop-past.invariant.so_far s is));
+          rw pushed (so_far_more c.args.most owner s front past (plain_turn turn) gate judged next.0 (c.loop-past.invariant.so_far s is));
     }
 
 pub returns-clause-verdict : goal.returns-clause-verdict
@@ -88,4 +91,4 @@ returns-clause-verdict g c = λ s is.
     let front = map plain_placed c.loop-past.log.items in
     let shut = c.loop-past-test.false in
     let gate : eqb past.gate 1 ≡ false = grind (arith, nat_tests) in
-    c.loop-past.invariant.so_far s is ∙ ap (before front) (walk_closed owner past (drop past.at s) gate) ∙ before-end front
+    c.loop-past.invariant.so_far s is ∙ ap (before front) (walk_shut (known_turn c.args.most owner) past (drop past.at s) gate) ∙ before-end front

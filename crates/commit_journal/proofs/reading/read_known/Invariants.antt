@@ -3,8 +3,8 @@ use Rattle.std.proofs.Common.{◌≡◌, ◌≤◌, ◌-◌, ℕ, List, Some, ma
 use Rattle.commit_journal.specs.Placed.{plain_placed}
 use Rattle.commit_journal.specs.Places.{IsStanding}
 use Rattle.commit_journal.specs.Reading.{IsOnlyRead}
-use Rattle.commit_journal.proofs.Walked.{IsSoFar}
-use Rattle.commit_journal.proofs.reading.read_owner.Given as goal
+use Rattle.commit_journal.proofs.Turned.{IsSoFar}
+use Rattle.commit_journal.proofs.reading.read_known.Given as goal
 
 abbrev pub invariant-loop-past : goal.invariant-loop-past
 invariant-loop-past g l = record {
@@ -14,7 +14,7 @@ invariant-loop-past g l = record {
   stands : All IsStanding l.log.items;
   read_only : IsOnlyRead g.D.Disk.shown g.D.Disk.size_of g.D.Disk.may_leave l.fn.disk l.disk;
   counts : g.D.Disk.faults l.fn.disk ≤ g.D.Disk.faults l.disk;
-  so_far : (s : List ℕ) → g.D.Disk.shown l.fn.disk ≡ Some s → IsSoFar l.owner.bytes s (map plain_placed l.log.items) l.past;
+  so_far : (s : List ℕ) → g.D.Disk.shown l.fn.disk ≡ Some s → IsSoFar l.most l.owner.bytes s (map plain_placed l.log.items) l.past;
 }
 
 abbrev pub decreases-loop-past : goal.decreases-loop-past
