@@ -75,10 +75,16 @@ open_with owner log =
 unfoldable pub opened_store : List ℕ → List ℕ → Result OpenStore Failure
 opened_store owner bytes = open_with owner (writer_log owner bytes)
 
--- what is asked of a store's bytes: the view, the line of one path, or to be opened for writing under the owner's key
+-- what an audit reads before it opens a record. Which of several bad records it then tells is free
+unfoldable pub audited : Bundle → List ℕ → Result Reading Failure
+audited bundle bytes = read_with bundle (bundle_log bundle bytes)
+
+-- what is asked of a store's bytes: the view, the line of one path, an audit, or to be opened for writing under the owner's
+-- key
 pub data Asking : Type 0 where
   ToList : Bundle → Asking
   ToOpen : Bundle → (path : List ℕ) → Asking
+  ToAudit : Bundle → Asking
   ToWrite : (owner : List ℕ) → Asking
 
 -- the failure, if it is one
@@ -86,14 +92,16 @@ unfoldable pub failure_of : {A : Type 0} → Result A Failure → Option Failure
 failure_of (Ok x) = None
 failure_of (Err failure) = Some failure
 
--- the verdict: the first test that fails, with its answer, and none where all pass
+-- the verdict: the first test that fails, with its answer, and none where all pass. For an audit it tells of no record
 unfoldable pub verdict : Asking → List ℕ → Option Failure
 verdict (ToList bundle) bytes = failure_of (shown_with bundle bytes)
 verdict (ToOpen bundle path) bytes = failure_of (line_shown bundle path bytes)
+verdict (ToAudit bundle) bytes = failure_of (audited bundle bytes)
 verdict (ToWrite owner) bytes = failure_of (opened_store owner bytes)
 
 -- the log that is read for it
 unfoldable pub asked_log : Asking → List ℕ → Result (List PlainPlaced) Fault
 asked_log (ToList bundle) bytes = bundle_log bundle bytes
 asked_log (ToOpen bundle path) bytes = bundle_log bundle bytes
+asked_log (ToAudit bundle) bytes = bundle_log bundle bytes
 asked_log (ToWrite owner) bytes = writer_log owner bytes

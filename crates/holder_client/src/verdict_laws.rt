@@ -14,8 +14,8 @@ ghost use Rattle.move_plan.specs.Fitting.{public_of};
 ghost use Rattle.move_plan.specs.Noting.{note_of};
 ghost use Rattle.role_graph.specs.Rights.Who.{TheOwner};
 ghost use Rattle.key_links.specs.Fresh.{piece, fresh_image};
-ghost use Rattle.holder_client.specs.Asking.{Asking, ToList, asked_log, verdict};
-ghost use Rattle.holder_client.specs.Judging.{OfBytes, NoHolder, of_bytes, shown_with};
+ghost use Rattle.holder_client.specs.Asking.{Asking, ToAudit, ToList, ToOpen, asked_log, verdict};
+ghost use Rattle.holder_client.specs.Judging.{Failure, OfBytes, NoHolder, of_bytes, shown_with};
 ghost use Rattle.holder_client.specs.Told.{told_store};
 ghost use Rattle.holder_client.specs.Verdict.{view_verdict};
 ghost use Rattle.holder_client.specs.View.{view};
@@ -30,6 +30,12 @@ pub fn cut_header_is_no_store()
 pub fn verdict_is_of_the_log()
     ensures log { (asking : Asking) (a b : List ℕ) → asked_log asking a ≡ asked_log asking b → verdict asking a ≡ verdict asking b }
     ensures behind { (asking : Asking) (front behind : List ℕ) (placed : List PlainPlaced) → asked_log asking front ≡ Ok placed → verdict asking (front ++ behind) ≡ verdict asking front }
+{}
+
+/// Law: what ends an audit before it opens a record ends a listing, and the opening of a path, with the same answer.
+pub fn audit_reads_as_views_do()
+    ensures { (bundle : Bundle) (path bytes : List ℕ) (failure : Failure) → verdict (ToAudit bundle) bytes ≡ Some failure →
+        (verdict (ToList bundle) bytes ≡ Some failure) × (verdict (ToOpen bundle path) bytes ≡ Some failure) }
 {}
 
 /// Law: where the log holds what makes a store and no more, or fails at these batches, the verdict with the owner's key is the

@@ -1,3 +1,4 @@
 pub mod Records
 pub mod Right
 pub mod Forged
+pub mod Auditing

@@ -1,14 +1,18 @@
 //! Laws of right keys and forged records.
-ghost use Rattle.std.specs.Prelude.{◌≡◌, ℕ, List, ◌++◌};
+ghost use Rattle.std.specs.Prelude.{◌≡◌, ◌↔◌, ℕ, List, ◌++◌, Some};
 ghost use Rattle.chacha_seal.specs.Keys.{KeyParts};
 ghost use Rattle.commit_journal.specs.Laws.{AreBodies};
 ghost use Rattle.cry_base.specs.Sets.{In};
+ghost use Rattle.cry_base.specs.declared.client.Bundle.{Bundle};
+ghost use Rattle.holder_client.specs.Asking.{ToAudit, verdict};
+ghost use Rattle.holder_client.specs.Judging.{Failure};
 ghost use Rattle.key_links.specs.Sealed.{sealed_content, sealed_link};
 ghost use Rattle.public_fold.specs.Journal.{Journal};
 ghost use Rattle.record_format.specs.declared.link.LinkRecord.{LinkRecord};
 ghost use Rattle.store_owner.specs.Bytes.{bodies_of};
 ghost use Rattle.store_owner.specs.Journals.{StandsWholeForJournal};
 ghost use Rattle.store_owner.specs.Keys.{key_bytes};
+ghost use Rattle.trail_audit.specs.Auditing.{MayFail, MayPass};
 ghost use Rattle.trail_audit.specs.Forged.{IsForged, records_of};
 ghost use Rattle.trail_audit.specs.Records.{IsTagged, PlainRecord, records_in, sealing_serial};
 ghost use Rattle.trail_audit.specs.Records.PlainRecord.{AContent};
@@ -38,4 +42,11 @@ pub fn own_records_are_not_forged()
 pub fn whole_image_has_the_own_records()
     ensures { (owner : List ℕ) (m : Journal) (bytes : List ℕ) → StandsWholeForJournal owner m bytes → AreBodies 0 (bodies_of owner m) →
         records_in bytes ≡ records_of owner m }
+{}
+
+/// Law: an audit fails as its reading does, and then with no other answer; one that may pass may not fail.
+pub fn audits_fail_or_pass()
+    ensures reading { (bundle : Bundle) (bytes : List ℕ) (failure : Failure) → verdict (ToAudit bundle) bytes ≡ Some failure →
+        (other : Failure) → MayFail bundle bytes other ↔ (other ≡ failure) }
+    ensures pass { (bundle : Bundle) (bytes : List ℕ) (failure : Failure) → MayPass bundle bytes → MayFail bundle bytes failure → ⊥ }
 {}
