@@ -3,10 +3,8 @@ pub mod KeyStep
 pub mod Journal
 pub mod Lengths
 pub mod Valid
-pub mod Attempts
 pub mod Counted
 pub mod Keyed
 pub mod StandFits
-pub mod Script
 pub mod Tree
 pub mod WorkedSteps

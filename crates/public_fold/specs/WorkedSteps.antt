@@ -1,10 +1,8 @@
 -- Worked rows of journals, and the words that open them to a computation.
-use Rattle.std.specs.Prelude.{Option, ℕ, zero, suc, ◌-◌, Bool, List, [], ◌∷◌, ◌++◌, map, length, codes, replicate, slice_get, Some, None}
+use Rattle.std.specs.Prelude.{Option, ℕ, zero, suc, Bool, List, [], ◌∷◌, ◌++◌, map, length, codes, replicate, slice_get, Some, None}
 use Rattle.std.specs.Fmt.{digits}
-use Rattle.public_fold.specs.Script.{draws_of, due_payload, due_end, answer_with, answer, spell_reply, done_reply, keys_from, accepted_going, line_going, line_reply, script_replies, script_going, opened, script}
 use Rattle.cry_base.specs.Requests.{Request}
 use Rattle.cry_base.specs.Requests.Request.{AddHolder, MakeFolder, WriteFile, Grant, Revoke, Remove, Rename, Relocate}
-use Rattle.cry_base.specs.declared.limits.Limits.{Limits}
 use Rattle.cry_base.specs.declared.roles.Role.{Role}
 use Rattle.std.specs.Cmp.Lexicographic.{pointwise}
 use Rattle.role_graph.specs.Edges.{edges, same_edge}
@@ -18,7 +16,6 @@ use Rattle.public_fold.specs.KeyStep.{Stepped, no_keys, next_epoch, without, key
 use Rattle.public_fold.specs.Journal.{Entry, Journal, Stand, nothing, first_key, note_step, entry_step, entry_store, stand_then, stand_after, store_of, keys_of, steps_from, steps_of}
 use Rattle.public_fold.specs.Journal.Entry.{Session, Made, Did}
 use Rattle.public_fold.specs.Lengths.{note_len, content_len, payload_len, entry_payload, payloads_from, end_of}
-use Rattle.public_fold.specs.Attempts.{begun_journal, epoch_attempt, command_attempt, attempts_at, course_then, attempts}
 use Rattle.public_fold.specs.StandFits.{has_count, note_fits, entry_fits, all_fit}
 
 -- n keys of 32 bytes. What a row says hangs on their number and length alone
@@ -43,10 +40,6 @@ rewriting = renaming ++ (Session ∷ does 0 (WriteFile (codes "/a/y") []) ∷ []
 -- the rows "grant", "revoked" and "written after revocation"
 unfoldable pub granting : Journal
 granting = fresh ++ (Session ∷ does 5 (MakeFolder (codes "/a")) ∷ does 1 (WriteFile (codes "/a/x") (0 ∷ 255 ∷ [])) ∷ does 1 AddHolder ∷ does 0 (Grant 1 (codes "/a")) ∷ [])
-
--- "grant" without its last batch
-unfoldable pub granting_stopped : Journal
-granting_stopped = fresh ++ (Session ∷ does 5 (MakeFolder (codes "/a")) ∷ does 1 (WriteFile (codes "/a/x") (0 ∷ 255 ∷ [])) ∷ does 1 AddHolder ∷ [])
 
 unfoldable pub revoking : Journal
 revoking = granting ++ (Session ∷ does 1 (Revoke 1 (codes "/a")) ∷ [])
@@ -80,11 +73,6 @@ unfoldable pub step_at : Journal → ℕ → List Stepped
 step_at m zero = []
 step_at m (suc n) = elim (slice_get (steps_of m) n) [ None ↦ [] | Some s ↦ s ∷ [] ]
 
--- the nonces of a step's links
-unfoldable pub nonces_in : Option Stepped → List ℕ
-nonces_in None = []
-nonces_in (Some s) = map (λ l. l.nonce) s.links
-
 -- what a batch renews, how many links and contents it has
 unfoldable pub renewals_at : Journal → ℕ → List (List Role)
 renewals_at m n = map (λ s. s.renewals) (step_at m n)
@@ -94,18 +82,6 @@ links_at m n = map (λ s. length s.links) (step_at m n)
 
 unfoldable pub contents_at : Journal → ℕ → List ℕ
 contents_at m n = map (λ s. length s.contents) (step_at m n)
-
--- n bytes from b down, each one less than the one before
-unfoldable pub down_from : ℕ → ℕ → List ℕ
-down_from b zero = []
-down_from b (suc n) = b ∷ down_from (b - 1) n
-
--- the limits of the one version, and limits with another end of the store
-unfoldable pub limited : ℕ → Limits
-limited store_bytes = record { store_bytes = store_bytes; file_bytes = 1048576 }
-
-unfoldable pub limits_now : Limits
-limits_now = limited 268435456
 
 -- the change of an entry, and whether the edges that it leaves are those of the store after it
 unfoldable pub entry_change : Stand → Entry → Change
@@ -123,5 +99,5 @@ edges_agree at (entry ∷ entries) = edges_agree_at at entry ∷ edges_agree (st
 
 -- every word of a journal
 unfoldable pub journals : Unit {0}
-unfolding begun_journal epoch_attempt command_attempt attempts_at course_then attempts has_count note_fits entry_fits all_fit digits draws_of due_payload due_end answer_with answer spell_reply done_reply keys_from accepted_going line_going line_reply script_replies script_going opened script down_from limited limits_now entry_change edges_agree_at edges_agree marks changes folder_piece file_piece holder_piece pieces_of sealing_role text_of no_keys next_epoch without keys_without edges_left dirty_left renewed next_serial numbered given keys_then newest present edges_then is_published published_edges link_of links_from content_of contents_from published step_with key_step nothing first_key note_step entry_step entry_store stand_then stand_after store_of keys_of steps_from steps_of note_len content_len payload_len entry_payload payloads_from end_of some_keys does fresh renaming rewriting granting granting_stopped revoking writing_again renaming_again moving_away making_again dropping step_at nonces_in renewals_at links_at contents_at
+unfolding has_count note_fits entry_fits all_fit digits entry_change edges_agree_at edges_agree marks changes folder_piece file_piece holder_piece pieces_of sealing_role text_of no_keys next_epoch without keys_without edges_left dirty_left renewed next_serial numbered given keys_then newest present edges_then is_published published_edges link_of links_from content_of contents_from published step_with key_step nothing first_key note_step entry_step entry_store stand_then stand_after store_of keys_of steps_from steps_of note_len content_len payload_len entry_payload payloads_from end_of some_keys does fresh renaming rewriting granting revoking writing_again renaming_again moving_away making_again dropping step_at renewals_at links_at contents_at
 journals = tt

@@ -1,8 +1,5 @@
 //! Laws of journals.
 ghost use Rattle.std.specs.Prelude.{◌<◌, ◌+◌, ◌↔◌, ℕ, ◌≡◌, ◌≤◌, List, [], ◌∷◌, ◌++◌, length, Some};
-ghost use Rattle.cry_base.specs.Requests.{Request};
-ghost use Rattle.cry_base.specs.declared.commands.Refusal.{Refusal};
-ghost use Rattle.cry_base.specs.declared.limits.Limits.{Limits};
 ghost use Rattle.cry_base.specs.declared.roles.Role.{Role};
 ghost use Rattle.role_graph.specs.Edges.{Reaches, edges};
 ghost use Rattle.role_graph.specs.RightsByReach.{IsRightful, IsSettled, IsStandingRole};
@@ -15,8 +12,6 @@ ghost use Rattle.public_fold.specs.Records.{Content, Link, Piece};
 ghost use Rattle.public_fold.specs.Counted.{AreCounted};
 ghost use Rattle.public_fold.specs.Journal.{Journal, nothing, stand_after, steps_of, steps_from, store_of};
 ghost use Rattle.public_fold.specs.Lengths.{end_of};
-ghost use Rattle.public_fold.specs.Script.{Going, answer, script_going, script_replies};
-ghost use Rattle.public_fold.specs.Script.Reply.{Refused};
 ghost use Rattle.public_fold.specs.Valid.{IsValid};
 
 /// The first entries of a valid journal are one, from the two on that make the store.
@@ -33,14 +28,6 @@ pub fn steps_grow()
 /// No number that stands is above the count of its kind ever made.
 pub fn numbers_are_counted()
     ensures { (m : Journal) → AreCounted (store_of m) }
-{}
-
-/// A refused command changes nothing, and draws nothing.
-pub fn refused_changes_nothing()
-    ensures stays { (limits : Limits) (g : Going) (r : Request) (why : Refusal) →
-        answer limits g.journal g.begun r ≡ Some why → script_going limits g (r ∷ []) ≡ g }
-    ensures reply { (limits : Limits) (g : Going) (r : Request) (why : Refusal) →
-        answer limits g.journal g.begun r ≡ Some why → script_replies limits g (r ∷ []) ≡ Refused why ∷ [] }
 {}
 
 /// In the store of a valid journal a holder's key leads to a role exactly where the holder has the right that it stands for.

@@ -4,14 +4,9 @@ ghost use Rattle.role_graph.specs.Edges.{grant_edge};
 ghost use Rattle.role_graph.specs.Roles.{clear_of, sub_of, back_of, files_of, data_of, file_role};
 ghost use Rattle.public_fold.specs.Journal.{nothing};
 ghost use Rattle.public_fold.specs.Lengths.{end_of, payloads_from};
-ghost use Rattle.cry_base.specs.Requests.Request.{AddHolder, MakeFolder, WriteFile, Grant};
-ghost use Rattle.cry_base.specs.declared.commands.Refusal.TheVariants.{Full};
-ghost use Rattle.public_fold.specs.Script.{script, spell_reply, answer};
-ghost use Rattle.public_fold.specs.Attempts.{attempts};
-ghost use Rattle.public_fold.specs.Attempts.Event.{Enters, IsAbandoned, LosesEpoch, Reopens};
 ghost use Rattle.public_fold.specs.StandFits.{all_fit};
 ghost use Rattle.public_fold.specs.Valid.{IsValid};
-ghost use Rattle.public_fold.specs.WorkedSteps.{granting_stopped, nonces_in, some_keys, down_from, limited, limits_now, edges_agree, fresh, renaming, rewriting, granting, revoking, writing_again, renaming_again, moving_away, making_again, dropping, step_at, renewals_at, links_at, contents_at};
+ghost use Rattle.public_fold.specs.WorkedSteps.{edges_agree, fresh, renaming, rewriting, granting, revoking, writing_again, renaming_again, moving_away, making_again, dropping, step_at, renewals_at, links_at, contents_at};
 
 /// A fresh store has 819 bytes. Its keys, links and content are numbered in one row.
 #[tactic(auto, unfolding(crate::specs::WorkedSteps::journals))]
@@ -80,23 +75,6 @@ pub fn move_away_from_a_grant()
     ensures links_of_the_write { links_at moving_away 11 ≡ 2 ∷ [] }
 {}
 
-/// A script's replies and the journal after it, with the keys drawn from 255 down.
-#[tactic(auto, unfolding(crate::specs::WorkedSteps::journals))]
-pub fn script_of_a_grant()
-    ensures replies { map spell_reply (script limits_now fresh (MakeFolder (codes "/a") ∷ WriteFile (codes "/a/x") (0 ∷ 255 ∷ []) ∷ MakeFolder (codes "/a") ∷ AddHolder ∷ Grant 1 (codes "/a") ∷ []) (down_from 255 224)).0
-        ≡ codes "ok" ∷ codes "ok" ∷ codes "refused exists" ∷ codes "holder 1 3f3e3d3c3b3a393837363534333231302f2e2d2c2b2a29282726252423222120" ∷ codes "ok" ∷ [] }
-    ensures length { end_of (script limits_now fresh (MakeFolder (codes "/a") ∷ WriteFile (codes "/a/x") (0 ∷ 255 ∷ []) ∷ MakeFolder (codes "/a") ∷ AddHolder ∷ Grant 1 (codes "/a") ∷ []) (down_from 255 224)).1 ≡ 2558 }
-{}
-
-/// A command whose batch would end past the store limit is refused, and one that ends at it is not.
-#[tactic(auto, unfolding(crate::specs::WorkedSteps::journals))]
-pub fn store_limit()
-    ensures first_of_session { answer (limited 1800) fresh false (MakeFolder (codes "/a")) ≡ Some Full }
-    ensures fits { answer (limited 1801) fresh false (MakeFolder (codes "/a")) ≡ None }
-    ensures later { answer (limited 1691) fresh true (MakeFolder (codes "/a")) ≡ None }
-    ensures later_full { answer (limited 1690) fresh true (MakeFolder (codes "/a")) ≡ Some Full }
-{}
-
 /// The edges that each key step leaves are those of the store after it.
 #[tactic(auto, unfolding(crate::specs::WorkedSteps::journals))]
 pub fn steps_leave_the_edges_of_the_store()
@@ -105,19 +83,6 @@ pub fn steps_leave_the_edges_of_the_store()
     ensures moving_away { edges_agree nothing moving_away ≡ replicate 11 true }
     ensures making_again { edges_agree nothing making_again ≡ replicate 19 true }
     ensures dropping { edges_agree nothing dropping ≡ replicate 13 true }
-{}
-
-/// A grant whose batch a stop cut short: the next session has the next epoch, and its link another nonce.
-#[tactic(auto, unfolding(crate::specs::WorkedSteps::journals))]
-pub fn stop_in_the_first_write()
-    ensures epochs { map (λ a. a.epoch) (attempts (record { journal = fresh; begun = false })
-        (Enters (MakeFolder (codes "/a")) (some_keys 5) ∷ Enters AddHolder (some_keys 1) ∷ IsAbandoned (Grant 1 (codes "/a")) []
-        ∷ Reopens ∷ LosesEpoch ∷ Reopens ∷ Enters (Grant 1 (codes "/a")) [] ∷ [])) ≡ 2 ∷ 2 ∷ 2 ∷ 2 ∷ 3 ∷ 3 ∷ 3 ∷ [] }
-    ensures numbers { map (λ a. a.number) (attempts (record { journal = fresh; begun = false })
-        (Enters (MakeFolder (codes "/a")) (some_keys 5) ∷ Enters AddHolder (some_keys 1) ∷ IsAbandoned (Grant 1 (codes "/a")) []
-        ∷ Reopens ∷ LosesEpoch ∷ Reopens ∷ Enters (Grant 1 (codes "/a")) [] ∷ [])) ≡ 3 ∷ 4 ∷ 5 ∷ 6 ∷ 6 ∷ 6 ∷ 7 ∷ [] }
-    ensures nonces { map (λ a. nonces_in a.holds) (attempts (record { journal = granting_stopped; begun = false }) (Enters (Grant 1 (codes "/a")) [] ∷ []))
-        ≡ [] ∷ (12884901888 ∷ []) ∷ [] }
 {}
 
 /// The journals of these rows are valid, and each of their notes fits where it comes.

@@ -3,5 +3,8 @@ pub mod Folds
 pub mod Journals
 pub mod Keys
 pub mod Notes
+pub mod Script
+pub mod Attempts
 pub mod WorkedBytes
 pub mod WorkedFolds
+pub mod WorkedScripts

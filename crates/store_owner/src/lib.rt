@@ -5,3 +5,5 @@ pub mod folding;
 pub mod holding;
 pub mod laws;
 pub mod rows;
+pub mod script_laws;
+pub mod script_rows;

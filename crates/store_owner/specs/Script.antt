@@ -1,11 +1,11 @@
 -- What a list of commands is answered, and the journal that it leaves. This project's own, docs/FORMAT.md.
-use Rattle.std.specs.Prelude.{ℕ, zero, suc, ◌+◌, ◌*◌, Bool, true, false, cond, nat_lt, List, [], ◌∷◌, ◌++◌, length, take, drop, replicate, Option, Some, None, codes, decimal}
+use Rattle.std.specs.Prelude.{ℕ, zero, suc, ◌+◌, ◌*◌, Bool, true, false, cond, nat_lt, List, [], ◌∷◌, ◌++◌, length, take, drop, replicate, Option, Some, None}
 use Rattle.cry_base.specs.Requests.{Request}
 use Rattle.cry_base.specs.Requests.Request.{AddHolder, MakeFolder, WriteFile, Remove, Rename, Relocate, Grant, Revoke}
-use Rattle.cry_base.specs.Refusals.{word_of}
 use Rattle.cry_base.specs.Refusing.{refusal_of}
-use Rattle.cry_base.specs.Texts.{hex_of}
 use Rattle.cry_base.specs.declared.commands.Refusal.{Refusal}
+use Rattle.cry_base.specs.declared.commands.Reply.{Reply}
+use Rattle.cry_base.specs.declared.commands.Reply.TheVariants as replies
 use Rattle.cry_base.specs.declared.limits.Limits.{Limits}
 use Rattle.cry_base.specs.declared.commands.Refusal.TheVariants.{Full}
 use Rattle.public_fold.specs.Journal.{Journal, nothing, first_key, entry_step, stand_after}
@@ -33,28 +33,16 @@ answer_with None false = None
 unfoldable pub answer : Limits → Journal → Bool → Request → Option Refusal
 answer limits m begun r = answer_with (refusal_of (stand_after nothing m).store r limits.file_bytes) (nat_lt limits.store_bytes (due_end m begun r))
 
--- a reply: done, the new holder with the key that was drawn, or refused
-pub data Reply : Type 0 where
-  Done : Reply
-  NewHolder : (holder : ℕ) → (key : List ℕ) → Reply
-  Refused : (why : Refusal) → Reply
-
--- a reply as it is printed, without its end
-unfoldable pub spell_reply : Reply → List ℕ
-spell_reply Done = codes "ok"
-spell_reply (NewHolder h key) = codes "holder " ++ decimal h ++ 32 ∷ hex_of key
-spell_reply (Refused why) = codes "refused " ++ word_of why
-
 -- the reply to a command that is accepted
 unfoldable pub done_reply : Journal → Request → List (List ℕ) → Reply
-done_reply m AddHolder keys = NewHolder ((stand_after nothing m).store.holders_made + 1) (first_key keys)
-done_reply m (MakeFolder path) keys = Done
-done_reply m (WriteFile path bytes) keys = Done
-done_reply m (Remove path) keys = Done
-done_reply m (Rename path name) keys = Done
-done_reply m (Relocate path into) keys = Done
-done_reply m (Grant holder path) keys = Done
-done_reply m (Revoke holder path) keys = Done
+done_reply m AddHolder keys = replies.Made (record { 0 = (stand_after nothing m).store.holders_made + 1 }) (first_key keys)
+done_reply m (MakeFolder path) keys = replies.Done
+done_reply m (WriteFile path bytes) keys = replies.Done
+done_reply m (Remove path) keys = replies.Done
+done_reply m (Rename path name) keys = replies.Done
+done_reply m (Relocate path into) keys = replies.Done
+done_reply m (Grant holder path) keys = replies.Done
+done_reply m (Revoke holder path) keys = replies.Done
 
 -- the first n keys of the random bytes
 unfoldable pub keys_from : ℕ → List ℕ → List (List ℕ)
@@ -82,7 +70,7 @@ line_going g r (Some why) = g
 
 unfoldable pub line_reply : Going → Request → Option Refusal → Reply
 line_reply g r None = done_reply g.journal r (keys_from (draws_of g.journal r) g.draws)
-line_reply g r (Some why) = Refused why
+line_reply g r (Some why) = replies.Refused why
 
 -- the replies to commands one after another, and the session after them
 unfoldable pub script_replies : Limits → Going → List Request → List Reply

@@ -1,6 +1,6 @@
 use Rattle.std.proofs.Common.{[], ◌∷◌, ap}
-use Rattle.public_fold.specs.Script.{line_going, line_reply, script_going, script_replies}
-use Rattle.public_fold.proofs.laws.refused_changes_nothing.Goals as goal
+use Rattle.store_owner.specs.Script.{line_going, line_reply, script_going, script_replies}
+use Rattle.store_owner.proofs.script_laws.refused_changes_nothing.Goals as goal
 
 pub returns : goal.returns
 unfolding script_going script_replies line_going line_reply
