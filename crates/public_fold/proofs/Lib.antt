@@ -1,6 +1,7 @@
 pub mod Accepting
 pub mod AllFit
 pub mod CleanLinks
+pub mod Costs
 pub mod Counting
 pub mod EdgesAfter
 pub mod EdgesThen

@@ -3,6 +3,7 @@ pub mod KeyStep
 pub mod Journal
 pub mod Lengths
 pub mod Valid
+pub mod Costs
 pub mod Counted
 pub mod Keyed
 pub mod StandFits

@@ -1,5 +1,5 @@
 -- What an audit answers, by how its reading ends.
-use Rattle.std.proofs.Common.{◌≡◌, ◌⊎◌, Left, Right, ◌↔◌, ℕ, List, Option, Some, Result, Ok, Err, refl, sym, ◌∙◌}
+use Rattle.std.proofs.Common.{◌≡◌, ◌↔◌, ℕ, List, Option, Some, Result, Ok, Err, inl, ⊎_elim, sym, ◌∙◌, subst}
 use Rattle.cry_base.specs.declared.client.Bundle.{Bundle}
 use Rattle.holder_client.specs.Asking.{ToAudit, audited, failure_of, verdict}
 use Rattle.holder_client.specs.Judging.{Failure}
@@ -12,18 +12,21 @@ failed_as (Ok r) failure is = absurd (cc)
 failed_as (Err other) failure is = cc
 
 no_other : (bundle : Bundle) (bytes : List ℕ) (failure other : Failure) → audited bundle bytes ≡ Err failure → MayFail bundle bytes other → other ≡ failure
-no_other bundle bytes failure other is (Left e) = cc
-no_other bundle bytes failure other is (Right (r, e, fault)) = absurd (cc)
+no_other bundle bytes failure other is may = ⊎_elim
+    (λ (e : audited bundle bytes ≡ Err other). cc)
+    (λ (w : (r : Reading) × (audited bundle bytes ≡ Ok r) × RecordFault r bundle other). let e = w.1 in absurd (cc)) may
 
 pub reading_fails : (bundle : Bundle) (bytes : List ℕ) (failure : Failure) → verdict (ToAudit bundle) bytes ≡ Some failure → (other : Failure) → MayFail bundle bytes other ↔ (other ≡ failure)
 unfolding verdict
 reading_fails bundle bytes failure is other =
     let read = failed_as (audited bundle bytes) failure is in
-    (no_other bundle bytes failure other read, λ e. Left (rw e read))
+    (no_other bundle bytes failure other read, λ e. inl (rw e read))
+
+same_ok : (a b : Reading) → (let x : Result Reading Failure = Ok a in x) ≡ Ok b → a ≡ b
+same_ok a b e = cc
 
 pub passes : (bundle : Bundle) (bytes : List ℕ) (failure : Failure) → MayPass bundle bytes → MayFail bundle bytes failure → ⊥
-passes bundle bytes failure pass (Left e) = let read = pass.1 in absurd (cc)
-passes bundle bytes failure pass (Right (r, e, fault)) =
-    let read = pass.1 in
-    let same : pass.0 ≡ r = cc in
-    pass.2 failure (rw same fault)
+passes bundle bytes failure pass may = ⊎_elim
+    (λ (e : audited bundle bytes ≡ Err failure). let read = pass.1 in absurd (cc))
+    (λ (w : (r : Reading) × (audited bundle bytes ≡ Ok r) × RecordFault r bundle failure).
+    pass.2 failure (subst (λ z. RecordFault z bundle failure) (same_ok w.0 pass.0 (sym w.1 ∙ pass.1)) w.2)) may
