@@ -16,7 +16,7 @@ Climbs s f here d = (length (way_to_root s f) ≡ d + length (way_to_root s here
 pub levels_few : (s : Store) → IsTree s → (f : ℕ) → length (way_to_root s f) ≤ 65
 levels_few s tree f = let w = rises s tree f in let e : length (way_to_root s f) ≡ w.0 = levels_are s w.0 f w.2 in omega (arith, e, w.1)
 
-level_on : (s : Store) → IsTree s → (f : ℕ) (e : FolderEntry) → folder_entry s f ≡ Some e → length (way_to_root s f) ≡ suc (length (way_to_root s e.parent))
+pub level_on : (s : Store) → IsTree s → (f : ℕ) (e : FolderEntry) → folder_entry s f ≡ Some e → length (way_to_root s f) ≡ suc (length (way_to_root s e.parent))
 level_on s tree f e p = ap length (way_on s tree f e p)
 
 some_told : (X : Type 0) (o : Option X) (x : X) → o ≡ Some x → IsSome o

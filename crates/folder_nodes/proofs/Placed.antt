@@ -1,42 +1,20 @@
 -- What stands where a command would put a node, as the code finds it.
-use Rattle.std.proofs.Common.{◌≡◌, ℕ, ◌+◌, ◌-◌, ◌<◌, ◌≤◌, Bool, true, false, not, ◌&&◌, ◌==◌, List, [], ◌∷◌, length, find, Option, Some, None, refl, sym, ap, ◌∙◌, subst, arith, ⊎_elim}
-use Rattle.std.specs.Prelude.{IsSome, nat_lt, nat_le}
+use Rattle.std.proofs.Common.{◌≡◌, ℕ, ◌+◌, ◌-◌, ◌<◌, ◌≤◌, Bool, true, false, not, ◌&&◌, ◌==◌, List, [], Option, Some, None, refl, sym, ap, ◌∙◌, subst, arith, ⊎_elim}
+use Rattle.std.specs.Prelude.{nat_lt, nat_le}
 use Rattle.std.specs.Option.{option_map}
-use Rattle.std.proofs.lemmas.Bool.{eqb-true, eq-eqb, ne_eqb, cases_lt, lt-ltb, le-ltb, le-leb, lt-leb}
-use Rattle.cry_base.specs.Naming.{names_behind, split_at_slashes, front}
+use Rattle.std.proofs.lemmas.Bool.{eq-eqb, ne_eqb, cases_lt, lt-ltb, le-ltb, le-leb, lt-leb}
 use Rattle.cry_base.specs.Refusing.{is_folder, id_of, has_child, parent_of, name_of, height_of}
-use Rattle.cry_base.specs.Store.{Store, FolderEntry, FileEntry, folder_entry, file_entry, folder_node, file_node, depth_of, is_within, node_at}
+use Rattle.cry_base.specs.Store.{Store, FolderEntry, FileEntry, folder_entry, file_entry, folder_node, file_node, depth_of, is_within}
 use Rattle.cry_base.specs.declared.ids.FolderId.{FolderId}
 use Rattle.cry_base.specs.declared.ids.FileId.{FileId}
 use Rattle.cry_base.specs.declared.roles.Node.{Node}
 use Rattle.cry_base.specs.declared.roles.Node.TheVariants.{Folder, File}
 use Rattle.folder_nodes.specs.Checking.{Stands}
 use Rattle.folder_nodes.specs.Looking.{parent_number_of, folder_number_of}
-use Rattle.folder_nodes.specs.Titles.{Titles, Title, title_at, title_of, name_in, tree_store}
-use Rattle.folder_nodes.specs.Walking.{child_of, on_from, last_of, walk}
+use Rattle.folder_nodes.specs.Titles.{Titles, title_at, title_of, name_in, tree_store}
 use Rattle.folder_nodes.proofs.Named.{named_folder, named_file, folder_named, file_named, child_named, within_named, depth_named, height_named}
 use Rattle.folder_nodes.proofs.Rowed.{some_of}
-use Rattle.folder_nodes.proofs.Walks.{entry_id, found_in}
-
--- the walk to the folder of a node, one name after another
-pub front_behind : (bytes : List ℕ) → front (names_behind bytes) ≡ front (split_at_slashes bytes)
-unfolding front names_behind split_at_slashes
-front_behind [] = refl
-front_behind (b ∷ bytes) = refl
-
-pub place_on : (s : Store) (f : ℕ) (n : List ℕ) (ps : List (List ℕ)) (m : List ℕ) (ms : List (List ℕ)) (o : Option Node) → ps ≡ m ∷ ms → o ≡ child_of s f n → walk s f (front (n ∷ ps)) ≡ on_from o (front (m ∷ ms)) (λ g. walk s g (front (m ∷ ms)))
-unfolding walk front
-place_on s f n ps m ms o e child =
-    ap (λ l. walk s f (front (n ∷ l))) e ∙ ap (λ c. on_from c (front (m ∷ ms)) (λ g. walk s g (front (m ∷ ms)))) (sym child)
-
-pub last_front : (x : FileId) (m : List ℕ) (ms : List (List ℕ)) → last_of x (front (m ∷ ms)) ≡ last_of x ms
-unfolding front
-last_front x m [] = refl
-last_front x m (n ∷ ns) = refl
-
-pub place_end : (s : Store) (here : FolderId) (n : List ℕ) → walk s here.0 (front (n ∷ [])) ≡ Some (Folder here)
-unfolding walk front folder_node
-place_end s here n = refl
+use Rattle.folder_nodes.proofs.Downward.{entry_id, file_id}
 
 -- the folder that a node is in
 parent_is : (s : Store) (f : ℕ) → parent_of s (Some (folder_node f)) ≡ parent_number_of (folder_entry s f)
@@ -80,10 +58,6 @@ file_name_is : (s : Store) (x : ℕ) → name_of s (Some (file_node x)) ≡ file
 unfolding name_of file_node
 file_name_is s x = elim (file_entry s x) as (λ o. elim o as (λ _. List ℕ) [ None ↦ [] | Some e ↦ e.name ] ≡ file_name_in o) [ None ↦ refl | Some e ↦ refl ]
 
-file_id : (s : Store) (x : ℕ) (e : FileEntry) → file_entry s x ≡ Some e → e.id ≡ x
-unfolding file_entry
-file_id s x e p = eqb-true e.id x (found_in FileEntry (λ z. z.id == x) s.files e p).1
-
 pub name_told : (s : Store) (n : Titles) (node : Node) → Stands s node → name_in (title_of n node) ≡ name_of (tree_store s n) (Some node)
 unfolding folder_node file_node
 name_told s n (Folder f) stands =
@@ -94,14 +68,6 @@ name_told s n (File x) stands =
     let w = some_of FileEntry (file_entry s x.0) stands in
     sym (file_name_is (tree_store s n) x.0 ∙ ap file_name_in (file_named s n x.0 ∙ ap (option_map (named_file n)) w.1)
     ∙ ap (λ k. name_in (title_at n.files k)) (file_id s x.0 w.0 w.1))
-
-pub name_given : (o : Option Title) (own : List ℕ) → Some own ≡ option_map (λ (t : Title). t.name) o → own ≡ name_in o
-name_given None own e = absurd (cc)
-name_given (Some t) own e = cc
-
-pub name_lost : (o : Option Title) → None ≡ option_map (λ (t : Title). t.name) o → [] ≡ name_in o
-name_lost None e = refl
-name_lost (Some t) e = absurd (cc)
 
 -- what is asked of folders alone
 not_not : (b : Bool) → not (not b) ≡ b

@@ -1,5 +1,5 @@
 -- Which commands a tree refuses. This project's own, docs/FORMAT.md: the causes are tested in their order.
-use Rattle.std.specs.Prelude.{ℕ, Bool, true, false, not, List, filter, find, Option, Some, None, option_map, Result, Ok, Err, IsSome}
+use Rattle.std.specs.Prelude.{ℕ, Bool, true, false, not, filter, find, Option, Some, None, option_map, Result, Ok, Err, IsSome}
 use Rattle.cry_base.specs.Refusing.{causes}
 use Rattle.cry_base.specs.Requests.{Request}
 use Rattle.cry_base.specs.Store.{Store, folder_entry, file_entry}

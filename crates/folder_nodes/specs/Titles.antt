@@ -1,5 +1,6 @@
 -- What contracts see of names.
-use Rattle.std.specs.Prelude.{ℕ, Bool, false, ◌==◌, List, [], map, find, Option, Some, None}
+use Rattle.std.specs.Prelude.{◌≡◌, ℕ, Bool, false, ◌==◌, ◌⊎◌, List, [], map, find, Option, Some, None, IsTrue}
+use Rattle.cry_base.specs.Naming.{is_name}
 use Rattle.cry_base.specs.Store.{Store, FolderEntry, FileEntry}
 use Rattle.cry_base.specs.declared.roles.Node.{Node}
 use Rattle.cry_base.specs.declared.roles.Node.TheVariants.{Folder, File}
@@ -15,6 +16,10 @@ pub record Titles : Type 0 where
   pub folders : List Title
   pub files : List Title
   pub spare : ℕ
+
+-- a name, or the root's, which is empty
+abbrev pub MayBeNamed : List ℕ → Type 0
+MayBeNamed name = (name ≡ []) ⊎ IsTrue (is_name name)
 
 -- the title with the number
 abbrev pub title_at : List Title → ℕ → Option Title

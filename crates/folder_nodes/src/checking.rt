@@ -4,12 +4,13 @@ ghost use Rattle.cry_base.specs.Requests.{request_of};
 ghost use Rattle.cry_base.specs.Requests.Request.{MakeFolder, WriteFile, Remove, Rename, Relocate, Grant};
 ghost use Rattle.folder_nodes.specs.Checking.{tree_refusal, refused_by};
 ghost use Rattle.folder_nodes.specs.Titles.{tree_store};
-ghost use Rattle.folder_nodes.specs.Walking.{IsNamedTree};
 
+use crate::finding::node_with;
+use crate::naming::is_root;
 use crate::place::{
-    has_beside, has_children, has_name_of, has_no_depth, has_within, is_root, is_too_high, place_of,
+    has_beside, has_children, has_name_of, has_no_depth, has_within, is_too_high, place_of,
 };
-use crate::{Names, Shape, find, name_ok, path_ok};
+use crate::{Names, Shape, name_ok, path_ok};
 use cry_base::{Command, Limits, Node, Refusal};
 
 /// The first cause to refuse a command, of those that the tree decides about: all but those of holders and grants, and
@@ -21,7 +22,6 @@ pub fn check_tree(
     limits: Limits,
     command: &Command,
 ) -> Result<(), Refusal>
-    requires { IsNamedTree (tree_store shape.now.tree names.now) }
     ensures { result ≡ refused_by (tree_refusal (tree_store shape.now.tree names.now) (request_of command.now) limits.file_bytes) }
 {
     match command {
@@ -51,13 +51,12 @@ pub fn check_tree(
 
 #[tactic(auto, unfolding(crate::proofs::Causes::everything))]
 fn check_granted(shape: &Shape, names: &Names, path: &[u8]) -> Result<(), Refusal>
-    requires { IsNamedTree (tree_store shape.now.tree names.now) }
     ensures { result ≡ refused_by (tree_refusal (tree_store shape.now.tree names.now) (Grant 0 path.now) 0) }
 {
     if !path_ok(path) {
         return Err(Refusal::BadName);
     }
-    let Some(node) = find(shape, names, path) else {
+    let Some(node) = node_with(shape, names, path) else {
         return Err(Refusal::NoPath);
     };
     match node {
@@ -68,13 +67,12 @@ fn check_granted(shape: &Shape, names: &Names, path: &[u8]) -> Result<(), Refusa
 
 #[tactic(auto, unfolding(crate::proofs::Causes::everything))]
 fn check_removed(shape: &Shape, names: &Names, path: &[u8]) -> Result<(), Refusal>
-    requires { IsNamedTree (tree_store shape.now.tree names.now) }
     ensures { result ≡ refused_by (tree_refusal (tree_store shape.now.tree names.now) (Remove path.now) 0) }
 {
     if !path_ok(path) {
         return Err(Refusal::BadName);
     }
-    let Some(node) = find(shape, names, path) else {
+    let Some(node) = node_with(shape, names, path) else {
         return Err(Refusal::NoPath);
     };
     if is_root(path) {
@@ -88,7 +86,6 @@ fn check_removed(shape: &Shape, names: &Names, path: &[u8]) -> Result<(), Refusa
 
 #[tactic(auto, unfolding(crate::proofs::Causes::everything))]
 fn check_renamed(shape: &Shape, names: &Names, path: &[u8], name: &[u8]) -> Result<(), Refusal>
-    requires { IsNamedTree (tree_store shape.now.tree names.now) }
     ensures { result ≡ refused_by (tree_refusal (tree_store shape.now.tree names.now) (Rename path.now name.now) 0) }
 {
     if !path_ok(path) {
@@ -97,7 +94,7 @@ fn check_renamed(shape: &Shape, names: &Names, path: &[u8], name: &[u8]) -> Resu
     if !name_ok(name) {
         return Err(Refusal::BadName);
     }
-    let Some(node) = find(shape, names, path) else {
+    let Some(node) = node_with(shape, names, path) else {
         return Err(Refusal::NoPath);
     };
     if is_root(path) {
@@ -111,7 +108,6 @@ fn check_renamed(shape: &Shape, names: &Names, path: &[u8], name: &[u8]) -> Resu
 
 #[tactic(auto, unfolding(crate::proofs::Causes::everything))]
 fn check_new_folder(shape: &Shape, names: &Names, path: &[u8]) -> Result<(), Refusal>
-    requires { IsNamedTree (tree_store shape.now.tree names.now) }
     ensures { result ≡ refused_by (tree_refusal (tree_store shape.now.tree names.now) (MakeFolder path.now) 0) }
 {
     if !path_ok(path) {
@@ -123,13 +119,13 @@ fn check_new_folder(shape: &Shape, names: &Names, path: &[u8]) -> Result<(), Ref
     let Some(place) = place_of(shape, names, path) else {
         return Err(Refusal::NoPath);
     };
-    let Node::Folder(place) = place else {
+    if let Node::File(_) = place {
         return Err(Refusal::NotFolder);
-    };
-    if find(shape, names, path).is_some() {
+    }
+    if node_with(shape, names, path).is_some() {
         return Err(Refusal::Exists);
     }
-    if has_no_depth(shape, names, path, place) {
+    if has_no_depth(path) {
         return Err(Refusal::TooDeep);
     }
     Ok(())
@@ -143,7 +139,6 @@ fn check_written(
     path: &[u8],
     bytes: &[u8],
 ) -> Result<(), Refusal>
-    requires { IsNamedTree (tree_store shape.now.tree names.now) }
     ensures { result ≡ refused_by (tree_refusal (tree_store shape.now.tree names.now) (WriteFile path.now bytes.now) file_bytes) }
 {
     if !path_ok(path) {
@@ -155,13 +150,13 @@ fn check_written(
     let Some(place) = place_of(shape, names, path) else {
         return Err(Refusal::NoPath);
     };
-    let Node::Folder(place) = place else {
+    if let Node::File(_) = place {
         return Err(Refusal::NotFolder);
-    };
-    if let Some(Node::Folder(_)) = find(shape, names, path) {
+    }
+    if let Some(Node::Folder(_)) = node_with(shape, names, path) {
         return Err(Refusal::IsFolder);
     }
-    if has_no_depth(shape, names, path, place) {
+    if has_no_depth(path) {
         return Err(Refusal::TooDeep);
     }
     if bytes.len() > file_bytes as usize {
@@ -172,7 +167,6 @@ fn check_written(
 
 #[tactic(auto, unfolding(crate::proofs::Causes::everything))]
 fn check_moved(shape: &Shape, names: &Names, path: &[u8], into: &[u8]) -> Result<(), Refusal>
-    requires { IsNamedTree (tree_store shape.now.tree names.now) }
     ensures { result ≡ refused_by (tree_refusal (tree_store shape.now.tree names.now) (Relocate path.now into.now) 0) }
 {
     if !path_ok(path) {
@@ -181,10 +175,10 @@ fn check_moved(shape: &Shape, names: &Names, path: &[u8], into: &[u8]) -> Result
     if !path_ok(into) {
         return Err(Refusal::BadName);
     }
-    let Some(node) = find(shape, names, path) else {
+    let Some(node) = node_with(shape, names, path) else {
         return Err(Refusal::NoPath);
     };
-    let Some(target) = find(shape, names, into) else {
+    let Some(target) = node_with(shape, names, into) else {
         return Err(Refusal::NoPath);
     };
     if is_root(path) {
@@ -193,7 +187,7 @@ fn check_moved(shape: &Shape, names: &Names, path: &[u8], into: &[u8]) -> Result
     let Node::Folder(target) = target else {
         return Err(Refusal::NotFolder);
     };
-    if has_name_of(shape, names, target, node) {
+    if has_name_of(shape, names, target, path) {
         return Err(Refusal::Exists);
     }
     if has_within(shape, names, node, target) {

@@ -1,22 +1,11 @@
 //! Laws of the plain store's tree, and of a tree with its names beside it.
 ghost use Rattle.std.specs.Prelude.{◌≡◌, ◌+◌, ℕ, List, [], Some};
 ghost use Rattle.cry_base.specs.Stepping.{with_new_folder, with_new_file, with_file, with_name, without_node, moved};
-ghost use Rattle.cry_base.specs.Store.{Store, folder_node, file_node, node_at, no_store};
+ghost use Rattle.cry_base.specs.Store.{Store, folder_node, file_node};
 ghost use Rattle.cry_base.specs.declared.roles.Node.{Node as TheNode};
 ghost use Rattle.folder_nodes.specs.Joining.{IsSet, IsForgotten};
 ghost use Rattle.folder_nodes.specs.Titles.{Titles, title_at, name_in, title_of, bytes_in, tree_store};
 ghost use Rattle.folder_nodes.specs.Trees.{IsTree};
-ghost use Rattle.folder_nodes.specs.Walking.{IsNamedTree, walked};
-
-/// What has a path is found by a walk along it, from folder to folder; and nothing else is.
-pub fn paths_are_walked()
-    ensures { (s : Store) (path : List ℕ) → IsNamedTree s → node_at s path ≡ walked s path }
-{}
-
-/// The root alone, under the empty name, is a tree with names.
-pub fn root_is_named()
-    ensures { (n : Titles) → IsTree (with_new_folder no_store 0 []) → name_in (title_at n.folders 1) ≡ [] → IsNamedTree (tree_store (with_new_folder no_store 0 []) n) }
-{}
 
 /// A change of a tree with its change of names is the plain store's change.
 pub fn changes_are_the_stores()

@@ -1,6 +1,7 @@
 //! The folder tree: who is in which folder, under which name, and what a path finds.
 #![tactic(auto)]
 
+mod book;
 mod changes;
 mod checking;
 mod finding;
@@ -11,6 +12,8 @@ mod naming;
 mod place;
 mod rows;
 mod shape;
+mod spelling;
+mod spots;
 mod titles;
 mod ways;
 

@@ -1,34 +1,34 @@
 //! The names of folders and files, and the bytes of files.
-ghost use Rattle.std.specs.Prelude.{◌≡◌, ◌+◌, ◌≤◌, ◌==◌, ℕ, [], cond, Some, None, IsOk, OnOk, option_map};
+ghost use Rattle.std.specs.Prelude.{◌≡◌, ◌+◌, ◌≤◌, [], cond, map, Some, None, IsOk, OnOk, option_map};
 ghost use Rattle.std.specs.Option.{option_copied};
+ghost use Rattle.cry_base.specs.Sets.{In};
 ghost use Rattle.cry_base.specs.declared.roles.Node.{Node as TheNode};
-ghost use Rattle.folder_nodes.specs.declared.titles.NameRow.{NameRow as TheRow};
-ghost use Rattle.folder_nodes.specs.Titles.{title_of, title_at, is_node, new_title};
-ghost use Rattle.sorted_table.specs.Rows.{row_at};
+ghost use Rattle.folder_nodes.specs.Titles.{Title, MayBeNamed, title_of, title_at, is_node, new_title};
+ghost use Rattle.folder_nodes.specs.declared.spots.NameSpot.{NameSpot as TheSpot};
+ghost use Rattle.sorted_table.specs.Rows.{IsRising};
 
-use crate::titles::{NameKey, NameRow};
+use crate::book::Book;
+use crate::spots::NameSpot;
 use cry_base::{FileId, Mem, Node, Text};
-use sorted_table::Table;
 use std::alloc::Global;
 use std::marker::Model;
 
 /// A name by its folder or file, and bytes by the file. `spare` is how many changes have their memory.
 #[derive(Drop)]
 pub struct Names {
-    folders: Table<NameRow>,
-    files: Table<NameRow>,
+    folders: Book,
+    files: Book,
 }
 
 impl Model for Names {
-    ghost use Rattle.std.specs.Prelude.{map, min};
+    ghost use Rattle.std.specs.Prelude.{min};
     ghost use Rattle.folder_nodes.specs.Titles.{Titles};
-    ghost use Rattle.folder_nodes.specs.Titling.{title_of_row};
 
     ghost Value = { Titles };
 
     ghost view = { λ a. record {
-      folders = map title_of_row a.folders.rows;
-      files = map title_of_row a.files.rows;
+      folders = a.folders.titles;
+      files = a.files.titles;
       spare = min a.folders.spare a.files.spare;
     } };
 }
@@ -40,8 +40,8 @@ impl Names {
         ensures files { result.files ≡ [] }
     {
         Names {
-            folders: Table::new(alloc),
-            files: Table::new(alloc),
+            folders: Book::new(alloc),
+            files: Book::new(alloc),
         }
     }
 
@@ -53,25 +53,21 @@ impl Names {
         ensures kept { self.old.spare ≤ self.new.spare }
         ensures has_room { 1 ≤ self.old.spare → IsOk result }
     {
-        self.folders.reserve(1)?;
-        self.files.reserve(1)
+        self.folders.reserve()?;
+        self.files.reserve()
     }
 
-    /// Gives a folder or file its name and its bytes, in the place of those that it had.
+    /// Gives a folder or file its name, which is empty for the root alone, and its bytes, in the place of those that
+    /// it had.
     pub fn set(&mut self, node: Node, name: Text, bytes: Text)
-        requires { 1 ≤ self.old.spare }
+        requires room { 1 ≤ self.old.spare }
+        requires name { MayBeNamed name.items }
         ensures titles { (other : TheNode) → title_of self.new other ≡ cond (is_node node other) (Some (new_title node name.items bytes.items)) (title_of self.old other) }
         ensures spare { self.old.spare ≤ self.new.spare + 1 }
     {
         match node {
-            Node::Folder(folder) => {
-                let id = folder.0;
-                put(&mut self.folders, NameRow { id, name, bytes });
-            }
-            Node::File(file) => {
-                let id = file.0;
-                put(&mut self.files, NameRow { id, name, bytes });
-            }
+            Node::Folder(folder) => self.folders.put(folder.0, name, bytes),
+            Node::File(file) => self.files.put(file.0, name, bytes),
         }
     }
 
@@ -81,8 +77,8 @@ impl Names {
         ensures spare { self.old.spare ≤ self.new.spare }
     {
         match node {
-            Node::Folder(folder) => take(&mut self.folders, folder.0),
-            Node::File(file) => take(&mut self.files, file.0),
+            Node::Folder(folder) => self.folders.take(folder.0),
+            Node::File(file) => self.files.take(file.0),
         }
     }
 
@@ -91,8 +87,8 @@ impl Names {
         ensures { option_copied result ≡ option_map (λ t. t.name) (title_of self.now node) }
     {
         match node {
-            Node::Folder(folder) => name_of(&self.folders, folder.0),
-            Node::File(file) => name_of(&self.files, file.0),
+            Node::Folder(folder) => self.folders.name(folder.0),
+            Node::File(file) => self.files.name(file.0),
         }
     }
 
@@ -100,45 +96,31 @@ impl Names {
     pub fn bytes(&self, file: FileId) -> Option<&[u8]>
         ensures { option_copied result ≡ option_map (λ t. t.bytes) (title_at self.now.files file.0) }
     {
-        bytes_of(&self.files, file.0)
+        self.files.bytes(file.0)
     }
-}
 
-/// Puts a row into the place of the one with its number, or beside the others.
-fn put(table: &mut Table<NameRow>, row: NameRow)
-    requires { 1 ≤ table.old.spare }
-    ensures rows { (k : ℕ) → row_at (λ (r : TheRow). r.id) table.new.rows k ≡ cond (row.id == k) (Some row) (row_at (λ (r : TheRow). r.id) table.old.rows k) }
-    ensures spare { table.old.spare ≤ table.new.spare + 1 }
-{
-    if table.find(&NameKey(row.id)).is_some() {
-        table.replace(row);
-    } else {
-        table.insert(row);
+    /// The numbers of all folders that have the name, in ascending order, and maybe others among them.
+    pub(crate) fn folders_named(&self, name: &[u8]) -> &[NameSpot]
+        ensures rising { IsRising (λ (q : TheSpot). q.id) result.now }
+        ensures all { (t : Title) → In t self.now.folders → t.name ≡ name.now → In t.id (map (λ (q : TheSpot). q.id) result.now) }
+    {
+        self.folders.named(name)
     }
-}
 
-/// Takes the row with the number out, where there is one.
-fn take(table: &mut Table<NameRow>, id: u32)
-    ensures rows { (k : ℕ) → row_at (λ (r : TheRow). r.id) table.new.rows k ≡ cond (id == k) None (row_at (λ (r : TheRow). r.id) table.old.rows k) }
-    ensures spare { table.old.spare ≤ table.new.spare }
-{
-    let _ = table.remove(&NameKey(id));
-}
-
-fn name_of(table: &Table<NameRow>, id: u32) -> Option<&[u8]>
-    ensures { option_copied result ≡ option_map (λ (r : TheRow). r.name.items) (row_at (λ (r : TheRow). r.id) table.now.rows id) }
-{
-    match table.find(&NameKey(id)) {
-        Some(row) => Some(row.name.as_slice()),
-        None => None,
+    /// The numbers of all files that have the name, in ascending order, and maybe others among them.
+    pub(crate) fn files_named(&self, name: &[u8]) -> &[NameSpot]
+        ensures rising { IsRising (λ (q : TheSpot). q.id) result.now }
+        ensures all { (t : Title) → In t self.now.files → t.name ≡ name.now → In t.id (map (λ (q : TheSpot). q.id) result.now) }
+    {
+        self.files.named(name)
     }
-}
 
-fn bytes_of(table: &Table<NameRow>, id: u32) -> Option<&[u8]>
-    ensures { option_copied result ≡ option_map (λ (r : TheRow). r.bytes.items) (row_at (λ (r : TheRow). r.id) table.now.rows id) }
-{
-    match table.find(&NameKey(id)) {
-        Some(row) => Some(row.bytes.as_slice()),
-        None => None,
+    /// A law: what is named has a name, or the root's.
+    pub(crate) fn are_names(&self)
+        ensures folders { (t : Title) → In t self.now.folders → MayBeNamed t.name }
+        ensures files { (t : Title) → In t self.now.files → MayBeNamed t.name }
+    {
+        self.folders.are_names();
+        self.files.are_names();
     }
 }

@@ -1,7 +1,7 @@
 //! Names and paths, as docs/FORMAT.md spells them.
-ghost use Rattle.std.specs.Prelude.{◌≡◌, ◌<◌, ◌==◌, ◌∷◌, length, IfSome};
+ghost use Rattle.std.specs.Prelude.{◌≡◌, ◌≢◌, ◌<◌, ◌==◌, ◌∷◌, ◌++◌, ℕ, List, true, false, length, drop, count_by, IfSome, MatchOption};
 ghost use Rattle.std.specs.List.{list_all, position};
-ghost use Rattle.cry_base.specs.Naming.{is_name, is_name_byte, is_path, split_at_slashes};
+ghost use Rattle.cry_base.specs.Naming.{is_name, is_name_byte, is_path, is_root_path, names_of, last_name, parent_path, split_at_slashes};
 ghost use Rattle.folder_nodes.specs.Pieces.{pieces_of};
 
 /// The most bytes that a name may have.
@@ -81,4 +81,75 @@ fn are_names(bytes: &[u8]) -> bool
         left = behind;
     }
     true
+}
+
+/// Whether the path is the root's.
+#[tactic(auto, unfolding(cry_base::specs::Naming::is_root_path))]
+pub(crate) fn is_root(path: &[u8]) -> bool
+    ensures { result ≡ is_root_path path.now }
+{
+    path == b"/".as_slice()
+}
+
+/// What is behind the first byte.
+fn behind_slash(path: &[u8]) -> &[u8]
+    ensures { result.now ≡ drop 1 path.now }
+{
+    match path.split_first() {
+        Some((_, behind)) => behind,
+        None => path,
+    }
+}
+
+/// The last name of a path, which is empty for the root's.
+pub(crate) fn last_piece(path: &[u8]) -> &[u8]
+    ensures { result.now ≡ last_name (names_of path.now) }
+{
+    let (mut name, mut left) = first_piece(behind_slash(path));
+    while let Some(bytes) = left {
+        let (next, rest) = first_piece(bytes);
+        name = next;
+        left = rest;
+    }
+    name
+}
+
+/// The bytes before a slash and the name, where they end the bytes.
+pub(crate) fn cut<'a>(bytes: &'a [u8], name: &[u8]) -> Option<&'a [u8]>
+    ensures { MatchOption result ((front : List ℕ) → bytes.now ≢ front ++ 47 ∷ name.now) (λ front. bytes.now ≡ front.now ++ 47 ∷ name.now) }
+{
+    match bytes.strip_suffix(name) {
+        Some(front) => front.strip_suffix(b"/".as_slice()),
+        None => None,
+    }
+}
+
+/// The path without its last name.
+pub(crate) fn front_of(path: &[u8]) -> &[u8]
+    requires form { is_path path.now ≡ true }
+    requires other { is_root_path path.now ≡ false }
+    ensures { result.now ≡ parent_path path.now }
+{
+    let Some(front) = cut(path, last_piece(path)) else {
+        unreachable!();
+    };
+    if front.is_empty() {
+        return b"/".as_slice();
+    }
+    front
+}
+
+/// How many names a path has that isn't the root's.
+pub(crate) fn count_names(path: &[u8]) -> usize
+    requires form { is_path path.now ≡ true }
+    requires other { is_root_path path.now ≡ false }
+    ensures { result ≡ length (names_of path.now) }
+{
+    count_slashes(path)
+}
+
+fn count_slashes(path: &[u8]) -> usize
+    ensures { result ≡ count_by (λ b. b == 47) path.now }
+{
+    path.iter().filter(|byte| **byte == b'/').count()
 }

@@ -1,77 +1,97 @@
 //! Where a command would put a node, and what stands there.
 ghost use Rattle.std.specs.Prelude.{◌≡◌, ◌+◌, ◌&&◌, true, false, nat_lt, length, Some, IsSome};
-ghost use Rattle.cry_base.specs.Naming.{is_path, is_root_path, names_behind, names_of, parent_path, front};
-ghost use Rattle.cry_base.specs.Refusing.{is_folder, id_of, has_child, holds_name, parent_of, name_of, height_of};
-ghost use Rattle.cry_base.specs.Store.{node_at, folder_entry, depth_of, is_within};
+ghost use Rattle.std.specs.List.{list_any};
+ghost use Rattle.cry_base.specs.Naming.{is_name, is_path, is_root_path, names_of, parent_path};
+ghost use Rattle.cry_base.specs.Refusing.{is_folder, id_of, has_child, holds_name, name_of as name_in_store, parent_of, height_of};
+ghost use Rattle.cry_base.specs.Store.{node_at, folder_entry, file_entry, depth_of, is_within};
 ghost use Rattle.cry_base.specs.declared.roles.Node.TheVariants.{Folder};
 ghost use Rattle.folder_nodes.specs.Checking.{Stands};
+ghost use Rattle.folder_nodes.specs.Spelling as spelling;
 ghost use Rattle.folder_nodes.specs.Titles.{tree_store};
-ghost use Rattle.folder_nodes.specs.Walking.{IsNamedTree, walk};
+ghost use Rattle.folder_nodes.specs.declared.spots.NameSpot.{NameSpot as TheSpot};
 
-use crate::finding::{ROOT, behind_slash, child, last};
-use crate::naming::first_piece;
+use crate::finding::node_with;
+use crate::naming::{count_names, front_of, last_piece};
+use crate::spelling::name_of;
+use crate::spots::NameSpot;
 use crate::{Names, Shape};
-use cry_base::{FolderId, Node};
-
-/// Whether the path is the root's.
-#[tactic(auto, unfolding(cry_base::specs::Naming::is_root_path))]
-pub(crate) fn is_root(path: &[u8]) -> bool
-    ensures { result ≡ is_root_path path.now }
-{
-    path == b"/".as_slice()
-}
+use cry_base::{FileId, FolderId, Node};
 
 /// The folder that a node with the path is put into, or the file that stands there.
 pub(crate) fn place_of(shape: &Shape, names: &Names, path: &[u8]) -> Option<Node>
-    requires named { IsNamedTree (tree_store shape.now.tree names.now) }
-    requires form { is_path path.now ≡ true }
-    ensures { result ≡ node_at (tree_store shape.now.tree names.now) (parent_path path.now) }
-{
-    if !shape.has_folder(ROOT) {
-        return None;
-    }
-    walk_to_place(shape, names, behind_slash(path))
-}
-
-/// Goes down from the root along all names between slashes but the last.
-fn walk_to_place(shape: &Shape, names: &Names, behind: &[u8]) -> Option<Node>
-    ensures { result ≡ walk (tree_store shape.now.tree names.now) 1 (front (names_behind behind.now)) }
-{
-    let mut here = ROOT;
-    let (mut name, mut left) = first_piece(behind);
-    while let Some(bytes) = left {
-        let (next, rest) = first_piece(bytes);
-        match child(shape, names, here.0, name) {
-            None => return None,
-            Some(Node::Folder(folder)) => here = folder,
-            Some(Node::File(file)) => return last(file, rest),
-        }
-        name = next;
-        left = rest;
-    }
-    Some(Node::Folder(here))
-}
-
-/// Whether a node that is put into the folder, under the path, would stand too deep.
-pub(crate) fn has_no_depth(shape: &Shape, names: &Names, path: &[u8], place: FolderId) -> bool
-    requires named { IsNamedTree (tree_store shape.now.tree names.now) }
     requires form { is_path path.now ≡ true }
     requires other { is_root_path path.now ≡ false }
-    requires place { node_at (tree_store shape.now.tree names.now) (parent_path path.now) ≡ Some (Folder place) }
-    ensures { result ≡ nat_lt 64 (length (names_of path.now)) }
+    ensures { result ≡ node_at (tree_store shape.now.tree names.now) (parent_path path.now) }
 {
-    shape.depth(place) >= 64
+    node_with(shape, names, front_of(path))
 }
 
-/// Whether a folder or file in the folder has the name.
+/// Whether a node with the path would stand too deep.
+pub(crate) fn has_no_depth(path: &[u8]) -> bool
+    requires form { is_path path.now ≡ true }
+    requires other { is_root_path path.now ≡ false }
+    ensures { result ≡ nat_lt 64 (length (names_of path.now)) }
+{
+    count_names(path) > 64
+}
+
+/// Whether a folder or file in the folder has the name. It looks at those alone that have it.
 pub(crate) fn has_named(shape: &Shape, names: &Names, f: u32, name: &[u8]) -> bool
+    requires { is_name name.now ≡ true }
     ensures { result ≡ holds_name (tree_store shape.now.tree names.now) f name.now }
 {
-    child(shape, names, f, name).is_some()
+    shape.is_tree();
+    if has_folder_in(names.folders_named(name), shape, names, f, name) {
+        return true;
+    }
+    has_file_in(names.files_named(name), shape, names, f, name)
+}
+
+fn has_folder_in(spots: &[NameSpot], shape: &Shape, names: &Names, f: u32, name: &[u8]) -> bool
+    ensures { result ≡ list_any (λ (q : TheSpot). spelling.is_folder_in f name.now (folder_entry (tree_store shape.now.tree names.now) q.id)) spots.now }
+{
+    spots
+        .iter()
+        .any(|spot| is_folder_in(shape, names, spot.id, f, name))
+}
+
+fn has_file_in(spots: &[NameSpot], shape: &Shape, names: &Names, f: u32, name: &[u8]) -> bool
+    ensures { result ≡ list_any (λ (q : TheSpot). spelling.is_file_in f name.now (file_entry (tree_store shape.now.tree names.now) q.id)) spots.now }
+{
+    spots
+        .iter()
+        .any(|spot| is_file_in(shape, names, spot.id, f, name))
+}
+
+/// Whether the folder g is in the folder f and has the name.
+fn is_folder_in(shape: &Shape, names: &Names, g: u32, f: u32, name: &[u8]) -> bool
+    ensures { result ≡ spelling.is_folder_in f name.now (folder_entry (tree_store shape.now.tree names.now) g) }
+{
+    let Some(row) = shape.folder_row(g) else {
+        return false;
+    };
+    if row.parent != f {
+        return false;
+    }
+    name_of(names, Node::Folder(FolderId(g))) == name
+}
+
+/// Whether the file is in the folder f and has the name.
+fn is_file_in(shape: &Shape, names: &Names, x: u32, f: u32, name: &[u8]) -> bool
+    ensures { result ≡ spelling.is_file_in f name.now (file_entry (tree_store shape.now.tree names.now) x) }
+{
+    let Some(row) = shape.file_row(x) else {
+        return false;
+    };
+    if row.folder.0 != f {
+        return false;
+    }
+    name_of(names, Node::File(FileId(x))) == name
 }
 
 /// Whether another name in the folder of the node is this one.
 pub(crate) fn has_beside(shape: &Shape, names: &Names, node: Node, name: &[u8]) -> bool
+    requires { is_name name.now ≡ true }
     ensures { result ≡ holds_name (tree_store shape.now.tree names.now) (parent_of (tree_store shape.now.tree names.now) (Some node)) name.now }
 {
     has_named(shape, names, parent_number(shape, names, node), name)
@@ -87,15 +107,16 @@ fn parent_number(shape: &Shape, names: &Names, node: Node) -> u32
     }
 }
 
-/// Whether a folder or file in the folder has the node's name.
-pub(crate) fn has_name_of(shape: &Shape, names: &Names, into: FolderId, node: Node) -> bool
-    requires { Stands shape.now.tree node }
-    ensures { result ≡ holds_name (tree_store shape.now.tree names.now) into.0 (name_of (tree_store shape.now.tree names.now) (Some node)) }
+/// Whether a folder or file in the folder has the name of what the path finds.
+pub(crate) fn has_name_of(shape: &Shape, names: &Names, into: FolderId, path: &[u8]) -> bool
+    requires form { is_path path.now ≡ true }
+    requires other { is_root_path path.now ≡ false }
+    requires found { IsSome (node_at (tree_store shape.now.tree names.now) path.now) }
+    ensures { result ≡ holds_name (tree_store shape.now.tree names.now) into.0 (name_in_store (tree_store shape.now.tree names.now) (node_at (tree_store shape.now.tree names.now) path.now)) }
 {
-    match names.name(node) {
-        Some(name) => has_named(shape, names, into.0, name),
-        None => has_named(shape, names, into.0, b"".as_slice()),
-    }
+    shape.is_tree();
+    names.are_names();
+    has_named(shape, names, into.0, last_piece(path))
 }
 
 /// Whether the node is a folder that has a child.

@@ -1,6 +1,5 @@
 use super::*;
-use crate::finding::walk_path;
-use cry_base::{FileId, FolderId, List, Node, Text};
+use cry_base::{Command, FileId, FolderId, Limits, List, Node, Refusal, Text};
 use std::alloc::Global;
 use std::test::Fail;
 
@@ -84,6 +83,25 @@ fn name_again(names: &mut Names, node: Node, name: Text, bytes: Text) -> Result<
     Ok(())
 }
 
+/// The root alone, with its empty name.
+fn root_alone(alloc: Global) -> Result<(Shape, Names), Fail> {
+    let mut shape = Shape::new(alloc);
+    let mut names = Names::new(alloc);
+    shape.reserve()?;
+    names.reserve()?;
+    shape.add_folder(None);
+    names.set(Node::Folder(ROOT), List::new(alloc), List::new(alloc));
+
+    Ok((shape, names))
+}
+
+fn file_of(alloc: Global, path: &[u8], bytes: &[u8]) -> Result<Command, Fail> {
+    Ok(Command::WriteFile {
+        path: text_of(alloc, path)?,
+        bytes: text_of(alloc, bytes)?,
+    })
+}
+
 #[test]
 fn names_and_paths_are_those_of_the_grammar(rt: HostRuntime) {
     let longest = [b'n'; 65];
@@ -151,11 +169,11 @@ fn a_path_with_64_names_is_found(rt: HostRuntime) -> Result<(), Fail> {
     }
     assert_eq!(rt; depth_of(&shape, here), Some(64));
     assert_eq!(rt;
-        walk_path(&shape, &names, path.as_slice()),
+        find(&shape, &names, path.as_slice()),
         Some(Node::Folder(here))
     );
-    assert_eq!(rt; walk_path(&shape, &names, b"/"), Some(Node::Folder(ROOT)));
-    assert_eq!(rt; walk_path(&shape, &names, b"/d/e"), None);
+    assert_eq!(rt; find(&shape, &names, b"/"), Some(Node::Folder(ROOT)));
+    assert_eq!(rt; find(&shape, &names, b"/d/e"), None);
     Ok(())
 }
 
@@ -173,11 +191,33 @@ fn a_path_through_a_file_finds_nothing(rt: HostRuntime) -> Result<(), Fail> {
         text_of(rt.alloc(), b"y")?,
         text_of(rt.alloc(), b"00")?,
     )?;
-    assert_eq!(rt; walk_path(&shape, &names, b"/y"), Some(node));
-    assert_eq!(rt; walk_path(&shape, &names, b"/x"), None);
-    assert_eq!(rt; walk_path(&shape, &names, b"/y/y"), None);
+    assert_eq!(rt; find(&shape, &names, b"/y"), Some(node));
+    assert_eq!(rt; find(&shape, &names, b"/x"), None);
+    assert_eq!(rt; find(&shape, &names, b"/y/y"), None);
     assert!(rt; names.bytes(file) == Some(b"00".as_slice()));
     names.forget(node);
-    assert_eq!(rt; walk_path(&shape, &names, b"/y"), None);
+    assert_eq!(rt; find(&shape, &names, b"/y"), None);
+    Ok(())
+}
+
+#[test]
+fn files_are_written_up_to_the_limit(rt: HostRuntime) -> Result<(), Fail> {
+    let (shape, names) = root_alone(rt.alloc())?;
+    let limits = Limits {
+        store_bytes: 1000,
+        file_bytes: 2,
+    };
+    let full = file_of(rt.alloc(), b"/f", b"00")?;
+    assert_eq!(rt; check_tree(&shape, &names, limits, &full), Ok(()));
+    let longer = file_of(rt.alloc(), b"/f", b"000")?;
+    assert_eq!(rt;
+        check_tree(&shape, &names, limits, &longer),
+        Err(Refusal::TooLong)
+    );
+    let nowhere = file_of(rt.alloc(), b"/a/f", b"000")?;
+    assert_eq!(rt;
+        check_tree(&shape, &names, limits, &nowhere),
+        Err(Refusal::NoPath)
+    );
     Ok(())
 }

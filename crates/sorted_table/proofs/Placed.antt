@@ -1,9 +1,10 @@
 -- What stands at a place among rising rows, and what an edit there makes.
-use Rattle.std.proofs.Common.{◌≡◌, ℕ, zero, suc, ◌<◌, ◌≤◌, Bool, true, false, cond, not, ◌==◌, nat_lt, List, [], ◌∷◌, ◌++◌, map, filter, length, get_or, set, take, drop, Some, None, refl, ap, ◌∙◌, arith}
+use Rattle.std.proofs.Common.{◌≡◌, ℕ, zero, suc, ◌<◌, ◌≤◌, Bool, true, false, cond, not, ◌&&◌, ◌==◌, nat_lt, nat_le, List, [], ◌∷◌, ◌++◌, map, filter, length, get_or, set, take, drop, Some, None, refl, ap, ◌∙◌, arith}
 use Rattle.std.specs.List.{AllWithin, HoldsAt, insert, remove, find}
-use Rattle.std.proofs.lemmas.Bool.{lt-ltb, le-ltb, eq-eqb, ne_eqb}
+use Rattle.std.proofs.lemmas.Bool.{lt-ltb, le-ltb, le-leb, lt-leb, eq-eqb, ne_eqb}
 use Rattle.sorted_table.specs.Rows.{IsRising, row_at, with_row, without, replaced}
 use Rattle.sorted_table.specs.Places.{IsAt, IsGapFor}
+use Rattle.sorted_table.proofs.Searched.{rank_rises}
 
 -- one element less at the front
 within_tail : (T : Type 0) (P : T → Type 0) (x : T) (xs : List T) (low high : ℕ) → AllWithin P (x ∷ xs) (suc low) (suc high) → AllWithin P xs low high
@@ -36,6 +37,18 @@ filter-drop T p (x ∷ xs) zero fail pass =
 filter-drop T p (x ∷ xs) (suc i) fail pass =
     ap (λ b. cond b (x ∷ filter p xs) (filter p xs)) (within_head T (λ x. p x ≡ false) x xs (suc i) (omega arith) fail)
     ∙ filter-drop T p xs i (within_all T (λ x. p x ≡ false) x xs i fail) (within_tail T (λ x. p x ≡ true) x xs i (length xs) pass)
+
+-- what passes one test after another passes both
+pub filter-both : (T : Type 0) (p q : T → Bool) (xs : List T) → filter q (filter p xs) ≡ filter (λ x. p x && q x) xs
+filter-both T p q [] = refl
+filter-both T p q (x ∷ xs) =
+    elim (p x) as (λ b. filter q (cond b (x ∷ filter p xs) (filter p xs)) ≡ cond (b && q x) (x ∷ filter (λ x. p x && q x) xs) (filter (λ x. p x && q x) xs)) [
+      | true ↦ elim (q x) as (λ b. cond b (x ∷ filter q (filter p xs)) (filter q (filter p xs)) ≡ cond b (x ∷ filter (λ x. p x && q x) xs) (filter (λ x. p x && q x) xs)) [
+        | true ↦ ap (λ ys. x ∷ ys) (filter-both T p q xs)
+        | false ↦ filter-both T p q xs
+      ]
+      | false ↦ filter-both T p q xs
+    ]
 
 -- all but the one at the place pass
 filter-remove : (T : Type 0) (p : T → Bool) (xs : List T) (i : ℕ) → i < length xs → AllWithin (λ x. p x ≡ true) xs 0 i → HoldsAt (λ x. p x ≡ false) xs i → AllWithin (λ x. p x ≡ true) xs (suc i) (length xs) → filter p xs ≡ remove xs i
@@ -101,6 +114,17 @@ module _ (T : Type 0) (rank : T → ℕ) (rows : List T) (k place : ℕ) (rising
   without-here = filter-remove T (λ r. not (rank r == k)) rows place is_at.0
       (λ j d low lt. ap not (below j d low lt)) (λ d. ap not (here d)) (λ j d low lt. ap not (above j d low lt))
 
+  -- the rows from the one with the rank on, and those up to it
+  pub from-here : filter (λ r. nat_le k (rank r)) rows ≡ drop place rows
+  from-here = filter-drop T (λ r. nat_le k (rank r)) rows place
+      (λ j d low lt. lt-leb k _ (let up : rank (get_or rows j d) < rank (get_or rows place d) = rising j place d lt is_at.0 in let here : rank (get_or rows place d) ≡ k = is_at.1 d in omega arith))
+      (λ j d low lt. le-leb k _ (let up : rank (get_or rows place d) ≤ rank (get_or rows j d) = rank_rises T rank rows rising place j d low lt in let here : rank (get_or rows place d) ≡ k = is_at.1 d in omega arith))
+
+  pub to-here : filter (λ r. nat_le (rank r) k) rows ≡ take (suc place) rows
+  to-here = filter-take T (λ r. nat_le (rank r) k) rows (suc place)
+      (λ j d low lt. le-leb _ k (let up : rank (get_or rows j d) ≤ rank (get_or rows place d) = rank_rises T rank rows rising j place d (omega arith) is_at.0 in let here : rank (get_or rows place d) ≡ k = is_at.1 d in omega arith))
+      (λ j d low lt. lt-leb _ k (let up : rank (get_or rows place d) < rank (get_or rows j d) = rising place j d (omega arith) lt in let here : rank (get_or rows place d) ≡ k = is_at.1 d in omega arith))
+
   pub replaced-here : (row : T) → rank row ≡ k → replaced rank rows row ≡ set rows place row
   replaced-here row same = ap (λ n. map (λ r. cond (rank r == n) row r) rows) same ∙ map_set T (λ r. rank r == k) row rows place is_at.0 below here above
 
@@ -117,6 +141,17 @@ module _ (T : Type 0) (rank : T → ℕ) (rows : List T) (k place : ℕ) (gap : 
   -- nothing goes where nothing is
   pub without-gap : without rank rows k ≡ rows
   without-gap = filter-drop T (λ r. not (rank r == k)) rows 0 (λ j d le lt. absurd (omega arith)) (λ j d le lt. ap not (nowhere j d le lt))
+
+  -- the rows from the gap on, and those before it
+  pub from-gap : filter (λ r. nat_le k (rank r)) rows ≡ drop place rows
+  from-gap = filter-drop T (λ r. nat_le k (rank r)) rows place
+      (λ j d le lt. lt-leb k _ (gap.1 j d le lt))
+      (λ j d le lt. le-leb k _ (let up : k < rank (get_or rows j d) = gap.2 j d le lt in omega arith))
+
+  pub to-gap : filter (λ r. nat_le (rank r) k) rows ≡ take place rows
+  to-gap = filter-take T (λ r. nat_le (rank r) k) rows place
+      (λ j d le lt. le-leb _ k (let up : rank (get_or rows j d) < k = gap.1 j d le lt in omega arith))
+      (λ j d le lt. lt-leb _ k (gap.2 j d le lt))
 
   -- a row put into the gap stands between the lower and the higher ones
   pub with_row-gap : (row : T) → rank row ≡ k → with_row rank rows row ≡ insert rows place row

@@ -1,5 +1,5 @@
 -- Rows stay rising.
-use Rattle.std.proofs.Common.{◌≡◌, ℕ, suc, ◌<◌, Bool, true, false, cond, not, ◌==◌, nat_lt, List, [], ◌∷◌, ◌++◌, map, filter, refl, sym, arith}
+use Rattle.std.proofs.Common.{◌≡◌, ℕ, suc, ◌<◌, Bool, true, false, cond, not, ◌==◌, nat_lt, List, [], ◌∷◌, ◌++◌, map, filter, refl, sym, subst, arith}
 use Rattle.std.specs.List.{All, AllPairs, items_where_true}
 use Rattle.std.proofs.lemmas.Bool.{ltb-true, eqb-true}
 use Rattle.std.proofs.lemmas.List.Elements.{All-nil, All-cons, All-head, All-tail, All-append, All-weaker, All-map}
@@ -78,3 +78,7 @@ rising-items_where_true T rank (true ∷ bs) (x ∷ xs) rising =
     let R : T → T → Type 0 = λ x y. rank x < rank y in
     AllPairs-cons R x (items_where_true bs xs) (All-items_where_true T (R x) bs xs (AllPairs-head T R x xs rising)) (rising-items_where_true T rank bs xs (AllPairs-tail T R x xs rising))
 rising-items_where_true T rank (false ∷ bs) (x ∷ xs) rising = rising-items_where_true T rank bs xs (AllPairs-tail T (λ x y. rank x < rank y) x xs rising)
+
+-- so do those that a test keeps
+pub rising-kept : (T : Type 0) (rank : T → ℕ) (p : T → Bool) (xs ys : List T) → IsRising rank xs → ys ≡ filter p xs → IsRising rank ys
+rising-kept T rank p xs ys rising kept = subst (IsRising rank) (sym kept) (AllPairs-filter (λ (x y : T). rank x < rank y) p xs rising)

@@ -1,5 +1,5 @@
 //! Rows in ascending order of their ranks.
-ghost use Rattle.std.specs.Prelude.{◌≡◌, ◌+◌, ◌≤◌, [], length, IsOk, IsSome, OnOk, IfOk, IfErr, None};
+ghost use Rattle.std.specs.Prelude.{◌≡◌, ◌+◌, ◌≤◌, ◌&&◌, [], length, nat_le, filter, IsOk, IsSome, OnOk, IfOk, IfErr, None};
 ghost use Rattle.std.specs.Fn.{CalledAt};
 ghost use Rattle.std.specs.List.Retain.{IsFiltered};
 ghost use Rattle.std.specs.Option.{option_copied};
@@ -59,6 +59,14 @@ impl<T: Ranked> Table<T> {
             Ok(at) => Some(&self.rows[at]),
             Err(_) => None,
         }
+    }
+
+    /// The rows with ranks from that of the first key up to that of the last one, in ascending order.
+    pub fn rows_between<K: Key<T>>(&self, first: &K, last: &K) -> &[T]
+        ensures rows { result.now ≡ filter (λ r. nat_le (K.sought first.now) (T.rank r) && nat_le (T.rank r) (K.sought last.now)) self.now.rows }
+        ensures rising { IsRising T.rank result.now }
+    {
+        rows_to(rows_from(&self.rows, first), last)
     }
 
     /// Makes room for at least `more` rows beside those that are there.
@@ -129,6 +137,28 @@ impl<T: Ranked + Copy> Table<T> {
         Ok(Table {
             rows: Vec::from_slice(*self.rows.allocator(), &self.rows)?,
         })
+    }
+}
+
+// The rows from the key's rank on.
+fn rows_from<'a, T: Ranked, K: Key<T>>(rows: &'a [T], key: &K) -> &'a [T]
+    requires { IsRising T.rank rows.now }
+    ensures { result.now ≡ filter (λ r. nat_le (K.sought key.now) (T.rank r)) rows.now }
+{
+    match place_of(rows, key) {
+        Ok(at) => &rows[at..],
+        Err(at) => &rows[at..],
+    }
+}
+
+// The rows up to the key's rank.
+fn rows_to<'a, T: Ranked, K: Key<T>>(rows: &'a [T], key: &K) -> &'a [T]
+    requires { IsRising T.rank rows.now }
+    ensures { result.now ≡ filter (λ r. nat_le (T.rank r) (K.sought key.now)) rows.now }
+{
+    match place_of(rows, key) {
+        Ok(at) => &rows[..at + 1],
+        Err(at) => &rows[..at],
     }
 }
 

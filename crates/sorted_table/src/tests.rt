@@ -53,6 +53,11 @@ fn rows_stand_in_order_and_are_found(rt: HostRuntime) -> Result<(), Fail> {
     assert_eq!(rt; table.remove(&Number(4)), Some(row(4, 2)));
     assert_eq!(rt; table.as_slice(), [row(7, 4), row(9, 3)].as_slice());
     assert_eq!(rt; table.find(&Number(4)), None);
+    assert_eq!(rt;
+        copy.rows_between(&Number(4), &Number(8)),
+        [row(4, 2), row(7, 4)].as_slice()
+    );
+    assert_eq!(rt; copy.rows_between(&Number(8), &Number(4)).len(), 0);
     assert_eq!(rt; copy.find(&Number(4)), Some(&row(4, 2)));
     assert_eq!(rt; copy.as_slice().len(), 3);
     Ok(())

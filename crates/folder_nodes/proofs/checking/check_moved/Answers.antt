@@ -5,11 +5,6 @@ use Rattle.folder_nodes.specs.Titles.{tree_store}
 use Rattle.folder_nodes.proofs.Checked.{found_stands, named_folder_stands}
 use Rattle.folder_nodes.proofs.checking.check_moved.Goals as goal
 
-pub has_name_of-requires : goal.has_name_of-requires
-has_name_of-requires c =
-    let found : node_at (tree_store c.args.shape.now.tree c.args.names.now) c.args.path.now ≡ Some c.in-Some.node = cc in
-    found_stands c.args.shape.now.tree c.args.names.now c.args.path.now c.in-Some.node found
-
 pub is_too_high-requires-clause-node : goal.is_too_high-requires-clause-node
 is_too_high-requires-clause-node c =
     let found : node_at (tree_store c.args.shape.now.tree c.args.names.now) c.args.path.now ≡ Some c.in-Some.node = cc in

@@ -1,0 +1,140 @@
+-- The index of names follows the rows.
+use Rattle.std.proofs.Common.{◌≡◌, ◌≢◌, ℕ, ◌<◌, ◌≤◌, Bool, true, ◌&&◌, List, [], map, filter, Option, Some, None, refl, sym, ap, ◌∙◌, subst, inl, inr, ⊎_elim, arith, nat_le}
+use Rattle.std.specs.Option.{option_map}
+use Rattle.std.specs.Ordering.{nat_cmp}
+use Rattle.std.specs.declared.cmp.Ordering.{Ordering}
+use Rattle.std.specs.declared.cmp.Ordering.TheVariants.{Equal}
+use Rattle.std.proofs.lemmas.Bool.Decides.{nat_tests}
+use Rattle.std.specs.List.{All}
+use Rattle.std.proofs.lemmas.Bool.{and_parts, and_from, le-leb, leb-true}
+use Rattle.cry_base.specs.Sets.{In}
+use Rattle.cry_base.proofs.Members.{In-map, In-filter, filter-In}
+use Rattle.sorted_table.specs.Rows.{IsRising, row_at, with_row, without}
+use Rattle.sorted_table.proofs.Found.{row_at-Some, row_at-None, row_at-absent, In-with_row, In-without}
+use Rattle.folder_nodes.specs.Digests.{name_digest}
+use Rattle.folder_nodes.specs.Indexing.{IsIndexed, spot_of}
+use Rattle.folder_nodes.specs.Ranking.{spot_rank}
+use Rattle.folder_nodes.specs.Titles.{Title, MayBeNamed, title_at}
+use Rattle.folder_nodes.specs.Titling.{title_of_row}
+use Rattle.folder_nodes.specs.declared.titles.NameRow.{NameRow}
+use Rattle.folder_nodes.specs.declared.spots.NameSpot.{NameSpot}
+use Rattle.folder_nodes.proofs.Ascending.{in-All, same_ranked}
+use Rattle.folder_nodes.proofs.Titled.{rank, title_row}
+
+abbrev pub by_spot : NameSpot → ℕ
+by_spot q = spot_rank q.digest q.id
+
+-- places under one digest or two
+pub same_place : (d e i j : ℕ) → i < 4294967296 → j < 4294967296 → spot_rank d i ≡ spot_rank e j → (d ≡ e) × (i ≡ j)
+same_place d e i j a b same = (omega (arith, a, b, same), omega (arith, a, b, same))
+
+-- under two digests the numbers don't matter
+pub compared_apart : (d e i j : ℕ) (o : Ordering) → i < 4294967296 → j < 4294967296 → o ≡ nat_cmp d e → o ≢ Equal → o ≡ nat_cmp (spot_rank d i) (spot_rank e j)
+compared_apart d e i j o a b is apart = grind (arith, nat_tests)
+
+-- no rows, no index
+pub nothing_indexed : IsIndexed [] []
+nothing_indexed = record { named = λ r i. absurd i; small = λ r i. absurd i; listed = λ r i. absurd i; only = λ q i. absurd i }
+
+no_row : (rows : List NameRow) (k : ℕ) (o : Option NameRow) → row_at rank rows k ≡ o → option_map title_of_row o ≡ None → o ≡ None
+no_row rows k None e n = refl
+no_row rows k (Some r) e n = absurd (cc)
+
+-- where no title has the number, no row has
+pub row_absent : (rows : List NameRow) (k : ℕ) → title_at (map title_of_row rows) k ≡ None → row_at rank rows k ≡ None
+row_absent rows k none = no_row rows k (row_at rank rows k) refl (sym (title_row rows k) ∙ none)
+
+-- and no place in the index
+pub spot_absent : (rows : List NameRow) (spots : List NameSpot) (row : NameRow) → IsIndexed rows spots → row.id < 4294967296 → title_at (map title_of_row rows) row.id ≡ None → row_at by_spot spots (by_spot (spot_of row)) ≡ None
+spot_absent rows spots row index small none =
+    row_at-absent NameSpot by_spot spots (by_spot (spot_of row)) (λ q i same.
+    let w = index.only q i in
+    let e : by_spot (spot_of w.0) ≡ by_spot (spot_of row) = ap by_spot (sym w.2) ∙ same in
+    let both = same_place (name_digest w.0.name.items) (name_digest row.name.items) w.0.id row.id (index.small w.0 w.1) small e in
+    row_at-None NameRow rank rows row.id (row_absent rows row.id none) w.0 w.1 both.1)
+
+-- a new row and its place
+pub index_with : (rows : List NameRow) (spots : List NameSpot) (row : NameRow) → IsIndexed rows spots → row.id < 4294967296 → title_at (map title_of_row rows) row.id ≡ None → MayBeNamed row.name.items → IsIndexed (with_row rank rows row) (with_row by_spot spots (spot_of row))
+index_with rows spots row index small none name =
+    let in_rows = λ (r : NameRow). In-with_row NameRow rank rows row r (row_absent rows row.id none) in
+    let in_spots = λ (q : NameSpot). In-with_row NameSpot by_spot spots (spot_of row) q (spot_absent rows spots row index small none) in
+    record {
+      named = λ r i. ⊎_elim (λ (e : r ≡ row). subst (λ (z : NameRow). MayBeNamed z.name.items) (sym e) name) (λ old. index.named r old) ((in_rows r).0 i);
+      small = λ r i. ⊎_elim (λ (e : r ≡ row). subst (λ (z : NameRow). z.id < 4294967296) (sym e) small) (λ old. index.small r old) ((in_rows r).0 i);
+      listed = λ r i. ⊎_elim (λ (e : r ≡ row). (in_spots (spot_of r)).1 (inl (ap spot_of e))) (λ old. (in_spots (spot_of r)).1 (inr (index.listed r old))) ((in_rows r).0 i);
+      only = λ q i. ⊎_elim (λ (e : q ≡ spot_of row). (row, (in_rows row).1 (inl refl), e)) (λ old. let w = index.only q old in (w.0, (in_rows w.0).1 (inr w.1), w.2)) ((in_spots q).0 i);
+    }
+
+-- a row less, and its place
+pub index_without : (rows : List NameRow) (spots : List NameSpot) (id : ℕ) (row : NameRow) → IsIndexed rows spots → IsRising rank rows → row_at rank rows id ≡ Some row → IsIndexed (without rank rows id) (without by_spot spots (by_spot (spot_of row)))
+index_without rows spots id row index rising found =
+    let there = row_at-Some NameRow rank rows id row found in
+    let in_rows = λ (r : NameRow). In-without NameRow rank rows id r in
+    let in_spots = λ (q : NameSpot). In-without NameSpot by_spot spots (by_spot (spot_of row)) q in
+    record {
+      named = λ r i. index.named r ((in_rows r).0 i).0;
+      small = λ r i. index.small r ((in_rows r).0 i).0;
+      listed = λ r i.
+          let old = (in_rows r).0 i in
+          (in_spots (spot_of r)).1 (
+            index.listed r old.0,
+            λ same.
+                let both = same_place (name_digest r.name.items) (name_digest row.name.items) r.id row.id (index.small r old.0) (index.small row there.0) same in
+                old.1 (both.1 ∙ there.1),
+          );
+      only = λ q i.
+          let old = (in_spots q).0 i in
+          let w = index.only q old.0 in (
+            w.0,
+            (in_rows w.0).1 (
+              w.1,
+              λ same.
+                  let one : w.0 ≡ row = same_ranked NameRow rank rows rising w.0 row w.1 there.0 (same ∙ sym there.1) in
+                  old.1 (ap by_spot (w.2 ∙ ap spot_of one)),
+            ),
+            w.2,
+          );
+    }
+
+-- the places under one digest
+abbrev pub is_under : ℕ → NameSpot → Bool
+is_under digest q = nat_le (spot_rank digest 0) (by_spot q) && nat_le (by_spot q) (spot_rank digest 4294967295)
+
+under_told : (rows : List NameRow) (spots : List NameSpot) → IsIndexed rows spots → (digest : ℕ) (q : NameSpot) → In q (filter (is_under digest) spots) → (q.digest ≡ digest) × (q.id < 4294967296)
+under_told rows spots index digest q i =
+    let told = In-filter NameSpot (is_under digest) q spots i in
+    let both = and_parts (nat_le (spot_rank digest 0) (by_spot q)) (nat_le (by_spot q) (spot_rank digest 4294967295)) told.1 in
+    let low : spot_rank digest 0 ≤ by_spot q = leb-true _ _ both.0 in
+    let high : by_spot q ≤ spot_rank digest 4294967295 = leb-true _ _ both.1 in
+    let w = index.only q told.0 in
+    let small : w.0.id < 4294967296 = index.small w.0 w.1 in
+    let id : q.id ≡ w.0.id = ap (λ (z : NameSpot). z.id) w.2 in
+    (omega (arith, low, high, small, id), omega (arith, small, id))
+
+-- their numbers ascend
+pub under_rising : (rows : List NameRow) (spots found : List NameSpot) → IsIndexed rows spots → (digest : ℕ) → found ≡ filter (is_under digest) spots → IsRising by_spot found → IsRising (λ q. q.id) found
+under_rising rows spots found index digest e rising =
+    let all : All (λ (q : NameSpot). (q.digest ≡ digest) × (q.id < 4294967296)) found = in-All NameSpot (λ q. (q.digest ≡ digest) × (q.id < 4294967296)) found (λ q i. under_told rows spots index digest q (subst (λ l. In q l) e i)) in
+    λ i j d lt within.
+    let a = all i d (omega arith) in
+    let b = all j d within in
+    let up = rising i j d lt within in
+    omega (arith, a.0, b.0, up)
+
+-- and all with the name are among them
+pub under_all : (rows : List NameRow) (spots found : List NameSpot) (name : List ℕ) → IsIndexed rows spots → found ≡ filter (is_under (name_digest name)) spots → (t : Title) → In t (map title_of_row rows) → t.name ≡ name → In t.id (map (λ (q : NameSpot). q.id) found)
+under_all rows spots found name index e t i same =
+    let w = (In-map NameRow Title title_of_row t rows).0 i in
+    let here : w.0.name.items ≡ name = ap (λ (z : Title). z.name) (sym w.2) ∙ same in
+    let digest : name_digest w.0.name.items ≡ name_digest name = ap name_digest here in
+    let small : w.0.id < 4294967296 = index.small w.0 w.1 in
+    let passes : is_under (name_digest name) (spot_of w.0) ≡ true =
+    and_from (nat_le (spot_rank (name_digest name) 0) (by_spot (spot_of w.0))) (nat_le (by_spot (spot_of w.0)) (spot_rank (name_digest name) 4294967295))
+    (le-leb _ _ (omega (arith, digest))) (le-leb _ _ (omega (arith, digest, small))) in
+    (In-map NameSpot ℕ (λ q. q.id) t.id found).1 (spot_of w.0, subst (λ l. In (spot_of w.0) l) (sym e) (filter-In NameSpot (is_under (name_digest name)) (spot_of w.0) spots (index.listed w.0 w.1) passes), ap (λ (z : Title). z.id) w.2)
+
+-- what is titled has a name, or the root's
+pub titles_named : (rows : List NameRow) (spots : List NameSpot) → IsIndexed rows spots → (t : Title) → In t (map title_of_row rows) → MayBeNamed t.name
+titles_named rows spots index t i =
+    let w = (In-map NameRow Title title_of_row t rows).0 i in
+    subst (λ (z : Title). MayBeNamed z.name) (sym w.2) (index.named w.0 w.1)
