@@ -1,2 +1,7 @@
+pub mod Ends
 pub mod InPlace
+pub mod Looked
+pub mod Ranks
+pub mod Ringing
 pub mod SealedLemmas
+pub mod Wrapped

@@ -1,3 +1,6 @@
+pub mod Drawn
+pub mod Ended
 pub mod Fresh
 pub mod Opened
+pub mod Ringed
 pub mod Sealed

@@ -1,0 +1,118 @@
+-- What a look-up finds among rows when one comes or goes.
+use Rattle.std.proofs.Common.{◌≡◌, ℕ, ◌<◌, ◌≤◌, Bool, true, false, cond, not, ◌==◌, List, [], ◌∷◌, ◌++◌, filter, find, Some, None, refl, sym, ap, ◌∙◌, arith, ⊎_elim}
+use Rattle.std.specs.Prelude.{nat_lt}
+use Rattle.std.proofs.lemmas.Bool.{eqb-true, eq-eqb, ne_eqb, lt-ltb, cases_lt, ltb-true, false≢true}
+use Rattle.sorted_table.specs.Rows.{row_at, with_row, without}
+
+-- what is found in front stays found, and else the look-up goes on behind
+find-append : (X : Type 0) (p : X → Bool) (xs ys : List X) → find p xs ≡ None → find p (xs ++ ys) ≡ find p ys
+find-append X p [] ys e = refl
+find-append X p (x ∷ xs) ys e =
+    (elim (p x) as (λ b. cond b (Some x) (find p xs) ≡ None → cond b (Some x) (find p (xs ++ ys)) ≡ find p ys) [
+      | true ↦ λ q. absurd (cc)
+      | false ↦ λ q. find-append X p xs ys q
+    ]) e
+
+find-front : (X : Type 0) (p : X → Bool) (xs ys : List X) (y : X) → find p xs ≡ Some y → find p (xs ++ ys) ≡ Some y
+find-front X p [] ys y e = absurd (cc)
+find-front X p (x ∷ xs) ys y e =
+    (elim (p x) as (λ b. cond b (Some x) (find p xs) ≡ Some y → cond b (Some x) (find p (xs ++ ys)) ≡ Some y) [
+      | true ↦ λ q. q
+      | false ↦ λ q. find-front X p xs ys y q
+    ]) e
+
+-- what isn't found stands neither in front nor behind
+pub find-neither : (X : Type 0) (p : X → Bool) (xs ys : List X) → find p (xs ++ ys) ≡ None → (find p xs ≡ None) × (find p ys ≡ None)
+find-neither X p [] ys e = (refl, e)
+find-neither X p (x ∷ xs) ys e =
+    (elim (p x) as (λ b. cond b (Some x) (find p (xs ++ ys)) ≡ None → (cond b (Some x) (find p xs) ≡ None) × (find p ys ≡ None)) [
+      | true ↦ λ q. absurd (cc)
+      | false ↦ λ q. find-neither X p xs ys q
+    ]) e
+
+-- a look-up among those that a weaker test kept
+find-kept : (T : Type 0) (p q : T → Bool) → ((x : T) → p x ≡ true → q x ≡ true) → (xs : List T) → find p (filter q xs) ≡ find p xs
+find-kept T p q keeps [] = refl
+find-kept T p q keeps (x ∷ xs) =
+    (elim (p x) as (λ b. p x ≡ b → find p (cond (q x) (x ∷ filter q xs) (filter q xs)) ≡ cond b (Some x) (find p xs)) [
+      | true ↦ λ t. ap (λ b. find p (cond b (x ∷ filter q xs) (filter q xs))) (keeps x t) ∙ ap (λ b. cond b (Some x) (find p (filter q xs))) t
+      | false ↦ λ t.
+          (elim (q x) as (λ b. find p (cond b (x ∷ filter q xs) (filter q xs)) ≡ find p xs) [
+            | true ↦ ap (λ b. cond b (Some x) (find p (filter q xs))) t ∙ find-kept T p q keeps xs
+            | false ↦ find-kept T p q keeps xs
+          ])
+    ]) refl
+
+-- and among those that a test against it kept
+find-none-kept : (T : Type 0) (p q : T → Bool) → ((x : T) → q x ≡ true → p x ≡ false) → (xs : List T) → find p (filter q xs) ≡ None
+find-none-kept T p q against [] = refl
+find-none-kept T p q against (x ∷ xs) =
+    (elim (q x) as (λ b. q x ≡ b → find p (cond b (x ∷ filter q xs) (filter q xs)) ≡ None) [
+      | true ↦ λ t. ap (λ b. cond b (Some x) (find p (filter q xs))) (against x t) ∙ find-none-kept T p q against xs
+      | false ↦ λ t. find-none-kept T p q against xs
+    ]) refl
+
+lt_of_le_ne : (a b : ℕ) → a ≤ b → a == b ≡ false → a < b
+lt_of_le_ne a b h e = ⊎_elim (λ (lt : a < b). lt) (λ (ge : b ≤ a). let same : a ≡ b = omega (arith, h, ge) in absurd (false≢true (sym e ∙ eq-eqb a b same))) (cases_lt a b)
+
+-- a new row is found, and the others as before
+pub found_with : (T : Type 0) (rank : T → ℕ) (rows : List T) (row : T) (k : ℕ) → row_at rank (with_row rank rows row) k ≡ cond (rank row == k) (Some row) (row_at rank rows k)
+found_with T rank rows row k =
+    let lower : T → Bool = λ r. nat_lt (rank r) (rank row) in
+    let higher : T → Bool = λ r. nat_lt (rank row) (rank r) in
+    let p : T → Bool = λ r. rank r == k in
+    (elim (rank row == k) as (λ b. rank row == k ≡ b → find p (filter lower rows ++ row ∷ filter higher rows) ≡ cond b (Some row) (find p rows)) [
+      | true ↦ λ t.
+          let same : rank row ≡ k = eqb-true (rank row) k t in
+          find-append T p (filter lower rows) (row ∷ filter higher rows) (find-none-kept T p lower (λ x l. let lt : rank x < rank row = ltb-true (rank x) (rank row) l in ne_eqb (rank x) k (λ e. omega (arith, lt, e, same))) rows)
+          ∙ ap (λ b. cond b (Some row) (find p (filter higher rows))) t
+      | false ↦ λ t. ⊎_elim
+          (λ (below : k < rank row).
+          let there : find p (filter lower rows) ≡ find p rows = find-kept T p lower (λ x e. let same : rank x ≡ k = eqb-true (rank x) k e in lt-ltb (rank x) (rank row) (omega (arith, same, below))) rows in
+          let behind : find p (row ∷ filter higher rows) ≡ None = ap (λ b. cond b (Some row) (find p (filter higher rows))) t ∙ find-none-kept T p higher (λ x h. let gt : rank row < rank x = ltb-true (rank row) (rank x) h in ne_eqb (rank x) k (λ e. omega (arith, gt, e, below))) rows in
+          (elim (find p (filter lower rows)) as (λ o. find p (filter lower rows) ≡ o → find p (filter lower rows ++ row ∷ filter higher rows) ≡ o) [
+            | None ↦ λ e. find-append T p (filter lower rows) (row ∷ filter higher rows) e ∙ behind
+            | Some y ↦ λ e. find-front T p (filter lower rows) (row ∷ filter higher rows) y e
+          ]) refl ∙ there)
+          (λ (above : rank row ≤ k).
+          let gt : rank row < k = lt_of_le_ne (rank row) k above t in
+          find-append T p (filter lower rows) (row ∷ filter higher rows) (find-none-kept T p lower (λ x l. let lt : rank x < rank row = ltb-true (rank x) (rank row) l in ne_eqb (rank x) k (λ e. omega (arith, lt, e, gt))) rows)
+          ∙ ap (λ b. cond b (Some row) (find p (filter higher rows))) t
+          ∙ find-kept T p higher (λ x e. let same : rank x ≡ k = eqb-true (rank x) k e in lt-ltb (rank row) (rank x) (omega (arith, same, gt))) rows)
+          (cases_lt k (rank row))
+    ]) refl
+
+-- the row with the rank is gone, and the others are found as before
+pub found_without : (T : Type 0) (rank : T → ℕ) (rows : List T) (gone k : ℕ) → row_at rank (without rank rows gone) k ≡ cond (gone == k) None (row_at rank rows k)
+found_without T rank rows gone k =
+    let p : T → Bool = λ r. rank r == k in
+    let q : T → Bool = λ r. not (rank r == gone) in
+    (elim (gone == k) as (λ b. gone == k ≡ b → find p (filter q rows) ≡ cond b None (find p rows)) [
+      | true ↦ λ t. find-none-kept T p q (λ x h. ne_eqb (rank x) k (λ e. false≢true (sym (ap not (eq-eqb (rank x) gone (e ∙ sym (eqb-true gone k t)))) ∙ h))) rows
+      | false ↦ λ t. find-kept T p q (λ x e. ap not (ne_eqb (rank x) gone (λ same. false≢true (sym t ∙ eq-eqb gone k (sym same ∙ eqb-true (rank x) k e))))) rows
+    ]) refl
+
+-- a new row behind others of other ranks
+pub found_beside : (T : Type 0) (rank : T → ℕ) (front rows : List T) (row : T) (k : ℕ) → row_at rank front (rank row) ≡ None →
+    row_at rank (front ++ with_row rank rows row) k ≡ cond (rank row == k) (Some row) (row_at rank (front ++ rows) k)
+found_beside T rank front rows row k none =
+    let p : T → Bool = λ r. rank r == k in
+    (elim (find p front) as (λ o. find p front ≡ o → find p (front ++ with_row rank rows row) ≡ cond (rank row == k) (Some row) (find p (front ++ rows))) [
+      | None ↦ λ e. find-append T p front (with_row rank rows row) e
+          ∙ found_with T rank rows row k
+          ∙ ap (λ o. cond (rank row == k) (Some row) o) (sym (find-append T p front rows e))
+      | Some y ↦ λ e.
+          (elim (rank row == k) as (λ b. rank row == k ≡ b → find p (front ++ with_row rank rows row) ≡ cond b (Some row) (find p (front ++ rows))) [
+            | true ↦ λ t. let same : find p front ≡ None = ap (λ n. row_at rank front n) (sym (eqb-true (rank row) k t)) ∙ none in absurd (cc)
+            | false ↦ λ t. find-front T p front (with_row rank rows row) y e ∙ sym (find-front T p front rows y e)
+          ]) refl
+    ]) refl
+
+-- rows without a rank, in two parts
+pub without-append : (T : Type 0) (rank : T → ℕ) (front rows : List T) (k : ℕ) → without rank (front ++ rows) k ≡ without rank front k ++ without rank rows k
+without-append T rank [] rows k = refl
+without-append T rank (x ∷ front) rows k =
+    (elim (not (rank x == k)) as (λ b. cond b (x ∷ without rank (front ++ rows) k) (without rank (front ++ rows) k) ≡ cond b (x ∷ without rank front k) (without rank front k) ++ without rank rows k) [
+      | true ↦ ap (λ xs. x ∷ xs) (without-append T rank front rows k)
+      | false ↦ without-append T rank front rows k
+    ])

@@ -1,0 +1,132 @@
+//! Keys of any kind, as a ring keeps them.
+ghost use Rattle.std.specs.Prelude.{◌≡◌, ◌==◌};
+ghost use Rattle.key_links.specs.Drawn.{fresh_parts, fresh_role};
+ghost use Rattle.key_links.specs.Ringed as spec;
+ghost use Rattle.key_links.specs.Ringed.{key_rank, parts_of, role_of};
+
+use crate::AnyFresh;
+use chacha_seal::{BackK, ClearK, DataK, FileK, FilesK, HolderK, Key, OwnerK, SubK};
+use cry_base::{Role, Serial};
+use sorted_table::Ranked;
+use std::cmp::Ordering;
+
+/// A key and its kind.
+#[derive(Drop)]
+pub(crate) enum AnyKey {
+    Owner(Key<OwnerK>),
+    Holder(Key<HolderK>),
+    Clear(Key<ClearK>),
+    Sub(Key<SubK>),
+    Back(Key<BackK>),
+    Files(Key<FilesK>),
+    Data(Key<DataK>),
+    File(Key<FileK>),
+}
+
+impl AnyKey {
+    /// The key of its role from now on.
+    #[tactic(auto, unfolding(crate::specs::Ringed::role_of, crate::specs::Ringed::parts_of, crate::specs::Drawn::fresh_role, crate::specs::Drawn::fresh_parts))]
+    pub(crate) fn settled(fresh: AnyFresh) -> AnyKey
+        ensures role { role_of result ≡ fresh_role fresh }
+        ensures parts { parts_of result ≡ fresh_parts fresh }
+    {
+        match fresh {
+            AnyFresh::Holder(key) => AnyKey::Holder(key.settle()),
+            AnyFresh::Clear(key) => AnyKey::Clear(key.settle()),
+            AnyFresh::Sub(key) => AnyKey::Sub(key.settle()),
+            AnyFresh::Back(key) => AnyKey::Back(key.settle()),
+            AnyFresh::Files(key) => AnyKey::Files(key.settle()),
+            AnyFresh::Data(key) => AnyKey::Data(key.settle()),
+            AnyFresh::File(key) => AnyKey::File(key.settle()),
+        }
+    }
+
+    /// The serial that the key was made with.
+    #[tactic(auto, unfolding(crate::specs::Ringed::parts_of))]
+    pub(crate) fn serial(&self) -> Serial
+        ensures { result.0 ≡ (parts_of self.now).serial }
+    {
+        match self {
+            AnyKey::Owner(key) => key.serial(),
+            AnyKey::Holder(key) => key.serial(),
+            AnyKey::Clear(key) => key.serial(),
+            AnyKey::Sub(key) => key.serial(),
+            AnyKey::Back(key) => key.serial(),
+            AnyKey::Files(key) => key.serial(),
+            AnyKey::Data(key) => key.serial(),
+            AnyKey::File(key) => key.serial(),
+        }
+    }
+
+    /// What puts the key in its place among others.
+    #[tactic(auto, unfolding(crate::specs::Ringed::key_rank, crate::specs::Ringed::role_of, crate::specs::Ringed::rank_of))]
+    pub(crate) fn rank(&self) -> u64
+        ensures { result ≡ key_rank self.now }
+    {
+        match self {
+            AnyKey::Owner(_) => 0,
+            AnyKey::Holder(key) => u64::from(key.id()) * 8 + 1,
+            AnyKey::Clear(key) => u64::from(key.id()) * 8 + 2,
+            AnyKey::Sub(key) => u64::from(key.id()) * 8 + 3,
+            AnyKey::Back(key) => u64::from(key.id()) * 8 + 4,
+            AnyKey::Files(key) => u64::from(key.id()) * 8 + 5,
+            AnyKey::Data(key) => u64::from(key.id()) * 8 + 6,
+            AnyKey::File(key) => u64::from(key.id()) * 8 + 7,
+        }
+    }
+}
+
+impl AnyKey {
+    /// Its place, by which it is looked up.
+    pub(crate) fn place(&self) -> Place
+        ensures { result.0 ≡ key_rank self.now }
+    {
+        Place(self.rank())
+    }
+}
+
+impl Ranked for AnyKey {
+    ghost rank = { key_rank };
+
+    fn compare(&self, other: &Self) -> Ordering {
+        self.rank().cmp(&other.rank())
+    }
+}
+
+/// A role's place, by which its key is looked up.
+#[derive(Drop)]
+pub(crate) struct Place(u64);
+
+impl Place {
+    /// The place of the role's key.
+    #[tactic(auto, unfolding(crate::specs::Ringed::rank_of))]
+    pub(crate) fn of(role: Role) -> Place
+        ensures { result.0 ≡ spec.rank_of role }
+    {
+        Place(match role {
+            Role::Owner => 0,
+            Role::Holder(h) => u64::from(h.0) * 8 + 1,
+            Role::Clear(f) => u64::from(f.0) * 8 + 2,
+            Role::Sub(f) => u64::from(f.0) * 8 + 3,
+            Role::Back(f) => u64::from(f.0) * 8 + 4,
+            Role::Files(f) => u64::from(f.0) * 8 + 5,
+            Role::Data(f) => u64::from(f.0) * 8 + 6,
+            Role::File(x) => u64::from(x.0) * 8 + 7,
+        })
+    }
+
+    /// Whether the key has this place.
+    pub(crate) fn is_of(&self, key: &AnyKey) -> bool
+        ensures { result ≡ (key_rank key.now == self.now.0) }
+    {
+        key.rank() == self.0
+    }
+}
+
+impl sorted_table::Key<AnyKey> for Place {
+    ghost sought = { λ place. place.0 };
+
+    fn compare_row(&self, row: &AnyKey) -> Ordering {
+        row.rank().cmp(&self.0)
+    }
+}

@@ -1,0 +1,57 @@
+//! The roles whose keys a record is of.
+ghost use Rattle.std.specs.Prelude.{◌≡◌, ◌==◌, find, option_copied};
+ghost use Rattle.key_links.specs.Ended as spec;
+
+use cry_base::{FileId, FolderId, HolderId, Role};
+use kind_table::{NINE, RoleKind, Row};
+use record_format::LinkRecord;
+
+#[tactic(auto, unfolding(crate::specs::Ended::role_with))]
+fn role_with(kind: RoleKind, id: u32) -> Role
+    ensures { result ≡ spec.role_with kind id }
+{
+    match kind {
+        RoleKind::Owner => Role::Owner,
+        RoleKind::Holder => Role::Holder(HolderId(id)),
+        RoleKind::Clear => Role::Clear(FolderId(id)),
+        RoleKind::Sub => Role::Sub(FolderId(id)),
+        RoleKind::Back => Role::Back(FolderId(id)),
+        RoleKind::Files => Role::Files(FolderId(id)),
+        RoleKind::Data => Role::Data(FolderId(id)),
+        RoleKind::File => Role::File(FileId(id)),
+    }
+}
+
+fn row_numbered(rows: &[Row], number: u8) -> Option<&Row>
+    ensures { option_copied result ≡ find (λ row. row.number == number) rows.now }
+{
+    rows.iter().find(|row| row.number == number)
+}
+
+#[tactic(auto, unfolding(crate::specs::Ended::kind_from, crate::specs::Ended::row_numbered))]
+fn kind_from(number: u8) -> RoleKind
+    ensures { result ≡ spec.kind_from number }
+{
+    match row_numbered(&NINE.rows, number) {
+        Some(row) => row.from,
+        None => RoleKind::Owner,
+    }
+}
+
+/// The role that the link leads from.
+pub(crate) fn source_role(record: &LinkRecord) -> Role
+    ensures { result ≡ spec.source_role record.now }
+{
+    role_with(kind_from(record.kind), record.from_id)
+}
+
+/// The role whose key seals the contents of this kind.
+pub(crate) fn sealing_role(kind: u8, object: u32) -> Role
+    ensures { result ≡ spec.sealing_role kind object }
+{
+    match kind {
+        1 => Role::Data(FolderId(object)),
+        2 => Role::File(FileId(object)),
+        _ => Role::Owner,
+    }
+}
