@@ -1,8 +1,7 @@
 -- A command's line is read as what it asks for, and no other line as a command's.
 use Rattle.std.proofs.Common.{◌≡◌, ℕ, ◌+◌, Bool, true, false, cond, List, [], ◌∷◌, ◌++◌, length, take, drop, Option, Some, None, Result, Ok, Err, refl, sym, ap, subst, ◌∙◌}
-use Rattle.std.specs.Prelude.{nat_eq, codes, position, option_map, option_and_then, ◌↔◌, IfOk, IsSome}
+use Rattle.std.specs.Prelude.{nat_eq, codes, position, option_map, ◌↔◌, IfOk, IsSome}
 use Rattle.std.specs.Cmp.Lexicographic.{pointwise}
-use Rattle.std.specs.Result.{result_ok}
 use Rattle.std.proofs.lemmas.List.{append-nil, take_at, drop_at, drop-drop}
 use Rattle.std.proofs.lemmas.Option.{option_and_then_some, same_Some}
 use Rattle.std.proofs.lemmas.Slice.Eq.{bytes_eq-Decides}

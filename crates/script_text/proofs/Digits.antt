@@ -1,5 +1,5 @@
 -- Which digits spell bytes.
-use Rattle.std.proofs.Common.{◌≡◌, ℕ, ◌%◌, Bool, true, false, List, length, Option, Some, None, Result, Ok, Err, refl, ap, sym, ◌∙◌}
+use Rattle.std.proofs.Common.{◌≡◌, ℕ, ◌%◌, Bool, true, false, List, length, None, Result, Ok, Err, refl}
 use Rattle.std.specs.Prelude.{◌↔◌, IsTrue, IsSome}
 use Rattle.std.specs.List.{AllPass}
 use Rattle.std.specs.Result.{result_ok}

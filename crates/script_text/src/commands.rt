@@ -1,9 +1,9 @@
 //! Command lines that are read.
-ghost use Rattle.std.specs.Prelude.{◌≡◌, ◌∷◌, ◌%◌, [], ℕ, List, None, Some, length, IfOk, IfErr, IfSome, IsSome, OnErr, MatchOption, IsTrue, ◌↔◌};
+ghost use Rattle.std.specs.Prelude.{◌≡◌, ◌%◌, ◌↔◌, ℕ, List, None, Some, length, IfOk, IfErr, IsSome, IsTrue};
 ghost use Rattle.std.specs.List.{AllPass, list_all};
 ghost use Rattle.hex.specs.Hex.{is_hex_digit};
 ghost use Rattle.cry_base.specs.Requests.{Request, request_of};
-ghost use Rattle.cry_base.specs.Requests.Request.{AddHolder, MakeFolder, WriteFile, Remove, Rename, Relocate, Grant, Revoke};
+ghost use Rattle.cry_base.specs.Requests.Request.{AddHolder, MakeFolder, Remove, Rename, Relocate, Grant, Revoke};
 ghost use Rattle.script_text.specs.Commands.{IsCommandLine, Reads, bytes_of, field_of, field_request, file_request, grant_request, is_field, is_field_byte, request_in, two_field_request, write_request};
 
 use crate::LineFault;
