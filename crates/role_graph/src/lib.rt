@@ -20,4 +20,6 @@ pub use roles::Roles;
 pub use store_roles::StoreRoles;
 
 #[cfg(test)]
+mod store_tests;
+#[cfg(test)]
 mod tests;

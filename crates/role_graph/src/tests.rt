@@ -1,7 +1,5 @@
 use super::*;
 use cry_base::{Edge, FileId, FolderId, HolderId, Role};
-use folder_nodes::Shape;
-use grant_book::Grants;
 use std::test::Fail;
 
 /// A role of its own for each number.
@@ -81,70 +79,5 @@ fn a_set_of_roles_is_changed(rt: HostRuntime) -> Result<(), Fail> {
     assert!(rt; set.has(role_at(1)) && !set.has(role_at(2)));
     let copy = set.copy()?.to_list()?;
     assert_eq!(rt; copy.as_slice(), [role_at(1), role_at(3)].as_slice());
-    Ok(())
-}
-
-/// Makes the root.
-fn make_root(shape: &mut Shape) -> Result<(), Fail> {
-    shape.reserve()?;
-    if shape.folders_made() == 0 {
-        shape.add_folder(None);
-    }
-    Ok(())
-}
-
-/// Makes the next folder, where its parent stands and isn't at the bottom.
-fn make_folder(shape: &mut Shape, parent: FolderId) -> Result<(), Fail> {
-    shape.reserve()?;
-    if shape.folders_made() > 1000 || !shape.has_folder(parent) {
-        return Ok(());
-    }
-    if shape.depth(parent) >= 64 {
-        return Ok(());
-    }
-    shape.add_folder(Some(parent));
-    Ok(())
-}
-
-/// Makes the next holder.
-fn make_holder(grants: &mut Grants) -> Result<(), Fail> {
-    grants.reserve()?;
-    if grants.holders() < 9 {
-        grants.add_holder([7; 32]);
-    }
-    Ok(())
-}
-
-/// Gives the grant, where it may be given.
-fn give(grants: &mut Grants, h: HolderId, f: FolderId) -> Result<(), Fail> {
-    grants.reserve()?;
-    if 1 <= h.0 && h.0 <= grants.holders() && !grants.has(h, f) {
-        grants.grant(h, f);
-    }
-    Ok(())
-}
-
-#[test]
-fn a_grant_allows_what_is_below_and_names_what_is_above(rt: HostRuntime) -> Result<(), Fail> {
-    let mut shape = Shape::new(rt.alloc());
-    make_root(&mut shape)?;
-    make_folder(&mut shape, FolderId(1))?;
-    make_folder(&mut shape, FolderId(2))?;
-    make_folder(&mut shape, FolderId(1))?;
-    let mut grants = Grants::new(rt.alloc());
-    make_holder(&mut grants)?;
-    give(&mut grants, HolderId(1), FolderId(2))?;
-    let expected = [
-        (1, false, true),
-        (2, true, true),
-        (3, true, true),
-        (4, false, false),
-    ];
-    for (f, is_allowed, is_named) in expected {
-        let f = FolderId(f);
-        assert_eq!(rt; allowed(&shape, &grants, HolderId(1), f), is_allowed);
-        assert_eq!(rt; named(&shape, &grants, HolderId(1), f), is_named);
-        assert!(rt; !named(&shape, &grants, HolderId(2), f));
-    }
     Ok(())
 }
