@@ -13,3 +13,6 @@ pub mod rows;
 pub use change::{Change, change_of};
 pub use fault::ChangeFault;
 pub use fitting::fits;
+
+#[cfg(test)]
+mod tests;
