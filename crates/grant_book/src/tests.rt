@@ -76,14 +76,17 @@ fn copied(grants: &Grants) -> Result<Grants, Fail> {
     Ok(grants.copy()?)
 }
 
+// One holder, with a grant on one of two folders.
 #[test]
 fn grants_are_refused_by_the_first_cause(rt: HostRuntime) -> Result<(), Fail> {
-    let grants = book(rt.alloc(), &[(1, A)])?;
+    let mut grants = Grants::new(rt.alloc());
+    make_holder(&mut grants, 1)?;
+    give(&mut grants, HolderId(1), A)?;
     assert_eq!(rt; refusal(&grants, true, 1, A), Some(Refusal::HasGrant));
     assert_eq!(rt; refusal(&grants, false, 1, B), Some(Refusal::NoGrant));
-    assert_eq!(rt; refusal(&grants, true, 4, A), Some(Refusal::NoHolder));
+    assert_eq!(rt; refusal(&grants, true, 2, A), Some(Refusal::NoHolder));
     assert_eq!(rt; refusal(&grants, false, 0, A), Some(Refusal::NoHolder));
-    assert_eq!(rt; refusal(&grants, true, 3, B), None);
+    assert_eq!(rt; refusal(&grants, true, 1, B), None);
     assert_eq!(rt; refusal(&grants, false, 1, A), None);
     Ok(())
 }
