@@ -38,11 +38,12 @@ use Rattle.move_plan.specs.Fitting.{row_fits, needs_root, fits, folder_stands}
 use Rattle.public_fold.specs.Journal.{Stand, nothing}
 use Rattle.public_fold.specs.KeyStep.{Stepped, no_keys, next_epoch}
 use Rattle.public_fold.specs.StandFits.{has_count}
-use Rattle.holder_client.specs.Folding.{has_link_head, has_content_head, has_length, are_due, has_heads, fits_step, payload_fits, told_step, told_stand, stand_behind, folded}
+use Rattle.holder_client.specs.Folding.{stand_behind, folded}
+use Rattle.public_fold.specs.Fitted.{has_link_head, has_content_head, has_length, are_due, has_heads, fits_step, payload_fits, told_step, told_stand}
 use Rattle.holder_client.specs.Judging.{Failure, OfBytes, NoHolder, then_on, of_bytes, read_through, check_in, body_check, published_check, holder_reads, bundle_log, may_read, read_with, view_with, shown_with}
 use Rattle.holder_client.specs.Root.{PlainRoot, leads, names, fits_root, is_root, records_of, if_fit, root_in, fold_log}
 use Rattle.record_format.specs.Told.{told_note}
-use Rattle.holder_client.specs.Told.{told_store}
+use Rattle.public_fold.specs.Told.{told_store}
 use Rattle.holder_client.specs.Verdict.{open_link, open_content, visit_root, visit, view_verdict}
 use Rattle.holder_client.specs.View.{Line, FolderLine, view}
 use Rattle.holder_client.specs.Visiting.{Reading, Opened, with_key, with_name_at, visit as visit_one, visit_all}

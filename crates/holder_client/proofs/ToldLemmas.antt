@@ -14,7 +14,7 @@ use Rattle.cry_base.specs.declared.roles.Node.TheVariants.{Folder, File}
 use Rattle.move_plan.specs.Fitting.{public_of}
 use Rattle.move_plan.specs.Noting.{write_note, remove_note, rename_note, move_note, note_of}
 use Rattle.public_fold.proofs.Accepting.{IsAccepted, accepted}
-use Rattle.holder_client.specs.Told.{told_store}
+use Rattle.public_fold.specs.Told.{told_store}
 
 -- ---- lists
 

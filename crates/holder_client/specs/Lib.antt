@@ -7,7 +7,6 @@ pub mod OwnPaths
 pub mod Placing
 pub mod Root
 pub mod Shown
-pub mod Told
 pub mod Verdict
 pub mod View
 pub mod Visiting

@@ -2,11 +2,12 @@
 use Rattle.public_fold.specs.WorkedSteps.{journals}
 use Rattle.commit_journal.specs.Answering.{and_then}
 use Rattle.holder_client.specs.Asking.{folder_lines, is_beside, lines_beside, line_at, or_else, file_with, line_with, with_root, open_with, failure_of}
-use Rattle.holder_client.specs.Folding.{has_link_head, has_length, has_content_head, are_due, told_step, has_heads, fits_step, payload_fits, told_stand, stand_behind, folded}
+use Rattle.holder_client.specs.Folding.{stand_behind, folded}
+use Rattle.public_fold.specs.Fitted.{has_link_head, has_length, has_content_head, are_due, told_step, has_heads, fits_step, payload_fits, told_stand}
 use Rattle.holder_client.specs.Judging.{then_on, of_bytes, read_through, check_in, body_check, published_check, holder_reads, may_read, read_with, who_of, first_key, opened_first, view_with}
 use Rattle.holder_client.specs.Placing.{links_at, contents_at, body_links, body_contents, log_links, log_contents, last_one, is_for_edge, link_for, content_for}
 use Rattle.record_format.specs.Told.{told_note}
-use Rattle.holder_client.specs.Told.{told_store}
+use Rattle.public_fold.specs.Told.{told_store}
 use Rattle.holder_client.specs.Visiting.{key_of, needed, with_key, visit_edge, visit_text, is_folder_text, is_file_text, with_name_at, with_parts, with_text_at, with_holder_key, visit, visit_all}
 use Rattle.holder_client.specs.Visits.{folders_that, is_entry, entry_edge, entry_visits, is_higher, lower_visits, allowed_visits, is_deeper, visit_from, upper_visit, upper_visits, name_visits, files_that, file_visits, visits_to_names, all_visits, holder_visits}
 use Rattle.holder_client.specs.WorkedViews.{views}

@@ -16,7 +16,7 @@ ghost use Rattle.role_graph.specs.Rights.Who.{TheOwner};
 ghost use Rattle.key_links.specs.Fresh.{piece, fresh_image};
 ghost use Rattle.holder_client.specs.Asking.{Asking, ToAudit, ToList, ToOpen, asked_log, verdict};
 ghost use Rattle.holder_client.specs.Judging.{Failure, OfBytes, NoHolder, of_bytes, shown_with};
-ghost use Rattle.holder_client.specs.Told.{told_store};
+ghost use Rattle.public_fold.specs.Told.{told_store};
 ghost use Rattle.holder_client.specs.Verdict.{view_verdict};
 ghost use Rattle.holder_client.specs.View.{view};
 
