@@ -19,3 +19,13 @@ pub mod SerialsKept
 pub mod Settling
 pub mod Shifting
 pub mod Treeing
+pub mod StepLists
+pub mod SameGrants
+pub mod SameOrder
+pub mod SeenSame
+pub mod StepMade
+pub mod MayChange
+pub mod SeenAfter
+pub mod DueLists
+pub mod StepTold
+pub mod DueMade

@@ -7,5 +7,13 @@ pub mod Costs
 pub mod Counted
 pub mod Keyed
 pub mod StandFits
+pub mod Told
+pub mod Fitted
+pub mod Changing
+pub mod Faults
+pub mod Heads
+pub mod Standing
+pub mod Stepping
+pub mod Script
 pub mod Tree
 pub mod WorkedSteps

@@ -2,7 +2,24 @@
 #![tactic(auto)]
 
 pub mod cost_laws;
+mod advance;
+mod changing;
+mod counter;
+mod fault;
+mod fitting;
+mod heads;
 pub mod key_laws;
 pub mod laws;
+mod lists;
+mod marks;
+mod numbering;
+mod publishing;
 pub mod rows;
+mod sealing;
+mod state;
+mod step;
 pub mod tree_laws;
+
+pub use fault::FoldFault;
+pub use heads::{ContentHead, KeyHead, LinkHead, Skeleton};
+pub use state::PublicState;

@@ -1,0 +1,32 @@
+-- What the code lists for a step is what the definitions say of it.
+use Rattle.std.proofs.Common.{◌≡◌, ◌||◌, List, ◌++◌, map, filter, ap, ◌∙◌}
+use Rattle.cry_base.specs.Sets.{has}
+use Rattle.cry_base.specs.declared.roles.Edge.{Edge}
+use Rattle.cry_base.specs.declared.roles.Role.{Role}
+use Rattle.role_graph.specs.Edges.{edge_before, in_order, same_edge}
+use Rattle.role_graph.specs.Roles.{same_role}
+use Rattle.rekey_walk.specs.Dirty.{mark_all, plan}
+use Rattle.move_plan.specs.Change.{Change}
+use Rattle.public_fold.specs.KeyStep.{KeyState, dirty_left, edges_left, edges_then, is_published, published_edges, renewed, without}
+use Rattle.public_fold.specs.Stepping.{IsDue}
+use Rattle.public_fold.specs.declared.step.Due.{Due}
+
+pub due_is : (k : KeyState) (before : List Edge) (c : Change) (marked : List Role) (left : List Edge) (again : List Role) (d : Due)
+    → marked ≡ without same_role c.gone (mark_all k.dirty before (map (λ (e : Edge). e.to) c.removed))
+    → left ≡ without same_edge c.removed before
+    → again ≡ plan marked left c.wanted
+    → d.keyed.items ≡ again ++ c.fresh
+    → d.gone.items ≡ again ++ c.gone
+    → d.edges.items ≡ filter (λ (e : Edge). has same_edge c.added e || has same_role d.keyed.items e.from || has same_role d.keyed.items e.to) (in_order edge_before (left ++ c.added))
+    → d.dirty ≡ without same_role again marked
+    → IsDue k before c d
+unfolding renewed dirty_left edges_left published_edges is_published edges_then
+due_is k before c marked left again d m l a keyed gone edges dirty =
+    let r : again ≡ renewed k before c = a ∙ (λ i. plan (m i) (l i) c.wanted) in
+    let all : d.keyed.items ≡ renewed k before c ++ c.fresh = keyed ∙ ap (λ (x : List Role). x ++ c.fresh) r in
+    record {
+      keyed = all;
+      gone = gone ∙ ap (λ (x : List Role). x ++ c.gone) r;
+      dirty = dirty ∙ (λ i. without same_role (r i) (m i));
+      edges = edges ∙ (λ i. filter (λ (e : Edge). has same_edge c.added e || has same_role (all i) e.from || has same_role (all i) e.to) (in_order edge_before (l i ++ c.added)));
+    }

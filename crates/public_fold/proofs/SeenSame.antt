@@ -1,0 +1,127 @@
+-- What fits a stand, and its key step, hang on what everyone may see of it, and not on the order of its grants.
+use Rattle.std.proofs.Common.{◌≡◌, ℕ, ◌+◌, Bool, true, false, cond, not, ◌==◌, ◌&&◌, ◌||◌, ◌↔◌, List, [], ◌∷◌, ◌++◌, map, flat_map, filter, length, IsTrue, refl, sym, ap, ◌∙◌, subst}
+use Rattle.std.specs.Prelude.{nat_lt, is_some}
+use Rattle.std.proofs.lemmas.Bool.Decides.{same_from_decides}
+use Rattle.cry_base.specs.Sets.{In, has}
+use Rattle.cry_base.specs.Refusing.{deepest, has_child, height_of, is_node_within}
+use Rattle.cry_base.specs.Stepping.{with_new_holder, with_new_folder, with_new_file, with_folder, with_file, without_folder, without_file, without_grant}
+use Rattle.cry_base.specs.Store.{Store, FolderEntry, FileEntry, GrantEntry, depth_of, file_entry, file_names, folder_entry, folder_names, folder_node, has_grant, holder_entry, is_within, node_names, nodes_of, way_to_root, root_store}
+use Rattle.cry_base.specs.declared.roles.Edge.{Edge}
+use Rattle.grant_book.specs.Granted.{grant_of}
+use Rattle.grant_book.proofs.Ordered.{any_grant_told}
+use Rattle.role_graph.specs.Edges.{edge_before, in_order, folder_edges, parent_edges, grant_edge, file_edge, edges}
+use Rattle.role_graph.specs.Roles.{same_role, folder_roles}
+use Rattle.record_format.specs.Noted.{Note}
+use Rattle.record_format.specs.Noted.Note.{Root, NewHolder, NewFolder, NewFile, Rewrite, NameFile, NameFolder, DropFile, DropFolder, ShiftFile, ShiftFolder, Give, Take}
+use Rattle.record_format.specs.Plain.{PlainPayload}
+use Rattle.record_format.specs.Told.{told_note}
+use Rattle.move_plan.specs.Change.{Change, no_change, change_of, edges_at, edge_into_file, folder_of_file, parent_of_folder}
+use Rattle.move_plan.specs.Fitting.{file_stands, fits, folder_stands, has_depth_left, is_other_folder, may_go_into, needs_root, row_fits}
+use Rattle.public_fold.specs.Fitted.{fits_step, has_heads, payload_fits, told_step}
+use Rattle.public_fold.specs.Journal.{Stand, note_step}
+use Rattle.public_fold.specs.KeyStep.{KeyState, Stepped, key_step}
+use Rattle.public_fold.specs.Records.{Piece, folder_piece, file_piece, holder_piece, pieces_of}
+use Rattle.public_fold.specs.StandFits.{has_count, note_fits}
+use Rattle.public_fold.specs.Standing.{AreSameGrants, IsSeenAs, PublicView, public_store_of, stand_of}
+use Rattle.public_fold.specs.Told.{told_store}
+use Rattle.public_fold.proofs.SameOrder.{same_order}
+
+-- the store with these grants in place of its own
+abbrev pub granting : Store → List GrantEntry → Store
+granting s gs = record s { grants = gs }
+
+module _ (s : Store) (gs hs : List GrantEntry) (are : AreSameGrants gs hs) where
+  grant_same : (h f : ℕ) → has_grant (granting s gs) h f ≡ has_grant (granting s hs) h f
+  unfolding has_grant
+  grant_same h f =
+      let one = any_grant_told h f gs in let two = any_grant_told h f hs in
+      same_from_decides {P = In (grant_of h f) gs} _ _ one (λ t. (are.same (grant_of h f)).1 (two.0 t), λ i. two.1 ((are.same (grant_of h f)).0 i))
+
+  pub edges_same : edges (granting s gs) ≡ edges (granting s hs)
+  unfolding edges
+  edges_same =
+      let own = flat_map (λ (e : FolderEntry). folder_edges e.id) s.folders in
+      let parents = flat_map (λ (e : FolderEntry). cond (e.parent == 0) [] (parent_edges e.id e.parent)) s.folders in
+      same_order (own ++ parents) (map (λ (e : FileEntry). file_edge e.folder e.id) s.files) gs hs are
+
+  row_same : (note : Note) → row_fits (granting s gs) note ≡ row_fits (granting s hs) note
+  unfolding row_fits folder_stands has_depth_left file_stands is_other_folder may_go_into folder_entry file_entry holder_entry has_child folder_of_file parent_of_folder is_within depth_of folder_node node_names folder_names file_names way_to_root height_of deepest is_node_within nodes_of
+  row_same Root = refl
+  row_same (NewHolder h check) = refl
+  row_same (NewFolder f p) = refl
+  row_same (NewFile x f) = refl
+  row_same (Rewrite x) = refl
+  row_same (NameFile x) = refl
+  row_same (NameFolder f) = refl
+  row_same (DropFile x) = refl
+  row_same (DropFolder f) = refl
+  row_same (ShiftFile x g) = refl
+  row_same (ShiftFolder g q) = refl
+  row_same (Give h f) = ap (λ b. is_some (holder_entry s h) && folder_stands s f && not b) (grant_same h f)
+  row_same (Take h f) = grant_same h f
+
+  pub fits_same : (note : Note) → fits (granting s gs) note ≡ fits (granting s hs) note
+  unfolding fits folder_stands folder_entry
+  fits_same note = ap (λ b. b && (not (needs_root note) || folder_stands s 1)) (row_same note)
+
+  change_same : (note : Note) → change_of (granting s gs) note ≡ change_of (granting s hs) note
+  unfolding change_of no_change edges_at edge_into_file folder_of_file parent_of_folder file_entry folder_entry
+  change_same Root = refl
+  change_same (NewHolder h check) = refl
+  change_same (NewFolder f p) = refl
+  change_same (NewFile x f) = refl
+  change_same (Rewrite x) = refl
+  change_same (NameFile x) = refl
+  change_same (NameFolder f) = refl
+  change_same (DropFile x) = refl
+  change_same (DropFolder f) = λ i. record {
+    removed = filter (λ (e : Edge). has same_role (folder_roles f) e.from || has same_role (folder_roles f) e.to) (edges_same i);
+    gone = folder_roles f;
+    wanted = [];
+    fresh = [];
+    added = [];
+  }
+  change_same (ShiftFile x g) = refl
+  change_same (ShiftFolder g q) = refl
+  change_same (Give h f) = refl
+  change_same (Take h f) = refl
+
+  pieces_same : (note : Note) → pieces_of note (told_store (granting s gs) note) ≡ pieces_of note (told_store (granting s hs) note)
+  unfolding pieces_of told_store folder_piece file_piece holder_piece folder_entry file_entry holder_entry with_new_holder with_new_folder with_new_file
+  pieces_same Root = refl
+  pieces_same (NewHolder h check) = refl
+  pieces_same (NewFolder f p) = refl
+  pieces_same (NewFile x f) = refl
+  pieces_same (Rewrite x) = refl
+  pieces_same (NameFile x) = refl
+  pieces_same (NameFolder f) = refl
+  pieces_same (DropFile x) = refl
+  pieces_same (DropFolder f) = refl
+  pieces_same (ShiftFile x g) = refl
+  pieces_same (ShiftFolder g q) = refl
+  pieces_same (Give h f) = refl
+  pieces_same (Take h f) = refl
+
+  pub step_same : (k : KeyState) (note : Note) → told_step (record { store = granting s gs; keys = k }) note ≡ told_step (record { store = granting s hs; keys = k }) note
+  unfolding told_step note_step
+  step_same k note = λ i. key_step k (edges_same i) (change_same note i) (pieces_same note i)
+
+-- the stand with the grants in the order of the state
+as_seen : (v : PublicView) (at : Stand) → IsSeenAs v at → at ≡ record { store = granting (public_store_of v) at.store.grants; keys = v.keys }
+as_seen v at seen = λ i. record { store = seen.store i; keys = seen.keys i }
+
+pub seen_step : (v : PublicView) (at : Stand) (note : Note) → IsSeenAs v at → told_step at note ≡ told_step (stand_of v) note
+seen_step v at note seen =
+    ap (λ (z : Stand). told_step z note) (as_seen v at seen) ∙ sym (step_same (public_store_of v) v.pairs at.store.grants seen.grants v.keys note)
+
+fits_seen : (v : PublicView) (at : Stand) (note : Note) → IsSeenAs v at → fits at.store note ≡ fits (public_store_of v) note
+fits_seen v at note seen =
+    ap (λ (z : Store). fits z note) seen.store ∙ sym (fits_same (public_store_of v) v.pairs at.store.grants seen.grants note)
+
+pub seen_fits : (v : PublicView) (at : Stand) (note : Note) → IsSeenAs v at → note_fits at note (told_step at note) ≡ note_fits (stand_of v) note (told_step (stand_of v) note)
+unfolding note_fits
+seen_fits v at note seen = λ i. nat_lt 0 (seen.keys i).epoch && (fits_seen v at note seen i && has_count (seen_step v at note seen i))
+
+pub seen_payload : (v : PublicView) (at : Stand) (p : PlainPayload) → IsSeenAs v at → payload_fits at p ≡ payload_fits (stand_of v) p
+unfolding payload_fits fits_step
+seen_payload v at p seen = λ i. seen_fits v at (told_note p.note) seen i && has_heads (seen_step v at (told_note p.note) seen i) p

@@ -1,0 +1,136 @@
+//! What a note changes in the tree, the holders and the grants.
+ghost use Rattle.std.specs.Prelude.{◌≡◌, ◌<◌, ◌≤◌, [], not, true, IfOk, OnOk, OnErr};
+ghost use Rattle.cry_base.specs.Store.{root_store};
+ghost use Rattle.move_plan.specs.Fitting.{fits as fits_store, needs_root};
+ghost use Rattle.move_plan.specs.Seen.{seen_store};
+ghost use Rattle.record_format.specs.Told.{told_note};
+ghost use Rattle.public_fold.specs.Changing.{CanChangeGrants, CanChangeTree, checks_then, pairs_then, tree_then};
+
+use cry_base::{Mem, Node};
+use folder_nodes::Shape;
+use grant_book::Grants;
+use record_format::Note;
+use std::alloc::Global;
+
+/// Makes the change of a note that fits. At `Err` nothing has changed.
+pub(crate) fn change_store(
+    alloc: Global,
+    shape: &mut Shape,
+    grants: &mut Grants,
+    note: &Note,
+) -> Mem<()>
+    requires { fits_store (seen_store shape.old.tree grants.old) (told_note note.now) ≡ true }
+    ensures tree { OnOk result (shape.new.tree ≡ tree_then shape.old.tree (told_note note.now)) }
+    ensures pairs { OnOk result (grants.new.pairs ≡ pairs_then grants.old.pairs (told_note note.now)) }
+    ensures checks { OnOk result (grants.new.checks ≡ checks_then grants.old.checks (told_note note.now)) }
+    ensures same_tree { OnErr result (shape.new.tree ≡ shape.old.tree) }
+    ensures same_pairs { OnErr result (grants.new.pairs ≡ grants.old.pairs) }
+    ensures same_checks { OnErr result (grants.new.checks ≡ grants.old.checks) }
+{
+    if is_root(note) {
+        return start_over(alloc, shape, grants);
+    }
+    shape.reserve()?;
+    grants.reserve()?;
+    change_shape(shape, note);
+    change_grants(grants, note);
+    Ok(())
+}
+
+/// Whether the note is the one that makes the root.
+#[tactic(auto, unfolding(move_plan::specs::Fitting::needs_root, record_format::specs::Told::told_note))]
+fn is_root(note: &Note) -> bool
+    ensures { result ≡ not (needs_root (told_note note.now)) }
+{
+    matches!(note, Note::Root)
+}
+
+/// Makes the root alone, with no holder and no grant. At `Err` nothing has changed.
+fn start_over(alloc: Global, shape: &mut Shape, grants: &mut Grants) -> Mem<()>
+    ensures tree { OnOk result (shape.new.tree ≡ root_store) }
+    ensures pairs { OnOk result (grants.new.pairs ≡ []) }
+    ensures checks { OnOk result (grants.new.checks ≡ []) }
+    ensures same_tree { OnErr result (shape.new.tree ≡ shape.old.tree) }
+    ensures same_pairs { OnErr result (grants.new.pairs ≡ grants.old.pairs) }
+    ensures same_checks { OnErr result (grants.new.checks ≡ grants.old.checks) }
+{
+    *shape = root_shape(alloc)?;
+    *grants = Grants::new(alloc);
+    Ok(())
+}
+
+/// The root alone.
+#[tactic(auto, unfolding(cry_base::specs::Store::no_store, cry_base::specs::Store::root_store, cry_base::specs::Stepping::with_new_folder))]
+fn root_shape(alloc: Global) -> Mem<Shape>
+    ensures { IfOk result (λ s. s.tree ≡ root_store) }
+{
+    let mut shape = Shape::new(alloc);
+    shape.reserve()?;
+    shape.add_folder(None);
+    Ok(shape)
+}
+
+/// Makes the note's change of the folders and files, where there is room. It takes no memory.
+#[tactic(auto, unfolding(crate::specs::Changing::tree_then, record_format::specs::Told::told_note, cry_base::specs::Stepping::without_node, cry_base::specs::Stepping::moved))]
+fn change_shape(shape: &mut Shape, note: &Note)
+    requires room { 1 ≤ shape.old.spare }
+    requires can { CanChangeTree shape.old.tree (told_note note.now) }
+    ensures { shape.new.tree ≡ tree_then shape.old.tree (told_note note.now) }
+{
+    match *note {
+        Note::NewFolder { folder, parent } => {
+            is_number(folder.0);
+            let _id = shape.add_folder(Some(parent));
+        }
+        Note::NewFile { file, folder } => {
+            is_number(file.0);
+            let _id = shape.add_file(folder);
+        }
+        Note::DropFile { file } => shape.remove(Node::File(file)),
+        Note::DropFolder { folder } => shape.remove(Node::Folder(folder)),
+        Note::ShiftFile { file, into } => shape.relocate(Node::File(file), into),
+        Note::ShiftFolder { folder, into } => shape.relocate(Node::Folder(folder), into),
+        Note::Root
+        | Note::NewHolder { .. }
+        | Note::Rewrite { .. }
+        | Note::NameFile { .. }
+        | Note::NameFolder { .. }
+        | Note::Give { .. }
+        | Note::Take { .. } => {}
+    }
+}
+
+/// Makes the note's change of the holders and the grants, where there is room. It takes no memory.
+#[tactic(auto, unfolding(crate::specs::Changing::pairs_then, crate::specs::Changing::checks_then, record_format::specs::Told::told_note))]
+fn change_grants(grants: &mut Grants, note: &Note)
+    requires room { 1 ≤ grants.old.spare }
+    requires can { CanChangeGrants grants.old.checks grants.old.pairs (told_note note.now) }
+    ensures pairs { grants.new.pairs ≡ pairs_then grants.old.pairs (told_note note.now) }
+    ensures checks { grants.new.checks ≡ checks_then grants.old.checks (told_note note.now) }
+{
+    match *note {
+        Note::NewHolder { holder, check } => {
+            is_number(holder.0);
+            let _id = grants.add_holder(check);
+        }
+        Note::DropFolder { folder } => grants.drop_folder(folder),
+        Note::Give { holder, folder } => grants.grant(holder, folder),
+        Note::Take { holder, folder } => grants.revoke(holder, folder),
+        Note::Root
+        | Note::NewFolder { .. }
+        | Note::NewFile { .. }
+        | Note::Rewrite { .. }
+        | Note::NameFile { .. }
+        | Note::NameFolder { .. }
+        | Note::DropFile { .. }
+        | Note::ShiftFile { .. }
+        | Note::ShiftFolder { .. } => {}
+    }
+}
+
+/// A law: a number of a note is below 2^32.
+fn is_number(number: u32)
+    ensures { number < 4294967296 }
+{
+    let _number = number;
+}

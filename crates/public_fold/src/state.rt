@@ -1,0 +1,133 @@
+//! The public state: what everyone who has read the payloads so far knows of the tree, the grants and the keys.
+ghost use Rattle.std.specs.Prelude.{◌≡◌, ◌<◌, IfOk, option_map};
+ghost use Rattle.public_fold.specs.Journal.{nothing};
+ghost use Rattle.public_fold.specs.KeyStep.{newest, next_epoch};
+ghost use Rattle.public_fold.specs.Standing.{IsSeenAs, stand_of};
+
+use crate::KeyHead;
+use crate::numbering::{copied_keys, newest_serial};
+use cry_base::{Epoch, List, Mem, Role, Serial};
+use folder_nodes::Shape;
+use grant_book::Grants;
+use rekey_walk::Dirty;
+use std::alloc::Global;
+use std::marker::Model;
+
+/// The tree without names, the holders and the grants, each role's newest serial, the dirty roles, and where the counter
+/// of serials stands. No secret is in it.
+#[derive(Drop)]
+pub struct PublicState {
+    pub(crate) shape: Shape,
+    pub(crate) grants: Grants,
+    /// The newest first.
+    pub(crate) keys: List<KeyHead>,
+    pub(crate) dirty: Dirty,
+    pub(crate) epoch: u32,
+    pub(crate) count: u32,
+}
+
+impl Model for PublicState {
+    ghost use Rattle.public_fold.specs.Standing.{PublicView};
+
+    ghost Value = { PublicView };
+
+    ghost view = { λ s. record {
+      tree = s.shape.tree;
+      checks = s.grants.checks;
+      pairs = s.grants.pairs;
+      keys = record { keys = s.keys.items; dirty = s.dirty; epoch = s.epoch; count = s.count };
+    } };
+}
+
+impl PublicState {
+    /// Before the first payload: the owner's key alone, of serial 0.
+    #[tactic(auto, unfolding(crate::specs::Journal::nothing, crate::specs::KeyStep::no_keys, cry_base::specs::Store::no_store))]
+    pub fn new(alloc: Global) -> Mem<PublicState>
+        ensures { IfOk result (λ s. IsSeenAs s nothing) }
+    {
+        let mut keys = List::new(alloc);
+        keys.push(KeyHead {
+            role: Role::Owner,
+            serial: Serial(0),
+        })?;
+        Ok(PublicState {
+            shape: Shape::new(alloc),
+            grants: Grants::new(alloc),
+            keys,
+            dirty: Dirty::new(alloc),
+            epoch: 0,
+            count: 0,
+        })
+    }
+
+    /// A law: the state is what everyone may see of the stand that it tells of.
+    pub fn is_seen(&self)
+        ensures { IsSeenAs self.now (stand_of self.now) }
+    {
+        let _pairs = self.grants.pairs();
+    }
+
+    /// The folders and the files.
+    pub fn shape(&self) -> &Shape
+        ensures { result.now.tree ≡ self.now.tree }
+    {
+        &self.shape
+    }
+
+    /// The holders, each with the check of its key, and the grants.
+    pub fn grants(&self) -> &Grants
+        ensures checks { result.now.checks ≡ self.now.checks }
+        ensures pairs { result.now.pairs ≡ self.now.pairs }
+    {
+        &self.grants
+    }
+
+    /// The roles whose keys a revoked reader may know.
+    pub fn dirty(&self) -> &Dirty
+        ensures { result.now ≡ self.now.keys.dirty }
+    {
+        &self.dirty
+    }
+
+    /// The serial of the role's newest key, where it has one. It looks at the keys in turn.
+    pub fn present(&self, role: Role) -> Option<Serial>
+        ensures { option_map (λ serial. serial.0) result ≡ newest self.now.keys.keys role }
+    {
+        newest_serial(self.keys.as_slice(), role)
+    }
+
+    /// The epoch that the counter of serials is in, and 0 before the first.
+    pub fn epoch(&self) -> Epoch
+        ensures { result.0 ≡ self.now.keys.epoch }
+    {
+        Epoch(self.epoch)
+    }
+
+    /// Begins the next epoch: serials are counted from 0 in it. It takes no memory.
+    #[tactic(auto, unfolding(crate::specs::KeyStep::next_epoch))]
+    pub fn next_epoch(&mut self)
+        requires { self.old.keys.epoch < 4294967295 }
+        ensures { self.new ≡ record self.old { keys = next_epoch self.old.keys } }
+    {
+        self.epoch += 1;
+        self.count = 0;
+    }
+
+    /// An equal state, with memory of its own.
+    pub fn copy(&self, alloc: Global) -> Mem<PublicState>
+        ensures { IfOk result (λ s. s ≡ self.now) }
+    {
+        let shape = self.shape.copy()?;
+        let grants = self.grants.copy()?;
+        let keys = copied_keys(alloc, self.keys.as_slice())?;
+        let dirty = self.dirty.copy()?;
+        Ok(PublicState {
+            shape,
+            grants,
+            keys,
+            dirty,
+            epoch: self.epoch,
+            count: self.count,
+        })
+    }
+}

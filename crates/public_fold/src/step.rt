@@ -1,0 +1,161 @@
+//! The key step of a note on a public state (docs/FORMAT.md, "The key step").
+ghost use Rattle.std.specs.Prelude.{◌≡◌, ◌≤◌, true, false, IfErr, IfOk, OnErr, OnOk};
+ghost use Rattle.move_plan.specs.Fitting.{fits as fits_store};
+ghost use Rattle.move_plan.specs.Seen.{plain_change};
+ghost use Rattle.record_format.specs.Told.{told_note};
+ghost use Rattle.public_fold.specs.Fitted.{told_step};
+ghost use Rattle.public_fold.specs.StandFits.{note_fits};
+ghost use Rattle.public_fold.specs.Standing.{public_store_of, stand_of};
+ghost use Rattle.public_fold.specs.Stepping.{IsDue, IsNumbered, IsStateAfter, IsStep, counted};
+
+use crate::changing::change_store;
+use crate::counter::{count_after, next_serial};
+use crate::lists::{edges_left, joined};
+use crate::marks::{clean, dirty_left};
+use crate::numbering::{given_keys, keys_after, link_heads};
+use crate::publishing::published;
+use crate::sealing::{content_count, content_heads};
+use crate::{FoldFault, KeyHead, PublicState, Skeleton};
+use cry_base::{Edge, List, Mem, Role};
+use move_plan::{Change, change_of};
+use record_format::Note;
+use rekey_walk::{Dirty, plan};
+use role_graph::edges;
+use std::alloc::Global;
+
+/// A step before its serials are counted.
+#[derive(Debug, Drop)]
+struct Due {
+    /// The roles that get keys.
+    keyed: List<Role>,
+    /// The roles whose old keys go.
+    gone: List<Role>,
+    /// The dirty roles that are left.
+    dirty: Dirty,
+    /// The edges that are published.
+    edges: List<Edge>,
+}
+
+/// What a note's step gives and publishes, and what it leaves.
+#[derive(Debug, Drop)]
+pub(crate) struct Step {
+    pub(crate) skeleton: Skeleton,
+    pub(crate) left: Left,
+}
+
+/// The keys, the dirty roles and the epoch's count after a step.
+#[derive(Debug, Drop)]
+pub(crate) struct Left {
+    pub(crate) keys: List<KeyHead>,
+    pub(crate) dirty: Dirty,
+    pub(crate) count: u32,
+}
+
+/// The step of a note that fits the state.
+pub(crate) fn step_of(alloc: Global, state: &PublicState, note: &Note) -> Result<Step, FoldFault>
+    ensures fits { IfOk result (λ s. note_fits (stand_of state.now) (told_note note.now) (told_step (stand_of state.now) (told_note note.now)) ≡ true) }
+    ensures step { IfOk result (λ s. IsStep (told_step (stand_of state.now) (told_note note.now)) s) }
+    ensures unfit { result ≡ Err FoldFault.Unfit → note_fits (stand_of state.now) (told_note note.now) (told_step (stand_of state.now) (told_note note.now)) ≡ false }
+{
+    if state.epoch == 0 {
+        return Err(FoldFault::Unfit);
+    }
+    let change = change_of(alloc, &state.shape, &state.grants, note)?;
+    let before = edges(alloc, &state.shape, &state.grants)?;
+    let due = due_step(alloc, state, before.as_slice(), &change)?;
+    numbered_step(alloc, state, note, due)
+}
+
+/// The step of a change, before its serials are counted.
+fn due_step(alloc: Global, state: &PublicState, before: &[Edge], change: &Change) -> Mem<Due>
+    ensures { IfOk result (λ d. IsDue state.now.keys before.now (plain_change change.now) d) }
+{
+    let mut dirty = dirty_left(alloc, &state.dirty, before, change)?;
+    let left = edges_left(alloc, before, change.removed.as_slice())?;
+    let renewed = plan(alloc, &dirty, left.as_slice(), change.wanted.as_slice())?;
+    let renewed = renewed.as_slice();
+    let keyed = joined(alloc, renewed, change.fresh.as_slice())?;
+    let gone = joined(alloc, renewed, change.gone.as_slice())?;
+    let edges = published(
+        alloc,
+        left.as_slice(),
+        change.added.as_slice(),
+        keyed.as_slice(),
+    )?;
+    clean(&mut dirty, renewed);
+    Ok(Due {
+        keyed,
+        gone,
+        dirty,
+        edges,
+    })
+}
+
+/// The step with its serials, where the epoch's count has room for them.
+#[tactic(auto, unfolding(crate::specs::KeyStep::next_serial))]
+fn numbered_step(
+    alloc: Global,
+    state: &PublicState,
+    note: &Note,
+    due: Due,
+) -> Result<Step, FoldFault>
+    ensures step { IfOk result (λ s. IsNumbered state.now.keys (told_note note.now) due s) }
+    ensures unfit { result ≡ Err FoldFault.Unfit → 4294967295 ≤ counted state.now.keys (told_note note.now) due }
+{
+    let (keyed, published) = (due.keyed.as_slice(), due.edges.as_slice());
+    let counted = count_after(
+        state.count,
+        keyed.len(),
+        published.len(),
+        content_count(note),
+    );
+    let Some(count) = counted else {
+        return Err(FoldFault::Unfit);
+    };
+    let first = next_serial(state.epoch, state.count);
+    let given = given_keys(alloc, keyed, first)?;
+    let keys = keys_after(
+        alloc,
+        given.as_slice(),
+        due.gone.as_slice(),
+        state.keys.as_slice(),
+    )?;
+    let first_link = first + keyed.len() as u64;
+    let links = link_heads(alloc, keys.as_slice(), published, first_link)?;
+    let first_content = first_link + published.len() as u64;
+    let contents = content_heads(alloc, keys.as_slice(), note, first_content)?;
+    Ok(Step {
+        skeleton: Skeleton {
+            keys: given,
+            links,
+            contents,
+        },
+        left: Left {
+            keys,
+            dirty: due.dirty,
+            count,
+        },
+    })
+}
+
+impl PublicState {
+    /// Makes the change of a note whose step leaves this. At `Err` nothing has changed.
+    pub(crate) fn take_step(
+        &mut self,
+        alloc: Global,
+        note: &Note,
+        left: Left,
+    ) -> Result<(), FoldFault>
+        requires { fits_store (public_store_of self.old) (told_note note.now) ≡ true }
+        ensures step { OnOk result (IsStateAfter self.old (told_note note.now) left self.new) }
+        ensures only { IfErr result (λ fault. fault ≡ FoldFault.OutOfMemory) }
+        ensures err { OnErr result (self.new ≡ self.old) }
+    {
+        change_store(alloc, &mut self.shape, &mut self.grants, note)?;
+        self.keys = left.keys;
+        self.dirty = left.dirty;
+        self.count = left.count;
+        let _pairs = self.grants.pairs();
+        Ok(())
+    }
+}
