@@ -14,6 +14,5 @@ pub mod Faults
 pub mod Heads
 pub mod Standing
 pub mod Stepping
-pub mod Script
 pub mod Tree
 pub mod WorkedSteps
