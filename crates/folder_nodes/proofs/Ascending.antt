@@ -1,9 +1,11 @@
 -- What is found first in ascending lists.
-use Rattle.std.proofs.Common.{◌≡◌, ℕ, suc, ◌<◌, ◌≤◌, Bool, true, false, cond, List, [], ◌∷◌, find, map, Some, None, refl, sym, ap, ◌∙◌, subst, inl, inr, ⊎_elim, arith}
-use Rattle.std.specs.List.{All, list_any}
+use Rattle.std.proofs.Common.{◌≡◌, ℕ, suc, ◌<◌, ◌≤◌, Bool, true, false, cond, List, [], ◌∷◌, find, map, length, get_or, Some, None, refl, sym, ap, ◌∙◌, subst, inl, inr, ⊎_elim, arith}
+use Rattle.std.specs.List.{All, AllPairs, list_any}
 use Rattle.std.proofs.lemmas.Bool.{false≢true}
 use Rattle.std.proofs.lemmas.List.Elements.{All-nil, All-cons, All-head, All-tail, All-map}
 use Rattle.std.proofs.lemmas.List.Kept.{AllPairs-cons}
+use Rattle.std.proofs.lemmas.List.{length-map}
+use Rattle.std.proofs.Math.ListN.{get_or-map}
 use Rattle.cry_base.specs.Sets.{In}
 use Rattle.cry_base.proofs.Finding.{find-found, found-find}
 use Rattle.cry_base.proofs.Members.{In-any}
@@ -95,8 +97,22 @@ same_any X Y p q xs ys go back =
           ]) refl
     ]) refl
 
+-- what rises by a number that a map keeps rises behind the map, and the other way round
+pub rising_through : (X Y : Type 0) (h : X → Y) (rank : Y → ℕ) (xs : List X) → IsRising (λ x. rank (h x)) xs → IsRising rank (map h xs)
+rising_through X Y h rank [] rising = λ i j d lt within. absurd (omega arith)
+rising_through X Y h rank (x ∷ xs) rising =
+    AllPairs-cons (λ (a b : Y). rank a < rank b) (h x) (map h xs)
+    (All-map (λ y. rank (h x) < rank y) h xs (head_below X (λ z. rank (h z)) x xs rising))
+    (rising_through X Y h rank xs (rest_rising X (λ z. rank (h z)) x xs rising))
+
+pub rising_before : (X Y : Type 0) (h : X → Y) (rank : Y → ℕ) (xs : List X) → IsRising rank (map h xs) → IsRising (λ x. rank (h x)) xs
+rising_before X Y h rank xs rising = λ i j d lt within.
+    let long : length (map h xs) ≡ length xs = simp length-map in
+    let up : rank (get_or (map h xs) i (h d)) < rank (get_or (map h xs) j (h d)) = rising i j (h d) lt (omega (arith, long, within)) in
+    let one : rank (get_or (map h xs) i (h d)) ≡ rank (h (get_or xs i d)) = ap rank (get_or-map h xs i d) in
+    let two : rank (get_or (map h xs) j (h d)) ≡ rank (h (get_or xs j d)) = ap rank (get_or-map h xs j d) in
+    omega (arith, up, one, two)
+
 -- numbers of what rises rise
 pub map_rising : (X : Type 0) (rank : X → ℕ) (xs : List X) → IsRising rank xs → IsRising (λ n. n) (map rank xs)
-map_rising X rank [] rising = λ i j d lt within. absurd (omega arith)
-map_rising X rank (x ∷ xs) rising =
-    AllPairs-cons (λ (a b : ℕ). a < b) (rank x) (map rank xs) (All-map (λ n. rank x < n) rank xs (head_below X rank x xs rising)) (map_rising X rank xs (rest_rising X rank x xs rising))
+map_rising X rank xs rising = rising_through X ℕ rank (λ n. n) xs rising

@@ -15,6 +15,7 @@ pub mod Named
 pub mod Placed
 pub mod Placing
 pub mod Removed
+pub mod Restored
 pub mod Rowed
 pub mod Slashes
 pub mod Splitting

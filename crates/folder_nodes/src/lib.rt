@@ -10,6 +10,7 @@ mod listed;
 mod names;
 mod naming;
 mod place;
+mod restoring;
 mod rows;
 mod shape;
 mod spelling;

@@ -1,7 +1,7 @@
 -- Rows stay rising.
-use Rattle.std.proofs.Common.{◌≡◌, ℕ, suc, ◌<◌, Bool, true, false, cond, not, ◌==◌, nat_lt, List, [], ◌∷◌, ◌++◌, map, filter, refl, sym, subst, arith}
+use Rattle.std.proofs.Common.{◌≡◌, ℕ, zero, suc, ◌+◌, ◌-◌, ◌<◌, ◌≤◌, Bool, true, false, cond, not, ◌==◌, nat_lt, List, [], ◌∷◌, ◌++◌, map, filter, length, get_or, refl, sym, ap, subst, arith, ⊎_elim}
 use Rattle.std.specs.List.{All, AllPairs, items_where_true}
-use Rattle.std.proofs.lemmas.Bool.{ltb-true, eqb-true}
+use Rattle.std.proofs.lemmas.Bool.{ltb-true, eqb-true, cases_lt}
 use Rattle.std.proofs.lemmas.List.Elements.{All-nil, All-cons, All-head, All-tail, All-append, All-weaker, All-map}
 use Rattle.std.proofs.lemmas.List.Kept.{AllPairs-cons, AllPairs-filter}
 use Rattle.sorted_table.specs.Rows.{IsRising, with_row, without, replaced}
@@ -82,3 +82,33 @@ rising-items_where_true T rank (false ∷ bs) (x ∷ xs) rising = rising-items_w
 -- so do those that a test keeps
 pub rising-kept : (T : Type 0) (rank : T → ℕ) (p : T → Bool) (xs ys : List T) → IsRising rank xs → ys ≡ filter p xs → IsRising rank ys
 rising-kept T rank p xs ys rising kept = subst (IsRising rank) (sym kept) (AllPairs-filter (λ (x y : T). rank x < rank y) p xs rising)
+
+-- each rank before the place is above the one before it
+abbrev pub RisesBelow : {T : Type 0} → (T → ℕ) → List T → ℕ → Type 0
+RisesBelow {T} rank rows place = (j : ℕ) (d : T) → suc j < place → suc j < length rows → rank (get_or rows j d) < rank (get_or rows (suc j) d)
+
+-- where each is above the one before, each is above all before
+rising-steps : (T : Type 0) (rank : T → ℕ) (rows : List T) → ((j : ℕ) (d : T) → suc j < length rows → rank (get_or rows j d) < rank (get_or rows (suc j) d)) → (j i : ℕ) (d : T) → i < j → j < length rows → rank (get_or rows i d) < rank (get_or rows j d)
+rising-steps T rank rows step zero i d lt within = absurd (omega (arith, lt))
+rising-steps T rank rows step (suc j) i d lt within =
+    let last : rank (get_or rows j d) < rank (get_or rows (suc j) d) = step j d within in
+    ⊎_elim
+    (λ (less : i < j). let up : rank (get_or rows i d) < rank (get_or rows j d) = rising-steps T rank rows step j i d less (omega (arith, within)) in omega (arith, up, last))
+    (λ (ge : j ≤ i). let same : rank (get_or rows i d) ≡ rank (get_or rows j d) = ap (λ k. rank (get_or rows k d)) (omega (arith, ge, lt)) in omega (arith, same, last))
+    (cases_lt i j)
+
+pub rises_first : (T : Type 0) (rank : T → ℕ) (rows : List T) → RisesBelow rank rows 1
+rises_first T rank rows = λ j d lt within. absurd (omega (arith, lt))
+
+pub rises_more : (T : Type 0) (rank : T → ℕ) (rows : List T) (place : ℕ) → 1 ≤ place → RisesBelow rank rows place → ((d : T) → rank (get_or rows (place - 1) d) < rank (get_or rows place d)) → RisesBelow rank rows (place + 1)
+rises_more T rank rows place some below up = λ j d lt within.
+    ⊎_elim
+    (λ (less : suc j < place). below j d less within)
+    (λ (ge : place ≤ suc j).
+    let here : place ≡ suc j = omega (arith, ge, lt) in
+    let before : place - 1 ≡ j = omega (arith, here) in
+    subst (λ k. rank (get_or rows j d) < rank (get_or rows k d)) here (subst (λ k. rank (get_or rows k d) < rank (get_or rows place d)) before (up d)))
+    (cases_lt (suc j) place)
+
+pub rises_all : (T : Type 0) (rank : T → ℕ) (rows : List T) (place : ℕ) → length rows ≤ place → RisesBelow rank rows place → IsRising rank rows
+rises_all T rank rows place all below = λ i j d lt within. rising-steps T rank rows (λ k e inside. below k e (omega (arith, all, inside)) inside) j i d lt within

@@ -1,5 +1,5 @@
 //! Rows in ascending order of their ranks.
-ghost use Rattle.std.specs.Prelude.{◌≡◌, ◌+◌, ◌≤◌, ◌&&◌, [], length, nat_le, filter, IsOk, IsSome, OnOk, IfOk, IfErr, None};
+ghost use Rattle.std.specs.Prelude.{◌≡◌, ◌+◌, ◌≤◌, ◌&&◌, [], length, nat_le, filter, IsOk, IsSome, OnOk, IfOk, IfErr, IsTrue, MatchOption, ◌↔◌, None};
 ghost use Rattle.std.specs.Fn.{CalledAt};
 ghost use Rattle.std.specs.List.Retain.{IsFiltered};
 ghost use Rattle.std.specs.Option.{option_copied};
@@ -10,6 +10,7 @@ use crate::ranked::SameRank;
 use crate::{Key, Ranked};
 use cry_base::Mem;
 use std::alloc::Global;
+use std::cmp::Ordering;
 use std::marker::Model;
 
 /// Rows in ascending order of their ranks, which all differ. `spare` is how many more fit without memory; it may be
@@ -130,6 +131,18 @@ impl<T: Ranked + Drop> Table<T> {
 }
 
 impl<T: Ranked + Copy> Table<T> {
+    /// A table of these rows, where each one's rank is above that of the one before, with a buffer of its own.
+    pub fn of_rows(alloc: Global, rows: &[T]) -> Mem<Option<Self>>
+        ensures { IfOk result (λ made. MatchOption made (IsRising T.rank rows.now → ⊥) (λ table. table.rows ≡ rows.now)) }
+    {
+        if !is_rising(rows) {
+            return Ok(None);
+        }
+        Ok(Some(Table {
+            rows: Vec::from_slice(alloc, rows)?,
+        }))
+    }
+
     /// An equal table, with a buffer of its own.
     pub fn copy(&self) -> Mem<Self>
         ensures { IfOk result (λ copy. copy.rows ≡ self.now.rows) }
@@ -138,6 +151,18 @@ impl<T: Ranked + Copy> Table<T> {
             rows: Vec::from_slice(*self.rows.allocator(), &self.rows)?,
         })
     }
+}
+
+// Whether each row's rank is above that of the row before.
+fn is_rising<T: Ranked>(rows: &[T]) -> bool
+    ensures { IsTrue result ↔ IsRising T.rank rows.now }
+{
+    for at in 1..rows.len() {
+        if rows[at - 1].compare(&rows[at]) != Ordering::Less {
+            return false;
+        }
+    }
+    true
 }
 
 // The rows from the key's rank on.
