@@ -1,16 +1,13 @@
 -- The kinds of the roles of records.
-use Rattle.std.proofs.Common.{◌≡◌, ℕ, List, Some, Option, refl, sym, ap, subst, ◌∙◌}
-use Rattle.chacha_seal.specs.Keys.{KeyParts}
+use Rattle.std.proofs.Common.{◌≡◌, ℕ, Some, Option, refl, sym, ap, subst, ◌∙◌}
 use Rattle.cry_base.specs.Sets.{In}
 use Rattle.cry_base.specs.declared.roles.Role.{Role}
 use Rattle.key_links.specs.Ended.{kind_from, kind_to, role_with, sealing_role, source_role, target_role}
-use Rattle.key_links.specs.Sealed.{sealed_content, sealed_link}
 use Rattle.kind_table.specs.Kinds.{kind_of}
 use Rattle.kind_table.specs.Rows.{row}
 use Rattle.kind_table.specs.declared.kinds.RoleKind.{RoleKind}
 use Rattle.kind_table.specs.declared.kinds.RoleKind.TheVariants.{Owner, Holder, Clear, Sub, Back, Files, Data, File}
 use Rattle.kind_table.specs.declared.nine.TheConstants.{NINE}
-use Rattle.record_format.specs.Plain.{PlainContent}
 use Rattle.record_format.specs.declared.link.LinkRecord.{LinkRecord}
 
 kind_of_with : (kind : RoleKind) (id : ℕ) → kind_of (role_with kind id) ≡ kind

@@ -4,4 +4,5 @@ pub mod Looked
 pub mod Ranks
 pub mod Ringing
 pub mod SealedLemmas
+pub mod Sourced
 pub mod Wrapped

@@ -137,3 +137,8 @@ key_numbered ring role key other is =
           let of : role_of any ≡ role = found_is ring.keys role any e in
           ap (λ k. k.id) (sym same) ∙ key_number any (λ owner. other (sym of ∙ owner)) ∙ ap number_of of
     ]) refl is
+
+-- the same keys are found for the same roles
+pub keys_stay : (old new : Ringed) → new.keys ≡ old.keys → (role : Role) → key_of new role ≡ key_of old role
+unfolding key_of
+keys_stay old new same role = ap (λ keys. option_map parts_of (found keys role)) same

@@ -1,4 +1,6 @@
 //! Records that another program sealed (Python's hmac and hashlib, and ChaCha20 written out).
+mod rings;
+
 use super::*;
 use chacha_seal::{ClearK, Counter, DataK, FreshKey, Key};
 use cry_base::{Epoch, Text};

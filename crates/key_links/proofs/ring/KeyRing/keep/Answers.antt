@@ -1,6 +1,6 @@
-use Rattle.std.proofs.Common.{◌≡◌, ◌++◌, ap, sym, subst, ◌∙◌}
+use Rattle.std.proofs.Common.{◌++◌, ap, sym, subst, ◌∙◌}
 use Rattle.std.specs.Option.{option_to_list}
-use Rattle.sorted_table.specs.Rows.{with_row, without}
+use Rattle.sorted_table.specs.Rows.{without}
 use Rattle.key_links.specs.Ringed.{IsWithKey, key_rank, parts_of, role_of}
 use Rattle.key_links.proofs.Ringing.{emptied, with_key}
 use Rattle.key_links.proofs.ring.KeyRing.keep.Goals as goal
