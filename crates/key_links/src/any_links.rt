@@ -37,25 +37,25 @@ pub(crate) fn link_any(kind: u8, from: &AnyKey, to: &AnyKey, nonce: Nonce) -> Li
 }
 
 /// The key that the link leads to from `source`.
-pub(crate) fn follow_any(source: &AnyKey, record: &LinkRecord) -> Result<AnyKey, BadTag>
-    requires from_one { 1 ≤ record.now.kind }
-    requires to_nine { record.now.kind ≤ 9 }
-    requires source { role_of source.now ≡ source_role record.now }
-    requires starts { StartsAt record.now.kind (parts_of source.now) record.now }
-    ensures authentic { IsOk result ↔ IsAuthenticLink (parts_of source.now) record.now }
-    ensures role { IfOk result (λ key. role_of key ≡ target_role record.now) }
-    ensures parts { IfOk result (λ key. parts_of key ≡ target_of (parts_of source.now) record.now) }
+pub(crate) fn follow_any(source: &AnyKey, link: &LinkRecord) -> Result<AnyKey, BadTag>
+    requires from_one { 1 ≤ link.now.kind }
+    requires to_nine { link.now.kind ≤ 9 }
+    requires source { role_of source.now ≡ source_role link.now }
+    requires starts { StartsAt link.now.kind (parts_of source.now) link.now }
+    ensures authentic { IsOk result ↔ IsAuthenticLink (parts_of source.now) link.now }
+    ensures role { IfOk result (λ key. role_of key ≡ target_role link.now) }
+    ensures parts { IfOk result (λ key. parts_of key ≡ target_of (parts_of source.now) link.now) }
 {
-    match record.kind {
-        1 => Ok(AnyKey::Clear(follow(source.owner(), record)?)),
-        2 => Ok(AnyKey::Clear(follow(source.holder(), record)?)),
-        3 => Ok(AnyKey::Sub(follow(source.clear(), record)?)),
-        4 => Ok(AnyKey::Back(follow(source.sub(), record)?)),
-        5 => Ok(AnyKey::Files(follow(source.sub(), record)?)),
-        6 => Ok(AnyKey::Sub(follow(source.sub(), record)?)),
-        7 => Ok(AnyKey::Data(follow(source.back(), record)?)),
-        8 => Ok(AnyKey::Back(follow(source.back(), record)?)),
-        9 => Ok(AnyKey::File(follow(source.files(), record)?)),
+    match link.kind {
+        1 => Ok(AnyKey::Clear(follow(source.owner(), link)?)),
+        2 => Ok(AnyKey::Clear(follow(source.holder(), link)?)),
+        3 => Ok(AnyKey::Sub(follow(source.clear(), link)?)),
+        4 => Ok(AnyKey::Back(follow(source.sub(), link)?)),
+        5 => Ok(AnyKey::Files(follow(source.sub(), link)?)),
+        6 => Ok(AnyKey::Sub(follow(source.sub(), link)?)),
+        7 => Ok(AnyKey::Data(follow(source.back(), link)?)),
+        8 => Ok(AnyKey::Back(follow(source.back(), link)?)),
+        9 => Ok(AnyKey::File(follow(source.files(), link)?)),
         _ => unreachable!(),
     }
 }

@@ -39,10 +39,10 @@ fn kind_from(number: u8) -> RoleKind
 }
 
 /// The role that the link leads from.
-pub(crate) fn source_role(record: &LinkRecord) -> Role
-    ensures { result ≡ spec.source_role record.now }
+pub(crate) fn source_role(link: &LinkRecord) -> Role
+    ensures { result ≡ spec.source_role link.now }
 {
-    role_with(kind_from(record.kind), record.from_id)
+    role_with(kind_from(link.kind), link.from_id)
 }
 
 /// The role whose key seals the contents of this kind.

@@ -1,5 +1,5 @@
 //! Records that a ring seals and opens.
-ghost use Rattle.std.specs.Prelude.{◌≡◌, ◌↔◌, ◌+◌, ◌<◌, ◌≤◌, ◌^◌, ℕ, IsOk, IsSome, OnErr, OnOk, Some, length};
+ghost use Rattle.std.specs.Prelude.{◌≡◌, ◌↔◌, ◌+◌, ◌<◌, ◌≤◌, ◌^◌, ℕ, List, IsOk, IsSome, OnErr, OnOk, Some, length};
 ghost use Rattle.chacha_seal.specs.Keys.{KeyParts};
 ghost use Rattle.cry_base.specs.Sets.{In};
 ghost use Rattle.key_links.specs.Ended.{HasSealing, HasSource};
@@ -36,19 +36,22 @@ impl KeyRing {
     /// Opens the link with the key of its source, and keeps its target's key in the place of the one that the ring had.
     /// `BadTag` comes exactly where the link's tag isn't the one that its source's key makes; the ring is then as it
     /// was. It takes no memory.
-    pub fn open_link(&mut self, record: &LinkRecord) -> Result<(), BadTag>
-        requires from_one { 1 ≤ record.now.kind }
-        requires to_nine { record.now.kind ≤ 9 }
-        requires source { HasSource self.old record.now }
+    pub fn open_link(&mut self, link: &LinkRecord) -> Result<(), BadTag>
+        requires from_one { 1 ≤ link.now.kind }
+        requires to_nine { link.now.kind ≤ 9 }
+        requires source { HasSource self.old link.now }
         requires room { 1 ≤ self.old.spare }
-        ensures authentic { (key : KeyParts) → key_of self.old (spec.source_role record.now) ≡ Some key
-            → IsOk result ↔ IsAuthenticLink key record.now }
-        ensures opened { (key : KeyParts) → key_of self.old (spec.source_role record.now) ≡ Some key
-            → OnOk result (IsWithKey self.new self.old (spec.target_role record.now) (target_of key record.now)) }
+        ensures authentic { (key : KeyParts) → key_of self.old (spec.source_role link.now) ≡ Some key
+            → IsOk result ↔ IsAuthenticLink key link.now }
+        ensures opened { (key : KeyParts) → key_of self.old (spec.source_role link.now) ≡ Some key
+            → OnOk result (IsWithKey self.new self.old (spec.target_role link.now) (target_of key link.now)) }
+        ensures opens { (from to : KeyParts) (nonce : ℕ) → key_of self.old (spec.source_role link.now) ≡ Some from
+            → link.now ≡ sealed_link link.now.kind from to nonce
+            → IsOk result × IsWithKey self.new self.old (spec.target_role link.now) to }
         ensures spare { self.old.spare ≤ self.new.spare + 1 }
         ensures bad_tag { OnErr result (self.new ≡ self.old) }
     {
-        let key = follow_any(self.key(source_role(record)), record)?;
+        let key = follow_any(self.key(source_role(link)), link)?;
         self.keep(key);
         Ok(())
     }
@@ -64,13 +67,8 @@ impl KeyRing {
         ensures { (key : KeyParts) → key_of self.now (spec.sealing_role kind object) ≡ Some key
             → plain_content result ≡ sealed_content kind key object nonce text.items }
     {
-        seal_any(
-            kind,
-            self.key(sealing_role(kind, object)),
-            object,
-            nonce,
-            text,
-        )
+        let key = self.key(sealing_role(kind, object));
+        seal_any(kind, key, object, nonce, text)
     }
 
     /// Makes the content's cipher bytes its text. `BadTag` comes exactly where its tag isn't the one that the ring's key of
@@ -84,12 +82,13 @@ impl KeyRing {
             → IsOk result ↔ IsAuthenticContent key (plain_content content.old) }
         ensures opened { (key : KeyParts) → key_of self.now (spec.sealing_role content.old.kind content.old.object) ≡ Some key
             → OnOk result (content.new ≡ with_text content.old (text_of key (plain_content content.old))) }
+        ensures opens { (key : KeyParts) (nonce : ℕ) (text : List ℕ) → key_of self.now (spec.sealing_role content.old.kind content.old.object) ≡ Some key
+            → plain_content content.old ≡ sealed_content content.old.kind key content.old.object nonce text
+            → IsOk result × (content.new ≡ with_text content.old text) }
         ensures bad_tag { OnErr result (content.new ≡ content.old) }
     {
-        open_any(
-            self.key(sealing_role(content.kind, content.object)),
-            content,
-        )
+        let key = self.key(sealing_role(content.kind, content.object));
+        open_any(key, content)
     }
 
     // The role's key, where the ring has one.
