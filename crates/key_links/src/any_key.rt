@@ -6,7 +6,7 @@ ghost use Rattle.key_links.specs.Ringed.{key_rank, parts_of, role_of};
 
 use crate::AnyFresh;
 use chacha_seal::{BackK, ClearK, DataK, FileK, FilesK, HolderK, Key, OwnerK, SubK};
-use cry_base::{Role, Serial};
+use cry_base::{FileId, FolderId, HolderId, Role, Serial};
 use sorted_table::Ranked;
 use std::cmp::Ordering;
 
@@ -58,30 +58,29 @@ impl AnyKey {
         }
     }
 
-    /// What puts the key in its place among others.
-    #[tactic(auto, unfolding(crate::specs::Ringed::key_rank, crate::specs::Ringed::role_of, crate::specs::Ringed::rank_of))]
-    pub(crate) fn rank(&self) -> u64
-        ensures { result ≡ key_rank self.now }
+    /// The role that the key is for.
+    #[tactic(auto, unfolding(crate::specs::Ringed::role_of))]
+    pub(crate) fn role(&self) -> Role
+        ensures { result ≡ role_of self.now }
     {
         match self {
-            AnyKey::Owner(_) => 0,
-            AnyKey::Holder(key) => u64::from(key.id()) * 8 + 1,
-            AnyKey::Clear(key) => u64::from(key.id()) * 8 + 2,
-            AnyKey::Sub(key) => u64::from(key.id()) * 8 + 3,
-            AnyKey::Back(key) => u64::from(key.id()) * 8 + 4,
-            AnyKey::Files(key) => u64::from(key.id()) * 8 + 5,
-            AnyKey::Data(key) => u64::from(key.id()) * 8 + 6,
-            AnyKey::File(key) => u64::from(key.id()) * 8 + 7,
+            AnyKey::Owner(_) => Role::Owner,
+            AnyKey::Holder(key) => Role::Holder(HolderId(key.id())),
+            AnyKey::Clear(key) => Role::Clear(FolderId(key.id())),
+            AnyKey::Sub(key) => Role::Sub(FolderId(key.id())),
+            AnyKey::Back(key) => Role::Back(FolderId(key.id())),
+            AnyKey::Files(key) => Role::Files(FolderId(key.id())),
+            AnyKey::Data(key) => Role::Data(FolderId(key.id())),
+            AnyKey::File(key) => Role::File(FileId(key.id())),
         }
     }
-}
 
-impl AnyKey {
-    /// Its place, by which it is looked up.
+    /// Its place among others, by which it is looked up.
+    #[tactic(auto, unfolding(crate::specs::Ringed::key_rank))]
     pub(crate) fn place(&self) -> Place
         ensures { result.0 ≡ key_rank self.now }
     {
-        Place(self.rank())
+        Place::of(self.role())
     }
 }
 
@@ -89,7 +88,7 @@ impl Ranked for AnyKey {
     ghost rank = { key_rank };
 
     fn compare(&self, other: &Self) -> Ordering {
-        self.rank().cmp(&other.rank())
+        self.place().0.cmp(&other.place().0)
     }
 }
 
@@ -119,7 +118,7 @@ impl Place {
     pub(crate) fn is_of(&self, key: &AnyKey) -> bool
         ensures { result ≡ (key_rank key.now == self.now.0) }
     {
-        key.rank() == self.0
+        key.place().0 == self.0
     }
 }
 
@@ -127,6 +126,6 @@ impl sorted_table::Key<AnyKey> for Place {
     ghost sought = { λ place. place.0 };
 
     fn compare_row(&self, row: &AnyKey) -> Ordering {
-        row.rank().cmp(&self.0)
+        row.place().0.cmp(&self.0)
     }
 }
