@@ -1,7 +1,7 @@
 -- The edge that is looked up by the numbers of its ends is one of the store's.
-use Rattle.std.proofs.Common.{◌≡◌, ◌≢◌, ℕ, Bool, true, false, cond, ◌==◌, ◌&&◌, ◌||◌, ◌↔◌, List, Option, Some, None, is_some, IsTrue, inl, inr, ⊎_elim, refl, sym, ap, ◌∙◌, subst}
+use Rattle.std.proofs.Common.{◌≡◌, ◌≢◌, ℕ, Bool, true, false, cond, ◌==◌, ◌||◌, ◌↔◌, List, Option, Some, None, is_some, IsTrue, inl, inr, ⊎_elim, refl, sym, ap, ◌∙◌, subst}
 use Rattle.std.specs.List.{list_any}
-use Rattle.std.proofs.lemmas.Bool.{false≢true, and_parts, and_from, or_cases, or_left, or_right, eqb-true, eqb-false, eq-eqb}
+use Rattle.std.proofs.lemmas.Bool.{false≢true, and_parts, and_from, or_left, or_right, eqb-true, eqb-false, eq-eqb}
 use Rattle.cry_base.specs.Sets.{In}
 use Rattle.cry_base.specs.Store.{Store, FolderEntry, FileEntry, GrantEntry, folder_entry, file_entry}
 use Rattle.cry_base.specs.declared.ids.FolderId.{FolderId}
@@ -14,7 +14,7 @@ use Rattle.folder_nodes.specs.Looking.{parent_id, folder_id_of, some_folder}
 use Rattle.folder_nodes.specs.Trees.{IsTree}
 use Rattle.folder_nodes.proofs.Moved.{files_found}
 use Rattle.grant_book.specs.Granted.{is_grant}
-use Rattle.role_graph.specs.Edges.{edge, folder_edges, parent_edges, grant_edge, file_edge, edges, IsOwnEdge, IsParentEdge, IsGrantEdge, IsFileEdge, IsEdge}
+use Rattle.role_graph.specs.Edges.{edge, folder_edges, parent_edges, grant_edge, file_edge, IsOwnEdge, IsParentEdge, IsGrantEdge, IsFileEdge, IsEdge}
 use Rattle.role_graph.specs.Joined.{HasEdge, joins, are_joined, is_within, joins_parent, is_between, is_granted, joins_file, is_into_file, is_found}
 use Rattle.role_graph.specs.PublicStore.{public_store}
 use Rattle.role_graph.specs.Roles.{same_role, holder_role, clear_of, sub_of, back_of, files_of, data_of, file_role, role_id}

@@ -1,7 +1,6 @@
 -- The laws of edges hold of those of a store.
 use Rattle.std.proofs.Common.{◌≡◌, ◌<◌, false, ap, subst}
 use Rattle.cry_base.specs.Store.{Store}
-use Rattle.cry_base.specs.declared.roles.Edge.{Edge}
 use Rattle.cry_base.specs.declared.roles.Role.{Role}
 use Rattle.folder_nodes.specs.Trees.{IsTree}
 use Rattle.kind_table.specs.Kinds.{kind_of}

@@ -1,5 +1,5 @@
 -- Paths down a tree are its ways up, so a walk up from a folder finds the grants that allow it.
-use Rattle.std.proofs.Common.{◌≡◌, ◌≢◌, ℕ, zero, suc, ◌<◌, Bool, true, false, cond, not, ◌==◌, ◌&&◌, ◌||◌, ◌⊎◌, ◌↔◌, List, [], ◌∷◌, length, get_or, map, find, Option, Some, None, IsTrue, AllPairs, inl, inr, ⊎_elim, refl, sym, ap, ◌∙◌, subst, arith}
+use Rattle.std.proofs.Common.{◌≡◌, ℕ, zero, suc, ◌<◌, true, false, cond, not, ◌==◌, ◌&&◌, ◌||◌, ◌⊎◌, ◌↔◌, List, [], ◌∷◌, length, get_or, Some, IsTrue, AllPairs, inl, inr, ⊎_elim, refl, sym, ap, ◌∙◌, subst, arith}
 use Rattle.std.specs.List.{list_any}
 use Rattle.std.proofs.lemmas.Bool.{false≢true, cases_Bool, or_cases, or_left, or_right, and_parts, and_from, not_from_false, eqb-true, eq-eqb, ne_eqb}
 use Rattle.cry_base.specs.Sets.{In, Path}
@@ -11,7 +11,7 @@ use Rattle.folder_nodes.specs.Trees.{IsTree}
 use Rattle.folder_nodes.proofs.Upward.{at, Rises, at_id}
 use Rattle.folder_nodes.proofs.Treed.{rises, within_on, within_off}
 use Rattle.role_graph.specs.PublicStore.{public_store, GrantsStand, allows, names}
-use Rattle.role_graph.specs.Rights.{downs, ups, IsGranted, IsAllowed, IsNamed}
+use Rattle.role_graph.specs.Rights.{downs, ups, IsGranted, IsAllowed}
 use Rattle.role_graph.specs.RightsByReach.{HasFolder}
 
 place_in : (xs : List FolderEntry) (e : FolderEntry) → In e xs → (k : ℕ) × (k < length xs) × ((d : FolderEntry) → get_or xs k d ≡ e)
