@@ -1,6 +1,4 @@
 use Rattle.std.proofs.Common.{◌≡◌, ap, sym, ◌∙◌}
-use Rattle.std.specs.Prelude.{IfOk}
-use Rattle.cry_base.specs.Store.{Store}
 use Rattle.move_plan.specs.Change.{folder_of_file, parent_of_folder}
 use Rattle.move_plan.specs.Seen.{seen_store}
 use Rattle.record_format.specs.Noted.Note.{Root, NewHolder, NewFolder, NewFile, Rewrite, NameFile, NameFolder, DropFile, DropFolder, ShiftFile, ShiftFolder, Give, Take}

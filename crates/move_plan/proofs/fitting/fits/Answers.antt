@@ -1,6 +1,6 @@
-use Rattle.std.proofs.Common.{◌≡◌, ◌∙◌, true, false, not, ◌||◌, sym}
+use Rattle.std.proofs.Common.{◌≡◌, ◌∙◌, true, false, sym}
 use Rattle.cry_base.specs.Store.{folder_entry}
-use Rattle.move_plan.specs.Fitting.{fits, folder_stands, needs_root, row_fits}
+use Rattle.move_plan.specs.Fitting.{fits, folder_stands, row_fits}
 use Rattle.move_plan.specs.Seen.{seen_store}
 use Rattle.record_format.specs.Told.{told_note}
 use Rattle.move_plan.proofs.fitting.fits.Goals as goal

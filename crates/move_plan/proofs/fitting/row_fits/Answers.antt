@@ -1,10 +1,9 @@
-use Rattle.std.proofs.Common.{◌≡◌, ◌∙◌, ◌+◌, ◌&&◌, ◌==◌, not, sym, ap, refl}
+use Rattle.std.proofs.Common.{◌≡◌, ◌∙◌, ◌+◌, ◌&&◌, ◌==◌, not, sym, ap}
 use Rattle.std.specs.Prelude.{nat_le, Some}
 use Rattle.cry_base.specs.Refusing.{height_of}
 use Rattle.cry_base.specs.Store.{depth_of, folder_node, is_within}
 use Rattle.move_plan.specs.Change.{parent_of_folder}
-use Rattle.move_plan.specs.Fitting.{file_stands, folder_stands, has_depth_left, is_other_folder, may_go_into, row_fits}
-use Rattle.move_plan.specs.Seen.{seen_store}
+use Rattle.move_plan.specs.Fitting.{folder_stands, is_other_folder, may_go_into, row_fits}
 use Rattle.record_format.specs.Told.{told_note}
 use Rattle.move_plan.proofs.Seeing.{child_seen, depth_seen, file_seen, folder_seen, grant_seen, holder_seen, into_seen, other_seen, regrouped, stands_seen}
 use Rattle.move_plan.proofs.fitting.row_fits.Goals as goal
