@@ -29,3 +29,4 @@ pub mod SeenAfter
 pub mod DueLists
 pub mod StepTold
 pub mod DueMade
+pub mod PreparedTold

@@ -12,6 +12,7 @@ pub mod Fitted
 pub mod Changing
 pub mod Faults
 pub mod Heads
+pub mod Preparing
 pub mod Standing
 pub mod Stepping
 pub mod Tree

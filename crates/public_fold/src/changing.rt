@@ -129,7 +129,7 @@ fn change_grants(grants: &mut Grants, note: &Note)
 }
 
 /// A law: a number of a note is below 2^32.
-fn is_number(number: u32)
+pub(crate) fn is_number(number: u32)
     ensures { number < 4294967296 }
 {
     let _number = number;

@@ -13,6 +13,7 @@ pub mod laws;
 mod lists;
 mod marks;
 mod numbering;
+mod prepared;
 mod publishing;
 pub mod rows;
 mod sealing;
@@ -22,4 +23,8 @@ pub mod tree_laws;
 
 pub use fault::FoldFault;
 pub use heads::{ContentHead, KeyHead, LinkHead, Skeleton};
+pub use prepared::Prepared;
 pub use state::PublicState;
+
+#[cfg(test)]
+mod tests;

@@ -1,0 +1,335 @@
+//! Skeletons row by row, from the key step's table in docs/FORMAT.md worked by hand, and payloads that miss them.
+use crate::publishing::number_of;
+use crate::{FoldFault, LinkHead, PublicState, Skeleton};
+use cry_base::{FileId, FolderId, HolderId, List, Role, Serial};
+use record_format::{ContentRecord, LinkRecord, Note, Payload};
+use std::alloc::Global;
+use std::test::Fail;
+
+/// The serial `n` of an epoch.
+fn at(epoch: u64, n: u64) -> u64 {
+    epoch.wrapping_mul(0x1_0000_0000).wrapping_add(n)
+}
+
+const MAKE_A: Note = Note::NewFolder {
+    folder: FolderId(2),
+    parent: FolderId(1),
+};
+
+const MAKE_B: Note = Note::NewFolder {
+    folder: FolderId(3),
+    parent: FolderId(2),
+};
+
+const MAKE_X: Note = Note::NewFile {
+    file: FileId(1),
+    folder: FolderId(2),
+};
+
+fn holder(number: u32) -> Note {
+    Note::NewHolder {
+        holder: HolderId(number),
+        check: [7; 32],
+    }
+}
+
+fn give(number: u32, folder: u32) -> Note {
+    Note::Give {
+        holder: HolderId(number),
+        folder: FolderId(folder),
+    }
+}
+
+fn take(number: u32, folder: u32) -> Note {
+    Note::Take {
+        holder: HolderId(number),
+        folder: FolderId(folder),
+    }
+}
+
+/// The shortest text of a content: the root's name has no byte.
+fn shortest(kind: u8, object: u32) -> usize {
+    match kind {
+        1 if object == 1 => 0,
+        1 => 1,
+        2 => 2,
+        _ => 32,
+    }
+}
+
+fn links_of(alloc: Global, skeleton: &Skeleton) -> Result<List<LinkRecord>, Fail> {
+    let mut links = List::new(alloc);
+    for head in skeleton.links.as_slice() {
+        links.push(link_of(head))?;
+    }
+    Ok(links)
+}
+
+fn link_of(head: &LinkHead) -> LinkRecord {
+    LinkRecord {
+        kind: head.edge.kind,
+        from_id: number_of(head.edge.from),
+        to_id: number_of(head.edge.to),
+        from_serial: head.from_serial,
+        to_serial: head.to_serial,
+        nonce: head.nonce,
+        cipher: [0; 32],
+        tag: [0; 32],
+    }
+}
+
+/// A payload that fits, with no secret and no tag in it.
+fn payload_of(alloc: Global, note: Note, skeleton: &Skeleton) -> Result<Payload, Fail> {
+    let mut contents = List::new(alloc);
+    for head in skeleton.contents.as_slice() {
+        let mut cipher = List::new(alloc);
+        for _ in 0..shortest(head.kind, head.object) {
+            cipher.push(0)?;
+        }
+        contents.push(ContentRecord {
+            kind: head.kind,
+            object: head.object,
+            key_serial: head.key_serial,
+            nonce: head.nonce,
+            cipher,
+            tag: [0; 32],
+        })?;
+    }
+    Ok(Payload {
+        note,
+        links: links_of(alloc, skeleton)?,
+        contents,
+    })
+}
+
+fn begin_epoch(state: &mut PublicState) {
+    if state.epoch().0 < 1000 {
+        state.next_epoch();
+    }
+}
+
+/// Does the notes one after another, each with the payload that its skeleton asks for.
+fn do_all(alloc: Global, state: &mut PublicState, notes: &[Note]) -> Result<(), Fail> {
+    for note in notes {
+        let skeleton = state.skeleton(alloc, note)?;
+        let payload = payload_of(alloc, *note, &skeleton)?;
+        state.advance(alloc, &payload)?;
+    }
+    Ok(())
+}
+
+/// A fresh store in its second epoch.
+fn fresh(alloc: Global) -> Result<PublicState, Fail> {
+    let mut state = PublicState::new(alloc)?;
+    begin_epoch(&mut state);
+    do_all(alloc, &mut state, &[Note::Root])?;
+    begin_epoch(&mut state);
+    Ok(state)
+}
+
+/// A link's kind, ids, serials and nonce.
+type Row = (u8, u32, u32, u64, u64, u64);
+
+fn row_of(head: &LinkHead) -> Row {
+    let link = link_of(head);
+    (
+        link.kind,
+        link.from_id,
+        link.to_id,
+        link.from_serial.0,
+        link.to_serial.0,
+        link.nonce,
+    )
+}
+
+fn has_rows(skeleton: &Skeleton, rows: &[Row]) -> bool {
+    let heads = skeleton.links.as_slice();
+    heads.len() == rows.len()
+        && heads
+            .iter()
+            .zip(rows)
+            .all(|(head, row)| row_of(head) == *row)
+}
+
+fn gives(skeleton: &Skeleton, serials: &[u64]) -> bool {
+    let keys = skeleton.keys.as_slice();
+    keys.len() == serials.len()
+        && keys
+            .iter()
+            .zip(serials)
+            .all(|(key, serial)| key.serial.0 == *serial)
+}
+
+fn seals(skeleton: &Skeleton, kind: u8, object: u32, key: u64, nonce: u64) -> bool {
+    match skeleton.contents.as_slice() {
+        [head] => {
+            head.kind == kind
+                && head.object == object
+                && head.key_serial == Serial(key)
+                && head.nonce == nonce
+        }
+        _ => false,
+    }
+}
+
+#[test]
+fn a_rename_after_a_revocation_renews_what_leads_to_the_name(rt: HostRuntime) -> Result<(), Fail> {
+    let alloc = rt.alloc();
+    let mut state = fresh(alloc)?;
+    let notes = [
+        MAKE_A,
+        MAKE_B,
+        holder(1),
+        holder(2),
+        give(1, 2),
+        give(2, 3),
+        take(1, 2),
+    ];
+    do_all(alloc, &mut state, &notes)?;
+    assert_eq!(rt; state.dirty().as_slice().len(), 10);
+    let rename = Note::NameFolder {
+        folder: FolderId(2),
+    };
+    let skeleton = state.skeleton(alloc, &rename)?;
+    assert!(rt;
+        gives(
+            &skeleton,
+            &[at(2, 35), at(2, 36), at(2, 37), at(2, 38), at(2, 39)]
+        )
+    );
+    let rows = [
+        (3, 2, 2, at(2, 32), at(2, 35), at(2, 40)),
+        (3, 3, 3, at(2, 13), at(2, 36), at(2, 41)),
+        (4, 2, 2, at(2, 35), at(2, 37), at(2, 42)),
+        (4, 3, 3, at(2, 36), at(2, 38), at(2, 43)),
+        (5, 2, 2, at(2, 35), at(2, 3), at(2, 44)),
+        (5, 3, 3, at(2, 36), at(2, 16), at(2, 45)),
+        (6, 1, 2, at(1, 1), at(2, 35), at(2, 46)),
+        (6, 2, 3, at(2, 35), at(2, 36), at(2, 47)),
+        (7, 2, 2, at(2, 37), at(2, 39), at(2, 48)),
+        (7, 3, 3, at(2, 38), at(2, 17), at(2, 49)),
+        (8, 2, 1, at(2, 37), at(1, 2), at(2, 50)),
+        (8, 3, 2, at(2, 38), at(2, 37), at(2, 51)),
+    ];
+    assert!(rt; has_rows(&skeleton, &rows));
+    assert!(rt; seals(&skeleton, 1, 2, at(2, 39), at(2, 52)));
+    Ok(())
+}
+
+#[test]
+fn a_write_after_a_revocation_renews_what_leads_to_the_file(rt: HostRuntime) -> Result<(), Fail> {
+    let alloc = rt.alloc();
+    let mut state = fresh(alloc)?;
+    do_all(alloc, &mut state, &[MAKE_A, MAKE_X, holder(1), give(1, 2)])?;
+    begin_epoch(&mut state);
+    let revoked = state.skeleton(alloc, &take(1, 2))?;
+    let links = [
+        (1, 0, 2, 0, at(3, 0), at(3, 1)),
+        (3, 2, 2, at(3, 0), at(2, 1), at(3, 2)),
+    ];
+    assert!(rt; gives(&revoked, &[at(3, 0)]) && has_rows(&revoked, &links));
+    do_all(alloc, &mut state, &[take(1, 2)])?;
+    begin_epoch(&mut state);
+    let write = Note::Rewrite { file: FileId(1) };
+    let written = state.skeleton(alloc, &write)?;
+    let rows = [
+        (3, 2, 2, at(3, 0), at(4, 0), at(4, 3)),
+        (4, 2, 2, at(4, 0), at(2, 2), at(4, 4)),
+        (5, 2, 2, at(4, 0), at(4, 1), at(4, 5)),
+        (6, 1, 2, at(1, 1), at(4, 0), at(4, 6)),
+        (9, 2, 1, at(4, 1), at(4, 2), at(4, 7)),
+    ];
+    assert!(rt; gives(&written, &[at(4, 0), at(4, 1), at(4, 2)]) && has_rows(&written, &rows));
+    assert!(rt; seals(&written, 2, 1, at(4, 2), at(4, 8)));
+    Ok(())
+}
+
+/// How a payload misses its skeleton.
+#[derive(Clone, Copy)]
+enum Miss {
+    OtherNonce,
+    LinkLeftOut,
+    LinkTwice,
+    LinksSwapped,
+    ContentLeftOut,
+    OtherNote,
+}
+
+const MISSES: [Miss; 6] = [
+    Miss::OtherNonce,
+    Miss::LinkLeftOut,
+    Miss::LinkTwice,
+    Miss::LinksSwapped,
+    Miss::ContentLeftOut,
+    Miss::OtherNote,
+];
+
+/// The links as the miss has them: of its first two, one changed, one left out, one twice, both swapped.
+fn missed_links(alloc: Global, links: &[LinkRecord], miss: Miss) -> Result<List<LinkRecord>, Fail> {
+    let mut all = List::new(alloc);
+    let rest = match (links, miss) {
+        ([first, rest @ ..], Miss::OtherNonce) => {
+            let nonce = first.nonce.wrapping_add(1);
+            all.push(LinkRecord { nonce, ..*first })?;
+            rest
+        }
+        ([_, rest @ ..], Miss::LinkLeftOut) => rest,
+        ([first, ..], Miss::LinkTwice) => {
+            all.push(*first)?;
+            links
+        }
+        ([first, second, rest @ ..], Miss::LinksSwapped) => {
+            all.push(*second)?;
+            all.push(*first)?;
+            rest
+        }
+        _ => links,
+    };
+    for link in rest {
+        all.push(*link)?;
+    }
+    Ok(all)
+}
+
+/// The payload with the miss in it.
+fn missed(alloc: Global, fits: Payload, miss: Miss) -> Result<Payload, Fail> {
+    let links = missed_links(alloc, fits.links.as_slice(), miss)?;
+    let contents = match miss {
+        Miss::ContentLeftOut => List::new(alloc),
+        _ => fits.contents,
+    };
+    let note = match miss {
+        Miss::OtherNote => take(9, 9),
+        _ => fits.note,
+    };
+    Ok(Payload {
+        note,
+        links,
+        contents,
+    })
+}
+
+#[test]
+fn a_payload_that_misses_its_skeleton_is_unfit(rt: HostRuntime) -> Result<(), Fail> {
+    let alloc = rt.alloc();
+    for miss in MISSES {
+        let mut state = fresh(alloc)?;
+        let skeleton = state.skeleton(alloc, &MAKE_A)?;
+        let fits = payload_of(alloc, MAKE_A, &skeleton)?;
+        let payload = missed(alloc, fits, miss)?;
+        assert_eq!(rt; state.advance(alloc, &payload), Err(FoldFault::Unfit));
+        assert_eq!(rt; state.shape().folders_made(), 1);
+        do_all(alloc, &mut state, &[MAKE_A])?;
+        assert_eq!(rt; state.shape().folders_made(), 2);
+    }
+    Ok(())
+}
+
+#[test]
+fn no_note_fits_before_the_first_epoch(rt: HostRuntime) -> Result<(), Fail> {
+    let state = PublicState::new(rt.alloc())?;
+    let skeleton = state.skeleton(rt.alloc(), &Note::Root);
+    assert!(rt; matches!(skeleton, Err(FoldFault::Unfit)));
+    assert_eq!(rt; state.present(Role::Owner), Some(Serial(0)));
+    Ok(())
+}
