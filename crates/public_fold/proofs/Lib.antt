@@ -30,3 +30,4 @@ pub mod DueLists
 pub mod StepTold
 pub mod DueMade
 pub mod PreparedTold
+pub mod GrantLaws

@@ -19,6 +19,7 @@ pub mod rows;
 mod sealing;
 mod state;
 mod step;
+pub mod step_laws;
 pub mod tree_laws;
 
 pub use fault::FoldFault;

@@ -333,3 +333,93 @@ fn no_note_fits_before_the_first_epoch(rt: HostRuntime) -> Result<(), Fail> {
     assert_eq!(rt; state.present(Role::Owner), Some(Serial(0)));
     Ok(())
 }
+
+#[test]
+fn a_holder_is_prepared_before_its_key_is_drawn(rt: HostRuntime) -> Result<(), Fail> {
+    let alloc = rt.alloc();
+    let mut state = fresh(alloc)?;
+    let before = state.copy(alloc)?;
+    let wants_epoch = state.epoch().0 < 1000;
+    let note = Note::NewHolder {
+        holder: HolderId(1),
+        check: [0; 32],
+    };
+    let mut ready = state.prepare(alloc, &note, wants_epoch)?;
+    assert!(rt; gives(ready.skeleton(), &[at(3, 0)]));
+    assert!(rt; seals(ready.skeleton(), 3, 1, 0, at(3, 1)));
+    ready.set_check([9; 32]);
+    state.settle(ready);
+    assert_eq!(rt; state.grants().check_of(HolderId(1)), Some([9; 32]));
+    assert_eq!(rt;
+        state.present(Role::Holder(HolderId(1))),
+        Some(Serial(at(3, 0)))
+    );
+    assert_eq!(rt; before.grants().holders(), 0);
+    Ok(())
+}
+
+/// Some note with ids up to 8, by a number; what it makes is the next of its kind.
+fn some_note(state: &PublicState, number: u32) -> Note {
+    let (one, two) = ((number >> 4) & 7, (number >> 7) & 7);
+    let (file, folder, into) = (FileId(one + 1), FolderId(one + 1), FolderId(two + 1));
+    match number & 15 {
+        0 | 1 => Note::NewFolder {
+            folder: FolderId(state.shape().folders_made().wrapping_add(1)),
+            parent: into,
+        },
+        2 | 3 => Note::NewFile {
+            file: FileId(state.shape().files_made().wrapping_add(1)),
+            folder: into,
+        },
+        4 => Note::Rewrite { file },
+        5 => Note::NameFile { file },
+        6 => Note::NameFolder { folder },
+        7 => Note::DropFile { file },
+        8 => Note::DropFolder { folder },
+        9 => Note::ShiftFile { file, into },
+        10 => Note::ShiftFolder { folder, into },
+        11 => holder(state.grants().holders().wrapping_add(1)),
+        12 | 13 => give(one + 1, two + 1),
+        _ => take(one + 1, two + 1),
+    }
+}
+
+/// Whether the payload without its first link, or with its first two in the other order, is unfit too, where the note
+/// publishes two at least.
+fn misses_are_unfit(alloc: Global, state: &mut PublicState, note: Note) -> Result<bool, Fail> {
+    for miss in [
+        Miss::OtherNonce,
+        Miss::LinkLeftOut,
+        Miss::LinkTwice,
+        Miss::LinksSwapped,
+    ] {
+        let skeleton = state.skeleton(alloc, &note)?;
+        if skeleton.links.as_slice().len() < 2 {
+            return Ok(true);
+        }
+        let payload = missed(alloc, payload_of(alloc, note, &skeleton)?, miss)?;
+        if state.advance(alloc, &payload) != Err(FoldFault::Unfit) {
+            return Ok(false);
+        }
+    }
+    Ok(true)
+}
+
+#[test]
+fn whatever_note_fits_its_own_skeleton_alone_is_taken(rt: HostRuntime) -> Result<(), Fail> {
+    let alloc = rt.alloc();
+    let mut state = fresh(alloc)?;
+    let mut number = 1u32;
+    let mut taken = 0u32;
+    for _ in 0..600 {
+        number = number.wrapping_mul(1_664_525).wrapping_add(1_013_904_223);
+        let note = some_note(&state, number >> 16);
+        if state.skeleton(alloc, &note).is_ok() {
+            assert!(rt; misses_are_unfit(alloc, &mut state, note)?);
+            do_all(alloc, &mut state, &[note])?;
+            taken = taken.wrapping_add(1);
+        }
+    }
+    assert!(rt; taken > 100);
+    Ok(())
+}
