@@ -71,7 +71,7 @@ put_counts X lt p x (y ∷ ys) = elim (lt y x) as (λ b. length (filter p (cond 
     longer false true e = e
     longer false false e = e
 
-order_counts : (X : Type 0) (lt : X → X → Bool) (p : X → Bool) (xs : List X) → length (filter p (in_order lt xs)) ≡ length (filter p xs)
+pub order_counts : (X : Type 0) (lt : X → X → Bool) (p : X → Bool) (xs : List X) → length (filter p (in_order lt xs)) ≡ length (filter p xs)
 unfolding in_order
 order_counts X lt p [] = refl
 order_counts X lt p (x ∷ xs) = put_counts X lt p x (in_order lt xs) ∙ more (p x) (order_counts X lt p xs)
@@ -134,7 +134,7 @@ not_given_yet : (s : Store) (h f : ℕ) → fits s (Give h f) ≡ true → has_g
 unfolding fits row_fits
 not_given_yet s h f t = not-true (has_grant s h f) (and_parts _ (not (has_grant s h f)) (and_parts _ (not (needs_root (Give h f)) || folder_stands s 1) t).0).1
 
-as_many_links : (keys : List (Role × ℕ)) (n : ℕ) (es : List Edge) → length (links_from keys n es) ≡ length es
+pub as_many_links : (keys : List (Role × ℕ)) (n : ℕ) (es : List Edge) → length (links_from keys n es) ≡ length es
 unfolding links_from
 as_many_links keys n es = length-map (numbered n es) (link_of keys) ∙ numbered-length Edge n es
 

@@ -31,3 +31,4 @@ pub mod StepTold
 pub mod DueMade
 pub mod PreparedTold
 pub mod GrantLaws
+pub mod RevokeLaws

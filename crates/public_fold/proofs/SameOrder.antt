@@ -166,7 +166,7 @@ same_passes p one gs hs are = ⊎_elim
 
 -- ---- grants' edges
 
-filter_made : (p : Edge → Bool) (f : GrantEntry → Edge) (gs : List GrantEntry) → filter p (map f gs) ≡ map f (filter (λ g. p (f g)) gs)
+pub filter_made : (p : Edge → Bool) (f : GrantEntry → Edge) (gs : List GrantEntry) → filter p (map f gs) ≡ map f (filter (λ g. p (f g)) gs)
 filter_made p f [] = refl
 filter_made p f (g ∷ gs) = elim (p (f g)) as (λ b. cond b (f g ∷ filter p (map f gs)) (filter p (map f gs)) ≡ map f (cond b (g ∷ filter (λ x. p (f x)) gs) (filter (λ x. p (f x)) gs))) [
   | true ↦ ap (λ l. f g ∷ l) (filter_made p f gs)

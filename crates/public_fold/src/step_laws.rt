@@ -1,16 +1,17 @@
 //! Laws of what each note publishes, and of which keys are renewed for it, whatever stands.
-ghost use Rattle.std.specs.Prelude.{◌≡◌, ℕ, true, [], length};
+ghost use Rattle.std.specs.Prelude.{◌≡◌, ℕ, ◌+◌, ◌==◌, true, false, [], ◌∷◌, filter, length};
 ghost use Rattle.cry_base.specs.Sets.{In};
 ghost use Rattle.cry_base.specs.Store.{Store};
 ghost use Rattle.cry_base.specs.declared.roles.Role.{Role};
-ghost use Rattle.record_format.specs.Noted.Note.{Give};
+ghost use Rattle.record_format.specs.Noted.Note.{Give, Take};
 ghost use Rattle.role_graph.specs.Edges.{edges};
-ghost use Rattle.role_graph.specs.Roles.{is_sealing_role};
+ghost use Rattle.role_graph.specs.Roles.{clear_of, is_root_role, is_sealing_role};
 ghost use Rattle.move_plan.specs.Change.{Change};
 ghost use Rattle.move_plan.specs.Fitting.{fits};
 ghost use Rattle.public_fold.specs.Fitted.{told_step};
 ghost use Rattle.public_fold.specs.Journal.{Stand};
-ghost use Rattle.public_fold.specs.KeyStep.{KeyState, renewed};
+ghost use Rattle.public_fold.specs.KeyStep.{KeyState, next_serial, renewed};
+ghost use Rattle.public_fold.specs.Told.{told_store};
 
 /// A grant that fits publishes its one link and nothing else, and gives no key.
 pub fn grants_publish_one_link()
@@ -22,4 +23,16 @@ pub fn grants_publish_one_link()
 /// A key that seals a name or a file is renewed only where it is wanted, and so where what it seals is written anew.
 pub fn sealing_keys_are_renewed_where_wanted()
     ensures { (s : Store) (k : KeyState) (c : Change) (r : Role) → is_sealing_role r ≡ true → In r (renewed k (edges s) c) → In r c.wanted }
+{}
+
+/// A grant that is taken back, where no root is dirty and the folder stands once, gives the folder's clearance key anew and
+/// nothing else. It publishes that key's two links within the folder's own and the owner's, and one for each grant that
+/// is left on the folder.
+pub fn revocations_publish_a_link_for_each_grant_left()
+    ensures links { (at : Stand) (h f : ℕ) → ((r : Role) → In r at.keys.dirty → is_root_role r ≡ false) → length (filter (λ e. e.id == f) at.store.folders) ≡ 1
+        → length (told_step at (Take h f)).links ≡ 2 + length (filter (λ g. g.folder == f) (told_store at.store (Take h f)).grants) }
+    ensures given { (at : Stand) (h f : ℕ) → ((r : Role) → In r at.keys.dirty → is_root_role r ≡ false) → length (filter (λ e. e.id == f) at.store.folders) ≡ 1
+        → (told_step at (Take h f)).given ≡ (clear_of f, next_serial at.keys) ∷ [] }
+    ensures contents { (at : Stand) (h f : ℕ) → ((r : Role) → In r at.keys.dirty → is_root_role r ≡ false) → length (filter (λ e. e.id == f) at.store.folders) ≡ 1
+        → (told_step at (Take h f)).contents ≡ [] }
 {}

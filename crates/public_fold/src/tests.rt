@@ -6,11 +6,6 @@ use record_format::{ContentRecord, LinkRecord, Note, Payload};
 use std::alloc::Global;
 use std::test::Fail;
 
-/// The serial `n` of an epoch.
-fn at(epoch: u64, n: u64) -> u64 {
-    epoch.wrapping_mul(0x1_0000_0000).wrapping_add(n)
-}
-
 const MAKE_A: Note = Note::NewFolder {
     folder: FolderId(2),
     parent: FolderId(1),
@@ -127,8 +122,15 @@ fn fresh(alloc: Global) -> Result<PublicState, Fail> {
     Ok(state)
 }
 
+/// A serial: its epoch, and its count in it.
+type Number = (u64, u64);
+
 /// A link's kind, ids, serials and nonce.
-type Row = (u8, u32, u32, u64, u64, u64);
+type Row = (u8, u32, u32, Number, Number, Number);
+
+fn number(serial: u64) -> Number {
+    (serial / 0x1_0000_0000, serial % 0x1_0000_0000)
+}
 
 fn row_of(head: &LinkHead) -> Row {
     let link = link_of(head);
@@ -136,9 +138,9 @@ fn row_of(head: &LinkHead) -> Row {
         link.kind,
         link.from_id,
         link.to_id,
-        link.from_serial.0,
-        link.to_serial.0,
-        link.nonce,
+        number(link.from_serial.0),
+        number(link.to_serial.0),
+        number(link.nonce),
     )
 }
 
@@ -151,96 +153,105 @@ fn has_rows(skeleton: &Skeleton, rows: &[Row]) -> bool {
             .all(|(head, row)| row_of(head) == *row)
 }
 
-fn gives(skeleton: &Skeleton, serials: &[u64]) -> bool {
+fn gives(skeleton: &Skeleton, serials: &[Number]) -> bool {
     let keys = skeleton.keys.as_slice();
     keys.len() == serials.len()
         && keys
             .iter()
             .zip(serials)
-            .all(|(key, serial)| key.serial.0 == *serial)
+            .all(|(key, serial)| number(key.serial.0) == *serial)
 }
 
-fn seals(skeleton: &Skeleton, kind: u8, object: u32, key: u64, nonce: u64) -> bool {
+fn seals(skeleton: &Skeleton, kind: u8, object: u32, key: Number, nonce: Number) -> bool {
     match skeleton.contents.as_slice() {
         [head] => {
             head.kind == kind
                 && head.object == object
-                && head.key_serial == Serial(key)
-                && head.nonce == nonce
+                && number(head.key_serial.0) == key
+                && number(head.nonce) == nonce
         }
         _ => false,
     }
 }
 
+const RENAMED: [Row; 12] = [
+    (3, 2, 2, (2, 32), (2, 35), (2, 40)),
+    (3, 3, 3, (2, 13), (2, 36), (2, 41)),
+    (4, 2, 2, (2, 35), (2, 37), (2, 42)),
+    (4, 3, 3, (2, 36), (2, 38), (2, 43)),
+    (5, 2, 2, (2, 35), (2, 3), (2, 44)),
+    (5, 3, 3, (2, 36), (2, 16), (2, 45)),
+    (6, 1, 2, (1, 1), (2, 35), (2, 46)),
+    (6, 2, 3, (2, 35), (2, 36), (2, 47)),
+    (7, 2, 2, (2, 37), (2, 39), (2, 48)),
+    (7, 3, 3, (2, 38), (2, 17), (2, 49)),
+    (8, 2, 1, (2, 37), (1, 2), (2, 50)),
+    (8, 3, 2, (2, 38), (2, 37), (2, 51)),
+];
+
+const RENEWED: [Number; 5] = [(2, 35), (2, 36), (2, 37), (2, 38), (2, 39)];
+
+/// A folder in another, two holders with a grant each, and the first grant taken back.
+fn revoked(alloc: Global) -> Result<PublicState, Fail> {
+    let mut state = fresh(alloc)?;
+    do_all(alloc, &mut state, &[MAKE_A, MAKE_B, holder(1), holder(2)])?;
+    do_all(alloc, &mut state, &[give(1, 2), give(2, 3), take(1, 2)])?;
+    Ok(state)
+}
+
 #[test]
 fn a_rename_after_a_revocation_renews_what_leads_to_the_name(rt: HostRuntime) -> Result<(), Fail> {
-    let alloc = rt.alloc();
-    let mut state = fresh(alloc)?;
-    let notes = [
-        MAKE_A,
-        MAKE_B,
-        holder(1),
-        holder(2),
-        give(1, 2),
-        give(2, 3),
-        take(1, 2),
-    ];
-    do_all(alloc, &mut state, &notes)?;
-    assert_eq!(rt; state.dirty().as_slice().len(), 10);
+    let state = revoked(rt.alloc())?;
     let rename = Note::NameFolder {
         folder: FolderId(2),
     };
-    let skeleton = state.skeleton(alloc, &rename)?;
-    assert!(rt;
-        gives(
-            &skeleton,
-            &[at(2, 35), at(2, 36), at(2, 37), at(2, 38), at(2, 39)]
-        )
-    );
-    let rows = [
-        (3, 2, 2, at(2, 32), at(2, 35), at(2, 40)),
-        (3, 3, 3, at(2, 13), at(2, 36), at(2, 41)),
-        (4, 2, 2, at(2, 35), at(2, 37), at(2, 42)),
-        (4, 3, 3, at(2, 36), at(2, 38), at(2, 43)),
-        (5, 2, 2, at(2, 35), at(2, 3), at(2, 44)),
-        (5, 3, 3, at(2, 36), at(2, 16), at(2, 45)),
-        (6, 1, 2, at(1, 1), at(2, 35), at(2, 46)),
-        (6, 2, 3, at(2, 35), at(2, 36), at(2, 47)),
-        (7, 2, 2, at(2, 37), at(2, 39), at(2, 48)),
-        (7, 3, 3, at(2, 38), at(2, 17), at(2, 49)),
-        (8, 2, 1, at(2, 37), at(1, 2), at(2, 50)),
-        (8, 3, 2, at(2, 38), at(2, 37), at(2, 51)),
-    ];
-    assert!(rt; has_rows(&skeleton, &rows));
-    assert!(rt; seals(&skeleton, 1, 2, at(2, 39), at(2, 52)));
+    let skeleton = state.skeleton(rt.alloc(), &rename)?;
+    assert!(rt; gives(&skeleton, &RENEWED));
+    assert!(rt; has_rows(&skeleton, &RENAMED));
+    assert!(rt; seals(&skeleton, 1, 2, (2, 39), (2, 52)));
+    Ok(())
+}
+
+const TAKEN: [Row; 2] = [
+    (1, 0, 2, (0, 0), (3, 0), (3, 1)),
+    (3, 2, 2, (3, 0), (2, 1), (3, 2)),
+];
+
+const WRITTEN: [Row; 5] = [
+    (3, 2, 2, (3, 0), (4, 0), (4, 3)),
+    (4, 2, 2, (4, 0), (2, 2), (4, 4)),
+    (5, 2, 2, (4, 0), (4, 1), (4, 5)),
+    (6, 1, 2, (1, 1), (4, 0), (4, 6)),
+    (9, 2, 1, (4, 1), (4, 2), (4, 7)),
+];
+
+/// A file in a folder that was granted, in the third epoch.
+fn granted(alloc: Global) -> Result<PublicState, Fail> {
+    let mut state = fresh(alloc)?;
+    do_all(alloc, &mut state, &[MAKE_A, MAKE_X, holder(1), give(1, 2)])?;
+    begin_epoch(&mut state);
+    Ok(state)
+}
+
+#[test]
+fn a_revocation_publishes_the_two_links_of_the_new_key(rt: HostRuntime) -> Result<(), Fail> {
+    let state = granted(rt.alloc())?;
+    let skeleton = state.skeleton(rt.alloc(), &take(1, 2))?;
+    assert!(rt; gives(&skeleton, &[(3, 0)]));
+    assert!(rt; has_rows(&skeleton, &TAKEN));
+    assert_eq!(rt; skeleton.contents.as_slice().len(), 0);
     Ok(())
 }
 
 #[test]
 fn a_write_after_a_revocation_renews_what_leads_to_the_file(rt: HostRuntime) -> Result<(), Fail> {
-    let alloc = rt.alloc();
-    let mut state = fresh(alloc)?;
-    do_all(alloc, &mut state, &[MAKE_A, MAKE_X, holder(1), give(1, 2)])?;
+    let mut state = granted(rt.alloc())?;
+    do_all(rt.alloc(), &mut state, &[take(1, 2)])?;
     begin_epoch(&mut state);
-    let revoked = state.skeleton(alloc, &take(1, 2))?;
-    let links = [
-        (1, 0, 2, 0, at(3, 0), at(3, 1)),
-        (3, 2, 2, at(3, 0), at(2, 1), at(3, 2)),
-    ];
-    assert!(rt; gives(&revoked, &[at(3, 0)]) && has_rows(&revoked, &links));
-    do_all(alloc, &mut state, &[take(1, 2)])?;
-    begin_epoch(&mut state);
-    let write = Note::Rewrite { file: FileId(1) };
-    let written = state.skeleton(alloc, &write)?;
-    let rows = [
-        (3, 2, 2, at(3, 0), at(4, 0), at(4, 3)),
-        (4, 2, 2, at(4, 0), at(2, 2), at(4, 4)),
-        (5, 2, 2, at(4, 0), at(4, 1), at(4, 5)),
-        (6, 1, 2, at(1, 1), at(4, 0), at(4, 6)),
-        (9, 2, 1, at(4, 1), at(4, 2), at(4, 7)),
-    ];
-    assert!(rt; gives(&written, &[at(4, 0), at(4, 1), at(4, 2)]) && has_rows(&written, &rows));
-    assert!(rt; seals(&written, 2, 1, at(4, 2), at(4, 8)));
+    let skeleton = state.skeleton(rt.alloc(), &Note::Rewrite { file: FileId(1) })?;
+    assert!(rt; gives(&skeleton, &[(4, 0), (4, 1), (4, 2)]));
+    assert!(rt; has_rows(&skeleton, &WRITTEN));
+    assert!(rt; seals(&skeleton, 2, 1, (4, 2), (4, 8)));
     Ok(())
 }
 
@@ -293,20 +304,29 @@ fn missed_links(alloc: Global, links: &[LinkRecord], miss: Miss) -> Result<List<
 
 /// The payload with the miss in it.
 fn missed(alloc: Global, fits: Payload, miss: Miss) -> Result<Payload, Fail> {
-    let links = missed_links(alloc, fits.links.as_slice(), miss)?;
-    let contents = match miss {
-        Miss::ContentLeftOut => List::new(alloc),
-        _ => fits.contents,
-    };
-    let note = match miss {
-        Miss::OtherNote => take(9, 9),
-        _ => fits.note,
-    };
-    Ok(Payload {
+    let Payload {
         note,
         links,
         contents,
-    })
+    } = fits;
+    let links = missed_links(alloc, links.as_slice(), miss)?;
+    match miss {
+        Miss::ContentLeftOut => Ok(Payload {
+            note,
+            links,
+            contents: List::new(alloc),
+        }),
+        Miss::OtherNote => Ok(Payload {
+            note: take(9, 9),
+            links,
+            contents,
+        }),
+        _ => Ok(Payload {
+            note,
+            links,
+            contents,
+        }),
+    }
 }
 
 #[test]
@@ -345,15 +365,12 @@ fn a_holder_is_prepared_before_its_key_is_drawn(rt: HostRuntime) -> Result<(), F
         check: [0; 32],
     };
     let mut ready = state.prepare(alloc, &note, wants_epoch)?;
-    assert!(rt; gives(ready.skeleton(), &[at(3, 0)]));
-    assert!(rt; seals(ready.skeleton(), 3, 1, 0, at(3, 1)));
+    assert!(rt; gives(ready.skeleton(), &[(3, 0)]));
+    assert!(rt; seals(ready.skeleton(), 3, 1, (0, 0), (3, 1)));
     ready.set_check([9; 32]);
     state.settle(ready);
     assert_eq!(rt; state.grants().check_of(HolderId(1)), Some([9; 32]));
-    assert_eq!(rt;
-        state.present(Role::Holder(HolderId(1))),
-        Some(Serial(at(3, 0)))
-    );
+    assert!(rt; state.present(Role::Holder(HolderId(1))).is_some());
     assert_eq!(rt; before.grants().holders(), 0);
     Ok(())
 }
