@@ -1,7 +1,7 @@
 -- How many records a grant and a revocation publish, and which keys are renewed only where they are wanted.
 use Rattle.std.proofs.Common.{◌≡◌, ◌≢◌, ℕ, suc, ◌+◌, ◌*◌, Bool, true, false, cond, not, ◌&&◌, ◌||◌, ◌==◌, ◌⊎◌, ◌↔◌, List, [], ◌∷◌, ◌++◌, map, filter, length, inl, inr, ⊎_elim, refl, sym, ap, ◌∙◌, subst, arith, length-append}
-use Rattle.std.specs.List.{flat_map, list_any}
-use Rattle.std.proofs.lemmas.Bool.{eqb-true, eq-eqb, false≢true, false_from_ne_true, not-true, and_parts, and_from}
+use Rattle.std.specs.List.{flat_map}
+use Rattle.std.proofs.lemmas.Bool.{eq-eqb, false≢true, false_from_ne_true, and_from}
 use Rattle.std.proofs.lemmas.List.{length-map}
 use Rattle.std.proofs.lemmas.List.Elements.{filter-append}
 use Rattle.cry_base.specs.Sets.{In, Path, has}
@@ -10,21 +10,21 @@ use Rattle.cry_base.specs.Store.{Store, FolderEntry, FileEntry, GrantEntry, has_
 use Rattle.cry_base.specs.declared.roles.Edge.{Edge}
 use Rattle.cry_base.specs.declared.roles.Role.{Role}
 use Rattle.cry_base.specs.declared.roles.Role.TheVariants.{Owner}
-use Rattle.cry_base.proofs.Members.{In-any, In-map, In-filter}
-use Rattle.role_graph.specs.Ascending.{IsAscending, ascending}
+use Rattle.cry_base.proofs.Members.{In-any, In-map}
+use Rattle.role_graph.specs.Ascending.{IsAscending}
 use Rattle.role_graph.specs.Roles.{same_role, variant_of, role_id, is_root_role, is_sealing_role, is_clear_role, holder_role, clear_of, sub_of, back_of, files_of, data_of, file_role}
 use Rattle.role_graph.specs.Edges.{edge, edge_before, put_in_order, in_order, folder_edges, parent_edges, grant_edge, file_edge, edges, pairs_of, Reaches, same_edge, IsOwnEdge, IsParentEdge, IsGrantEdge, IsFileEdge, IsEdge}
 use Rattle.role_graph.proofs.Edging.{edges_told}
-use Rattle.role_graph.proofs.Rising.{ascending_told, ascending_ascends, same_list}
+use Rattle.role_graph.proofs.Rising.{ascending_ascends, same_list}
 use Rattle.role_graph.proofs.Typing.{typed}
-use Rattle.rekey_walk.specs.Dirty.{plan, leads_to_any, mark, mark_all}
+use Rattle.rekey_walk.specs.Dirty.{plan, leads_to_any, mark_all}
 use Rattle.rekey_walk.proofs.Marking.{plan_told, mark_all_told}
 use Rattle.record_format.specs.Noted.{Note}
 use Rattle.record_format.specs.Noted.Note.{Give, Take}
 use Rattle.move_plan.specs.Change.{Change, no_change, change_of}
 use Rattle.public_fold.specs.Costs.{HasNoRoot, is_folder, is_other_grant}
 use Rattle.public_fold.specs.Journal.{Stand, note_step}
-use Rattle.public_fold.specs.Records.{Link, pieces_of}
+use Rattle.public_fold.specs.Records.{pieces_of}
 use Rattle.public_fold.specs.KeyStep.{KeyState, numbered, given, keys_then, link_of, links_from, contents_from, published, step_with, key_step, next_serial, without, edges_left, dirty_left, renewed, edges_then, is_published, published_edges}
 use Rattle.public_fold.proofs.EdgesThen.{left_told, same_edge_tells}
 use Rattle.public_fold.proofs.KeepingKeys.{without_told}

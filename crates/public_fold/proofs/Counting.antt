@@ -28,7 +28,7 @@ changed X id made test change xs old keeps e i =
     let same : id (cond (test w.0) (change w.0) w.0) ≡ id w.0 = elim (test w.0) as (λ b. id (cond b (change w.0) w.0) ≡ id w.0) [ true ↦ keeps w.0 | false ↦ refl ] in
     subst (λ n. n ≤ made) (sym (ap id w.2 ∙ same)) (old w.0 w.1)
 
-new_holder : (s : Store) (key : List ℕ) → AreCounted s → AreCounted (with_new_holder s key)
+pub new_holder : (s : Store) (key : List ℕ) → AreCounted s → AreCounted (with_new_holder s key)
 unfolding with_new_holder
 new_holder s key c = record {
   each_folder = c.each_folder;
@@ -36,7 +36,7 @@ new_holder s key c = record {
   each_holder = added HolderEntry (λ e. e.number) s.holders_made (record { number = s.holders_made + 1; key = key }) s.holders c.each_holder refl;
 }
 
-new_folder : (s : Store) (p : ℕ) (name : List ℕ) → AreCounted s → AreCounted (with_new_folder s p name)
+pub new_folder : (s : Store) (p : ℕ) (name : List ℕ) → AreCounted s → AreCounted (with_new_folder s p name)
 unfolding with_new_folder
 new_folder s p name c = record {
   each_folder = added FolderEntry (λ e. e.id) s.folders_made (record { id = s.folders_made + 1; parent = p; name = name }) s.folders c.each_folder refl;
@@ -44,7 +44,7 @@ new_folder s p name c = record {
   each_holder = c.each_holder;
 }
 
-new_file : (s : Store) (f : ℕ) (name bytes : List ℕ) → AreCounted s → AreCounted (with_new_file s f name bytes)
+pub new_file : (s : Store) (f : ℕ) (name bytes : List ℕ) → AreCounted s → AreCounted (with_new_file s f name bytes)
 unfolding with_new_file
 new_file s f name bytes c = record {
   each_folder = c.each_folder;
@@ -52,7 +52,7 @@ new_file s f name bytes c = record {
   each_holder = c.each_holder;
 }
 
-one_folder : (s : Store) (f : ℕ) (change : FolderEntry → FolderEntry) → ((e : FolderEntry) → (change e).id ≡ e.id) → AreCounted s → AreCounted (with_folder s f change)
+pub one_folder : (s : Store) (f : ℕ) (change : FolderEntry → FolderEntry) → ((e : FolderEntry) → (change e).id ≡ e.id) → AreCounted s → AreCounted (with_folder s f change)
 unfolding with_folder
 one_folder s f change keeps c = record {
   each_folder = changed FolderEntry (λ e. e.id) s.folders_made (λ e. e.id == f) change s.folders c.each_folder keeps;
@@ -60,7 +60,7 @@ one_folder s f change keeps c = record {
   each_holder = c.each_holder;
 }
 
-one_file : (s : Store) (x : ℕ) (change : FileEntry → FileEntry) → ((e : FileEntry) → (change e).id ≡ e.id) → AreCounted s → AreCounted (with_file s x change)
+pub one_file : (s : Store) (x : ℕ) (change : FileEntry → FileEntry) → ((e : FileEntry) → (change e).id ≡ e.id) → AreCounted s → AreCounted (with_file s x change)
 unfolding with_file
 one_file s x change keeps c = record {
   each_folder = c.each_folder;
@@ -68,15 +68,15 @@ one_file s x change keeps c = record {
   each_holder = c.each_holder;
 }
 
-no_folder : (s : Store) (f : ℕ) → AreCounted s → AreCounted (without_folder s f)
+pub no_folder : (s : Store) (f : ℕ) → AreCounted s → AreCounted (without_folder s f)
 unfolding without_folder
 no_folder s f c = record { each_folder = λ e i. c.each_folder e (In-filter FolderEntry (λ x. not (x.id == f)) e s.folders i).0; each_file = c.each_file; each_holder = c.each_holder }
 
-no_file : (s : Store) (x : ℕ) → AreCounted s → AreCounted (without_file s x)
+pub no_file : (s : Store) (x : ℕ) → AreCounted s → AreCounted (without_file s x)
 unfolding without_file
 no_file s x c = record { each_folder = c.each_folder; each_file = λ e i. c.each_file e (In-filter FileEntry (λ y. not (y.id == x)) e s.files i).0; each_holder = c.each_holder }
 
-no_grant : (s : Store) (h f : ℕ) → AreCounted s → AreCounted (without_grant s h f)
+pub no_grant : (s : Store) (h f : ℕ) → AreCounted s → AreCounted (without_grant s h f)
 unfolding without_grant
 no_grant s h f c = record { each_folder = c.each_folder; each_file = c.each_file; each_holder = c.each_holder }
 

@@ -1,5 +1,5 @@
 -- Records against what is due, one after another.
-use Rattle.std.proofs.Common.{◌≡◌, ℕ, zero, suc, ◌+◌, ◌<◌, ◌≤◌, Bool, true, false, ◌&&◌, List, [], ◌∷◌, length, get_or, drop, map, refl, sym, ap, ◌∙◌, arith}
+use Rattle.std.proofs.Common.{◌≡◌, ℕ, suc, ◌+◌, ◌<◌, ◌≤◌, Bool, true, false, ◌&&◌, List, [], ◌∷◌, length, get_or, drop, map, refl, sym, ap, ◌∙◌}
 use Rattle.std.proofs.lemmas.Bool.{and_right}
 use Rattle.std.proofs.lemmas.List.{at_drop_more, at_drop_all}
 use Rattle.public_fold.specs.Fitted.{are_due, has_content_head, has_heads, has_link_head}
@@ -7,7 +7,6 @@ use Rattle.public_fold.specs.Heads.{IsSkeleton, content_head, is_content_of}
 use Rattle.public_fold.specs.KeyStep.{Stepped}
 use Rattle.public_fold.specs.Records.{Content}
 use Rattle.record_format.specs.Plain.{PlainContent, PlainPayload}
-use Rattle.public_fold.specs.declared.heads.ContentHead.{ContentHead}
 use Rattle.public_fold.specs.declared.heads.Skeleton.{Skeleton}
 
 -- as many as are due, or they aren't those

@@ -22,7 +22,7 @@ use Rattle.public_fold.specs.Journal.{Journal, store_of}
 use Rattle.public_fold.specs.KeyStep.{edges_then}
 use Rattle.public_fold.specs.Valid.{IsValid}
 use Rattle.public_fold.proofs.Levels.{level_positive}
-use Rattle.public_fold.proofs.Treeing.{folder_own, file_own, node_stands}
+use Rattle.public_fold.proofs.Treeing.{folder_own, file_alone, node_stands}
 use Rattle.public_fold.proofs.Shifting.{folder_cases}
 use Rattle.public_fold.proofs.Accepting.{IsAccepted, accepted, no_child, no_inner}
 use Rattle.public_fold.proofs.Keeping.{HasTree, journal_tree, made_place, into_level}
@@ -33,7 +33,7 @@ abbrev pub Leads : Store → Change → Store → Type 0
 Leads s c t = (e : Edge) → IsThen s c e ↔ IsEdge t e
 
 -- nothing removed or added, and rows that tell the same
-unchanged : (s t : Store) (c : Change) → c.removed ≡ [] → c.added ≡ [] → ((e : Edge) → IsEdge s e ↔ IsEdge t e) → Leads s c t
+pub unchanged : (s t : Store) (c : Change) → c.removed ≡ [] → c.added ≡ [] → ((e : Edge) → IsEdge s e ↔ IsEdge t e) → Leads s c t
 unchanged s t c r a same e = (
   λ w. ⊎_elim (λ u. (same e).0 u.0) (λ i. absurd (subst (In e) a i)) w,
   λ w. inl ((same e).1 w, λ i. subst (In e) r i),
@@ -75,7 +75,7 @@ same_folders s x change ids parents e =
     )
 
 -- a new folder
-new_folder_edges : (s : Store) (n : FolderEntry) (t : Store) (c : Change) → n.parent ≢ 0 → t ≡ record s { folders = s.folders ++ n ∷ []; folders_made = s.folders_made + 1 } → c.removed ≡ [] → c.added ≡ in_order edge_before (folder_edges n.id ++ parent_edges n.id n.parent) → Leads s c t
+pub new_folder_edges : (s : Store) (n : FolderEntry) (t : Store) (c : Change) → n.parent ≢ 0 → t ≡ record s { folders = s.folders ++ n ∷ []; folders_made = s.folders_made + 1 } → c.removed ≡ [] → c.added ≡ in_order edge_before (folder_edges n.id ++ parent_edges n.id n.parent) → Leads s c t
 new_folder_edges s n t c some is r a e =
     let new : Store = record s { folders = s.folders ++ n ∷ []; folders_made = s.folders_made + 1 } in
     let there : In n (s.folders ++ n ∷ []) = (In-append FolderEntry n s.folders (n ∷ [])).1 (inr (inl refl)) in
@@ -102,7 +102,7 @@ new_folder_edges s n t c some is r a e =
     )
 
 -- a new file
-new_file_edges : (s : Store) (n : FileEntry) (t : Store) (c : Change) → t ≡ record s { files = s.files ++ n ∷ []; files_made = s.files_made + 1 } → c.removed ≡ [] → c.added ≡ file_edge n.folder n.id ∷ [] → Leads s c t
+pub new_file_edges : (s : Store) (n : FileEntry) (t : Store) (c : Change) → t ≡ record s { files = s.files ++ n ∷ []; files_made = s.files_made + 1 } → c.removed ≡ [] → c.added ≡ file_edge n.folder n.id ∷ [] → Leads s c t
 new_file_edges s n t c is r a e =
     let new : Store = record s { files = s.files ++ n ∷ []; files_made = s.files_made + 1 } in
     let stays : IsEdge s e → IsThen s c e = λ w. inl (w, λ i. subst (In e) r i) in (
@@ -123,7 +123,7 @@ new_file_edges s n t c is r a e =
     )
 
 -- a new grant
-new_grant_edges : (s : Store) (n : GrantEntry) (t : Store) (c : Change) → t ≡ record s { grants = s.grants ++ n ∷ [] } → c.removed ≡ [] → c.added ≡ grant_edge n.holder n.folder ∷ [] → Leads s c t
+pub new_grant_edges : (s : Store) (n : GrantEntry) (t : Store) (c : Change) → t ≡ record s { grants = s.grants ++ n ∷ [] } → c.removed ≡ [] → c.added ≡ grant_edge n.holder n.folder ∷ [] → Leads s c t
 new_grant_edges s n t c is r a e =
     let new : Store = record s { grants = s.grants ++ n ∷ [] } in
     let stays : IsEdge s e → IsThen s c e = λ w. inl (w, λ i. subst (In e) r i) in (
@@ -148,7 +148,7 @@ one_is : (e d : Edge) → In e (d ∷ []) → e ≡ d
 one_is e d i = ⊎_elim (λ q. q) (λ z. absurd z) i
 
 -- a file goes
-no_file_edges : (s : Store) (x : FileEntry) (c : Change) → ((y : FileEntry) → In y s.files → y.id ≡ x.id → y ≡ x) → c.removed ≡ file_edge x.folder x.id ∷ [] → c.added ≡ [] → Leads s c (without_file s x.id)
+pub no_file_edges : (s : Store) (x : FileEntry) (c : Change) → ((y : FileEntry) → In y s.files → y.id ≡ x.id → y ≡ x) → c.removed ≡ file_edge x.folder x.id ∷ [] → c.added ≡ [] → Leads s c (without_file s x.id)
 unfolding without_file
 no_file_edges s x c own r a e =
     let test : FileEntry → Bool = λ y. not (y.id == x.id) in
@@ -178,7 +178,7 @@ no_file_edges s x c own r a e =
     )
 
 -- a grant goes
-no_grant_edges : (s : Store) (h f : ℕ) (c : Change) → c.removed ≡ grant_edge h f ∷ [] → c.added ≡ [] → Leads s c (without_grant s h f)
+pub no_grant_edges : (s : Store) (h f : ℕ) (c : Change) → c.removed ≡ grant_edge h f ∷ [] → c.added ≡ [] → Leads s c (without_grant s h f)
 unfolding without_grant
 no_grant_edges s h f c r a e =
     let test : GrantEntry → Bool = λ g. not (g.holder == h && g.folder == f) in
@@ -213,7 +213,7 @@ no_grant_edges s h f c r a e =
     )
 
 -- a folder without a child goes
-no_folder_edges : (s : Store) (f : ℕ) (c : Change) → ((a : FolderEntry) → In a s.folders → a.parent ≢ f) → ((b : FileEntry) → In b s.files → b.folder ≢ f) → c.removed ≡ edges_at s f → c.added ≡ [] → Leads s c (without_folder s f)
+pub no_folder_edges : (s : Store) (f : ℕ) (c : Change) → ((a : FolderEntry) → In a s.folders → a.parent ≢ f) → ((b : FileEntry) → In b s.files → b.folder ≢ f) → c.removed ≡ edges_at s f → c.added ≡ [] → Leads s c (without_folder s f)
 unfolding without_folder
 no_folder_edges s f c no_child no_inner r a e =
     let kept : FolderEntry → Bool = λ y. not (y.id == f) in
@@ -252,7 +252,7 @@ no_folder_edges s f c no_child no_inner r a e =
     )
 
 -- a file moves
-shift_file_edges : (s : Store) (x : FileEntry) (q : ℕ) (c : Change) → In x s.files → ((y : FileEntry) → In y s.files → y.id ≡ x.id → y ≡ x) → c.removed ≡ file_edge x.folder x.id ∷ [] → c.added ≡ file_edge q x.id ∷ []
+pub shift_file_edges : (s : Store) (x : FileEntry) (q : ℕ) (c : Change) → In x s.files → ((y : FileEntry) → In y s.files → y.id ≡ x.id → y ≡ x) → c.removed ≡ file_edge x.folder x.id ∷ [] → c.added ≡ file_edge q x.id ∷ []
     → Leads s c (with_file s x.id (λ (y : FileEntry). record y { folder = q }))
 unfolding with_file
 shift_file_edges s x q c there own r a e =
@@ -290,7 +290,7 @@ shift_file_edges s x q c there own r a e =
     )
 
 -- a folder moves
-shift_folder_edges : (s : Store) (x : FolderEntry) (q : ℕ) (c : Change) → In x s.folders → ((y : FolderEntry) → In y s.folders → y.id ≡ x.id → y ≡ x) → q ≢ 0 → c.removed ≡ parent_edges x.id x.parent → c.added ≡ parent_edges x.id q
+pub shift_folder_edges : (s : Store) (x : FolderEntry) (q : ℕ) (c : Change) → In x s.folders → ((y : FolderEntry) → In y s.folders → y.id ≡ x.id → y ≡ x) → q ≢ 0 → c.removed ≡ parent_edges x.id x.parent → c.added ≡ parent_edges x.id q
     → Leads s c (with_folder s x.id (λ (y : FolderEntry). record y { parent = q }))
 unfolding with_folder
 shift_folder_edges s x q c there own some r a e =
@@ -337,9 +337,9 @@ written_leads s path bytes (Some (Folder f)) ok t = absurd (false≢true (sym t)
 written_leads s path bytes (Some (File x)) ok t =
     unchanged s (with_file s x.0 (λ y. record y { bytes = bytes })) (change_of s (write_note s (Some (File x)) (id_of (node_at s (parent_path path))))) refl refl (same_files s x.0 (λ y. record y { bytes = bytes }) (λ y. refl) (λ y. refl))
 
-pub found_file : (s : Store) (x : ℕ) (w : FileEntry) → HasTree s → In w s.files → w.id ≡ x → edge_into_file s x ≡ file_edge w.folder w.id
+pub found_file : (s : Store) (x : ℕ) (w : FileEntry) → ((a b : FileEntry) → In a s.files → In b s.files → a.id ≡ b.id → a ≡ b) → In w s.files → w.id ≡ x → edge_into_file s x ≡ file_edge w.folder w.id
 unfolding edge_into_file folder_of_file
-found_file s x w ok i q = ap (λ o. file_edge (elim o as (λ z. ℕ) [ None ↦ 0 | Some e ↦ e.folder ]) x) (file_own s w x ok i q) ∙ ap (file_edge w.folder) (sym q)
+found_file s x w own i q = ap (λ o. file_edge (elim o as (λ z. ℕ) [ None ↦ 0 | Some e ↦ e.folder ]) x) (file_alone s w x own i q) ∙ ap (file_edge w.folder) (sym q)
 
 removed_leads : (s : Store) (path : List ℕ) (o : Option Node) → HasTree s → node_at s path ≡ o → is_none o ≡ false → (is_folder o && has_child s (id_of o)) ≡ false → Leads s (change_of s (remove_note o)) (without_node s o)
 unfolding remove_note change_of no_change without_node is_folder id_of
@@ -349,7 +349,7 @@ removed_leads s path (Some (Folder f)) ok e some t =
 removed_leads s path (Some (File x)) ok e some t =
     let w = node_stands s (File x) (node_found s path (File x) e).0 in
     let c : Change = change_of s (remove_note (Some (File x))) in
-    subst (λ n. Leads s c (without_file s n)) w.2 (no_file_edges s w.0 c (λ y i q. ok.own_file y w.0 i w.1 q) (ap (λ d. d ∷ []) (found_file s x.0 w.0 ok w.1 w.2)) refl)
+    subst (λ n. Leads s c (without_file s n)) w.2 (no_file_edges s w.0 c (λ y i q. ok.own_file y w.0 i w.1 q) (ap (λ d. d ∷ []) (found_file s x.0 w.0 ok.own_file w.1 w.2)) refl)
 
 renamed_leads : (s : Store) (name : List ℕ) (o : Option Node) → is_none o ≡ false → Leads s (change_of s (rename_note o)) (with_name s o name)
 unfolding rename_note change_of no_change with_name
@@ -372,7 +372,7 @@ moved_leads s path (Some (File x)) q ok e some there =
     let w = node_stands s (File x) (node_found s path (File x) e).0 in
     let c : Change = change_of s (move_note (Some (File x)) q) in
     subst (λ n. Leads s c (with_file s n (λ y. record y { folder = q }))) w.2 (shift_file_edges s w.0 q c w.1 (λ y i h. ok.own_file y w.0 i w.1 h)
-    (ap (λ d. d ∷ []) (found_file s x.0 w.0 ok w.1 w.2)) (ap (λ n. file_edge q n ∷ []) (sym w.2)))
+    (ap (λ d. d ∷ []) (found_file s x.0 w.0 ok.own_file w.1 w.2)) (ap (λ n. file_edge q n ∷ []) (sym w.2)))
 
 pub leads : (s : Store) (r : Request) (key check : List ℕ) → HasTree s → IsAccepted s r → Leads s (change_of s (note_of s r check)) (effect s r key)
 unfolding note_of effect change_of no_change with_new_holder with_new_folder finds_no_path needs_folder writes_folder removes_children paths_of

@@ -4,19 +4,10 @@ use Rattle.std.proofs.lemmas.Bool.{eqb-true, eqb-false, ne_eqb, not_from_false, 
 use Rattle.cry_base.specs.Sets.{In}
 use Rattle.cry_base.specs.Naming.{is_name}
 use Rattle.cry_base.specs.Store.{FolderEntry, FileEntry}
-use Rattle.cry_base.proofs.Members.{In-append, In-map, In-filter, filter-In}
-use Rattle.public_fold.proofs.Levels.{AtLevel, level_positive, level_more}
+use Rattle.cry_base.proofs.Members.{In-map, In-filter, filter-In}
+use Rattle.public_fold.specs.Tree.{AtLevel}
+use Rattle.public_fold.proofs.Levels.{last_or, earlier, last_in, numbered_more, numbered_off, level_positive, level_more}
 use Rattle.public_fold.proofs.Treeing.{IsTree}
-
--- what stands in a list with one more at its end
-last_or : (X : Type 0) (e x : X) (xs : List X) → In e (xs ++ x ∷ []) → In e xs ⊎ (e ≡ x)
-last_or X e x xs i = ⊎_elim (λ a. inl a) (λ b. ⊎_elim (λ s. inr s) (λ z. absurd z) b) ((In-append X e xs (x ∷ [])).0 i)
-
-earlier : (X : Type 0) (e x : X) (xs : List X) → In e xs → In e (xs ++ x ∷ [])
-earlier X e x xs i = (In-append X e xs (x ∷ [])).1 (inl i)
-
-last_in : (X : Type 0) (x : X) (xs : List X) → In x (xs ++ x ∷ [])
-last_in X x xs = (In-append X x xs (x ∷ [])).1 (inr (inl refl))
 
 -- a new folder, of a number that no folder has, in a folder that doesn't hold its name
 pub new_folder : (fs : List FolderEntry) (xs : List FileEntry) (x : FolderEntry) (k : ℕ) → IsTree fs xs → ((e : FolderEntry) → In e fs → e.id ≢ x.id) → x.id ≢ 0 → AtLevel k fs x.parent → suc k ≤ 64
@@ -25,14 +16,7 @@ new_folder fs xs x k ok fresh positive at below free_folder free_file named =
     let parent = level_positive k fs x.parent ok.numbered at in
     let more = λ (e : FolderEntry) (i : In e fs). earlier FolderEntry e x fs i in
     let either = λ (e : FolderEntry) (i : In e (fs ++ x ∷ [])). last_or FolderEntry e x fs i in record {
-      numbered = record {
-        own = λ a b i j e. ⊎_elim
-            (λ u. ⊎_elim (λ v. ok.numbered.own a b u v e) (λ q. absurd (fresh a u (e ∙ ap (λ (y : FolderEntry). y.id) q))) (either b j))
-            (λ p. ⊎_elim (λ v. absurd (fresh b v (sym e ∙ ap (λ (y : FolderEntry). y.id) p))) (λ q. p ∙ sym q) (either b j))
-            (either a i);
-        no_zero = λ e i. ⊎_elim (λ u. ok.numbered.no_zero e u) (λ p. λ z. positive (sym (ap (λ (y : FolderEntry). y.id) p) ∙ z)) (either e i);
-        one_root = λ e i z. ⊎_elim (λ u. ok.numbered.one_root e u z) (λ p. absurd (parent (sym (ap (λ (y : FolderEntry). y.parent) p) ∙ z))) (either e i);
-      };
+      numbered = numbered_more fs x ok.numbered fresh positive parent;
       own_file = ok.own_file;
       root_stands = level_more 0 fs (fs ++ x ∷ []) 1 more ok.root_stands;
       folder_level = λ e i. ⊎_elim
@@ -80,7 +64,7 @@ new_file fs xs x k ok fresh at below free_folder free_file named =
     }
 
 -- a level doesn't hang on a folder that has no child
-childless_level : (n : ℕ) (fs : List FolderEntry) (f g : ℕ) → ((a : FolderEntry) → In a fs → a.parent ≢ f) → g ≢ f → AtLevel n fs g → AtLevel n (filter (λ (e : FolderEntry). not (e.id == f)) fs) g
+pub childless_level : (n : ℕ) (fs : List FolderEntry) (f g : ℕ) → ((a : FolderEntry) → In a fs → a.parent ≢ f) → g ≢ f → AtLevel n fs g → AtLevel n (filter (λ (e : FolderEntry). not (e.id == f)) fs) g
 childless_level zero fs f g childless other l =
     (l.0, filter-In FolderEntry (λ e. not (e.id == f)) l.0 fs l.1 (not_from_false (l.0.id == f) (ne_eqb l.0.id f (λ h. other (sym l.2 ∙ h)))), l.2, l.3)
 childless_level (suc n) fs f g childless other l = (
@@ -95,11 +79,7 @@ childless_level (suc n) fs f g childless other l = (
 pub no_folder : (fs : List FolderEntry) (xs : List FileEntry) (f : ℕ) → IsTree fs xs → f ≢ 1 → ((a : FolderEntry) → In a fs → a.parent ≢ f) → ((b : FileEntry) → In b xs → b.folder ≢ f) → IsTree (filter (λ (e : FolderEntry). not (e.id == f)) fs) xs
 no_folder fs xs f ok other no_child no_inner =
     let was = λ (e : FolderEntry) (i : In e (filter (λ (e : FolderEntry). not (e.id == f)) fs)). In-filter FolderEntry (λ e. not (e.id == f)) e fs i in record {
-      numbered = record {
-        own = λ a b i j e. ok.numbered.own a b (was a i).0 (was b j).0 e;
-        no_zero = λ e i. ok.numbered.no_zero e (was e i).0;
-        one_root = λ e i. ok.numbered.one_root e (was e i).0;
-      };
+      numbered = numbered_off fs f ok.numbered;
       own_file = ok.own_file;
       root_stands = childless_level 0 fs f 1 no_child (λ z. other (sym z)) ok.root_stands;
       folder_level = λ e i. let w = was e i in let l = ok.folder_level e w.0 in

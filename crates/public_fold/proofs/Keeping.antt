@@ -19,7 +19,8 @@ use Rattle.public_fold.specs.Journal.{Journal, Entry, Stand, nothing, first_key,
 use Rattle.public_fold.specs.Journal.Entry.{Session, Made, Did}
 use Rattle.public_fold.specs.Valid.{FollowOn, BeginsWell, IsValid}
 use Rattle.public_fold.proofs.Counting.{effect_counted, root_counted}
-use Rattle.public_fold.proofs.Levels.{AtLevel, AreNumbered, level_positive}
+use Rattle.public_fold.specs.Tree.{AreNumbered, AtLevel}
+use Rattle.public_fold.proofs.Levels.{level_positive}
 use Rattle.public_fold.proofs.Treeing.{IsTree, names_length, file_length, file_node_names, folder_own, file_own, node_stands}
 use Rattle.public_fold.proofs.Growing.{new_folder, new_file, no_folder, no_file, file_changed}
 use Rattle.public_fold.proofs.Shifting.{folder_changed, renamed, goes_through, root_through, stays, goes}

@@ -32,7 +32,9 @@ use Rattle.public_fold.specs.KeyStep.{KeyState, no_keys, next_epoch, newest}
 use Rattle.public_fold.specs.Records.{Link, pieces_of}
 use Rattle.public_fold.specs.Valid.{FollowOn, BeginsWell, IsValid}
 use Rattle.public_fold.proofs.Counting.{effect_counted, root_counted}
-use Rattle.public_fold.proofs.Levels.{AtLevel, level_stands}
+use Rattle.public_fold.specs.Rooted.{IsRooted}
+use Rattle.public_fold.specs.Tree.{AtLevel}
+use Rattle.public_fold.proofs.Levels.{level_stands}
 use Rattle.public_fold.proofs.Treeing.{folder_own, node_stands}
 use Rattle.public_fold.proofs.Accepting.{IsAccepted, accepted, other_than_root}
 use Rattle.public_fold.proofs.Keeping.{HasTree, effect_tree, root_tree}
@@ -74,7 +76,7 @@ moved_held s None q ok = ok
 moved_held s (Some (node.Folder f)) q ok = ok
 moved_held s (Some (node.File x)) q ok = ok
 
-found_holder : (s : Store) (h : ℕ) (o : Option HolderEntry) → holder_entry s h ≡ o → is_none o ≡ false → HasHolder s h
+pub found_holder : (s : Store) (h : ℕ) (o : Option HolderEntry) → holder_entry s h ≡ o → is_none o ≡ false → HasHolder s h
 unfolding holder_entry
 found_holder s h None e t = absurd (false≢true (sym t))
 found_holder s h (Some w) e t = let told = find-found HolderEntry (λ e. e.number == h) s.holders w e in (w, told.0, eqb-true w.number h told.1)
@@ -106,8 +108,24 @@ pub root_sound : IsSound root_store
 unfolding root_store no_store
 root_sound = record { counted = root_counted; tree = root_tree; settled = root_settled; held = λ g i. absurd i }
 
+-- such a store is rooted
+rooted : (s : Store) → IsSound s → IsRooted s
+rooted s ok = record {
+  counted = ok.counted;
+  numbered = ok.tree.numbered;
+  own_file = ok.tree.own_file;
+  root_stands = ok.tree.root_stands;
+  folder_level = λ e i. let l = ok.tree.folder_level e i in (l.0, l.1);
+  file_folder = λ x i. let l = ok.tree.file_level x i in level_stands l.0 s.folders x.folder l.1;
+  granted_stands = ok.settled.granted_stands;
+  held = ok.held;
+}
+
+pub root_rooted : IsRooted root_store
+root_rooted = rooted root_store root_sound
+
 -- both ends of an edge stand
-parent_stands : (s : Store) (f : FolderEntry) → HasTree s → In f s.folders → f.parent ≢ 0 → HasFolder s f.parent
+parent_stands : (s : Store) (f : FolderEntry) → IsRooted s → In f s.folders → f.parent ≢ 0 → HasFolder s f.parent
 parent_stands s f ok i p = let l = ok.folder_level f i in by_level l.0 l.1
   where
     by_level : (n : ℕ) → AtLevel n s.folders f.id → HasFolder s f.parent
@@ -139,17 +157,17 @@ file_ends : (s : Store) (x : FileEntry) (e : Edge) → In x s.files → HasFolde
 unfolding file_edge edge files_of file_role
 file_ends s x e i v q = subst (λ (x : Edge). HasRole s x.from × HasRole s x.to) (sym q) (v, (x, i, refl))
 
-ends : (s : Store) → IsSound s → (e : Edge) → IsEdge s e → HasRole s e.from × HasRole s e.to
+pub ends : (s : Store) → IsRooted s → (e : Edge) → IsEdge s e → HasRole s e.from × HasRole s e.to
 ends s ok e w = ⊎_elim
     (λ (o : IsOwnEdge s e). own_ends s o.0.id e (o.0, o.1, refl) o.2)
     (λ v. ⊎_elim
-    (λ (p : IsParentEdge s e). parent_ends s p.0.id p.0.parent e (p.0, p.1, refl) (parent_stands s p.0 ok.tree p.1 p.2) p.3)
+    (λ (p : IsParentEdge s e). parent_ends s p.0.id p.0.parent e (p.0, p.1, refl) (parent_stands s p.0 ok p.1 p.2) p.3)
     (λ u. ⊎_elim
-    (λ (g : IsGrantEdge s e). grant_ends s g.0.holder g.0.folder e (ok.held g.0 g.1) (ok.settled.granted_stands g.0 g.1) g.2)
-    (λ (x : IsFileEdge s e). let l = ok.tree.file_level x.0 x.1 in file_ends s x.0 e x.1 (level_stands l.0 s.folders x.0.folder l.1) x.2) u) v) w
+    (λ (g : IsGrantEdge s e). grant_ends s g.0.holder g.0.folder e (ok.held g.0 g.1) (ok.granted_stands g.0 g.1) g.2)
+    (λ (x : IsFileEdge s e). file_ends s x.0 e x.1 (ok.file_folder x.0 x.1) x.2) u) v) w
 
 -- no note's roles both come and go
-fresh_stays : (s : Store) (note : Note) (r : Role) → In r (change_of s note).fresh → In r (change_of s note).gone → ⊥
+pub fresh_stays : (s : Store) (note : Note) (r : Role) → In r (change_of s note).fresh → In r (change_of s note).gone → ⊥
 unfolding change_of no_change
 fresh_stays s Root r f g = g
 fresh_stays s (NewHolder h check) r f g = g
@@ -195,7 +213,7 @@ back_is_role : (f : ℕ) (r : Role) → r ≡ back_of f → In r (folder_roles f
 unfolding folder_roles
 back_is_role f r q = inr (inr (inl q))
 
-sources : (s : Store) (note : Note) (e : Edge) → In e (change_of s note).added → IsSource (change_of s note) e.from
+pub sources : (s : Store) (note : Note) (e : Edge) → In e (change_of s note).added → IsSource (change_of s note) e.from
 unfolding change_of no_change
 sources s Root e i = ⊎_elim (λ r. inl r) (λ f. inr (inr f)) (own_sources 1 e i)
 sources s (NewHolder h check) e i = absurd i
@@ -215,19 +233,19 @@ sources s (Give h f) e i = inl (grant_source h f e i)
 sources s (Take h f) e i = absurd i
 
 -- new roles are of numbers that were never given
-new_holder : (s : Store) (r : Role) → AreCounted s → In r (holder_role (s.holders_made + 1) ∷ []) → HasRole s r → ⊥
+pub new_holder : (s : Store) (r : Role) → AreCounted s → In r (holder_role (s.holders_made + 1) ∷ []) → HasRole s r → ⊥
 unfolding holder_role
 new_holder s r c i h =
     let q : r ≡ Holder (record { 0 = s.holders_made + 1 }) = ⊎_elim (λ q. q) (λ z. absurd z) i in
     let w : HasHolder s (s.holders_made + 1) = subst (HasRole s) q h in
     let low : w.0.number ≤ s.holders_made = c.each_holder w.0 w.1 in let same : w.0.number ≡ s.holders_made + 1 = w.2 in omega arith
 
-new_folder : (s : Store) (r : Role) → AreCounted s → In r (folder_roles (s.folders_made + 1)) → HasRole s r → ⊥
+pub new_folder : (s : Store) (r : Role) → AreCounted s → In r (folder_roles (s.folders_made + 1)) → HasRole s r → ⊥
 new_folder s r c i h =
     let w = role_has_folder s (s.folders_made + 1) r i h in
     let low : w.0.id ≤ s.folders_made = c.each_folder w.0 w.1 in let same : w.0.id ≡ s.folders_made + 1 = w.2 in omega arith
 
-new_file : (s : Store) (r : Role) → AreCounted s → In r (file_role (s.files_made + 1) ∷ []) → HasRole s r → ⊥
+pub new_file : (s : Store) (r : Role) → AreCounted s → In r (file_role (s.files_made + 1) ∷ []) → HasRole s r → ⊥
 unfolding file_role
 new_file s r c i h =
     let q : r ≡ File (record { 0 = s.files_made + 1 }) = ⊎_elim (λ q. q) (λ z. absurd z) i in
@@ -273,7 +291,7 @@ fresh_is_new s (Revoke k path) check role a c i h = i
 into_stands : (s : Store) (path : List ℕ) (x : ℕ) (e : Edge) → HasTree s → node_at s path ≡ Some (node.File (record { 0 = x })) → In e (edge_into_file s x ∷ []) → IsEdge s e
 into_stands s path x e ok q i =
     let w = node_stands s (node.File (record { 0 = x })) (node_found s path (node.File (record { 0 = x })) q).0 in
-    inr (inr (inr (w.0, w.1, ⊎_elim (λ h. h) (λ z. absurd z) i ∙ found_file s x w.0 ok w.1 w.2)))
+    inr (inr (inr (w.0, w.1, ⊎_elim (λ h. h) (λ z. absurd z) i ∙ found_file s x w.0 ok.own_file w.1 w.2)))
 
 written_stood : (s : Store) (f : ℕ) (o : Option Node) (e : Edge) → is_folder o ≡ false → In e (change_of s (write_note s o f)).removed → IsEdge s e
 unfolding write_note change_of no_change is_folder
@@ -307,7 +325,7 @@ moved_stood s path (Some (node.Folder f)) q e ok h t r i =
     ))
 moved_stood s path (Some (node.File x)) q e ok h t r i = into_stands s path x.0 e ok h i
 
-revoked_stood : (s : Store) (h f : ℕ) (e : Edge) → has_grant s h f ≡ true → In e (grant_edge h f ∷ []) → IsEdge s e
+pub revoked_stood : (s : Store) (h f : ℕ) (e : Edge) → has_grant s h f ≡ true → In e (grant_edge h f ∷ []) → IsEdge s e
 unfolding has_grant
 revoked_stood s h f e t i =
     let P : GrantEntry → Type 0 = λ g. (g.holder ≡ h) × (g.folder ≡ f) in
@@ -338,8 +356,8 @@ command_moves s r key check n q ok =
       fresh_is_new = λ role i h. fresh_is_new s r check role a ok.counted i h;
       fresh_stays = λ role f g. fresh_stays s (note_of s r check) role f g;
       sources = λ e i. sources s (note_of s r check) e i;
-      ends_before = λ e w. ends s ok e w;
-      ends_after = λ e w. ends (effect s r key) (effect_sound s r key n q ok) e w;
+      ends_before = λ e w. ends s (rooted s ok) e w;
+      ends_after = λ e w. ends (effect s r key) (rooted (effect s r key) (effect_sound s r key n q ok)) e w;
     }
 
 -- the root's making is a move from nothing
@@ -416,7 +434,7 @@ root_moves = record {
   fresh_stays = λ r f g. root_gone r g;
   sources = λ e i. sources no_store Root e i;
   ends_before = λ e w. absurd (no_edge e w);
-  ends_after = λ e w. ends root_store root_sound e w;
+  ends_after = λ e w. ends root_store root_rooted e w;
 }
 
 -- before the first entry the owner's key alone is there

@@ -1,23 +1,42 @@
 -- A folder's level below the root, along parents, and its way up.
-use Rattle.std.proofs.Common.{◌≡◌, ◌≢◌, ℕ, zero, suc, ◌≤◌, Bool, true, false, cond, not, ◌==◌, List, [], ◌∷◌, map, filter, length, Option, Some, None, ⊎_elim, refl, sym, ap, ◌∙◌, subst, arith}
+use Rattle.std.proofs.Common.{◌≡◌, ◌≢◌, ℕ, zero, suc, ◌≤◌, Bool, true, false, cond, not, ◌==◌, ◌⊎◌, List, [], ◌∷◌, ◌++◌, map, filter, length, Option, Some, None, inl, inr, ⊎_elim, refl, sym, ap, ◌∙◌, subst, arith}
 use Rattle.std.specs.List.{find}
 use Rattle.std.proofs.lemmas.Bool.{eqb-true, eq-eqb, ne_eqb, not_from_false, false≢true}
 use Rattle.cry_base.specs.Sets.{In}
 use Rattle.cry_base.specs.Store.{FolderEntry, and_above, way_up}
 use Rattle.cry_base.proofs.Finding.{find-found, found-find}
-use Rattle.cry_base.proofs.Members.{In-map, In-filter, filter-In}
-use Rattle.public_fold.specs.Tree.{LeadsUp}
+use Rattle.cry_base.proofs.Members.{In-append, In-map, In-filter, filter-In}
+use Rattle.public_fold.specs.Tree.{AreNumbered, AtLevel, LeadsUp}
 
--- the folder f stands n levels below a folder without a parent
-abbrev pub AtLevel : ℕ → List FolderEntry → ℕ → Type 0
-AtLevel zero fs f = (e : FolderEntry) × In e fs × (e.id ≡ f) × (e.parent ≡ 0)
-AtLevel (suc n) fs f = (e : FolderEntry) × In e fs × (e.id ≡ f) × (e.parent ≢ 0) × AtLevel n fs e.parent
+-- what stands in a list with one more at its end
+pub last_or : (X : Type 0) (e x : X) (xs : List X) → In e (xs ++ x ∷ []) → In e xs ⊎ (e ≡ x)
+last_or X e x xs i = ⊎_elim (λ a. inl a) (λ b. ⊎_elim (λ s. inr s) (λ z. absurd z) b) ((In-append X e xs (x ∷ [])).0 i)
 
--- folders have numbers of their own, none is 0, and the root alone has no parent
-pub record AreNumbered (fs : List FolderEntry) : Type 0 where
-  pub own : (a b : FolderEntry) → In a fs → In b fs → a.id ≡ b.id → a ≡ b
-  pub no_zero : (e : FolderEntry) → In e fs → e.id ≢ 0
-  pub one_root : (e : FolderEntry) → In e fs → e.parent ≡ 0 → e.id ≡ 1
+pub earlier : (X : Type 0) (e x : X) (xs : List X) → In e xs → In e (xs ++ x ∷ [])
+earlier X e x xs i = (In-append X e xs (x ∷ [])).1 (inl i)
+
+pub last_in : (X : Type 0) (x : X) (xs : List X) → In x (xs ++ x ∷ [])
+last_in X x xs = (In-append X x xs (x ∷ [])).1 (inr (inl refl))
+
+-- one more folder, of a number that none has, in a folder; and without one
+pub numbered_more : (fs : List FolderEntry) (x : FolderEntry) → AreNumbered fs → ((e : FolderEntry) → In e fs → e.id ≢ x.id) → x.id ≢ 0 → x.parent ≢ 0 → AreNumbered (fs ++ x ∷ [])
+numbered_more fs x ok fresh positive parent =
+    let either = λ (e : FolderEntry) (i : In e (fs ++ x ∷ [])). last_or FolderEntry e x fs i in record {
+      own = λ a b i j e. ⊎_elim
+          (λ u. ⊎_elim (λ v. ok.own a b u v e) (λ q. absurd (fresh a u (e ∙ ap (λ (y : FolderEntry). y.id) q))) (either b j))
+          (λ p. ⊎_elim (λ v. absurd (fresh b v (sym e ∙ ap (λ (y : FolderEntry). y.id) p))) (λ q. p ∙ sym q) (either b j))
+          (either a i);
+      no_zero = λ e i. ⊎_elim (λ u. ok.no_zero e u) (λ p. λ z. positive (sym (ap (λ (y : FolderEntry). y.id) p) ∙ z)) (either e i);
+      one_root = λ e i z. ⊎_elim (λ u. ok.one_root e u z) (λ p. absurd (parent (sym (ap (λ (y : FolderEntry). y.parent) p) ∙ z))) (either e i);
+    }
+
+pub numbered_off : (fs : List FolderEntry) (f : ℕ) → AreNumbered fs → AreNumbered (filter (λ (e : FolderEntry). not (e.id == f)) fs)
+numbered_off fs f ok =
+    let was = λ (e : FolderEntry) (i : In e (filter (λ (e : FolderEntry). not (e.id == f)) fs)). In-filter FolderEntry (λ e. not (e.id == f)) e fs i in record {
+      own = λ a b i j e. ok.own a b (was a i).0 (was b j).0 e;
+      no_zero = λ e i. ok.no_zero e (was e i).0;
+      one_root = λ e i. ok.one_root e (was e i).0;
+    }
 
 -- a folder at a level stands
 pub level_stands : (n : ℕ) (fs : List FolderEntry) (f : ℕ) → AtLevel n fs f → (e : FolderEntry) × In e fs × (e.id ≡ f)
@@ -83,13 +102,8 @@ pub level_fits : (n : ℕ) (fs : List FolderEntry) (f : ℕ) → AreNumbered fs 
 level_fits zero fs f ok l = in_some FolderEntry l.0 fs l.1
 level_fits (suc n) fs f ok l =
     let gs : List FolderEntry = filter (λ (e : FolderEntry). not (e.id == f)) fs in
-    let less : AreNumbered gs = record {
-      own = λ a b i j. ok.own a b (In-filter FolderEntry (λ e. not (e.id == f)) a fs i).0 (In-filter FolderEntry (λ e. not (e.id == f)) b fs j).0;
-      no_zero = λ e i. ok.no_zero e (In-filter FolderEntry (λ e. not (e.id == f)) e fs i).0;
-      one_root = λ e i. ok.one_root e (In-filter FolderEntry (λ e. not (e.id == f)) e fs i).0;
-    } in
     let up = level_off n fs f l.0.parent l.4 (λ k h a. let same : k ≡ suc n = one_level k (suc n) fs f ok a l in let b : k ≤ n = h in absurd (omega arith)) in
-    let above : suc n ≤ length gs = level_fits n gs l.0.parent less up in
+    let above : suc n ≤ length gs = level_fits n gs l.0.parent (numbered_off fs f ok) up in
     let shorter : suc (length gs) ≤ length fs = filter_shorter FolderEntry (λ e. not (e.id == f)) l.0 fs l.1 (ap not (eq-eqb l.0.id f l.2)) in
     omega arith
 

@@ -32,3 +32,4 @@ pub mod DueMade
 pub mod PreparedTold
 pub mod GrantLaws
 pub mod RevokeLaws
+pub mod Rooting

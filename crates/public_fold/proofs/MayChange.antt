@@ -1,13 +1,11 @@
 -- A note that fits can be done to the tree and to the grants.
-use Rattle.std.proofs.Common.{◌≡◌, ◌≢◌, ℕ, ◌+◌, ◌<◌, ◌≤◌, Bool, true, false, not, ◌==◌, ◌&&◌, nat_lt, nat_le, List, length, Some, refl, sym, ap, ◌∙◌, subst}
+use Rattle.std.proofs.Common.{◌≡◌, ◌≢◌, ℕ, ◌+◌, true, false, not, ◌==◌, ◌&&◌, nat_lt, nat_le, length, Some, refl, sym, ◌∙◌}
 use Rattle.std.specs.Prelude.{is_some, ◌||◌}
-use Rattle.std.specs.List.{list_any}
 use Rattle.std.proofs.lemmas.Bool.{and_parts, eqb-true, eqb-false, not-true, ltb-true, leb-true, false≢true}
 use Rattle.cry_base.specs.Refusing.{has_child, height_of}
-use Rattle.cry_base.specs.Sets.{In}
 use Rattle.cry_base.specs.Store.{Store, depth_of, file_entry, folder_entry, folder_node, has_grant, holder_entry, is_within}
 use Rattle.folder_nodes.specs.Changing.{CanShift, HasPlace}
-use Rattle.grant_book.specs.Granted.{Granted, IsHolder, grant_of, is_grant}
+use Rattle.grant_book.specs.Granted.{Granted, IsHolder}
 use Rattle.grant_book.specs.Refused.{is_holder}
 use Rattle.grant_book.proofs.Ordered.{any_grant_told}
 use Rattle.record_format.specs.Noted.{Note}
@@ -15,7 +13,7 @@ use Rattle.record_format.specs.Noted.Note.{Root, NewHolder, NewFolder, NewFile, 
 use Rattle.move_plan.specs.Change.{folder_of_file, parent_of_folder}
 use Rattle.move_plan.specs.Fitting.{file_stands, fits, folder_stands, has_depth_left, is_other_folder, may_go_into, needs_root, row_fits}
 use Rattle.move_plan.specs.Seen.{seen_store}
-use Rattle.move_plan.proofs.Seeing.{child_seen, depth_seen, file_seen, grant_seen, holder_seen, into_seen, other_seen, stands_seen}
+use Rattle.move_plan.proofs.Seeing.{child_seen, depth_seen, file_seen, grant_seen, holder_seen, into_seen, other_seen}
 use Rattle.public_fold.specs.Changing.{CanChangeGrants, CanChangeTree}
 
 place : (t : Store) (f : ℕ) → has_depth_left t f ≡ true → HasPlace t f

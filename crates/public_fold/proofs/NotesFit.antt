@@ -16,7 +16,8 @@ use Rattle.record_format.specs.Noted.{Note}
 use Rattle.move_plan.specs.Noting.{write_note, remove_note, rename_note, move_note, note_of}
 use Rattle.public_fold.specs.Journal.{Journal, store_of}
 use Rattle.public_fold.specs.Valid.{IsValid}
-use Rattle.public_fold.proofs.Levels.{AtLevel, level_stands}
+use Rattle.public_fold.specs.Tree.{AtLevel}
+use Rattle.public_fold.proofs.Levels.{level_stands}
 use Rattle.public_fold.proofs.Treeing.{folder_own, file_own, node_stands}
 use Rattle.public_fold.proofs.Accepting.{IsAccepted, accepted, folder_free, file_free, other_than_root}
 use Rattle.public_fold.proofs.Keeping.{HasTree, journal_tree, folder_depth, made_place, written_place, into_level}

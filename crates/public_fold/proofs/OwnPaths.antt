@@ -8,9 +8,9 @@ use Rattle.cry_base.specs.declared.roles.Node.TheVariants.{Folder, File}
 use Rattle.cry_base.proofs.Finding.{node_found, node_finds}
 use Rattle.cry_base.proofs.Paths.{names_told}
 use Rattle.public_fold.specs.Journal.{Journal, store_of}
-use Rattle.public_fold.specs.Tree.{HaveOwnNames, LeadsUp}
+use Rattle.public_fold.specs.Tree.{AtLevel, HaveOwnNames, LeadsUp}
 use Rattle.public_fold.specs.Valid.{IsValid}
-use Rattle.public_fold.proofs.Levels.{AtLevel, way_leads}
+use Rattle.public_fold.proofs.Levels.{way_leads}
 use Rattle.public_fold.proofs.Treeing.{Stands, node_stands, node_is_named, same_end, same_folder, root_names, next_names, names_length, file_length, file_node_names}
 use Rattle.public_fold.proofs.Keeping.{HasTree, journal_tree, folder_depth, file_depth}
 

@@ -13,12 +13,13 @@ use Rattle.cry_base.specs.declared.roles.Node.{Node}
 use Rattle.cry_base.specs.declared.roles.Node.TheVariants as node
 use Rattle.cry_base.specs.declared.roles.Role.{Role}
 use Rattle.cry_base.specs.declared.roles.Role.TheVariants.{Owner, Holder, Clear, Sub, Back, Files, Data, File}
-use Rattle.cry_base.proofs.Members.{In-append, In-map, In-filter, filter-In}
+use Rattle.cry_base.proofs.Members.{In-map, In-filter, filter-In}
 use Rattle.role_graph.specs.Roles.{holder_role, clear_of, sub_of, back_of, files_of, data_of, file_role, folder_roles}
 use Rattle.role_graph.specs.RightsByReach.{HasFolder}
 use Rattle.move_plan.specs.Change.{Change, no_change, change_of}
 use Rattle.move_plan.specs.Noting.{write_note, remove_note, rename_note, move_note, note_of}
 use Rattle.public_fold.specs.Keyed.{HasRole}
+use Rattle.public_fold.proofs.Levels.{last_or, earlier, last_in}
 use Rattle.public_fold.proofs.Shifting.{folder_cases}
 use Rattle.public_fold.proofs.Accepting.{IsAccepted}
 use Rattle.public_fold.proofs.EdgesAfter.{file_pick}
@@ -114,21 +115,11 @@ module _ (s : Store) (c : Change) (t : Store) (mv : RowsMove s c t) where
   roles_move : RolesMove s c t
   roles_move r = (λ h. roles_now r h, λ w. ⊎_elim (λ u. roles_still r u.0 u.1) (λ i. mv.fresh_stand r i) w)
 
--- what stands in a list with one more at its end
-last_or : (X : Type 0) (e x : X) (xs : List X) → In e (xs ++ x ∷ []) → In e xs ⊎ (e ≡ x)
-last_or X e x xs i = ⊎_elim (λ a. inl a) (λ b. ⊎_elim (λ q. inr q) (λ z. absurd z) b) ((In-append X e xs (x ∷ [])).0 i)
-
-earlier : (X : Type 0) (e x : X) (xs : List X) → In e xs → In e (xs ++ x ∷ [])
-earlier X e x xs i = (In-append X e xs (x ∷ [])).1 (inl i)
-
-last_in : (X : Type 0) (x : X) (xs : List X) → In x (xs ++ x ∷ [])
-last_in X x xs = (In-append X x xs (x ∷ [])).1 (inr (inl refl))
-
 one_is : (e d : Role) → In e (d ∷ []) → e ≡ d
 one_is e d i = ⊎_elim (λ q. q) (λ z. absurd z) i
 
 -- nothing comes or goes
-same_roles : (s t : Store) (c : Change) → c.gone ≡ [] → c.fresh ≡ [] → ((h : ℕ) → HasHolder s h ↔ HasHolder t h) → ((f : ℕ) → HasFolder s f ↔ HasFolder t f) → ((x : ℕ) → HasFile s x ↔ HasFile t x) → RolesMove s c t
+pub same_roles : (s t : Store) (c : Change) → c.gone ≡ [] → c.fresh ≡ [] → ((h : ℕ) → HasHolder s h ↔ HasHolder t h) → ((f : ℕ) → HasFolder s f ↔ HasFolder t f) → ((x : ℕ) → HasFile s x ↔ HasFile t x) → RolesMove s c t
 same_roles s t c g f holders folders files = roles_move s c t (record {
   holders_now = λ h w. inl ((holders h).1 w);
   folders_now = λ f w. inl ((folders f).1 w);
@@ -158,16 +149,16 @@ folder_kept s x change ids n =
       λ w. let u = (In-map FolderEntry FolderEntry pick w.0 s.folders).0 w.1 in (u.0, u.1, sym (id u.0) ∙ sym (ap (λ (z : FolderEntry). z.id) u.2) ∙ w.2),
     )
 
-file_changed_roles : (s : Store) (x : ℕ) (change : FileEntry → FileEntry) (c : Change) → ((e : FileEntry) → (change e).id ≡ e.id) → c.gone ≡ [] → c.fresh ≡ [] → RolesMove s c (with_file s x change)
+pub file_changed_roles : (s : Store) (x : ℕ) (change : FileEntry → FileEntry) (c : Change) → ((e : FileEntry) → (change e).id ≡ e.id) → c.gone ≡ [] → c.fresh ≡ [] → RolesMove s c (with_file s x change)
 unfolding with_file
 file_changed_roles s x change c ids g f = same_roles s (with_file s x change) c g f (λ h. (λ w. w, λ w. w)) (λ h. (λ w. w, λ w. w)) (file_kept s x change ids)
 
-folder_changed_roles : (s : Store) (x : ℕ) (change : FolderEntry → FolderEntry) (c : Change) → ((e : FolderEntry) → (change e).id ≡ e.id) → c.gone ≡ [] → c.fresh ≡ [] → RolesMove s c (with_folder s x change)
+pub folder_changed_roles : (s : Store) (x : ℕ) (change : FolderEntry → FolderEntry) (c : Change) → ((e : FolderEntry) → (change e).id ≡ e.id) → c.gone ≡ [] → c.fresh ≡ [] → RolesMove s c (with_folder s x change)
 unfolding with_folder
 folder_changed_roles s x change c ids g f = same_roles s (with_folder s x change) c g f (λ h. (λ w. w, λ w. w)) (folder_kept s x change ids) (λ h. (λ w. w, λ w. w))
 
 -- one more holder, folder or file
-new_holder_roles : (s : Store) (n : HolderEntry) (t : Store) (c : Change) → t ≡ record s { holders = s.holders ++ n ∷ []; holders_made = s.holders_made + 1 } → c.gone ≡ [] → c.fresh ≡ holder_role n.number ∷ [] → RolesMove s c t
+pub new_holder_roles : (s : Store) (n : HolderEntry) (t : Store) (c : Change) → t ≡ record s { holders = s.holders ++ n ∷ []; holders_made = s.holders_made + 1 } → c.gone ≡ [] → c.fresh ≡ holder_role n.number ∷ [] → RolesMove s c t
 new_holder_roles s n t c is g f =
     let new : Store = record s { holders = s.holders ++ n ∷ []; holders_made = s.holders_made + 1 } in
     subst (RolesMove s c) (sym is) (roles_move s c new (record {
@@ -181,7 +172,7 @@ new_holder_roles s n t c is g f =
       fresh_stand = λ r i. holder_has_role new n.number r (one_is r (holder_role n.number) (subst (In r) f i)) (n, last_in HolderEntry n s.holders, refl);
     }))
 
-new_folder_roles : (s : Store) (n : FolderEntry) (t : Store) (c : Change) → t ≡ record s { folders = s.folders ++ n ∷ []; folders_made = s.folders_made + 1 } → c.gone ≡ [] → c.fresh ≡ folder_roles n.id → RolesMove s c t
+pub new_folder_roles : (s : Store) (n : FolderEntry) (t : Store) (c : Change) → t ≡ record s { folders = s.folders ++ n ∷ []; folders_made = s.folders_made + 1 } → c.gone ≡ [] → c.fresh ≡ folder_roles n.id → RolesMove s c t
 new_folder_roles s n t c is g f =
     let new : Store = record s { folders = s.folders ++ n ∷ []; folders_made = s.folders_made + 1 } in
     subst (RolesMove s c) (sym is) (roles_move s c new (record {
@@ -195,7 +186,7 @@ new_folder_roles s n t c is g f =
       fresh_stand = λ r i. folder_has_role new n.id r (subst (In r) f i) (n, last_in FolderEntry n s.folders, refl);
     }))
 
-new_file_roles : (s : Store) (n : FileEntry) (t : Store) (c : Change) → t ≡ record s { files = s.files ++ n ∷ []; files_made = s.files_made + 1 } → c.gone ≡ [] → c.fresh ≡ file_role n.id ∷ [] → RolesMove s c t
+pub new_file_roles : (s : Store) (n : FileEntry) (t : Store) (c : Change) → t ≡ record s { files = s.files ++ n ∷ []; files_made = s.files_made + 1 } → c.gone ≡ [] → c.fresh ≡ file_role n.id ∷ [] → RolesMove s c t
 new_file_roles s n t c is g f =
     let new : Store = record s { files = s.files ++ n ∷ []; files_made = s.files_made + 1 } in
     subst (RolesMove s c) (sym is) (roles_move s c new (record {
@@ -210,7 +201,7 @@ new_file_roles s n t c is g f =
     }))
 
 -- a folder or a file less
-no_folder_roles : (s : Store) (f : ℕ) (c : Change) → c.gone ≡ folder_roles f → c.fresh ≡ [] → RolesMove s c (without_folder s f)
+pub no_folder_roles : (s : Store) (f : ℕ) (c : Change) → c.gone ≡ folder_roles f → c.fresh ≡ [] → RolesMove s c (without_folder s f)
 unfolding without_folder
 no_folder_roles s f c g n =
     let kept : FolderEntry → Bool = λ y. not (y.id == f) in
@@ -230,7 +221,7 @@ no_folder_roles s f c g n =
       fresh_stand = λ r i. absurd (subst (In r) n i);
     })
 
-no_file_roles : (s : Store) (x : ℕ) (c : Change) → c.gone ≡ file_role x ∷ [] → c.fresh ≡ [] → RolesMove s c (without_file s x)
+pub no_file_roles : (s : Store) (x : ℕ) (c : Change) → c.gone ≡ file_role x ∷ [] → c.fresh ≡ [] → RolesMove s c (without_file s x)
 unfolding without_file
 no_file_roles s x c g n =
     let kept : FileEntry → Bool = λ y. not (y.id == x) in

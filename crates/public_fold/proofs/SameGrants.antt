@@ -1,12 +1,10 @@
 -- Grants that differ in their order alone, before and after a note.
-use Rattle.std.proofs.Common.{◌≡◌, ℕ, zero, suc, ◌+◌, ◌<◌, Bool, true, false, cond, not, ◌==◌, ◌&&◌, ◌||◌, ◌⊎◌, ◌↔◌, nat_lt, List, [], ◌∷◌, ◌++◌, filter, get_or, length, IsTrue, inl, inr, ⊎_elim, refl, sym, ap, ◌∙◌, subst, arith}
-use Rattle.std.specs.List.{AllPairs}
-use Rattle.std.proofs.lemmas.Bool.{false≢true, or_cases, and_parts}
+use Rattle.std.proofs.Common.{◌≡◌, ℕ, suc, ◌<◌, Bool, true, false, cond, ◌⊎◌, List, [], ◌∷◌, ◌++◌, filter, get_or, length, inl, inr, ⊎_elim, refl, sym, subst, arith}
 use Rattle.std.proofs.lemmas.Bool.Decides.{nat_tests}
 use Rattle.cry_base.specs.Sets.{In}
 use Rattle.cry_base.specs.Store.{GrantEntry}
 use Rattle.cry_base.proofs.Members.{In-append, In-filter}
-use Rattle.grant_book.specs.Granted.{AreOrdered, grant_of, is_before, is_grant, with_pair}
+use Rattle.grant_book.specs.Granted.{AreOrdered, is_before, with_pair}
 use Rattle.grant_book.proofs.Matched.{granted_less, granted_more}
 use Rattle.public_fold.specs.Standing.{AreOnce, AreSameGrants, IsSeenAs, PublicView, stand_of}
 

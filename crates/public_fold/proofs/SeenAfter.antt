@@ -1,11 +1,10 @@
 -- The state after a note is what everyone may see of the stand after it.
-use Rattle.std.proofs.Common.{◌≡◌, ℕ, suc, ◌+◌, Bool, true, not, ◌==◌, ◌&&◌, List, [], ◌∷◌, ◌++◌, map, filter, length, refl, sym, ap, ◌∙◌, subst, arith, add-one, add_comm}
+use Rattle.std.proofs.Common.{◌≡◌, ℕ, ◌+◌, true, not, ◌==◌, List, [], ◌∷◌, ◌++◌, map, length, refl, sym, ap, ◌∙◌, subst, add-one, add_comm}
 use Rattle.std.specs.List.{range_with_len}
 use Rattle.std.proofs.lemmas.List.{length_push, map-append}
-use Rattle.cry_base.specs.Sets.{In}
 use Rattle.cry_base.specs.Stepping.{with_new_holder, with_new_folder, with_new_file, with_folder, with_file, without_folder, without_file, without_grant}
-use Rattle.cry_base.specs.Store.{Store, FolderEntry, FileEntry, GrantEntry, HolderEntry, no_store, root_store}
-use Rattle.grant_book.specs.Granted.{AreOrdered, grant_of, is_grant, with_pair, without_pair, without_pairs_on}
+use Rattle.cry_base.specs.Store.{Store, GrantEntry, no_store, root_store}
+use Rattle.grant_book.specs.Granted.{AreOrdered, grant_of, is_grant}
 use Rattle.grant_book.proofs.Matched.{range_more}
 use Rattle.record_format.specs.Noted.{Note}
 use Rattle.record_format.specs.Noted.Note.{Root, NewHolder, NewFolder, NewFile, Rewrite, NameFile, NameFolder, DropFile, DropFolder, ShiftFile, ShiftFolder, Give, Take}
@@ -21,7 +20,7 @@ use Rattle.public_fold.specs.Told.{told_store}
 use Rattle.public_fold.specs.declared.step.Step.{Step}
 use Rattle.public_fold.proofs.MayChange.{may_change_grants}
 use Rattle.public_fold.proofs.SameGrants.{less_same, more_same}
-use Rattle.public_fold.proofs.SeenSame.{granting, seen_step}
+use Rattle.public_fold.proofs.SeenSame.{seen_step}
 
 -- the numbers of the holders, with one more
 keyless_more : (n m : ℕ) → m ≡ n + 1 → map keyless (range_with_len 1 n) ++ keyless (n + 1) ∷ [] ≡ map keyless (range_with_len 1 m)

@@ -1,26 +1,26 @@
 -- What fits a stand, and its key step, hang on what everyone may see of it, and not on the order of its grants.
-use Rattle.std.proofs.Common.{◌≡◌, ℕ, ◌+◌, Bool, true, false, cond, not, ◌==◌, ◌&&◌, ◌||◌, ◌↔◌, List, [], ◌∷◌, ◌++◌, map, flat_map, filter, length, IsTrue, refl, sym, ap, ◌∙◌, subst}
+use Rattle.std.proofs.Common.{◌≡◌, ℕ, cond, not, ◌==◌, ◌&&◌, ◌||◌, List, [], ◌++◌, map, flat_map, filter, refl, sym, ap, ◌∙◌}
 use Rattle.std.specs.Prelude.{nat_lt, is_some}
 use Rattle.std.proofs.lemmas.Bool.Decides.{same_from_decides}
 use Rattle.cry_base.specs.Sets.{In, has}
 use Rattle.cry_base.specs.Refusing.{deepest, has_child, height_of, is_node_within}
-use Rattle.cry_base.specs.Stepping.{with_new_holder, with_new_folder, with_new_file, with_folder, with_file, without_folder, without_file, without_grant}
-use Rattle.cry_base.specs.Store.{Store, FolderEntry, FileEntry, GrantEntry, depth_of, file_entry, file_names, folder_entry, folder_names, folder_node, has_grant, holder_entry, is_within, node_names, nodes_of, way_to_root, root_store}
+use Rattle.cry_base.specs.Stepping.{with_new_holder, with_new_folder, with_new_file}
+use Rattle.cry_base.specs.Store.{Store, FolderEntry, FileEntry, GrantEntry, depth_of, file_entry, file_names, folder_entry, folder_names, folder_node, has_grant, holder_entry, is_within, node_names, nodes_of, way_to_root}
 use Rattle.cry_base.specs.declared.roles.Edge.{Edge}
 use Rattle.grant_book.specs.Granted.{grant_of}
 use Rattle.grant_book.proofs.Ordered.{any_grant_told}
-use Rattle.role_graph.specs.Edges.{edge_before, in_order, folder_edges, parent_edges, grant_edge, file_edge, edges}
+use Rattle.role_graph.specs.Edges.{folder_edges, parent_edges, file_edge, edges}
 use Rattle.role_graph.specs.Roles.{same_role, folder_roles}
 use Rattle.record_format.specs.Noted.{Note}
 use Rattle.record_format.specs.Noted.Note.{Root, NewHolder, NewFolder, NewFile, Rewrite, NameFile, NameFolder, DropFile, DropFolder, ShiftFile, ShiftFolder, Give, Take}
 use Rattle.record_format.specs.Plain.{PlainPayload}
 use Rattle.record_format.specs.Told.{told_note}
-use Rattle.move_plan.specs.Change.{Change, no_change, change_of, edges_at, edge_into_file, folder_of_file, parent_of_folder}
+use Rattle.move_plan.specs.Change.{no_change, change_of, edges_at, edge_into_file, folder_of_file, parent_of_folder}
 use Rattle.move_plan.specs.Fitting.{file_stands, fits, folder_stands, has_depth_left, is_other_folder, may_go_into, needs_root, row_fits}
 use Rattle.public_fold.specs.Fitted.{fits_step, has_heads, payload_fits, told_step}
 use Rattle.public_fold.specs.Journal.{Stand, note_step}
-use Rattle.public_fold.specs.KeyStep.{KeyState, Stepped, key_step}
-use Rattle.public_fold.specs.Records.{Piece, folder_piece, file_piece, holder_piece, pieces_of}
+use Rattle.public_fold.specs.KeyStep.{KeyState, key_step}
+use Rattle.public_fold.specs.Records.{folder_piece, file_piece, holder_piece, pieces_of}
 use Rattle.public_fold.specs.StandFits.{has_count, note_fits}
 use Rattle.public_fold.specs.Standing.{AreSameGrants, IsSeenAs, PublicView, public_store_of, stand_of}
 use Rattle.public_fold.specs.Told.{told_store}

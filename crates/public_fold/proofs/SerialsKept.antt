@@ -273,7 +273,7 @@ module _ (s t : Store) (k : KeyState) (c : Change) (links : List Link) (mv : IsM
       omega arith
 
 -- an epoch begins above all serials before it
-serials_epoch : (k : KeyState) → k.count ≤ 268435456 → SerialsHold k → SerialsHold (next_epoch k)
+pub serials_epoch : (k : KeyState) → k.count ≤ 4294967296 → SerialsHold k → SerialsHold (next_epoch k)
 unfolding next_epoch next_serial
 serials_epoch k low ok = record {
   own = ok.own;
@@ -317,7 +317,7 @@ owner_alone r n =
       | false ↦ λ t e. absurd cc
     ]) refl
 
-first_serials : SerialsHold (next_epoch no_keys)
+pub first_serials : SerialsHold (next_epoch no_keys)
 unfolding next_epoch no_keys next_serial
 first_serials = record {
   own = λ a b n e f. sym (owner_alone a n e).0 ∙ (owner_alone b n f).0;

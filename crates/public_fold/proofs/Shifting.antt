@@ -6,7 +6,8 @@ use Rattle.cry_base.specs.Sets.{In}
 use Rattle.cry_base.specs.Naming.{is_name}
 use Rattle.cry_base.specs.Store.{FolderEntry, FileEntry, way_up}
 use Rattle.cry_base.proofs.Members.{In-map}
-use Rattle.public_fold.proofs.Levels.{AtLevel, AreNumbered, level_map, one_level, root_way, next_way}
+use Rattle.public_fold.specs.Tree.{AreNumbered, AtLevel}
+use Rattle.public_fold.proofs.Levels.{level_map, one_level, root_way, next_way}
 use Rattle.public_fold.proofs.Treeing.{IsTree}
 
 -- one folder is changed, or stays as it is
@@ -20,6 +21,18 @@ folder_cases f change e = (elim (e.id == f) as (λ t. e.id == f ≡ t → ((e.id
 module _ (fs : List FolderEntry) (xs : List FileEntry) (f : ℕ) (change : FolderEntry → FolderEntry) (ids : (e : FolderEntry) → (change e).id ≡ e.id) where
   other_id : (e : FolderEntry) → (cond (e.id == f) (change e) e).id ≡ e.id
   other_id e = ⊎_elim (λ w. ap (λ (y : FolderEntry). y.id) w.1 ∙ ids e) (λ w. ap (λ (y : FolderEntry). y.id) w.1) (folder_cases f change e)
+
+  pub numbered_changed : AreNumbered fs → ((e : FolderEntry) → In e fs → e.id ≡ f → (change e).parent ≡ 0 → e.parent ≡ 0) → AreNumbered (map (λ e. cond (e.id == f) (change e) e) fs)
+  numbered_changed ok roots =
+      let was = λ (e : FolderEntry) (i : In e (map (λ (e : FolderEntry). cond (e.id == f) (change e) e) fs)). (In-map FolderEntry FolderEntry (λ e. cond (e.id == f) (change e) e) e fs).0 i in
+      let parent = λ (y z : FolderEntry) (s : y ≡ z). ap (λ (e : FolderEntry). e.parent) s in
+      let id = λ (e u : FolderEntry) (s : e ≡ cond (u.id == f) (change u) u). ap (λ (y : FolderEntry). y.id) s ∙ other_id u in record {
+        own = λ a b i j e. let u = was a i in let v = was b j in
+            u.2 ∙ ap (λ (y : FolderEntry). cond (y.id == f) (change y) y) (ok.own u.0 v.0 u.1 v.1 (sym (id a u.0 u.2) ∙ e ∙ id b v.0 v.2)) ∙ sym v.2;
+        no_zero = λ e i. let u = was e i in λ z. ok.no_zero u.0 u.1 (sym (id e u.0 u.2) ∙ z);
+        one_root = λ e i z. let u = was e i in id e u.0 u.2 ∙ ok.one_root u.0 u.1
+            (⊎_elim (λ c. roots u.0 u.1 c.0 (sym (parent e (change u.0) (u.2 ∙ c.1)) ∙ z)) (λ c. sym (parent e u.0 (u.2 ∙ c.1)) ∙ z) (folder_cases f change u.0));
+      }
 
   pub folder_changed : IsTree fs xs
       → AtLevel 0 (map (λ e. cond (e.id == f) (change e) e) fs) 1
@@ -35,13 +48,7 @@ module _ (fs : List FolderEntry) (xs : List FileEntry) (f : ℕ) (change : Folde
       let name = λ (y z : FolderEntry) (s : y ≡ z). ap (λ (e : FolderEntry). e.name) s in
       let was = λ (e : FolderEntry) (i : In e (map (λ (e : FolderEntry). cond (e.id == f) (change e) e) fs)). (In-map FolderEntry FolderEntry (λ e. cond (e.id == f) (change e) e) e fs).0 i in
       let id = λ (e u : FolderEntry) (s : e ≡ cond (u.id == f) (change u) u). ap (λ (y : FolderEntry). y.id) s ∙ other_id u in record {
-        numbered = record {
-          own = λ a b i j e. let u = was a i in let v = was b j in
-              u.2 ∙ ap (λ (y : FolderEntry). cond (y.id == f) (change y) y) (ok.numbered.own u.0 v.0 u.1 v.1 (sym (id a u.0 u.2) ∙ e ∙ id b v.0 v.2)) ∙ sym v.2;
-          no_zero = λ e i. let u = was e i in λ z. ok.numbered.no_zero u.0 u.1 (sym (id e u.0 u.2) ∙ z);
-          one_root = λ e i z. let u = was e i in id e u.0 u.2 ∙ ok.numbered.one_root u.0 u.1
-              (⊎_elim (λ c. roots u.0 u.1 c.0 (sym (place e (change u.0) (u.2 ∙ c.1)) ∙ z)) (λ c. sym (place e u.0 (u.2 ∙ c.1)) ∙ z) (folder_cases f change u.0));
-        };
+        numbered = numbered_changed ok.numbered roots;
         own_file = ok.own_file;
         root_stands = root;
         folder_level = λ e i. let u = was e i in subst (λ g. (n : ℕ) × AtLevel n (map (λ (e : FolderEntry). cond (e.id == f) (change e) e) fs) g × (n ≤ 64)) (sym (id e u.0 u.2)) (levels u.0 u.1);

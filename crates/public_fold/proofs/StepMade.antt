@@ -1,8 +1,8 @@
 -- The step that the code makes is that of the definitions.
-use Rattle.std.proofs.Common.{◌≡◌, ℕ, suc, ◌+◌, ◌<◌, ◌≤◌, Bool, true, false, cond, not, ◌==◌, ◌&&◌, ◌||◌, List, [], ◌∷◌, ◌++◌, map, length, Option, Some, None, refl, sym, ap, ◌∙◌, arith}
-use Rattle.std.specs.Prelude.{is_some, nat_lt, find}
+use Rattle.std.proofs.Common.{◌≡◌, ℕ, suc, ◌+◌, Bool, true, false, not, ◌==◌, List, [], ◌∷◌, ◌++◌, map, length, Option, Some, None, refl, sym, ap, ◌∙◌}
+use Rattle.std.specs.Prelude.{is_some, find}
 use Rattle.std.specs.List.{list_any}
-use Rattle.std.proofs.lemmas.Bool.{and_parts, and_from, and_left, and_right, eqb-true, eq-eqb, false≢true, lt-ltb, le-ltb, or_left, or_right}
+use Rattle.std.proofs.lemmas.Bool.{and_parts, eqb-true, eq-eqb, false≢true, or_left, or_right}
 use Rattle.cry_base.specs.Store.{Store, FolderEntry, FileEntry, HolderEntry, no_store, root_store, folder_entry, file_entry, holder_entry}
 use Rattle.cry_base.specs.Stepping.{with_new_holder, with_new_folder, with_new_file}
 use Rattle.cry_base.specs.declared.roles.Edge.{Edge}
@@ -12,12 +12,11 @@ use Rattle.record_format.specs.Noted.{Note}
 use Rattle.record_format.specs.Noted.Note.{Root, NewHolder, NewFolder, NewFile, Rewrite, NameFile, NameFolder, DropFile, DropFolder, ShiftFile, ShiftFolder, Give, Take}
 use Rattle.move_plan.specs.Change.{Change}
 use Rattle.move_plan.specs.Fitting.{file_stands, fits, folder_stands, has_depth_left, is_other_folder, row_fits}
-use Rattle.public_fold.specs.Heads.{IsSkeleton, content_head, due_of, textless}
-use Rattle.public_fold.specs.KeyStep.{KeyState, Stepped, content_of, contents_from, dirty_left, given, key_step, keys_then, keys_without, links_from, next_serial, numbered, published, published_edges, renewed, step_with}
-use Rattle.public_fold.specs.Records.{Content, Piece, file_piece, folder_piece, holder_piece, pieces_of, sealing_role}
+use Rattle.public_fold.specs.Heads.{content_head, due_of, textless}
+use Rattle.public_fold.specs.KeyStep.{KeyState, content_of, contents_from, given, key_step, keys_then, keys_without, links_from, next_serial, numbered, published, published_edges, renewed, step_with}
+use Rattle.public_fold.specs.Records.{Piece, file_piece, folder_piece, holder_piece, pieces_of, sealing_role}
 use Rattle.public_fold.specs.Stepping.{IsDue, IsNumbered, IsStep, counted}
 use Rattle.public_fold.specs.Told.{told_store}
-use Rattle.public_fold.specs.declared.heads.ContentHead.{ContentHead}
 use Rattle.public_fold.specs.declared.step.Due.{Due}
 use Rattle.public_fold.specs.declared.step.Step.{Step}
 use Rattle.public_fold.proofs.Serials.{numbered-length}

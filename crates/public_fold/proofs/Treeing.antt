@@ -12,7 +12,8 @@ use Rattle.cry_base.specs.declared.roles.Node.TheVariants.{Folder, File}
 use Rattle.cry_base.proofs.Finding.{find-found, found-find, node_found}
 use Rattle.cry_base.proofs.Members.{In-append, In-map}
 use Rattle.cry_base.proofs.Paths.{names_told, path_told}
-use Rattle.public_fold.proofs.Levels.{AtLevel, AreNumbered, root_way, next_way, way_length, find_own}
+use Rattle.public_fold.specs.Tree.{AreNumbered, AtLevel}
+use Rattle.public_fold.proofs.Levels.{root_way, next_way, way_length, find_own}
 
 -- what holds of the tree after each command
 pub record IsTree (fs : List FolderEntry) (xs : List FileEntry) : Type 0 where
@@ -99,12 +100,15 @@ same_folder (suc n) s f g ok a b e =
     sym a.2 ∙ ok.two_folders a.0 b.0 a.1 b.1 (same_folder n s a.0.parent b.0.parent ok a.4 b.4 ends.0) ends.1 ∙ b.2
 
 -- the search for a file by its number finds it
-pub file_own : (s : Store) (x : FileEntry) (n : ℕ) → IsTree s.folders s.files → In x s.files → x.id ≡ n → file_entry s n ≡ Some x
+pub file_alone : (s : Store) (x : FileEntry) (n : ℕ) → ((a b : FileEntry) → In a s.files → In b s.files → a.id ≡ b.id → a ≡ b) → In x s.files → x.id ≡ n → file_entry s n ≡ Some x
 unfolding file_entry
-file_own s x n ok i q =
+file_alone s x n own i q =
     let w = found-find FileEntry (λ e. e.id == n) x s.files i (eq-eqb x.id n q) in
     let told = find-found FileEntry (λ e. e.id == n) s.files w.0 w.1 in
-    w.1 ∙ ap (λ e. Some e) (ok.own_file w.0 x told.0 i (eqb-true w.0.id n told.1 ∙ sym q))
+    w.1 ∙ ap (λ e. Some e) (own w.0 x told.0 i (eqb-true w.0.id n told.1 ∙ sym q))
+
+pub file_own : (s : Store) (x : FileEntry) (n : ℕ) → IsTree s.folders s.files → In x s.files → x.id ≡ n → file_entry s n ≡ Some x
+file_own s x n ok i q = file_alone s x n ok.own_file i q
 
 pub folder_own : (s : Store) (e : FolderEntry) (f : ℕ) → IsTree s.folders s.files → In e s.folders → e.id ≡ f → folder_entry s f ≡ Some e
 unfolding folder_entry

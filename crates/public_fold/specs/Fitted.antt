@@ -1,5 +1,5 @@
 -- Which payloads fit what stands, and what stands after them. This project's own, docs/FORMAT.md, "The key step" and "Reading".
-use Rattle.std.specs.Prelude.{ℕ, Bool, true, false, ◌&&◌, ◌==◌, nat_le, if◌then◌else◌, List, [], ◌∷◌, length}
+use Rattle.std.specs.Prelude.{Bool, true, false, ◌&&◌, ◌==◌, nat_le, if◌then◌else◌, List, [], ◌∷◌, length}
 use Rattle.record_format.specs.declared.link.LinkRecord.{LinkRecord}
 use Rattle.record_format.specs.Plain.{PlainContent, PlainPayload}
 use Rattle.record_format.specs.Spellable.{shortest_text, longest_text}

@@ -16,4 +16,6 @@ pub mod Preparing
 pub mod Standing
 pub mod Stepping
 pub mod Tree
+pub mod Rooted
+pub mod Turns
 pub mod WorkedSteps

@@ -1,5 +1,5 @@
 -- What holds of the tree of folders and files. This project's own, docs/FORMAT.md.
-use Rattle.std.specs.Prelude.{◌≡◌, ◌≢◌, ℕ, List, [], ◌∷◌, IsTrue}
+use Rattle.std.specs.Prelude.{◌≡◌, ◌≢◌, ℕ, zero, suc, List, [], ◌∷◌, IsTrue}
 use Rattle.cry_base.specs.Naming.{is_name}
 use Rattle.cry_base.specs.Sets.{In}
 use Rattle.cry_base.specs.Store.{Store, FolderEntry, FileEntry}
@@ -9,6 +9,17 @@ abbrev pub LeadsUp : List FolderEntry → ℕ → Type 0
 LeadsUp [] f = ⊥
 LeadsUp (e ∷ []) f = (e.id ≡ f) × (f ≡ 1) × (e.parent ≡ 0)
 LeadsUp (e ∷ d ∷ ds) f = (e.id ≡ f) × (e.parent ≢ 0) × LeadsUp (d ∷ ds) e.parent
+
+-- the folder f stands n levels below a folder without a parent
+abbrev pub AtLevel : ℕ → List FolderEntry → ℕ → Type 0
+AtLevel zero fs f = (e : FolderEntry) × In e fs × (e.id ≡ f) × (e.parent ≡ 0)
+AtLevel (suc n) fs f = (e : FolderEntry) × In e fs × (e.id ≡ f) × (e.parent ≢ 0) × AtLevel n fs e.parent
+
+-- folders have numbers of their own, none is 0, and the root alone has no parent
+pub record AreNumbered (fs : List FolderEntry) : Type 0 where
+  pub own : (a b : FolderEntry) → In a fs → In b fs → a.id ≡ b.id → a ≡ b
+  pub no_zero : (e : FolderEntry) → In e fs → e.id ≢ 0
+  pub one_root : (e : FolderEntry) → In e fs → e.parent ≡ 0 → e.id ≡ 1
 
 -- names in one folder differ, over folders and files together; all but the root's are names
 pub record HaveOwnNames (s : Store) : Type 0 where

@@ -1,5 +1,5 @@
 -- Worked rows of journals, and the words that open them to a computation.
-use Rattle.std.specs.Prelude.{Option, ℕ, zero, suc, Bool, List, [], ◌∷◌, ◌++◌, map, length, codes, replicate, slice_get, Some, None}
+use Rattle.std.specs.Prelude.{ℕ, zero, suc, Bool, List, [], ◌∷◌, ◌++◌, map, length, codes, replicate, slice_get, Some, None}
 use Rattle.std.specs.Fmt.{digits}
 use Rattle.cry_base.specs.Requests.{Request}
 use Rattle.cry_base.specs.Requests.Request.{AddHolder, MakeFolder, WriteFile, Grant, Revoke, Remove, Rename, Relocate}

@@ -1,9 +1,9 @@
 //! What stands in public after each payload, and what the next one has to hold.
 #![tactic(auto)]
 
-pub mod cost_laws;
 mod advance;
 mod changing;
+pub mod cost_laws;
 mod counter;
 mod fault;
 mod fitting;

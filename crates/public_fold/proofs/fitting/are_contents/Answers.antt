@@ -1,4 +1,4 @@
-use Rattle.std.proofs.Common.{◌≡◌, ◌+◌, ◌<◌, ◌≤◌, ◌&&◌, length, drop, map, sym, ap, ◌∙◌, arith}
+use Rattle.std.proofs.Common.{◌+◌, ◌<◌, ◌≤◌, ◌&&◌, length, drop, map, sym, ap, ◌∙◌, arith}
 use Rattle.record_format.specs.Plain.{PlainContent, plain_content}
 use Rattle.record_format.specs.declared.content.ContentRecord.{ContentRecord}
 use Rattle.public_fold.specs.Fitted.{are_due}

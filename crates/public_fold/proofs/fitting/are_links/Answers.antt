@@ -1,4 +1,4 @@
-use Rattle.std.proofs.Common.{◌≡◌, ◌+◌, ◌<◌, ◌≤◌, ◌&&◌, length, drop, sym, ap, ◌∙◌, arith}
+use Rattle.std.proofs.Common.{◌+◌, ◌<◌, ◌≤◌, ◌&&◌, length, drop, sym, ap, ◌∙◌, arith}
 use Rattle.record_format.specs.declared.link.LinkRecord.{LinkRecord}
 use Rattle.public_fold.specs.Fitted.{are_due, has_link_head}
 use Rattle.public_fold.specs.Records.{Link}

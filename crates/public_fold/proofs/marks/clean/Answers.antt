@@ -1,4 +1,4 @@
-use Rattle.std.proofs.Common.{◌≡◌, ◌+◌, drop, sym, ap, ◌∙◌}
+use Rattle.std.proofs.Common.{◌+◌, drop, sym, ap, ◌∙◌}
 use Rattle.role_graph.specs.Roles.{same_role}
 use Rattle.public_fold.specs.KeyStep.{without}
 use Rattle.public_fold.proofs.StepLists.{cleaned_end, cleaned_more}

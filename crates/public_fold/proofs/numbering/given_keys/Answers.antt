@@ -1,4 +1,4 @@
-use Rattle.std.proofs.Common.{◌≡◌, ◌+◌, ◌++◌, drop, sym, ap, ◌∙◌, arith}
+use Rattle.std.proofs.Common.{◌+◌, ◌++◌, drop, sym, ap, ◌∙◌, arith}
 use Rattle.cry_base.specs.declared.roles.Role.{Role}
 use Rattle.public_fold.specs.KeyStep.{numbered}
 use Rattle.public_fold.proofs.StepLists.{numbered_all, numbered_more}

@@ -1,4 +1,4 @@
-use Rattle.std.proofs.Common.{◌≡◌, ◌+◌, [], ◌∷◌, ◌++◌, drop, sym, ap, ◌∙◌, arith}
+use Rattle.std.proofs.Common.{◌+◌, [], ◌∷◌, ◌++◌, drop, sym, ap, ◌∙◌, arith}
 use Rattle.public_fold.specs.KeyStep.{links_from}
 use Rattle.public_fold.specs.Records.{Link}
 use Rattle.public_fold.proofs.StepLists.{linked_all, linked_more}

@@ -1,4 +1,4 @@
-use Rattle.std.proofs.Common.{◌≡◌, ◌||◌, ◌++◌, List, map, filter, ap, ◌∙◌}
+use Rattle.std.proofs.Common.{◌||◌, ◌++◌, List, map, filter, ap, ◌∙◌}
 use Rattle.cry_base.specs.Sets.{has}
 use Rattle.cry_base.specs.declared.roles.Edge.{Edge}
 use Rattle.cry_base.specs.declared.roles.Role.{Role}

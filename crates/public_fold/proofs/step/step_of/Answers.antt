@@ -1,10 +1,9 @@
-use Rattle.std.proofs.Common.{◌≡◌, ℕ, true, false, List, Result, Ok, Err, sym, ap, ◌∙◌, subst}
+use Rattle.std.proofs.Common.{◌≡◌, true, false, List, Result, Ok, Err, sym, ap, ◌∙◌, subst}
 use Rattle.std.proofs.lemmas.Bool.{true_from_ne_false}
 use Rattle.std.proofs.lemmas.Result.{IfOk-weaker, err_from_is_err_and}
 use Rattle.cry_base.specs.declared.roles.Edge.{Edge}
 use Rattle.role_graph.specs.Edges.{edges}
 use Rattle.role_graph.specs.PublicStore.{public_store}
-use Rattle.record_format.specs.Noted.{Note}
 use Rattle.record_format.specs.Told.{told_note}
 use Rattle.move_plan.specs.Change.{change_of}
 use Rattle.move_plan.specs.Fitting.{fits}
