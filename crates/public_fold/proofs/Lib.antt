@@ -33,3 +33,4 @@ pub mod PreparedTold
 pub mod GrantLaws
 pub mod RevokeLaws
 pub mod Rooting
+pub mod NoteMoves
