@@ -54,7 +54,7 @@ module _ (s t : Store) (k : KeyState) (c : Change) (links : List Link) (mv : IsM
       ⊎_elim to.1 (λ f. new e.to to.0 f) ((In-append Role e.to p c.fresh).0 (has-in Role same_role same_role_tells (p ++ c.fresh) e.to b)))
       (or_cases (has same_edge c.added e || has same_role (p ++ c.fresh) e.from) (has same_role (p ++ c.fresh) e.to) w.1)
 
-  links_clean : (pieces : List Piece) → LeavesClean (key_step k (edges s) c pieces)
+  pub links_clean : (pieces : List Piece) → LeavesClean (key_step k (edges s) c pieces)
   unfolding key_step step_with published links_from link_of
   links_clean pieces l i d =
       let p = renewed k (edges s) c in

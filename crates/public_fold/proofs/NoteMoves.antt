@@ -1,7 +1,7 @@
 -- Each note that fits is a move of edges and roles, whichever command made it, and leaves the store rooted.
 use Rattle.std.proofs.Common.{◌≡◌, ◌≢◌, ℕ, ◌+◌, ◌≤◌, true, false, not, ◌==◌, ◌&&◌, ◌||◌, List, [], ◌∷◌, Some, None, inl, inr, ⊎_elim, refl, sym, ap, ◌∙◌, subst, arith}
 use Rattle.std.specs.Prelude.{is_some, nat_lt, nat_le}
-use Rattle.std.proofs.lemmas.Bool.{and_parts, eqb-true, eqb-false, not-true, false≢true}
+use Rattle.std.proofs.lemmas.Bool.{and_parts, eqb-true, eqb-false, not-true, false≢true, false_from_ne_true}
 use Rattle.cry_base.specs.Sets.{In}
 use Rattle.cry_base.specs.Store.{Store, FolderEntry, FileEntry, HolderEntry, GrantEntry, no_store, root_store, folder_node, folder_entry, holder_entry, has_grant, depth_of, is_within, way_to_root}
 use Rattle.cry_base.specs.Refusing.{has_child, height_of}
@@ -89,6 +89,10 @@ no_second s ok t =
     let r = ok.root_stands in
     let low : r.0.id ≤ s.folders_made = ok.counted.each_folder r.0 r.1 in
     let one : r.0.id ≡ 1 = r.2 in let none : s.folders_made ≡ 0 = eqb-true s.folders_made 0 t in omega arith
+
+root_row : (s : Store) → row_fits s Root ≡ true → (s.folders_made == 0) ≡ true
+unfolding row_fits
+root_row s t = t
 
 -- the store stays rooted
 pub row_rooted : (s : Store) (note : Note) → row_fits s note ≡ true → IsRooted s → IsRooted (told_store s note)
@@ -288,8 +292,11 @@ parts : (s : Store) (note : Note) → fits s note ≡ true → (row_fits s note 
 unfolding fits
 parts s note t = and_parts (row_fits s note) (not (needs_root note) || folder_stands s 1) t
 
-first_is_root : (s : Store) (note : Note) → fits s note ≡ true → s ≡ no_store → note ≡ Root
+pub first_is_root : (s : Store) (note : Note) → fits s note ≡ true → s ≡ no_store → note ≡ Root
 first_is_root s note t e = root_alone note (subst (λ z. (not (needs_root note) || folder_stands z 1) ≡ true) e (parts s note t).1)
+
+pub root_once : (s : Store) → IsRooted s → fits s Root ≡ false
+root_once s ok = false_from_ne_true (fits s Root) (λ t. no_second s ok (root_row s (parts s Root t).0))
 
 root_told : (s : Store) → told_store s Root ≡ root_store
 unfolding told_store

@@ -233,7 +233,7 @@ module _ (s t : Store) (k : KeyState) (c : Change) (links : List Link) (mv : IsM
       (in_or s t k c links mv ok r c.gone))
       (in_or s t k c links mv ok r (p ++ c.fresh))
 
-  serials_after : (pieces : List Piece) → SerialsHold k → SerialsHold (key_step k (edges s) c pieces).after
+  pub serials_after : (pieces : List Piece) → SerialsHold k → SerialsHold (key_step k (edges s) c pieces).after
   unfolding key_step step_with published next_serial given
   serials_after pieces old =
       let p = renewed k (edges s) c in

@@ -17,6 +17,7 @@ mod prepared;
 mod publishing;
 pub mod rows;
 mod sealing;
+pub mod sound_laws;
 mod state;
 mod step;
 pub mod step_laws;

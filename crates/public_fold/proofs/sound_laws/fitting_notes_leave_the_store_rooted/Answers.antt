@@ -1,0 +1,7 @@
+use Rattle.public_fold.specs.Fitted.{told_stand}
+use Rattle.public_fold.proofs.NoteMoves.{note_rooted}
+use Rattle.public_fold.proofs.sound_laws.fitting_notes_leave_the_store_rooted.Goals as goal
+
+pub returns : goal.returns
+unfolding told_stand
+returns c = λ at note t ok. note_rooted at.store note t ok
