@@ -1,7 +1,6 @@
 pub mod Accepting
 pub mod AllFit
 pub mod CleanLinks
-pub mod Costs
 pub mod Counting
 pub mod EdgesAfter
 pub mod EdgesThen

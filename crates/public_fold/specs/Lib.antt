@@ -3,7 +3,6 @@ pub mod KeyStep
 pub mod Journal
 pub mod Lengths
 pub mod Valid
-pub mod Costs
 pub mod Counted
 pub mod Keyed
 pub mod StandFits

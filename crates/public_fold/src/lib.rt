@@ -3,7 +3,6 @@
 
 mod advance;
 mod changing;
-pub mod cost_laws;
 mod counter;
 mod fault;
 mod fitting;
