@@ -59,7 +59,7 @@ ascends-append (x ∷ xs) ys n up more below above = (
   ascends-append xs ys n up.1 more (λ key i. below key (inr i)) above,
 )
 
-given_above : (n : ℕ) (roles : List Role) (drawn : List (List ℕ)) → Above n (with_bytes (numbered n roles) drawn)
+pub given_above : (n : ℕ) (roles : List Role) (drawn : List (List ℕ)) → Above n (with_bytes (numbered n roles) drawn)
 unfolding with_bytes numbered
 given_above n [] drawn key i = absurd i
 given_above n (r ∷ roles) [] key i = absurd i
@@ -93,7 +93,7 @@ pub record LieBetween (from to : ℕ) (keys : List KeyParts) : Type 0 where
   pub below : (key : KeyParts) → In key keys → key.serial < to
   pub ascends : Ascends keys
 
-step_between : (k : KeyState) (before : List Edge) (c : Change) (pieces : List Piece) (drawn : List (List ℕ)) →
+pub step_between : (k : KeyState) (before : List Edge) (c : Change) (pieces : List Piece) (drawn : List (List ℕ)) →
     LieBetween (next_serial k) (next_serial (key_step k before c pieces).after) (with_bytes (key_step k before c pieces).given drawn)
 unfolding key_step step_with published given
 step_between k before c pieces drawn = record {
@@ -104,7 +104,7 @@ step_between k before c pieces drawn = record {
   ascends = given_ascends (next_serial k) (renewed k before c ++ c.fresh) drawn;
 }
 
-step_rises : (k : KeyState) (before : List Edge) (c : Change) (pieces : List Piece) → next_serial k ≤ next_serial (key_step k before c pieces).after
+pub step_rises : (k : KeyState) (before : List Edge) (c : Change) (pieces : List Piece) → next_serial k ≤ next_serial (key_step k before c pieces).after
 unfolding key_step step_with published next_serial
 step_rises k before c pieces = omega arith
 

@@ -1,7 +1,11 @@
 pub mod Ascending
 pub mod Counted
 pub mod Followings
+pub mod GivenKeys
 pub mod Grown
 pub mod Published
+pub mod RingRecords
+pub mod StepKeys
+pub mod StepSealed
 pub mod Weighed
 pub mod WorkedGrant

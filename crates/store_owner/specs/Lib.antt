@@ -3,6 +3,8 @@ pub mod Folds
 pub mod Journals
 pub mod Keys
 pub mod Notes
+pub mod Ringing
+pub mod Sealing
 pub mod Script
 pub mod Attempts
 pub mod WorkedBytes

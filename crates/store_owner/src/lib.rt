@@ -4,6 +4,12 @@
 pub mod folding;
 pub mod holding;
 pub mod laws;
+mod records;
 pub mod rows;
 pub mod script_laws;
 pub mod script_rows;
+mod step_records;
+mod step_room;
+
+pub use step_records::seal_step;
+pub use step_room::StepRoom;
