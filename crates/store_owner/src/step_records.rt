@@ -1,7 +1,9 @@
 //! The payload of a step: its keys given, and its records sealed under the present keys.
-ghost use Rattle.std.specs.Prelude.{◌≡◌, ◌+◌, List, length};
+ghost use Rattle.std.specs.Prelude.{◌≡◌, ◌+◌, IsSome, List, length};
 ghost use Rattle.chacha_seal.specs.Keys.{KeyParts};
 ghost use Rattle.cry_base.specs.Store.{Store};
+ghost use Rattle.cry_base.specs.declared.roles.Role.{Role as AnyRole};
+ghost use Rattle.key_links.specs.Ringed.{key_of};
 ghost use Rattle.record_format.specs.Noted.{Note as AnyNote};
 ghost use Rattle.record_format.specs.Plain.{plain_payload};
 ghost use Rattle.record_format.specs.Sizes.{payload_size};
@@ -10,7 +12,7 @@ ghost use Rattle.record_format.specs.Told.{told_note};
 ghost use Rattle.public_fold.specs.Journal.{Stand, note_step};
 ghost use Rattle.public_fold.specs.Lengths.{payload_len};
 ghost use Rattle.store_owner.specs.Bytes.{step_payload};
-ghost use Rattle.store_owner.specs.Sealing.{CanSeal, HoldsKeys, IsSpaceFor, IsTold, keys_with};
+ghost use Rattle.store_owner.specs.Sealing.{CanSeal, HoldsKeys, IsSpaceFor, IsTold, WillHave, keys_with};
 
 use crate::StepRoom;
 use crate::records::{give_keys, put_contents, put_links};
@@ -40,6 +42,7 @@ pub fn seal_step(
     ensures keys { (keys : List KeyParts) (at : Stand) (told : AnyNote) (after : Store) → HoldsKeys keys at.keys ring.old counter.old
         → IsTold (note_step at told after) skeleton.now text.items
         → HoldsKeys (keys_with keys (note_step at told after) drawn.now) (note_step at told after).after ring.new counter.new }
+    ensures has { (role : AnyRole) → WillHave ring.old skeleton.now.keys.items role → IsSome (key_of ring.new role) }
     ensures spellable { IsSpellable (plain_payload result) }
     ensures size { (at : Stand) (told : AnyNote) (after : Store) → IsTold (note_step at told after) skeleton.now text.items
         → payload_size (plain_payload result) ≡ payload_len (told_note note) (note_step at told after) }
@@ -53,15 +56,12 @@ pub fn seal_step(
         mut contents,
     } = room;
     note_is_spelled(note);
-    give_keys(ring, counter, skeleton.keys.as_slice(), drawn);
-    put_links(ring, counter, skeleton.links.as_slice(), &mut links);
-    put_contents(
-        ring,
-        counter,
-        skeleton.contents.as_slice(),
-        text,
-        &mut contents,
-    );
+    let keys = skeleton.keys.as_slice();
+    let edges = skeleton.links.as_slice();
+    let heads = skeleton.contents.as_slice();
+    give_keys(ring, counter, keys, drawn);
+    put_links(ring, counter, edges, &mut links);
+    put_contents(ring, counter, heads, text, &mut contents);
     Payload {
         note,
         links,
