@@ -26,4 +26,6 @@ pub use rows::{FileRow, FolderRow};
 pub use shape::Shape;
 
 #[cfg(test)]
+mod restore_tests;
+#[cfg(test)]
 mod tests;

@@ -1,5 +1,5 @@
 use super::*;
-use cry_base::{Command, FileId, FolderId, Limits, List, Node, Refusal, Text};
+use cry_base::{FileId, FolderId, List, Node, Text};
 use std::alloc::Global;
 use std::test::Fail;
 
@@ -72,34 +72,16 @@ fn text_of(alloc: Global, bytes: &[u8]) -> Result<Text, Fail> {
 }
 
 fn give_name(alloc: Global, names: &mut Names, node: Node, name: &[u8]) -> Result<(), Fail> {
-    names.reserve()?;
-    names.set(node, text_of(alloc, name)?, List::new(alloc));
-    Ok(())
+    let name = text_of(alloc, name)?;
+    name_again(names, node, name, List::new(alloc))
 }
 
 fn name_again(names: &mut Names, node: Node, name: Text, bytes: Text) -> Result<(), Fail> {
     names.reserve()?;
-    names.set(node, name, bytes);
+    if name_ok(name.as_slice()) {
+        names.set(node, name, bytes);
+    }
     Ok(())
-}
-
-/// The root alone, with its empty name.
-fn root_alone(alloc: Global) -> Result<(Shape, Names), Fail> {
-    let mut shape = Shape::new(alloc);
-    let mut names = Names::new(alloc);
-    shape.reserve()?;
-    names.reserve()?;
-    shape.add_folder(None);
-    names.set(Node::Folder(ROOT), List::new(alloc), List::new(alloc));
-
-    Ok((shape, names))
-}
-
-fn file_of(alloc: Global, path: &[u8], bytes: &[u8]) -> Result<Command, Fail> {
-    Ok(Command::WriteFile {
-        path: text_of(alloc, path)?,
-        bytes: text_of(alloc, bytes)?,
-    })
 }
 
 #[test]
@@ -197,27 +179,5 @@ fn a_path_through_a_file_finds_nothing(rt: HostRuntime) -> Result<(), Fail> {
     assert!(rt; names.bytes(file) == Some(b"00".as_slice()));
     names.forget(node);
     assert_eq!(rt; find(&shape, &names, b"/y"), None);
-    Ok(())
-}
-
-#[test]
-fn files_are_written_up_to_the_limit(rt: HostRuntime) -> Result<(), Fail> {
-    let (shape, names) = root_alone(rt.alloc())?;
-    let limits = Limits {
-        store_bytes: 1000,
-        file_bytes: 2,
-    };
-    let full = file_of(rt.alloc(), b"/f", b"00")?;
-    assert_eq!(rt; check_tree(&shape, &names, limits, &full), Ok(()));
-    let longer = file_of(rt.alloc(), b"/f", b"000")?;
-    assert_eq!(rt;
-        check_tree(&shape, &names, limits, &longer),
-        Err(Refusal::TooLong)
-    );
-    let nowhere = file_of(rt.alloc(), b"/a/f", b"000")?;
-    assert_eq!(rt;
-        check_tree(&shape, &names, limits, &nowhere),
-        Err(Refusal::NoPath)
-    );
     Ok(())
 }
