@@ -26,6 +26,8 @@ pub use rows::{FileRow, FolderRow};
 pub use shape::Shape;
 
 #[cfg(test)]
+mod path_tests;
+#[cfg(test)]
 mod restore_tests;
 #[cfg(test)]
 mod tests;
