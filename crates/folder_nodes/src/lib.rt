@@ -26,8 +26,4 @@ pub use rows::{FileRow, FolderRow};
 pub use shape::Shape;
 
 #[cfg(test)]
-mod path_tests;
-#[cfg(test)]
-mod restore_tests;
-#[cfg(test)]
 mod tests;

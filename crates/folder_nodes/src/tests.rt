@@ -1,3 +1,6 @@
+mod paths;
+mod restoring;
+
 use super::*;
 use cry_base::{FileId, FolderId, List, Node, Text};
 use std::alloc::Global;

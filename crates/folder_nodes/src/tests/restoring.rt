@@ -1,5 +1,5 @@
 //! Which rows are a tree.
-use super::*;
+use crate::*;
 use cry_base::{FileId, FolderId, List};
 use std::alloc::Global;
 use std::test::Fail;

@@ -1,5 +1,5 @@
 //! What paths find, and which commands the tree refuses.
-use super::*;
+use crate::*;
 use cry_base::{Command, FileId, FolderId, HolderId, Limits, List, Node, Refusal, Text};
 use std::alloc::Global;
 use std::test::Fail;
