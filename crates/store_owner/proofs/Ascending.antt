@@ -19,7 +19,9 @@ use Rattle.record_format.specs.Noted.Note.{Root}
 use Rattle.move_plan.specs.Noting.{note_of}
 use Rattle.public_fold.specs.Records.{Piece, pieces_of}
 use Rattle.public_fold.specs.KeyStep.{KeyState, no_keys, next_epoch, next_serial, numbered, given, renewed, published, step_with, key_step}
-use Rattle.public_fold.specs.Journal.{Entry, Journal, Stand, nothing, first_key, note_step, entry_step, stand_then}
+use Rattle.public_fold.specs.Journal.{Entry, Journal, Stand, nothing, first_key, note_step, entry_step, stand_then, stand_after, keys_of}
+use Rattle.public_fold.specs.Valid.{BeginsWell, IsValid}
+use Rattle.public_fold.proofs.AllFit.{journal_all_fit}
 use Rattle.public_fold.specs.Journal.Entry.{Session, Made, Did}
 use Rattle.public_fold.specs.StandFits.{has_count, note_fits, entry_fits, all_fit}
 use Rattle.public_fold.proofs.Serials.{keys_between}
@@ -193,3 +195,45 @@ unfolding key_bytes all_keys owner_parts nothing no_keys
 drawn_found owner m fit key i =
     let up = keys_go_up nothing m fit (omega arith) in
     found_own (record { id = 0; serial = 0; bytes = owner } ∷ keys_from nothing m) (up.positive, up.ascends) key i
+
+-- ---- the serials that come next
+
+ends_above : (at : Stand) (entries : List Entry) → IsTrue (all_fit at entries) → at.keys.count ≤ 4294967296
+    → (next_serial at.keys ≤ next_serial (stand_after at entries).keys) × ((key : KeyParts) → In key (keys_from at entries) → key.serial < next_serial (stand_after at entries).keys)
+unfolding keys_from all_fit stand_after stand_then
+ends_above at [] fit small = (omega arith, λ key i. absurd i)
+ends_above at (entry ∷ entries) fit small =
+    let both = and_parts (entry_fits at entry) (all_fit (stand_then at entry) entries) fit in
+    let up = entry_goes_up at entry both.0 small in
+    let rest = ends_above (stand_then at entry) entries both.1 up.count in
+    let rises = up.rises in
+    let ends = rest.0 in (
+      omega arith,
+      λ key i. ⊎_elim
+          (λ there. let below = up.between.below key there in omega arith)
+          (λ there. rest.1 key there)
+          ((In-append KeyParts key (entry_keys at entry) (keys_from (stand_then at entry) entries)).0 i),
+    )
+
+first_epoch : (entries : List Entry) → IsTrue (all_fit nothing (Session ∷ entries)) → 0 < next_serial (stand_after nothing (Session ∷ entries)).keys
+unfolding all_fit stand_after stand_then entry_step next_epoch nothing no_keys next_serial
+first_epoch entries fit =
+    let both = and_parts (entry_fits nothing Session) (all_fit (stand_then nothing Session) entries) fit in
+    let ends = (ends_above (stand_then nothing Session) entries both.1 (omega arith)).0 in omega arith
+
+begins_above : (m : Journal) → BeginsWell m → IsTrue (all_fit nothing m) → 0 < next_serial (stand_after nothing m).keys
+begins_above [] b fit = absurd b
+begins_above (Session ∷ es) b fit = first_epoch es fit
+begins_above (Made keys ∷ es) b fit = absurd b
+begins_above (Did request keys ∷ es) b fit = absurd b
+
+pub all_below : (owner : List ℕ) (m : Journal) → IsValid m → (key : KeyParts) → In key (all_keys owner m) → key.serial < next_serial (keys_of m)
+unfolding all_keys owner_parts keys_of nothing no_keys
+all_below owner m valid key i =
+    let fit = journal_all_fit m valid in
+    ⊎_elim
+    (λ (is : key ≡ record { id = 0; serial = 0; bytes = owner }).
+    let zero : key.serial ≡ 0 = ap (λ (x : KeyParts). x.serial) is in
+    let first = begins_above m valid.0 fit in omega arith)
+    (λ there. (ends_above nothing m fit (omega arith)).1 key there)
+    i

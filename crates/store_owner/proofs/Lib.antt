@@ -4,7 +4,9 @@ pub mod Followings
 pub mod GivenKeys
 pub mod Grown
 pub mod Published
+pub mod Ready
 pub mod RingRecords
+pub mod Sealable
 pub mod StepKeys
 pub mod StepSealed
 pub mod Weighed

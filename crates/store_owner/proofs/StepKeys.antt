@@ -110,7 +110,7 @@ after_some key n (x ∷ xs) (b ∷ drawn) r m long once =
           ∙ ap (λ t. Some (key_for r m (bytes_of (cond t (Some (key_for x n b)) (find (λ key. eqb key.serial m) others))))) (sym (ne_eqb n m (λ at. omega arith)))
     ]) refl
 
-numbered-roles : (n : ℕ) (roles : List Role) → map (λ (key : Role × ℕ). key.0) (numbered n roles) ≡ roles
+pub numbered-roles : (n : ℕ) (roles : List Role) → map (λ (key : Role × ℕ). key.0) (numbered n roles) ≡ roles
 unfolding numbered
 numbered-roles n [] = refl
 numbered-roles n (r ∷ roles) = ap (λ rs. r ∷ rs) (numbered-roles (n + 1) roles)

@@ -61,7 +61,7 @@ links_are ring keys newer n (e ∷ es) has sources targets =
     ∙ ap (λ b. sealed_link e.kind (key_for e.from l.from_serial (bytes_in keys l.from_serial)) b n ∷ links_by ring (n + 1) (links_from newer (n + 1) es)) to
     ∙ ap (λ ls. link_record keys l ∷ ls) (links_are ring keys newer (n + 1) es has (λ x i. sources x (inr i)) (λ x i. targets x (inr i)))
 
-sealing_same : (p : Piece) → ended.sealing_role p.kind p.object ≡ sealing_role p
+pub sealing_same : (p : Piece) → ended.sealing_role p.kind p.object ≡ sealing_role p
 unfolding sealing_role data_of file_role
 sealing_same p = refl
 
@@ -189,6 +189,30 @@ length-contents_by ring n text (h ∷ heads) = let more = length-contents_by rin
 pub contents_count : (ring : Ringed) (n : ℕ) (text : List ℕ) (contents : List PlainContent) (due : List ContentHead) → contents ≡ contents_by ring n text due → length contents ≡ length due
 contents_count ring n text contents due is = ap length is ∙ length-contents_by ring n text due
 
+links_long : (k : KeyState) (before : List Edge) (c : Change) (pieces : List Piece) → length (key_step k before c pieces).links ≡ length (published_edges before c (renewed k before c))
+unfolding key_step step_with published links_from
+links_long k before c pieces =
+    let es = published_edges before c (renewed k before c) in
+    length-map (numbered (next_serial k + length (given k c (renewed k before c))) es) _ ∙ numbered-length Edge (next_serial k + length (given k c (renewed k before c))) es
+
+contents_long : (k : KeyState) (before : List Edge) (c : Change) (pieces : List Piece) → length (key_step k before c pieces).contents ≡ length pieces
+unfolding key_step step_with published contents_from
+contents_long k before c pieces =
+    let n = next_serial k + length (given k c (renewed k before c)) + length (published_edges before c (renewed k before c)) in
+    length-map (numbered n pieces) _ ∙ numbered-length Piece n pieces
+
+-- a step takes a serial for each key, link and content
+pub counted_after : (k : KeyState) (before : List Edge) (c : Change) (pieces : List Piece) (counter : Counting) (s : Skeleton) (text : List ℕ)
+    → counter ≡ record { epoch = k.epoch; count = k.count } → IsTold (key_step k before c pieces) s text
+    → counter.count + length s.keys.items + length s.links.items + length s.contents.items ≡ (key_step k before c pieces).after.count
+unfolding key_step step_with published
+counted_after k before c pieces counter s text is told =
+    let start = ap (λ (x : Counting). x.count) is in
+    let keys_many = ap length told.is_skeleton.keys in
+    let links_many = ap length told.is_skeleton.links in
+    let contents_many = ap length told.is_skeleton.contents ∙ length-map (key_step k before c pieces).contents content_head in
+    omega (arith, start, keys_many, links_many, links_long k before c pieces, contents_many, contents_long k before c pieces)
+
 -- ---- a whole step
 
 module _ (keys : List KeyParts) (k : KeyState) (before : List Edge) (c : Change) (pieces : List Piece) (drawn : List (List ℕ)) (old new : Ringed) (counter : Counting) (s : Skeleton) (text : List ℕ)
@@ -214,23 +238,11 @@ module _ (keys : List KeyParts) (k : KeyState) (before : List Edge) (c : Change)
   second_is : serial_of counter.epoch (counter.count + length s.keys.items) ≡ next_serial k + length (key_step k before c pieces).given
   second_is = let keys_long = ap length told.is_skeleton.keys in omega (arith, first_is, keys_long)
 
-  links_long : length (key_step k before c pieces).links ≡ length (published_edges before c (renewed k before c))
-  unfolding key_step step_with published links_from
-  links_long =
-      let es = published_edges before c (renewed k before c) in
-      length-map (numbered (next_serial k + length (given k c (renewed k before c))) es) _ ∙ numbered-length Edge (next_serial k + length (given k c (renewed k before c))) es
-
-  contents_long : length (key_step k before c pieces).contents ≡ length pieces
-  unfolding key_step step_with published contents_from
-  contents_long =
-      let n = next_serial k + length (given k c (renewed k before c)) + length (published_edges before c (renewed k before c)) in
-      length-map (numbered n pieces) _ ∙ numbered-length Piece n pieces
-
   third_is : serial_of counter.epoch (counter.count + length s.keys.items + length s.links.items)
       ≡ next_serial k + length (key_step k before c pieces).given + length (published_edges before c (renewed k before c))
   third_is =
       let keys_many = ap length told.is_skeleton.keys in
-      let links_many = ap length told.is_skeleton.links in omega (arith, first_is, keys_many, links_many, links_long)
+      let links_many = ap length told.is_skeleton.links in omega (arith, first_is, keys_many, links_many, links_long k before c pieces)
 
   pub payload_is : (note : Note) (links : List LinkRecord) (contents : List PlainContent)
       → links ≡ links_by new (serial_of counter.epoch (counter.count + length s.keys.items)) s.links.items
@@ -267,15 +279,6 @@ module _ (keys : List KeyParts) (k : KeyState) (before : List Edge) (c : Change)
       let rises = step_rises k before c pieces in omega arith)
       (newest-split (given k c (renewed k before c)) (keys_without (renewed k before c ++ c.gone) k.keys) r m e)
 
-  counted_after : counter.count + length s.keys.items + length s.links.items + length s.contents.items ≡ (key_step k before c pieces).after.count
-  unfolding key_step step_with published
-  counted_after =
-      let start = ap (λ (x : Counting). x.count) holds.is_counted in
-      let keys_many = ap length told.is_skeleton.keys in
-      let links_many = ap length told.is_skeleton.links in
-      let contents_many = ap length told.is_skeleton.contents ∙ length-map (key_step k before c pieces).contents content_head in
-      omega (arith, start, keys_many, links_many, links_long, contents_many, contents_long)
-
   pub holds_after : (after : Counting) → after ≡ record { epoch = counter.epoch; count = counter.count + length s.keys.items + length s.links.items + length s.contents.items }
       → HoldsKeys (keys_with keys (key_step k before c pieces) drawn) (key_step k before c pieces).after new after
   holds_after after is =
@@ -288,5 +291,5 @@ module _ (keys : List KeyParts) (k : KeyState) (before : List Edge) (c : Change)
             (λ new_one. (step_between k before c pieces drawn).below key new_one)
             ((In-append KeyParts key keys (with_bytes step.given drawn)).0 i);
         present_below = below_after;
-        is_counted = is ∙ ap (λ n. counting counter.epoch n) counted_after ∙ ap (λ n. counting n step.after.count) (epoch_stays k before c pieces counter holds.is_counted);
+        is_counted = is ∙ ap (λ n. counting counter.epoch n) (counted_after k before c pieces counter s text holds.is_counted told) ∙ ap (λ n. counting n step.after.count) (epoch_stays k before c pieces counter holds.is_counted);
       }

@@ -71,8 +71,8 @@ abbrev pub EachOnce : List Role → Type 0
 EachOnce [] = Unit {0}
 EachOnce (r ∷ rs) = (In r rs → ⊥) × EachOnce rs
 
--- the step gives each role one key and the owner none, publishes links of kinds that there are, and seals one text at most, each
--- record under keys that are present after it
+-- the step gives each role one key and the owner none, publishes links and seals one text at most, of kinds that there are,
+-- each under keys that are present after it
 pub record IsSealable (step : Stepped) : Type 0 where
   pub given_once : EachOnce (map (λ key. key.0) step.given)
   pub no_owner : (key : Role × ℕ) → In key step.given → key.0 ≢ Owner
@@ -80,6 +80,7 @@ pub record IsSealable (step : Stepped) : Type 0 where
   pub sources : (l : Link) → In l step.links → newest step.after.keys l.edge.from ≡ Some l.from_serial
   pub targets : (l : Link) → In l step.links → newest step.after.keys l.edge.to ≡ Some l.to_serial
   pub one_content : length step.contents ≤ 1
+  pub kinds : (c : Content) → In c step.contents → (1 ≤ c.piece.kind) × (c.piece.kind ≤ 3)
   pub sealing : (c : Content) → In c step.contents → newest step.after.keys (sealing_role c.piece) ≡ Some c.key_serial
 
 -- the skeleton is the step's, which can be sealed, and the text is that of its content
@@ -87,6 +88,10 @@ pub record IsTold (step : Stepped) (s : Skeleton) (text : List ℕ) : Type 0 whe
   pub can_be_sealed : IsSealable step
   pub is_skeleton : IsSkeleton step s
   pub is_text : (c : Content) → In c step.contents → text_of c.piece ≡ text
+
+-- the text has a length in the range of its content's kind
+abbrev pub HasLength : Stepped → List ℕ → Type 0
+HasLength step text = (c : Content) → In c step.contents → (shortest_text c.piece.kind ≤ length text) × (length text ≤ longest_text c.piece.kind)
 
 -- all keys that there are once the step's were drawn
 abbrev pub keys_with : List KeyParts → Stepped → List (List ℕ) → List KeyParts

@@ -8,6 +8,7 @@ mod records;
 pub mod rows;
 pub mod script_laws;
 pub mod script_rows;
+pub mod sealing_laws;
 mod step_records;
 mod step_room;
 
