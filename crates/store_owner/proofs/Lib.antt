@@ -9,5 +9,6 @@ pub mod RingRecords
 pub mod Sealable
 pub mod StepKeys
 pub mod StepSealed
+pub mod ToldSkeleton
 pub mod Weighed
 pub mod WorkedGrant

@@ -7,12 +7,16 @@ ghost use Rattle.cry_base.specs.Requests.{Request};
 ghost use Rattle.cry_base.specs.Sets.{In};
 ghost use Rattle.cry_base.specs.Store.{Store};
 ghost use Rattle.key_links.specs.Ringed.{Ringed};
+ghost use Rattle.move_plan.specs.Noting.{note_of};
 ghost use Rattle.record_format.specs.Noted.{Note};
+ghost use Rattle.public_fold.specs.Fitted.{told_step};
+ghost use Rattle.public_fold.specs.Heads.{IsSkeleton};
 ghost use Rattle.public_fold.specs.Journal.{Journal, Stand, entry_step, keys_of, note_step, nothing, stand_after, store_of};
 ghost use Rattle.public_fold.specs.Journal.Entry.{Did};
 ghost use Rattle.public_fold.specs.KeyStep.{next_serial};
 ghost use Rattle.public_fold.specs.Valid.{IsValid};
 ghost use Rattle.public_fold.specs.declared.heads.Skeleton.{Skeleton};
+ghost use Rattle.store_owner.specs.Folds.{public_stand};
 ghost use Rattle.store_owner.specs.Keys.{all_keys};
 ghost use Rattle.store_owner.specs.Sealing.{CanSeal, HasLength, HoldsKeys, IsSealable, IsTold};
 
@@ -34,4 +38,11 @@ pub fn told_steps_can_be_sealed()
 /// Law: all keys that a valid journal ever had have serials below the one that comes next.
 pub fn serials_are_below_the_next()
     ensures { (owner : List ℕ) (m : Journal) → IsValid m → (key : KeyParts) → In key (all_keys owner m) → key.serial < next_serial (keys_of m) }
+{}
+
+/// Law: the skeleton that everyone may make of an accepted command's note is that of the command's own step: the two differ
+/// in the text alone.
+pub fn told_skeletons_are_those_of_commands()
+    ensures { (m : Journal) (request : Request) (check : List ℕ) (drawn : List (List ℕ)) (file_bytes : ℕ) → refusal_of (store_of m) request file_bytes ≡ None
+        → (s : Skeleton) → IsSkeleton (told_step (public_stand m) (note_of (store_of m) request check)) s → IsSkeleton (entry_step (stand_after nothing m) (Did request drawn)) s }
 {}
