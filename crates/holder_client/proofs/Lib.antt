@@ -1,4 +1,5 @@
 pub mod Counted
+pub mod Folded
 pub mod FreshShown
 pub mod Opened
 pub mod OwnNames

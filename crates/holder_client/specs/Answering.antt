@@ -33,3 +33,8 @@ IsFault faults.OutOfMemory wanted = Unit {0}
 abbrev pub Answers : {X Y : Type 0} → (X → Y) → Result X ClientFault → Result Y Fault → Type 0
 Answers view (Ok x) wanted = wanted ≡ Ok (view x)
 Answers view (Err fault) wanted = IsFault fault wanted
+
+-- the answer is one that stands for the one that is wanted
+abbrev pub AnswersBy : {X Y : Type 0} → (X → Y → Type 0) → Result X ClientFault → Result Y Fault → Type 0
+AnswersBy {Y = Y} stands_for (Ok x) wanted = (y : Y) × (wanted ≡ Ok y) × stands_for x y
+AnswersBy stands_for (Err fault) wanted = IsFault fault wanted

@@ -2,6 +2,7 @@
 #![tactic(auto)]
 
 mod fault;
+mod folding;
 pub mod laws;
 mod records;
 mod root;
@@ -12,6 +13,7 @@ pub mod verdict_rows;
 mod visits;
 
 pub use fault::ClientFault;
+pub use folding::fold;
 pub use showing::view;
 
 #[cfg(test)]
