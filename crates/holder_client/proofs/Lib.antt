@@ -1,6 +1,7 @@
 pub mod Counted
 pub mod Folded
 pub mod FreshShown
+pub mod Lasts
 pub mod Opened
 pub mod OwnNames
 pub mod OwnPath

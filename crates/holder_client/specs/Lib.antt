@@ -1,6 +1,7 @@
 pub mod Answering
 pub mod Asking
 pub mod Folding
+pub mod Found
 pub mod Judging
 pub mod Lines
 pub mod OwnPaths

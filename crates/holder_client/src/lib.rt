@@ -3,6 +3,8 @@
 
 mod fault;
 mod folding;
+mod last_contents;
+mod last_links;
 pub mod laws;
 mod records;
 mod root;
