@@ -2,6 +2,7 @@ pub mod Answering
 pub mod Asking
 pub mod Folding
 pub mod Found
+pub mod Holding
 pub mod Judging
 pub mod Lines
 pub mod OwnPaths

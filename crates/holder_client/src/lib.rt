@@ -12,6 +12,7 @@ pub mod rows;
 mod showing;
 pub mod verdict_laws;
 pub mod verdict_rows;
+mod visiting;
 mod visits;
 
 pub use fault::ClientFault;
