@@ -1,6 +1,6 @@
 -- A link that is opened as the definition says, and the ring behind it.
-use Rattle.std.proofs.Common.{◌≡◌, ◌≢◌, ℕ, Bool, true, false, cond, List, [], ◌∷◌, map, Option, None, Some, option_map, Result, Ok, Err, refl, sym, ap, subst, ◌∙◌}
-use Rattle.std.specs.Prelude.{IsTrue}
+use Rattle.std.proofs.Common.{◌≡◌, ◌≢◌, ◌&&◌, ℕ, Bool, true, false, cond, List, [], ◌∷◌, map, Option, None, Some, option_map, Result, Ok, Err, refl, sym, ap, subst, ◌∙◌}
+use Rattle.std.specs.Prelude.{IsTrue, ◌==◌}
 use Rattle.std.specs.Str.{bytes_eq}
 use Rattle.std.proofs.lemmas.Bool.{and_parts, eqb-true, false_from_ne_true, false≢true}
 use Rattle.std.proofs.lemmas.Slice.Eq.{bytes_eq-Decides}
@@ -9,22 +9,23 @@ use Rattle.chacha_seal.specs.Sealing.{sealed, seal_tag}
 use Rattle.commit_journal.specs.Answering.{Fault, Damaged, Tampered, and_then}
 use Rattle.cry_base.specs.declared.roles.Edge.{Edge}
 use Rattle.cry_base.specs.declared.roles.Role.{Role}
-use Rattle.holder_client.specs.Found.{link_here}
-use Rattle.commit_journal.specs.Placed.{plain_placed}
+use Rattle.holder_client.specs.Found.{link_here, content_here}
+use Rattle.commit_journal.specs.Placed.{PlainPlaced, plain_placed}
 use Rattle.commit_journal.specs.declared.placed.Placed.{Placed}
 use Rattle.public_fold.specs.Standing.{PublicView}
 use Rattle.std.specs.Option.{IsSome}
 use Rattle.holder_client.specs.Holding.{ArePresent, HoldsKeys, HasKind, IsReadingOf}
-use Rattle.holder_client.specs.Placing.{PlacedLink, last_one, is_for_edge, link_for}
-use Rattle.holder_client.specs.Verdict.{open_link}
-use Rattle.holder_client.specs.Visiting.{Reading, Opened, needed, with_key, visit_edge}
+use Rattle.holder_client.specs.Placing.{PlacedLink, PlacedContent, last_one, is_for_edge, link_for, content_for}
+use Rattle.holder_client.specs.Verdict.{open_link, open_content}
+use Rattle.holder_client.specs.Visiting.{Reading, Opened, needed, with_key, visit_edge, visit_text}
 use Rattle.holder_client.specs.Visiting as opened
 use Rattle.key_links.specs.Ended.{kind_from, kind_to, role_with, source_role, target_role, HasSource}
-use Rattle.key_links.specs.Opened.{IsAuthenticLink, target_of}
+use Rattle.key_links.specs.Opened.{IsAuthenticLink, IsAuthenticContent, target_of, text_of}
 use Rattle.key_links.specs.Ringed.{Ringed, key_of, IsWithKey}
 use Rattle.public_fold.specs.KeyStep.{KeyState, present}
+use Rattle.record_format.specs.Plain.{PlainContent}
 use Rattle.record_format.specs.declared.link.LinkRecord.{LinkRecord}
-use Rattle.record_format.specs.Spelling.{link_head}
+use Rattle.record_format.specs.Spelling.{link_head, content_head}
 use Rattle.role_graph.specs.Roles.{role_id, same_role}
 use Rattle.role_graph.proofs.Comparing.{same_role_tells}
 
@@ -167,3 +168,50 @@ no_one None none = refl
 
 pub link_told : (state : PublicView) (log : List Placed) (r : Reading) (e : Edge) → IsReadingOf state log r → link_for r.stand.keys r.log e ≡ link_for state.keys (map plain_placed log) e
 link_told state log r e of_log = ap (λ (k : KeyState). link_for k r.log e) of_log.1.keys ∙ ap (λ ps. link_for state.keys ps e) of_log.0
+
+-- ---- texts
+
+pub content_found_of : (log : List PlainPlaced) (kind object batch at : ℕ) (c : PlainContent) → content_for log kind object ≡ Some (content_here batch at c) → (c.kind ≡ kind) × (c.object ≡ object)
+unfolding content_for
+content_found_of log kind object batch at c is =
+    let both = and_parts _ _ (last_passes (λ (d : PlacedContent). (d.content.kind == kind) && (d.content.object == object)) _ (content_here batch at c) is) in
+    (eqb-true c.kind kind both.0, eqb-true c.object object both.1)
+
+wanting_text_or : (key : Option (List ℕ)) (content : Option PlacedContent) (go_on : ℕ → List ℕ → Result Opened Fault) → content ≡ None →
+    needed key (λ k. needed content (λ c. and_then (open_content c.batch c.at k c.content) (go_on c.at))) ≡ Err (Damaged 42)
+unfolding needed
+wanting_text_or None content go_on none = refl
+wanting_text_or (Some k) content go_on none = rw none refl
+
+pub content_wanting : (r : Reading) (o : Opened) (role : Role) (kind object : ℕ) (go_on : ℕ → List ℕ → Result Opened Fault) → content_for r.log kind object ≡ None →
+    visit_text r o role kind object go_on ≡ Err (Damaged 42)
+unfolding visit_text
+content_wanting r o role kind object go_on none = wanting_text_or (opened.key_of o.keys role) (content_for r.log kind object) go_on none
+
+pub text_key_wanting : (r : Reading) (o : Opened) (role : Role) (kind object : ℕ) (go_on : ℕ → List ℕ → Result Opened Fault) → opened.key_of o.keys role ≡ None →
+    visit_text r o role kind object go_on ≡ Err (Damaged 42)
+unfolding visit_text needed
+text_key_wanting r o role kind object go_on none = rw none refl
+
+text_decides : (r : Reading) (o : Opened) (role : Role) (kind object : ℕ) (go_on : ℕ → List ℕ → Result Opened Fault) (key : List ℕ) (c : PlacedContent) →
+    opened.key_of o.keys role ≡ Some key → content_for r.log kind object ≡ Some c →
+    visit_text r o role kind object go_on ≡ and_then (open_content c.batch c.at key c.content) (go_on c.at)
+unfolding visit_text needed
+text_decides r o role kind object go_on key c k_is c_is = rw (k_is, c_is) refl
+
+pub text_read : (r : Reading) (o : Opened) (role : Role) (kind object : ℕ) (go_on : ℕ → List ℕ → Result Opened Fault) (key : KeyParts) (batch at : ℕ) (c : PlainContent) →
+    opened.key_of o.keys role ≡ Some key.bytes → content_for r.log kind object ≡ Some (content_here batch at c) → IsAuthenticContent key c →
+    visit_text r o role kind object go_on ≡ go_on at (text_of key c)
+unfolding and_then open_content
+text_read r o role kind object go_on key batch at c k_is c_is right =
+    text_decides r o role kind object go_on key.bytes (content_here batch at c) k_is c_is
+    ∙ rw ((bytes_eq-Decides c.tag (seal_tag key.bytes (content_head c) c.cipher)).1 right) refl
+
+pub text_refused : (r : Reading) (o : Opened) (role : Role) (kind object : ℕ) (go_on : ℕ → List ℕ → Result Opened Fault) (key : KeyParts) (batch at : ℕ) (c : PlainContent) →
+    opened.key_of o.keys role ≡ Some key.bytes → content_for r.log kind object ≡ Some (content_here batch at c) → (IsAuthenticContent key c → ⊥) →
+    visit_text r o role kind object go_on ≡ Err (Tampered batch at)
+unfolding and_then open_content
+text_refused r o role kind object go_on key batch at c k_is c_is wrong =
+    let due = seal_tag key.bytes (content_head c) c.cipher in
+    let test : bytes_eq c.tag due ≡ false = false_from_ne_true (bytes_eq c.tag due) (λ t. wrong ((bytes_eq-Decides c.tag due).0 t)) in
+    text_decides r o role kind object go_on key.bytes (content_here batch at c) k_is c_is ∙ rw test refl

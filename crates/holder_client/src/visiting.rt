@@ -1,18 +1,25 @@
 //! Opens the records of a log, each with a key that those before led to (docs/FORMAT.md, "Reading").
-ghost use Rattle.std.specs.Prelude.{◌≡◌, ◌≢◌, ◌+◌, ◌≤◌, All, Bool, Err, IsTrue, OnErr};
+ghost use Rattle.std.specs.Prelude.{◌≡◌, ◌≢◌, ◌+◌, ◌≤◌, ℕ, All, Bool, Err, IfOk, IsTrue, List, OnErr, Result, map};
+ghost use Rattle.commit_journal.specs.Answering.{Fault};
+ghost use Rattle.commit_journal.specs.Placed.{plain_placed};
 ghost use Rattle.commit_journal.specs.Places.{IsStanding};
 ghost use Rattle.cry_base.specs.declared.roles.Role.{Role as TheRole};
 ghost use Rattle.holder_client.specs.Answering.{AnswersBy};
-ghost use Rattle.holder_client.specs.Holding.{ArePresent, HasKind, HoldsKeys, IsReadingOf};
+ghost use Rattle.holder_client.specs.Holding.{ArePresent, GoesOn, HasKind, HoldsKeys, IsReadingOf, IsSealedBy};
 ghost use Rattle.holder_client.specs.Visiting as spec;
+ghost use Rattle.key_links.specs.Ended as ends;
+ghost use Rattle.record_format.specs.Plain.{plain_content};
 
 use crate::ClientFault;
+use crate::last_contents::content_for;
 use crate::last_links::link_for;
 use chacha_seal::BadTag;
 use commit_journal::Placed;
-use cry_base::Edge;
+use cry_base::{Edge, FileId, FolderId, Mem, Role, Text};
 use key_links::KeyRing;
 use public_fold::PublicState;
+use record_format::ContentRecord;
+use std::alloc::Global;
 
 /// The place behind the header: of a log that lacks a record.
 const BEHIND_HEADER: u64 = 42;
@@ -45,6 +52,79 @@ pub(crate) fn visit_edge(
     }
     match ring.open_link(found.link) {
         Ok(()) => Ok(()),
+        Err(BadTag) => Err(ClientFault::Tampered {
+            batch: found.batch,
+            at: found.at,
+        }),
+    }
+}
+
+/// A text that was opened, and where its content stands.
+#[derive(Drop)]
+pub(crate) struct OpenedText {
+    /// The place of the content's first byte in the file.
+    pub(crate) at: u64,
+    pub(crate) text: Text,
+}
+
+/// The role whose key seals the contents of this kind.
+#[tactic(auto, unfolding(key_links::specs::Ended::sealing_role))]
+fn sealing_role(kind: u8, object: u32) -> Role
+    ensures { result ≡ ends.sealing_role kind object }
+{
+    match kind {
+        1 => Role::Data(FolderId(object)),
+        2 => Role::File(FileId(object)),
+        _ => Role::Owner,
+    }
+}
+
+fn copied(alloc: Global, content: &ContentRecord) -> Mem<ContentRecord>
+    ensures { IfOk result (λ c. plain_content c ≡ plain_content content.now) }
+{
+    let mut cipher = Text::new(alloc);
+    cipher.append(content.cipher.as_slice())?;
+    Ok(ContentRecord {
+        kind: content.kind,
+        object: content.object,
+        key_serial: content.key_serial,
+        nonce: content.nonce,
+        cipher,
+        tag: content.tag,
+    })
+}
+
+/// Opens the last content of the kind for a folder, file or holder. `Damaged` behind the header comes exactly where there is
+/// no such content, or no key that it was sealed under, and else `Tampered` with the content's place exactly where its tag
+/// is wrong.
+pub(crate) fn open_text(
+    alloc: Global,
+    log: &[Placed],
+    ring: &KeyRing,
+    kind: u8,
+    object: u32,
+) -> Result<OpenedText, ClientFault>
+    requires stands { All IsStanding log.now }
+    requires from_one { 1 ≤ kind }
+    requires to_three { kind ≤ 3 }
+    requires sealed { IsSealedBy ring.now (map plain_placed log.now) kind object }
+    ensures answer { (told : TheRole → Bool) (r : spec.Reading) (o : spec.Opened) (go_on : ℕ → List ℕ → Result spec.Opened Fault) →
+        r.log ≡ map plain_placed log.now → IsTrue (told (ends.sealing_role kind object)) → HoldsKeys told ring.now o.keys →
+        GoesOn result (spec.visit_text r o (ends.sealing_role kind object) kind object) go_on }
+    ensures no_disk { result ≢ Err ClientFault.DiskFault }
+{
+    let Some(found) = content_for(log, kind, object) else {
+        return Err(ClientFault::Damaged { at: BEHIND_HEADER });
+    };
+    if ring.present(sealing_role(kind, object)).is_none() {
+        return Err(ClientFault::Damaged { at: BEHIND_HEADER });
+    }
+    let mut content = copied(alloc, found.content)?;
+    match ring.open_text(&mut content) {
+        Ok(()) => Ok(OpenedText {
+            at: found.at,
+            text: content.cipher,
+        }),
         Err(BadTag) => Err(ClientFault::Tampered {
             batch: found.batch,
             at: found.at,
