@@ -1,7 +1,9 @@
 pub mod BatchLemmas
 pub mod CommitLemmas
+pub mod FirstLines
 pub mod FreshLemmas
 pub mod InputLemmas
+pub mod LineLemmas
 pub mod ListingLemmas
 pub mod MakeLemmas
 pub mod OutsideLemmas

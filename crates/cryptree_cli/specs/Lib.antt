@@ -1,6 +1,8 @@
+pub mod CommandLines
 pub mod Commit
 pub mod Heard
 pub mod Input
+pub mod Lines
 pub mod Listing
 pub mod Outside
 pub mod Room

@@ -2,13 +2,19 @@
 #![tactic(auto)]
 
 mod batch;
+mod command_lines;
 mod commit;
 mod fresh;
 mod heard;
 mod input;
+pub mod laws;
+#[cfg(test)]
+mod line_tests;
+mod lines;
 mod list;
 mod make;
 mod outside;
+mod piece;
 mod room;
 pub mod status;
 mod store;

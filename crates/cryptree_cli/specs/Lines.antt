@@ -1,0 +1,95 @@
+-- The lines of an input, one after another. This project's own, docs/FORMAT.md, "Lines".
+use Rattle.std.specs.Prelude.{◌≡◌, ◌<◌, ◌≤◌, ℕ, zero, suc, ◌+◌, List, [], ◌∷◌, ◌++◌, length, Option, Some, None, Result, Ok, Err, if◌then◌else◌}
+use Rattle.cryptree_cli.specs.declared.lines.Next.{Next}
+use Rattle.cryptree_cli.specs.declared.lines.Next.TheVariants.{Line, End, PastLimit}
+use Rattle.cryptree_cli.specs.declared.lines.NextFault.{NextFault}
+use Rattle.cryptree_cli.specs.declared.lines.NextFault.TheVariants.{Failed}
+use Rattle.cryptree_cli.specs.Heard.{IsOneLine}
+use Rattle.cryptree_cli.specs.Input.{is_newline}
+
+-- a line without its newline, or a line that holds a byte past the limit
+pub data InputLine : Type 0 where
+  Whole : (bytes : List ℕ) → InputLine
+  TooLong : InputLine
+
+-- a byte that is no newline, before these lines: it is the first of the first
+abbrev pub begun_with : ℕ → List InputLine → List InputLine
+begun_with byte [] = Whole (byte ∷ []) ∷ []
+begun_with byte (Whole bytes ∷ lines) = Whole (byte ∷ bytes) ∷ lines
+begun_with byte (TooLong ∷ lines) = TooLong ∷ lines
+
+-- the lines of an input that may have so many bytes: a newline ends a line and belongs to it, and the last line may end
+-- with the input; the line that holds one byte more is too long, and no line is told behind it
+unfoldable pub lines_of : ℕ → List ℕ → List InputLine
+lines_of room [] = []
+lines_of zero (byte ∷ bytes) = TooLong ∷ []
+lines_of (suc room) (byte ∷ bytes) = if is_newline byte then Whole [] ∷ lines_of room bytes else begun_with byte (lines_of room bytes)
+
+-- what a reader of lines holds: the first bytes of the line that is begun, the bytes read behind them, how many bytes
+-- this line and those behind it may have, and how many lines were given
+pub record LineState : Type 0 where
+  pub line : List ℕ
+  pub piece : List ℕ
+  pub room : ℕ
+  pub given : ℕ
+
+-- the bytes that are still to come: those that are held, and those that are left in the source
+abbrev pub bytes_ahead : LineState → List ℕ → List ℕ
+bytes_ahead state left = state.line ++ (state.piece ++ left)
+
+-- their lines
+abbrev pub lines_ahead : LineState → List ℕ → List InputLine
+lines_ahead state left = lines_of state.room (bytes_ahead state left)
+
+-- all that is held is the front of a line that hasn't ended, within the limit
+pub record IsUnended (state : LineState) : Type 0 where
+  pub all : state.piece ≡ []
+  pub one : IsOneLine state.line
+  pub within : length state.line ≤ state.room
+
+-- what is given is the first of the lines that were to come, and the others are still to come
+abbrev pub Gives : Next → List InputLine → List InputLine → Type 0
+Gives (Line number bytes) before after = before ≡ Whole bytes.items ∷ after
+Gives End before after = (before ≡ []) × (after ≡ [])
+Gives (PastLimit number) before after = (before ≡ TooLong ∷ []) × (after ≡ before)
+
+-- so it is, and after a fault all are still to come
+abbrev pub GivesNext : Result Next NextFault → List InputLine → List InputLine → Type 0
+GivesNext (Ok next) before after = Gives next before after
+GivesNext (Err fault) before after = after ≡ before
+
+-- a line has the next number, from 1, and only a line that is given is counted
+abbrev pub Numbers : Next → ℕ → ℕ → Type 0
+Numbers (Line number bytes) before after = (number ≡ before + 1) × (after ≡ number)
+Numbers End before after = after ≡ before
+Numbers (PastLimit number) before after = (number ≡ before + 1) × (after ≡ before)
+
+abbrev pub NumbersNext : Result Next NextFault → ℕ → ℕ → Type 0
+NumbersNext (Ok next) before after = Numbers next before after
+NumbersNext (Err fault) before after = after ≡ before
+
+-- a line and what may stand behind it have no more room than there was, and a line takes some
+abbrev pub Within : Next → ℕ → ℕ → Type 0
+Within (Line number bytes) before after = (length bytes.items + after ≤ before) × (after < before)
+Within _ before after = after ≡ before
+
+-- what is given of the bytes held, whatever is left in the source
+pub record GivesFrom (next : Next) (old new : LineState) : Type 0 where
+  pub gives : (left : List ℕ) → Gives next (lines_ahead old left) (lines_ahead new left)
+  pub number : Numbers next old.given new.given
+  pub room : Within next old.room new.room
+
+-- what ends in the bytes held is given; where nothing does, they are the front of a line
+abbrev pub GivesHeld : Option Next → LineState → LineState → Type 0
+GivesHeld (Some next) old new = GivesFrom next old new
+GivesHeld None old new = IsUnended new × (new ≡ record old { line = old.line ++ old.piece; piece = [] })
+
+-- it is this line
+abbrev pub IsLine : Next → ℕ → List ℕ → Type 0
+IsLine (Line number bytes) wanted line = (number ≡ wanted) × (bytes.items ≡ line)
+IsLine _ wanted line = ⊥
+
+-- the count of faults never falls, and Failed comes only where it rose
+abbrev pub NextFailsByCount : Result Next NextFault → ℕ → ℕ → Type 0
+NextFailsByCount (Err Failed) old new = old < new
+NextFailsByCount _ old new = old ≤ new
