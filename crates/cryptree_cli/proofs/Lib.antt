@@ -7,3 +7,4 @@ pub mod LineLemmas
 pub mod ListingLemmas
 pub mod MakeLemmas
 pub mod OutsideLemmas
+pub mod ScriptLemmas

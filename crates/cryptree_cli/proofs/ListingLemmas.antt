@@ -1,5 +1,5 @@
 -- How a view is printed line by line, and what `list` answers.
-use Rattle.std.proofs.Common.{◌≡◌, ◌<◌, ◌+◌, ℕ, List, [], ◌∷◌, ◌++◌, map, drop, length, get_or, append_assoc, Option, Result, Ok, Err, codes, true, false, refl, sym, ap, ◌∙◌, subst}
+use Rattle.std.proofs.Common.{◌≡◌, ◌<◌, ◌+◌, ℕ, List, [], ◌∷◌, ◌++◌, map, drop, length, get_or, append_assoc, Option, Ok, Err, codes, true, false, sym, ap, ◌∙◌, subst}
 use Rattle.std.specs.Prelude.{IsTrue}
 use Rattle.std.proofs.lemmas.List.{drop_more}
 use Rattle.cry_base.specs.declared.client.Line.{Line}

@@ -6,6 +6,7 @@ pub mod Lines
 pub mod Listing
 pub mod Outside
 pub mod Room
+pub mod Script
 pub mod Status
 pub mod Top
 pub mod Words

@@ -16,6 +16,7 @@ mod make;
 mod outside;
 mod piece;
 mod room;
+mod script;
 pub mod status;
 mod store;
 mod texts;

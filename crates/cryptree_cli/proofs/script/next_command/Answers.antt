@@ -1,0 +1,30 @@
+use Rattle.std.proofs.Common.{◌≡◌, None, Err, ap, subst, sym, ◌∙◌}
+use Rattle.cryptree_cli.specs.CommandLines.{ReadsCommand, asked_in}
+use Rattle.cryptree_cli.specs.Lines.{Gives, lines_ahead}
+use Rattle.cryptree_cli.specs.Script.{IsBadFirst}
+use Rattle.cryptree_cli.proofs.script.next_command.Goals as goal
+
+pub returns-in-Ok-End-clause-gives : goal.returns-in-Ok-End-clause-gives
+returns-in-Ok-End-clause-gives g c = λ x y was now.
+    subst (λ next. Gives next (lines_ahead c.args.reader.now x) (lines_ahead c.next_line.new.self y)) c.in-Ok-End.field-0-is
+    (c.in-Ok-End.ensures.lines x y was now)
+
+pub returns-in-Ok-PastLimit-clause-gives : goal.returns-in-Ok-PastLimit-clause-gives
+returns-in-Ok-PastLimit-clause-gives g c = λ x y was now.
+    let past = subst (λ next. Gives next (lines_ahead c.args.reader.now x) (lines_ahead c.next_line.new.self y)) c.in-Ok-PastLimit.field-0-is
+    (c.in-Ok-PastLimit.ensures.lines x y was now) in
+    subst IsBadFirst (sym past.0) tt
+
+pub returns-in-Ok-clause-gives : goal.returns-in-Ok-clause-gives
+returns-in-Ok-clause-gives g c = λ x y was now.
+    let given = subst (λ next. Gives next (lines_ahead c.args.reader.now x) (lines_ahead c.next_line.new.self y)) c.in-Ok-Line.field-0-is
+    (c.in-Ok-Line.ensures.lines x y was now) in
+    (c.in-Ok-Line.bytes.items, given, ap asked_in (sym c.as_slice.ensures) ∙ c.in-Ok.ensures)
+
+pub returns-in-Err-BadLine-clause-gives : goal.returns-in-Err-BadLine-clause-gives
+returns-in-Err-BadLine-clause-gives g c = λ x y was now.
+    let given = subst (λ next. Gives next (lines_ahead c.args.reader.now x) (lines_ahead c.next_line.new.self y)) c.in-Ok-Line.field-0-is
+    (c.in-Ok-Line.ensures.lines x y was now) in
+    let bad : asked_in c.as_slice.result.now ≡ None =
+    subst (λ fault. ReadsCommand (Err fault) c.as_slice.result.now) c.in-Err-BadLine.field-0-is c.in-Err-BadLine.ensures in
+    subst IsBadFirst (sym given) (ap asked_in (sym c.as_slice.ensures) ∙ bad)
