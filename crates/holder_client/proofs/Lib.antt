@@ -1,5 +1,6 @@
 pub mod Counted
 pub mod Folded
+pub mod FoldedHolds
 pub mod Following
 pub mod FreshShown
 pub mod Lasts

@@ -2,6 +2,7 @@
 #![tactic(auto)]
 
 mod fault;
+pub mod fold_laws;
 mod folding;
 mod last_contents;
 mod last_links;

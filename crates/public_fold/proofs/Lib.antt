@@ -34,3 +34,4 @@ pub mod RevokeLaws
 pub mod Rooting
 pub mod NoteMoves
 pub mod TurnsHold
+pub mod TextsWritten

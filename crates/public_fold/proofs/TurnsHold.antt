@@ -1,9 +1,8 @@
 -- What holds of a stand holds after any notes that fit, with new epochs between them.
-use Rattle.std.proofs.Common.{◌≡◌, ℕ, ◌+◌, ◌-◌, ◌^◌, ◌≤◌, ◌<◌, Bool, true, false, ◌&&◌, List, [], ◌∷◌, ◌++◌, inl, inr, ⊎_elim, refl, sym, ap, ◌∙◌, subst, arith, append_assoc, append-nil}
+use Rattle.std.proofs.Common.{◌≡◌, ◌-◌, ◌^◌, ◌<◌, true, ◌&&◌, List, [], ◌∷◌, ◌++◌, inl, inr, refl, sym, subst, arith, append_assoc, append-nil}
 use Rattle.std.specs.Prelude.{nat_lt}
 use Rattle.std.proofs.lemmas.Bool.{and_parts, ltb-true, false≢true}
-use Rattle.cry_base.specs.Store.{Store, no_store}
-use Rattle.role_graph.specs.Edges.{edges}
+use Rattle.cry_base.specs.Store.{no_store}
 use Rattle.move_plan.specs.Change.{change_of}
 use Rattle.move_plan.specs.Fitting.{fits}
 use Rattle.record_format.specs.Noted.{Note}
@@ -112,11 +111,22 @@ first_holds = record { store = inl refl; keys = unfold next_epoch no_keys in not
     few : 0 < 2 ^ 32
     few = omega arith
 
+-- what stands then, in the words of a fold
+pub first_stands : StandHolds (record nothing { keys = next_epoch nothing.keys }) []
+unfolding nothing
+first_stands = unfold turn_stand nothing in first_holds
+
+pub first_note : (note : Note) → note_fits nothing note (told_step nothing note) ≡ true → ⊥
+unfolding note_fits nothing no_keys
+first_note note t = false≢true (and_parts (nat_lt 0 0) (fits no_store note && has_count (told_step nothing note)) t).0
+
+pub first_fits : (p : PlainPayload) → payload_fits nothing p ≡ true → ⊥
+first_fits p t = first_note (told_note p.note) (payload_told nothing p t)
+
 pub log_holds : (first : Turn) (turns : List Turn) → turns_fit nothing (first ∷ turns) ≡ true → StandHolds (turns_stand nothing (first ∷ turns)) (turns_links nothing (first ∷ turns))
 unfolding turns_fit turns_stand turns_links turn_fits turn_links note_fits nothing no_keys
 log_holds Began turns t =
     let next = turn_stand nothing Began in
     turns_hold turns next [] (and_parts true (turns_fit next turns) t).1 first_holds
 log_holds (Noted note) turns t =
-    let at = nothing in
-    absurd (false≢true (and_parts (nat_lt 0 0) (fits at.store note && has_count (told_step at note)) (and_parts (note_fits at note (told_step at note)) (turns_fit (told_stand at note) turns) t).0).0)
+    let at = nothing in absurd (first_note note (and_parts (note_fits at note (told_step at note)) (turns_fit (told_stand at note) turns) t).0)

@@ -17,4 +17,5 @@ pub mod Stepping
 pub mod Tree
 pub mod Rooted
 pub mod Turns
+pub mod Texts
 pub mod WorkedSteps

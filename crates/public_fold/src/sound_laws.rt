@@ -10,8 +10,9 @@ ghost use Rattle.public_fold.specs.Fitted.{payload_fits, told_stand, told_step};
 ghost use Rattle.public_fold.specs.Journal.{Stand, nothing};
 ghost use Rattle.public_fold.specs.Keyed.{KeysHold, LeavesClean, SerialsHold};
 ghost use Rattle.public_fold.specs.KeyStep.{next_epoch};
-ghost use Rattle.public_fold.specs.Records.{Link};
+ghost use Rattle.public_fold.specs.Records.{Content, Link};
 ghost use Rattle.public_fold.specs.Rooted.{IsRooted, MayStand};
+ghost use Rattle.public_fold.specs.Texts.{AreWritten};
 ghost use Rattle.public_fold.specs.Turns.{StandHolds, Turn, turns_fit, turns_links, turns_stand};
 
 /// A note that fits leaves the root, and below it each folder and file in a folder that stands; ids that differ and are not
@@ -43,7 +44,14 @@ pub fn fitting_notes_keep_the_serials()
         → LeavesClean (told_step at note) }
 {}
 
-/// All of it lasts through a payload that fits and through a new epoch.
+/// Where each folder, file and holder that stands has a content among those published, each has one after a note that fits,
+/// with the contents of its step.
+pub fn texts_stay_written()
+    ensures { (at : Stand) (note : Note) (contents : List Content) → IsTrue (fits at.store note) → MayStand at.store → AreWritten at.store contents
+        → AreWritten (told_stand at note).store (contents ++ (told_step at note).contents) }
+{}
+
+/// All that holds of a stand lasts through a payload that fits and through a new epoch.
 pub fn payloads_and_epochs_keep_what_holds()
     ensures payload { (at : Stand) (p : PlainPayload) (links : List Link) → IsTrue (payload_fits at p) → StandHolds at links
         → StandHolds (told_stand at (told_note p.note)) (links ++ (told_step at (told_note p.note)).links) }
