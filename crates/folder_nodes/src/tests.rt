@@ -1,9 +1,5 @@
-mod paths;
-mod restoring;
-
 use super::*;
-use cry_base::{FileId, FolderId, List, Node, Text};
-use std::alloc::Global;
+use cry_base::{FileId, FolderId, Node};
 use std::test::Fail;
 
 const ROOT: FolderId = FolderId(1);
@@ -68,25 +64,6 @@ fn move_file(shape: &mut Shape, file: FileId, into: FolderId) -> bool {
     true
 }
 
-fn text_of(alloc: Global, bytes: &[u8]) -> Result<Text, Fail> {
-    let mut text = List::new(alloc);
-    text.append(bytes)?;
-    Ok(text)
-}
-
-fn give_name(alloc: Global, names: &mut Names, node: Node, name: &[u8]) -> Result<(), Fail> {
-    let name = text_of(alloc, name)?;
-    name_again(names, node, name, List::new(alloc))
-}
-
-fn name_again(names: &mut Names, node: Node, name: Text, bytes: Text) -> Result<(), Fail> {
-    names.reserve()?;
-    if name_ok(name.as_slice()) {
-        names.set(node, name, bytes);
-    }
-    Ok(())
-}
-
 #[test]
 fn names_and_paths_are_those_of_the_grammar(rt: HostRuntime) {
     let longest = [b'n'; 65];
@@ -135,52 +112,5 @@ fn a_file_is_moved_and_its_folder_is_empty_then(rt: HostRuntime) -> Result<(), F
     assert_eq!(rt; copy.parent(folder), Some(ROOT));
     assert_eq!(rt; copy.parent(ROOT), None);
     assert_eq!(rt; is_empty(&copy, folder), Some(true));
-    Ok(())
-}
-
-#[test]
-fn a_path_with_64_names_is_found(rt: HostRuntime) -> Result<(), Fail> {
-    let mut shape = Shape::new(rt.alloc());
-    let mut names = Names::new(rt.alloc());
-    let mut path: Text = List::new(rt.alloc());
-    assert!(rt; add_root(&mut shape)?);
-    let mut here = ROOT;
-    for _ in 0..64u32 {
-        if let Some(folder) = add_folder_in(&mut shape, here)? {
-            give_name(rt.alloc(), &mut names, Node::Folder(folder), b"d")?;
-            path.append(b"/d")?;
-            here = folder;
-        }
-    }
-    assert_eq!(rt; depth_of(&shape, here), Some(64));
-    assert_eq!(rt;
-        find(&shape, &names, path.as_slice()),
-        Some(Node::Folder(here))
-    );
-    assert_eq!(rt; find(&shape, &names, b"/"), Some(Node::Folder(ROOT)));
-    assert_eq!(rt; find(&shape, &names, b"/d/e"), None);
-    Ok(())
-}
-
-#[test]
-fn a_path_through_a_file_finds_nothing(rt: HostRuntime) -> Result<(), Fail> {
-    let mut shape = Shape::new(rt.alloc());
-    let mut names = Names::new(rt.alloc());
-    assert!(rt; add_root(&mut shape)?);
-    let file = add_file_in(&mut shape, ROOT)?.ok_or("no file")?;
-    let node = Node::File(file);
-    give_name(rt.alloc(), &mut names, node, b"x")?;
-    name_again(
-        &mut names,
-        node,
-        text_of(rt.alloc(), b"y")?,
-        text_of(rt.alloc(), b"00")?,
-    )?;
-    assert_eq!(rt; find(&shape, &names, b"/y"), Some(node));
-    assert_eq!(rt; find(&shape, &names, b"/x"), None);
-    assert_eq!(rt; find(&shape, &names, b"/y/y"), None);
-    assert!(rt; names.bytes(file) == Some(b"00".as_slice()));
-    names.forget(node);
-    assert_eq!(rt; find(&shape, &names, b"/y"), None);
     Ok(())
 }
