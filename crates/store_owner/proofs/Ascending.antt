@@ -110,7 +110,7 @@ pub step_rises : (k : KeyState) (before : List Edge) (c : Change) (pieces : List
 unfolding key_step step_with published next_serial
 step_rises k before c pieces = omega arith
 
-session_rises : (k : KeyState) → k.count ≤ 4294967296 → next_serial k ≤ next_serial (next_epoch k)
+pub session_rises : (k : KeyState) → k.count ≤ 4294967296 → next_serial k ≤ next_serial (next_epoch k)
 unfolding next_epoch next_serial
 session_rises k small = omega arith
 

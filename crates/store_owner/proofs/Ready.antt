@@ -1,5 +1,5 @@
 -- Where the keys are held and the step is told, it can be sealed.
-use Rattle.std.proofs.Common.{◌≡◌, ⊎_elim, inl, inr, ℕ, ◌≤◌, ◌<◌, true, false, cond, List, [], ◌∷◌, length, map, Option, Some, arith, refl, sym, ap, subst, ◌∙◌}
+use Rattle.std.proofs.Common.{◌≡◌, ⊎_elim, inl, inr, ℕ, ◌+◌, ◌≤◌, ◌<◌, true, false, cond, List, [], ◌∷◌, length, map, Option, Some, arith, refl, sym, ap, subst, ◌∙◌}
 use Rattle.std.specs.Prelude.{IsSome, ◌++◌}
 use Rattle.std.proofs.lemmas.List.{length-map}
 use Rattle.chacha_seal.specs.Keys.{KeyParts}
@@ -13,11 +13,12 @@ use Rattle.move_plan.specs.Change.{Change}
 use Rattle.role_graph.specs.Roles.{same_role}
 use Rattle.role_graph.proofs.Comparing.{same_role_tells}
 use Rattle.public_fold.specs.Heads.{content_head}
-use Rattle.public_fold.specs.KeyStep.{KeyState, given, key_step, keys_then, keys_without, newest, published, renewed, step_with}
+use Rattle.public_fold.specs.KeyStep.{KeyState, given, key_step, keys_then, keys_without, newest, next_epoch, published, renewed, step_with}
 use Rattle.public_fold.specs.Records.{Content, Link, Piece}
 use Rattle.public_fold.specs.declared.heads.ContentHead.{ContentHead}
 use Rattle.public_fold.specs.declared.heads.Skeleton.{Skeleton}
 use Rattle.store_owner.specs.Sealing.{CanLink, CanSeal, CanSealText, HasLength, HoldsKeys, IsTold, WillHave}
+use Rattle.store_owner.proofs.Ascending.{session_rises}
 use Rattle.store_owner.proofs.StepKeys.{newest-kept, newest-split}
 use Rattle.store_owner.proofs.StepSealed.{counted_after, sealing_same}
 
@@ -77,3 +78,27 @@ module _ (keys : List KeyParts) (k : KeyState) (before : List Edge) (c : Change)
         one_content = let few = told.can_be_sealed.one_content in let many = ap length told.is_skeleton.contents ∙ length-map (key_step k before c pieces).contents content_head in omega (arith, few, many);
         each_content = will_seal sizes;
       }
+
+-- ---- the next epoch
+
+abbrev counts : ℕ → ℕ → Counting
+counts epoch count = record { epoch = epoch; count = count }
+
+same_newest : (k : KeyState) (r : Role) (n : ℕ) → newest (next_epoch k).keys r ≡ Some n → newest k.keys r ≡ Some n
+unfolding next_epoch
+same_newest k r n e = e
+
+next_count : (k : KeyState) → counts (k.epoch + 1) 0 ≡ counts (next_epoch k).epoch (next_epoch k).count
+unfolding next_epoch
+next_count k = refl
+
+pub next_holds : (keys : List KeyParts) (k : KeyState) (ring : Ringed) (counter : Counting) → HoldsKeys keys k ring counter → k.count ≤ 4294967296
+    → HoldsKeys keys (next_epoch k) ring (record { epoch = k.epoch + 1; count = 0 })
+next_holds keys k ring counter holds small =
+    let rises = session_rises k small in
+    record {
+      has_present = λ r n e. holds.has_present r n (same_newest k r n e);
+      drawn_below = λ key i. let low = holds.drawn_below key i in omega arith;
+      present_below = λ r n e. let low = holds.present_below r n (same_newest k r n e) in omega arith;
+      is_counted = next_count k;
+    }

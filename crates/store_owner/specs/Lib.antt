@@ -3,9 +3,13 @@ pub mod Folds
 pub mod Journals
 pub mod Keys
 pub mod Notes
+pub mod Owned
+pub mod Owning
+pub mod Retitled
 pub mod Ringing
 pub mod Sealing
 pub mod Script
+pub mod Texting
 pub mod Attempts
 pub mod WorkedBytes
 pub mod WorkedFolds

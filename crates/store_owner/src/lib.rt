@@ -1,16 +1,22 @@
 //! The owner's side of a store: the bytes of a journal, and what of them a disk may hold.
 #![tactic(auto)]
 
+mod command_notes;
 pub mod folding;
 pub mod holding;
 pub mod laws;
+pub mod owner_laws;
+mod path_ends;
 mod records;
+mod refusing;
+mod retitling;
 pub mod rows;
 pub mod script_laws;
 pub mod script_rows;
 pub mod sealing_laws;
 mod step_records;
 mod step_room;
+mod texts;
 
 pub use step_records::seal_step;
 pub use step_room::StepRoom;

@@ -1,5 +1,5 @@
 //! Laws of when the records of a step can be sealed.
-ghost use Rattle.std.specs.Prelude.{◌≡◌, ◌<◌, ◌≤◌, ◌^◌, ℕ, List, length, None};
+ghost use Rattle.std.specs.Prelude.{◌≡◌, ◌+◌, ◌<◌, ◌≤◌, ◌^◌, ℕ, List, length, None};
 ghost use Rattle.chacha_seal.specs.Keys.{KeyParts};
 ghost use Rattle.chacha_seal.specs.Serials.{Counting};
 ghost use Rattle.cry_base.specs.Refusing.{refusal_of};
@@ -13,7 +13,7 @@ ghost use Rattle.public_fold.specs.Fitted.{told_step};
 ghost use Rattle.public_fold.specs.Heads.{IsSkeleton};
 ghost use Rattle.public_fold.specs.Journal.{Journal, Stand, entry_step, keys_of, note_step, nothing, stand_after, store_of};
 ghost use Rattle.public_fold.specs.Journal.Entry.{Did};
-ghost use Rattle.public_fold.specs.KeyStep.{next_serial};
+ghost use Rattle.public_fold.specs.KeyStep.{KeyState, next_epoch, next_serial};
 ghost use Rattle.public_fold.specs.Valid.{IsValid};
 ghost use Rattle.public_fold.specs.declared.heads.Skeleton.{Skeleton};
 ghost use Rattle.store_owner.specs.Folds.{public_stand};
@@ -45,4 +45,10 @@ pub fn serials_are_below_the_next()
 pub fn told_skeletons_are_those_of_commands()
     ensures { (m : Journal) (request : Request) (check : List ℕ) (drawn : List (List ℕ)) (file_bytes : ℕ) → refusal_of (store_of m) request file_bytes ≡ None
         → (s : Skeleton) → IsSkeleton (told_step (public_stand m) (note_of (store_of m) request check)) s → IsSkeleton (entry_step (stand_after nothing m) (Did request drawn)) s }
+{}
+
+/// Law: keys that are held stay held when a session begins the next epoch, by a counter that has given nothing yet.
+pub fn held_keys_stay_in_the_next_epoch()
+    ensures { (keys : List KeyParts) (k : KeyState) (ring : Ringed) (counter : Counting) → HoldsKeys keys k ring counter → k.count ≤ 2 ^ 32
+        → HoldsKeys keys (next_epoch k) ring (record { epoch = k.epoch + 1; count = 0 }) }
 {}

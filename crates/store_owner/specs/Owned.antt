@@ -1,0 +1,44 @@
+-- What an owner keeps in memory, and which journal it stands for. This project's own, docs/MODEL.md.
+use Rattle.std.specs.Prelude.{◌≡◌, ℕ, Bool, cond, List, map, Option, Some, None}
+use Rattle.chacha_seal.specs.Sealing.{check_of}
+use Rattle.chacha_seal.specs.Serials.{Counting}
+use Rattle.commit_journal.specs.Journals.{IsJournalOf, JournalState}
+use Rattle.cry_base.specs.Store.{HolderEntry}
+use Rattle.folder_nodes.specs.Titles.{Titles, tree_store}
+use Rattle.key_links.specs.Ringed.{Ringed}
+use Rattle.public_fold.specs.Journal.{Journal, keys_of, store_of}
+use Rattle.public_fold.specs.KeyStep.{KeyState}
+use Rattle.public_fold.specs.Standing.{IsSeenAs, PublicView}
+use Rattle.public_fold.specs.Valid.{IsValid}
+use Rattle.store_owner.specs.Bytes.{batches_of}
+use Rattle.store_owner.specs.Folds.{public_stand}
+use Rattle.store_owner.specs.Keys.{AreWhole, all_keys}
+use Rattle.store_owner.specs.Owning.{IsTreeOf}
+use Rattle.store_owner.specs.Sealing.{HoldsKeys}
+
+-- the owner's key; the journal; what everyone may see; the names and bytes; the present keys; the counter of this session's
+-- epoch, where it has begun one
+pub record OwnerView : Type 0 where
+  pub key : List ℕ
+  pub journal : JournalState
+  pub state : PublicView
+  pub names : Titles
+  pub ring : Ringed
+  pub counter : Option Counting
+
+-- the counter that gives the next serial
+abbrev pub counting : KeyState → Counting
+counting k = record { epoch = k.epoch; count = k.count }
+
+-- all of it is what the entries leave: the batches, the public stand with the checks of the holders' keys, the names and bytes,
+-- and the present keys. The session has a counter once it has begun its epoch
+pub record IsOwnerOf (m : Journal) (o : OwnerView) : Type 0 where
+  pub valid : IsValid m
+  pub whole_keys : AreWhole o.key m
+  pub same_key : o.journal.owner ≡ o.key
+  pub stands : IsJournalOf (batches_of o.key m) o.journal
+  pub seen : IsSeenAs o.state (public_stand m)
+  pub checks : o.state.checks ≡ map (λ (e : HolderEntry). check_of e.key) (store_of m).holders
+  pub tree : IsTreeOf (tree_store o.state.tree o.names) (store_of m)
+  pub holds : HoldsKeys (all_keys o.key m) (keys_of m) o.ring (counting (keys_of m))
+  pub counts : o.counter ≡ cond o.journal.has_epoch (Some (counting (keys_of m))) None
