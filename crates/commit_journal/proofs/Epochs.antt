@@ -1,10 +1,9 @@
--- The epochs of a log that the owner reads count up, and a holder reads what the owner reads.
-use Rattle.std.proofs.Common.{◌≡◌, ℕ, zero, suc, ◌+◌, ◌-◌, ◌≤◌, Bool, true, false, cond, eqb, List, [], ◌∷◌, ◌++◌, length, take, drop, Option, None, Some, Result, Ok, Err, refl, sym, ap, ◌∙◌, subst, arith}
+-- The epochs of a log count up, as the owner reads it, whether for writing or not. And a holder reads what the owner reads.
+use Rattle.std.proofs.Common.{◌≡◌, ℕ, zero, suc, ◌+◌, ◌-◌, Bool, true, false, cond, eqb, List, [], ◌∷◌, ◌++◌, length, take, drop, Option, None, Some, Result, Ok, Err, refl, sym, ap, ◌∙◌, subst}
 use Rattle.std.specs.Prelude.{nat_le, ◌&&◌, codes, slice_index, slice_range}
-use Rattle.std.proofs.lemmas.Bool.{eqb-true, and_parts}
-use Rattle.std.proofs.lemmas.Bool.Decides.{nat_tests}
+use Rattle.std.proofs.lemmas.Bool.{and_parts}
 use Rattle.std.specs.Str.{bytes_eq}
-use Rattle.chacha_seal.specs.Sealing.{check_of, masked}
+use Rattle.chacha_seal.specs.Sealing.{check_of, masked, veil_of}
 use Rattle.hmac_seal.specs.Hmac.{hmac}
 use Rattle.record_format.specs.Plain.{PlainPayload}
 use Rattle.record_format.specs.Reading.{payload_or_place}
@@ -12,10 +11,13 @@ use Rattle.commit_journal.specs.declared.head.Head.{Head}
 use Rattle.commit_journal.specs.declared.past.Past.{Past}
 use Rattle.commit_journal.specs.Answering.{Fault, NotAStore, WrongKey, Damaged, Tampered, and_then}
 use Rattle.commit_journal.specs.Log.{PlainTurn, head_of, is_batch, fits_epoch, slot_in, payload_in, check_in, gate_in, as_commands, body_of, placed_body, turn_of, published_turn, tagged_turn, head_at, turn_at, before, goes_on, log_at, start_of, start_at, log_verdict}
-use Rattle.commit_journal.specs.Logs.{walk_at, turn_by, unowned_start_of, unowned_start, holder_log, IsInEpoch, AreInEpochs}
+use Rattle.commit_journal.specs.Logs.{walk_at, turn_by, unowned_start_of, unowned_start, holder_log, recovered_turn, tagged_recovered, writer_log, IsInEpoch, AreInEpochs}
+use Rattle.commit_journal.specs.Opening.{IsTurnIn}
 use Rattle.commit_journal.specs.Placed.{PlainBody, Commands, NewEpoch, PlainPlaced}
+use Rattle.commit_journal.proofs.Counted.{next_fits, command_fits}
 use Rattle.commit_journal.proofs.Followed.{and_then_ok, guard_ok, before_ok}
 use Rattle.commit_journal.proofs.Walked.{turn-nil}
+use Rattle.commit_journal.proofs.Walks.{Judges, Turns, owner_walks}
 
 -- ---- what a turn that was read tells
 
@@ -43,29 +45,17 @@ body_in : (two : Bool) (before_it epoch size type_byte : ℕ) (read : Result Pla
     cond two (eqb size 0 && eqb epoch (before_it + 1)) (eqb type_byte 1 && (nat_le 1 before_it && eqb epoch before_it)) ≡ true →
     IsInEpoch before_it epoch body
 body_in true before_it epoch size type_byte read body is fits =
-    let same : NewEpoch ≡ body = cc in
-    subst (IsInEpoch before_it epoch) same (eqb-true epoch (before_it + 1) (and_parts (eqb size 0) (eqb epoch (before_it + 1)) fits).1)
+    let same : NewEpoch ≡ body = cc in subst (IsInEpoch before_it epoch) same (next_fits before_it epoch size fits)
 body_in false before_it epoch size type_byte read body is fits =
-    let told = commands_ok read body is in
-    let parts = and_parts (nat_le 1 before_it) (eqb epoch before_it) (and_parts (eqb type_byte 1) (nat_le 1 before_it && eqb epoch before_it) fits).1 in
-    let begun : nat_le 1 before_it ≡ true = parts.0 in
-    let low : 1 ≤ before_it = grind (arith, nat_tests) in
-    subst (IsInEpoch before_it epoch) (sym told.1) (low, eqb-true epoch before_it parts.1)
+    let told = commands_ok read body is in subst (IsInEpoch before_it epoch) (sym told.1) (command_fits before_it epoch type_byte fits)
 
--- the turn's batch is in its epoch, and what follows counts on from it
-abbrev IsTurnIn : Past → PlainTurn → Type 0
-IsTurnIn past t = IsInEpoch past.epoch.0 t.placed.epoch.0 t.placed.body × (t.past.epoch.0 ≡ t.placed.epoch.0)
-
-published_in : (past : Past) (head : Head) (batch : List ℕ) (t : PlainTurn) → fits_epoch past head ≡ true → published_turn past head batch ≡ Ok (Some t) → IsTurnIn past t
-unfolding published_turn body_of
-published_in past head batch t fits is =
-    let payload : List ℕ = masked (slot_in batch) (payload_in head.size batch) in
+-- a payload that was read behind a head that fits
+read_in : (past : Past) (head : Head) (batch payload : List ℕ) (t : PlainTurn) → fits_epoch past head ≡ true →
+    and_then (placed_body past (body_of head payload)) (λ body. Ok (Some (turn_of past head batch body))) ≡ Ok (Some t) → IsTurnIn past t
+unfolding body_of
+read_in past head batch payload t fits is =
     let turn : PlainBody → Result (Option PlainTurn) Fault = λ body. Ok (Some (turn_of past head batch body)) in
-    let x : Result (Option PlainTurn) Fault = and_then (placed_body past (body_of head payload)) turn in
-    let read : x ≡ Ok (Some t) =
-    published_ok (bytes_eq (hmac (slot_in batch) (payload_in head.size batch)) (check_in head.size batch)) (eqb (gate_in head.size batch) 1) x (Tampered head.number (past.at + 13)) t is
-    in
-    let step = and_then_ok (placed_body past (body_of head payload)) turn (Some t) read in
+    let step = and_then_ok (placed_body past (body_of head payload)) turn (Some t) is in
     let body_read : body_of head payload ≡ Ok step.0 = placed_ok past (body_of head payload) step.0 step.1 in
     let inside : IsInEpoch past.epoch.0 head.epoch.0 step.0 =
     body_in (eqb head.type_byte 2) past.epoch.0 head.epoch.0 head.size head.type_byte (payload_or_place payload) step.0 body_read fits
@@ -74,55 +64,85 @@ published_in past head batch t fits is =
     let same : turn_of past head batch step.0 ≡ t = cc in
     subst (IsTurnIn past) same (inside, refl)
 
-turn_in : (owner : List ℕ) (past : Past) (rest : List ℕ) (t : PlainTurn) → turn_at owner past rest ≡ Ok (Some t) → IsTurnIn past t
-unfolding turn_at head_at is_batch tagged_turn
-turn_in owner past rest t is =
+-- whoever judges the whole of a batch behind a head that fits, the turn is in its epoch
+abbrev IsJudgedIn : Judges → Type 0
+IsJudgedIn judge = (past : Past) (head : Head) (batch : List ℕ) (t : PlainTurn) → fits_epoch past head ≡ true → judge past head batch ≡ Ok (Some t) → IsTurnIn past t
+
+published_in : IsJudgedIn published_turn
+unfolding published_turn
+published_in past head batch t fits is =
+    let payload : List ℕ = masked (slot_in batch) (payload_in head.size batch) in
+    let x : Result (Option PlainTurn) Fault = and_then (placed_body past (body_of head payload)) (λ body. Ok (Some (turn_of past head batch body))) in
+    read_in past head batch payload t fits
+    (published_ok (bytes_eq (hmac (slot_in batch) (payload_in head.size batch)) (check_in head.size batch)) (eqb (gate_in head.size batch) 1) x (Tampered head.number (past.at + 13)) t is)
+
+tagged_in : (owner : List ℕ) → IsJudgedIn (tagged_turn owner)
+unfolding tagged_turn
+tagged_in owner past head batch t fits is = published_in past head batch t fits (passed_ok _ _ _ (Some t) is)
+
+recovered_in : (owner : List ℕ) → IsJudgedIn (tagged_recovered owner)
+unfolding tagged_recovered recovered_turn
+recovered_in owner past head batch t fits is =
+    read_in past head batch (masked (veil_of owner head.epoch.0 head.number) (payload_in head.size batch)) t fits (passed_ok _ _ _ (Some t) is)
+
+abbrev AreTurnsIn : Turns → Type 0
+AreTurnsIn turns = (past : Past) (rest : List ℕ) (t : PlainTurn) → turns past rest ≡ Ok (Some t) → IsTurnIn past t
+
+turns_in : (judge : Judges) → IsJudgedIn judge → AreTurnsIn (turn_by judge)
+unfolding turn_by head_at is_batch
+turns_in judge judged past rest t is =
     let head = head_of (take 13 rest) in
-    let step = and_then_ok (head_at past rest) (λ h. tagged_turn owner past h (take (110 + h.size) rest)) (Some t) is in
+    let step = and_then_ok (head_at past rest) (λ h. judge past h (take (110 + h.size) rest)) (Some t) is in
     let guard = guard_ok (is_batch past head (length rest)) head step.0 (Damaged past.at) step.1 in
     let first = and_parts (nat_le (110 + head.size) (length rest)) _ guard.0 in
     let second = and_parts (nat_le (past.at + (110 + head.size)) 268435456) _ first.1 in
     let third = and_parts (eqb head.number (past.number + 1)) (fits_epoch past head) second.1 in
-    let tagged : tagged_turn owner past head (take (110 + head.size) rest) ≡ Ok (Some t) =
-    ap (λ h. tagged_turn owner past h (take (110 + h.size) rest)) guard.1 ∙ step.2
-    in
-    published_in past head (take (110 + head.size) rest) t third.1 (passed_ok _ _ _ (Some t) tagged)
+    judged past head (take (110 + head.size) rest) t third.1 (ap (λ h. judge past h (take (110 + h.size) rest)) guard.1 ∙ step.2)
+
+owners_in : (owner : List ℕ) → AreTurnsIn (turn_at owner)
+unfolding turn_at turn_by
+owners_in owner past rest t is = turns_in (tagged_turn owner) (tagged_in owner) past rest t is
 
 -- ---- the walk
 
-ended_in : (owner : List ℕ) (past : Past) (test : Bool) (log : List PlainPlaced) → cond test (goes_on (turn_at owner past []) (λ _. Ok [])) (Ok []) ≡ Ok log → AreInEpochs past.epoch.0 log
-unfolding goes_on
-ended_in owner past true log is = let wrong : Err (Damaged past.at) ≡ Ok log = ap (λ t. goes_on t (λ _. Ok [])) (sym (turn-nil owner past)) ∙ is in absurd (cc)
-ended_in owner past false log is = let same : [] ≡ log = cc in subst (AreInEpochs past.epoch.0) same tt
+nothing_in : (past : Past) (log : List PlainPlaced) → ◌≡◌ {A = Result (List PlainPlaced) Fault} (Ok []) (Ok log) → AreInEpochs past.epoch.0 log
+nothing_in past log is = let same : [] ≡ log = cc in subst (AreInEpochs past.epoch.0) same tt
 
-abbrev RestIn : List ℕ → List ℕ → Type 0
-RestIn owner rest = (p : Past) (skip : ℕ) (log : List PlainPlaced) → log_at owner p skip rest ≡ Ok log → AreInEpochs p.epoch.0 log
+if_open_in : (past : Past) (test : Bool) (walk : Result (List PlainPlaced) Fault) → ((log : List PlainPlaced) → walk ≡ Ok log → AreInEpochs past.epoch.0 log) →
+    (log : List PlainPlaced) → cond test walk (Ok []) ≡ Ok log → AreInEpochs past.epoch.0 log
+if_open_in past true walk told log is = told log is
+if_open_in past false walk told log is = nothing_in past log is
 
-goes_on_in : (owner : List ℕ) (past : Past) (rest : List ℕ) (turn : Result (Option PlainTurn) Fault) → ((t : PlainTurn) → turn ≡ Ok (Some t) → IsTurnIn past t) → RestIn owner rest →
-    (log : List PlainPlaced) → goes_on turn (λ t. log_at owner t.past (t.past.at - (past.at + 1)) rest) ≡ Ok log → AreInEpochs past.epoch.0 log
+goes_on_in : (past : Past) (turn : Result (Option PlainTurn) Fault) (rest : PlainTurn → Result (List PlainPlaced) Fault) →
+    ((t : PlainTurn) → turn ≡ Ok (Some t) → IsTurnIn past t) → ((t : PlainTurn) (log : List PlainPlaced) → rest t ≡ Ok log → AreInEpochs t.past.epoch.0 log) →
+    (log : List PlainPlaced) → goes_on turn rest ≡ Ok log → AreInEpochs past.epoch.0 log
 unfolding goes_on before
-goes_on_in owner past rest (Ok (Some t)) told others log is =
-    let step = before_ok (t.placed ∷ []) (log_at owner t.past (t.past.at - (past.at + 1)) rest) log is in
+goes_on_in past (Ok (Some t)) rest told others log is =
+    let step = before_ok (t.placed ∷ []) (rest t) log is in
     let this = told t refl in
-    let next : AreInEpochs t.placed.epoch.0 step.0 = subst (λ e. AreInEpochs e step.0) this.1 (others t.past (t.past.at - (past.at + 1)) step.0 step.1) in
+    let next : AreInEpochs t.placed.epoch.0 step.0 = subst (λ e. AreInEpochs e step.0) this.1 (others t step.0 step.1) in
     subst (AreInEpochs past.epoch.0) step.2 (this.0, next)
-goes_on_in owner past rest (Ok None) told others log is = let same : [] ≡ log = cc in subst (AreInEpochs past.epoch.0) same tt
-goes_on_in owner past rest (Err fault) told others log is = absurd (cc)
+goes_on_in past (Ok None) rest told others log is = nothing_in past log is
+goes_on_in past (Err fault) rest told others log is = absurd (cc)
 
-step_in : (owner : List ℕ) (past : Past) (byte : ℕ) (rest : List ℕ) (test : Bool) → RestIn owner rest → (log : List PlainPlaced) →
-    cond test (goes_on (turn_at owner past (byte ∷ rest)) (λ t. log_at owner t.past (t.past.at - (past.at + 1)) rest)) (Ok []) ≡ Ok log → AreInEpochs past.epoch.0 log
-step_in owner past byte rest true others log is = goes_on_in owner past rest (turn_at owner past (byte ∷ rest)) (turn_in owner past (byte ∷ rest)) others log is
-step_in owner past byte rest false others log is = let same : [] ≡ log = cc in subst (AreInEpochs past.epoch.0) same tt
+abbrev RestIn : Turns → List ℕ → Type 0
+RestIn turns rest = (past : Past) (skip : ℕ) (log : List PlainPlaced) → walk_at turns past skip rest ≡ Ok log → AreInEpochs past.epoch.0 log
 
-passed_in : (owner : List ℕ) (byte : ℕ) (rest : List ℕ) (past : Past) (skip : ℕ) → RestIn owner rest → (log : List PlainPlaced) → log_at owner past skip (byte ∷ rest) ≡ Ok log → AreInEpochs past.epoch.0 log
-unfolding log_at
-passed_in owner byte rest past zero others log is = step_in owner past byte rest (eqb past.gate 1) others log is
-passed_in owner byte rest past (suc skip) others log is = others past skip log is
+passed_in : (turns : Turns) → AreTurnsIn turns → (byte : ℕ) (rest : List ℕ) (past : Past) (skip : ℕ) → RestIn turns rest →
+    (log : List PlainPlaced) → walk_at turns past skip (byte ∷ rest) ≡ Ok log → AreInEpochs past.epoch.0 log
+unfolding walk_at
+passed_in turns told byte rest past zero others log is =
+    let walk : PlainTurn → Result (List PlainPlaced) Fault = λ t. walk_at turns t.past (t.past.at - (past.at + 1)) rest in
+    if_open_in past (eqb past.gate 1) (goes_on (turns past (byte ∷ rest)) walk)
+    (goes_on_in past (turns past (byte ∷ rest)) walk (told past (byte ∷ rest)) (λ t. others t.past (t.past.at - (past.at + 1)))) log is
+passed_in turns told byte rest past (suc skip) others log is = others past skip log is
 
-log_in : (owner rest : List ℕ) → RestIn owner rest
-unfolding log_at
-log_in owner [] = λ past skip log is. ended_in owner past (eqb past.gate 1) log is
-log_in owner (byte ∷ rest) = λ past skip. passed_in owner byte rest past skip (log_in owner rest)
+walk_in : (turns : Turns) → AreTurnsIn turns → (rest : List ℕ) → RestIn turns rest
+unfolding walk_at
+walk_in turns told [] = λ past skip log is.
+    if_open_in past (eqb past.gate 1) (goes_on (turns past []) (λ _. Ok []))
+    (goes_on_in past (turns past []) (λ _. Ok []) (told past []) (λ t. nothing_in t.past)) log is
+walk_in turns told (byte ∷ rest) = λ past skip. passed_in turns told byte rest past skip (walk_in turns told rest)
 
 -- the header is followed by no epoch yet
 abbrev IsBegun : Past → Type 0
@@ -141,11 +161,18 @@ start_begun owner bytes past is =
     start_of_begun owner header (bytes_eq (take 9 header) (codes "CRYPTREE" ++ 1 ∷ [])) (bytes_eq (slice_range header 9 41) (check_of owner)) past start refl
     (passed_ok (nat_le 42 (length bytes)) (start_of owner header) NotAStore past is)
 
+walk_epochs : (turns : Turns) → AreTurnsIn turns → (owner bytes : List ℕ) (log : List PlainPlaced) →
+    and_then (start_at owner bytes) (λ past. walk_at turns past 0 (drop 42 bytes)) ≡ Ok log → AreInEpochs 0 log
+walk_epochs turns told owner bytes log is =
+    let step = and_then_ok (start_at owner bytes) (λ past. walk_at turns past 0 (drop 42 bytes)) log is in
+    subst (λ e. AreInEpochs e log) (start_begun owner bytes step.0 step.1) (walk_in turns told (drop 42 bytes) step.0 0 log step.2)
+
 pub log_epochs : (owner bytes : List ℕ) (log : List PlainPlaced) → log_verdict owner bytes ≡ Ok log → AreInEpochs 0 log
-unfolding log_verdict
-log_epochs owner bytes log is =
-    let step = and_then_ok (start_at owner bytes) (λ past. log_at owner past 0 (drop 42 bytes)) log is in
-    subst (λ e. AreInEpochs e log) (start_begun owner bytes step.0 step.1) (log_in owner (drop 42 bytes) step.0 0 log step.2)
+log_epochs owner bytes log is = walk_epochs (turn_at owner) (owners_in owner) owner bytes log (owner_walks owner bytes ∙ is)
+
+pub writer_epochs : (owner bytes : List ℕ) (log : List PlainPlaced) → writer_log owner bytes ≡ Ok log → AreInEpochs 0 log
+unfolding writer_log
+writer_epochs owner bytes log is = walk_epochs (turn_by (tagged_recovered owner)) (turns_in (tagged_recovered owner) (recovered_in owner)) owner bytes log is
 
 -- ---- a holder reads what the owner reads
 

@@ -1,6 +1,7 @@
 pub mod Epochs
 pub mod BatchLemmas
 pub mod CommitLemmas
+pub mod Counted
 pub mod Followed
 pub mod JournalLemmas
 pub mod Judged

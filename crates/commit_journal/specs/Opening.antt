@@ -1,6 +1,6 @@
 -- What the owner's key reads of a store that is opened for writing, and the slots that are then filled. This project's own,
 -- docs/FORMAT.md, "Opening for writing".
-use Rattle.std.specs.Prelude.{◌≡◌, ◌≤◌, ℕ, zero, suc, ◌+◌, ◌-◌, ◌*◌, false, ◌==◌, nat_le, if◌then◌else◌, List, [], ◌∷◌, ◌++◌, length, take, drop, Result, Ok, Err}
+use Rattle.std.specs.Prelude.{◌≡◌, ◌≢◌, ◌≤◌, ℕ, zero, suc, ◌+◌, ◌-◌, ◌*◌, true, false, ◌==◌, nat_le, if◌then◌else◌, List, [], ◌∷◌, ◌++◌, length, take, drop, Result, Ok, Err}
 use Rattle.std.specs.Str.{bytes_eq}
 use Rattle.chacha_seal.specs.Sealing.{veil_of, masked}
 use Rattle.commit_journal.specs.declared.head.Head.{Head}
@@ -8,9 +8,12 @@ use Rattle.commit_journal.specs.declared.judge.Turn.{Turn}
 use Rattle.commit_journal.specs.declared.opening.Opened.{Opened}
 use Rattle.commit_journal.specs.declared.opening.Walked.{Walked}
 use Rattle.commit_journal.specs.declared.past.Past.{Past}
+use Rattle.commit_journal.specs.declared.placed.Body.{Body}
+use Rattle.commit_journal.specs.declared.placed.Body.TheVariants as bodies
 use Rattle.commit_journal.specs.Answering.{Fault, Damaged, Tampered, and_then}
-use Rattle.commit_journal.specs.Log.{PlainTurn, tag_due, tag_in, payload_in, body_of, placed_body, turn_of, head_at, start_at}
+use Rattle.commit_journal.specs.Log.{PlainTurn, fits_epoch, tag_due, tag_in, payload_in, body_of, placed_body, turn_of, head_at, start_at}
 use Rattle.commit_journal.specs.Journals.{JournalState}
+use Rattle.commit_journal.specs.Logs.{IsInEpoch}
 use Rattle.commit_journal.specs.Placed.{PlainPlaced, plain_log}
 
 -- the head of the batch behind an open gate, which ends within the store limit
@@ -114,7 +117,12 @@ pub record HasRoom (past : Past) : Type 0 where
 
 -- the head is that of the next batch
 abbrev pub IsNext : Past → Head → Type 0
-IsNext past head = (head.number ≡ past.number + 1) × (head.epoch.0 ≤ past.epoch.0 + 1)
+IsNext past head = (head.number ≡ past.number + 1) × (head.epoch.0 ≤ past.epoch.0 + 1) × (fits_epoch past head ≡ true)
+
+-- the body is that of a batch with this type byte
+abbrev pub HasType : ℕ → Body → Type 0
+HasType byte (bodies.Commands payload) = byte ≢ 2
+HasType byte bodies.NewEpoch = byte ≡ 2
 
 -- the turn of the batch with this head
 pub record IsTurnOf (past : Past) (head : Head) (turn : Turn) : Type 0 where
@@ -122,6 +130,8 @@ pub record IsTurnOf (past : Past) (head : Head) (turn : Turn) : Type 0 where
   pub next : turn.past.at ≡ past.at + (110 + head.size)
   pub number : turn.past.number ≡ head.number
   pub epoch : turn.past.epoch.0 ≡ head.epoch.0
+  pub same_epoch : turn.placed.epoch.0 ≡ head.epoch.0
+  pub type_of : HasType head.type_byte turn.placed.body
 
 -- the turn of the next batch, which ends within so many bytes
 pub record IsNextTurn (past : Past) (size : ℕ) (turn : Turn) : Type 0 where
@@ -131,3 +141,7 @@ pub record IsNextTurn (past : Past) (size : ℕ) (turn : Turn) : Type 0 where
   pub within : turn.past.at ≤ 268435456
   pub number : turn.past.number ≡ past.number + 1
   pub epoch : turn.past.epoch.0 ≤ past.epoch.0 + 1
+
+-- the turn's batch stands in its epoch, and what follows counts on from there
+abbrev pub IsTurnIn : Past → PlainTurn → Type 0
+IsTurnIn past turn = IsInEpoch past.epoch.0 turn.placed.epoch.0 turn.placed.body × (turn.past.epoch.0 ≡ turn.placed.epoch.0)

@@ -10,6 +10,7 @@ ghost use Rattle.chacha_seal.specs.Sealing.{masked};
 ghost use Rattle.commit_journal.specs.Answering.{Answers};
 ghost use Rattle.commit_journal.specs.Placed.{plain_body};
 ghost use Rattle.commit_journal.specs.Log as log;
+ghost use Rattle.commit_journal.specs.Opening as opening;
 ghost use Rattle.commit_journal.specs.Places.{HasSize, IsStanding, TurnStands};
 ghost use Rattle.commit_journal.specs.Turns.{plain_option, GoesOnAt};
 
@@ -75,6 +76,7 @@ pub(crate) fn body_of(
 ) -> Result<Body, OpenFault>
     requires { past.now.at ≤ 2 ^ 32 }
     ensures size { IfOk result (HasSize (length payload.old)) }
+    ensures type_of { IfOk result (opening.HasType head.now.type_byte) }
     ensures answer { Answers plain_body result (log.placed_body past.now (log.body_of head.now (masked slot.now payload.old))) }
     ensures no_disk { result ≢ Err OpenFault.DiskFault }
 {

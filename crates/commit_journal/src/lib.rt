@@ -31,7 +31,7 @@ pub use keeping::{
 pub use laws::{image_is_read_back, nothing_behind_is_looked_at, records_stand_at_their_places};
 pub use log_laws::{
     epochs_count_up, holder_reads_the_owners_log, nobody_looks_behind, owner_walks_the_log,
-    standing_bytes_are_opened_whole,
+    standing_bytes_are_opened_whole, writers_epochs_count_up,
 };
 pub use opening::Opened;
 pub use opening_laws::{

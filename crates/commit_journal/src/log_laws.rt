@@ -30,6 +30,12 @@ pub fn epochs_count_up()
     ensures { (owner bytes : List ℕ) (log : List PlainPlaced) → log_verdict owner bytes ≡ Ok log → AreInEpochs 0 log }
 {}
 
+/// Law: in the log that the owner reads who opens for writing, too, an epoch batch begins the next epoch, and a command
+/// stands in the last one begun.
+pub fn writers_epochs_count_up()
+    ensures { (owner bytes : List ℕ) (log : List PlainPlaced) → writer_log owner bytes ≡ Ok log → AreInEpochs 0 log }
+{}
+
 /// Law: bytes that stand for batches are opened for writing as these very batches, whatever the last slot holds.
 pub fn standing_bytes_are_opened_whole()
     ensures { (owner : List ℕ) (bodies : List PlainBody) (bytes : List ℕ) → StandsFor owner (batches_from 0 0 bodies) bytes → AreBodies 0 bodies →

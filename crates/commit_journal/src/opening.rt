@@ -6,6 +6,7 @@ ghost use Rattle.cry_io.specs.Stops.{IsDurable};
 ghost use Rattle.cry_io.specs.Told.{WhereTold, WhereBothTold};
 ghost use Rattle.chacha_seal.specs.Sealing.{veil_of};
 ghost use Rattle.commit_journal.specs.Answering.{Answers};
+ghost use Rattle.commit_journal.specs.Logs.{AreInEpochs};
 ghost use Rattle.commit_journal.specs.Opening as opening;
 ghost use Rattle.commit_journal.specs.Placed.{plain_log, plain_placed};
 ghost use Rattle.commit_journal.specs.Places.{IsStanding};
@@ -76,6 +77,7 @@ fn read_owned<D: Disk>(
     ensures answer { WhereTold (D.shown disk.old)
         (λ s. Answers plain_turn result (opening.owned_at limit owner.now.bytes past.now (drop past.now.at s))) }
     ensures next { IfOk result (opening.IsNextTurn past.now (D.size_of disk.old)) }
+    ensures in_epoch { IfOk result (λ turn. opening.IsTurnIn past.now (plain_turn turn)) }
     ensures stands { IfOk result (λ turn. IsStanding turn.placed) }
     ensures read_only { IsOnlyRead D.shown D.size_of D.may_leave disk.old disk.new }
     ensures counts { D.faults disk.old ≤ D.faults disk.new }
@@ -99,6 +101,7 @@ fn walk<D: Disk>(
     ensures inside { IfOk result (λ w. All (λ p. p.place ≤ D.size_of disk.old) w.placed.items) }
     ensures room { IfOk result (λ w. opening.HasRoom w.past) }
     ensures end { IfOk result (λ w. w.past.at ≤ D.size_of disk.old) }
+    ensures epochs { IfOk result (λ w. AreInEpochs 0 (plain_log w.placed)) }
     ensures read_only { IsOnlyRead D.shown D.size_of D.may_leave disk.old disk.new }
     ensures counts { D.faults disk.old ≤ D.faults disk.new }
     ensures disk_fault { result ≡ Err OpenFault.DiskFault → D.faults disk.old < D.faults disk.new }
@@ -171,6 +174,7 @@ impl Journal {
             (λ s. Answers opening.plain_opened result (opening.opening_verdict limits.store_bytes owner.now.bytes s)) }
         ensures opened { IfOk result (λ o. opening.IsOpened owner.now.bytes limits.store_bytes o.journal) }
         ensures stands { IfOk result (λ o. All IsStanding o.placed.items) }
+        ensures epochs { IfOk result (λ o. AreInEpochs 0 (plain_log o.placed)) }
         ensures filled { IfOk result (λ o. WhereBothTold (D.shown disk.old) (D.shown disk.new)
             (λ x y. y ≡ opening.slots_filled owner.now.bytes (plain_log o.placed) x)) }
         ensures durable { OnOk result (IsDurable (D.may_leave disk.new) (D.shown disk.new)) }

@@ -1,7 +1,8 @@
 use Rattle.std.proofs.Common.{◌≡◌, ◌+◌, length, drop, ◌∙◌, ap, take, arith}
 use Rattle.std.specs.Prelude.{slice_range}
-use Rattle.std.proofs.lemmas.Result.{err_from_is_err_and}
+use Rattle.std.proofs.lemmas.Result.{IfOk-weaker, err_from_is_err_and}
 use Rattle.commit_journal.specs.Opening.{owned_at, owned_head, owned_turn}
+use Rattle.commit_journal.proofs.Counted.{turn_counts}
 use Rattle.commit_journal.proofs.Judged.{fault_first, filled}
 use Rattle.commit_journal.proofs.OwnedLemmas.{owned_turn_is}
 use Rattle.commit_journal.proofs.opening.read_owned.Goals as goal
@@ -30,3 +31,7 @@ returns-clause-answer g c = λ s is.
     in
     rw (owned_turn_is c.args.limit c.args.owner.now.bytes past (drop past.at s) head c.deref_mut-2.result.now (c.in_ok-head.ensures.answer s is) whole)
     c.judge_owned.ensures.answer
+
+pub returns-clause-in_epoch : goal.returns-clause-in_epoch
+returns-clause-in_epoch g c =
+    IfOk-weaker c.judge_owned.result _ _ (λ turn is. turn_counts c.args.past.now c.in_ok-head.head turn c.in_ok-head.ensures.next.2 is) c.judge_owned.ensures.turn

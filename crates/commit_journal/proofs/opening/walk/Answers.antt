@@ -1,5 +1,4 @@
-use Rattle.std.proofs.Common.{◌≡◌, ◌≤◌, ℕ, [], ◌∷◌, ◌++◌, false, eqb, eq-eqb, map, drop, Ok, ap, subst, ◌∙◌, arith}
-use Rattle.std.specs.Prelude.{All}
+use Rattle.std.proofs.Common.{◌≡◌, ◌≤◌, [], ◌∷◌, ◌++◌, false, eqb, eq-eqb, map, drop, Ok, ap, ◌∙◌, arith}
 use Rattle.std.proofs.lemmas.Bool.Decides.{nat_tests}
 use Rattle.std.proofs.lemmas.List.{map_push}
 use Rattle.std.proofs.lemmas.List.Elements.{All-nil, All-cons, All-append}
@@ -10,6 +9,7 @@ use Rattle.commit_journal.specs.Opening.{owned_log, opening_verdict, owned_at, o
 use Rattle.commit_journal.specs.Placed.{plain_placed}
 use Rattle.commit_journal.specs.Places.{IsStanding}
 use Rattle.commit_journal.specs.Turns.{plain_turn}
+use Rattle.commit_journal.proofs.Counted.{counts_start, counts_more, counts_all}
 use Rattle.commit_journal.proofs.Judged.{fault_first}
 use Rattle.commit_journal.proofs.OwnedLemmas.{owned_before-fault, owned_before-end, owned_closed, owned_fails, owned_starts, owned_more}
 use Rattle.commit_journal.proofs.Walked.{only_read_twice}
@@ -35,6 +35,7 @@ loop-past-init g c =
       stands = rw c.new-log.ensures (All-nil IsStanding);
       on_disk = rw c.new-log.ensures (All-nil on_disk);
       read_only = c.in_ok-past.ensures.read_only;
+      counted = rw c.new-log.ensures (counts_start c.in_ok-past.past c.in_ok-past.ensures.fresh.1);
       counts = c.in_ok-past.ensures.counts;
       so_far = λ s is. rw c.new-log.ensures (owned_starts c.args.limit c.args.owner.now.bytes s c.in_ok-past.past (c.in_ok-past.ensures.answer s is) c.in_ok-past.ensures.place);
     }
@@ -75,6 +76,7 @@ loop-past-preserved g c =
       stands = rw c.in_ok-push.ensures.items (All-append IsStanding c.loop-past.log.items (turn.placed ∷ []) c.loop-past.invariant.stands (All-cons IsStanding turn.placed [] c.in_ok-turn.ensures.stands (All-nil IsStanding)));
       on_disk = rw c.in_ok-push.ensures.items (All-append on_disk c.loop-past.log.items (turn.placed ∷ []) c.loop-past.invariant.on_disk (All-cons on_disk turn.placed [] there (All-nil on_disk)));
       read_only = only_read_twice g.D.Disk.shown g.D.Disk.size_of g.D.Disk.may_leave c.args.disk.now c.loop-past.disk c.read_owned.new.disk c.loop-past.invariant.read_only read;
+      counted = rw pushed (counts_more front past (plain_turn turn) c.in_ok-turn.ensures.in_epoch c.loop-past.invariant.counted);
       counts = omega (arith, c.loop-past.invariant.counts, c.in_ok-turn.ensures.counts);
       so_far = λ s is.
           let judged : owned_at c.args.limit owner past (drop past.at s) ≡ Ok (plain_turn turn) =
@@ -91,3 +93,6 @@ returns-clause-verdict g c = λ s is.
     let shut = c.loop-past-test.false in
     let gate : eqb past.gate 1 ≡ false = grind (arith, nat_tests) in
     c.loop-past.invariant.so_far s is ∙ ap (owned_before front) (owned_closed c.args.limit owner past (drop past.at s) gate) ∙ owned_before-end front past
+
+pub returns-clause-epochs : goal.returns-clause-epochs
+returns-clause-epochs g c = counts_all (map plain_placed c.loop-past.log.items) c.loop-past.past c.loop-past.invariant.counted
