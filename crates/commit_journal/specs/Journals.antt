@@ -9,7 +9,7 @@ use Rattle.commit_journal.specs.declared.commit_fault.CommitFault.TheVariants as
 use Rattle.commit_journal.specs.Image.{Batch, owner_tag, image}
 use Rattle.commit_journal.specs.Standing.{StandsWhole, last_tag}
 
--- the owner's key; how many batches the log has, the epoch that was begun last (0 for none), whether this journal began it,
+-- the owner's key; how many batches the log has, the epoch that was begun last (0 for none), whether this session began it,
 -- where the next batch would begin, the last owner tag; the most bytes that the store may have; whether a disk fault closed
 -- the journal; how many batches and how many bytes of a payload it has room for
 pub record JournalState : Type 0 where
@@ -75,7 +75,7 @@ refusal j payload =
     else (if nat_lt j.limit (j.end + (110 + payload)) then Some (faults.Full (110 + payload) (j.limit - j.end)) else None)
 
 -- where the log would end with a batch of a payload of so many bytes, and with one that begins an epoch before it where
--- this journal has begun none
+-- this session has begun none
 abbrev pub end_with : JournalState → ℕ → ℕ
 end_with j payload = j.end + (110 + payload) + (if j.has_epoch then 0 else 110)
 

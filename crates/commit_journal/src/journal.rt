@@ -148,11 +148,37 @@ impl Journal {
         }
     }
 
-    /// Whether this journal has begun an epoch: the commands that it commits stand in it.
+    /// Whether this session has begun an epoch: the commands that it commits stand in it.
     pub fn has_epoch(&self) -> bool
         ensures { result ≡ self.now.has_epoch }
     {
         self.begun
+    }
+
+    /// Whether a fault of the disk closed this journal: it commits nothing more.
+    pub fn is_closed(&self) -> bool
+        ensures { result ≡ self.now.is_closed }
+    {
+        self.closed
+    }
+
+    /// Ends the session: what is committed from now on belongs to another one, which begins an epoch of its own. It takes no
+    /// memory.
+    pub fn end_session(&mut self)
+        ensures { self.new ≡ record self.old { has_epoch = false } }
+    {
+        self.begun = false;
+    }
+
+    /// Law: each batch has its bytes, all of them lie within the largest store, and no more epochs were begun than there are
+    /// batches.
+    pub fn journal_is_within(&self)
+        ensures bytes { 42 + 110 * self.now.batches ≤ self.now.end }
+        ensures within { self.now.end ≤ 268435456 }
+        ensures epochs { self.now.epoch ≤ self.now.batches }
+        ensures bound { self.now.limit ≤ 268435456 }
+    {
+        let _ = &self.past;
     }
 
     /// Whether a command with a payload of so many bytes ends within the store limit, and the epoch that it still needs.
