@@ -6,13 +6,9 @@ use Rattle.std.proofs.lemmas.List.{length-take-le, length-drop, append-nil}
 use Rattle.hmac_seal.specs.Hmac.{hmac}
 use Rattle.chacha_seal.specs.Sealing.{owner_tag_key, masked}
 use Rattle.chacha_seal.specs.Stream.{xor_stream, xor_from}
-use Rattle.chacha_seal.proofs.SealingLemmas.{length-masked}
 use Rattle.commit_journal.proofs.Pieces.{length-head_bytes}
-use Rattle.record_format.specs.Spelling.{be32}
-use Rattle.record_format.proofs.Lengths.{length-be32}
-use Rattle.commit_journal.specs.declared.batch_type.BatchType.{BatchType}
 use Rattle.commit_journal.specs.Committing.{with_slot}
-use Rattle.commit_journal.specs.Image.{Batch, head_bytes, batch_head, batch_veil, masked_payload, batch_check, owner_tag, spell_batch, empty_slot}
+use Rattle.commit_journal.specs.Image.{Batch, batch_head, batch_veil, masked_payload, batch_check, owner_tag, spell_batch, empty_slot}
 use Rattle.commit_journal.specs.Journals.{epoch_batch}
 use borrow.Rule.Slice.PartMut.{post_of, put_mid}
 

@@ -1,7 +1,7 @@
 -- Lists that are written over in one of their parts, and the three steps of a commit.
 use Rattle.std.proofs.Common.{◌≡◌, ℕ, ◌+◌, ◌-◌, ◌≤◌, List, [], ◌∷◌, ◌++◌, length, take, drop, Result, Ok, Err, append_assoc, arith, sym, ap, ◌∙◌, subst, refl, length-append}
 use Rattle.std.specs.Prelude.{OnOk}
-use Rattle.std.proofs.Math.Seq.{take-append_seam, drop-append_seam, drop-append-add, take-length}
+use Rattle.std.proofs.Math.Seq.{take-append_seam, drop-append_seam, drop-append-add}
 use Rattle.std.proofs.Math.ListN.{drop_of_length-le}
 use Rattle.std.proofs.lemmas.List.{length-take-le, length-drop, append-nil, take-append-drop, drop-drop}
 use Rattle.cry_io.specs.Stops.{Written}

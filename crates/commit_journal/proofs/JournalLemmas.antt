@@ -1,6 +1,5 @@
 -- A journal with one batch more, and why it takes none.
 use Rattle.std.proofs.Common.{◌≡◌, ◌≢◌, ℕ, ◌+◌, ◌-◌, ◌≤◌, ◌<◌, ◌^◌, Bool, true, false, cond, ltb, List, [], ◌∷◌, ◌++◌, length, drop, Option, None, Some, append_assoc, arith, refl, sym, ap, ◌∙◌, subst, length-append}
-use Rattle.std.specs.List.{sum_by}
 use Rattle.std.specs.Prelude.{codes}
 use Rattle.std.proofs.lemmas.List.{append-nil}
 use Rattle.std.proofs.lemmas.List.Sums.{sum_by-append, sum_by-cons}

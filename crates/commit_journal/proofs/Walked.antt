@@ -1,11 +1,11 @@
 -- The walk from gate to gate, one turn at a time.
 use Rattle.std.proofs.Common.{◌≡◌, ℕ, zero, suc, ◌+◌, ◌-◌, ◌<◌, true, false, eqb, List, [], ◌∷◌, ◌++◌, drop, Option, None, Some, Result, Ok, Err, refl, sym, ap, ◌∙◌, arith, append_assoc}
-use Rattle.std.proofs.lemmas.List.{append-nil, drop-drop}
+use Rattle.std.proofs.lemmas.List.{append-nil}
 use Rattle.commit_journal.specs.declared.fault.OpenFault.{OpenFault}
 use Rattle.commit_journal.specs.declared.fault.OpenFault.TheVariants as faults
 use Rattle.commit_journal.specs.declared.past.Past.{Past}
 use Rattle.commit_journal.specs.Answering.{Fault, Damaged, and_then, IsFault}
-use Rattle.commit_journal.specs.Log.{PlainTurn, turn_at, before, goes_on, log_at, start_at, log_verdict}
+use Rattle.commit_journal.specs.Log.{PlainTurn, turn_at, before, goes_on, log_at}
 use Rattle.commit_journal.specs.Placed.{PlainPlaced}
 use Rattle.commit_journal.specs.Reading.{IsOnlyRead}
 use Rattle.commit_journal.proofs.Judged.{head_short}

@@ -1,5 +1,3 @@
-use Rattle.std.proofs.Common.{◌≡◌, []}
-use Rattle.hmac_seal.specs.Hmac.{hmac}
 use Rattle.commit_journal.proofs.BatchLemmas.{epoch_tag, epoch_spelled}
 use Rattle.commit_journal.proofs.batch.epoch_batch.Goals as goal
 

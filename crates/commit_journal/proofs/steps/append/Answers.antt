@@ -1,4 +1,4 @@
-use Rattle.std.proofs.Common.{◌∙◌, rules}
+use Rattle.std.proofs.Common.{rules}
 use Rattle.std.proofs.lemmas.Result.{on_ok_weaker}
 use Rattle.cry_io.proofs.ToldLemmas.{told_again}
 use Rattle.commit_journal.proofs.CommitLemmas.{committed}
