@@ -26,10 +26,9 @@ has_source ring r role s is other number told same =
       (refl, sym number ∙ sym (key_numbered ring role key.0 other key.1), sym same ∙ key.2),
     )
 
--- a content was sealed under the key whose serial the ring told
-pub has_sealing : (ring : Ringed) (r : ContentRecord) (role : Role) (s : Serial) → role ≡ sealing_role r.kind r.object →
-    Some s ≡ serial_in ring role → s.0 ≡ r.key_serial.0 → HasSealing ring r
-has_sealing ring r role s is told same = let key = told_key ring role s told in (key.0, ap (key_of ring) (sym is) ∙ key.1, sym same ∙ key.2)
+-- the ring has the key of a content whose role's serial it told
+pub has_sealing : (ring : Ringed) (r : ContentRecord) (role : Role) (s : Serial) → role ≡ sealing_role r.kind r.object → Some s ≡ serial_in ring role → HasSealing ring r
+has_sealing ring r role s is told = let key = told_key ring role s told in (key.0, ap (key_of ring) (sym is) ∙ key.1)
 
 -- what was sealed under the key that the ring has is opened with it
 pub link_opened : (o : Option KeyParts) (own from to : KeyParts) (nonce : ℕ) (r : LinkRecord) → o ≡ Some own → o ≡ Some from → r ≡ sealed_link r.kind from to nonce →

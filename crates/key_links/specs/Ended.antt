@@ -51,6 +51,6 @@ HasSource ring r = (key : KeyParts) × (key_of ring (source_role r) ≡ Some key
 abbrev pub sealing_role : ℕ → ℕ → Role
 sealing_role kind object = if kind == 1 then role.Data (record { 0 = object }) else (if kind == 2 then role.File (record { 0 = object }) else role.Owner)
 
--- the ring has the key that the content was sealed under
+-- the ring has a key for the role whose key seals contents like this one. No serial is asked for: what opens it is the key
 abbrev pub HasSealing : Ringed → ContentRecord → Type 0
-HasSealing ring r = (key : KeyParts) × (key_of ring (sealing_role r.kind r.object) ≡ Some key) × (r.key_serial.0 ≡ key.serial)
+HasSealing ring r = (key : KeyParts) × (key_of ring (sealing_role r.kind r.object) ≡ Some key)

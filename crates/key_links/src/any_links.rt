@@ -88,7 +88,6 @@ pub(crate) fn open_any(key: &AnyKey, content: &mut ContentRecord) -> Result<(), 
     requires from_one { 1 ≤ content.old.kind }
     requires to_three { content.old.kind ≤ 3 }
     requires key { role_of key.now ≡ sealing_role content.old.kind content.old.object }
-    requires serial { content.old.key_serial.0 ≡ (parts_of key.now).serial }
     requires size { length content.old.cipher.items < 2 ^ 32 }
     ensures authentic { IsOk result ↔ IsAuthenticContent (parts_of key.now) (plain_content content.old) }
     ensures opened { OnOk result (content.new ≡ with_text content.old (text_of (parts_of key.now) (plain_content content.old))) }

@@ -34,7 +34,6 @@ pub fn seal_content<A: Seals>(key: &Key<A>, object: u32, nonce: Nonce, text: Tex
 /// that the key makes of its header and cipher bytes; the content is then as it was.
 pub fn open_content<A: Seals>(key: &Key<A>, content: &mut ContentRecord) -> Result<(), BadTag>
     requires kind { content.old.kind ≡ A.CONTENT }
-    requires key { content.old.key_serial.0 ≡ key.now.serial }
     requires size { length content.old.cipher.items < 2 ^ 32 }
     ensures authentic { IsOk result ↔ IsAuthenticContent key.now (plain_content content.old) }
     ensures opened { OnOk result (content.new ≡ with_text content.old (text_of key.now (plain_content content.old))) }
