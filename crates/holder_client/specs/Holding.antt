@@ -1,18 +1,17 @@
 -- What a client's ring holds of the keys that were opened. This project's own, docs/FORMAT.md, "Reading".
 use Rattle.std.specs.Prelude.{◌≡◌, ℕ, ◌≤◌, Bool, IsTrue, List, map, Some, Result, Ok, Err, option_map}
 use Rattle.chacha_seal.specs.Keys.{KeyParts}
-use Rattle.commit_journal.specs.Placed.{PlainPlaced, plain_placed}
+use Rattle.commit_journal.specs.Placed.{plain_placed}
 use Rattle.commit_journal.specs.declared.placed.Placed.{Placed}
 use Rattle.cry_base.specs.declared.roles.Edge.{Edge}
 use Rattle.cry_base.specs.declared.roles.Role.{Role}
 use Rattle.commit_journal.specs.Answering.{Fault}
 use Rattle.holder_client.specs.Answering.{IsFault}
-use Rattle.holder_client.specs.Placing.{PlacedContent, content_for}
 use Rattle.holder_client.specs.declared.fault.ClientFault.{ClientFault}
 use Rattle.holder_client.specs.declared.visiting.OpenedText.{OpenedText}
 use Rattle.holder_client.specs.Visiting.{Reading}
 use Rattle.holder_client.specs.Visiting as opened
-use Rattle.key_links.specs.Ended.{kind_from, kind_to, role_with, sealing_role}
+use Rattle.key_links.specs.Ended.{kind_from, kind_to, role_with}
 use Rattle.key_links.specs.Ringed.{Ringed, key_of}
 use Rattle.public_fold.specs.KeyStep.{present}
 use Rattle.public_fold.specs.Standing.{PublicView, IsSeenAs}
@@ -36,11 +35,6 @@ pub record HasKind (e : Edge) : Type 0 where
   pub to_nine : e.kind ≤ 9
   pub source : role_with (kind_from e.kind) (role_id e.from) ≡ e.from
   pub target : role_with (kind_to e.kind) (role_id e.to) ≡ e.to
-
--- the last content of the kind for the object was sealed under the key that the ring has for its role, where it has one
-abbrev pub IsSealedBy : Ringed → List PlainPlaced → ℕ → ℕ → Type 0
-IsSealedBy ring log kind object =
-    (c : PlacedContent) (key : KeyParts) → content_for log kind object ≡ Some c → key_of ring (sealing_role kind object) ≡ Some key → c.content.key_serial.0 ≡ key.serial
 
 -- a visit of a text goes on with the text that was opened and the place of its content, or ends with this fault
 abbrev pub GoesOn : Result OpenedText ClientFault → ((ℕ → List ℕ → Result opened.Opened Fault) → Result opened.Opened Fault) → (ℕ → List ℕ → Result opened.Opened Fault) → Type 0

@@ -5,7 +5,7 @@ ghost use Rattle.commit_journal.specs.Placed.{plain_placed};
 ghost use Rattle.commit_journal.specs.Places.{IsStanding};
 ghost use Rattle.cry_base.specs.declared.roles.Role.{Role as TheRole};
 ghost use Rattle.holder_client.specs.Answering.{AnswersBy};
-ghost use Rattle.holder_client.specs.Holding.{ArePresent, GoesOn, HasKind, HoldsKeys, IsReadingOf, IsSealedBy};
+ghost use Rattle.holder_client.specs.Holding.{ArePresent, GoesOn, HasKind, HoldsKeys, IsReadingOf};
 ghost use Rattle.holder_client.specs.Visiting as spec;
 ghost use Rattle.key_links.specs.Ended as ends;
 ghost use Rattle.record_format.specs.Plain.{plain_content};
@@ -107,7 +107,6 @@ pub(crate) fn open_text(
     requires stands { All IsStanding log.now }
     requires from_one { 1 ≤ kind }
     requires to_three { kind ≤ 3 }
-    requires sealed { IsSealedBy ring.now (map plain_placed log.now) kind object }
     ensures answer { (told : TheRole → Bool) (r : spec.Reading) (o : spec.Opened) (go_on : ℕ → List ℕ → Result spec.Opened Fault) →
         r.log ≡ map plain_placed log.now → IsTrue (told (ends.sealing_role kind object)) → HoldsKeys told ring.now o.keys →
         GoesOn result (spec.visit_text r o (ends.sealing_role kind object) kind object) go_on }

@@ -47,7 +47,6 @@ open_text-requires-clause-key c =
     let key = the_one (key_of ring (sealing_role kind object)) (subst (λ x. IsSome (key_of ring x)) c.sealing_role.ensures (c.present.ensures.there.0 c.if-is_none.ensures)) in (
       key.0,
       ap (key_of ring) role ∙ key.1,
-      ap (λ (p : PlainContent). p.key_serial.0) same ∙ c.requires.sealed (content_here found.batch found.at (plain_content found.content.now)) key.0 there key.1,
     )
 
 pub returns-in-Ok-clause-answer : goal.returns-in-Ok-clause-answer
