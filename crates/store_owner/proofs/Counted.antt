@@ -80,7 +80,7 @@ present_in : (keys : List (Role × ℕ)) (r : Role) → (present keys r ≡ 0) �
 unfolding present
 present_in keys r = newest_in keys r (newest keys r) refl
 
-keys_after : (k : KeyState) (before : List Edge) (c : Change) (pieces : List Piece) (key : Role × ℕ) → In key (key_step k before c pieces).after.keys →
+pub keys_after : (k : KeyState) (before : List Edge) (c : Change) (pieces : List Piece) (key : Role × ℕ) → In key (key_step k before c pieces).after.keys →
     In key (key_step k before c pieces).given ⊎ In key k.keys
 unfolding key_step step_with published keys_then keys_without
 keys_after k before c pieces key i =

@@ -45,7 +45,7 @@ further k keys serial has is =
     (λ i. (has.0, i, has.2))
     has.1
 
-found_first : (keys more : List KeyParts) (serial : ℕ) → HasSerial keys serial → bytes_in (keys ++ more) serial ≡ bytes_in keys serial
+pub found_first : (keys more : List KeyParts) (serial : ℕ) → HasSerial keys serial → bytes_in (keys ++ more) serial ≡ bytes_in keys serial
 unfolding bytes_in bytes_of
 found_first [] more serial has = absurd has.1
 found_first (k ∷ keys) more serial has =

@@ -1,11 +1,15 @@
 pub mod Ascending
 pub mod Counted
 pub mod DueTexts
+pub mod FitsPublic
+pub mod Followed
 pub mod Followings
 pub mod Forms
 pub mod Found
 pub mod GivenKeys
 pub mod Grown
+pub mod Kept
+pub mod LogsWalked
 pub mod NotesTold
 pub mod OwnerKeeps
 pub mod Published
@@ -17,7 +21,9 @@ pub mod Sealable
 pub mod StepKeys
 pub mod StepSealed
 pub mod ToldSkeleton
+pub mod TextSizes
 pub mod TextsTold
 pub mod TitlesAfter
+pub mod Walked
 pub mod Weighed
 pub mod WorkedGrant

@@ -62,7 +62,7 @@ folder_once f =
     (clear, (sub, (back, (files, (data_last, tt)))))
 
 -- no note brings a role twice
-fresh_once : (s : Store) (note : Note) → EachOnce (change_of s note).fresh
+pub fresh_once : (s : Store) (note : Note) → EachOnce (change_of s note).fresh
 unfolding change_of no_change
 fresh_once s Root = folder_once 1
 fresh_once s (NewHolder h check) = (λ i. i, tt)
@@ -87,7 +87,7 @@ pub record IsPiece (t : Store) (p : Piece) : Type 0 where
   pub kind_to_three : p.kind ≤ 3
 
 -- one piece at most, and each is one
-abbrev ArePieces : Store → List Piece → Type 0
+abbrev pub ArePieces : Store → List Piece → Type 0
 ArePieces t ps = (length ps ≤ 1) × ((p : Piece) → In p ps → IsPiece t p)
 
 none_due : (t : Store) → ArePieces t []
@@ -124,7 +124,7 @@ holder_due t h =
       | Some e ↦ one_due t (record { kind = 3; object = h; name = []; bytes = e.key }) (record { stands = tt; kind_from_one = omega arith; kind_to_three = omega arith })
     ]
 
-pieces_due : (note : Note) (t : Store) → ArePieces t (pieces_of note t)
+pub pieces_due : (note : Note) (t : Store) → ArePieces t (pieces_of note t)
 unfolding pieces_of
 pieces_due Root t = folder_due t 1
 pieces_due (NewHolder h check) t = holder_due t h
@@ -151,7 +151,7 @@ present_is : (keys : List (Role × ℕ)) (r : Role) (n : ℕ) → newest keys r 
 unfolding present
 present_is keys r n e = e ∙ ap Some (sym (ap (λ o. unwrap_or o 0) e))
 
-link_from : (keys : List (Role × ℕ)) (n : ℕ) (es : List Edge) (l : Link) → In l (links_from keys n es) → In l.edge es × (l.from_serial ≡ present keys l.edge.from) × (l.to_serial ≡ present keys l.edge.to)
+pub link_from : (keys : List (Role × ℕ)) (n : ℕ) (es : List Edge) (l : Link) → In l (links_from keys n es) → In l.edge es × (l.from_serial ≡ present keys l.edge.from) × (l.to_serial ≡ present keys l.edge.to)
 unfolding links_from link_of
 link_from keys n es l i =
     let w = (In-map (Edge × ℕ) Link (link_of keys) l (numbered n es)).0 i in
@@ -161,7 +161,7 @@ link_from keys n es l i =
       ap (λ (x : Link). x.to_serial) w.2 ∙ ap (λ (e : Edge). present keys e.to) (sym edge),
     )
 
-content_from : (keys : List (Role × ℕ)) (n : ℕ) (ps : List Piece) (c : Content) → In c (contents_from keys n ps) → In c.piece ps × (c.key_serial ≡ present keys (sealing_role c.piece))
+pub content_from : (keys : List (Role × ℕ)) (n : ℕ) (ps : List Piece) (c : Content) → In c (contents_from keys n ps) → In c.piece ps × (c.key_serial ≡ present keys (sealing_role c.piece))
 unfolding contents_from content_of
 content_from keys n ps c i =
     let w = (In-map (Piece × ℕ) Content (content_of keys) c (numbered n ps)).0 i in

@@ -28,7 +28,7 @@ use Rattle.store_owner.specs.Folds.{public_stand}
 
 -- ---- pieces without their texts
 
-abbrev bare : Piece → Piece
+abbrev pub bare : Piece → Piece
 bare p = record { kind = p.kind; object = p.object; name = []; bytes = [] }
 
 found_bare : (X : Type 0) (test : X → Bool) (f : X → X) (g : X → Piece) → ((x : X) → test (f x) ≡ test x) → ((x : X) → bare (g (f x)) ≡ bare (g x)) → (xs : List X)
@@ -57,7 +57,7 @@ unfolding holder_piece holder_entry public_of
 holder_bare t h =
     found_bare HolderEntry (λ e. e.number == h) (λ e. record e { key = [] }) (λ e. record { kind = 3; object = h; name = []; bytes = e.key }) (λ e. refl) (λ e. refl) t.holders
 
-pieces_bare : (note : Note) (t : Store) → map bare (pieces_of note (public_of t)) ≡ map bare (pieces_of note t)
+pub pieces_bare : (note : Note) (t : Store) → map bare (pieces_of note (public_of t)) ≡ map bare (pieces_of note t)
 unfolding pieces_of
 pieces_bare Root t = folder_bare t 1
 pieces_bare (NewHolder h check) t = holder_bare t h
@@ -75,7 +75,7 @@ pieces_bare (Take h f) t = refl
 
 -- ---- a holder's check changes no key
 
-same_pieces : (s : Store) (r : Request) (check : List ℕ) (t : Store) → pieces_of (note_of s r check) t ≡ pieces_of (note_of s r []) t
+pub same_pieces : (s : Store) (r : Request) (check : List ℕ) (t : Store) → pieces_of (note_of s r check) t ≡ pieces_of (note_of s r []) t
 unfolding note_of pieces_of
 same_pieces s AddHolder check t = refl
 same_pieces s (MakeFolder path) check t = refl
@@ -86,7 +86,7 @@ same_pieces s (Relocate path into) check t = refl
 same_pieces s (Grant h path) check t = refl
 same_pieces s (Revoke h path) check t = refl
 
-same_change : (s : Store) (r : Request) (check : List ℕ) → change_of s (note_of s r check) ≡ change_of s (note_of s r [])
+pub same_change : (s : Store) (r : Request) (check : List ℕ) → change_of s (note_of s r check) ≡ change_of s (note_of s r [])
 unfolding note_of change_of
 same_change s AddHolder check = refl
 same_change s (MakeFolder path) check = refl
@@ -104,7 +104,7 @@ unfolding contents_from numbered content_of sealing_role
 heads_bare keys n [] = refl
 heads_bare keys n (p ∷ ps) = ap (λ l. content_head (content_of keys (p, n)) ∷ l) (heads_bare keys (n + 1) ps)
 
-same_heads : (keys : List (Role × ℕ)) (n : ℕ) (ps qs : List Piece) → map bare ps ≡ map bare qs → map content_head (contents_from keys n ps) ≡ map content_head (contents_from keys n qs)
+pub same_heads : (keys : List (Role × ℕ)) (n : ℕ) (ps qs : List Piece) → map bare ps ≡ map bare qs → map content_head (contents_from keys n ps) ≡ map content_head (contents_from keys n qs)
 same_heads keys n ps qs same = heads_bare keys n ps ∙ ap (λ z. map content_head (contents_from keys n z)) same ∙ sym (heads_bare keys n qs)
 
 other_texts : (k : KeyState) (before : List Edge) (c : Change) (ps qs : List Piece) (s : Skeleton) → map bare ps ≡ map bare qs → IsSkeleton (key_step k before c ps) s → IsSkeleton (key_step k before c qs) s

@@ -190,7 +190,7 @@ entries_weigh keys at (entry ∷ entries) number epoch have fed =
 abbrev pub Sized : Entry → Type 0
 Sized entry = All (λ (key : List ℕ). length key ≡ 32) (drawn_by entry)
 
-follows_fed : (at : Stand) (entries : List Entry) → FollowOn at entries → All Sized entries → AreFed at entries
+pub follows_fed : (at : Stand) (entries : List Entry) → FollowOn at entries → All Sized entries → AreFed at entries
 unfolding drawn_by entry_step
 follows_fed at [] follow sizes = tt
 follows_fed at (Session ∷ entries) follow sizes = (
@@ -203,11 +203,11 @@ follows_fed at (Did request drawn ∷ entries) follow sizes = (
   follows_fed (stand_then at (Did request drawn)) entries follow.1 (All-tail Sized (Did request drawn) entries sizes),
 )
 
-five_given : (drawn : List (List ℕ)) → length (entry_step (stand_then nothing Session) (Made drawn)).given ≡ 5
+pub five_given : (drawn : List (List ℕ)) → length (entry_step (stand_then nothing Session) (Made drawn)).given ≡ 5
 unfolding journals
 five_given drawn = refl
 
-begins_fed : (m : Journal) → BeginsWell m → All Sized m → AreFed nothing m
+pub begins_fed : (m : Journal) → BeginsWell m → All Sized m → AreFed nothing m
 unfolding drawn_by entry_step
 begins_fed [] begins sizes = absurd begins
 begins_fed (Session ∷ []) begins sizes = absurd begins

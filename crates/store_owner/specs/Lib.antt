@@ -3,6 +3,7 @@ pub mod Folds
 pub mod Journals
 pub mod Keys
 pub mod Notes
+pub mod Opening
 pub mod Owned
 pub mod Owning
 pub mod Retitled

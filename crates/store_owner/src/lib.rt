@@ -5,6 +5,7 @@ mod command_notes;
 pub mod folding;
 pub mod holding;
 pub mod laws;
+pub mod opening_laws;
 pub mod owner_laws;
 mod path_ends;
 mod records;
