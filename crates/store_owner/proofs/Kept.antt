@@ -339,6 +339,48 @@ command_kept s (Relocate path into) key a counted tree =
 command_kept s (Grant h path) key a counted tree = granted s h (id_of (node_at s path))
 command_kept s (Revoke h path) key a counted tree = revoked s h (id_of (node_at s path))
 
+-- a holder that stands after a command stood before it, or is made by it
+abbrev pub HolderStood : Store → Request → List ℕ → HolderEntry → Type 0
+HolderStood s r key e = In e s.holders ⊎ ((r ≡ AddHolder) × (e.number ≡ s.holders_made + 1) × (e.key ≡ key))
+
+bytes_holders : (s : Store) (o : Option Node) (path bytes : List ℕ) → (with_bytes_at s o path bytes).holders ≡ s.holders
+unfolding with_bytes_at with_new_file with_file
+bytes_holders s None path bytes = refl
+bytes_holders s (Some (Folder f)) path bytes = refl
+bytes_holders s (Some (File x)) path bytes = refl
+
+less_holders : (s : Store) (o : Option Node) → (without_node s o).holders ≡ s.holders
+unfolding without_node without_folder without_file
+less_holders s None = refl
+less_holders s (Some (Folder f)) = refl
+less_holders s (Some (File x)) = refl
+
+named_holders : (s : Store) (o : Option Node) (name : List ℕ) → (with_name s o name).holders ≡ s.holders
+unfolding with_name with_folder with_file
+named_holders s None name = refl
+named_holders s (Some (Folder f)) name = refl
+named_holders s (Some (File x)) name = refl
+
+moved_holders : (s : Store) (o : Option Node) (into : ℕ) → (moved s o into).holders ≡ s.holders
+unfolding moved with_folder with_file
+moved_holders s None into = refl
+moved_holders s (Some (Folder f)) into = refl
+moved_holders s (Some (File x)) into = refl
+
+pub command_holders : (s : Store) (r : Request) (key : List ℕ) (e : HolderEntry) → In e (effect s r key).holders → HolderStood s r key e
+unfolding effect with_new_holder with_new_folder without_grant
+command_holders s AddHolder key e i = ⊎_elim
+    (λ old. inl old)
+    (λ last. ⊎_elim (λ (q : e ≡ record { number = s.holders_made + 1; key = key }). inr (refl, ap (λ (z : HolderEntry). z.number) q, ap (λ (z : HolderEntry). z.key) q)) (λ n. absurd n) last)
+    ((In-append HolderEntry e s.holders (record { number = s.holders_made + 1; key = key } ∷ [])).0 i)
+command_holders s (MakeFolder path) key e i = inl i
+command_holders s (WriteFile path bytes) key e i = inl (subst (λ (hs : List HolderEntry). In e hs) (bytes_holders s (node_at s path) path bytes) i)
+command_holders s (Remove path) key e i = inl (subst (λ (hs : List HolderEntry). In e hs) (less_holders s (node_at s path)) i)
+command_holders s (Rename path name) key e i = inl (subst (λ (hs : List HolderEntry). In e hs) (named_holders s (node_at s path) name) i)
+command_holders s (Relocate path into) key e i = inl (subst (λ (hs : List HolderEntry). In e hs) (moved_holders s (node_at s path) (id_of (node_at s into))) i)
+command_holders s (Grant h path) key e i = inl i
+command_holders s (Revoke h path) key e i = inl i
+
 -- so does the making of the root
 pub root_kept : IsKept no_store root_store (change_of no_store Root).wanted (pieces_of Root root_store)
 unfolding pieces_of change_of no_change folder_piece folder_entry root_store no_store text_of

@@ -11,6 +11,7 @@ pub mod Grown
 pub mod Kept
 pub mod LogsWalked
 pub mod NotesTold
+pub mod OpenedKeys
 pub mod OwnerKeeps
 pub mod Published
 pub mod Ready

@@ -1,5 +1,5 @@
 -- What holds of the records of a valid journal's log.
-use Rattle.std.proofs.Common.{◌≡◌, ⊎_elim, ℕ, ◌+◌, ◌≤◌, ◌<◌, true, ◌&&◌, List, [], ◌∷◌, ◌++◌, map, length, All, None, append_assoc, append-nil, arith, refl, sym, ap, subst, ◌∙◌}
+use Rattle.std.proofs.Common.{◌≡◌, ◌⊎◌, ⊎_elim, inl, inr, cond, ℕ, ◌+◌, ◌≤◌, ◌<◌, true, ◌&&◌, List, [], ◌∷◌, ◌++◌, map, length, All, Some, None, append_assoc, append-nil, arith, refl, sym, ap, subst, ◌∙◌}
 use Rattle.std.specs.Prelude.{nat_lt}
 use Rattle.std.specs.List.{flat_map}
 use Rattle.std.proofs.lemmas.Bool.{and_parts, ltb-true}
@@ -10,13 +10,14 @@ use Rattle.commit_journal.specs.Placed.{PlainBody, PlainPlaced, Commands, NewEpo
 use Rattle.commit_journal.specs.Places.{content_offset, link_offset}
 use Rattle.cry_base.specs.Refusing.{refusal_of}
 use Rattle.cry_base.specs.Requests.{Request}
+use Rattle.cry_base.specs.Requests.Request.{AddHolder}
 use Rattle.cry_base.specs.Sets.{In}
 use Rattle.cry_base.specs.Stepping.{effect}
-use Rattle.cry_base.specs.Store.{Store, no_store, root_store}
+use Rattle.cry_base.specs.Store.{Store, HolderEntry, no_store, root_store}
 use Rattle.cry_base.specs.declared.roles.Role.{Role}
 use Rattle.cry_base.specs.declared.roles.Role.TheVariants.{Owner}
 use Rattle.holder_client.specs.Placing.{PlacedContent, PlacedLink, body_contents, body_links, log_contents, log_links}
-use Rattle.move_plan.specs.Change.{change_of}
+use Rattle.move_plan.specs.Change.{Change, change_of, no_change}
 use Rattle.move_plan.specs.Fitting.{fits}
 use Rattle.move_plan.specs.Noting.{note_of}
 use Rattle.record_format.specs.Noted.{Note}
@@ -24,24 +25,29 @@ use Rattle.record_format.specs.Noted.Note.{Root}
 use Rattle.public_fold.specs.Journal.{Entry, Journal, Stand, nothing, first_key, note_step, entry_step, entry_store, stand_then, stand_after, store_of, keys_of}
 use Rattle.public_fold.specs.Journal.Entry.{Session, Made, Did}
 use Rattle.public_fold.specs.Keyed.{KeysHold}
-use Rattle.public_fold.specs.KeyStep.{KeyState, Stepped, next_epoch, no_keys}
-use Rattle.public_fold.specs.Records.{Link, pieces_of}
+use Rattle.public_fold.specs.KeyStep.{KeyState, Stepped, given, key_step, keys_then, keys_without, newest, next_epoch, next_serial, no_keys, numbered, published, renewed, step_with}
+use Rattle.public_fold.specs.Records.{Link, Piece, pieces_of}
+use Rattle.role_graph.specs.Edges.{edges}
+use Rattle.role_graph.specs.Roles.{holder_role, role_id, same_role, variant_of}
+use Rattle.role_graph.proofs.Comparing.{same_role_tells}
 use Rattle.public_fold.specs.StandFits.{all_fit, entry_fits, has_count, note_fits}
 use Rattle.public_fold.specs.Valid.{BeginsWell, FollowOn, IsValid}
 use Rattle.public_fold.proofs.Accepting.{accepted}
 use Rattle.public_fold.proofs.AllFit.{journal_all_fit}
 use Rattle.public_fold.proofs.KeyMoves.{IsSound, command_moves, effect_sound, epoch_holds, nothing_holds, root_moves, root_sound}
-use Rattle.public_fold.proofs.KeepingKeys.{keys_after}
+use Rattle.public_fold.proofs.KeepingKeys.{IsMove, keys_after, planned_told}
+use Rattle.public_fold.proofs.Serials.{numbered-length}
 use Rattle.store_owner.specs.Bytes.{bodies_from, bodies_of, content_record, entry_body, link_record, step_payload}
 use Rattle.store_owner.specs.Bytes as bytes
 use Rattle.store_owner.specs.Folds.{log_of}
-use Rattle.store_owner.specs.Keys.{AreWhole, all_keys, drawn_by, entry_keys, keys_from, owner_parts, with_bytes}
+use Rattle.store_owner.specs.Keys.{AreWhole, all_keys, bytes_in, drawn_by, entry_keys, key_bytes, keys_from, owner_parts, with_bytes}
 use Rattle.store_owner.specs.Notes.{declared_note}
 use Rattle.store_owner.specs.Opening.{ArePresent, HoldsPresent}
 use Rattle.store_owner.proofs.Counted.{HaveKeys, IsFed, have_at_first, have_then}
-use Rattle.store_owner.proofs.Kept.{command_kept, root_kept}
+use Rattle.store_owner.proofs.Ascending.{drawn_found}
+use Rattle.store_owner.proofs.Kept.{command_holders, command_kept, root_kept}
 use Rattle.store_owner.proofs.Sealable.{fresh_once, pieces_due}
-use Rattle.store_owner.proofs.Walked.{IsWalked, IsZeroOwners, step_walked}
+use Rattle.store_owner.proofs.Walked.{AreHoldersKeyed, IsHolderKeyed, IsWalked, IsZeroOwners, step_walked}
 use Rattle.store_owner.proofs.Weighed.{AreFed, begins_fed}
 
 -- ---- one entry
@@ -62,12 +68,68 @@ session_walked keys s k ls cs is =
         files = λ e i. let x = last.files e i in record { placed = x.placed; is_last = x.is_last; serial = x.serial; is_present = x.is_present; nonce = x.nonce; is_sealed = x.is_sealed };
         holders = λ e i. let x = last.holders e i in record { placed = x.placed; is_last = x.is_last; serial = x.serial; is_present = x.is_present; nonce = x.nonce; is_sealed = x.is_sealed };
       };
+      owner_first = is.owner_first;
+      holders_keyed = is.holders_keyed;
     }
 
 -- an epoch was begun before a note
 begun_from : (at : Stand) (note : Note) (step : Stepped) → note_fits at note step ≡ true → 1 ≤ at.keys.epoch
 unfolding note_fits
 begun_from at note step fit = ltb-true 0 at.keys.epoch (and_parts (nat_lt 0 at.keys.epoch) (fits at.store note && has_count step) fit).0
+
+-- a new holder's key is the one that was drawn
+key_given : (n : ℕ) (r : Role) (drawn : List (List ℕ)) (rest : List (Role × ℕ)) → length drawn ≡ 1
+    → (q : KeyParts) × In q (with_bytes (numbered n (r ∷ [])) drawn) × (newest (numbered n (r ∷ []) ++ rest) r ≡ Some q.serial) × (q.bytes ≡ first_key drawn)
+unfolding with_bytes numbered newest first_key
+key_given n r [] rest one = absurd (omega (arith, one))
+key_given n r (b ∷ drawn) rest one =
+    (record { id = role_id r; serial = n; bytes = b }, inl refl, ap (λ t. cond t (Some n) (newest rest r)) ((same_role_tells r r).1 refl), refl)
+
+nothing_in : (X : Type 0) (xs : List X) → ((x : X) → In x xs → ⊥) → xs ≡ []
+nothing_in X [] none = refl
+nothing_in X (x ∷ xs) none = absurd (none x (inl refl))
+
+holder_drawn : (s t : Store) (k : KeyState) (h : ℕ) (c : Change) (links : List Link) (ps : List Piece) (drawn : List (List ℕ)) → IsMove s c t → KeysHold s k links → c.wanted ≡ [] → c.fresh ≡ holder_role h ∷ []
+    → length drawn ≡ length (key_step k (edges s) c ps).given
+    → (q : KeyParts) × In q (with_bytes (key_step k (edges s) c ps).given drawn) × (newest (key_step k (edges s) c ps).after.keys (holder_role h) ≡ Some q.serial) × (q.bytes ≡ first_key drawn)
+unfolding key_step step_with published keys_then given
+holder_drawn s t k h c links ps drawn mv ok wants fresh many =
+    let plan = renewed k (edges s) c in
+    let none : plan ≡ [] = nothing_in Role plan (λ r i. subst (λ ws. In ((planned_told s t k c links mv ok r).0 i).1.0 ws) wants ((planned_told s t k c links mv ok r).0 i).1.1) in
+    let one : plan ++ c.fresh ≡ holder_role h ∷ [] = (λ i. none i ++ fresh i) in
+    let n = next_serial k in
+    let rest = keys_without (plan ++ c.gone) k.keys in
+    let count : length drawn ≡ 1 = many ∙ numbered-length Role n (plan ++ c.fresh) ∙ ap length one in
+    subst (λ (rs : List Role). (q : KeyParts) × In q (with_bytes (numbered n rs) drawn) × (newest (numbered n rs ++ rest) (holder_role h) ≡ Some q.serial) × (q.bytes ≡ first_key drawn)) (sym one)
+    (key_given n (holder_role h) drawn rest count)
+
+abbrev IsDrawn : Stand → Request → List (List ℕ) → Type 0
+IsDrawn at r drawn =
+    (q : KeyParts) × In q (entry_keys at (Did r drawn)) × (newest (entry_step at (Did r drawn)).after.keys (holder_role (at.store.holders_made + 1)) ≡ Some q.serial) × (q.bytes ≡ first_key drawn)
+
+holder_entry_drawn : (at : Stand) (drawn : List (List ℕ)) (links : List Link) → IsSound at.store → KeysHold at.store at.keys links → refusal_of at.store AddHolder 1048576 ≡ None
+    → IsFed at (Did AddHolder drawn) → IsDrawn at AddHolder drawn
+unfolding entry_keys drawn_by entry_step note_step note_of change_of no_change
+holder_entry_drawn at drawn links sound ok none fed =
+    let s = at.store in
+    let h = s.holders_made + 1 in
+    let note = note_of s AddHolder [] in
+    holder_drawn s (effect s AddHolder (first_key drawn)) at.keys h (change_of s note) links (pieces_of note (effect s AddHolder (first_key drawn))) drawn
+    (command_moves s AddHolder (first_key drawn) [] 1048576 none sound) ok refl refl fed.many
+
+did_drawn : (at : Stand) (r : Request) (drawn : List (List ℕ)) (links : List Link) → r ≡ AddHolder → IsSound at.store → KeysHold at.store at.keys links → refusal_of at.store r 1048576 ≡ None
+    → IsFed at (Did r drawn) → IsDrawn at r drawn
+did_drawn at r drawn links is sound ok none fed =
+    subst (λ z. IsDrawn at z drawn) (sym is)
+    (holder_entry_drawn at drawn links sound ok (subst (λ z. refusal_of at.store z 1048576 ≡ None) is none) (subst (λ z. IsFed at (Did z drawn)) is fed))
+
+did_holders : (at : Stand) (r : Request) (drawn : List (List ℕ)) (links : List Link) → IsSound at.store → KeysHold at.store at.keys links → refusal_of at.store r 1048576 ≡ None → IsFed at (Did r drawn)
+    → (e : HolderEntry) → In e (effect at.store r (first_key drawn)).holders → In e at.store.holders ⊎ IsHolderKeyed (entry_keys at (Did r drawn)) (entry_step at (Did r drawn)).after e
+did_holders at r drawn links sound ok none fed e i = ⊎_elim
+    (λ old. inl old)
+    (λ new. let w = did_drawn at r drawn links new.0 sound ok none fed in
+    inr (w.0, w.1, ap (λ n. newest (entry_step at (Did r drawn)).after.keys (holder_role n)) new.1 ∙ w.2, w.3 ∙ sym new.2))
+    (command_holders at.store r (first_key drawn) e i)
 
 did_walked : (keys : List KeyParts) (at : Stand) (r : Request) (drawn : List (List ℕ)) (links : List Link) (batch place : ℕ) (ls : List PlacedLink) (cs : List PlacedContent) → IsSound at.store → KeysHold at.store at.keys links
     → refusal_of at.store r 1048576 ≡ None → entry_fits at (Did r drawn) ≡ true → IsFed at (Did r drawn) → IsWalked keys at.store at.keys ls cs
@@ -82,11 +144,16 @@ did_walked keys at r drawn links batch place ls cs sound ok none fit fed is =
     let whole = step_payload (keys ++ more) (declared_note (note_of s r (check_of (first_key drawn)))) (entry_step at (Did r drawn)) in
     step_walked keys more s t at.keys (change_of s note) links (pieces_of note t) (command_moves s r (first_key drawn) [] 1048576 none sound) ok (fresh_once s note) (pieces_due note t)
     batch (place + link_offset whole 0) (place + content_offset whole 0) ls cs (begun_from at note (entry_step at (Did r drawn)) fit) (have_then keys at (Did r drawn) is.have fed)
-    (command_kept s r (first_key drawn) (accepted s r 1048576 none) sound.counted (effect_sound s r (first_key drawn) 1048576 none sound).tree) is
+    (command_kept s r (first_key drawn) (accepted s r 1048576 none) sound.counted (effect_sound s r (first_key drawn) 1048576 none sound).tree)
+    (did_holders at r drawn links sound ok none fed) is
 
 -- before the root is made
 abbrev begun : Stand
 begun = stand_then nothing Session
+
+no_holders : (keys : List KeyParts) (k : KeyState) (e : HolderEntry) → In e root_store.holders → In e no_store.holders ⊎ IsHolderKeyed keys k e
+unfolding root_store no_store
+no_holders keys k e i = absurd i
 
 made_walked : (keys : List KeyParts) (drawn : List (List ℕ)) (batch place : ℕ) → entry_fits begun (Made drawn) ≡ true → IsFed begun (Made drawn) → IsWalked keys begun.store begun.keys [] []
     → IsWalked (bytes.keys_then keys begun (Made drawn)) (stand_then begun (Made drawn)).store (stand_then begun (Made drawn)).keys
@@ -97,7 +164,7 @@ made_walked keys drawn batch place fit fed is =
     let whole = step_payload (keys ++ more) (declared_note Root) (entry_step begun (Made drawn)) in
     step_walked keys more no_store root_store (next_epoch no_keys) (change_of no_store Root) [] (pieces_of Root root_store) root_moves nothing_holds (fresh_once no_store Root) (pieces_due Root root_store)
     batch (place + link_offset whole 0) (place + content_offset whole 0) [] [] (begun_from begun Root (entry_step begun (Made drawn)) fit) (have_then keys begun (Made drawn) is.have fed)
-    root_kept is
+    root_kept (no_holders more (entry_step begun (Made drawn)).after) is
 
 -- ---- entries
 
@@ -207,12 +274,22 @@ none_first : (owner : List ℕ) → ArePresent (owner_parts owner ∷ []) nothin
 unfolding nothing no_store
 none_first owner = record { folders = λ e i. absurd i; files = λ e i. absurd i; holders = λ e i. absurd i }
 
+owner_at_first : newest nothing.keys.keys Owner ≡ Some 0
+unfolding nothing no_keys newest same_role variant_of role_id
+owner_at_first = refl
+
+no_holder_first : (owner : List ℕ) → AreHoldersKeyed (owner_parts owner ∷ []) nothing.store nothing.keys
+unfolding nothing no_store
+no_holder_first owner e i = absurd i
+
 first_walked : (owner : List ℕ) → length owner ≡ 32 → IsWalked (owner_parts owner ∷ []) nothing.store nothing.keys [] []
 first_walked owner size = record {
   have = have_at_first owner size;
   zero = zero_first;
   each_link = λ p i. absurd i;
   contents_present = none_first owner;
+  owner_first = owner_at_first;
+  holders_keyed = no_holder_first owner;
 }
 
 begun_walked : (owner : List ℕ) → length owner ≡ 32 → IsWalked (bytes.keys_then (owner_parts owner ∷ []) nothing Session) begun.store begun.keys [] []
@@ -279,3 +356,14 @@ journal_walked owner m valid whole = begins owner m whole.owner_size valid.0 (jo
 -- the last contents are those of what stands
 pub journal_contents : (owner : List ℕ) (m : Journal) → IsValid m → AreWhole owner m → HoldsPresent (all_keys owner m) (store_of m) (keys_of m) (log_of owner m)
 journal_contents owner m valid whole = (journal_walked owner m valid whole).contents_present
+
+found_bytes : (owner : List ℕ) (m : Journal) → IsValid m → (q : KeyParts) → In q (all_keys owner m) → bytes_in (all_keys owner m) q.serial ≡ q.bytes
+unfolding key_bytes
+found_bytes owner m valid q i = drawn_found owner m (journal_all_fit m valid) q i
+
+-- so is the key of each holder
+pub journal_holder : (owner : List ℕ) (m : Journal) → IsValid m → AreWhole owner m → (e : HolderEntry) → In e (store_of m).holders
+    → (n : ℕ) × (newest (keys_of m).keys (holder_role e.number) ≡ Some n) × (e.key ≡ bytes_in (all_keys owner m) n)
+journal_holder owner m valid whole e i =
+    let w = (journal_walked owner m valid whole).holders_keyed e i in
+    (w.0.serial, w.2, sym w.3 ∙ sym (found_bytes owner m valid w.0 w.1))

@@ -27,7 +27,7 @@ use Rattle.record_format.specs.Plain.{PlainContent}
 use Rattle.record_format.specs.Sizes.{content_size}
 use Rattle.record_format.specs.declared.link.LinkRecord.{LinkRecord}
 use Rattle.role_graph.specs.Edges.{edges}
-use Rattle.role_graph.specs.Roles.{data_of, file_role, is_root_role, is_sealing_role, role_id, same_role, variant_of}
+use Rattle.role_graph.specs.Roles.{data_of, file_role, holder_role, is_root_role, is_sealing_role, role_id, same_role, variant_of}
 use Rattle.role_graph.specs.Tabled.{row_of}
 use Rattle.role_graph.proofs.Comparing.{same_role_tells}
 use Rattle.public_fold.specs.Keyed.{HasRole, KeysHold}
@@ -230,12 +230,21 @@ left_last keys more k after n batch at old ps role kind object text have same no
 
 -- ---- a step
 
+-- the key of a holder is the one that was drawn as the present key of its role
+abbrev pub IsHolderKeyed : List KeyParts → KeyState → HolderEntry → Type 0
+IsHolderKeyed keys k e = (q : KeyParts) × In q keys × (newest k.keys (holder_role e.number) ≡ Some q.serial) × (q.bytes ≡ e.key)
+
+abbrev pub AreHoldersKeyed : List KeyParts → Store → KeyState → Type 0
+AreHoldersKeyed keys s k = (e : HolderEntry) → In e s.holders → IsHolderKeyed keys k e
+
 -- each link is sealed under keys that there are, and the last contents are the present ones
 pub record IsWalked (keys : List KeyParts) (s : Store) (k : KeyState) (links : List PlacedLink) (contents : List PlacedContent) : Type 0 where
   pub have : HaveKeys keys k
   pub zero : IsZeroOwners k.keys
   pub each_link : (p : PlacedLink) → In p links → IsLinkUnder keys p.link
   pub contents_present : ArePresent keys s k contents
+  pub owner_first : newest k.keys Owner ≡ Some 0
+  pub holders_keyed : AreHoldersKeyed keys s k
 
 no_zero : (k : KeyState) (n : ℕ) → 1 ≤ k.epoch → next_serial k ≤ n → n ≡ 0 → ⊥
 unfolding next_serial
@@ -261,6 +270,18 @@ module _ (keys more : List KeyParts) (s t : Store) (k : KeyState) (c : Change) (
   owner_kept : newest (key_step k (edges s) c ps).after.keys Owner ≡ newest k.keys Owner
   unfolding is_root_role variant_of
   owner_kept = not_keyed Owner tt tt (λ i. false≢true (sym (marked_no_root s t k c links mv ok Owner ((planned_told s t k c links mv ok Owner).0 i).0)))
+
+  root_kept : (r : Role) → is_root_role r ≡ true → HasRole s r → HasRole t r → newest (key_step k (edges s) c ps).after.keys r ≡ newest k.keys r
+  root_kept r root old new = not_keyed r old new (λ i. false≢true (sym (marked_no_root s t k c links mv ok r ((planned_told s t k c links mv ok r).0 i).0) ∙ root))
+
+  -- a holder stood, or its key is drawn now
+  step_holders : AreHoldersKeyed keys s k → ((e : HolderEntry) → In e t.holders → In e s.holders ⊎ IsHolderKeyed more (key_step k (edges s) c ps).after e) → AreHoldersKeyed (keys ++ more) t (key_step k (edges s) c ps).after
+  unfolding holder_role is_root_role variant_of
+  step_holders keyed_before now e i = ⊎_elim
+      (λ old. let w = keyed_before e old in
+      (w.0, (In-append KeyParts w.0 keys more).1 (inl w.1), root_kept (holder_role e.number) refl (e, old, refl) (e, i, refl) ∙ w.2, w.3))
+      (λ new. (new.0, (In-append KeyParts new.0 keys more).1 (inr new.1), new.2, new.3))
+      (now e i)
 
   keyed : (r : Role) → HasRole t r → (n : ℕ) × (newest (key_step k (edges s) c ps).after.keys r ≡ Some n)
   keyed r = ((keeping.keys_after s t k c links mv ok ps).keyed r).0
@@ -305,9 +326,10 @@ module _ (keys more : List KeyParts) (s t : Store) (k : KeyState) (c : Change) (
       record { folders = folder_last n batch at old have kept last; files = file_last n batch at old have kept last; holders = holder_last n batch at old have kept last }
 
   -- what holds of the records lasts through a step
-  pub step_walked : (batch first second : ℕ) (ls : List PlacedLink) (cs : List PlacedContent) → 1 ≤ k.epoch → HaveKeys (keys ++ more) (key_step k (edges s) c ps).after → IsKept s t c.wanted ps → IsWalked keys s k ls cs
+  pub step_walked : (batch first second : ℕ) (ls : List PlacedLink) (cs : List PlacedContent) → 1 ≤ k.epoch → HaveKeys (keys ++ more) (key_step k (edges s) c ps).after → IsKept s t c.wanted ps
+      → ((e : HolderEntry) → In e t.holders → In e s.holders ⊎ IsHolderKeyed more (key_step k (edges s) c ps).after e) → IsWalked keys s k ls cs
       → IsWalked (keys ++ more) t (key_step k (edges s) c ps).after (ls ++ links_at batch first (map (link_record (keys ++ more)) (key_step k (edges s) c ps).links)) (cs ++ contents_at batch second (map (content_record (keys ++ more)) (key_step k (edges s) c ps).contents))
-  step_walked batch first second ls cs begun have kept is =
+  step_walked batch first second ls cs begun have kept holders is =
       let step = key_step k (edges s) c ps in
       let zero = zero_after begun is.zero in
       record {
@@ -318,4 +340,6 @@ module _ (keys more : List KeyParts) (s t : Store) (k : KeyState) (c : Change) (
             (λ new. new_links (keys ++ more) step batch first (step_sealable s t k c links ps mv ok once due) have zero p new)
             ((In-append PlacedLink p ls (links_at batch first (map (link_record (keys ++ more)) step.links))).0 i);
         contents_present = step_contents batch second cs is.have kept is.contents_present;
+        owner_first = owner_kept ∙ is.owner_first;
+        holders_keyed = step_holders is.holders_keyed holders;
       }

@@ -1,5 +1,5 @@
--- What the last contents of a log hold, and under which keys they were sealed. This project's own, docs/FORMAT.md, "Reading".
-use Rattle.std.specs.Prelude.{◌≡◌, ℕ, List, Some}
+-- What the last contents of a journal's log hold, under which keys they were sealed, and which keys are opened. This project's own, docs/FORMAT.md, "Reading".
+use Rattle.std.specs.Prelude.{◌≡◌, ℕ, List, [], ◌∷◌, Some}
 use Rattle.chacha_seal.specs.Keys.{KeyParts}
 use Rattle.commit_journal.specs.Placed.{PlainPlaced}
 use Rattle.cry_base.specs.Sets.{In}
@@ -8,9 +8,12 @@ use Rattle.cry_base.specs.declared.roles.Role.{Role}
 use Rattle.cry_base.specs.declared.roles.Role.TheVariants.{Owner}
 use Rattle.holder_client.specs.Found.{is_of}
 use Rattle.holder_client.specs.Placing.{PlacedContent, last_one, log_contents}
+use Rattle.holder_client.specs.Visiting.{Opened, Reading, key_of}
 use Rattle.key_links.specs.Sealed.{sealed_content}
+use Rattle.public_fold.specs.Journal.{Journal}
 use Rattle.public_fold.specs.KeyStep.{KeyState, newest}
 use Rattle.role_graph.specs.Roles.{data_of, file_role, role_id}
+use Rattle.store_owner.specs.Folds.{log_of, public_stand}
 use Rattle.store_owner.specs.Keys.{bytes_in}
 use Rattle.store_owner.specs.Texting.{file_text}
 
@@ -36,3 +39,14 @@ pub record ArePresent (keys : List KeyParts) (s : Store) (k : KeyState) (content
 -- so for the contents of a log
 abbrev pub HoldsPresent : List KeyParts → Store → KeyState → List PlainPlaced → Type 0
 HoldsPresent keys s k log = ArePresent keys s k (log_contents log)
+
+-- a journal's log with what its payloads make, and what is open of it before the owner's first visit
+abbrev pub reading_of : List ℕ → Journal → Reading
+reading_of owner m = record { log = log_of owner m; stand = public_stand m }
+
+abbrev pub owner_starts : List ℕ → Journal → Opened
+owner_starts owner m = record { keys = (Owner, owner) ∷ []; store = (public_stand m).store }
+
+-- each key that is open is the present one of its role: the bytes that were drawn for its serial
+abbrev pub AreDrawn : List KeyParts → KeyState → List (Role × List ℕ) → Type 0
+AreDrawn keys k opened = (role : Role) (bytes : List ℕ) → key_of opened role ≡ Some bytes → (n : ℕ) × (newest k.keys role ≡ Some n) × (bytes ≡ bytes_in keys n)

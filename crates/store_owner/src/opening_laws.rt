@@ -1,10 +1,15 @@
 //! Laws of what opening finds in the bytes of a journal.
-ghost use Rattle.std.specs.Prelude.{◌≡◌, ℕ, List, Ok};
+ghost use Rattle.std.specs.Prelude.{◌≡◌, ℕ, List, [], ◌∷◌, Ok};
+ghost use Rattle.cry_base.specs.Sets.{In};
+ghost use Rattle.cry_base.specs.Store.{HolderEntry};
+ghost use Rattle.holder_client.specs.Visiting.{Opened, visit_all};
+ghost use Rattle.holder_client.specs.Visits.{Visit};
 ghost use Rattle.public_fold.specs.Journal.{Journal, keys_of, store_of};
 ghost use Rattle.public_fold.specs.Valid.{IsValid};
+ghost use Rattle.role_graph.specs.Roles.{holder_role};
 ghost use Rattle.store_owner.specs.Folds.{fold_of, log_of, public_stand};
 ghost use Rattle.store_owner.specs.Keys.{AreWhole, all_keys};
-ghost use Rattle.store_owner.specs.Opening.{HoldsPresent};
+ghost use Rattle.store_owner.specs.Opening.{AreDrawn, HoldsPresent, owner_starts, reading_of};
 
 /// Law: the payloads of a valid journal fit, one after another, and make what stands after it: its store without names, bytes
 /// and holders' keys, and its keys with their serials and marks.
@@ -16,4 +21,15 @@ pub fn valid_journals_are_followed()
 /// and bytes, or key, sealed under the present key of its role.
 pub fn last_contents_are_present()
     ensures { (owner : List ℕ) (m : Journal) → IsValid m → AreWhole owner m → HoldsPresent (all_keys owner m) (store_of m) (keys_of m) (log_of owner m) }
+{}
+
+/// Law: each key that is opened of a valid journal is the one that was drawn as the present key of its role, whatever is
+/// visited in whatever order: for the owner, for each holder with the holder's key, and for whoever begins with such keys.
+pub fn opened_keys_are_the_journals()
+    ensures owner { (owner : List ℕ) (m : Journal) → IsValid m → AreWhole owner m → (visits : List Visit) (after : Opened)
+        → visit_all (reading_of owner m) visits (owner_starts owner m) ≡ Ok after → AreDrawn (all_keys owner m) (keys_of m) after.keys }
+    ensures anyone { (owner : List ℕ) (m : Journal) → IsValid m → AreWhole owner m → (visits : List Visit) (before after : Opened)
+        → AreDrawn (all_keys owner m) (keys_of m) before.keys → visit_all (reading_of owner m) visits before ≡ Ok after → AreDrawn (all_keys owner m) (keys_of m) after.keys }
+    ensures holder { (owner : List ℕ) (m : Journal) → IsValid m → AreWhole owner m → (e : HolderEntry) → In e (store_of m).holders
+        → AreDrawn (all_keys owner m) (keys_of m) ((holder_role e.number, e.key) ∷ []) }
 {}
