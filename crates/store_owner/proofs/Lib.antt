@@ -12,7 +12,9 @@ pub mod Kept
 pub mod LogsWalked
 pub mod NotesTold
 pub mod OpenedKeys
+pub mod OpenedTexts
 pub mod OwnerKeeps
+pub mod OwnerVisits
 pub mod Published
 pub mod Ready
 pub mod Refused

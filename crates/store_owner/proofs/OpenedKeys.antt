@@ -117,6 +117,16 @@ edge_drawn keys r before after e right drawn done =
     let stands : (e.to, c.0) ∷ before.keys ≡ after.keys = ap (λ (o : Opened). o.keys) (same_ok Opened (record before { keys = (e.to, c.0) ∷ before.keys }) after c.2) in
     subst (AreDrawn keys k) stands (subst (λ (bytes : List ℕ). AreDrawn keys k ((e.to, bytes) ∷ before.keys)) (sym text) (more_drawn keys k before.keys e.to (present k.keys e.to) newer drawn))
 
+-- a key more, and nothing else
+pub key_told : (r : Reading) (o after : Opened) (e : Edge) → visit_edge r o e ≡ Ok after → (bytes : List ℕ) × ((let x : Opened = record o { keys = (e.to, bytes) ∷ o.keys } in x) ≡ after)
+unfolding visit_edge with_key
+key_told r o after e done =
+    let a = needed_told (List ℕ) Opened (key_of o.keys e.from) (λ key. needed (link_for r.stand.keys r.log e) (λ l. and_then (open_link l.batch l.at key l.link) (with_key o e.to))) after done in
+    let b = needed_told PlacedLink Opened (link_for r.stand.keys r.log e) (λ l. and_then (open_link l.batch l.at a.0 l.link) (with_key o e.to)) after a.2 in
+    let p : PlacedLink = b.0 in
+    let c = then_told (List ℕ) Opened (open_link p.batch p.at a.0 p.link) (with_key o e.to) after b.2 in
+    (c.0, same_ok Opened (record o { keys = (e.to, c.0) ∷ o.keys }) after c.2)
+
 -- ---- texts leave the keys
 
 -- what a visit of a text went through
@@ -173,20 +183,20 @@ is_key_visit (ToName f) = false
 is_key_visit (ToFile x) = false
 is_key_visit (ToHolder h) = false
 
-name_no_key : (f : ℕ) (e : Edge) → ToName f ≡ ToKey e → ⊥
+pub name_no_key : (f : ℕ) (e : Edge) → ToName f ≡ ToKey e → ⊥
 unfolding is_key_visit
 name_no_key f e q = false≢true (ap is_key_visit q)
 
-file_no_key : (x : ℕ) (e : Edge) → ToFile x ≡ ToKey e → ⊥
+pub file_no_key : (x : ℕ) (e : Edge) → ToFile x ≡ ToKey e → ⊥
 unfolding is_key_visit
 file_no_key x e q = false≢true (ap is_key_visit q)
 
-holder_no_key : (h : ℕ) (e : Edge) → ToHolder h ≡ ToKey e → ⊥
+pub holder_no_key : (h : ℕ) (e : Edge) → ToHolder h ≡ ToKey e → ⊥
 unfolding is_key_visit
 holder_no_key h e q = false≢true (ap is_key_visit q)
 
 -- a visit that opens no key
-text_keys : (r : Reading) (v : Visit) (o after : Opened) → visit r v o ≡ Ok after → ((e : Edge) → v ≡ ToKey e → ⊥) → o.keys ≡ after.keys
+pub text_keys : (r : Reading) (v : Visit) (o after : Opened) → visit r v o ≡ Ok after → ((e : Edge) → v ≡ ToKey e → ⊥) → o.keys ≡ after.keys
 unfolding visit
 text_keys r (ToKey e) o after done other = absurd (other e refl)
 text_keys r (ToName f) o after done other =
@@ -201,7 +211,7 @@ text_keys r (ToHolder h) o after done other =
 
 -- ---- all visits
 
-visit_drawn : (keys : List KeyParts) (r : Reading) (v : Visit) (before after : Opened) → ((p : PlacedLink) → In p (log_links r.log) → IsLinkUnder keys p.link) → AreDrawn keys r.stand.keys before.keys
+pub visit_drawn : (keys : List KeyParts) (r : Reading) (v : Visit) (before after : Opened) → ((p : PlacedLink) → In p (log_links r.log) → IsLinkUnder keys p.link) → AreDrawn keys r.stand.keys before.keys
     → visit r v before ≡ Ok after → AreDrawn keys r.stand.keys after.keys
 unfolding visit
 visit_drawn keys r (ToKey e) before after right drawn done = edge_drawn keys r before after e right drawn done

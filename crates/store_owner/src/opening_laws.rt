@@ -1,15 +1,17 @@
 //! Laws of what opening finds in the bytes of a journal.
-ghost use Rattle.std.specs.Prelude.{◌≡◌, ℕ, List, [], ◌∷◌, Ok};
+ghost use Rattle.std.specs.Prelude.{◌≡◌, ◌≢◌, ℕ, List, [], ◌∷◌, Ok, Some};
 ghost use Rattle.cry_base.specs.Sets.{In};
 ghost use Rattle.cry_base.specs.Store.{HolderEntry};
-ghost use Rattle.holder_client.specs.Visiting.{Opened, visit_all};
+ghost use Rattle.cry_base.specs.declared.roles.Role.{Role};
+ghost use Rattle.holder_client.specs.Visiting.{Opened, key_of, visit_all};
 ghost use Rattle.holder_client.specs.Visits.{Visit};
 ghost use Rattle.public_fold.specs.Journal.{Journal, keys_of, store_of};
+ghost use Rattle.public_fold.specs.KeyStep.{newest};
 ghost use Rattle.public_fold.specs.Valid.{IsValid};
 ghost use Rattle.role_graph.specs.Roles.{holder_role};
 ghost use Rattle.store_owner.specs.Folds.{fold_of, log_of, public_stand};
-ghost use Rattle.store_owner.specs.Keys.{AreWhole, all_keys};
-ghost use Rattle.store_owner.specs.Opening.{AreDrawn, HoldsPresent, owner_starts, reading_of};
+ghost use Rattle.store_owner.specs.Keys.{AreWhole, all_keys, bytes_in};
+ghost use Rattle.store_owner.specs.Opening.{AreDrawn, HoldsPresent, owner_starts, owner_visits, reading_of, seen_by};
 
 /// Law: the payloads of a valid journal fit, one after another, and make what stands after it: its store without names, bytes
 /// and holders' keys, and its keys with their serials and marks.
@@ -32,4 +34,23 @@ pub fn opened_keys_are_the_journals()
         → AreDrawn (all_keys owner m) (keys_of m) before.keys → visit_all (reading_of owner m) visits before ≡ Ok after → AreDrawn (all_keys owner m) (keys_of m) after.keys }
     ensures holder { (owner : List ℕ) (m : Journal) → IsValid m → AreWhole owner m → (e : HolderEntry) → In e (store_of m).holders
         → AreDrawn (all_keys owner m) (keys_of m) ((holder_role e.number, e.key) ∷ []) }
+{}
+
+/// Law: the owner's visits open the present key of every role but the holders'.
+pub fn owners_open_every_key()
+    ensures { (owner : List ℕ) (m : Journal) → IsValid m → AreWhole owner m → (after : Opened) → visit_all (reading_of owner m) (owner_visits m) (owner_starts owner m) ≡ Ok after
+        → (role : Role) (n : ℕ) → newest (keys_of m).keys role ≡ Some n → ((h : ℕ) → role ≢ holder_role h) → key_of after.keys role ≡ Some (bytes_in (all_keys owner m) n) }
+{}
+
+/// Law: what visits show of a valid journal is its store, as far as they go: the names, files and holders' keys that they are
+/// to, and of all else what everyone may see. So the owner's visits show the whole store. The key of each holder there is
+/// the one that was drawn as the present key of the holder's role.
+pub fn opened_texts_are_the_journals()
+    ensures owner { (owner : List ℕ) (m : Journal) → IsValid m → AreWhole owner m → (after : Opened)
+        → visit_all (reading_of owner m) (owner_visits m) (owner_starts owner m) ≡ Ok after → after.store ≡ store_of m }
+    ensures anyone { (owner : List ℕ) (m : Journal) → IsValid m → AreWhole owner m → (visits : List Visit) (before after : Opened)
+        → AreDrawn (all_keys owner m) (keys_of m) before.keys → before.store ≡ (public_stand m).store
+        → visit_all (reading_of owner m) visits before ≡ Ok after → after.store ≡ seen_by visits (store_of m) }
+    ensures holders { (owner : List ℕ) (m : Journal) → IsValid m → AreWhole owner m → (e : HolderEntry) → In e (store_of m).holders
+        → (n : ℕ) × (newest (keys_of m).keys (holder_role e.number) ≡ Some n) × (e.key ≡ bytes_in (all_keys owner m) n) }
 {}
