@@ -1,3 +1,4 @@
+pub mod Applying
 pub mod Bytes
 pub mod Folds
 pub mod Journals
@@ -7,6 +8,7 @@ pub mod Opening
 pub mod Owned
 pub mod Owning
 pub mod Retitled
+pub mod Sound
 pub mod Ringing
 pub mod Sealing
 pub mod Script

@@ -1,9 +1,8 @@
 -- What an owner keeps in memory, and which journal it stands for. This project's own, docs/MODEL.md.
-use Rattle.std.specs.Prelude.{◌≡◌, ℕ, Bool, cond, List, map, Option, Some, None}
-use Rattle.chacha_seal.specs.Sealing.{check_of}
+use Rattle.std.specs.Prelude.{◌≡◌, ℕ, Bool, cond, List, Option, Some, None}
 use Rattle.chacha_seal.specs.Serials.{Counting}
 use Rattle.commit_journal.specs.Journals.{IsJournalOf, JournalState}
-use Rattle.cry_base.specs.Store.{HolderEntry}
+use Rattle.cry_base.specs.declared.limits.Limits.{Limits}
 use Rattle.folder_nodes.specs.Titles.{Titles, tree_store}
 use Rattle.key_links.specs.Ringed.{Ringed}
 use Rattle.public_fold.specs.Journal.{Journal, keys_of, store_of}
@@ -17,7 +16,7 @@ use Rattle.store_owner.specs.Owning.{IsTreeOf}
 use Rattle.store_owner.specs.Sealing.{HoldsKeys}
 
 -- the owner's key; the journal; what everyone may see; the names and bytes; the present keys; the counter of this session's
--- epoch, where it has begun one
+-- epoch, where it has begun one; the most bytes that a file may have
 pub record OwnerView : Type 0 where
   pub key : List ℕ
   pub journal : JournalState
@@ -25,20 +24,24 @@ pub record OwnerView : Type 0 where
   pub names : Titles
   pub ring : Ringed
   pub counter : Option Counting
+  pub file_bytes : ℕ
+
+-- the sizes that the owner keeps to
+abbrev pub limits_in : OwnerView → Limits
+limits_in o = record { store_bytes = o.journal.limit; file_bytes = o.file_bytes }
 
 -- the counter that gives the next serial
 abbrev pub counting : KeyState → Counting
 counting k = record { epoch = k.epoch; count = k.count }
 
--- all of it is what the entries leave: the batches, the public stand with the checks of the holders' keys, the names and bytes,
--- and the present keys. The session has a counter once it has begun its epoch
+-- all of it is what the entries leave: the batches, the public stand, the names and bytes, and the present keys. The session
+-- has a counter once it has begun its epoch
 pub record IsOwnerOf (m : Journal) (o : OwnerView) : Type 0 where
   pub valid : IsValid m
   pub whole_keys : AreWhole o.key m
   pub same_key : o.journal.owner ≡ o.key
   pub stands : IsJournalOf (batches_of o.key m) o.journal
   pub seen : IsSeenAs o.state (public_stand m)
-  pub checks : o.state.checks ≡ map (λ (e : HolderEntry). check_of e.key) (store_of m).holders
   pub tree : IsTreeOf (tree_store o.state.tree o.names) (store_of m)
   pub holds : HoldsKeys (all_keys o.key m) (keys_of m) o.ring (counting (keys_of m))
   pub counts : o.counter ≡ cond o.journal.has_epoch (Some (counting (keys_of m))) None

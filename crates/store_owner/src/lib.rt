@@ -1,6 +1,8 @@
 //! The owner's side of a store: the bytes of a journal, and what of them a disk may hold.
 #![tactic(auto)]
 
+mod apply_fault;
+pub mod apply_laws;
 mod command_notes;
 pub mod folding;
 pub mod holding;
@@ -15,9 +17,11 @@ pub mod rows;
 pub mod script_laws;
 pub mod script_rows;
 pub mod sealing_laws;
+pub mod sound_laws;
 mod step_records;
 mod step_room;
 mod texts;
 
+pub use apply_fault::ApplyFault;
 pub use step_records::seal_step;
 pub use step_room::StepRoom;

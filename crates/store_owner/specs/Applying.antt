@@ -1,0 +1,132 @@
+-- What a command leaves of an owner and of the disk, and what is answered. This project's own, docs/FORMAT.md, "The key step"
+-- and "Committing".
+use Rattle.std.specs.Prelude.{◌≡◌, ◌<◌, ℕ, ◌+◌, ◌*◌, Bool, true, false, not, cond, List, [], ◌∷◌, ◌++◌, length, replicate, Option, Some, None, Result, Ok, Err, IsTrue, All, is_some}
+use Rattle.std.specs.List.{flat_map}
+use Rattle.chacha_seal.specs.Keys.{KeyParts}
+use Rattle.chacha_seal.specs.Sealing.{check_of}
+use Rattle.chacha_seal.specs.Serials.{Counting}
+use Rattle.commit_journal.specs.Journals.{JournalState, Joins, next_command, next_epoch}
+use Rattle.commit_journal.specs.Standing.{StandsWhole}
+use Rattle.cry_base.specs.Requests.{Request}
+use Rattle.cry_base.specs.Store.{Store}
+use Rattle.cry_base.specs.declared.commands.Refusal.{Refusal}
+use Rattle.cry_base.specs.declared.commands.Reply.{Reply}
+use Rattle.cry_base.specs.declared.commands.Reply.TheVariants as replies
+use Rattle.cry_io.specs.Told.{WhereTold, WhereBothTold}
+use Rattle.folder_nodes.specs.Titles.{tree_store}
+use Rattle.move_plan.specs.Noting.{note_of}
+use Rattle.record_format.specs.Noted.{Note}
+use Rattle.record_format.specs.declared.note.Note.{Note as Declared}
+use Rattle.record_format.specs.Plain.{PlainPayload}
+use Rattle.record_format.specs.Spelling.{spell_payload}
+use Rattle.record_format.specs.Told.{told_note}
+use Rattle.public_fold.specs.Fitted.{told_stand, told_step}
+use Rattle.public_fold.specs.Heads.{IsSkeleton}
+use Rattle.public_fold.specs.Journal.{Journal, Stand, first_key, note_step}
+use Rattle.public_fold.specs.Journal.Entry.{Session, Did}
+use Rattle.public_fold.specs.Lengths.{note_len}
+use Rattle.public_fold.specs.Preparing.{begun}
+use Rattle.public_fold.specs.Standing.{IsSeenAs}
+use Rattle.public_fold.specs.declared.heads.Skeleton.{Skeleton}
+use Rattle.store_owner.specs.declared.apply_fault.ApplyFault.{ApplyFault}
+use Rattle.store_owner.specs.declared.apply_fault.ApplyFault.TheVariants as faults
+use Rattle.store_owner.specs.Bytes.{batches_of, step_payload}
+use Rattle.store_owner.specs.Owned.{IsOwnerOf, OwnerView, limits_in}
+use Rattle.store_owner.specs.Owning.{IsStoreOf, IsTreeOf}
+use Rattle.store_owner.specs.Script.{answer, done_reply, draws_of}
+use Rattle.store_owner.specs.Sealing.{HoldsKeys, IsSealable, IsTold, keys_with}
+use Rattle.store_owner.specs.Sound.{granted_in}
+use Rattle.store_owner.specs.Texting.{AreTitlesAfter, due_key, due_text}
+
+-- the journal after an accepted command: a session is begun before it where none was
+abbrev pub journal_then : Journal → Bool → Request → List (List ℕ) → Journal
+journal_then m has_begun r keys = m ++ cond has_begun [] (Session ∷ []) ++ Did r keys ∷ []
+
+-- the text that a command seals, a new holder's key included
+abbrev pub sealed_text : OwnerView → Request → List (List ℕ) → List ℕ
+sealed_text o r drawn = due_text (tree_store o.state.tree o.names) r ++ due_key r (first_key drawn)
+
+-- the bytes of a payload with this note and this skeleton, whose one content has a text of so many bytes
+abbrev pub skeleton_size : Note → Skeleton → ℕ → ℕ
+skeleton_size note s text = note_len note + 8 + 98 * length s.links.items + (58 + text) * length s.contents.items
+
+-- the owner once more, with other room for what is to come
+pub record HasOtherRoom (old new : OwnerView) : Type 0 where
+  pub key : new.key ≡ old.key
+  pub journal : new.journal ≡ record old.journal { spare = new.journal.spare; room = new.journal.room }
+  pub state : new.state ≡ old.state
+  pub folder_names : new.names.folders ≡ old.names.folders
+  pub file_names : new.names.files ≡ old.names.files
+  pub ring_keys : new.ring.keys ≡ old.ring.keys
+  pub counter : new.counter ≡ old.counter
+  pub file_bytes : new.file_bytes ≡ old.file_bytes
+
+-- What the calls that carry out a command leave, whatever the owner stands for: the note with the check of the drawn key; the
+-- skeleton of its step; the journal with its room, and once the session has its epoch; the counter then, and at the end; the
+-- payload that was sealed and committed.
+pub record IsCarriedOut (r : Request) (drawn : List (List ℕ)) (old new : OwnerView) (was shows : Option (List ℕ)) : Type 0 where
+  pub note : Declared
+  pub skeleton : Skeleton
+  pub payload : PlainPayload
+  pub ready : JournalState
+  pub between : JournalState
+  pub showed : Option (List ℕ)
+  pub starts : Counting
+  pub ends : Counting
+  pub same_key : new.key ≡ old.key
+  pub same_bound : new.file_bytes ≡ old.file_bytes
+  pub drawn_count : length drawn ≡ length skeleton.keys.items
+  pub drawn_sizes : All (λ (key : List ℕ). length key ≡ 32) drawn
+  pub told : (s : Store) → IsStoreOf old.state.tree old.names (granted_in old) s → told_note note ≡ note_of s r (check_of (first_key drawn))
+  pub is_skeleton : (at : Stand) (s : Store) → IsSeenAs old.state at → IsStoreOf old.state.tree old.names (granted_in old) s
+      → IsSkeleton (told_step (begun (not old.journal.has_epoch) at) (note_of s r (replicate 32 0))) skeleton
+  pub seen_then : (at : Stand) (s : Store) → IsSeenAs old.state at → IsStoreOf old.state.tree old.names (granted_in old) s
+      → IsSeenAs new.state (told_stand (begun (not old.journal.has_epoch) at) (note_of s r (replicate 32 0)))
+  pub has_room : ready ≡ record old.journal { spare = ready.spare; room = ready.room }
+  pub begins : cond old.journal.has_epoch ((between ≡ ready) × (showed ≡ was)) (Joins (next_epoch ready) ready between was showed × (between.owner ≡ ready.owner))
+  pub stays_told : is_some showed ≡ is_some was
+  pub starts_as : cond old.journal.has_epoch (old.counter ≡ Some starts) (starts ≡ record { epoch = between.epoch; count = 0 })
+  pub payload_is : (keys : List KeyParts) (at : Stand) (other : Note) (after : Store) → HoldsKeys keys at.keys old.ring starts
+      → IsTold (note_step at other after) skeleton (sealed_text old r drawn) → payload ≡ step_payload (keys_with keys (note_step at other after) drawn) note (note_step at other after)
+  pub keys_then : (keys : List KeyParts) (at : Stand) (other : Note) (after : Store) → HoldsKeys keys at.keys old.ring starts
+      → IsSealable (note_step at other after) → IsSkeleton (note_step at other after) skeleton → HoldsKeys (keys_with keys (note_step at other after) drawn) (note_step at other after).after new.ring ends
+  pub ends_as : new.counter ≡ Some ends
+  pub commits : Joins (next_command between (spell_payload payload)) between new.journal showed shows
+  pub same_owner : new.journal.owner ≡ between.owner
+  pub has_begun : new.journal.has_epoch ≡ true
+  pub same_limit : new.journal.limit ≡ old.journal.limit
+  pub titles_then : (s : Store) → IsTreeOf (tree_store old.state.tree old.names) s → AreTitlesAfter s r old.names new.names
+
+-- An accepted command of an owner who stands for a journal: it drew keys from the next random bytes, its reply has them in their
+-- places, the owner stands for the journal with the command, and so does the disk where it showed the journal.
+pub record IsDone (m : Journal) (r : Request) (reply : Reply) (old new : OwnerView) (left_before left_after was shows : Option (List ℕ)) : Type 0 where
+  pub drawn : List (List ℕ)
+  pub drawn_count : length drawn ≡ draws_of m r
+  pub drawn_sizes : All (λ (key : List ℕ). length key ≡ 32) drawn
+  pub accepted : answer (limits_in old) m old.journal.has_epoch r ≡ None
+  pub reply_is : reply ≡ done_reply m r drawn
+  pub owner_is : IsOwnerOf (journal_then m old.journal.has_epoch r drawn) new
+  pub has_begun : new.journal.has_epoch ≡ true
+  pub same_key : new.key ≡ old.key
+  pub same_limits : limits_in new ≡ limits_in old
+  pub next_bytes : WhereBothTold left_before left_after (λ before after. before ≡ flat_map (λ (key : List ℕ). key) drawn ++ after)
+  pub disk_stands : WhereBothTold was shows (λ x y. StandsWhole old.key (batches_of old.key m) x
+      → StandsWhole old.key (batches_of old.key (journal_then m old.journal.has_epoch r drawn)) y)
+
+-- why a reply refuses, where it does
+abbrev pub why_refused : Reply → Option Refusal
+why_refused (replies.Refused why) = Some why
+why_refused reply = None
+
+-- What a command is answered by an owner who stands for a journal. A refused one changes nothing; after a source that failed
+-- or ended, and for want of memory, the owner is as it was; after a disk that failed its journal is closed.
+abbrev pub Answers : Result Reply ApplyFault → Journal → Request → OwnerView → OwnerView → Option (List ℕ) → Option (List ℕ) → Option (List ℕ) → Option (List ℕ) → Type 0
+Answers (Ok (replies.Refused why)) m r old new left_before left_after was shows = (answer (limits_in old) m old.journal.has_epoch r ≡ Some why) × (new ≡ old)
+Answers (Ok reply) m r old new left_before left_after was shows = IsDone m r reply old new left_before left_after was shows
+Answers (Err (faults.RandomShort left need)) m r old new left_before left_after was shows =
+    (answer (limits_in old) m old.journal.has_epoch r ≡ None) × HasOtherRoom old new × (need ≡ 32 * draws_of m r) × (left < need)
+    × WhereTold left_before (λ before. length before ≡ left) × WhereTold left_after (λ after. after ≡ [])
+Answers (Err faults.RandomFault) m r old new left_before left_after was shows = (answer (limits_in old) m old.journal.has_epoch r ≡ None) × HasOtherRoom old new
+Answers (Err faults.DiskFault) m r old new left_before left_after was shows = (answer (limits_in old) m old.journal.has_epoch r ≡ None) × IsTrue new.journal.is_closed
+Answers (Err faults.Closed) m r old new left_before left_after was shows = IsTrue old.journal.is_closed × (new ≡ old)
+Answers (Err faults.OutOfMemory) m r old new left_before left_after was shows = HasOtherRoom old new

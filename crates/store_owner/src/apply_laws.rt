@@ -1,0 +1,51 @@
+//! Laws of an owner who stands for a journal: what a command takes, and how the owner goes on behind it.
+ghost use Rattle.std.specs.Prelude.{◌≡◌, ◌*◌, ◌++◌, ◌<◌, ◌^◌, ◌≤◌, ℕ, List, None, Option, false, length, not, replicate};
+ghost use Rattle.commit_journal.specs.Journals.{end_with};
+ghost use Rattle.commit_journal.specs.Standing.{StandsWhole};
+ghost use Rattle.cry_base.specs.Refusing.{refusal_of};
+ghost use Rattle.cry_base.specs.Requests.{Request};
+ghost use Rattle.cry_io.specs.Told.{WhereBothTold};
+ghost use Rattle.folder_nodes.specs.Titles.{tree_store};
+ghost use Rattle.move_plan.specs.Noting.{note_of};
+ghost use Rattle.public_fold.specs.Fitted.{told_step};
+ghost use Rattle.public_fold.specs.Heads.{IsSkeleton};
+ghost use Rattle.public_fold.specs.Journal.{Journal, store_of};
+ghost use Rattle.public_fold.specs.Preparing.{begun};
+ghost use Rattle.public_fold.specs.StandFits.{note_fits};
+ghost use Rattle.public_fold.specs.declared.heads.Skeleton.{Skeleton};
+ghost use Rattle.store_owner.specs.Applying.{IsCarriedOut, journal_then, skeleton_size};
+ghost use Rattle.store_owner.specs.Bytes.{batches_of};
+ghost use Rattle.store_owner.specs.Folds.{public_stand};
+ghost use Rattle.store_owner.specs.Owned.{IsOwnerOf, OwnerView, limits_in};
+ghost use Rattle.store_owner.specs.Script.{answer, draws_of, due_end, due_payload};
+ghost use Rattle.store_owner.specs.Texting.{due_key, due_text};
+
+/// Law: an owner who stands for a journal, and carries out a command that is accepted there, stands for the journal with that
+/// command; and where the disk showed the whole of the journal, it shows the whole of it with the command.
+pub fn owners_go_on()
+    ensures owner { (m : Journal) (r : Request) (drawn : List (List ℕ)) (old new : OwnerView) (was shows : Option (List ℕ)) → IsOwnerOf m old
+        → old.journal.limit ≤ 268435456 → old.file_bytes ≤ 1048576 → answer (limits_in old) m old.journal.has_epoch r ≡ None
+        → IsCarriedOut r drawn old new was shows → IsOwnerOf (journal_then m old.journal.has_epoch r drawn) new }
+    ensures disk { (m : Journal) (r : Request) (drawn : List (List ℕ)) (old new : OwnerView) (was shows : Option (List ℕ)) → IsOwnerOf m old
+        → old.journal.limit ≤ 268435456 → old.file_bytes ≤ 1048576 → answer (limits_in old) m old.journal.has_epoch r ≡ None
+        → IsCarriedOut r drawn old new was shows
+        → WhereBothTold was shows (λ x y. StandsWhole old.key (batches_of old.key m) x → StandsWhole old.key (batches_of old.key (journal_then m old.journal.has_epoch r drawn)) y) }
+{}
+
+/// Law: the skeleton that an owner makes of a command that isn't refused tells how many keys it draws and how long its payload
+/// is; the journal tells where it would end; and its note fits, unless it would end past the largest store.
+pub fn commands_are_measured()
+    ensures payload { (m : Journal) (r : Request) (o : OwnerView) (s : Skeleton) → IsOwnerOf m o → refusal_of (store_of m) r o.file_bytes ≡ None
+        → IsSkeleton (told_step (begun (not o.journal.has_epoch) (public_stand m)) (note_of (store_of m) r (replicate 32 0))) s
+        → skeleton_size (note_of (store_of m) r (replicate 32 0)) s (length (due_text (tree_store o.state.tree o.names) r ++ due_key r (replicate 32 0))) ≡ due_payload m r }
+    ensures draws { (m : Journal) (r : Request) (o : OwnerView) (s : Skeleton) → IsOwnerOf m o → refusal_of (store_of m) r o.file_bytes ≡ None
+        → IsSkeleton (told_step (begun (not o.journal.has_epoch) (public_stand m)) (note_of (store_of m) r (replicate 32 0))) s
+        → length s.keys.items ≡ draws_of m r }
+    ensures few { (m : Journal) (r : Request) (o : OwnerView) → IsOwnerOf m o → o.file_bytes ≤ 1048576 → refusal_of (store_of m) r o.file_bytes ≡ None
+        → due_end m o.journal.has_epoch r ≤ 268435456 → 32 * draws_of m r < 2 ^ 32 }
+    ensures end { (m : Journal) (r : Request) (o : OwnerView) → IsOwnerOf m o → end_with o.journal (due_payload m r) ≡ due_end m o.journal.has_epoch r }
+    ensures fits { (m : Journal) (r : Request) (o : OwnerView) → IsOwnerOf m o → o.file_bytes ≤ 1048576 → refusal_of (store_of m) r o.file_bytes ≡ None
+        → note_fits (begun (not o.journal.has_epoch) (public_stand m)) (note_of (store_of m) r (replicate 32 0))
+            (told_step (begun (not o.journal.has_epoch) (public_stand m)) (note_of (store_of m) r (replicate 32 0))) ≡ false
+        → 268435456 < due_end m o.journal.has_epoch r }
+{}

@@ -1,0 +1,60 @@
+//! Laws of every owner that is open, on whatever bytes it was opened.
+ghost use Rattle.std.specs.Prelude.{◌≡◌, ◌+◌, ◌*◌, ◌<◌, ◌≤◌, ℕ, All, IsTrue, List, None, Option, Some, cond, false, length, not, replicate, true};
+ghost use Rattle.chacha_seal.specs.Serials.{Counting};
+ghost use Rattle.cry_base.specs.Refusing.{has_bad_name, refusal_of};
+ghost use Rattle.cry_base.specs.Requests.{Request};
+ghost use Rattle.key_links.specs.Ringed.{Ringed};
+ghost use Rattle.move_plan.specs.Noting.{note_of};
+ghost use Rattle.record_format.specs.Noted.{Note};
+ghost use Rattle.public_fold.specs.Fitted.{told_step};
+ghost use Rattle.public_fold.specs.Heads.{IsSkeleton};
+ghost use Rattle.public_fold.specs.Journal.{Stand, nothing};
+ghost use Rattle.public_fold.specs.Preparing.{begun};
+ghost use Rattle.public_fold.specs.Standing.{IsSeenAs};
+ghost use Rattle.public_fold.specs.StandFits.{note_fits};
+ghost use Rattle.public_fold.specs.Turns.{Turn, turns_fit, turns_stand};
+ghost use Rattle.public_fold.specs.declared.heads.Skeleton.{Skeleton};
+ghost use Rattle.store_owner.specs.Applying.{IsCarriedOut, sealed_text};
+ghost use Rattle.store_owner.specs.Owned.{OwnerView};
+ghost use Rattle.store_owner.specs.Owning.{IsStoreOf};
+ghost use Rattle.store_owner.specs.Sealing.{CanSeal, IsSealable};
+ghost use Rattle.store_owner.specs.Sound.{IsSound, granted_in, own_store};
+
+/// Law: the step of a note that fits can be sealed, after whatever turns that fit.
+pub fn fitting_steps_can_be_sealed()
+    ensures { (turns : List Turn) (note : Note) → IsTrue (turns_fit nothing turns) → note_fits (turns_stand nothing turns) note (told_step (turns_stand nothing turns) note) ≡ true
+        → IsSealable (told_step (turns_stand nothing turns) note) }
+{}
+
+/// Law: the store that an owner keeps is a store of its tree, names and grants, and numbers are left for one folder, file, holder
+/// and epoch more.
+pub fn sound_owners_keep_a_store()
+    ensures store { (o : OwnerView) → IsStoreOf o.state.tree o.names (granted_in o) (own_store o) }
+    ensures folders { (o : OwnerView) → IsSound o → 42 + 110 * o.journal.batches ≤ 268435456 → o.state.tree.folders_made < 4294967295 }
+    ensures files { (o : OwnerView) → IsSound o → 42 + 110 * o.journal.batches ≤ 268435456 → o.state.tree.files_made < 4294967295 }
+    ensures holders { (o : OwnerView) → IsSound o → 42 + 110 * o.journal.batches ≤ 268435456 → length o.state.checks < 4294967295 }
+    ensures epoch { (o : OwnerView) → IsSound o → 42 + 110 * o.journal.batches ≤ 268435456 → o.state.keys.epoch < 4294967295 }
+{}
+
+/// Law: a command that isn't refused, and whose note fits, can be sealed by the keys of the owner's ring.
+pub fn sound_owners_can_seal()
+    ensures { (o : OwnerView) (r : Request) (drawn : List (List ℕ)) (s : Skeleton) (ring : Ringed) (counter : Counting) → IsSound o → has_bad_name r ≡ false
+        → refusal_of (own_store o) r o.file_bytes ≡ None
+        → ((at : Stand) → IsSeenAs o.state at → IsSkeleton (told_step (begun (not o.journal.has_epoch) at) (note_of (own_store o) r (replicate 32 0))) s)
+        → ((at : Stand) → IsSeenAs o.state at → note_fits (begun (not o.journal.has_epoch) at) (note_of (own_store o) r (replicate 32 0))
+            (told_step (begun (not o.journal.has_epoch) at) (note_of (own_store o) r (replicate 32 0))) ≡ true)
+        → ring.keys ≡ o.ring.keys → length s.keys.items ≤ ring.spare → length drawn ≡ length s.keys.items → All (λ (key : List ℕ). length key ≡ 32) drawn
+        → cond o.journal.has_epoch (o.counter ≡ Some counter) (counter ≡ record { epoch = o.journal.epoch + 1; count = 0 })
+        → CanSeal ring counter s drawn (sealed_text o r drawn) }
+{}
+
+/// Law: an owner stays sound who carries out a command that isn't refused, and whose note fits.
+pub fn carried_out_owners_stay_sound()
+    ensures { (r : Request) (drawn : List (List ℕ)) (old new : OwnerView) (was shows : Option (List ℕ)) → IsSound old → has_bad_name r ≡ false
+        → refusal_of (own_store old) r old.file_bytes ≡ None
+        → ((at : Stand) → IsSeenAs old.state at → note_fits (begun (not old.journal.has_epoch) at) (note_of (own_store old) r (replicate 32 0))
+            (told_step (begun (not old.journal.has_epoch) at) (note_of (own_store old) r (replicate 32 0))) ≡ true)
+        → IsCarriedOut r drawn old new was shows
+        → new.journal.batches ≡ old.journal.batches + cond old.journal.has_epoch 1 2 → new.journal.epoch ≡ old.journal.epoch + cond old.journal.has_epoch 0 1
+        → IsSound new }
+{}
