@@ -21,6 +21,8 @@ pub mod Refused
 pub mod Retitlings
 pub mod RingRecords
 pub mod Sealable
+pub mod SoundSteps
+pub mod SoundStores
 pub mod StepKeys
 pub mod StepSealed
 pub mod ToldSkeleton

@@ -11,7 +11,7 @@ use Rattle.store_owner.specs.Folds.{public_stand}
 use Rattle.store_owner.specs.Owned.{IsOwnerOf, OwnerView}
 use Rattle.store_owner.specs.Owning.{IsStoreOf}
 
-number_keyless : (numbers : List ℕ) → map (λ (e : HolderEntry). e.number) (map keyless numbers) ≡ numbers
+pub number_keyless : (numbers : List ℕ) → map (λ (e : HolderEntry). e.number) (map keyless numbers) ≡ numbers
 number_keyless [] = refl
 number_keyless (n ∷ numbers) = ap (λ ns. n ∷ ns) (number_keyless numbers)
 

@@ -1,4 +1,4 @@
--- Where the keys are held and the step is told, it can be sealed.
+-- Where the keys are held and the step's skeleton is told, it can be sealed.
 use Rattle.std.proofs.Common.{◌≡◌, ⊎_elim, inl, inr, ℕ, ◌+◌, ◌≤◌, ◌<◌, true, false, cond, List, [], ◌∷◌, length, map, Option, Some, arith, refl, sym, ap, subst, ◌∙◌}
 use Rattle.std.specs.Prelude.{IsSome, ◌++◌}
 use Rattle.std.proofs.lemmas.List.{length-map}
@@ -12,12 +12,12 @@ use Rattle.key_links.specs.Ringed.{Ringed}
 use Rattle.move_plan.specs.Change.{Change}
 use Rattle.role_graph.specs.Roles.{same_role}
 use Rattle.role_graph.proofs.Comparing.{same_role_tells}
-use Rattle.public_fold.specs.Heads.{content_head}
+use Rattle.public_fold.specs.Heads.{IsSkeleton, content_head}
 use Rattle.public_fold.specs.KeyStep.{KeyState, given, key_step, keys_then, keys_without, newest, next_epoch, published, renewed, step_with}
 use Rattle.public_fold.specs.Records.{Content, Link, Piece}
 use Rattle.public_fold.specs.declared.heads.ContentHead.{ContentHead}
 use Rattle.public_fold.specs.declared.heads.Skeleton.{Skeleton}
-use Rattle.store_owner.specs.Sealing.{CanLink, CanSeal, CanSealText, HasLength, HoldsKeys, IsTold, WillHave}
+use Rattle.store_owner.specs.Sealing.{CanLink, CanSeal, CanSealText, HasLength, HoldsKeys, IsSealable, WillHave}
 use Rattle.store_owner.proofs.Ascending.{session_rises}
 use Rattle.store_owner.proofs.StepKeys.{newest-kept, newest-split}
 use Rattle.store_owner.proofs.StepSealed.{counted_after, sealing_same}
@@ -32,31 +32,31 @@ newest-role (x ∷ xs) r n =
     ]) refl
 
 module _ (keys : List KeyParts) (k : KeyState) (before : List Edge) (c : Change) (pieces : List Piece) (ring : Ringed) (counter : Counting) (s : Skeleton) (text : List ℕ)
-    (holds : HoldsKeys keys k ring counter) (told : IsTold (key_step k before c pieces) s text) where
+    (holds : HoldsKeys keys k ring counter) (can : IsSealable (key_step k before c pieces)) (skeleton : IsSkeleton (key_step k before c pieces) s) where
   will : (r : Role) (n : ℕ) → newest (key_step k before c pieces).after.keys r ≡ Some n → WillHave ring s.keys.items r
   unfolding key_step step_with published keys_then
   will r n e =
       ⊎_elim
-      (λ here. inr (subst (λ (g : List (Role × ℕ)). In r (map (λ (key : Role × ℕ). key.0) g)) (sym told.is_skeleton.keys) (newest-role (given k c (renewed k before c)) r n here)))
+      (λ here. inr (subst (λ (g : List (Role × ℕ)). In r (map (λ (key : Role × ℕ). key.0) g)) (sym skeleton.keys) (newest-role (given k c (renewed k before c)) r n here)))
       (λ there. inl (subst (λ (o : Option KeyParts). IsSome o) (sym (holds.has_present r n (newest-kept (renewed k before c ++ c.gone) k.keys r n there.1))) refl))
       (newest-split (given k c (renewed k before c)) (keys_without (renewed k before c ++ c.gone) k.keys) r n e)
 
   will_link : (l : Link) → In l s.links.items → CanLink ring s.keys.items l
   will_link l i =
-      let j = subst (λ (ls : List Link). In l ls) told.is_skeleton.links i in
+      let j = subst (λ (ls : List Link). In l ls) skeleton.links i in
       record {
-        is_tabled = told.can_be_sealed.tabled l j;
-        has_source = will l.edge.from l.from_serial (told.can_be_sealed.sources l j);
-        has_target = will l.edge.to l.to_serial (told.can_be_sealed.targets l j);
+        is_tabled = can.tabled l j;
+        has_source = will l.edge.from l.from_serial (can.sources l j);
+        has_target = will l.edge.to l.to_serial (can.targets l j);
       }
 
   will_seal : HasLength (key_step k before c pieces) text → (h : ContentHead) → In h s.contents.items → CanSealText ring s.keys.items text h
   will_seal sizes h i =
-      let w = (In-map Content ContentHead content_head h (key_step k before c pieces).contents).0 (subst (λ (hs : List ContentHead). In h hs) told.is_skeleton.contents i) in
+      let w = (In-map Content ContentHead content_head h (key_step k before c pieces).contents).0 (subst (λ (hs : List ContentHead). In h hs) skeleton.contents i) in
       let x : Content = w.0 in
-      let kinds = told.can_be_sealed.kinds x w.1 in
+      let kinds = can.kinds x w.1 in
       let size = sizes x w.1 in
-      let key = will _ x.key_serial (told.can_be_sealed.sealing x w.1) in
+      let key = will _ x.key_serial (can.sealing x w.1) in
       subst (CanSealText ring s.keys.items text) (sym w.2) (record {
         kind_from_one = kinds.0;
         kind_to_three = kinds.1;
@@ -68,14 +68,14 @@ module _ (keys : List KeyParts) (k : KeyState) (before : List Edge) (c : Change)
   pub can_seal : (drawn : List (List ℕ)) → (key_step k before c pieces).after.count < 4294967296 → length drawn ≡ length s.keys.items → length s.keys.items ≤ ring.spare
       → HasLength (key_step k before c pieces) text → CanSeal ring counter s drawn text
   can_seal drawn small long room sizes =
-      let counted = counted_after k before c pieces counter s text holds.is_counted told in
+      let counted = counted_after k before c pieces counter s holds.is_counted skeleton in
       record {
         enough_drawn = long;
         enough_room = room;
-        no_owner = λ key i. told.can_be_sealed.no_owner key (subst (λ (g : List (Role × ℕ)). In key g) told.is_skeleton.keys i);
+        no_owner = λ key i. can.no_owner key (subst (λ (g : List (Role × ℕ)). In key g) skeleton.keys i);
         enough_serials = omega (arith, counted, small);
         each_link = will_link;
-        one_content = let few = told.can_be_sealed.one_content in let many = ap length told.is_skeleton.contents ∙ length-map (key_step k before c pieces).contents content_head in omega (arith, few, many);
+        one_content = let few = can.one_content in let many = ap length skeleton.contents ∙ length-map (key_step k before c pieces).contents content_head in omega (arith, few, many);
         each_content = will_seal sizes;
       }
 

@@ -22,7 +22,7 @@ use Rattle.record_format.specs.declared.link.LinkRecord.{LinkRecord}
 use Rattle.record_format.specs.declared.note.Note.{Note}
 use Rattle.record_format.specs.declared.note.Note.TheVariants.{Root, NewHolder, NewFolder, NewFile, Rewrite, NameFile, NameFolder, DropFile, DropFolder, ShiftFile, ShiftFolder, Give, Take}
 use Rattle.role_graph.specs.Roles.{data_of, file_role}
-use Rattle.public_fold.specs.Heads.{content_head}
+use Rattle.public_fold.specs.Heads.{IsSkeleton, content_head}
 use Rattle.public_fold.specs.KeyStep.{KeyState, Stepped, content_of, contents_from, given, key_step, keys_then, keys_without, link_of, links_from, newest, next_serial, numbered, published, published_edges, renewed, step_with}
 use Rattle.public_fold.specs.Lengths.{content_len, note_len, payload_len}
 use Rattle.public_fold.specs.Records.{Content, Link, Piece, sealing_role, text_of}
@@ -202,15 +202,15 @@ contents_long k before c pieces =
     length-map (numbered n pieces) _ ∙ numbered-length Piece n pieces
 
 -- a step takes a serial for each key, link and content
-pub counted_after : (k : KeyState) (before : List Edge) (c : Change) (pieces : List Piece) (counter : Counting) (s : Skeleton) (text : List ℕ)
-    → counter ≡ record { epoch = k.epoch; count = k.count } → IsTold (key_step k before c pieces) s text
+pub counted_after : (k : KeyState) (before : List Edge) (c : Change) (pieces : List Piece) (counter : Counting) (s : Skeleton)
+    → counter ≡ record { epoch = k.epoch; count = k.count } → IsSkeleton (key_step k before c pieces) s
     → counter.count + length s.keys.items + length s.links.items + length s.contents.items ≡ (key_step k before c pieces).after.count
 unfolding key_step step_with published
-counted_after k before c pieces counter s text is told =
+counted_after k before c pieces counter s is skeleton =
     let start = ap (λ (x : Counting). x.count) is in
-    let keys_many = ap length told.is_skeleton.keys in
-    let links_many = ap length told.is_skeleton.links in
-    let contents_many = ap length told.is_skeleton.contents ∙ length-map (key_step k before c pieces).contents content_head in
+    let keys_many = ap length skeleton.keys in
+    let links_many = ap length skeleton.links in
+    let contents_many = ap length skeleton.contents ∙ length-map (key_step k before c pieces).contents content_head in
     omega (arith, start, keys_many, links_many, links_long k before c pieces, contents_many, contents_long k before c pieces)
 
 -- ---- a whole step
@@ -291,5 +291,5 @@ module _ (keys : List KeyParts) (k : KeyState) (before : List Edge) (c : Change)
             (λ new_one. (step_between k before c pieces drawn).below key new_one)
             ((In-append KeyParts key keys (with_bytes step.given drawn)).0 i);
         present_below = below_after;
-        is_counted = is ∙ ap (λ n. counting counter.epoch n) (counted_after k before c pieces counter s text holds.is_counted told) ∙ ap (λ n. counting n step.after.count) (epoch_stays k before c pieces counter holds.is_counted);
+        is_counted = is ∙ ap (λ n. counting counter.epoch n) (counted_after k before c pieces counter s holds.is_counted told.is_skeleton) ∙ ap (λ n. counting n step.after.count) (epoch_stays k before c pieces counter holds.is_counted);
       }

@@ -93,6 +93,7 @@ pub record IsCarriedOut (r : Request) (drawn : List (List ℕ)) (old new : Owner
   pub ends_as : new.counter ≡ Some ends
   pub commits : Joins (next_command between (spell_payload payload)) between new.journal showed shows
   pub same_owner : new.journal.owner ≡ between.owner
+  pub same_epoch : new.journal.epoch ≡ between.epoch
   pub has_begun : new.journal.has_epoch ≡ true
   pub same_limit : new.journal.limit ≡ old.journal.limit
   pub titles_then : (s : Store) → IsTreeOf (tree_store old.state.tree old.names) s → AreTitlesAfter s r old.names new.names

@@ -8,4 +8,4 @@ use Rattle.store_owner.proofs.sealing_laws.told_steps_can_be_sealed.Goals as goa
 pub returns : goal.returns
 unfolding note_step
 returns c = λ keys at note after ring counter s drawn text holds told small long room sizes.
-    can_seal keys at.keys (edges at.store) (change_of at.store note) (pieces_of note after) ring counter s text holds told drawn small long room sizes
+    can_seal keys at.keys (edges at.store) (change_of at.store note) (pieces_of note after) ring counter s text holds told.can_be_sealed told.is_skeleton drawn small long room sizes
