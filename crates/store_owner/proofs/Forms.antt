@@ -25,17 +25,19 @@ last_named path form =
       | false ↦ λ other. inr (path_parts path form other).1
     ]) refl
 
-name_short : (name : List ℕ) → is_name name ≡ true → length name ≤ 64
+-- a name has 1 to 64 bytes
+pub name_size : (name : List ℕ) → is_name name ≡ true → (1 ≤ length name) × (length name ≤ 64)
 unfolding is_name is_between
-name_short name t =
+name_size name t =
     let a = and_parts (is_between 1 64 (length name) && list_all is_name_byte name && not (bytes_eq name (codes "."))) (not (bytes_eq name (codes ".."))) t in
     let b = and_parts (is_between 1 64 (length name) && list_all is_name_byte name) (not (bytes_eq name (codes "."))) a.0 in
     let c = and_parts (is_between 1 64 (length name)) (list_all is_name_byte name) b.0 in
-    leb-true (length name) 64 (and_parts (nat_le 1 (length name)) (nat_le (length name) 64) c.0).1
+    let d = and_parts (nat_le 1 (length name)) (nat_le (length name) 64) c.0 in
+    (leb-true 1 (length name) d.0, leb-true (length name) 64 d.1)
 
 -- a name has at most 64 bytes
 pub short : (name : List ℕ) → MayBeNamed name → length name ≤ 64
-short name may = ⊎_elim (λ (none : name ≡ []). let same : length name ≡ 0 = ap length none in omega arith) (λ (is : is_name name ≡ true). name_short name is) may
+short name may = ⊎_elim (λ (none : name ≡ []). let same : length name ≡ 0 = ap length none in omega arith) (λ (is : is_name name ≡ true). (name_size name is).1) may
 
 one : (a : Bool) → not (a && true) ≡ false → a ≡ true
 one true e = refl

@@ -21,8 +21,10 @@ pub mod Refused
 pub mod Retitlings
 pub mod RingRecords
 pub mod Sealable
+pub mod SoundSeals
 pub mod SoundSteps
 pub mod SoundStores
+pub mod SoundTexts
 pub mod StepKeys
 pub mod StepSealed
 pub mod ToldSkeleton
