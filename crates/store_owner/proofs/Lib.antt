@@ -22,6 +22,7 @@ pub mod Retitlings
 pub mod RingRecords
 pub mod Sealable
 pub mod SoundSeals
+pub mod SoundStays
 pub mod SoundSteps
 pub mod SoundStores
 pub mod SoundTexts
