@@ -20,6 +20,7 @@ pub mod Ready
 pub mod Refused
 pub mod Retitlings
 pub mod RingRecords
+pub mod Scripted
 pub mod Sealable
 pub mod SoundSeals
 pub mod SoundStays

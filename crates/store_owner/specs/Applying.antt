@@ -33,7 +33,8 @@ use Rattle.store_owner.specs.declared.apply_fault.ApplyFault.TheVariants as faul
 use Rattle.store_owner.specs.Bytes.{batches_of, step_payload}
 use Rattle.store_owner.specs.Owned.{IsOwnerOf, OwnerView, limits_in}
 use Rattle.store_owner.specs.Owning.{IsStoreOf, IsTreeOf}
-use Rattle.store_owner.specs.Script.{answer, done_reply, draws_of}
+use Rattle.cry_base.specs.declared.limits.Limits.{Limits}
+use Rattle.store_owner.specs.Script.{Going, answer, done_reply, draws_of}
 use Rattle.store_owner.specs.Sealing.{HoldsKeys, IsSealable, IsTold, keys_with}
 use Rattle.store_owner.specs.Sound.{granted_in}
 use Rattle.store_owner.specs.Texting.{AreTitlesAfter, due_key, due_text}
@@ -131,3 +132,12 @@ Answers (Err faults.RandomFault) m r old new left_before left_after was shows = 
 Answers (Err faults.DiskFault) m r old new left_before left_after was shows = (answer (limits_in old) m old.journal.has_epoch r ≡ None) × IsTrue new.journal.is_closed
 Answers (Err faults.Closed) m r old new left_before left_after was shows = IsTrue old.journal.is_closed × (new ≡ old)
 Answers (Err faults.OutOfMemory) m r old new left_before left_after was shows = HasOtherRoom old new
+
+-- The owner, the random bytes that are left and the disk stand where a session does: all of them at its journal, with its bytes.
+pub record StandsAt (limits : Limits) (key : List ℕ) (g : Going) (o : OwnerView) (left shown : Option (List ℕ)) : Type 0 where
+  pub owner_is : IsOwnerOf g.journal o
+  pub has_key : o.key ≡ key
+  pub has_limits : limits_in o ≡ limits
+  pub has_begun : o.journal.has_epoch ≡ g.begun
+  pub has_draws : left ≡ Some g.draws
+  pub disk_stands : (s : List ℕ) × (shown ≡ Some s) × StandsWhole key (batches_of key g.journal) s
