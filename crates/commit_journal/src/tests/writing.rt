@@ -73,6 +73,30 @@ fn a_fault_in_mid_commit_closes_the_journal(rt: HostRuntime) -> Result<(), Fail>
     Ok(())
 }
 
+// The epochs that two sessions of one journal begin.
+fn sessions(started: Started) -> Result<(Epoch, Epoch), CommitFault>
+    requires spare { 2 ≤ started.journal.spare }
+    requires end { started.journal.end ≤ length (shown_of started.disk.events) }
+{
+    let Started {
+        mut disk,
+        mut journal,
+    } = started;
+    let first = journal.begin_epoch(&mut disk)?;
+    journal.end_session();
+    let second = journal.begin_epoch(&mut disk)?;
+    Ok((first, second))
+}
+
+#[test]
+fn a_second_session_begins_the_next_epoch(rt: HostRuntime) -> Result<(), Fail> {
+    let started = start(rt.alloc(), &[], 1000, 0)?;
+    assert!(rt; !started.journal.is_closed());
+    let answer = sessions(started);
+    assert_eq!(rt; answer, Ok((Epoch(1), Epoch(2))));
+    Ok(())
+}
+
 // The bytes of a store whose first command is this one.
 fn committed(alloc: Global, placed: &Placed) -> Result<MemDisk, Fail>
     requires { IsStanding placed.now }
