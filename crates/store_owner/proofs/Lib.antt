@@ -10,6 +10,8 @@ pub mod GivenKeys
 pub mod Grown
 pub mod Kept
 pub mod LogsWalked
+pub mod Measured
+pub mod NextEntry
 pub mod NotesTold
 pub mod OpenedKeys
 pub mod OpenedTexts

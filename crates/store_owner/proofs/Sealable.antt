@@ -243,7 +243,7 @@ after_sound (Session ∷ entries) at sound f = after_sound entries (stand_then a
 after_sound (Made keys ∷ entries) at sound f = absurd f.0
 after_sound (Did request keys ∷ entries) at sound f = after_sound entries (stand_then at (Did request keys)) (effect_sound at.store request (first_key keys) 1048576 f.0.0 sound) f.1
 
-begun_sound : (m : Journal) → BeginsWell m → IsSound (stand_after nothing m).store
+pub begun_sound : (m : Journal) → BeginsWell m → IsSound (stand_after nothing m).store
 unfolding stand_after stand_then entry_store nothing
 begun_sound [] b = absurd b
 begun_sound (Session ∷ []) b = absurd b

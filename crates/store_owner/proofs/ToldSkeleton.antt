@@ -1,6 +1,7 @@
 -- The skeleton of what everyone may see of a command is that of the command.
 use Rattle.std.proofs.Common.{◌≡◌, ℕ, ◌+◌, Bool, true, false, cond, ◌==◌, List, [], ◌∷◌, length, map, Some, None, refl, sym, ap, subst, ◌∙◌}
 use Rattle.std.specs.Prelude.{find}
+use Rattle.std.proofs.lemmas.List.{length-map}
 use Rattle.cry_base.specs.Refusing.{refusal_of}
 use Rattle.cry_base.specs.Requests.{Request}
 use Rattle.cry_base.specs.Requests.Request.{AddHolder, MakeFolder, WriteFile, Remove, Rename, Relocate, Grant, Revoke}
@@ -18,7 +19,7 @@ use Rattle.record_format.specs.Noted.{Note}
 use Rattle.record_format.specs.Noted.Note.{Root, NewHolder, NewFolder, NewFile, Rewrite, NameFile, NameFolder, DropFile, DropFolder, ShiftFile, ShiftFolder, Give, Take}
 use Rattle.public_fold.specs.Fitted.{told_step}
 use Rattle.public_fold.specs.Heads.{IsSkeleton, content_head}
-use Rattle.public_fold.specs.Journal.{Journal, nothing, first_key, note_step, entry_step, stand_after, store_of, keys_of}
+use Rattle.public_fold.specs.Journal.{Journal, Stand, nothing, first_key, note_step, entry_step, stand_after, store_of, keys_of}
 use Rattle.public_fold.specs.Journal.Entry.{Did}
 use Rattle.public_fold.specs.KeyStep.{KeyState, content_of, contents_from, given, key_step, keys_then, next_serial, numbered, published, published_edges, renewed, step_with}
 use Rattle.public_fold.specs.Records.{Piece, file_piece, folder_piece, holder_piece, pieces_of, sealing_role}
@@ -122,11 +123,11 @@ same_steps k before edges_before c d ps qs s same_edges same same_texts is =
     other_texts k edges_before d ps qs s same_texts
     (subst (λ (x : Change). IsSkeleton (key_step k edges_before x ps) s) same (subst (λ (es : List Edge). IsSkeleton (key_step k es c ps) s) same_edges is))
 
-pub told_skeleton : (m : Journal) (request : Request) (check : List ℕ) (drawn : List (List ℕ)) (file_bytes : ℕ) → refusal_of (store_of m) request file_bytes ≡ None
-    → (s : Skeleton) → IsSkeleton (told_step (public_stand m) (note_of (store_of m) request check)) s → IsSkeleton (entry_step (stand_after nothing m) (Did request drawn)) s
-unfolding told_step note_step entry_step public_stand store_of keys_of
-told_skeleton m request check drawn file_bytes none s is =
-    let at = stand_after nothing m in
+-- from what everyone may see of a stand
+pub told_at : (at : Stand) (request : Request) (check : List ℕ) (drawn : List (List ℕ)) (file_bytes : ℕ) → refusal_of at.store request file_bytes ≡ None
+    → (s : Skeleton) → IsSkeleton (told_step (record { store = public_of at.store; keys = at.keys }) (note_of at.store request check)) s → IsSkeleton (entry_step at (Did request drawn)) s
+unfolding told_step note_step entry_step
+told_at at request check drawn file_bytes none s is =
     let note = note_of at.store request check in
     let plain = note_of at.store request [] in
     let t = effect at.store request (first_key drawn) in
@@ -137,3 +138,18 @@ told_skeleton m request check drawn file_bytes none s is =
     ∙ pieces_bare note t
     ∙ ap (map bare) (same_pieces at.store request check t))
     is
+
+pub told_skeleton : (m : Journal) (request : Request) (check : List ℕ) (drawn : List (List ℕ)) (file_bytes : ℕ) → refusal_of (store_of m) request file_bytes ≡ None
+    → (s : Skeleton) → IsSkeleton (told_step (public_stand m) (note_of (store_of m) request check)) s → IsSkeleton (entry_step (stand_after nothing m) (Did request drawn)) s
+unfolding public_stand store_of keys_of
+told_skeleton m request check drawn file_bytes none s is = told_at (stand_after nothing m) request check drawn file_bytes none s is
+
+-- as many pieces are due, whatever key a holder gets
+pub same_many : (s : Store) (request : Request) (key other : List ℕ) (file_bytes : ℕ) → refusal_of s request file_bytes ≡ None
+    → length (pieces_of (note_of s request []) (effect s request key)) ≡ length (pieces_of (note_of s request []) (effect s request other))
+same_many s request key other file_bytes none =
+    let note = note_of s request [] in
+    let many : (t : Store) → length (pieces_of note t) ≡ length (map bare (pieces_of note (public_of t))) = λ t. sym (length-map (pieces_of note t) bare) ∙ ap length (sym (pieces_bare note t)) in
+    many (effect s request key)
+    ∙ ap (λ t. length (map bare (pieces_of note t))) (accepted_told s request key [] file_bytes none ∙ sym (accepted_told s request other [] file_bytes none))
+    ∙ sym (many (effect s request other))

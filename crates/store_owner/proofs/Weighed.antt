@@ -98,7 +98,7 @@ move_weighs None into = (tt, refl)
 move_weighs (Some (Folder f)) into = (tt, refl)
 move_weighs (Some (File x)) into = (tt, refl)
 
-note_of_weighs : (s : Store) (r : Request) (check : List ℕ) → length check ≡ 32 → Weighs (note_of s r check) (note_of s r [])
+pub note_of_weighs : (s : Store) (r : Request) (check : List ℕ) → length check ≡ 32 → Weighs (note_of s r check) (note_of s r [])
 unfolding note_of note_len
 note_of_weighs s AddHolder check size = (size, refl)
 note_of_weighs s (MakeFolder path) check size = (tt, refl)

@@ -1,0 +1,126 @@
+-- What the next entries add to a journal, and when they may come.
+use Rattle.std.proofs.Common.{◌≡◌, inl, inr, ℕ, ◌+◌, ◌*◌, ◌≤◌, Bool, true, false, cond, not, List, [], ◌∷◌, ◌++◌, length, find, replicate, Option, Some, None, option_map, All, append-nil, arith, refl, sym, ap, subst, ◌∙◌}
+use Rattle.std.specs.List.{sum_by}
+use Rattle.std.specs.Prelude.{nat_lt}
+use Rattle.std.proofs.lemmas.Bool.{le-ltb, ltb-false}
+use Rattle.std.proofs.lemmas.List.{length-append, length-map, length-replicate}
+use Rattle.std.proofs.lemmas.List.Elements.{All-head}
+use Rattle.std.proofs.lemmas.List.Sums.{sum_by-append, sum_by-cons}
+use Rattle.cry_base.specs.Refusing.{causes, is_too_long, refusal_of}
+use Rattle.cry_base.specs.Requests.{Request}
+use Rattle.cry_base.specs.Requests.Request.{AddHolder, MakeFolder, WriteFile, Remove, Rename, Relocate, Grant, Revoke}
+use Rattle.cry_base.specs.Sets.{In}
+use Rattle.cry_base.specs.Stepping.{effect}
+use Rattle.cry_base.specs.declared.commands.Refusal.{Refusal}
+use Rattle.cry_base.specs.declared.commands.Refusal.TheVariants.{BadName, NoPath, IsRoot, NotFolder, IsFolder, Exists, NotEmpty, InsideItself, TooDeep, NoHolder, HasGrant, NoGrant, TooLong}
+use Rattle.cry_base.specs.Refusing.{has_bad_name, finds_no_path, changes_root, needs_folder, writes_folder, finds_name_taken, removes_children, moves_into_itself, goes_too_deep, finds_no_holder, grants_again, revokes_nothing}
+use Rattle.cry_base.specs.Store.{Store}
+use Rattle.cry_base.specs.declared.roles.Edge.{Edge}
+use Rattle.cry_base.specs.declared.roles.Role.{Role}
+use Rattle.role_graph.specs.Edges.{edges}
+use Rattle.record_format.specs.Noted.{Note}
+use Rattle.move_plan.specs.Change.{Change, change_of}
+use Rattle.move_plan.specs.Noting.{note_of}
+use Rattle.public_fold.specs.Journal.{Entry, Journal, Stand, nothing, first_key, note_step, entry_step, entry_store, stand_then, stand_after, store_of}
+use Rattle.public_fold.specs.Journal.Entry.{Session, Made, Did}
+use Rattle.public_fold.specs.KeyStep.{KeyState, content_of, contents_from, dirty_left, given, key_step, keys_then, links_from, next_epoch, next_serial, numbered, published, published_edges, renewed, step_with}
+use Rattle.public_fold.specs.Lengths.{content_len, end_of, entry_payload, note_len, payload_len, payloads_from}
+use Rattle.public_fold.specs.Preparing.{begun, begun_keys}
+use Rattle.public_fold.specs.Records.{Content, Piece, pieces_of, text_of}
+use Rattle.public_fold.specs.Valid.{BeginsWell, FollowOn, IsNext, IsValid}
+use Rattle.public_fold.proofs.Accepting.{accepted}
+use Rattle.public_fold.proofs.Counting.{journal_counted}
+use Rattle.public_fold.proofs.Keeping.{journal_tree}
+use Rattle.public_fold.proofs.Prefixes.{stand_after-append}
+use Rattle.public_fold.proofs.Serials.{numbered-length}
+use Rattle.public_fold.proofs.Settling.{no_cause}
+use Rattle.store_owner.specs.Applying.{journal_then}
+use Rattle.store_owner.specs.Script.{draws_of, due_end, due_payload}
+use Rattle.store_owner.specs.Texting.{due_key, due_text}
+use Rattle.store_owner.proofs.DueTexts.{sealed}
+use Rattle.store_owner.proofs.Sealable.{pieces_due}
+use Rattle.store_owner.proofs.ToldSkeleton.{same_many}
+
+-- ---- the journal once the session is begun
+
+abbrev pub between : Journal → Bool → Journal
+between m has_begun = m ++ cond has_begun [] (Session ∷ [])
+
+pub stand_between : (m : Journal) (has_begun : Bool) → stand_after nothing (between m has_begun) ≡ begun (not has_begun) (stand_after nothing m)
+unfolding stand_after stand_then entry_store entry_step begun_keys
+stand_between m true = ap (stand_after nothing) (append-nil m)
+stand_between m false = stand_after-append nothing m (Session ∷ [])
+
+-- ---- what a step has, whatever the epoch
+
+begun_renewed : (new : Bool) (k : KeyState) (before : List Edge) (c : Change) → renewed (begun_keys new k) before c ≡ renewed k before c
+unfolding renewed dirty_left begun_keys next_epoch
+begun_renewed true k before c = refl
+begun_renewed false k before c = refl
+
+abbrev piece_len : Piece → ℕ
+piece_len p = 58 + length (text_of p)
+
+contents_sum : (keys : List (Role × ℕ)) (n : ℕ) (ps : List Piece) → sum_by content_len (contents_from keys n ps) ≡ sum_by piece_len ps
+unfolding contents_from numbered content_of content_len
+contents_sum keys n [] = refl
+contents_sum keys n (p ∷ ps) =
+    sum_by-cons content_len (content_of keys (p, n)) (contents_from keys (n + 1) ps)
+    ∙ ap (λ k. piece_len p + k) (contents_sum keys (n + 1) ps)
+    ∙ sym (sum_by-cons piece_len p ps)
+
+module _ (k : KeyState) (before : List Edge) (c : Change) (pieces : List Piece) where
+  given_many : length (key_step k before c pieces).given ≡ length (renewed k before c ++ c.fresh)
+  unfolding key_step step_with published given
+  given_many = numbered-length Role (next_serial k) (renewed k before c ++ c.fresh)
+
+  links_many : length (key_step k before c pieces).links ≡ length (published_edges before c (renewed k before c))
+  unfolding key_step step_with published links_from
+  links_many =
+      let es = published_edges before c (renewed k before c) in
+      let n = next_serial k + length (given k c (renewed k before c)) in
+      length-map (numbered n es) _ ∙ numbered-length Edge n es
+
+  contents_many : length (key_step k before c pieces).contents ≡ length pieces
+  unfolding key_step step_with published contents_from
+  contents_many =
+      let n = next_serial k + length (given k c (renewed k before c)) + length (published_edges before c (renewed k before c)) in
+      length-map (numbered n pieces) _ ∙ numbered-length Piece n pieces
+
+  contents_long : sum_by content_len (key_step k before c pieces).contents ≡ sum_by piece_len pieces
+  unfolding key_step step_with published
+  contents_long =
+      contents_sum (keys_then k c (renewed k before c)) (next_serial k + length (given k c (renewed k before c)) + length (published_edges before c (renewed k before c))) pieces
+
+module _ (at : Stand) (r : Request) where
+  abbrev due : List (List ℕ) → List Piece
+  due drawn = pieces_of (note_of at.store r []) (effect at.store r (first_key drawn))
+
+  pub given_begun : (new : Bool) (drawn other : List (List ℕ)) → length (entry_step (begun new at) (Did r drawn)).given ≡ length (entry_step at (Did r other)).given
+  unfolding entry_step note_step
+  given_begun new drawn other =
+      let c = change_of at.store (note_of at.store r []) in
+      given_many (begun_keys new at.keys) (edges at.store) c (due drawn)
+      ∙ ap (λ plan. length (plan ++ c.fresh)) (begun_renewed new at.keys (edges at.store) c)
+      ∙ sym (given_many at.keys (edges at.store) c (due other))
+
+  pub links_begun : (new : Bool) (drawn other : List (List ℕ)) → length (entry_step (begun new at) (Did r drawn)).links ≡ length (entry_step at (Did r other)).links
+  unfolding entry_step note_step
+  links_begun new drawn other =
+      let c = change_of at.store (note_of at.store r []) in
+      links_many (begun_keys new at.keys) (edges at.store) c (due drawn)
+      ∙ ap (λ plan. length (published_edges (edges at.store) c plan)) (begun_renewed new at.keys (edges at.store) c)
+      ∙ sym (links_many at.keys (edges at.store) c (due other))
+
+  pub contents_due : (new : Bool) (drawn : List (List ℕ)) → length (entry_step (begun new at) (Did r drawn)).contents ≡ length (due drawn)
+  unfolding entry_step note_step
+  contents_due new drawn = contents_many (begun_keys new at.keys) (edges at.store) (change_of at.store (note_of at.store r [])) (due drawn)
+
+  pub payload_due : (new : Bool) (drawn : List (List ℕ)) → entry_payload (begun new at) (Did r drawn)
+      ≡ note_len (note_of at.store r []) + 8 + 98 * length (entry_step at (Did r drawn)).links + sum_by piece_len (due drawn)
+  unfolding entry_payload payload_len
+  payload_due new drawn =
+      let n = note_len (note_of at.store r []) + 8 in
+      ap (λ l. n + 98 * l + sum_by content_len (entry_step (begun new at) (Did r drawn)).contents) (links_begun new drawn drawn)
+      ∙ ap (λ l. n + 98 * length (entry_step at (Did r drawn)).links + l)
+      (unfold entry_step note_step in contents_long (begun_keys new at.keys) (edges at.store) (change_of at.store (note_of at.store r [])) (due drawn))
