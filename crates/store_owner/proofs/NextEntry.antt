@@ -19,7 +19,7 @@ use Rattle.cry_base.specs.declared.roles.Edge.{Edge}
 use Rattle.cry_base.specs.declared.roles.Role.{Role}
 use Rattle.role_graph.specs.Edges.{edges}
 use Rattle.record_format.specs.Noted.{Note}
-use Rattle.move_plan.specs.Change.{Change, change_of}
+use Rattle.move_plan.specs.Change.{Change, change_of, no_change}
 use Rattle.move_plan.specs.Noting.{note_of}
 use Rattle.public_fold.specs.Journal.{Entry, Journal, Stand, nothing, first_key, note_step, entry_step, entry_store, stand_then, stand_after, store_of}
 use Rattle.public_fold.specs.Journal.Entry.{Session, Made, Did}
@@ -58,7 +58,7 @@ unfolding renewed dirty_left begun_keys next_epoch
 begun_renewed true k before c = refl
 begun_renewed false k before c = refl
 
-abbrev piece_len : Piece → ℕ
+abbrev pub piece_len : Piece → ℕ
 piece_len p = 58 + length (text_of p)
 
 contents_sum : (keys : List (Role × ℕ)) (n : ℕ) (ps : List Piece) → sum_by content_len (contents_from keys n ps) ≡ sum_by piece_len ps
@@ -93,7 +93,7 @@ module _ (k : KeyState) (before : List Edge) (c : Change) (pieces : List Piece) 
       contents_sum (keys_then k c (renewed k before c)) (next_serial k + length (given k c (renewed k before c)) + length (published_edges before c (renewed k before c))) pieces
 
 module _ (at : Stand) (r : Request) where
-  abbrev due : List (List ℕ) → List Piece
+  abbrev pub due : List (List ℕ) → List Piece
   due drawn = pieces_of (note_of at.store r []) (effect at.store r (first_key drawn))
 
   pub given_begun : (new : Bool) (drawn other : List (List ℕ)) → length (entry_step (begun new at) (Did r drawn)).given ≡ length (entry_step at (Did r other)).given
@@ -124,3 +124,68 @@ module _ (at : Stand) (r : Request) where
       ap (λ l. n + 98 * l + sum_by content_len (entry_step (begun new at) (Did r drawn)).contents) (links_begun new drawn drawn)
       ∙ ap (λ l. n + 98 * length (entry_step at (Did r drawn)).links + l)
       (unfold entry_step note_step in contents_long (begun_keys new at.keys) (edges at.store) (change_of at.store (note_of at.store r [])) (due drawn))
+
+-- ---- how long its text is
+
+few_sum : (n : ℕ) (ps : List Piece) → length ps ≤ 1 → ((p : Piece) → In p ps → length (text_of p) ≡ n) → sum_by piece_len ps ≡ (58 + n) * length ps
+few_sum n [] few texts = omega arith
+few_sum n (p ∷ []) few texts = let t = texts p (inl refl) in let sum = sum_by-cons piece_len p [] in omega (arith, t, sum)
+few_sum n (p ∷ q ∷ ps) few texts = absurd (omega arith)
+
+abbrev pub text_long : Store → Request → List ℕ → ℕ
+text_long s r key = length (due_text s r ++ due_key r key)
+
+pub due_weighs : (m : Journal) (r : Request) (drawn : List (List ℕ)) (file_bytes : ℕ) → IsValid m → refusal_of (store_of m) r file_bytes ≡ None
+    → sum_by piece_len (due (stand_after nothing m) r drawn) ≡ (58 + text_long (store_of m) r (first_key drawn)) * length (due (stand_after nothing m) r drawn)
+unfolding store_of
+due_weighs m r drawn file_bytes valid none =
+    let s = (stand_after nothing m).store in
+    few_sum (text_long s r (first_key drawn)) (due (stand_after nothing m) r drawn)
+    (pieces_due (note_of s r []) (effect s r (first_key drawn))).0
+    (λ p i. ap length (sealed s r (first_key drawn) [] (accepted s r file_bytes none) (journal_counted m) (journal_tree m valid) p i))
+
+draws_for_holder : (m : Journal) → 1 ≤ draws_of m AddHolder
+unfolding draws_of entry_step note_step note_of change_of no_change
+draws_for_holder m =
+    let at = stand_after nothing m in
+    let c = change_of at.store (note_of at.store AddHolder []) in
+    let plan = renewed at.keys (edges at.store) c in
+    let many = given_many at.keys (edges at.store) c (due at AddHolder []) in
+    let joined : length (plan ++ c.fresh) ≡ length plan + 1 = length-append plan c.fresh in
+    omega (arith, many, joined)
+
+key_long : (m : Journal) (r : Request) (drawn : List (List ℕ)) → length drawn ≡ draws_of m r → All (λ (key : List ℕ). length key ≡ 32) drawn
+    → length (due_key r (first_key drawn)) ≡ length (due_key r (replicate 32 0))
+unfolding due_key first_key
+key_long m AddHolder [] many sizes = let some = draws_for_holder m in absurd (omega (arith, many, some))
+key_long m AddHolder (key ∷ drawn) many sizes = All-head (λ (key : List ℕ). length key ≡ 32) key drawn sizes
+key_long m (MakeFolder path) drawn many sizes = refl
+key_long m (WriteFile path bytes) drawn many sizes = refl
+key_long m (Remove path) drawn many sizes = refl
+key_long m (Rename path name) drawn many sizes = refl
+key_long m (Relocate path into) drawn many sizes = refl
+key_long m (Grant h path) drawn many sizes = refl
+key_long m (Revoke h path) drawn many sizes = refl
+
+-- a payload is as long as it is due, whatever keys were drawn, and in whatever epoch
+pub payload_weighs : (m : Journal) (new : Bool) (r : Request) (drawn : List (List ℕ)) (file_bytes : ℕ) → IsValid m → refusal_of (store_of m) r file_bytes ≡ None
+    → length drawn ≡ draws_of m r → All (λ (key : List ℕ). length key ≡ 32) drawn → entry_payload (begun new (stand_after nothing m)) (Did r drawn) ≡ due_payload m r
+unfolding due_payload store_of begun_keys first_key
+payload_weighs m new r drawn file_bytes valid none many sizes =
+    let at = stand_after nothing m in
+    let other : List (List ℕ) = replicate 32 0 ∷ [] in
+    let n = note_len (note_of at.store r []) + 8 in
+    let text : text_long at.store r (first_key drawn) ≡ text_long at.store r (replicate 32 0) =
+    length-append (due_text at.store r) (due_key r (first_key drawn)) ∙ ap (λ k. length (due_text at.store r) + k) (key_long m r drawn many sizes)
+    ∙ sym (length-append (due_text at.store r) (due_key r (replicate 32 0)))
+    in
+    let pieces : sum_by piece_len (due at r drawn) ≡ sum_by piece_len (due at r other) =
+    due_weighs m r drawn file_bytes valid none
+    ∙ ap (λ k. (58 + k) * length (due at r drawn)) text
+    ∙ ap (λ k. (58 + text_long at.store r (replicate 32 0)) * k) (same_many at.store r (first_key drawn) (first_key other) file_bytes none)
+    ∙ sym (due_weighs m r other file_bytes valid none)
+    in
+    payload_due at r new drawn
+    ∙ ap (λ l. n + 98 * l + sum_by piece_len (due at r drawn)) (links_begun at r false drawn other)
+    ∙ ap (λ l. n + 98 * length (entry_step at (Did r other)).links + l) pieces
+    ∙ sym (payload_due at r false other)
