@@ -12,6 +12,7 @@ pub mod Kept
 pub mod LogsWalked
 pub mod Measured
 pub mod NextEntry
+pub mod NextValid
 pub mod NotesTold
 pub mod OpenedKeys
 pub mod OpenedTexts
