@@ -11,6 +11,7 @@ pub mod Grown
 pub mod Kept
 pub mod LogsWalked
 pub mod Measured
+pub mod NewTitles
 pub mod NextEntry
 pub mod NextValid
 pub mod NotesTold

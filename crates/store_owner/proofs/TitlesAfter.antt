@@ -14,17 +14,20 @@ use Rattle.cry_base.specs.declared.roles.Node.TheVariants.{Folder, File}
 use Rattle.cry_base.proofs.Finding.{node_found}
 use Rattle.folder_nodes.specs.Joining.{IsSet}
 use Rattle.folder_nodes.specs.Titles.{Titles, name_in, title_at, tree_store}
-use Rattle.folder_nodes.specs.Trees as trees
 use Rattle.folder_nodes.proofs.Downward.{file_id}
 use Rattle.folder_nodes.proofs.Named.{file_named, named_file}
-use Rattle.folder_nodes.proofs.Joined.{file_rewritten, folder_renamed, move_joins, name_joins, new_file_joins, new_folder_joins, removal_joins}
+use Rattle.folder_nodes.proofs.Joined.{file_rewritten, folder_renamed, move_joins, name_joins, removal_joins}
+use Rattle.record_format.specs.Noted.{Note}
+use Rattle.record_format.specs.Noted.Note.{Root, NewHolder, NewFolder, NewFile, Rewrite, NameFile, NameFolder, DropFile, DropFolder, ShiftFile, ShiftFolder, Give, Take}
 use Rattle.move_plan.specs.Noting.{move_note, note_of, remove_note, rename_note, write_note}
 use Rattle.public_fold.specs.Changing.{tree_then}
+use Rattle.public_fold.specs.Told.{told_store}
 use Rattle.public_fold.proofs.Accepting.{IsAccepted}
 use Rattle.public_fold.proofs.Treeing.{IsTree, file_own, node_stands}
 use Rattle.store_owner.specs.Owning.{IsTreeOf}
 use Rattle.store_owner.specs.Texting.{AreKept, AreTitlesAfter, IsRemoved, IsRenamed, IsWritten, name_at}
 use Rattle.store_owner.proofs.Found.{file_name_found}
+use Rattle.store_owner.proofs.NewTitles.{AreBelow, file_joins, folder_joins}
 
 -- the same change of two stores with one tree leaves one tree
 new_folder : (t s : Store) (parent : ℕ) (name : List ℕ) → IsTreeOf t s → IsTreeOf (with_new_folder t parent name) (with_new_folder s parent name)
@@ -93,13 +96,51 @@ kept t s old new are is = record {
   files_made = is.files_made;
 }
 
-module _ (t s : Store) (old new : Titles) (tree : trees.IsTree t) (is : IsTreeOf (tree_store t old) s) where
+-- what a note tells of a store is what it makes of its tree
+pub told_tree : (s t : Store) (note : Note) → IsTreeOf s t → IsTreeOf (told_store s note) (tree_then t note)
+unfolding told_store tree_then with_new_holder without_grant
+told_tree s t Root is = record { folders = refl; files = refl; folders_made = refl; files_made = refl }
+told_tree s t (NewHolder h check) is = record { folders = is.folders; files = is.files; folders_made = is.folders_made; files_made = is.files_made }
+told_tree s t (NewFolder f p) is = new_folder s t p [] is
+told_tree s t (NewFile x f) is = new_file s t f [] [] is
+told_tree s t (Rewrite x) is = is
+told_tree s t (NameFile x) is = is
+told_tree s t (NameFolder f) is = is
+told_tree s t (DropFile x) is = unfold without_node in node_gone s t (File (record { 0 = x })) is
+told_tree s t (DropFolder f) is = unfold without_node in node_gone s t (Folder (record { 0 = f })) is
+told_tree s t (ShiftFile x g) is = file_changed s t x (λ e. record e { folder = g }) is
+told_tree s t (ShiftFolder g q) is = folder_changed s t g (λ e. record e { parent = q }) is
+told_tree s t (Give h f) is = record { folders = is.folders; files = is.files; folders_made = is.folders_made; files_made = is.files_made }
+told_tree s t (Take h f) is = record { folders = is.folders; files = is.files; folders_made = is.folders_made; files_made = is.files_made }
+
+-- names stand beside one tree as beside another
+pub titled_tree : (t u : Store) (names : Titles) → IsTreeOf t u → IsTreeOf (tree_store t names) (tree_store u names)
+unfolding tree_store
+titled_tree t u names is = record {
+  folders = ap (λ l. (tree_store (record t { folders = l }) names).folders) is.folders;
+  files = ap (λ l. (tree_store (record t { files = l }) names).files) is.files;
+  folders_made = is.folders_made;
+  files_made = is.files_made;
+}
+
+pub tree_on : (a b c : Store) → IsTreeOf a b → IsTreeOf b c → IsTreeOf a c
+tree_on a b c p q = record {
+  folders = p.folders ∙ q.folders;
+  files = p.files ∙ q.files;
+  folders_made = p.folders_made ∙ q.folders_made;
+  files_made = p.files_made ∙ q.files_made;
+}
+
+pub tree_back : (a b : Store) → IsTreeOf a b → IsTreeOf b a
+tree_back a b p = record { folders = sym p.folders; files = sym p.files; folders_made = sym p.folders_made; files_made = sym p.files_made }
+
+module _ (t s : Store) (old new : Titles) (below : AreBelow t) (is : IsTreeOf (tree_store t old) s) where
   made : (path : List ℕ) (parent : ℕ) → IsSet old new (Folder (record { 0 = s.folders_made + 1 })) (name_at path) [] → IsTreeOf (tree_store (with_new_folder t parent []) new) (with_new_folder s parent (name_at path))
   unfolding tree_store folder_node
   made path parent set =
       let same : s.folders_made ≡ t.folders_made = sym is.folders_made in
       subst (λ z. IsTreeOf z (with_new_folder s parent (name_at path)))
-      (sym (new_folder_joins t old new parent (name_at path) [] tree (subst (λ n. IsSet old new (folder_node (n + 1)) (name_at path) []) same set)))
+      (sym (folder_joins t old new parent (name_at path) [] below (subst (λ n. IsSet old new (folder_node (n + 1)) (name_at path) []) same set)))
       (new_folder (tree_store t old) s parent (name_at path) is)
 
   added : (folder : ℕ) (name bytes : List ℕ) → IsSet old new (File (record { 0 = s.files_made + 1 })) name bytes → IsTreeOf (tree_store (with_new_file t folder [] []) new) (with_new_file s folder name bytes)
@@ -107,7 +148,7 @@ module _ (t s : Store) (old new : Titles) (tree : trees.IsTree t) (is : IsTreeOf
   added folder name bytes set =
       let same : s.files_made ≡ t.files_made = sym is.files_made in
       subst (λ z. IsTreeOf z (with_new_file s folder name bytes))
-      (sym (new_file_joins t old new folder name bytes tree (subst (λ n. IsSet old new (file_node (n + 1)) name bytes) same set)))
+      (sym (file_joins t old new folder name bytes below (subst (λ n. IsSet old new (file_node (n + 1)) name bytes) same set)))
       (new_file (tree_store t old) s folder name bytes is)
 
   -- the name that the file had is the last one of its path
