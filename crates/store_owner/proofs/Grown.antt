@@ -112,7 +112,7 @@ image_grows owner low high front =
 
 -- ---- sizes
 
-batch_number : (number epoch : ℕ) (body : PlainBody) → (batch_of number epoch body).number ≡ number + 1
+pub batch_number : (number epoch : ℕ) (body : PlainBody) → (batch_of number epoch body).number ≡ number + 1
 batch_number number epoch (Commands payload) = refl
 batch_number number epoch NewEpoch = refl
 

@@ -12,11 +12,14 @@ pub mod Kept
 pub mod LogsWalked
 pub mod Measured
 pub mod NewTitles
+pub mod NextBatches
 pub mod NextEntry
 pub mod NextValid
+pub mod NotesDeclared
 pub mod NotesTold
 pub mod OpenedKeys
 pub mod OpenedTexts
+pub mod OwnerGoesOn
 pub mod OwnerKeeps
 pub mod OwnerVisits
 pub mod Published

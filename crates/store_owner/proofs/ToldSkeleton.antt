@@ -153,3 +153,34 @@ same_many s request key other file_bytes none =
     many (effect s request key)
     ∙ ap (λ t. length (map bare (pieces_of note t))) (accepted_told s request key [] file_bytes none ∙ sym (accepted_told s request other [] file_bytes none))
     ∙ sym (many (effect s request other))
+
+-- ---- the keys that everyone may see
+
+after_same : (k : KeyState) (before : List Edge) (c : Change) (ps qs : List Piece) → length ps ≡ length qs → (key_step k before c ps).after ≡ (key_step k before c qs).after
+unfolding key_step step_with published
+after_same k before c ps qs same =
+    let plan = renewed k before c in
+    ap (λ n. record (key_step k before c ps).after { count = k.count + length (given k c plan) + length (published_edges before c plan) + n }) same
+
+after_alike : (k : KeyState) (before edges_before : List Edge) (c d : Change) (ps qs : List Piece) → before ≡ edges_before → c ≡ d → length ps ≡ length qs
+    → (key_step k before c ps).after ≡ (key_step k edges_before d qs).after
+after_alike k before edges_before c d ps qs same_edges same many =
+    ap (λ (es : List Edge). (key_step k es c ps).after) same_edges
+    ∙ ap (λ (x : Change). (key_step k edges_before x ps).after) same
+    ∙ after_same k edges_before d ps qs many
+
+pub told_keys : (at : Stand) (request : Request) (check : List ℕ) (drawn : List (List ℕ)) (file_bytes : ℕ) → refusal_of at.store request file_bytes ≡ None
+    → (told_step (record { store = public_of at.store; keys = at.keys }) (note_of at.store request check)).after ≡ (entry_step at (Did request drawn)).after
+unfolding told_step note_step entry_step
+told_keys at request check drawn file_bytes none =
+    let note = note_of at.store request check in
+    let plain = note_of at.store request [] in
+    let t = effect at.store request (first_key drawn) in
+    after_alike at.keys (edges (public_of at.store)) (edges at.store) (change_of (public_of at.store) note) (change_of at.store plain) (pieces_of note (told_store (public_of at.store) note)) (pieces_of plain t)
+    (edges_public at.store)
+    (change_public at.store note ∙ same_change at.store request check)
+    (ap (λ z. length (pieces_of note z)) (sym (accepted_told at.store request (first_key drawn) check file_bytes none))
+    ∙ sym (length-map (pieces_of note (public_of t)) bare)
+    ∙ ap length (pieces_bare note t)
+    ∙ length-map (pieces_of note t) bare
+    ∙ ap length (same_pieces at.store request check t))
