@@ -8,6 +8,9 @@ use Rattle.chacha_seal.specs.Serials.{Counting}
 use Rattle.commit_journal.specs.Image.{Batch}
 use Rattle.commit_journal.specs.Journals.{IsJournalOf, Joins, JournalState, next_command, next_epoch as epoch_batch}
 use Rattle.commit_journal.specs.Laws.{batch_of}
+use Rattle.commit_journal.specs.Placed.{PlainBody, Commands}
+use Rattle.commit_journal.specs.Standing.{StandsWhole}
+use Rattle.cry_io.specs.Told.{WhereBothTold}
 use Rattle.cry_base.specs.Refusing.{refusal_of}
 use Rattle.cry_base.specs.Requests.{Request}
 use Rattle.cry_base.specs.Sets.{In}
@@ -44,7 +47,7 @@ use Rattle.public_fold.proofs.SerialsKept.{journal_count}
 use Rattle.store_owner.specs.Applying.{IsCarriedOut, journal_then, sealed_text}
 use Rattle.store_owner.specs.Bytes.{batches_of, entry_body, step_payload}
 use Rattle.store_owner.specs.Folds.{public_stand}
-use Rattle.store_owner.specs.Keys.{all_keys}
+use Rattle.store_owner.specs.Keys.{AreWhole, all_keys}
 use Rattle.store_owner.specs.Notes.{declared_note}
 use Rattle.store_owner.specs.Owned.{IsOwnerOf, OwnerView, counting, limits_in}
 use Rattle.store_owner.specs.Owning.{IsStoreOf, IsTreeOf}
@@ -112,13 +115,13 @@ seen_below m t is =
 -- ---- the keys, once the session is begun
 
 starts_hold : (has_begun : Bool) (keys : List KeyParts) (k : KeyState) (ring : Ringed) (counter : Option Counting) (starts : Counting) (epoch : ℕ) → HoldsKeys keys k ring (counting k) → k.count ≤ 4294967296
-    → counter ≡ cond has_begun (Some (counting k)) None → cond has_begun (counter ≡ Some starts) (starts ≡ record { epoch = epoch; count = 0 }) → (has_begun ≡ false → epoch ≡ k.epoch + 1)
+    → counter ≡ cond has_begun (Some (counting k)) None → cond has_begun (counter ≡ Some starts) (starts ≡ record { epoch = epoch; count = 0 }) → epoch ≡ (begun_keys (not has_begun) k).epoch
     → HoldsKeys keys (begun_keys (not has_begun) k) ring starts
-unfolding begun_keys
+unfolding begun_keys next_epoch
 starts_hold true keys k ring counter starts epoch holds few counts is begins =
     let same : counting k ≡ starts = cc in subst (HoldsKeys keys k ring) same holds
 starts_hold false keys k ring counter starts epoch holds few counts is begins =
-    subst (HoldsKeys keys (next_epoch k) ring) (sym (is ∙ ap (λ (n : ℕ). record { epoch = n; count = 0 }) (begins refl))) (next_holds keys k ring (counting k) holds few)
+    subst (HoldsKeys keys (next_epoch k) ring) (sym (is ∙ ap (λ (n : ℕ). record { epoch = n; count = 0 }) begins)) (next_holds keys k ring (counting k) holds few)
 
 content_piece : (k : KeyState) (before : List Edge) (c : Change) (pieces : List Piece) (x : Content) → In x (key_step k before c pieces).contents → In x.piece pieces
 unfolding key_step step_with published
@@ -126,11 +129,40 @@ content_piece k before c pieces x i =
     let plan = renewed k before c in
     (content_from (keys_then k c plan) (next_serial k + length (given k c plan) + length (published_edges before c plan)) pieces x i).0
 
+-- ---- the journal, once the session is begun
+
+abbrev Begins : Bool → JournalState → JournalState → Option (List ℕ) → Option (List ℕ) → Type 0
+Begins has_begun ready then was showed = cond has_begun ((then ≡ ready) × (showed ≡ was)) (Joins (epoch_batch ready) ready then was showed × (then.owner ≡ ready.owner))
+
+begun_stands : (has_begun : Bool) (owner : List ℕ) (m : Journal) (ready then : JournalState) (was showed : Option (List ℕ)) → Begins has_begun ready then was showed
+    → IsJournalOf (batches_of owner m) ready → IsJournalOf (batches_of owner (between m has_begun)) then
+unfolding entry_body
+begun_stands true owner m ready then was showed begins stands =
+    subst (λ n. IsJournalOf (batches_of owner n) then) (sym (append-nil m)) (subst (IsJournalOf (batches_of owner m)) (sym begins.0) stands)
+begun_stands false owner m ready then was showed begins stands =
+    subst (λ bs. IsJournalOf bs then) (sym (batches_then owner m Session ready stands)) (begins.0.stands (batches_of owner m) stands)
+
+begun_owner : (has_begun : Bool) (ready then : JournalState) (was showed : Option (List ℕ)) → Begins has_begun ready then was showed → then.owner ≡ ready.owner
+begun_owner true ready then was showed begins = ap (λ (j : JournalState). j.owner) begins.0
+begun_owner false ready then was showed begins = begins.1
+
+begun_shown : (has_begun : Bool) (owner : List ℕ) (m : Journal) (ready then : JournalState) (was showed : Option (List ℕ)) → Begins has_begun ready then was showed
+    → IsJournalOf (batches_of owner m) ready
+    → WhereBothTold was showed (λ x y. StandsWhole ready.owner (batches_of owner m) x → StandsWhole ready.owner (batches_of owner (between m has_begun)) y)
+unfolding entry_body
+begun_shown true owner m ready then was showed begins stands = λ x y e f whole.
+    let same : showed ≡ was = begins.1 in
+    let one : x ≡ y = cc in
+    subst (λ n. StandsWhole ready.owner (batches_of owner n) y) (sym (append-nil m)) (subst (StandsWhole ready.owner (batches_of owner m)) one whole)
+begun_shown false owner m ready then was showed begins stands = λ x y e f whole.
+    subst (λ bs. StandsWhole ready.owner bs y) (sym (batches_then owner m Session ready stands)) (begins.0.shown (batches_of owner m) stands x y e f whole)
+
+told_some : (o : Option (List ℕ)) → is_some o ≡ true → (x : List ℕ) × (o ≡ Some x)
+told_some None = λ e. absurd cc
+told_some (Some x) = λ e. (x, refl)
+
 module _ (m : Journal) (r : Request) (drawn : List (List ℕ)) (old new : OwnerView) (was shows : Option (List ℕ)) (is : IsOwnerOf m old) (low : old.journal.limit ≤ 268435456) (bound : old.file_bytes ≤ 1048576)
     (fine : answer (limits_in old) m old.journal.has_epoch r ≡ None) (done : IsCarriedOut r drawn old new was shows) where
-  abbrev has_begun : Bool
-  has_begun = old.journal.has_epoch
-
   abbrev at : Stand
   at = begun (not old.journal.has_epoch) (stand_after nothing m)
 
@@ -165,3 +197,122 @@ module _ (m : Journal) (r : Request) (drawn : List (List ℕ)) (old new : OwnerV
       sealed (store_of m) r (first_key drawn) [] (accepted (store_of m) r old.file_bytes accepted_is) (journal_counted m) (journal_tree m is.valid) c.piece
       (content_piece at.keys _ _ (pieces_of (note_of (store_of m) r []) (effect (store_of m) r (first_key drawn))) c i)
       ∙ ap (λ t. t ++ due_key r (first_key drawn)) (sym (due_same (tree_store old.state.tree old.names) (store_of m) r is.tree))
+
+  told : IsTold (entry_step at (Did r drawn)) done.skeleton (sealed_text old r drawn)
+  told = record { can_be_sealed = sealable; is_skeleton = step_skeleton; is_text = text_is }
+
+  -- the journal
+  ready_stands : IsJournalOf (batches_of old.key m) done.ready
+  ready_stands =
+      subst (IsJournalOf (batches_of old.key m)) (sym done.has_room)
+      (record { batches = is.stands.batches; epoch = is.stands.epoch; end = is.stands.end; tag = is.stands.tag })
+
+  between_stands : IsJournalOf (batches_of old.key (between m old.journal.has_epoch)) done.between
+  between_stands = begun_stands old.journal.has_epoch old.key m done.ready done.between was done.showed done.begins ready_stands
+
+  ready_owner : done.ready.owner ≡ old.key
+  ready_owner = ap (λ (j : JournalState). j.owner) done.has_room ∙ is.same_key
+
+  between_owner : done.between.owner ≡ old.key
+  between_owner = begun_owner old.journal.has_epoch done.ready done.between was done.showed done.begins ∙ ready_owner
+
+  between_epoch : done.between.epoch ≡ at.keys.epoch
+  unfolding keys_of
+  between_epoch = between_stands.epoch ∙ epoch_of old.key (between m old.journal.has_epoch) ∙ ap (λ (a : Stand). a.keys.epoch) (stand_between m old.journal.has_epoch)
+
+  holds_at : HoldsKeys (all_keys old.key m) at.keys old.ring done.starts
+  unfolding keys_of
+  holds_at =
+      let few = journal_count m is.valid in
+      starts_hold old.journal.has_epoch (all_keys old.key m) (stand_after nothing m).keys old.ring old.counter done.starts done.between.epoch is.holds (omega (arith, few)) is.counts done.starts_as between_epoch
+
+  payload_are : done.payload ≡ step_payload (all_keys old.key (journal_then m old.journal.has_epoch r drawn)) (declared_note (note_of (store_of m) r (check_of (first_key drawn)))) (entry_step at (Did r drawn))
+  unfolding entry_step note_step store_of
+  payload_are =
+      done.payload_is (all_keys old.key m) at (note_of (store_of m) r []) (effect (store_of m) r (first_key drawn)) holds_at told
+      ∙ ap (λ keys. step_payload keys done.note (entry_step at (Did r drawn))) (keys_drawn old.key m old.journal.has_epoch r drawn)
+      ∙ ap (λ note. step_payload (all_keys old.key (journal_then m old.journal.has_epoch r drawn)) note (entry_step at (Did r drawn)))
+      (sym (told_back done.note) ∙ ap declared_note (done.told (store_of m) (store_kept m old is)))
+
+  batches_are : batches_of old.key (journal_then m old.journal.has_epoch r drawn)
+      ≡ batches_of old.key (between m old.journal.has_epoch) ++ next_command done.between (spell_payload done.payload) ∷ []
+  unfolding entry_body store_of
+  batches_are =
+      let bs = batches_of old.key (between m old.journal.has_epoch) in
+      let keys = all_keys old.key (journal_then m old.journal.has_epoch r drawn) in
+      batches_then old.key (between m old.journal.has_epoch) (Did r drawn) done.between between_stands
+      ∙ ap (λ a. bs ++ batch_of done.between.batches done.between.epoch (entry_body keys a (Did r drawn)) ∷ []) (stand_between m old.journal.has_epoch)
+      ∙ ap (λ p. bs ++ batch_of done.between.batches done.between.epoch (Commands p) ∷ []) (sym payload_are)
+
+  stands_then : IsJournalOf (batches_of old.key (journal_then m old.journal.has_epoch r drawn)) new.journal
+  stands_then = subst (λ bs. IsJournalOf bs new.journal) (sym batches_are) (done.commits.stands (batches_of old.key (between m old.journal.has_epoch)) between_stands)
+
+  -- the store and the keys
+  stand_is : stand_after nothing (journal_then m old.journal.has_epoch r drawn) ≡ stand_then at (Did r drawn)
+  unfolding stand_after
+  stand_is = stand_after-append nothing (between m old.journal.has_epoch) (Did r drawn ∷ []) ∙ ap (λ a. stand_then a (Did r drawn)) (stand_between m old.journal.has_epoch)
+
+  public_is : public_stand (journal_then m old.journal.has_epoch r drawn) ≡ told_stand (begun (not old.journal.has_epoch) (public_stand m)) (note_of (store_of m) r (replicate 32 0))
+  unfolding public_stand store_of keys_of told_stand stand_then entry_store
+  public_is =
+      ap (λ (a : Stand). record { store = public_of a.store; keys = a.keys }) stand_is
+      ∙ (λ i. record {
+        store = accepted_told (store_of m) r (first_key drawn) (replicate 32 0) old.file_bytes accepted_is i;
+        keys = sym (told_keys at r (replicate 32 0) drawn old.file_bytes accepted_is) i;
+      })
+
+  seen_then : IsSeenAs new.state (public_stand (journal_then m old.journal.has_epoch r drawn))
+  seen_then = subst (IsSeenAs new.state) (sym public_is) (done.seen_then (public_stand m) (store_of m) is.seen (store_kept m old is))
+
+  tree_is : IsTreeOf (tree_store new.state.tree new.names) (store_of (journal_then m old.journal.has_epoch r drawn))
+  unfolding public_stand store_of told_stand stand_then entry_store
+  tree_is =
+      let s = store_of m in
+      let note = note_of s r (replicate 32 0) in
+      let before : IsTreeOf (public_of s) old.state.tree = seen_tree old.state (public_stand m) is.seen in
+      let after = subst (λ (a : Stand). IsTreeOf a.store new.state.tree) public_is (seen_tree new.state (public_stand (journal_then m old.journal.has_epoch r drawn)) seen_then) in
+      let same : IsTreeOf new.state.tree (tree_then old.state.tree note) =
+      tree_on new.state.tree (told_store (public_of s) note) (tree_then old.state.tree note) (tree_back (told_store (public_of s) note) new.state.tree after)
+      (told_tree (public_of s) old.state.tree note before)
+      in
+      let whole = joined old.state.tree s old.names new.names (seen_below m old.state.tree before) is.tree r (first_key drawn) (replicate 32 0) (accepted s r old.file_bytes accepted_is)
+      (journal_tree m is.valid) (done.titles_then s is.tree)
+      in
+      subst (IsTreeOf (tree_store new.state.tree new.names)) (sym (ap (λ (a : Stand). a.store) stand_is))
+      (tree_on (tree_store new.state.tree new.names) (tree_store (tree_then old.state.tree note) new.names) (effect s r (first_key drawn))
+      (titled_tree new.state.tree (tree_then old.state.tree note) new.names same) whole)
+
+  holds_then : HoldsKeys (all_keys old.key (journal_then m old.journal.has_epoch r drawn)) (keys_of (journal_then m old.journal.has_epoch r drawn)) new.ring done.ends
+  unfolding keys_of stand_then entry_step note_step store_of
+  holds_then =
+      let step = entry_step at (Did r drawn) in
+      subst (λ (k : KeyState). HoldsKeys (all_keys old.key (journal_then m old.journal.has_epoch r drawn)) k new.ring done.ends) (sym (ap (λ (a : Stand). a.keys) stand_is))
+      (subst (λ keys. HoldsKeys keys step.after new.ring done.ends) (keys_drawn old.key m old.journal.has_epoch r drawn)
+      (done.keys_then (all_keys old.key m) at (note_of (store_of m) r []) (effect (store_of m) r (first_key drawn)) holds_at sealable step_skeleton))
+
+  pub owner_then : IsOwnerOf (journal_then m old.journal.has_epoch r drawn) new
+  owner_then =
+      let after = journal_then m old.journal.has_epoch r drawn in
+      let back = sym done.same_key in
+      record {
+        valid = valid_then;
+        whole_keys = subst (λ key. AreWhole key after) back (next_whole old.key m old.journal.has_epoch r drawn is.whole_keys done.drawn_sizes);
+        same_key = done.same_owner ∙ between_owner ∙ back;
+        stands = subst (λ key. IsJournalOf (batches_of key after) new.journal) back stands_then;
+        seen = seen_then;
+        tree = tree_is;
+        holds = subst (λ key. HoldsKeys (all_keys key after) (keys_of after) new.ring (counting (keys_of after))) back
+            (subst (HoldsKeys (all_keys old.key after) (keys_of after) new.ring) holds_then.is_counted holds_then);
+        counts = done.ends_as ∙ ap Some holds_then.is_counted ∙ ap (λ b. cond b (Some (counting (keys_of after))) None) (sym done.has_begun);
+      }
+
+  pub disk_then : WhereBothTold was shows (λ x y. StandsWhole old.key (batches_of old.key m) x → StandsWhole old.key (batches_of old.key (journal_then m old.journal.has_epoch r drawn)) y)
+  disk_then = λ x y e f whole.
+      let bs = batches_of old.key (between m old.journal.has_epoch) in
+      let some = told_some done.showed (done.stays_told ∙ ap (λ (o : Option (List ℕ)). is_some o) e) in
+      let first = begun_shown old.journal.has_epoch old.key m done.ready done.between was done.showed done.begins ready_stands x some.0 e some.1
+      (subst (λ key. StandsWhole key (batches_of old.key m) x) (sym ready_owner) whole)
+      in
+      let last = done.commits.shown bs between_stands some.0 y some.1 f (subst (λ key. StandsWhole key bs some.0) (ready_owner ∙ sym between_owner) first) in
+      subst (λ (bs : List Batch). StandsWhole old.key bs y) (sym batches_are)
+      (subst (λ key. StandsWhole key (bs ++ next_command done.between (spell_payload done.payload) ∷ []) y) between_owner last)
