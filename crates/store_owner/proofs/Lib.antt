@@ -14,6 +14,7 @@ pub mod Measured
 pub mod NewTitles
 pub mod NextBatches
 pub mod NextEntry
+pub mod NextFits
 pub mod NextValid
 pub mod NotesDeclared
 pub mod NotesTold
@@ -34,6 +35,7 @@ pub mod SoundStays
 pub mod SoundSteps
 pub mod SoundStores
 pub mod SoundTexts
+pub mod SeenFits
 pub mod StepKeys
 pub mod StepSealed
 pub mod ToldSkeleton

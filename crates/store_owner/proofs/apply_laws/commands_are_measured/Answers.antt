@@ -2,6 +2,7 @@ use Rattle.std.specs.Prelude.{not, replicate}
 use Rattle.std.proofs.Common.{refl}
 use Rattle.folder_nodes.specs.Titles.{tree_store}
 use Rattle.store_owner.proofs.Measured.{draws_told, end_told, payload_told}
+use Rattle.store_owner.proofs.NextFits.{fits_or_full}
 use Rattle.store_owner.proofs.apply_laws.commands_are_measured.Goals as goal
 
 pub returns-clause-payload : goal.returns-clause-payload
@@ -13,3 +14,6 @@ returns-clause-draws c = λ m r o s is fine skeleton. draws_told m (not o.journa
 
 pub returns-clause-end : goal.returns-clause-end
 returns-clause-end c = end_told
+
+pub returns-clause-fits : goal.returns-clause-fits
+returns-clause-fits c = λ m r o is bound fine not_fit. fits_or_full m o.journal.has_epoch r o.file_bytes is.valid bound fine (replicate 32 0) not_fit
