@@ -3,6 +3,7 @@ pub mod Counted
 pub mod DueTexts
 pub mod FitsPublic
 pub mod Followed
+pub mod FewDraws
 pub mod Followings
 pub mod Forms
 pub mod Found

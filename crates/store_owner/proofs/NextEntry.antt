@@ -70,11 +70,11 @@ contents_sum keys n (p ∷ ps) =
     ∙ sym (sum_by-cons piece_len p ps)
 
 module _ (k : KeyState) (before : List Edge) (c : Change) (pieces : List Piece) where
-  given_many : length (key_step k before c pieces).given ≡ length (renewed k before c ++ c.fresh)
+  pub given_many : length (key_step k before c pieces).given ≡ length (renewed k before c ++ c.fresh)
   unfolding key_step step_with published given
   given_many = numbered-length Role (next_serial k) (renewed k before c ++ c.fresh)
 
-  links_many : length (key_step k before c pieces).links ≡ length (published_edges before c (renewed k before c))
+  pub links_many : length (key_step k before c pieces).links ≡ length (published_edges before c (renewed k before c))
   unfolding key_step step_with published links_from
   links_many =
       let es = published_edges before c (renewed k before c) in

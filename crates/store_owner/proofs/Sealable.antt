@@ -46,7 +46,7 @@ once_append (x ∷ xs) ys first more apart = (
   once_append xs ys first.1 more (λ r u v. apart r (inr u) v),
 )
 
-ascending_once : (rs : List Role) → IsAscending rs → EachOnce rs
+pub ascending_once : (rs : List Role) → IsAscending rs → EachOnce rs
 ascending_once [] up = tt
 ascending_once (r ∷ rs) up = (λ i. before_self r (up.0 r i), ascending_once rs up.1)
 

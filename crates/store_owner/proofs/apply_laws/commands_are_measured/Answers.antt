@@ -1,6 +1,7 @@
 use Rattle.std.specs.Prelude.{not, replicate}
 use Rattle.std.proofs.Common.{refl}
 use Rattle.folder_nodes.specs.Titles.{tree_store}
+use Rattle.store_owner.proofs.FewDraws.{few_draws}
 use Rattle.store_owner.proofs.Measured.{draws_told, end_told, payload_told}
 use Rattle.store_owner.proofs.NextFits.{fits_or_full}
 use Rattle.store_owner.proofs.apply_laws.commands_are_measured.Goals as goal
@@ -17,3 +18,6 @@ returns-clause-end c = end_told
 
 pub returns-clause-fits : goal.returns-clause-fits
 returns-clause-fits c = λ m r o is bound fine not_fit. fits_or_full m o.journal.has_epoch r o.file_bytes is.valid bound fine (replicate 32 0) not_fit
+
+pub returns-clause-few : goal.returns-clause-few
+returns-clause-few c = λ m r o is bound fine low. few_draws m o.journal.has_epoch r o.file_bytes is.valid fine low
