@@ -1,10 +1,10 @@
 -- Whether a note fits hangs on no name, no byte of a file and no holder's key.
-use Rattle.std.proofs.Common.{◌≡◌, ℕ, ◌+◌, Bool, true, false, cond, not, ◌==◌, ◌&&◌, ◌||◌, List, [], ◌∷◌, map, Option, Some, None, refl, sym, ap, ◌∙◌}
+use Rattle.std.proofs.Common.{◌≡◌, ℕ, ◌+◌, Bool, true, false, cond, not, ◌==◌, ◌&&◌, ◌||◌, List, [], ◌∷◌, map, Some, None, refl, ap, ◌∙◌}
 use Rattle.std.specs.Prelude.{find, is_some, nat_le, nat_lt}
 use Rattle.cry_base.specs.Refusing.{deepest, has_child, height_of, is_node_within}
 use Rattle.cry_base.specs.Store.{Store, FileEntry, FolderEntry, HolderEntry, depth_of, file_entry, file_names, folder_entry, folder_names, folder_node, has_grant, holder_entry, is_within, node_names, nodes_of, way_to_root}
 use Rattle.folder_nodes.specs.Titles.{Titles, tree_store}
-use Rattle.folder_nodes.proofs.Named.{child_named, depth_named, file_named, folder_named_stands, height_named, within_named}
+use Rattle.folder_nodes.proofs.Named.{child_named, depth_named, folder_named_stands, height_named, within_named}
 use Rattle.move_plan.specs.Change.{folder_of_file, parent_of_folder}
 use Rattle.move_plan.specs.Fitting.{file_stands, fits, folder_stands, has_depth_left, is_other_folder, may_go_into, needs_root, public_of, row_fits}
 use Rattle.record_format.specs.Noted.{Note}

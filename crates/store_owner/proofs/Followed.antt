@@ -1,5 +1,5 @@
 -- The payloads of a valid journal fit, one after another, and make what stands after it.
-use Rattle.std.proofs.Common.{◌≡◌, ℕ, ◌+◌, ◌<◌, ◌≤◌, Bool, true, false, ◌&&◌, ◌==◌, List, [], ◌∷◌, ◌++◌, map, length, All, None, Result, Ok, Err, inl, inr, arith, refl, sym, ap, subst, ◌∙◌}
+use Rattle.std.proofs.Common.{◌≡◌, ℕ, ◌+◌, ◌≤◌, true, ◌&&◌, ◌==◌, List, [], ◌∷◌, ◌++◌, map, length, All, None, Ok, Err, inl, inr, arith, refl, sym, ap, subst, ◌∙◌}
 use Rattle.std.specs.Prelude.{◌-◌, ◌^◌, if◌then◌else◌, nat_lt}
 use Rattle.std.proofs.lemmas.Bool.{and_from, and_parts, eq-eqb}
 use Rattle.std.proofs.lemmas.List.{length-append, length-map}
@@ -9,16 +9,15 @@ use Rattle.chacha_seal.specs.Sealing.{check_of}
 use Rattle.chacha_seal.proofs.SealingLemmas.{length-sealed}
 use Rattle.commit_journal.specs.Answering.{Damaged, and_then}
 use Rattle.commit_journal.specs.Laws.{batch_of, placed_from}
-use Rattle.commit_journal.specs.Placed.{PlainBody, PlainPlaced, Commands, NewEpoch}
+use Rattle.commit_journal.specs.Placed.{PlainBody, PlainPlaced, Commands}
 use Rattle.cry_base.specs.Refusing.{refusal_of}
 use Rattle.cry_base.specs.Requests.{Request}
 use Rattle.cry_base.specs.Requests.Request.{AddHolder, MakeFolder, WriteFile, Remove, Rename, Relocate, Grant, Revoke}
 use Rattle.cry_base.specs.Sets.{In}
 use Rattle.cry_base.specs.Stepping.{effect}
-use Rattle.cry_base.specs.Store.{Store, no_store, root_store}
+use Rattle.cry_base.specs.Store.{no_store, root_store}
 use Rattle.cry_base.specs.declared.roles.Edge.{Edge}
 use Rattle.cry_base.specs.declared.roles.Role.{Role}
-use Rattle.cry_base.proofs.Members.{In-map}
 use Rattle.holder_client.specs.Folding.{folded, stand_behind}
 use Rattle.holder_client.proofs.ToldLemmas.{accepted_told}
 use Rattle.key_links.specs.Sealed.{sealed_content, sealed_link}
@@ -28,21 +27,19 @@ use Rattle.move_plan.specs.Noting.{note_of}
 use Rattle.move_plan.proofs.Public.{change_public, edges_public}
 use Rattle.record_format.specs.Noted.{Note}
 use Rattle.record_format.specs.Noted.Note.{Root, NewHolder, NewFolder, NewFile, Rewrite, NameFile, NameFolder, DropFile, DropFolder, ShiftFile, ShiftFolder, Give, Take}
-use Rattle.record_format.specs.Plain.{PlainContent, PlainPayload}
+use Rattle.record_format.specs.Plain.{PlainContent}
 use Rattle.record_format.specs.Told.{told_note}
-use Rattle.record_format.specs.declared.link.LinkRecord.{LinkRecord}
 use Rattle.role_graph.specs.Edges.{edges}
 use Rattle.role_graph.specs.Roles.{holder_role, role_id}
 use Rattle.public_fold.specs.Fitted.{are_due, fits_step, has_content_head, has_heads, has_length, has_link_head, payload_fits, told_stand, told_step}
 use Rattle.public_fold.specs.Heads.{content_head, is_content_of}
 use Rattle.public_fold.specs.Journal.{Entry, Journal, Stand, nothing, first_key, note_step, entry_step, entry_store, stand_then, stand_after, store_of, keys_of}
 use Rattle.public_fold.specs.Journal.Entry.{Session, Made, Did}
-use Rattle.public_fold.specs.KeyStep.{KeyState, Stepped, content_of, contents_from, given, key_step, keys_then, next_epoch, next_serial, no_keys, numbered, published, published_edges, renewed, step_with}
-use Rattle.public_fold.specs.Records.{Content, Link, Piece, pieces_of, sealing_role, text_of}
+use Rattle.public_fold.specs.KeyStep.{KeyState, Stepped, given, key_step, keys_then, next_serial, published, published_edges, renewed, step_with}
+use Rattle.public_fold.specs.Records.{Content, Link, Piece, pieces_of, text_of}
 use Rattle.public_fold.specs.StandFits.{all_fit, entry_fits, has_count, note_fits}
 use Rattle.public_fold.specs.Told.{told_store}
 use Rattle.public_fold.specs.Valid.{BeginsWell, FollowOn, IsValid}
-use Rattle.public_fold.specs.declared.heads.ContentHead.{ContentHead}
 use Rattle.public_fold.proofs.Accepting.{accepted}
 use Rattle.public_fold.proofs.AllFit.{journal_all_fit}
 use Rattle.public_fold.proofs.KeyMoves.{IsSound, effect_sound, root_sound}

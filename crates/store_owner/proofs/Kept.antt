@@ -1,7 +1,7 @@
 -- What a command leaves as it stood, and what it seals, of the names, files and holders that stand after it.
-use Rattle.std.proofs.Common.{◌≡◌, ◌⊎◌, ⊎_elim, inl, inr, ℕ, ◌+◌, ◌≤◌, Bool, true, false, cond, not, ◌==◌, ◌||◌, List, [], ◌∷◌, ◌++◌, map, Option, Some, None, arith, refl, sym, ap, subst, ◌∙◌}
-use Rattle.std.specs.Prelude.{find, is_none}
-use Rattle.std.proofs.lemmas.Bool.{eq-eqb, eqb-false, eqb-true, false≢true, or_parts}
+use Rattle.std.proofs.Common.{◌≡◌, ◌⊎◌, ⊎_elim, inl, inr, ℕ, ◌+◌, ◌≤◌, Bool, true, false, cond, not, ◌==◌, ◌||◌, List, [], ◌∷◌, ◌++◌, Option, Some, None, arith, refl, sym, ap, subst, ◌∙◌}
+use Rattle.std.specs.Prelude.{is_none}
+use Rattle.std.proofs.lemmas.Bool.{eq-eqb, eqb-true, false≢true, or_parts}
 use Rattle.cry_base.specs.Naming.{last_name, names_of, parent_path}
 use Rattle.cry_base.specs.Refusing.{finds_no_path, id_of, is_folder, writes_folder}
 use Rattle.cry_base.specs.Requests.{Request, paths_of}
@@ -13,16 +13,15 @@ use Rattle.cry_base.specs.declared.roles.Node.{Node}
 use Rattle.cry_base.specs.declared.roles.Node.TheVariants.{Folder, File}
 use Rattle.cry_base.specs.declared.roles.Role.{Role}
 use Rattle.cry_base.proofs.Members.{In-append, In-filter, In-map}
-use Rattle.move_plan.specs.Change.{Change, change_of, no_change}
+use Rattle.move_plan.specs.Change.{change_of, no_change}
 use Rattle.move_plan.specs.Noting.{move_note, note_of, remove_note, rename_note, write_note}
-use Rattle.record_format.specs.Noted.{Note}
-use Rattle.record_format.specs.Noted.Note.{Root, NewHolder, NewFolder, NewFile, Rewrite, NameFile, NameFolder, DropFile, DropFolder, ShiftFile, ShiftFolder, Give, Take}
+use Rattle.record_format.specs.Noted.Note.{Root, NewHolder, NewFolder, NewFile, Give, Take}
 use Rattle.role_graph.specs.Roles.{back_of, clear_of, data_of, file_role, files_of, role_id, sub_of, variant_of}
 use Rattle.public_fold.specs.Counted.{AreCounted}
 use Rattle.public_fold.specs.Records.{Piece, file_piece, folder_piece, holder_piece, pieces_of, text_of}
 use Rattle.public_fold.proofs.Accepting.{IsAccepted}
 use Rattle.public_fold.proofs.Keeping.{HasTree}
-use Rattle.public_fold.proofs.Treeing.{IsTree, file_own, folder_own}
+use Rattle.public_fold.proofs.Treeing.{file_own, folder_own}
 use Rattle.store_owner.specs.Texting.{file_text}
 use Rattle.store_owner.proofs.Found.{found_new}
 use Rattle.store_owner.proofs.TextSizes.{file_of, folder_of, holder_of}

@@ -1,12 +1,11 @@
 -- What holds of the records of a valid journal's log.
-use Rattle.std.proofs.Common.{◌≡◌, ◌⊎◌, ⊎_elim, inl, inr, cond, ℕ, ◌+◌, ◌≤◌, ◌<◌, true, ◌&&◌, List, [], ◌∷◌, ◌++◌, map, length, All, Some, None, append_assoc, append-nil, arith, refl, sym, ap, subst, ◌∙◌}
+use Rattle.std.proofs.Common.{◌≡◌, ◌⊎◌, ⊎_elim, inl, inr, cond, ℕ, ◌+◌, ◌≤◌, true, ◌&&◌, List, [], ◌∷◌, ◌++◌, length, Some, None, append_assoc, append-nil, arith, refl, sym, ap, subst, ◌∙◌}
 use Rattle.std.specs.Prelude.{nat_lt}
-use Rattle.std.specs.List.{flat_map}
 use Rattle.std.proofs.lemmas.Bool.{and_parts, ltb-true}
 use Rattle.chacha_seal.specs.Keys.{KeyParts}
 use Rattle.chacha_seal.specs.Sealing.{check_of}
 use Rattle.commit_journal.specs.Laws.{batch_of, placed_from}
-use Rattle.commit_journal.specs.Placed.{PlainBody, PlainPlaced, Commands, NewEpoch}
+use Rattle.commit_journal.specs.Placed.{PlainPlaced}
 use Rattle.commit_journal.specs.Places.{content_offset, link_offset}
 use Rattle.cry_base.specs.Refusing.{refusal_of}
 use Rattle.cry_base.specs.Requests.{Request}
@@ -43,7 +42,7 @@ use Rattle.store_owner.specs.Folds.{log_of}
 use Rattle.store_owner.specs.Keys.{AreWhole, all_keys, bytes_in, drawn_by, entry_keys, key_bytes, keys_from, owner_parts, with_bytes}
 use Rattle.store_owner.specs.Notes.{declared_note}
 use Rattle.store_owner.specs.Opening.{ArePresent, HoldsPresent}
-use Rattle.store_owner.proofs.Counted.{HaveKeys, IsFed, have_at_first, have_then}
+use Rattle.store_owner.proofs.Counted.{IsFed, have_at_first, have_then}
 use Rattle.store_owner.proofs.Ascending.{drawn_found}
 use Rattle.store_owner.proofs.Kept.{command_holders, command_kept, root_kept}
 use Rattle.store_owner.proofs.Sealable.{fresh_once, pieces_due}

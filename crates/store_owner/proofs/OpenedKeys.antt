@@ -1,6 +1,6 @@
 -- Each key that visits open is the one that was drawn as the present key of its role.
-use Rattle.std.proofs.Common.{◌≡◌, ◌≢◌, ⊎_elim, inl, inr, ℕ, Bool, true, false, cond, ◌==◌, ◌&&◌, List, [], ◌∷◌, ◌++◌, length, map, Option, Some, None, Result, Ok, Err, refl, sym, ap, subst, ◌∙◌}
-use Rattle.std.specs.Prelude.{if◌then◌else◌, find, unwrap_or}
+use Rattle.std.proofs.Common.{◌≡◌, ◌≢◌, inl, inr, ℕ, Bool, true, false, cond, ◌==◌, List, [], ◌∷◌, map, Option, Some, None, Result, Ok, Err, refl, sym, ap, subst, ◌∙◌}
+use Rattle.std.specs.Prelude.{if◌then◌else◌, unwrap_or}
 use Rattle.std.proofs.lemmas.Bool.{false≢true}
 use Rattle.chacha_seal.specs.Keys.{KeyParts}
 use Rattle.commit_journal.specs.Answering.{Fault, Damaged, and_then}
@@ -15,7 +15,7 @@ use Rattle.holder_client.specs.Verdict.{open_content, open_link}
 use Rattle.holder_client.specs.Visiting.{Opened, Reading, is_file_text, is_folder_text, key_of, needed, visit, visit_all, visit_edge, visit_text, with_holder_key, with_key, with_name_at, with_parts, with_text_at}
 use Rattle.holder_client.specs.Visits.{Visit}
 use Rattle.holder_client.specs.Visits.Visit.{ToKey, ToName, ToFile, ToHolder}
-use Rattle.holder_client.proofs.Following.{IsLinkOf, head_found}
+use Rattle.holder_client.proofs.Following.{head_found}
 use Rattle.holder_client.proofs.Opened.{opens_link}
 use Rattle.key_links.specs.Sealed.{sealed_link}
 use Rattle.record_format.specs.declared.link.LinkRecord.{LinkRecord}
@@ -26,7 +26,7 @@ use Rattle.public_fold.specs.KeyStep.{KeyState, newest, present}
 use Rattle.public_fold.specs.Records.{Link}
 use Rattle.public_fold.specs.Valid.{IsValid}
 use Rattle.store_owner.specs.Bytes.{link_record}
-use Rattle.store_owner.specs.Folds.{log_of, public_stand}
+use Rattle.store_owner.specs.Folds.{public_stand}
 use Rattle.store_owner.specs.Keys.{AreWhole, all_keys, bytes_in, bytes_of, owner_parts}
 use Rattle.store_owner.specs.Opening.{AreDrawn, owner_starts, reading_of}
 use Rattle.store_owner.proofs.LogsWalked.{journal_holder, journal_walked}

@@ -1,5 +1,5 @@
 -- The names, files and holders' keys that visits open are those of the journal's store.
-use Rattle.std.proofs.Common.{◌≡◌, ⊎_elim, inl, inr, ℕ, ◌+◌, Bool, true, false, cond, ◌==◌, ◌||◌, List, [], ◌∷◌, ◌++◌, length, take, drop, map, Option, Some, None, Result, Ok, append_assoc, append-nil, refl, sym, ap, subst, ◌∙◌}
+use Rattle.std.proofs.Common.{◌≡◌, inl, inr, ℕ, Bool, true, false, cond, ◌==◌, ◌||◌, List, [], ◌∷◌, ◌++◌, length, take, drop, map, Option, Some, Result, Ok, append_assoc, append-nil, refl, sym, ap, subst, ◌∙◌}
 use Rattle.std.specs.List.{list_any}
 use Rattle.std.proofs.Math.Seq.{drop-append_seam, take-append_seam}
 use Rattle.std.proofs.lemmas.Bool.{eq-eqb, eqb-true, false≢true, ne_eqb}
@@ -13,14 +13,14 @@ use Rattle.cry_base.specs.declared.roles.Role.{Role}
 use Rattle.cry_base.specs.declared.roles.Role.TheVariants.{Owner}
 use Rattle.holder_client.specs.Placing.{PlacedContent, PlacedLink, content_for, log_contents, log_links}
 use Rattle.holder_client.specs.Verdict.{open_content}
-use Rattle.holder_client.specs.Visiting.{Opened, Reading, is_file_text, key_of, visit, visit_all, with_holder_key, with_name_at, with_parts, with_text_at}
+use Rattle.holder_client.specs.Visiting.{Opened, Reading, is_file_text, visit, visit_all, with_holder_key, with_name_at, with_parts, with_text_at}
 use Rattle.holder_client.specs.Visits.{Visit}
 use Rattle.holder_client.specs.Visits.Visit.{ToKey, ToName, ToFile, ToHolder}
 use Rattle.holder_client.proofs.Opened.{opens_content}
 use Rattle.key_links.specs.Sealed.{sealed_content}
 use Rattle.move_plan.specs.Fitting.{public_of}
 use Rattle.role_graph.specs.Roles.{data_of, file_role}
-use Rattle.public_fold.specs.KeyStep.{KeyState, newest}
+use Rattle.public_fold.specs.KeyStep.{newest}
 use Rattle.store_owner.specs.Keys.{bytes_in}
 use Rattle.store_owner.specs.Opening.{AreDrawn, ArePresent, IsLast, is_to_file, is_to_holder, is_to_name, key_with, seen_by}
 use Rattle.store_owner.specs.Texting.{file_text}

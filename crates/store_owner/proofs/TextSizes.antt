@@ -1,9 +1,8 @@
 -- The texts that accepted commands seal have lengths in the ranges of their kinds.
-use Rattle.std.proofs.Common.{◌≡◌, ◌≢◌, ⊎_elim, inl, inr, ℕ, ◌+◌, ◌≤◌, Bool, true, false, cond, not, ◌==◌, ◌&&◌, ◌||◌, List, [], ◌∷◌, ◌++◌, map, filter, length, Option, Some, None, arith, refl, sym, ap, subst, ◌∙◌, append-nil, length-append}
+use Rattle.std.proofs.Common.{◌≡◌, ◌≢◌, ⊎_elim, inl, inr, ℕ, ◌+◌, ◌≤◌, Bool, true, false, cond, not, ◌==◌, ◌&&◌, ◌||◌, List, [], ◌∷◌, ◌++◌, length, Option, Some, None, arith, refl, sym, ap, subst, ◌∙◌, append-nil, length-append}
 use Rattle.std.specs.Prelude.{if◌then◌else◌, is_none, nat_le, nat_lt}
-use Rattle.std.specs.List.{list_all}
 use Rattle.std.proofs.lemmas.Bool.{and_from, and_parts, false≢true, le-leb, leb-true, ltb-false, ne_eqb, not-false, or_parts}
-use Rattle.cry_base.specs.Naming.{is_between, is_name, is_name_byte, is_path, is_root_path, last_name, names_of, parent_path}
+use Rattle.cry_base.specs.Naming.{is_between, is_name, is_path, is_root_path, last_name, names_of, parent_path}
 use Rattle.cry_base.specs.Refusing.{causes, changes_root, finds_no_path, has_bad_name, id_of, is_folder, is_too_long, refusal_of, writes_folder}
 use Rattle.cry_base.specs.Requests.{Request, paths_of}
 use Rattle.cry_base.specs.Requests.Request.{AddHolder, MakeFolder, WriteFile, Remove, Rename, Relocate, Grant, Revoke}
@@ -17,18 +16,14 @@ use Rattle.cry_base.specs.declared.roles.Node.TheVariants.{Folder, File}
 use Rattle.cry_base.proofs.Finding.{find-found, node_found}
 use Rattle.cry_base.proofs.Members.{In-append, In-filter, In-map}
 use Rattle.move_plan.specs.Noting.{move_note, note_of, remove_note, rename_note, write_note}
-use Rattle.record_format.specs.Noted.{Note}
 use Rattle.record_format.specs.Noted.Note.{Root}
 use Rattle.record_format.specs.Spellable.{longest_text, shortest_text}
-use Rattle.public_fold.specs.Counted.{AreCounted}
 use Rattle.public_fold.specs.Records.{Piece, file_piece, folder_piece, holder_piece, pieces_of, text_of}
-use Rattle.public_fold.specs.Tree.{AtLevel}
 use Rattle.public_fold.proofs.Accepting.{IsAccepted, accepted, other_than_root}
 use Rattle.public_fold.proofs.Keeping.{HasTree, made_place, written_place}
 use Rattle.public_fold.proofs.KeyMoves.{IsSound}
 use Rattle.public_fold.proofs.Settling.{no_cause}
-use Rattle.public_fold.proofs.Treeing.{IsTree, file_own, node_stands}
-use Rattle.folder_nodes.proofs.Located.{file_in}
+use Rattle.public_fold.proofs.Treeing.{file_own, node_stands}
 use Rattle.store_owner.specs.Texting.{bytes_of_file, due_key, due_text, file_text, name_at, renamed_text}
 use Rattle.store_owner.proofs.DueTexts.{sealed}
 use Rattle.store_owner.proofs.Found.{file_name_found}

@@ -1,23 +1,20 @@
 -- The records of a log while a journal goes on: each link is sealed from and to keys that were drawn, and the last content of each
 -- name, file and holder's key is the present one.
-use Rattle.std.proofs.Common.{◌≡◌, ◌≢◌, ◌⊎◌, ⊎_elim, inl, inr, ℕ, ◌+◌, ◌*◌, ◌≤◌, ◌<◌, Bool, true, false, cond, not, ◌==◌, ◌&&◌, List, [], ◌∷◌, ◌++◌, map, length, All, Option, Some, None, append_assoc, append-nil, arith, refl, sym, ap, subst, ◌∙◌}
+use Rattle.std.proofs.Common.{◌≡◌, ◌≢◌, ◌⊎◌, ⊎_elim, inl, inr, ℕ, ◌+◌, ◌≤◌, Bool, true, false, cond, not, ◌==◌, List, [], ◌∷◌, ◌++◌, map, length, Option, Some, None, arith, refl, sym, ap, subst, ◌∙◌}
 use Rattle.std.specs.Prelude.{if◌then◌else◌, unwrap_or}
-use Rattle.std.specs.List.{flat_map, list_all}
+use Rattle.std.specs.List.{list_all}
 use Rattle.std.proofs.lemmas.Bool.{and_from, and_parts, eq-eqb, eqb-true, false_from_ne_true, false≢true}
-use Rattle.std.proofs.lemmas.List.Elements.{All-head, All-tail}
 use Rattle.chacha_seal.specs.Keys.{KeyParts}
 use Rattle.cry_base.specs.Sets.{In}
 use Rattle.cry_base.specs.Store.{Store, FolderEntry, FileEntry, HolderEntry}
 use Rattle.cry_base.specs.declared.roles.Edge.{Edge}
 use Rattle.cry_base.specs.declared.roles.Role.{Role}
 use Rattle.cry_base.specs.declared.roles.Role.TheVariants.{Owner}
-use Rattle.cry_base.specs.declared.roles.Role.TheVariants as role
 use Rattle.cry_base.proofs.Members.{In-append, In-map}
 use Rattle.holder_client.specs.Found.{is_of}
 use Rattle.holder_client.specs.Placing.{PlacedContent, PlacedLink, contents_at, last_one, links_at}
 use Rattle.key_links.specs.Sealed.{sealed_content, sealed_link}
 use Rattle.kind_table.specs.Kinds.{kind_of}
-use Rattle.kind_table.specs.Rows.{row}
 use Rattle.kind_table.specs.declared.kinds.RoleKind.{RoleKind}
 use Rattle.kind_table.specs.declared.kinds.RoleKind.TheVariants as kinds
 use Rattle.kind_table.specs.declared.nine.TheConstants.{NINE}
@@ -31,20 +28,19 @@ use Rattle.role_graph.specs.Roles.{data_of, file_role, holder_role, is_root_role
 use Rattle.role_graph.specs.Tabled.{row_of}
 use Rattle.role_graph.proofs.Comparing.{same_role_tells}
 use Rattle.public_fold.specs.Keyed.{HasRole, KeysHold}
-use Rattle.public_fold.specs.KeyStep.{KeyState, Stepped, content_of, contents_from, given, key_step, keys_then, newest, next_serial, numbered, present, published, published_edges, renewed, step_with}
+use Rattle.public_fold.specs.KeyStep.{KeyState, Stepped, content_of, contents_from, given, key_step, newest, next_serial, numbered, present, published, published_edges, renewed, step_with}
 use Rattle.public_fold.specs.Records.{Content, Link, Piece, sealing_role, text_of}
 use Rattle.public_fold.proofs.GrantLaws.{sealing_wanted}
 use Rattle.public_fold.proofs.KeepingKeys.{IsMove, marked_no_root, planned_told, same_key}
 use Rattle.public_fold.proofs.KeepingKeys as keeping
 use Rattle.public_fold.proofs.Serials.{keys_between}
 use Rattle.store_owner.specs.Bytes.{content_record, link_record}
-use Rattle.store_owner.specs.Keys.{bytes_in}
 use Rattle.store_owner.specs.Opening.{ArePresent, IsLast, key_with}
 use Rattle.store_owner.specs.Sealing.{EachOnce, IsSealable}
 use Rattle.store_owner.specs.Texting.{file_text}
 use Rattle.store_owner.proofs.Counted.{HasSerial, HaveKeys, keys_after}
 use Rattle.store_owner.proofs.Grown.{found_first}
-use Rattle.store_owner.proofs.Kept.{FileWas, FolderWas, IsKept, IsLeft, IsNotNow, IsNow}
+use Rattle.store_owner.proofs.Kept.{IsKept, IsNotNow, IsNow}
 use Rattle.store_owner.proofs.Sealable.{ArePieces, content_from, step_sealable}
 
 -- ---- keys
