@@ -74,7 +74,7 @@ parent_public : (s : Store) (f : ℕ) → parent_of_folder (public_of s) f ≡ p
 unfolding parent_of_folder folder_entry public_of
 parent_public s f = found_as FolderEntry (λ e. e.id == f) (λ e. record e { name = [] }) (λ e. e.parent) (λ e. refl) (λ e. refl) s.folders
 
-folder_public : (s : Store) (x : ℕ) → folder_of_file (public_of s) x ≡ folder_of_file s x
+pub folder_public : (s : Store) (x : ℕ) → folder_of_file (public_of s) x ≡ folder_of_file s x
 unfolding folder_of_file file_entry public_of
 folder_public s x = found_as FileEntry (λ e. e.id == x) (λ e. record e { name = []; bytes = [] }) (λ e. e.folder) (λ e. refl) (λ e. refl) s.files
 

@@ -233,7 +233,7 @@ holder_given at drawn =
     let long = length-append plan_of (holder_role (at.store.holders_made + 1) ∷ []) in
     omega (arith, many, long)
 
-key_sized : (at : Stand) (r : Request) (drawn : List (List ℕ)) → length drawn ≡ length (entry_step at (Did r drawn)).given → All (λ (key : List ℕ). length key ≡ 32) drawn → HasKeySize r (first_key drawn)
+pub key_sized : (at : Stand) (r : Request) (drawn : List (List ℕ)) → length drawn ≡ length (entry_step at (Did r drawn)).given → All (λ (key : List ℕ). length key ≡ 32) drawn → HasKeySize r (first_key drawn)
 unfolding first_key
 key_sized at AddHolder [] many sizes = let some = holder_given at [] in absurd (omega (arith, some, many))
 key_sized at AddHolder (key ∷ drawn) many sizes = All-head (λ (key : List ℕ). length key ≡ 32) key drawn sizes

@@ -18,12 +18,14 @@ pub mod NextEntry
 pub mod NextFits
 pub mod NextValid
 pub mod NotesDeclared
+pub mod NeverFails
 pub mod NotesTold
 pub mod OpenedKeys
 pub mod OpenedTexts
 pub mod OwnerGoesOn
 pub mod OwnerKeeps
 pub mod OwnerVisits
+pub mod PlainTexts
 pub mod Published
 pub mod Ready
 pub mod Refused

@@ -96,6 +96,21 @@ link_in : (r : Reading) (e : Edge) (p : PlacedLink) → link_for r.stand.keys r.
 unfolding link_for
 link_in r e p found = last_in PlacedLink (is_for_edge r.stand.keys e) (log_links r.log) p found
 
+-- the link that is found for an edge leads to the present key of its target
+pub found_opens : (keys : List KeyParts) (r : Reading) (o : Opened) (e : Edge) (key : List ℕ) (p : PlacedLink) → ((p : PlacedLink) → In p (log_links r.log) → IsLinkUnder keys p.link) → AreDrawn keys r.stand.keys o.keys
+    → key_of o.keys e.from ≡ Some key → link_for r.stand.keys r.log e ≡ Some p
+    → (open_link p.batch p.at key p.link ≡ Ok (bytes_in keys (present r.stand.keys.keys e.to))) × (newest r.stand.keys.keys e.to ≡ Some (present r.stand.keys.keys e.to))
+found_opens keys r o e key p right drawn has found =
+    let k = r.stand.keys in
+    let own = drawn e.from key has in
+    let is = right p (link_in r e p found) in
+    let head = head_found k r.log e p.batch p.at p.link found in
+    let serials = record_serials keys p.link is.link is.is_sealed in
+    let from : is.link.from_serial ≡ own.0 = sym serials.0 ∙ head.from_serial ∙ present_newest k.keys e.from own.0 own.1 in
+    let to : is.link.to_serial ≡ present k.keys e.to = sym serials.1 ∙ head.to_serial in
+    let opened = link_opened keys p.batch p.at key p.link is.link is.is_sealed (own.2 ∙ ap (bytes_in keys) (sym from)) in
+    (opened ∙ ap (λ n. Ok (bytes_in keys n)) to, newest_present k.keys e.to (newest k.keys e.to) refl (λ z. is.not_zero (to ∙ z)))
+
 edge_drawn : (keys : List KeyParts) (r : Reading) (before after : Opened) (e : Edge) → ((p : PlacedLink) → In p (log_links r.log) → IsLinkUnder keys p.link) → AreDrawn keys r.stand.keys before.keys
     → visit_edge r before e ≡ Ok after → AreDrawn keys r.stand.keys after.keys
 unfolding visit_edge with_key
@@ -105,15 +120,9 @@ edge_drawn keys r before after e right drawn done =
     let b = needed_told PlacedLink Opened (link_for r.stand.keys r.log e) (λ l. and_then (open_link l.batch l.at a.0 l.link) (with_key before e.to)) after a.2 in
     let p : PlacedLink = b.0 in
     let c = then_told (List ℕ) Opened (open_link p.batch p.at a.0 p.link) (with_key before e.to) after b.2 in
-    let own = drawn e.from a.0 a.1 in
-    let is = right p (link_in r e p b.1) in
-    let head = head_found k r.log e p.batch p.at p.link b.1 in
-    let serials = record_serials keys p.link is.link is.is_sealed in
-    let from : is.link.from_serial ≡ own.0 = sym serials.0 ∙ head.from_serial ∙ present_newest k.keys e.from own.0 own.1 in
-    let to : is.link.to_serial ≡ present k.keys e.to = sym serials.1 ∙ head.to_serial in
-    let opened = link_opened keys p.batch p.at a.0 p.link is.link is.is_sealed (own.2 ∙ ap (bytes_in keys) (sym from)) in
-    let text : c.0 ≡ bytes_in keys (present k.keys e.to) = same_ok (List ℕ) c.0 (bytes_in keys is.link.to_serial) (sym c.1 ∙ opened) ∙ ap (bytes_in keys) to in
-    let newer = newest_present k.keys e.to (newest k.keys e.to) refl (λ z. is.not_zero (to ∙ z)) in
+    let opened = found_opens keys r before e a.0 p right drawn a.1 b.1 in
+    let text : c.0 ≡ bytes_in keys (present k.keys e.to) = same_ok (List ℕ) c.0 (bytes_in keys (present k.keys e.to)) (sym c.1 ∙ opened.0) in
+    let newer = opened.1 in
     let stands : (e.to, c.0) ∷ before.keys ≡ after.keys = ap (λ (o : Opened). o.keys) (same_ok Opened (record before { keys = (e.to, c.0) ∷ before.keys }) after c.2) in
     subst (AreDrawn keys k) stands (subst (λ (bytes : List ℕ). AreDrawn keys k ((e.to, bytes) ∷ before.keys)) (sym text) (more_drawn keys k before.keys e.to (present k.keys e.to) newer drawn))
 

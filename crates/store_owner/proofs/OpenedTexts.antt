@@ -175,7 +175,7 @@ key_more vs s v f x h =
 
 -- ---- the text that is opened
 
-same_some : (X : Type 0) (x y : X) (o : Option X) → o ≡ Some x → o ≡ Some y → x ≡ y
+pub same_some : (X : Type 0) (x y : X) (o : Option X) → o ≡ Some x → o ≡ Some y → x ≡ y
 same_some X x y o a b = let e : Some x ≡ Some y = sym a ∙ b in cc
 
 content_is : (r : Reading) (kind object : ℕ) (c : PlacedContent) (keys : List KeyParts) (role : Role) (text : List ℕ) → (last : IsLast keys r.stand.keys (log_contents r.log) role kind object text) → content_for r.log kind object ≡ Some c → c ≡ last.placed

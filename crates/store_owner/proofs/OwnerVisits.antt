@@ -76,13 +76,13 @@ in_right : (X : Type 0) (x : X) (xs ys : List X) → In x ys → In x (xs ++ ys)
 in_right X x xs ys i = (In-append X x xs ys).1 (inr i)
 
 -- the visits that a folder has of each kind
-entry_of : (s : Store) (e : FolderEntry) (v : Visit) → In e s.folders → In v (ToKey (edge 1 Owner (clear_of e.id)) ∷ ToKey (edge 3 (clear_of e.id) (sub_of e.id)) ∷ []) → In v (entry_visits (public_of s) TheOwner)
+pub entry_of : (s : Store) (e : FolderEntry) (v : Visit) → In e s.folders → In v (ToKey (edge 1 Owner (clear_of e.id)) ∷ ToKey (edge 3 (clear_of e.id) (sub_of e.id)) ∷ []) → In v (entry_visits (public_of s) TheOwner)
 unfolding entry_visits entry_edge is_entry
 entry_of s e v i j =
     (In-flat_map ℕ Visit (λ f. ToKey (edge 1 Owner (clear_of f)) ∷ ToKey (edge 3 (clear_of f) (sub_of f)) ∷ []) v (folders_that (is_entry (public_of s) TheOwner) (public_of s))).1
     (e.id, folder_passes (is_entry (public_of s) TheOwner) s e i refl, j)
 
-allowed_of : (s : Store) (e : FolderEntry) (v : Visit) → In e s.folders → In v (ToKey (edge 4 (sub_of e.id) (back_of e.id)) ∷ ToKey (edge 5 (sub_of e.id) (files_of e.id)) ∷ []) → In v (allowed_visits (public_of s) TheOwner)
+pub allowed_of : (s : Store) (e : FolderEntry) (v : Visit) → In e s.folders → In v (ToKey (edge 4 (sub_of e.id) (back_of e.id)) ∷ ToKey (edge 5 (sub_of e.id) (files_of e.id)) ∷ []) → In v (allowed_visits (public_of s) TheOwner)
 unfolding allowed_visits allowed_to
 allowed_of s e v i j =
     (In-flat_map ℕ Visit (λ f. ToKey (edge 4 (sub_of f) (back_of f)) ∷ ToKey (edge 5 (sub_of f) (files_of f)) ∷ []) v (folders_that (allowed_to (public_of s) TheOwner) (public_of s))).1
@@ -100,7 +100,7 @@ file_of s e v i j =
     (In-flat_map ℕ Visit (λ x. ToKey (file_edge (folder_of_file (public_of s) x) x) ∷ ToFile x ∷ []) v (files_that (λ d. allowed_to (public_of s) TheOwner d.folder) (public_of s))).1
     (e.id, file_passes (λ d. allowed_to (public_of s) TheOwner d.folder) s e i refl, j)
 
-abbrev all_of : Store → List Visit
+abbrev pub all_of : Store → List Visit
 all_of s = all_visits (public_of s) TheOwner ++ holder_visits (public_of s)
 
 -- where they stand among all visits
@@ -184,7 +184,7 @@ unfolding key_of
 more_open keys to bytes role some =
     elim (same_role to role) as (λ b. IsSome (if b then Some bytes else key_of keys role)) [ | true ↦ refl | false ↦ some ]
 
-new_open : (keys : List (Role × List ℕ)) (to : Role) (bytes : List ℕ) → IsSome (key_of ((to, bytes) ∷ keys) to)
+pub new_open : (keys : List (Role × List ℕ)) (to : Role) (bytes : List ℕ) → IsSome (key_of ((to, bytes) ∷ keys) to)
 unfolding key_of
 new_open keys to bytes = subst (λ b. IsSome (if b then Some bytes else key_of keys to)) (sym ((same_role_tells to to).1 refl)) refl
 
@@ -198,7 +198,7 @@ stays_open r (ToName f) o after role done some = subst (λ ks. IsSome (key_of ks
 stays_open r (ToFile x) o after role done some = subst (λ ks. IsSome (key_of ks role)) (text_keys r (ToFile x) o after done (file_no_key x)) some
 stays_open r (ToHolder h) o after role done some = subst (λ ks. IsSome (key_of ks role)) (text_keys r (ToHolder h) o after done (holder_no_key h)) some
 
-all_stay : (r : Reading) (vs : List Visit) (o after : Opened) (role : Role) → visit_all r vs o ≡ Ok after → IsSome (key_of o.keys role) → IsSome (key_of after.keys role)
+pub all_stay : (r : Reading) (vs : List Visit) (o after : Opened) (role : Role) → visit_all r vs o ≡ Ok after → IsSome (key_of o.keys role) → IsSome (key_of after.keys role)
 unfolding visit_all
 all_stay r [] o after role done some = subst (λ (z : Opened). IsSome (key_of z.keys role)) (same_ok Opened o after done) some
 all_stay r (v ∷ vs) o after role done some =
@@ -212,7 +212,7 @@ edge_opens r v o after e is done =
     subst (λ (z : Opened). IsSome (key_of z.keys e.to)) told.1 (new_open o.keys e.to told.0)
 
 -- each edge that is visited leads to a key
-edge_open : (r : Reading) (vs : List Visit) (o after : Opened) (e : Edge) → visit_all r vs o ≡ Ok after → In (ToKey e) vs → IsSome (key_of after.keys e.to)
+pub edge_open : (r : Reading) (vs : List Visit) (o after : Opened) (e : Edge) → visit_all r vs o ≡ Ok after → In (ToKey e) vs → IsSome (key_of after.keys e.to)
 unfolding visit_all
 edge_open r [] o after e done i = absurd i
 edge_open r (v ∷ vs) o after e done i =
@@ -252,7 +252,7 @@ the_key keys k opened role n (Some bytes) drawn newer is some =
     let one : own.0 ≡ n = cc in
     ap Some (own.2 ∙ ap (bytes_in keys) one)
 
-owner_open : (owner : List ℕ) → IsSome (key_of ((Owner, owner) ∷ []) Owner)
+pub owner_open : (owner : List ℕ) → IsSome (key_of ((Owner, owner) ∷ []) Owner)
 owner_open owner = new_open [] Owner owner
 
 -- the owner opens every present key but the holders'
