@@ -150,7 +150,7 @@ unfolding with_folder
 folder_shifted s f into e i =
     let w = (In-map FolderEntry FolderEntry (λ e. cond (e.id == f) (record e { parent = into }) e) e s.folders).0 i in
     let same : (b : Bool) → ((cond b (record w.0 { parent = into }) w.0).id ≡ w.0.id) × ((cond b (record w.0 { parent = into }) w.0).name ≡ w.0.name) =
-    λ b. elim b as (λ b. ((cond b (record w.0 { parent = into }) w.0).id ≡ w.0.id) × ((cond b (record w.0 { parent = into }) w.0).name ≡ w.0.name)) [ | true ↦ (refl, refl) | false ↦ (refl, refl) ] in
+    λ b. elim b as (λ b. ((cond b (record w.0 { parent = into }) w.0).id ≡ w.0.id) × ((cond b (record w.0 { parent = into }) w.0).name ≡ w.0.name)) [ true ↦ (refl, refl) | false ↦ (refl, refl) ] in
     let at = same (w.0.id == f) in
     (w.0, w.1, sym (ap (λ (z : FolderEntry). z.id) w.2 ∙ at.0), sym (ap (λ (z : FolderEntry). z.name) w.2 ∙ at.1))
 
@@ -159,7 +159,7 @@ unfolding with_file
 file_shifted s x into e i =
     let w = (In-map FileEntry FileEntry (λ e. cond (e.id == x) (record e { folder = into }) e) e s.files).0 i in
     let same : (b : Bool) → ((cond b (record w.0 { folder = into }) w.0).id ≡ w.0.id) × ((cond b (record w.0 { folder = into }) w.0).name ≡ w.0.name) × ((cond b (record w.0 { folder = into }) w.0).bytes ≡ w.0.bytes) =
-    λ b. elim b as (λ b. ((cond b (record w.0 { folder = into }) w.0).id ≡ w.0.id) × ((cond b (record w.0 { folder = into }) w.0).name ≡ w.0.name) × ((cond b (record w.0 { folder = into }) w.0).bytes ≡ w.0.bytes)) [ | true ↦ (refl, refl, refl) | false ↦ (refl, refl, refl) ] in
+    λ b. elim b as (λ b. ((cond b (record w.0 { folder = into }) w.0).id ≡ w.0.id) × ((cond b (record w.0 { folder = into }) w.0).name ≡ w.0.name) × ((cond b (record w.0 { folder = into }) w.0).bytes ≡ w.0.bytes)) [ true ↦ (refl, refl, refl) | false ↦ (refl, refl, refl) ] in
     let at = same (w.0.id == x) in
     (w.0, w.1, sym (ap (λ (z : FileEntry). z.id) w.2 ∙ at.0), sym (ap (λ (z : FileEntry). z.name) w.2 ∙ at.1), sym (ap (λ (z : FileEntry). z.bytes) w.2 ∙ at.2))
 

@@ -306,6 +306,18 @@ root_holds : (drawn : List (List ℕ)) → IsSound (stand_then begun (Made drawn
 unfolding stand_then entry_store entry_step note_step nothing
 root_holds drawn = (root_sound, keys_after no_store root_store (next_epoch no_keys) (change_of no_store Root) [] root_moves nothing_holds (pieces_of Root root_store))
 
+-- the keys and records of two entries and of those that follow
+two_keys : (keys a b c first second : List KeyParts) → first ≡ keys ++ a → second ≡ first ++ b → second ++ c ≡ keys ++ (a ++ (b ++ c))
+two_keys keys a b c first second one two =
+    let both : second ≡ (keys ++ a) ++ b = two ∙ ap (λ z. z ++ b) one in
+    ap (λ z. z ++ c) both ∙ append_assoc (keys ++ a) b c ∙ append_assoc keys a (b ++ c)
+
+two_links : (p q : PlainPlaced) (log : List PlainPlaced) → body_links p.batch p.place p.body ≡ [] → body_links q.batch q.place q.body ++ log_links log ≡ log_links (p ∷ q ∷ log)
+two_links p q log none = sym (more_links q log) ∙ ap (λ z. z ++ log_links (q ∷ log)) (sym none) ∙ sym (more_links p (q ∷ log))
+
+two_contents : (p q : PlainPlaced) (log : List PlainPlaced) → body_contents p.batch p.place p.body ≡ [] → body_contents q.batch q.place q.body ++ log_contents log ≡ log_contents (p ∷ q ∷ log)
+two_contents p q log none = sym (more_contents q log) ∙ ap (λ z. z ++ log_contents (q ∷ log)) (sym none) ∙ sym (more_contents p (q ∷ log))
+
 begins : (owner : List ℕ) (m : Journal) → length owner ≡ 32 → BeginsWell m → all_fit nothing m ≡ true → AreFed nothing m
     → IsWalked ((owner_parts owner ∷ []) ++ keys_from nothing m) (stand_after nothing m).store (stand_after nothing m).keys
     (log_links (placed_from 42 0 0 (bodies_from (owner_parts owner ∷ []) nothing m))) (log_contents (placed_from 42 0 0 (bodies_from (owner_parts owner ∷ []) nothing m)))
@@ -337,11 +349,8 @@ begins owner (Session ∷ Made drawn ∷ es) size b fit fed =
     same_walked (later ++ keys_from next es) (keys ++ (entry_keys nothing Session ++ (entry_keys begun (Made drawn) ++ keys_from next es))) at.store at.keys
     (body_links q.batch q.place made ++ log_links log) (log_links (p ∷ q ∷ log))
     (body_contents q.batch q.place made ++ log_contents log) (log_contents (p ∷ q ∷ log))
-    (ap (λ z. z ++ keys_from next es) (then_keys first begun (Made drawn) ∙ ap (λ z. z ++ entry_keys begun (Made drawn)) (then_keys keys nothing Session))
-    ∙ append_assoc (keys ++ entry_keys nothing Session) (entry_keys begun (Made drawn)) (keys_from next es)
-    ∙ append_assoc keys (entry_keys nothing Session) (entry_keys begun (Made drawn) ++ keys_from next es))
-    (sym (more_links q log) ∙ ap (λ z. z ++ log_links (q ∷ log)) (sym none.0) ∙ sym (more_links p (q ∷ log)))
-    (sym (more_contents q log) ∙ ap (λ z. z ++ log_contents (q ∷ log)) (sym none.1) ∙ sym (more_contents p (q ∷ log)))
+    (two_keys keys (entry_keys nothing Session) (entry_keys begun (Made drawn)) (keys_from next es) first later (then_keys keys nothing Session) (then_keys first begun (Made drawn)))
+    (two_links p q log none.0) (two_contents p q log none.1)
     rest
 begins owner (Session ∷ Did request drawn ∷ es) size b fit fed = absurd b
 begins owner (Made drawn ∷ es) size b fit fed = absurd b

@@ -50,25 +50,31 @@ use Rattle.store_owner.proofs.Walked.{IsLinkUnder}
 
 -- ---- what the visits are to
 
+-- what has a number among those without names stands with it
+named_back : (X : Type 0) (id : X → ℕ) (bare : X → X) → ((x : X) → id (bare x) ≡ id x) → (xs : List X) (n : ℕ) → In n (map id (map bare xs)) → (x : X) × In x xs × (id x ≡ n)
+named_back X id bare keeps [] n i = absurd i
+named_back X id bare keeps (x ∷ xs) n i = ⊎_elim
+    (λ (q : n ≡ id (bare x)). (x, inl refl, sym (q ∙ keeps x)))
+    (λ u. let w = named_back X id bare keeps xs n u in (w.0, inr w.1, w.2))
+    i
+
 -- a folder, a file, a holder that is visited stands
 stands_folder : (test : ℕ → Bool) (s : Store) (f : ℕ) → In f (folders_that test (public_of s)) → (e : FolderEntry) × In e s.folders × (e.id ≡ f)
 unfolding folders_that public_of
 stands_folder test s f i =
-    let fs = map (λ (d : FolderEntry). record d { name = [] }) s.folders in
-    let ids = map (λ (d : FolderEntry). d.id) fs in
-    let j = (In-filter ℕ test f ids ((In-order ℕ nat_lt f (filter test ids)).0 i)).0 in
-    let w = (In-map FolderEntry ℕ (λ d. d.id) f fs).0 j in
-    let u = (In-map FolderEntry FolderEntry (λ d. record d { name = [] }) w.0 s.folders).0 w.1 in
-    (u.0, u.1, sym (w.2 ∙ ap (λ (d : FolderEntry). d.id) u.2))
+    let ids = map (λ (d : FolderEntry). d.id) (public_of s).folders in
+    named_back FolderEntry (λ d. d.id) (λ d. record d { name = [] }) (λ d. refl) s.folders f (In-filter ℕ test f ids ((In-order ℕ nat_lt f (filter test ids)).0 i)).0
+
+in_filtered : (X : Type 0) (id : X → ℕ) (test : X → Bool) (xs : List X) (n : ℕ) → In n (map id (filter test xs)) → In n (map id xs)
+in_filtered X id test xs n i =
+    let w = (In-map X ℕ id n (filter test xs)).0 i in (In-map X ℕ id n xs).1 (w.0, (In-filter X test w.0 xs w.1).0, w.2)
 
 stands_file : (test : FileEntry → Bool) (s : Store) (x : ℕ) → In x (files_that test (public_of s)) → (e : FileEntry) × In e s.files × (e.id ≡ x)
 unfolding files_that public_of
 stands_file test s x i =
-    let xs = map (λ (d : FileEntry). record d { name = []; bytes = [] }) s.files in
-    let ids = map (λ (d : FileEntry). d.id) (filter test xs) in
-    let w = (In-map FileEntry ℕ (λ d. d.id) x (filter test xs)).0 ((In-order ℕ nat_lt x ids).0 i) in
-    let u = (In-map FileEntry FileEntry (λ d. record d { name = []; bytes = [] }) w.0 s.files).0 (In-filter FileEntry test w.0 xs w.1).0 in
-    (u.0, u.1, sym (w.2 ∙ ap (λ (d : FileEntry). d.id) u.2))
+    let xs = (public_of s).files in
+    named_back FileEntry (λ d. d.id) (λ d. record d { name = []; bytes = [] }) (λ d. refl) s.files x
+    (in_filtered FileEntry (λ d. d.id) test xs x ((In-order ℕ nat_lt x (map (λ (d : FileEntry). d.id) (filter test xs))).0 i))
 
 abbrev numbers_of : Store → List ℕ
 numbers_of s = in_order nat_lt (map (λ (e : HolderEntry). e.number) s.holders)
@@ -76,11 +82,7 @@ numbers_of s = in_order nat_lt (map (λ (e : HolderEntry). e.number) s.holders)
 stands_holder : (s : Store) (h : ℕ) → In h (numbers_of (public_of s)) → (e : HolderEntry) × In e s.holders × (e.number ≡ h)
 unfolding public_of
 stands_holder s h i =
-    let hs = map (λ (d : HolderEntry). record d { key = [] }) s.holders in
-    let ns = map (λ (d : HolderEntry). d.number) hs in
-    let w = (In-map HolderEntry ℕ (λ d. d.number) h hs).0 ((In-order ℕ nat_lt h ns).0 i) in
-    let u = (In-map HolderEntry HolderEntry (λ d. record d { key = [] }) w.0 s.holders).0 w.1 in
-    (u.0, u.1, sym (w.2 ∙ ap (λ (d : HolderEntry). d.number) u.2))
+    named_back HolderEntry (λ d. d.number) (λ d. record d { key = [] }) (λ d. refl) s.holders h ((In-order ℕ nat_lt h (map (λ (d : HolderEntry). d.number) (public_of s).holders)).0 i)
 
 -- an edge within a folder stands
 own_edge : (s : Store) (e : FolderEntry) (f : ℕ) (d : Edge) → In e s.folders → e.id ≡ f → In d (folder_edges f) → IsEdge s d

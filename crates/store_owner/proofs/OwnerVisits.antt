@@ -108,14 +108,19 @@ all_of s = all_visits (public_of s) TheOwner ++ holder_visits (public_of s)
 module _ (s : Store) (v : Visit) where
   abbrev entries : List Visit
   entries = entry_visits (public_of s) TheOwner
+
   abbrev lowers : List Visit
   lowers = lower_visits (public_of s) TheOwner
+
   abbrev insides : List Visit
   insides = allowed_visits (public_of s) TheOwner
+
   abbrev uppers : List Visit
   uppers = upper_visits (public_of s) TheOwner
+
   abbrev names : List Visit
   names = name_visits (public_of s) TheOwner
+
   abbrev files : List Visit
   files = file_visits (public_of s) (files_that (λ d. allowed_to (public_of s) TheOwner d.folder) (public_of s))
 
@@ -182,7 +187,7 @@ owner_seen owner m valid whole after done =
 more_open : (keys : List (Role × List ℕ)) (to : Role) (bytes : List ℕ) (role : Role) → IsSome (key_of keys role) → IsSome (key_of ((to, bytes) ∷ keys) role)
 unfolding key_of
 more_open keys to bytes role some =
-    elim (same_role to role) as (λ b. IsSome (if b then Some bytes else key_of keys role)) [ | true ↦ refl | false ↦ some ]
+    elim (same_role to role) as (λ b. IsSome (if b then Some bytes else key_of keys role)) [ true ↦ refl | false ↦ some ]
 
 pub new_open : (keys : List (Role × List ℕ)) (to : Role) (bytes : List ℕ) → IsSome (key_of ((to, bytes) ∷ keys) to)
 unfolding key_of

@@ -120,7 +120,7 @@ unfolding with_file
 changed_short s x change keeps short e i =
     let w = (In-map FileEntry FileEntry (λ e. cond (e.id == x) (change e) e) e s.files).0 i in
     subst (λ (z : FileEntry). length z.bytes ≤ 1048576) (sym w.2)
-    (elim (w.0.id == x) as (λ b. length (cond b (change w.0) w.0).bytes ≤ 1048576) [ | true ↦ keeps w.0 (short w.0 w.1) | false ↦ short w.0 w.1 ])
+    (elim (w.0.id == x) as (λ b. length (cond b (change w.0) w.0).bytes ≤ 1048576) [ true ↦ keeps w.0 (short w.0 w.1) | false ↦ short w.0 w.1 ])
 
 less_short : (s : Store) (x : ℕ) → AreShort s → AreShort (without_file s x)
 unfolding without_file
