@@ -7,14 +7,14 @@ use Rattle.chacha_seal.specs.Keys.{KeyParts}
 use Rattle.commit_journal.specs.Answering.{Fault, Damaged, and_then}
 use Rattle.cry_base.specs.Sets.{In}
 use Rattle.cry_base.specs.Stepping.{with_folder}
-use Rattle.cry_base.specs.Store.{Store, FolderEntry, FileEntry, HolderEntry, file_entry}
+use Rattle.cry_base.specs.Store.{Store, FolderEntry, FileEntry, HolderEntry}
 use Rattle.cry_base.specs.declared.roles.Edge.{Edge}
 use Rattle.cry_base.specs.declared.roles.Role.{Role}
 use Rattle.cry_base.specs.declared.roles.Role.TheVariants.{Owner}
 use Rattle.cry_base.proofs.Members.{In-filter, In-map}
 use Rattle.holder_client.specs.Placing.{PlacedContent, PlacedLink, content_for, link_for, log_contents, log_links}
-use Rattle.holder_client.specs.Verdict.{open_content, open_link}
-use Rattle.holder_client.specs.Visiting.{Opened, Reading, is_file_text, is_folder_text, key_of, needed, visit, visit_all, visit_edge, visit_text, with_holder_key, with_key, with_name_at, with_parts, with_text_at}
+use Rattle.holder_client.specs.Verdict.{open_content}
+use Rattle.holder_client.specs.Visiting.{Opened, Reading, key_of, needed, visit, visit_all, visit_text, with_holder_key, with_key, with_name_at, with_parts, with_text_at}
 use Rattle.holder_client.specs.Visits.{Visit, all_visits, allowed_visits, entry_edge, entry_visits, file_visits, files_that, folders_that, holder_visits, is_entry, is_higher, is_deeper, lower_visits, name_visits, upper_visit, upper_visits, visits_to_names}
 use Rattle.holder_client.specs.Visits.Visit.{ToKey, ToName, ToFile, ToHolder}
 use Rattle.holder_client.proofs.FoldedHolds.{each_edge_found}

@@ -1,5 +1,5 @@
 -- The names and bytes of a journal's store have the forms that a reader tests.
-use Rattle.std.proofs.Common.{◌≡◌, ◌≢◌, ⊎_elim, inl, inr, ℕ, ◌+◌, ◌≤◌, Bool, true, false, ◌==◌, ◌&&◌, List, [], ◌∷◌, ◌++◌, length, take, drop, None, arith, refl, sym, ap, subst, ◌∙◌, length-append}
+use Rattle.std.proofs.Common.{◌≡◌, ◌≢◌, ⊎_elim, inl, ℕ, ◌≤◌, true, false, ◌==◌, ◌&&◌, List, [], ◌∷◌, ◌++◌, length, take, drop, None, arith, refl, sym, ap, subst, ◌∙◌, length-append}
 use Rattle.std.specs.Prelude.{if◌then◌else◌, nat_le}
 use Rattle.std.proofs.Math.Seq.{drop-append_seam, take-append_seam}
 use Rattle.std.proofs.lemmas.Bool.{and_from, and_parts, eq-eqb, eqb-true, le-leb, ne_eqb}
@@ -20,7 +20,6 @@ use Rattle.public_fold.proofs.Keeping.{HasTree}
 use Rattle.public_fold.proofs.KeyMoves.{IsSound, effect_sound, root_sound}
 use Rattle.store_owner.specs.Keys.{AreWhole, drawn_by}
 use Rattle.store_owner.specs.Texting.{file_text}
-use Rattle.store_owner.proofs.Counted.{IsFed}
 use Rattle.store_owner.proofs.Followed.{key_sized}
 use Rattle.store_owner.proofs.Kept.{command_kept}
 use Rattle.store_owner.proofs.TextSizes.{AreShort, HasKeySize, IsSized, command_sized, effect_short, is_length, root_short}
