@@ -190,7 +190,7 @@ pieces_sized k before c ps sizes x i =
     let plan_of = renewed k before c in
     sizes x.piece (content_from (keys_then k c plan_of) (next_serial k + length (given k c plan_of) + length (published_edges before c plan_of)) ps x i).0
 
-command_contents : (at : Stand) (r : Request) (drawn : List (List ℕ)) → IsSound at.store → AreShort at.store → refusal_of at.store r 1048576 ≡ None → HasKeySize r (first_key drawn)
+pub command_contents : (at : Stand) (r : Request) (drawn : List (List ℕ)) → IsSound at.store → AreShort at.store → refusal_of at.store r 1048576 ≡ None → HasKeySize r (first_key drawn)
     → (c : Content) → In c (entry_step at (Did r drawn)).contents → IsSized c.piece
 unfolding entry_step note_step
 command_contents at r drawn sound short none size =
@@ -263,7 +263,7 @@ made_fits : (drawn : List (List ℕ)) → entry_fits begun (Made drawn) ≡ true
 unfolding entry_fits told_step told_store note_step entry_step stand_then entry_store nothing no_store public_of
 made_fits drawn fit = fit
 
-made_contents : (drawn : List (List ℕ)) (c : Content) → In c (entry_step begun (Made drawn)).contents → IsSized c.piece
+pub made_contents : (drawn : List (List ℕ)) (c : Content) → In c (entry_step begun (Made drawn)).contents → IsSized c.piece
 unfolding entry_step note_step
 made_contents drawn = pieces_sized begun.keys (edges begun.store) (change_of begun.store Root) (pieces_of Root root_store) root_sized
 

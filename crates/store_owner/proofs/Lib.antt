@@ -39,6 +39,7 @@ pub mod SoundSteps
 pub mod SoundStores
 pub mod SoundTexts
 pub mod SeenFits
+pub mod Spelled
 pub mod StepKeys
 pub mod StepSealed
 pub mod ToldSkeleton

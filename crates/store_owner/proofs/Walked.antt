@@ -46,7 +46,7 @@ use Rattle.store_owner.proofs.Sealable.{ArePieces, content_from, step_sealable}
 -- ---- keys
 
 -- the newest key of a role is one of the keys
-newest_of : (keys : List (Role × ℕ)) (r : Role) (n : ℕ) → newest keys r ≡ Some n → (q : Role × ℕ) × In q keys × (q.0 ≡ r) × (q.1 ≡ n)
+pub newest_of : (keys : List (Role × ℕ)) (r : Role) (n : ℕ) → newest keys r ≡ Some n → (q : Role × ℕ) × In q keys × (q.0 ≡ r) × (q.1 ≡ n)
 unfolding newest
 newest_of [] r n = λ e. absurd cc
 newest_of (x ∷ xs) r n =
@@ -115,7 +115,7 @@ is_owner kinds.Files = false
 is_owner kinds.Data = false
 is_owner kinds.File = false
 
-In-list_all : (X : Type 0) (test : X → Bool) (xs : List X) (x : X) → list_all test xs ≡ true → In x xs → test x ≡ true
+pub In-list_all : (X : Type 0) (test : X → Bool) (xs : List X) (x : X) → list_all test xs ≡ true → In x xs → test x ≡ true
 In-list_all X test [] x all here = absurd here
 In-list_all X test (y ∷ ys) x all here =
     let both = and_parts (test y) (list_all test ys) all in

@@ -1,5 +1,8 @@
 //! Laws of what opening finds in the bytes of a journal.
 ghost use Rattle.std.specs.Prelude.{◌≡◌, ◌≢◌, ℕ, List, [], ◌∷◌, Ok, Some};
+ghost use Rattle.commit_journal.specs.Laws.{AreBodies};
+ghost use Rattle.commit_journal.specs.Log.{log_verdict};
+ghost use Rattle.commit_journal.specs.Logs.{holder_log, writer_log};
 ghost use Rattle.cry_base.specs.Sets.{In};
 ghost use Rattle.cry_base.specs.Store.{HolderEntry};
 ghost use Rattle.cry_base.specs.declared.roles.Role.{Role};
@@ -9,7 +12,9 @@ ghost use Rattle.public_fold.specs.Journal.{Journal, keys_of, store_of};
 ghost use Rattle.public_fold.specs.KeyStep.{newest};
 ghost use Rattle.public_fold.specs.Valid.{IsValid};
 ghost use Rattle.role_graph.specs.Roles.{holder_role};
+ghost use Rattle.store_owner.specs.Bytes.{bodies_of};
 ghost use Rattle.store_owner.specs.Folds.{fold_of, log_of, public_stand};
+ghost use Rattle.store_owner.specs.Journals.{IsHonestFor, StandsForJournal, published_journal};
 ghost use Rattle.store_owner.specs.Keys.{AreWhole, all_keys, bytes_in};
 ghost use Rattle.store_owner.specs.Opening.{AreDrawn, HoldsPresent, owner_starts, owner_visits, reading_of, seen_by};
 
@@ -60,4 +65,20 @@ pub fn opened_texts_are_the_journals()
 pub fn valid_journals_are_opened()
     ensures { (owner : List ℕ) (m : Journal) → IsValid m → AreWhole owner m
         → (after : Opened) × (visit_all (reading_of owner m) (owner_visits m) (owner_starts owner m) ≡ Ok after) }
+{}
+
+/// Law: each payload of a valid journal has a spelling, and stands in an epoch: its ids, serials, kinds and lengths are those of
+/// the format.
+pub fn valid_journals_have_spellings()
+    ensures { (owner : List ℕ) (m : Journal) → IsValid m → AreWhole owner m → AreBodies 0 (bodies_of owner m) }
+{}
+
+/// Law: the owner and each holder read bytes that stand for a journal as the journal that they publish, if the last slot is
+/// honest; the owner who opens for writing reads all of the journal, whatever the last slot holds.
+pub fn standing_bytes_are_read()
+    ensures owner { (owner : List ℕ) (m : Journal) (bytes : List ℕ) → StandsForJournal owner m bytes → IsHonestFor owner bytes m →
+        log_verdict owner bytes ≡ Ok (log_of owner (published_journal owner bytes m)) }
+    ensures holder { (owner : List ℕ) (m : Journal) (bytes : List ℕ) → StandsForJournal owner m bytes → IsHonestFor owner bytes m →
+        holder_log bytes ≡ Ok (log_of owner (published_journal owner bytes m)) }
+    ensures writer { (owner : List ℕ) (m : Journal) (bytes : List ℕ) → StandsForJournal owner m bytes → writer_log owner bytes ≡ Ok (log_of owner m) }
 {}
