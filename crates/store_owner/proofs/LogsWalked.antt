@@ -41,7 +41,7 @@ use Rattle.store_owner.specs.Bytes as bytes
 use Rattle.store_owner.specs.Folds.{log_of}
 use Rattle.store_owner.specs.Keys.{AreWhole, all_keys, bytes_in, drawn_by, entry_keys, key_bytes, keys_from, owner_parts, with_bytes}
 use Rattle.store_owner.specs.Notes.{declared_note}
-use Rattle.store_owner.specs.Opening.{ArePresent, HoldsPresent}
+use Rattle.store_owner.specs.Opening.{AreLast, HoldsPresent}
 use Rattle.store_owner.proofs.Counted.{IsFed, have_at_first, have_then}
 use Rattle.store_owner.proofs.Ascending.{drawn_found}
 use Rattle.store_owner.proofs.Kept.{command_holders, command_kept, root_kept}
@@ -269,7 +269,7 @@ zero_first : IsZeroOwners nothing.keys.keys
 unfolding nothing no_keys
 zero_first q i z = ⊎_elim (λ (e : q ≡ (Owner, 0)). ap (λ (x : Role × ℕ). x.0) e) (λ n. absurd n) i
 
-none_first : (owner : List ℕ) → ArePresent (owner_parts owner ∷ []) nothing.store nothing.keys []
+none_first : (owner : List ℕ) → AreLast (owner_parts owner ∷ []) nothing.store nothing.keys []
 unfolding nothing no_store
 none_first owner = record { folders = λ e i. absurd i; files = λ e i. absurd i; holders = λ e i. absurd i }
 

@@ -37,7 +37,7 @@ use Rattle.public_fold.proofs.Levels.{level_stands}
 use Rattle.public_fold.proofs.Treeing.{file_own}
 use Rattle.store_owner.specs.Folds.{fold_of, log_of, public_stand}
 use Rattle.store_owner.specs.Keys.{AreWhole, all_keys, bytes_in}
-use Rattle.store_owner.specs.Opening.{AreDrawn, ArePresent, IsLast, key_with, owner_starts, owner_visits, reading_of}
+use Rattle.store_owner.specs.Opening.{AreDrawn, AreLast, IsLast, key_with, owner_starts, owner_visits, reading_of}
 use Rattle.store_owner.specs.Texting.{file_text}
 use Rattle.store_owner.proofs.FitsPublic.{folder_public}
 use Rattle.store_owner.proofs.Followed.{journal_followed}
@@ -120,7 +120,7 @@ file_folder s e x tree i same = folder_public s x ∙ own_folder s e x tree i sa
 -- a store's records as they are due in a log
 record IsOpenable (keys : List KeyParts) (s : Store) (r : Reading) : Type 0 where
   right : (p : PlacedLink) → In p (log_links r.log) → IsLinkUnder keys p.link
-  last : ArePresent keys s r.stand.keys (log_contents r.log)
+  last : AreLast keys s r.stand.keys (log_contents r.log)
   linked : (e : Edge) → In e (edges s) → is_some (link_for r.stand.keys r.log e) ≡ true
   tree : HasTree s
   plain : IsPlain s

@@ -22,7 +22,7 @@ use Rattle.move_plan.specs.Fitting.{public_of}
 use Rattle.role_graph.specs.Roles.{data_of, file_role}
 use Rattle.public_fold.specs.KeyStep.{newest}
 use Rattle.store_owner.specs.Keys.{bytes_in}
-use Rattle.store_owner.specs.Opening.{AreDrawn, ArePresent, IsLast, is_to_file, is_to_holder, is_to_name, key_with, seen_by}
+use Rattle.store_owner.specs.Opening.{AreDrawn, AreLast, IsLast, is_to_file, is_to_holder, is_to_name, key_with, seen_by}
 use Rattle.store_owner.specs.Texting.{file_text}
 use Rattle.store_owner.proofs.OpenedKeys.{IsTextRead, holder_told, key_told, name_told, parts_told, same_ok, text_told, then_told, visit_drawn}
 use Rattle.store_owner.proofs.Walked.{IsLinkUnder}
@@ -217,7 +217,7 @@ edge_more : (vs : List Visit) (s : Store) (e : Edge) → seen_by vs s ≡ seen_b
 unfolding is_to_name is_to_file is_to_holder
 edge_more vs s e = key_more vs s (ToKey e) (λ f. refl) (λ x. refl) (λ h. refl)
 
-seen_step : (keys : List KeyParts) (s : Store) (r : Reading) (vs : List Visit) (v : Visit) (o after : Opened) → ArePresent keys s r.stand.keys (log_contents r.log) → AreDrawn keys r.stand.keys o.keys
+seen_step : (keys : List KeyParts) (s : Store) (r : Reading) (vs : List Visit) (v : Visit) (o after : Opened) → AreLast keys s r.stand.keys (log_contents r.log) → AreDrawn keys r.stand.keys o.keys
     → o.store ≡ seen_by vs s → visit r v o ≡ Ok after → after.store ≡ seen_by (vs ++ v ∷ []) s
 unfolding visit
 seen_step keys s r vs (ToKey e) o after last drawn seen done =
@@ -243,7 +243,7 @@ seen_step keys s r vs (ToHolder h) o after last drawn seen done =
 
 -- ---- all visits
 
-pub visits_seen : (keys : List KeyParts) (s : Store) (r : Reading) (vs done : List Visit) (o after : Opened) → ((p : PlacedLink) → In p (log_links r.log) → IsLinkUnder keys p.link) → ArePresent keys s r.stand.keys (log_contents r.log)
+pub visits_seen : (keys : List KeyParts) (s : Store) (r : Reading) (vs done : List Visit) (o after : Opened) → ((p : PlacedLink) → In p (log_links r.log) → IsLinkUnder keys p.link) → AreLast keys s r.stand.keys (log_contents r.log)
     → AreDrawn keys r.stand.keys o.keys → o.store ≡ seen_by done s → visit_all r vs o ≡ Ok after → after.store ≡ seen_by (done ++ vs) s
 unfolding visit_all
 visits_seen keys s r [] done o after right last drawn seen all =

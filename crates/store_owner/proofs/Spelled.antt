@@ -1,7 +1,6 @@
 -- Each payload of a valid journal has a spelling.
-use Rattle.std.proofs.Common.{◌≡◌, ⊎_elim, inl, inr, ℕ, ◌+◌, ◌*◌, ◌≤◌, ◌<◌, Bool, true, false, not, ◌==◌, ◌&&◌, List, [], ◌∷◌, ◌++◌, map, length, All, Option, Some, None, Ok, arith, refl, sym, ap, subst, ◌∙◌}
+use Rattle.std.proofs.Common.{◌≡◌, ⊎_elim, inl, inr, ℕ, ◌+◌, ◌≤◌, ◌<◌, Bool, true, not, ◌==◌, ◌&&◌, List, [], ◌∷◌, ◌++◌, length, All, Option, Some, None, Ok, arith, refl, ap, subst}
 use Rattle.std.specs.Prelude.{◌-◌, ◌^◌, find, is_some, nat_le, nat_lt}
-use Rattle.std.specs.List.{list_all, list_any}
 use Rattle.std.proofs.lemmas.Bool.{and_parts, eqb-true, false≢true, leb-true, ltb-true}
 use Rattle.std.proofs.lemmas.List.{length-map}
 use Rattle.std.proofs.lemmas.List.Elements.{All-cons, All-map, All-nil}
@@ -27,7 +26,6 @@ use Rattle.cry_base.specs.declared.roles.Role.TheVariants.{Owner, Holder, Clear,
 use Rattle.cry_base.proofs.Finding.{find-found}
 use Rattle.cry_base.proofs.Members.{In-any}
 use Rattle.key_links.proofs.SealedLemmas.{content_spellable, link_spellable}
-use Rattle.kind_table.specs.Rows.{row}
 use Rattle.kind_table.specs.declared.nine.TheConstants.{NINE}
 use Rattle.kind_table.specs.declared.table.Row.{Row}
 use Rattle.move_plan.specs.Change.{Change, change_of}
@@ -35,9 +33,7 @@ use Rattle.move_plan.specs.Fitting.{file_stands, fits, folder_stands, has_depth_
 use Rattle.move_plan.specs.Noting.{note_of}
 use Rattle.record_format.specs.Noted.{Note}
 use Rattle.record_format.specs.Noted.Note.{Root, NewHolder, NewFolder, NewFile, Rewrite, NameFile, NameFolder, DropFile, DropFolder, ShiftFile, ShiftFolder, Give, Take}
-use Rattle.record_format.specs.Plain.{PlainContent}
 use Rattle.record_format.specs.Spellable.{IsContent, IsLink, IsNote, IsSpellable, longest_text, shortest_text}
-use Rattle.record_format.specs.declared.link.LinkRecord.{LinkRecord}
 use Rattle.record_format.specs.declared.note.Note.{Note as Declared}
 use Rattle.role_graph.specs.Edges.{edges}
 use Rattle.role_graph.specs.RightsByReach.{HasFolder}
@@ -48,7 +44,7 @@ use Rattle.public_fold.specs.Journal.{Entry, Journal, Stand, nothing, first_key,
 use Rattle.public_fold.specs.Journal.Entry.{Session, Made, Did}
 use Rattle.public_fold.specs.Keyed.{HasRole, KeysHold}
 use Rattle.public_fold.specs.KeyStep.{KeyState, Stepped, given, key_step, keys_then, newest, next_epoch, link_of, links_from, next_serial, no_keys, numbered, published, published_edges, renewed, step_with}
-use Rattle.public_fold.specs.Lengths.{end_of, entry_payload, payload_len, payloads_from}
+use Rattle.public_fold.specs.Lengths.{end_of, entry_payload, payloads_from}
 use Rattle.public_fold.specs.Records.{Content, Link, Piece, file_piece, folder_piece, holder_piece, pieces_of, sealing_role, text_of}
 use Rattle.public_fold.specs.StandFits.{all_fit, entry_fits, has_count, note_fits}
 use Rattle.public_fold.specs.Valid.{BeginsWell, FollowOn, IsValid}
@@ -57,7 +53,6 @@ use Rattle.public_fold.proofs.AllFit.{journal_all_fit}
 use Rattle.public_fold.proofs.KeepingKeys.{IsMove, keys_after}
 use Rattle.public_fold.proofs.KeyMoves.{IsSound, command_moves, effect_sound, epoch_holds, nothing_holds, root_moves, root_sound}
 use Rattle.public_fold.proofs.NotesFit as notes
-use Rattle.public_fold.proofs.RolesAfter.{AreHeld}
 use Rattle.public_fold.proofs.Serials.{contents_between, keys_between, links_between, numbered-length}
 use Rattle.public_fold.proofs.SerialsKept.{spent}
 use Rattle.store_owner.specs.Bytes.{bodies_from, bodies_of, content_record, entry_body, link_record, step_payload}
@@ -74,7 +69,7 @@ use Rattle.store_owner.proofs.Followed.{command_contents, key_sized, made_conten
 use Rattle.store_owner.proofs.Followings.{holder_reads, writer_reads}
 use Rattle.store_owner.proofs.Published.{journal_read}
 use Rattle.store_owner.proofs.Sealable.{ArePieces, content_from, fresh_once, pieces_due, step_sealable}
-use Rattle.store_owner.proofs.TextSizes.{AreShort, IsSized, effect_short, is_length, root_short}
+use Rattle.store_owner.proofs.TextSizes.{AreShort, IsSized, effect_short, root_short}
 use Rattle.store_owner.proofs.Walked.{In-list_all, newest_of, newest_serial}
 use Rattle.store_owner.proofs.Weighed.{AreFed, HasCheck, begins_fed, note_of_weighs}
 

@@ -35,7 +35,7 @@ use Rattle.public_fold.proofs.KeepingKeys.{IsMove, marked_no_root, planned_told,
 use Rattle.public_fold.proofs.KeepingKeys as keeping
 use Rattle.public_fold.proofs.Serials.{keys_between}
 use Rattle.store_owner.specs.Bytes.{content_record, link_record}
-use Rattle.store_owner.specs.Opening.{ArePresent, IsLast, key_with}
+use Rattle.store_owner.specs.Opening.{AreLast, IsLast, key_with}
 use Rattle.store_owner.specs.Sealing.{EachOnce, IsSealable}
 use Rattle.store_owner.specs.Texting.{file_text}
 use Rattle.store_owner.proofs.Counted.{HasSerial, HaveKeys, keys_after}
@@ -238,7 +238,7 @@ pub record IsWalked (keys : List KeyParts) (s : Store) (k : KeyState) (links : L
   pub have : HaveKeys keys k
   pub zero : IsZeroOwners k.keys
   pub each_link : (p : PlacedLink) → In p links → IsLinkUnder keys p.link
-  pub contents_present : ArePresent keys s k contents
+  pub contents_present : AreLast keys s k contents
   pub owner_first : newest k.keys Owner ≡ Some 0
   pub holders_keyed : AreHoldersKeyed keys s k
 
@@ -282,7 +282,7 @@ module _ (keys more : List KeyParts) (s t : Store) (k : KeyState) (c : Change) (
   keyed : (r : Role) → HasRole t r → (n : ℕ) × (newest (key_step k (edges s) c ps).after.keys r ≡ Some n)
   keyed r = ((keeping.keys_after s t k c links mv ok ps).keyed r).0
 
-  folder_last : (n batch at : ℕ) (old : List PlacedContent) → HaveKeys keys k → IsKept s t c.wanted ps → ArePresent keys s k old → (e : FolderEntry) → In e t.folders
+  folder_last : (n batch at : ℕ) (old : List PlacedContent) → HaveKeys keys k → IsKept s t c.wanted ps → AreLast keys s k old → (e : FolderEntry) → In e t.folders
       → IsLast (keys ++ more) (key_step k (edges s) c ps).after (old ++ new_contents (keys ++ more) (key_step k (edges s) c ps).after.keys n batch at ps) (data_of e.id) 1 e.id e.name
   unfolding data_of is_sealing_role variant_of
   folder_last n batch at old have kept last e i =
@@ -294,7 +294,7 @@ module _ (keys more : List KeyParts) (s t : Store) (k : KeyState) (c : Change) (
       (subst (λ z. IsLast keys k old (data_of e.id) 1 e.id z) d.3 (subst (λ z. IsLast keys k old (data_of z) 1 z d.0.name) d.2 (last.folders d.0 d.1))))
       (kept.folders e i)
 
-  file_last : (n batch at : ℕ) (old : List PlacedContent) → HaveKeys keys k → IsKept s t c.wanted ps → ArePresent keys s k old → (e : FileEntry) → In e t.files
+  file_last : (n batch at : ℕ) (old : List PlacedContent) → HaveKeys keys k → IsKept s t c.wanted ps → AreLast keys s k old → (e : FileEntry) → In e t.files
       → IsLast (keys ++ more) (key_step k (edges s) c ps).after (old ++ new_contents (keys ++ more) (key_step k (edges s) c ps).after.keys n batch at ps) (file_role e.id) 2 e.id (file_text e.name e.bytes)
   unfolding file_role is_sealing_role variant_of
   file_last n batch at old have kept last e i =
@@ -306,7 +306,7 @@ module _ (keys more : List KeyParts) (s t : Store) (k : KeyState) (c : Change) (
       (subst (λ z. IsLast keys k old (file_role e.id) 2 e.id z) (λ j. file_text (d.3 j) (d.4 j)) (subst (λ z. IsLast keys k old (file_role z) 2 z (file_text d.0.name d.0.bytes)) d.2 (last.files d.0 d.1))))
       (kept.files e i)
 
-  holder_last : (n batch at : ℕ) (old : List PlacedContent) → HaveKeys keys k → IsKept s t c.wanted ps → ArePresent keys s k old → (e : HolderEntry) → In e t.holders
+  holder_last : (n batch at : ℕ) (old : List PlacedContent) → HaveKeys keys k → IsKept s t c.wanted ps → AreLast keys s k old → (e : HolderEntry) → In e t.holders
       → IsLast (keys ++ more) (key_step k (edges s) c ps).after (old ++ new_contents (keys ++ more) (key_step k (edges s) c ps).after.keys n batch at ps) Owner 3 e.number e.key
   holder_last n batch at old have kept last e i =
       let after = (key_step k (edges s) c ps).after in ⊎_elim
@@ -314,8 +314,8 @@ module _ (keys more : List KeyParts) (s t : Store) (k : KeyState) (c : Change) (
       (λ left. left_last keys more k after n batch at old ps Owner 3 e.number e.key have owner_kept left.0 (last.holders e left.1))
       (kept.holders e i)
 
-  step_contents : (batch at : ℕ) (old : List PlacedContent) → HaveKeys keys k → IsKept s t c.wanted ps → ArePresent keys s k old
-      → ArePresent (keys ++ more) t (key_step k (edges s) c ps).after (old ++ contents_at batch at (map (content_record (keys ++ more)) (key_step k (edges s) c ps).contents))
+  step_contents : (batch at : ℕ) (old : List PlacedContent) → HaveKeys keys k → IsKept s t c.wanted ps → AreLast keys s k old
+      → AreLast (keys ++ more) t (key_step k (edges s) c ps).after (old ++ contents_at batch at (map (content_record (keys ++ more)) (key_step k (edges s) c ps).contents))
   unfolding key_step step_with published
   step_contents batch at old have kept last =
       let n = next_serial k + length (given k c (renewed k (edges s) c)) + length (published_edges (edges s) c (renewed k (edges s) c)) in

@@ -1,4 +1,5 @@
--- What the last contents of a journal's log hold, under which keys they were sealed, and which keys are opened. This project's own, docs/FORMAT.md, "Reading".
+-- What the last contents of a journal's log hold, which keys are opened, and what visits show. This project's own,
+-- docs/FORMAT.md, "Reading".
 use Rattle.std.specs.Prelude.{◌≡◌, ℕ, Bool, false, cond, ◌==◌, List, [], ◌∷◌, ◌++◌, map, Some}
 use Rattle.std.specs.List.{list_any}
 use Rattle.chacha_seal.specs.Keys.{KeyParts}
@@ -36,14 +37,14 @@ pub record IsLast (keys : List KeyParts) (k : KeyState) (contents : List PlacedC
   pub is_sealed : placed.content ≡ sealed_content kind (key_with keys role serial) object nonce text
 
 -- each folder's name, each file's name and bytes, and each holder's key as they stand
-pub record ArePresent (keys : List KeyParts) (s : Store) (k : KeyState) (contents : List PlacedContent) : Type 0 where
+pub record AreLast (keys : List KeyParts) (s : Store) (k : KeyState) (contents : List PlacedContent) : Type 0 where
   pub folders : (e : FolderEntry) → In e s.folders → IsLast keys k contents (data_of e.id) 1 e.id e.name
   pub files : (e : FileEntry) → In e s.files → IsLast keys k contents (file_role e.id) 2 e.id (file_text e.name e.bytes)
   pub holders : (e : HolderEntry) → In e s.holders → IsLast keys k contents Owner 3 e.number e.key
 
 -- so for the contents of a log
 abbrev pub HoldsPresent : List KeyParts → Store → KeyState → List PlainPlaced → Type 0
-HoldsPresent keys s k log = ArePresent keys s k (log_contents log)
+HoldsPresent keys s k log = AreLast keys s k (log_contents log)
 
 -- a journal's log with what its payloads make, and what is open of it before the owner's first visit
 abbrev pub reading_of : List ℕ → Journal → Reading

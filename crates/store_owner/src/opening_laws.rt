@@ -62,7 +62,7 @@ pub fn opened_texts_are_the_journals()
 
 /// Law: the owner's visits to a valid journal never fail: each record that they need is in its log, under a key that those
 /// before led to, and each text has the form that its reader tests.
-pub fn valid_journals_are_opened()
+pub fn journals_are_opened()
     ensures { (owner : List ℕ) (m : Journal) → IsValid m → AreWhole owner m
         → (after : Opened) × (visit_all (reading_of owner m) (owner_visits m) (owner_starts owner m) ≡ Ok after) }
 {}
