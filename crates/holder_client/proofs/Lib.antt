@@ -4,10 +4,15 @@ pub mod FoldedHolds
 pub mod Following
 pub mod FreshShown
 pub mod Lasts
+pub mod Naming
 pub mod Opened
+pub mod Opens
 pub mod OwnNames
 pub mod OwnPath
+pub mod OwnerKey
+pub mod OwnerVisits
 pub mod SameShown
+pub mod Steps
 pub mod ToldLemmas
 pub mod Verdicts
 pub mod Viewed

@@ -1,11 +1,15 @@
 -- What a client's ring holds of the keys that were opened. This project's own, docs/FORMAT.md, "Reading".
-use Rattle.std.specs.Prelude.{◌≡◌, ℕ, ◌≤◌, Bool, IsTrue, List, map, Some, Result, Ok, Err, option_map}
+use Rattle.std.specs.Prelude.{◌≡◌, ◌≢◌, ◌==◌, ℕ, ◌≤◌, Bool, cond, IsTrue, List, map, Some, Result, Ok, Err, option_map, length, ◌∷◌, ◌++◌}
 use Rattle.chacha_seal.specs.Keys.{KeyParts}
 use Rattle.commit_journal.specs.Placed.{plain_placed}
 use Rattle.commit_journal.specs.declared.placed.Placed.{Placed}
+use Rattle.cry_base.specs.Naming.{is_name}
+use Rattle.cry_base.specs.Store.{Store, HolderEntry}
 use Rattle.cry_base.specs.declared.roles.Edge.{Edge}
 use Rattle.cry_base.specs.declared.roles.Role.{Role}
+use Rattle.cry_base.specs.declared.roles.Role.TheVariants.{Holder}
 use Rattle.commit_journal.specs.Answering.{Fault}
+use Rattle.folder_nodes.specs.Titles.{Titles, tree_store}
 use Rattle.holder_client.specs.Answering.{IsFault}
 use Rattle.holder_client.specs.declared.fault.ClientFault.{ClientFault}
 use Rattle.holder_client.specs.declared.visiting.OpenedText.{OpenedText}
@@ -21,9 +25,13 @@ use Rattle.role_graph.specs.Roles.{role_id}
 abbrev pub IsReadingOf : PublicView → List Placed → Reading → Type 0
 IsReadingOf state log r = (r.log ≡ map plain_placed log) × IsSeenAs state r.stand
 
+-- the key has its role's number and its present serial
+abbrev pub IsPresent : List (Role × ℕ) → Role → KeyParts → Type 0
+IsPresent keys role key = (key.id ≡ role_id role) × (key.serial ≡ present keys role)
+
 -- each key of the ring is the present one of its role
 abbrev pub ArePresent : List (Role × ℕ) → Ringed → Type 0
-ArePresent keys ring = (role : Role) (key : KeyParts) → key_of ring role ≡ Some key → (key.id ≡ role_id role) × (key.serial ≡ present keys role)
+ArePresent keys ring = (role : Role) (key : KeyParts) → key_of ring role ≡ Some key → IsPresent keys role key
 
 -- of the roles that are told the ring has the keys that were opened, and no others
 abbrev pub HoldsKeys : (Role → Bool) → Ringed → List (Role × List ℕ) → Type 0
@@ -40,3 +48,22 @@ pub record HasKind (e : Edge) : Type 0 where
 abbrev pub GoesOn : Result OpenedText ClientFault → ((ℕ → List ℕ → Result opened.Opened Fault) → Result opened.Opened Fault) → (ℕ → List ℕ → Result opened.Opened Fault) → Type 0
 GoesOn (Ok t) visited go_on = visited go_on ≡ go_on t.at t.text.items
 GoesOn (Err fault) visited go_on = IsFault fault (visited go_on)
+
+-- the store is the one without names, with these names and bytes; of the holders' keys it says nothing
+abbrev pub HasNames : Store → Titles → Store → Type 0
+HasNames bare names s = s ≡ record (tree_store bare names) { holders = s.holders }
+
+-- a visit of a name or of bytes left the keys and the holders as they were, and these names and bytes
+abbrev pub IsTitledBy : Store → Titles → opened.Opened → opened.Opened → Type 0
+IsTitledBy bare names o behind = (behind.keys ≡ o.keys) × (behind.store.holders ≡ o.store.holders) × HasNames bare names behind.store
+
+-- a visit of a holder's key left the store with that key, and the ring has it for the holder
+pub record IsHeldBy (new old : Ringed) (h : ℕ) (o behind : opened.Opened) : Type 0 where
+  pub key : List ℕ
+  pub stored : behind ≡ record o { store = record o.store { holders = map (λ (e : HolderEntry). cond (e.number == h) (record e { key = key }) e) o.store.holders } }
+  pub ringed : option_map (λ k. k.bytes) (key_of new (Holder (record { 0 = h }))) ≡ Some key
+  pub others : (role : Role) → role ≢ Holder (record { 0 = h }) → key_of new role ≡ key_of old role
+
+-- the text is a byte with the name's length, the name, and the bytes of a file
+abbrev pub HasParts : List ℕ → List ℕ → List ℕ → Type 0
+HasParts text name bytes = IsTrue (opened.is_file_text text) × (text ≡ length name ∷ (name ++ bytes)) × IsTrue (is_name name)

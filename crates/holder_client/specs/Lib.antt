@@ -5,6 +5,7 @@ pub mod Found
 pub mod Holding
 pub mod Judging
 pub mod Lines
+pub mod Opening
 pub mod OwnPaths
 pub mod Placing
 pub mod Root

@@ -2,10 +2,12 @@
 ghost use Rattle.std.specs.Prelude.{◌≡◌, ◌∷◌, IsTrue, List, Ok, is_some};
 ghost use Rattle.cry_base.specs.Sets.{In};
 ghost use Rattle.cry_base.specs.declared.roles.Edge.{Edge};
+ghost use Rattle.cry_base.specs.declared.roles.Role.TheVariants.{Owner};
 ghost use Rattle.commit_journal.specs.Placed.{PlainPlaced};
 ghost use Rattle.role_graph.specs.Edges.{edges};
 ghost use Rattle.public_fold.specs.Fitted.{has_link_head};
 ghost use Rattle.public_fold.specs.Journal.{Stand, nothing};
+ghost use Rattle.public_fold.specs.KeyStep.{present};
 ghost use Rattle.public_fold.specs.Records.{Link};
 ghost use Rattle.public_fold.specs.Turns.{StandHolds};
 ghost use Rattle.holder_client.specs.Folding.{folded};
@@ -22,4 +24,9 @@ pub fn folded_logs_hold()
 /// of its target, so no visit to a key lacks its record.
 pub fn each_edge_has_its_record()
     ensures { (log : List PlainPlaced) (stand : Stand) → folded nothing log ≡ Ok stand → (e : Edge) → In e (edges stand.store) → IsTrue (is_some (link_for stand.keys log e)) }
+{}
+
+/// Law: whatever a log folds to, the owner's key has the serial 0: no payload renews it.
+pub fn owners_key_is_the_first()
+    ensures { (log : List PlainPlaced) (stand : Stand) → folded nothing log ≡ Ok stand → present stand.keys.keys Owner ≡ 0 }
 {}

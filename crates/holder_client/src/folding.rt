@@ -1,9 +1,10 @@
 //! What the payloads of a log make, one after another (docs/FORMAT.md, "Reading").
-ghost use Rattle.std.specs.Prelude.{◌≡◌, ◌≢◌, ◌+◌, Err, OnErr, map};
+ghost use Rattle.std.specs.Prelude.{◌≡◌, ◌≢◌, ◌+◌, Err, IfOk, OnErr, map};
 ghost use Rattle.commit_journal.specs.Logs.{AreInEpochs, IsInEpoch};
 ghost use Rattle.commit_journal.specs.Placed.{plain_body, plain_placed};
+ghost use Rattle.cry_base.specs.declared.roles.Role.TheVariants.{Owner};
 ghost use Rattle.public_fold.specs.Journal.{Stand, nothing};
-ghost use Rattle.public_fold.specs.KeyStep.{next_epoch};
+ghost use Rattle.public_fold.specs.KeyStep.{next_epoch, present};
 ghost use Rattle.public_fold.specs.Standing.{IsSeenAs};
 ghost use Rattle.holder_client.specs.Answering.{AnswersBy};
 ghost use Rattle.holder_client.specs.Folding.{folded, stand_behind};
@@ -44,10 +45,11 @@ fn take_batch(alloc: Global, state: &mut PublicState, placed: &Placed) -> Result
 }
 
 /// What stands in public after the batches of a log, in order. `Damaged` comes exactly for the first payload that doesn't
-/// fit what stands before it, with the place of its first byte.
+/// fit what stands before it, with the place of its first byte. The owner's key has the serial 0 in it.
 pub fn fold(alloc: Global, log: &[Placed]) -> Result<PublicState, ClientFault>
     requires epochs { AreInEpochs 0 (map plain_placed log.now) }
     ensures answer { AnswersBy IsSeenAs result (folded nothing (map plain_placed log.now)) }
+    ensures owner { IfOk result (λ state. present state.keys.keys Owner ≡ 0) }
     ensures no_disk { result ≢ Err ClientFault.DiskFault }
 {
     let mut state = PublicState::new(alloc)?;

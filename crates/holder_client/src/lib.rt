@@ -7,17 +7,22 @@ mod folding;
 mod last_contents;
 mod last_links;
 pub mod laws;
+mod opening;
+pub mod opening_laws;
 mod records;
 mod root;
 pub mod rows;
 mod showing;
+mod texts;
 pub mod verdict_laws;
 pub mod verdict_rows;
+mod visit_list;
 mod visiting;
 mod visits;
 
 pub use fault::ClientFault;
 pub use folding::fold;
+pub use opening::{OwnersView, open_all};
 pub use showing::view;
 
 #[cfg(test)]

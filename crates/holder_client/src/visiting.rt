@@ -1,5 +1,5 @@
 //! Opens the records of a log, each with a key that those before led to (docs/FORMAT.md, "Reading").
-ghost use Rattle.std.specs.Prelude.{◌≡◌, ◌≢◌, ◌+◌, ◌≤◌, ℕ, All, Bool, Err, IfOk, IsTrue, List, OnErr, Result, map};
+ghost use Rattle.std.specs.Prelude.{◌≡◌, ◌≢◌, ◌+◌, ◌≤◌, ℕ, All, Bool, Err, IfOk, IsTrue, List, OnErr, Result, length, map};
 ghost use Rattle.commit_journal.specs.Answering.{Fault};
 ghost use Rattle.commit_journal.specs.Placed.{plain_placed};
 ghost use Rattle.commit_journal.specs.Places.{IsStanding};
@@ -8,7 +8,9 @@ ghost use Rattle.holder_client.specs.Answering.{AnswersBy};
 ghost use Rattle.holder_client.specs.Holding.{ArePresent, GoesOn, HasKind, HoldsKeys, IsReadingOf};
 ghost use Rattle.holder_client.specs.Visiting as spec;
 ghost use Rattle.key_links.specs.Ended as ends;
+ghost use Rattle.key_links.specs.Ringed.{key_of};
 ghost use Rattle.record_format.specs.Plain.{plain_content};
+ghost use Rattle.record_format.specs.Spellable.{longest_text, shortest_text};
 
 use crate::ClientFault;
 use crate::last_contents::content_for;
@@ -41,6 +43,7 @@ pub(crate) fn visit_edge(
         AnswersBy (λ _ behind. HoldsKeys told ring.new behind.keys × (behind.store ≡ o.store)) result (spec.visit_edge r o edge.now) }
     ensures keys { ArePresent state.now.keys.keys ring.new }
     ensures room { ring.old.spare ≤ ring.new.spare + 1 }
+    ensures others { (role : TheRole) → role ≢ edge.now.to → key_of ring.new role ≡ key_of ring.old role }
     ensures err { OnErr result (ring.new ≡ ring.old) }
     ensures no_disk { result ≢ Err ClientFault.DiskFault }
 {
@@ -110,6 +113,7 @@ pub(crate) fn open_text(
     ensures answer { (told : TheRole → Bool) (r : spec.Reading) (o : spec.Opened) (go_on : ℕ → List ℕ → Result spec.Opened Fault) →
         r.log ≡ map plain_placed log.now → IsTrue (told (ends.sealing_role kind object)) → HoldsKeys told ring.now o.keys →
         GoesOn result (spec.visit_text r o (ends.sealing_role kind object) kind object) go_on }
+    ensures form { IfOk result (λ t. (shortest_text kind ≤ length t.text.items) × (length t.text.items ≤ longest_text kind)) }
     ensures no_disk { result ≢ Err ClientFault.DiskFault }
 {
     let Some(found) = content_for(log, kind, object) else {

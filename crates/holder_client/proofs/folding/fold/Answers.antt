@@ -2,6 +2,7 @@ use Rattle.std.proofs.Common.{◌+◌, ◌<◌, ◌≤◌, length, drop, map, su
 use Rattle.std.proofs.lemmas.Result.{err_from_is_err_and}
 use Rattle.commit_journal.specs.Placed.{plain_placed}
 use Rattle.holder_client.proofs.Folded.{IsFoldedTo, folding_begins, folding_fails, folding_goes_on, folding_ends, rest_from, rest_behind, batch_in_epoch}
+use Rattle.holder_client.proofs.OwnerKey.{owner_is_seen}
 use Rattle.holder_client.proofs.folding.fold.Goals as goal
 
 pub loop-placed-init : goal.loop-placed-init
@@ -46,3 +47,11 @@ returns-clause-answer c =
     let past : length log ≤ c.loop-placed.placed-index = omega (arith, c.loop-placed-test.false) in
     folding_ends c.loop-placed.state (map plain_placed log)
     (subst (λ rest. IsFoldedTo (map plain_placed log) rest c.loop-placed.state) (rest_behind log c.loop-placed.placed-index past) c.loop-placed.invariant)
+
+pub returns-clause-owner : goal.returns-clause-owner
+returns-clause-owner c =
+    let log = c.args.log.now in
+    let past : length log ≤ c.loop-placed.placed-index = omega (arith, c.loop-placed-test.false) in
+    owner_is_seen c.loop-placed.state (map plain_placed log)
+    (folding_ends c.loop-placed.state (map plain_placed log)
+    (subst (λ rest. IsFoldedTo (map plain_placed log) rest c.loop-placed.state) (rest_behind log c.loop-placed.placed-index past) c.loop-placed.invariant))

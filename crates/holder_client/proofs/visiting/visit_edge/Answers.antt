@@ -93,3 +93,19 @@ returns-in-Err-clause-answer c = λ told r o of_log is_told holds.
     let source = ap (key_of ring) (source_is keys edge link c.requires.kind head) ∙ key.1 in
     link_refused r o edge key.0 found.batch found.at link (holds edge.from is_told ∙ ap (option_map (λ (k : KeyParts). k.bytes)) key.1)
     (link_told c.args.state.now c.args.log.now r edge of_log ∙ there) (λ right. false≢true ((c.in-Err.ensures.authentic key.0 source).1 right))
+
+pub returns-in-Ok-clause-others : goal.returns-in-Ok-clause-others
+returns-in-Ok-clause-others c = λ role other.
+    let keys = c.args.state.now.keys in
+    let edge = c.args.edge.now in
+    let ring = c.args.ring.now in
+    let after = c.open_link.new.self in
+    let found = c.in-Some.found in
+    let link = found.link.now in
+    let head = head_found keys (map plain_placed c.args.log.now) edge found.batch found.at link (sym c.link_for.ensures ∙ ap plain_link c.in-Some.is) in
+    let key = the_one (key_of ring edge.from) (c.present.ensures.there.0 c.if-is_none.ensures) in
+    let source = ap (key_of ring) (source_is keys edge link c.requires.kind head) ∙ key.1 in
+    let with : IsWithKey after ring edge.to (target_of key.0 link) =
+    subst (λ x. IsWithKey after ring x (target_of key.0 link)) (target_is keys edge link c.requires.kind head) (c.in-Ok.ensures.opened key.0 source)
+    in
+    with.others role other

@@ -1,0 +1,227 @@
+-- What an owner's view has once a visit is made, and once all are.
+use Rattle.std.proofs.Common.{◌≡◌, ◌≢◌, ◌⊎◌, ℕ, ◌+◌, ◌<◌, ◌≤◌, length, drop, get_or, Bool, true, false, ◌==◌, cond, List, [], ◌∷◌, map, Option, None, Some, option_map, Result, Ok, Err, inl, inr, ⊎_elim, refl, sym, ap, subst, ◌∙◌}
+use Rattle.std.specs.Prelude.{IsTrue, OnOk}
+use Rattle.std.specs.List.{AllByRecursion}
+use Rattle.std.proofs.lemmas.Bool.{eqb-true, eqb-false, eq-eqb, false≢true}
+use Rattle.std.proofs.Math.ListN.{drop_of_length-le}
+use Rattle.std.proofs.lemmas.List.{drop_more}
+use Rattle.chacha_seal.specs.Keys.{KeyParts}
+use Rattle.commit_journal.specs.Answering.{Fault, and_then}
+use Rattle.commit_journal.specs.declared.placed.Placed.{Placed}
+use Rattle.cry_base.specs.Sets.{In}
+use Rattle.cry_base.specs.Store.{Store, HolderEntry}
+use Rattle.cry_base.specs.declared.roles.Edge.{Edge}
+use Rattle.cry_base.specs.declared.roles.Role.{Role}
+use Rattle.cry_base.specs.declared.roles.Role.TheVariants.{Owner, Holder}
+use Rattle.cry_base.proofs.Members.{In-map}
+use Rattle.holder_client.specs.declared.fault.ClientFault.{ClientFault}
+use Rattle.holder_client.specs.declared.opening.OwnersView.{OwnersView}
+use Rattle.holder_client.specs.declared.visit_list.Visit.{Visit as Listed}
+use Rattle.holder_client.specs.Answering.{IsFault, AnswersBy}
+use Rattle.holder_client.specs.Holding.{ArePresent, HasNames, HoldsKeys, IsHeldBy, IsPresent, IsReadingOf, IsTitledBy}
+use Rattle.holder_client.specs.Opening.{HasHolder, IsNameless, IsOpenedBy, IsOpenedTo, IsOwners, is_no_holders, plain_visit}
+use Rattle.holder_client.specs.Visiting.{Reading, Opened, visit, visit_all}
+use Rattle.holder_client.specs.Visiting as opened
+use Rattle.holder_client.specs.Visits.{Visit}
+use Rattle.holder_client.specs.Visits.Visit.{ToKey, ToName, ToFile, ToHolder}
+use Rattle.holder_client.proofs.Naming.{holders_named, nothing_named}
+use Rattle.holder_client.proofs.Viewed.{fault_first}
+use Rattle.key_links.specs.Ringed.{Ringed, IsAlone, found, key_of, parts_of}
+use Rattle.public_fold.specs.KeyStep.{present}
+use Rattle.public_fold.specs.Standing.{PublicView}
+use Rattle.role_graph.specs.Roles.{role_id, same_role}
+use Rattle.role_graph.proofs.Comparing.{same_role_tells}
+
+-- ---- rings
+
+pub same_keys : (new old : Ringed) (role : Role) → new.keys ≡ old.keys → key_of new role ≡ key_of old role
+unfolding key_of
+same_keys new old role same = ap (λ ks. option_map parts_of (found ks role)) same
+
+pub on_any : {X E : Type 0} (P : Type 0) (r : Result X E) → P → OnOk r P
+on_any P (Ok x) p = p
+on_any P (Err e) p = tt
+
+-- a role that isn't a holder's is no holder's
+other_role : (role : Role) (h : ℕ) → IsTrue (is_no_holders role) → role ≢ Holder (record { 0 = h })
+other_role role h told = λ is. false≢true (subst (λ x. IsTrue (is_no_holders x)) is told)
+
+role_number : (a b : ℕ) → Holder (record { 0 = a }) ≡ Holder (record { 0 = b }) → a ≡ b
+unfolding role_id
+role_number a b is = ap role_id is
+
+-- the ring of an owner alone has the owner's key
+alone_or : (ring : Ringed) (owner : KeyParts) (role : Role) → IsAlone ring Owner owner → (b : Bool) → same_role Owner role ≡ b →
+    cond b (Some owner.bytes) None ≡ option_map (λ (k : KeyParts). k.bytes) (key_of ring role)
+alone_or ring owner role alone true same =
+    let is : Owner ≡ role = (same_role_tells Owner role).0 same in
+    sym (ap (option_map (λ (k : KeyParts). k.bytes)) (subst (λ x. key_of ring x ≡ Some owner) is alone.here))
+alone_or ring owner role alone false same =
+    let other : role ≢ Owner = λ is. absurd (let t : same_role Owner role ≡ true = (same_role_tells Owner role).1 (sym is) in cc) in
+    sym (ap (option_map (λ (k : KeyParts). k.bytes)) (alone.others role other))
+
+pub alone_holds : (told : Role → Bool) (ring : Ringed) (owner : KeyParts) → IsAlone ring Owner owner → HoldsKeys told ring ((Owner, owner.bytes) ∷ [])
+unfolding opened.key_of
+alone_holds told ring owner alone = λ role is_told. alone_or ring owner role alone (same_role Owner role) refl
+
+alone_present_or : (keys : List (Role × ℕ)) (ring : Ringed) (owner key : KeyParts) (role : Role) → IsAlone ring Owner owner → IsPresent keys Owner owner → key_of ring role ≡ Some key →
+    (b : Bool) → same_role Owner role ≡ b → IsPresent keys role key
+alone_present_or keys ring owner key role alone is there true same =
+    let at : Owner ≡ role = (same_role_tells Owner role).0 same in
+    let here : key_of ring role ≡ Some owner = subst (λ x. key_of ring x ≡ Some owner) at alone.here in
+    let one : owner ≡ key = cc in
+    subst (λ x. IsPresent keys x key) at (subst (IsPresent keys Owner) one is)
+alone_present_or keys ring owner key role alone is there false same =
+    let other : role ≢ Owner = λ at. absurd (let t : same_role Owner role ≡ true = (same_role_tells Owner role).1 (sym at) in cc) in
+    absurd (let none : key_of ring role ≡ None = alone.others role other in cc)
+
+pub alone_present : (keys : List (Role × ℕ)) (ring : Ringed) (owner : KeyParts) → IsAlone ring Owner owner → IsPresent keys Owner owner → ArePresent keys ring
+alone_present keys ring owner alone is = λ role key there. alone_present_or keys ring owner key role alone is there (same_role Owner role) refl
+
+-- ---- one visit
+
+-- the number of a visit to a holder
+abbrev number_in : Visit → ℕ
+number_in (ToKey e) = 0
+number_in (ToName f) = 0
+number_in (ToFile x) = 0
+number_in (ToHolder h) = h
+
+visit_number : (a b : ℕ) → ToHolder a ≡ ToHolder b → a ≡ b
+visit_number a b is = ap number_in is
+
+-- another visit than that to a holder was made
+still_left : (n : ℕ) (v : Visit) (left : List Visit) → (ToHolder n ≡ v → ⊥) → In (ToHolder n) (v ∷ left) → In (ToHolder n) left
+still_left n v left other i = ⊎_elim (λ (q : ToHolder n ≡ v). absurd (other q)) (λ j. j) i
+
+pub link_opened : (bare : Store) (e : Edge) (left : List Visit) (old new : OwnersView) (o behind : Opened) → IsOwners (ToKey e) → IsOpenedTo bare (ToKey e ∷ left) old o →
+    HoldsKeys is_no_holders new.ring behind.keys → behind.store ≡ o.store → ((role : Role) → role ≢ e.to → key_of new.ring role ≡ key_of old.ring role) → new.names ≡ old.names →
+    IsOpenedTo bare left new behind
+link_opened bare e left old new o behind owners before keys same others names =
+    let kept : (d : HolderEntry) → HasHolder old.ring d → HasHolder new.ring d =
+    λ d has. ap (option_map (λ (k : KeyParts). k.bytes)) (others (Holder (record { 0 = d.number })) (λ q. other_role e.to d.number owners.2 (sym q))) ∙ has
+    in
+    record {
+      keys = keys;
+      names = subst (λ (t : _). HasNames bare t behind.store) (sym names) (subst (HasNames bare old.names) (sym same) before.names);
+      holders = λ d i. ⊎_elim (λ has. inl (kept d has)) (λ j. inr (still_left d.number (ToKey e) left (λ q. cc) j)) (before.holders d (subst (λ (s : Store). In d s.holders) same i));
+    }
+
+pub title_opened : (bare : Store) (v : Visit) (left : List Visit) (old new : OwnersView) (o behind : Opened) → ((h : ℕ) → ToHolder h ≡ v → ⊥) → IsOpenedTo bare (v ∷ left) old o →
+    IsTitledBy bare new.names o behind → new.ring ≡ old.ring → IsOpenedTo bare left new behind
+title_opened bare v left old new o behind other before titled ring =
+    let keys : HoldsKeys is_no_holders old.ring behind.keys = λ role told. ap (λ ks. opened.key_of ks role) titled.0 ∙ before.keys role told in
+    let holders : (d : HolderEntry) → In d behind.store.holders → HasHolder old.ring d ⊎ In (ToHolder d.number) left =
+    λ d i. ⊎_elim (λ has. inl has) (λ j. inr (still_left d.number v left (other d.number) j)) (before.holders d (subst (In d) titled.1 i))
+    in
+    record {
+      keys = subst (λ (x : Ringed). HoldsKeys is_no_holders x behind.keys) (sym ring) keys;
+      names = titled.2;
+      holders = subst (λ (x : Ringed). (d : HolderEntry) → In d behind.store.holders → HasHolder x d ⊎ In (ToHolder d.number) left) (sym ring) holders;
+    }
+
+holder_or : (h : ℕ) (key : List ℕ) (left : List Visit) (old new : Ringed) (d e : HolderEntry) → HasHolder old d ⊎ In (ToHolder d.number) (ToHolder h ∷ left) →
+    option_map (λ (k : KeyParts). k.bytes) (key_of new (Holder (record { 0 = h }))) ≡ Some key → ((role : Role) → role ≢ Holder (record { 0 = h }) → key_of new role ≡ key_of old role) →
+    (b : Bool) → (d.number == h) ≡ b → e ≡ cond b (record d { key = key }) d → HasHolder new e ⊎ In (ToHolder e.number) left
+holder_or h key left old new d e before ringed others true is e_is =
+    let number : e.number ≡ h = ap (λ (x : HolderEntry). x.number) e_is ∙ eqb-true d.number h is in
+    let bytes : e.key ≡ key = ap (λ (x : HolderEntry). x.key) e_is in
+    inl (ap (λ n. option_map (λ (k : KeyParts). k.bytes) (key_of new (Holder (record { 0 = n })))) number ∙ ringed ∙ ap Some (sym bytes))
+holder_or h key left old new d e before ringed others false is e_is =
+    let other : d.number ≢ h = eqb-false d.number h is in
+    let so : HasHolder new d ⊎ In (ToHolder d.number) left =
+    ⊎_elim
+    (λ has. inl (ap (option_map (λ (k : KeyParts). k.bytes)) (others (Holder (record { 0 = d.number })) (λ q. other (role_number d.number h q))) ∙ has))
+    (λ j. inr (still_left d.number (ToHolder h) left (λ q. other (visit_number d.number h q)) j)) before
+    in
+    subst (λ (x : HolderEntry). HasHolder new x ⊎ In (ToHolder x.number) left) (sym e_is) so
+
+pub holder_opened : (bare : Store) (h : ℕ) (left : List Visit) (old new : OwnersView) (o behind : Opened) → IsOpenedTo bare (ToHolder h ∷ left) old o →
+    IsHeldBy new.ring old.ring h o behind → new.names ≡ old.names → IsOpenedTo bare left new behind
+holder_opened bare h left old new o behind before held names =
+    let change : HolderEntry → HolderEntry = λ e. cond (e.number == h) (record e { key = held.key }) e in
+    let holders : behind.store.holders ≡ map change o.store.holders = ap (λ (x : Opened). x.store.holders) held.stored in
+    record {
+      keys = λ role told. ap (λ (x : Opened). opened.key_of x.keys role) held.stored ∙ before.keys role told
+          ∙ ap (option_map (λ (k : KeyParts). k.bytes)) (sym (held.others role (other_role role h told)));
+      names = subst (λ (t : _). HasNames bare t behind.store) (sym names)
+          (subst (HasNames bare old.names) (sym (ap (λ (x : Opened). x.store) held.stored)) (holders_named bare old.names o.store (map change o.store.holders) before.names));
+      holders = λ e i.
+          let w = (In-map HolderEntry HolderEntry change e o.store.holders).0 (subst (In e) holders i) in
+          holder_or h held.key left old.ring new.ring w.0 e (before.holders w.0 w.1) held.ringed held.others (w.0.number == h) refl w.2;
+    }
+
+-- ---- all of them
+
+-- what was to be visited, was, up to the rest
+abbrev pub IsVisitedTo : PublicView → List Placed → List Visit → OwnersView → List Visit → OwnersView → Type 0
+IsVisitedTo state log all before left view =
+    (r : Reading) (o : Opened) → IsReadingOf state log r → IsOpenedTo r.stand.store all before o →
+    (p : Opened) × IsOpenedTo r.stand.store left view p × (visit_all r all o ≡ visit_all r left p)
+
+pub visits_begin : (state : PublicView) (log : List Placed) (all : List Visit) (before : OwnersView) → IsVisitedTo state log all before all before
+visits_begin state log all before = λ r o of_log begun. (o, begun, refl)
+
+pub visits_go_on : (state : PublicView) (log : List Placed) (all left : List Visit) (v : Visit) (before old new : OwnersView) → IsVisitedTo state log all before (v ∷ left) old →
+    ((r : Reading) (o : Opened) (rest : List Visit) → IsReadingOf state log r → IsOpenedTo r.stand.store (v ∷ rest) old o →
+    AnswersBy (λ (u : Unit {0}) behind. IsOpenedTo r.stand.store rest new behind) (Ok tt) (visit r v o)) → IsVisitedTo state log all before left new
+unfolding visit_all and_then
+visits_go_on state log all left v before old new so_far made = λ r o of_log begun.
+    let so = so_far r o of_log begun in
+    let next = made r so.0 left of_log so.1 in
+    (next.0, next.2, so.2 ∙ rw next.1 refl)
+
+pub visits_fail : (state : PublicView) (log : List Placed) (all left : List Visit) (v : Visit) (before old new : OwnersView) (fault : ClientFault) → IsVisitedTo state log all before (v ∷ left) old →
+    ((r : Reading) (o : Opened) (rest : List Visit) → IsReadingOf state log r → IsOpenedTo r.stand.store (v ∷ rest) old o → IsFault fault (visit r v o)) →
+    (r : Reading) (o : Opened) → IsReadingOf state log r → IsOpenedTo r.stand.store all before o → IsFault fault (visit_all r all o)
+unfolding visit_all
+visits_fail state log all left v before old new fault so_far failed r o of_log begun =
+    let so = so_far r o of_log begun in
+    subst (IsFault fault) (sym so.2) (fault_first fault (visit r v so.0) (visit_all r left) (failed r so.0 left of_log so.1))
+
+pub visits_end : (state : PublicView) (log : List Placed) (all : List Visit) (before view : OwnersView) → IsVisitedTo state log all before [] view →
+    (r : Reading) (o : Opened) → IsReadingOf state log r → IsOpenedTo r.stand.store all before o →
+    AnswersBy (λ (x : OwnersView) behind. IsOpenedTo r.stand.store [] x behind) (Ok view) (visit_all r all o)
+unfolding visit_all
+visits_end state log all before view so_far r o of_log begun = let so = so_far r o of_log begun in (so.0, so.2, so.1)
+
+-- no visit is left
+all_opened : (bare : Store) (view : OwnersView) (o : Opened) → IsOpenedTo bare [] view o → IsOpenedBy bare view o
+all_opened bare view o is = record {
+  keys = is.keys;
+  names = is.names;
+  holders = λ e i. ⊎_elim (λ has. has) (λ j. absurd j) (is.holders e i);
+}
+
+pub answered : (bare : Store) (result : Result OwnersView ClientFault) (wanted : Result Opened Fault) → AnswersBy (λ (x : OwnersView) behind. IsOpenedTo bare [] x behind) result wanted →
+    AnswersBy (λ (x : OwnersView) behind. IsOpenedBy bare x behind) result wanted
+answered bare (Ok view) wanted so = (so.0, so.1, all_opened bare view so.0 so.2)
+answered bare (Err fault) wanted so = so
+
+-- before the first visit
+pub opening_begins : (bare : Store) (visits : List Visit) (view : OwnersView) (owner : KeyParts) → IsNameless bare → IsAlone view.ring Owner owner → view.names.folders ≡ [] → view.names.files ≡ [] →
+    ((e : HolderEntry) → In e bare.holders → In (ToHolder e.number) visits) → IsOpenedTo bare visits view (record { keys = (Owner, owner.bytes) ∷ []; store = bare })
+opening_begins bare visits view owner less alone no_folders no_files visited = record {
+  keys = alone_holds is_no_holders view.ring owner alone;
+  names = nothing_named bare view.names less no_folders no_files;
+  holders = λ e i. inr (visited e i);
+}
+
+-- an answer that stands for one thing stands for what that implies
+pub answers_for : {X Y : Type 0} (P Q : X → Y → Type 0) (result : Result X ClientFault) (wanted : Result Y Fault) → ((x : X) (y : Y) → P x y → Q x y) → AnswersBy P result wanted → AnswersBy Q result wanted
+answers_for P Q (Ok x) wanted so answer = (answer.0, answer.1, so x answer.0 answer.2)
+answers_for P Q (Err fault) wanted so answer = answer
+
+pub no_name : (h f : ℕ) → ToHolder h ≡ ToName f → ⊥
+no_name h f is = cc
+
+pub no_file : (h x : ℕ) → ToHolder h ≡ ToFile x → ⊥
+no_file h x is = cc
+
+-- ---- the rest of a list of visits from an index on
+
+pub visits_from : (visits : List Listed) (i : ℕ) (d : Listed) → i < length visits → map plain_visit (drop i visits) ≡ plain_visit (get_or visits i d) ∷ map plain_visit (drop (i + 1) visits)
+visits_from visits i d within = ap (map plain_visit) (drop_more visits i d within)
+
+pub visits_behind : (visits : List Listed) (i : ℕ) → length visits ≤ i → map plain_visit (drop i visits) ≡ []
+visits_behind visits i past = ap (map plain_visit) (drop_of_length-le visits past)

@@ -1,0 +1,131 @@
+//! Opens all that an owner's key opens (docs/FORMAT.md, "Opening for writing").
+ghost use Rattle.std.specs.Prelude.{◌≡◌, ◌≢◌, ◌++◌, ◌∷◌, [], All, Err, IfOk, List, OnOk, map};
+ghost use Rattle.std.specs.List.{AllByRecursion};
+ghost use Rattle.commit_journal.specs.Places.{IsStanding};
+ghost use Rattle.cry_base.specs.declared.roles.Role.{Role as TheRole};
+ghost use Rattle.cry_base.specs.declared.roles.Role.TheVariants.{Owner};
+ghost use Rattle.holder_client.specs.Answering.{AnswersBy};
+ghost use Rattle.holder_client.specs.Holding.{ArePresent, HoldsKeys, IsPresent, IsReadingOf};
+ghost use Rattle.holder_client.specs.Opening.{IsOpenedBy, IsOpenedTo, IsOwners, is_no_holders, plain_visit};
+ghost use Rattle.holder_client.specs.Visiting.{Opened, Reading};
+ghost use Rattle.holder_client.specs.Visiting as spec;
+ghost use Rattle.holder_client.specs.Visits.{Visit as PlainVisit, all_visits, holder_visits};
+ghost use Rattle.holder_client.specs.Visits.Visit.{ToKey};
+ghost use Rattle.key_links.specs.Ringed.{key_of};
+ghost use Rattle.role_graph.specs.Rights.Who.{TheOwner};
+
+use crate::ClientFault;
+use crate::texts::{visit_file, visit_holder, visit_name};
+use crate::visit_list::{Visit, owner_visits};
+use crate::visiting::visit_edge;
+use chacha_seal::{Key, OwnerK};
+use commit_journal::Placed;
+use cry_base::Edge;
+use folder_nodes::Names;
+use key_links::KeyRing;
+use public_fold::PublicState;
+use std::alloc::Global;
+
+/// What an owner's key opens of a store: the present keys, and the names and bytes.
+#[derive(Drop)]
+pub struct OwnersView {
+    /// The key of each role that stands, and of each holder.
+    pub ring: KeyRing,
+    /// The name of each folder and file, and the bytes of each file.
+    pub names: Names,
+}
+
+/// Makes room for the edge's key, and visits it.
+fn visit_link(
+    state: &PublicState,
+    log: &[Placed],
+    ring: &mut KeyRing,
+    edge: &Edge,
+) -> Result<(), ClientFault>
+    requires stands { All IsStanding log.now }
+    requires owners { IsOwners (ToKey edge.now) }
+    requires keys { ArePresent state.now.keys.keys ring.old }
+    ensures answer { (r : Reading) (o : Opened) → IsReadingOf state.now log.now r → HoldsKeys is_no_holders ring.old o.keys →
+        AnswersBy (λ _ behind. HoldsKeys is_no_holders ring.new behind.keys × (behind.store ≡ o.store)) result (spec.visit r (ToKey edge.now) o) }
+    ensures keys { OnOk result (ArePresent state.now.keys.keys ring.new) }
+    ensures others { OnOk result ((role : TheRole) → role ≢ edge.now.to → key_of ring.new role ≡ key_of ring.old role) }
+    ensures no_disk { result ≢ Err ClientFault.DiskFault }
+{
+    ring.reserve(1)?;
+    visit_edge(state, log, ring, edge)
+}
+
+/// Makes one visit, as the definition says. `Damaged` behind the header comes exactly where its record or the key of that is
+/// missing, `Tampered` with the record's place exactly where its tag is wrong, and `Damaged` with the place of a content exactly
+/// where its text has another form.
+fn visit_one(
+    alloc: Global,
+    state: &PublicState,
+    log: &[Placed],
+    view: &mut OwnersView,
+    visit: &Visit,
+) -> Result<(), ClientFault>
+    requires stands { All IsStanding log.now }
+    requires owners { IsOwners (plain_visit visit.now) }
+    requires keys { ArePresent state.now.keys.keys view.old.ring }
+    ensures answer { (r : Reading) (o : Opened) (left : List PlainVisit) → IsReadingOf state.now log.now r → IsOpenedTo r.stand.store (plain_visit visit.now ∷ left) view.old o →
+        AnswersBy (λ _ behind. IsOpenedTo r.stand.store left view.new behind) result (spec.visit r (plain_visit visit.now) o) }
+    ensures keys { OnOk result (ArePresent state.now.keys.keys view.new.ring) }
+    ensures no_disk { result ≢ Err ClientFault.DiskFault }
+{
+    match visit {
+        Visit::Link { edge } => visit_link(state, log, &mut view.ring, edge),
+        Visit::Name { folder } => visit_name(alloc, log, &view.ring, &mut view.names, *folder),
+        Visit::Bytes { file } => visit_file(alloc, log, &view.ring, &mut view.names, *file),
+        Visit::Key { holder } => visit_holder(alloc, state, log, &mut view.ring, *holder),
+    }
+}
+
+/// Makes the visits one after another, up to the first that fails.
+fn visit_each(
+    alloc: Global,
+    state: &PublicState,
+    log: &[Placed],
+    visits: &[Visit],
+    before: OwnersView,
+) -> Result<OwnersView, ClientFault>
+    requires stands { All IsStanding log.now }
+    requires owners { AllByRecursion IsOwners (map plain_visit visits.now) }
+    requires keys { ArePresent state.now.keys.keys before.ring }
+    ensures answer { (r : Reading) (o : Opened) → IsReadingOf state.now log.now r → IsOpenedTo r.stand.store (map plain_visit visits.now) before o →
+        AnswersBy (λ view behind. IsOpenedTo r.stand.store [] view behind) result (spec.visit_all r (map plain_visit visits.now) o) }
+    ensures keys { IfOk result (λ view. ArePresent state.now.keys.keys view.ring) }
+    ensures no_disk { result ≢ Err ClientFault.DiskFault }
+{
+    let mut view = before;
+    for visit in visits {
+        visit_one(alloc, state, log, &mut view, visit)?;
+    }
+    Ok(view)
+}
+
+/// Opens all of a store that the owner's key opens: every key, every name, all bytes, and the holders' keys. Its answer is
+/// that of the owner's visits one after another: `Damaged` behind the header where a record is missing, `Tampered` with the
+/// place of the first record whose tag is wrong, `Damaged` with the place of the first content whose text has another form.
+/// `OutOfMemory` may come at any time, and no disk is touched.
+pub fn open_all(
+    alloc: Global,
+    state: &PublicState,
+    log: &[Placed],
+    owner: Key<OwnerK>,
+) -> Result<OwnersView, ClientFault>
+    requires stands { All IsStanding log.now }
+    requires owner { IsPresent state.now.keys.keys Owner owner }
+    ensures answer { (r : Reading) → IsReadingOf state.now log.now r →
+        AnswersBy (λ view behind. IsOpenedBy r.stand.store view behind) result
+        (spec.visit_all r (all_visits r.stand.store TheOwner ++ holder_visits r.stand.store) (record { keys = (Owner, owner.bytes) ∷ []; store = r.stand.store })) }
+    ensures present { IfOk result (λ view. ArePresent state.now.keys.keys view.ring) }
+    ensures no_disk { result ≢ Err ClientFault.DiskFault }
+{
+    let visits = owner_visits(alloc, state)?;
+    let view = OwnersView {
+        ring: KeyRing::new(alloc, owner),
+        names: Names::new(alloc),
+    };
+    visit_each(alloc, state, log, visits.as_slice(), view)
+}

@@ -1,0 +1,28 @@
+//! Laws of opening for writing.
+ghost use Rattle.std.specs.Prelude.{◌≡◌, ◌++◌, ◌∷◌, [], List, ℕ, Ok, Err, true, false};
+ghost use Rattle.commit_journal.specs.Answering.{Damaged, Fault};
+ghost use Rattle.commit_journal.specs.Logs.{writer_log};
+ghost use Rattle.commit_journal.specs.Placed.{PlainPlaced};
+ghost use Rattle.cry_base.specs.declared.roles.Role.TheVariants.{Owner};
+ghost use Rattle.holder_client.specs.Asking.{opened_store};
+ghost use Rattle.holder_client.specs.Folding.{folded};
+ghost use Rattle.holder_client.specs.Judging.{OfBytes};
+ghost use Rattle.holder_client.specs.Opening.{opened_by};
+ghost use Rattle.holder_client.specs.Visiting.{visit_all};
+ghost use Rattle.holder_client.specs.Visits.{all_visits, holder_visits};
+ghost use Rattle.move_plan.specs.Fitting.{folder_stands};
+ghost use Rattle.public_fold.specs.Journal.{Stand, nothing};
+ghost use Rattle.role_graph.specs.Rights.Who.{TheOwner};
+
+/// Law: a store's bytes are opened for writing step by step, and the first step that fails tells why: the log under the
+/// owner's key, what its payloads make, the root, and then the visits of the owner with the holders' keys behind them.
+pub fn opening_goes_by_steps()
+    ensures log { (owner bytes : List ℕ) (fault : Fault) → writer_log owner bytes ≡ Err fault → opened_store owner bytes ≡ Err (OfBytes fault) }
+    ensures fold { (owner bytes : List ℕ) (log : List PlainPlaced) (fault : Fault) → writer_log owner bytes ≡ Ok log → folded nothing log ≡ Err fault →
+        opened_store owner bytes ≡ Err (OfBytes fault) }
+    ensures root { (owner bytes : List ℕ) (log : List PlainPlaced) (stand : Stand) → writer_log owner bytes ≡ Ok log → folded nothing log ≡ Ok stand → folder_stands stand.store 1 ≡ false →
+        opened_store owner bytes ≡ Err (OfBytes (Damaged 42)) }
+    ensures visits { (owner bytes : List ℕ) (log : List PlainPlaced) (stand : Stand) → writer_log owner bytes ≡ Ok log → folded nothing log ≡ Ok stand → folder_stands stand.store 1 ≡ true →
+        opened_store owner bytes ≡ opened_by (record { log = log; stand = stand })
+        (visit_all (record { log = log; stand = stand }) (all_visits stand.store TheOwner ++ holder_visits stand.store) (record { keys = (Owner, owner) ∷ []; store = stand.store })) }
+{}

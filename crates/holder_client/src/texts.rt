@@ -1,0 +1,163 @@
+//! Names, bytes and holders' keys that are opened, each with the key of its folder, its file or the owner (docs/FORMAT.md,
+//! "Reading").
+ghost use Rattle.std.specs.Prelude.{◌≡◌, ◌≢◌, All, Bool, Err, IfOk, IsTrue, MatchOption, OnErr, OnOk, false, length, map};
+ghost use Rattle.commit_journal.specs.Placed.{plain_placed};
+ghost use Rattle.commit_journal.specs.Places.{IsStanding};
+ghost use Rattle.cry_base.specs.Store.{Store};
+ghost use Rattle.cry_base.specs.declared.roles.Role.{Role as TheRole};
+ghost use Rattle.cry_base.specs.declared.roles.Role.TheVariants.{Owner};
+ghost use Rattle.holder_client.specs.Answering.{AnswersBy};
+ghost use Rattle.holder_client.specs.Holding.{ArePresent, HasNames, HasParts, HoldsKeys, IsHeldBy, IsTitledBy};
+ghost use Rattle.holder_client.specs.Visiting as spec;
+ghost use Rattle.holder_client.specs.Visits.Visit.{ToFile, ToHolder, ToName};
+ghost use Rattle.public_fold.specs.KeyStep.{present};
+ghost use Rattle.role_graph.specs.Roles.{data_of, file_role};
+
+use crate::ClientFault;
+use crate::visiting::{OpenedText, open_text};
+use chacha_seal::Key;
+use commit_journal::Placed;
+use cry_base::{FileId, FolderId, HolderId, Mem, Node, Role, Serial, Text};
+use folder_nodes::{Names, name_ok};
+use key_links::KeyRing;
+use public_fold::PublicState;
+use std::alloc::Global;
+
+/// The kinds of contents: the names of folders, the names and bytes of files, the keys of holders.
+const FOLDER_NAME: u8 = 1;
+const FILE_TEXT: u8 = 2;
+const HOLDER_KEY: u8 = 3;
+
+const ROOT: u32 = 1;
+
+/// The most bytes that a file of any store may have.
+const FILE_BYTES: usize = 1_048_576;
+
+/// Whether a folder may have the text for its name: the root the empty one alone, and another a name.
+#[tactic(auto, unfolding(crate::specs::Visiting::is_folder_text))]
+fn is_folder_text(folder: FolderId, text: &[u8]) -> bool
+    ensures { result ≡ spec.is_folder_text folder.0 text.now }
+{
+    if folder.0 == ROOT {
+        text.is_empty()
+    } else {
+        name_ok(text)
+    }
+}
+
+/// The name and the bytes of a file, where the text has that form: a byte with the name's length, the name, the bytes.
+#[tactic(auto, unfolding(crate::specs::Visiting::is_file_text))]
+fn file_parts(text: &[u8]) -> Option<(&[u8], &[u8])>
+    ensures { MatchOption result (spec.is_file_text text.now ≡ false) (λ parts. HasParts text.now parts.0.now parts.1.now) }
+{
+    let (size, rest) = text.split_first()?;
+    let size = *size as usize;
+    if size > rest.len() || rest.len() - size > FILE_BYTES || !name_ok(&rest[..size]) {
+        return None;
+    }
+    Some((&rest[..size], &rest[size..]))
+}
+
+fn text_of(alloc: Global, bytes: &[u8]) -> Mem<Text>
+    ensures { IfOk result (λ text. text.items ≡ bytes.now) }
+{
+    let mut text = Text::new(alloc);
+    text.append(bytes)?;
+    Ok(text)
+}
+
+/// Opens the name of a folder and gives it to the folder. `Damaged` behind the header comes exactly where there is no content
+/// with the name or no key for it, then `Tampered` with the content's place exactly where its tag is wrong, and then `Damaged`
+/// with the content's place exactly where the text is no name, and for the root where it isn't empty.
+pub(crate) fn visit_name(
+    alloc: Global,
+    log: &[Placed],
+    ring: &KeyRing,
+    names: &mut Names,
+    folder: FolderId,
+) -> Result<(), ClientFault>
+    requires stands { All IsStanding log.now }
+    ensures answer { (told : TheRole → Bool) (r : spec.Reading) (o : spec.Opened) (s : Store) → r.log ≡ map plain_placed log.now → IsTrue (told (data_of folder.0)) →
+        HoldsKeys told ring.now o.keys → HasNames s names.old o.store →
+        AnswersBy (λ _ behind. IsTitledBy s names.new o behind) result (spec.visit r (ToName folder.0) o) }
+    ensures no_disk { result ≢ Err ClientFault.DiskFault }
+{
+    names.reserve()?;
+    let OpenedText { at, text } = open_text(alloc, log, ring, FOLDER_NAME, folder.0)?;
+    if !is_folder_text(folder, text.as_slice()) {
+        return Err(ClientFault::Damaged { at });
+    }
+    names.set(Node::Folder(folder), text, Text::new(alloc));
+    Ok(())
+}
+
+/// Opens the text of a file and gives the file its name and its bytes. `Damaged` behind the header comes exactly where there
+/// is no content with the text or no key for it, then `Tampered` with the content's place exactly where its tag is wrong, and
+/// then `Damaged` with the content's place exactly where the text isn't a length, a name of that length and the bytes of a file.
+pub(crate) fn visit_file(
+    alloc: Global,
+    log: &[Placed],
+    ring: &KeyRing,
+    names: &mut Names,
+    file: FileId,
+) -> Result<(), ClientFault>
+    requires stands { All IsStanding log.now }
+    ensures answer { (told : TheRole → Bool) (r : spec.Reading) (o : spec.Opened) (s : Store) → r.log ≡ map plain_placed log.now → IsTrue (told (file_role file.0)) →
+        HoldsKeys told ring.now o.keys → HasNames s names.old o.store →
+        AnswersBy (λ _ behind. IsTitledBy s names.new o behind) result (spec.visit r (ToFile file.0) o) }
+    ensures no_disk { result ≢ Err ClientFault.DiskFault }
+{
+    names.reserve()?;
+    let OpenedText { at, text } = open_text(alloc, log, ring, FILE_TEXT, file.0)?;
+    let Some((name, bytes)) = file_parts(text.as_slice()) else {
+        return Err(ClientFault::Damaged { at });
+    };
+    let name = text_of(alloc, name)?;
+    let bytes = text_of(alloc, bytes)?;
+    names.set(Node::File(file), name, bytes);
+    Ok(())
+}
+
+/// The 32 bytes of a text that has so many.
+fn key_bytes(text: &[u8]) -> [u8; 32]
+    requires { length text.now ≡ 32 }
+    ensures { result ≡ text.now }
+{
+    let mut bytes = [0; 32];
+    bytes.copy_from_slice(text);
+    bytes
+}
+
+/// The serial of the role's newest key, and 0 where it has none.
+#[tactic(auto, unfolding(public_fold::specs::KeyStep::present))]
+fn present_serial(state: &PublicState, role: Role) -> Serial
+    ensures { result.0 ≡ present state.now.keys.keys role }
+{
+    match state.present(role) {
+        Some(serial) => serial,
+        None => Serial(0),
+    }
+}
+
+/// Opens the key of a holder, and keeps it. `Damaged` behind the header comes exactly where there is no content with the key,
+/// or no owner's key for it, and else `Tampered` with the content's place exactly where its tag is wrong.
+pub(crate) fn visit_holder(
+    alloc: Global,
+    state: &PublicState,
+    log: &[Placed],
+    ring: &mut KeyRing,
+    holder: HolderId,
+) -> Result<(), ClientFault>
+    requires stands { All IsStanding log.now }
+    requires keys { ArePresent state.now.keys.keys ring.old }
+    ensures answer { (told : TheRole → Bool) (r : spec.Reading) (o : spec.Opened) → r.log ≡ map plain_placed log.now → IsTrue (told Owner) → HoldsKeys told ring.old o.keys →
+        AnswersBy (λ _ behind. IsHeldBy ring.new ring.old holder.0 o behind) result (spec.visit r (ToHolder holder.0) o) }
+    ensures keys { OnOk result (ArePresent state.now.keys.keys ring.new) }
+    ensures no_disk { result ≢ Err ClientFault.DiskFault }
+{
+    ring.reserve(1)?;
+    let OpenedText { at: _, text } = open_text(alloc, log, ring, HOLDER_KEY, holder.0)?;
+    let serial = present_serial(state, Role::Holder(holder));
+    ring.adopt_holder(Key::holder(holder, serial, key_bytes(text.as_slice())));
+    Ok(())
+}
