@@ -3,6 +3,7 @@ pub mod Folded
 pub mod FoldedHolds
 pub mod Following
 pub mod FreshShown
+pub mod Keyed
 pub mod Lasts
 pub mod Naming
 pub mod Opened

@@ -47,7 +47,7 @@ files_at : (f : ℕ) (name bytes : List ℕ) (new old : Titles) (es : List FileE
 files_at f name bytes new old [] named = refl
 files_at f name bytes new old (e ∷ es) named =
     ap (λ t. (let x : FileEntry = record e { name = name_in t; bytes = bytes_in t } in x)
-        ∷ map (λ (e : FileEntry). record e { name = name_in (title_at old.files e.id); bytes = bytes_in (title_at old.files e.id) }) es)
+    ∷ map (λ (e : FileEntry). record e { name = name_in (title_at old.files e.id); bytes = bytes_in (title_at old.files e.id) }) es)
     (sym (named (File (record { 0 = e.id }))))
     ∙ ap (λ xs. (let x : FileEntry = record e { name = name_in (title_at new.files e.id); bytes = bytes_in (title_at new.files e.id) } in x) ∷ xs) (files_at f name bytes new old es named)
 

@@ -46,7 +46,7 @@ note_owner at note links t holds =
     let not_new : In Owner c.fresh → ⊥ = λ f. mv.fresh_is_new Owner f tt in
     same_key s after at.keys c links mv holds.keys Owner
     (λ i. ⊎_elim (λ p. false≢true (sym (marked_no_root s after at.keys c links mv holds.keys Owner ((planned_told s after at.keys c links mv holds.keys Owner).0 p).0) ∙ owner_is_root)) not_new
-        ((In-append Role Owner plan c.fresh).0 i))
+    ((In-append Role Owner plan c.fresh).0 i))
     (λ g. ⊎_elim (λ w. w.1 g) not_new ((mv.roles Owner).0 tt))
 
 -- what holds of a stand, with the owner's key present under 0

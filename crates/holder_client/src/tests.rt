@@ -1,5 +1,7 @@
 //! What no clause says: that a store which another program wrote is shown, and that the calls succeed.
 mod fresh;
+mod opening;
+mod tree;
 
 use super::*;
 use cry_base::{Bundle, Line, List};

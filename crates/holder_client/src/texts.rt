@@ -25,7 +25,9 @@ use std::alloc::Global;
 
 /// The kinds of contents: the names of folders, the names and bytes of files, the keys of holders.
 const FOLDER_NAME: u8 = 1;
+
 const FILE_TEXT: u8 = 2;
+
 const HOLDER_KEY: u8 = 3;
 
 const ROOT: u32 = 1;
