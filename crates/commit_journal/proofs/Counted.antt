@@ -1,18 +1,19 @@
 -- A turn of the code's own walk is in its epoch, and so is what it has read so far.
-use Rattle.std.proofs.Common.{◌≡◌, ℕ, ◌+◌, ◌≤◌, Bool, true, false, cond, eqb, eq-eqb, List, [], ◌∷◌, ◌++◌, refl, sym, subst, ◌∙◌, arith, append_assoc}
+use Rattle.std.proofs.Common.{◌≡◌, ℕ, ◌+◌, ◌≤◌, Bool, true, false, cond, eqb, eq-eqb, List, [], ◌∷◌, ◌++◌, length, map, refl, sym, subst, ◌∙◌, arith, append_assoc, length-append}
 use Rattle.std.specs.Prelude.{nat_le, ◌&&◌}
 use Rattle.std.proofs.lemmas.Bool.{eqb-true, and_parts}
 use Rattle.std.proofs.lemmas.Bool.Decides.{nat_tests}
-use Rattle.std.proofs.lemmas.List.{append-nil}
+use Rattle.std.proofs.lemmas.List.{append-nil, length-map}
 use Rattle.commit_journal.specs.declared.head.Head.{Head}
 use Rattle.commit_journal.specs.declared.judge.Turn.{Turn}
 use Rattle.commit_journal.specs.declared.past.Past.{Past}
+use Rattle.commit_journal.specs.declared.placed.Placed.{Placed}
 use Rattle.commit_journal.specs.declared.placed.Body.{Body}
 use Rattle.commit_journal.specs.declared.placed.Body.TheVariants as bodies
 use Rattle.commit_journal.specs.Log.{PlainTurn, fits_epoch}
-use Rattle.commit_journal.specs.Logs.{IsInEpoch, AreInEpochs}
+use Rattle.commit_journal.specs.Logs.{IsInEpoch, AreInEpochs, epoch_behind}
 use Rattle.commit_journal.specs.Opening.{HasType, IsTurnIn, IsTurnOf}
-use Rattle.commit_journal.specs.Placed.{PlainPlaced, plain_body}
+use Rattle.commit_journal.specs.Placed.{PlainPlaced, plain_body, plain_placed}
 use Rattle.commit_journal.specs.Turns.{plain_turn}
 
 -- ---- the test of a head
@@ -62,3 +63,25 @@ counts_more front past turn here on = λ rest are.
 pub counts_all : (front : List PlainPlaced) (past : Past) → CountsOn front past → AreInEpochs 0 front
 unfolding CountsOn
 counts_all front past on = subst (AreInEpochs 0) (append-nil front) (on [] tt)
+
+-- what was read so far are as many batches as are known, and the last one's epoch is known
+pub record EndsAt (front : List PlainPlaced) (past : Past) : Type 0 where
+  pub number : past.number ≡ length front
+  pub epoch : past.epoch.0 ≡ epoch_behind 0 front
+
+pub ends_start : (past : Past) → past.number ≡ 0 → past.epoch.0 ≡ 0 → EndsAt [] past
+ends_start past first none = record { number = first; epoch = none }
+
+epoch_more : (before_it : ℕ) (front : List PlainPlaced) (p : PlainPlaced) → epoch_behind before_it (front ++ p ∷ []) ≡ p.epoch.0
+epoch_more before_it [] p = refl
+epoch_more before_it (q ∷ front) p = epoch_more q.epoch.0 front p
+
+pub ends_more : (front : List PlainPlaced) (past : Past) (turn : PlainTurn) → IsTurnIn past turn → turn.past.number ≡ past.number + 1 → EndsAt front past →
+    EndsAt (front ++ turn.placed ∷ []) turn.past
+ends_more front past turn here next ends = record {
+  number = omega (arith, next, ends.number, length-append front (turn.placed ∷ []));
+  epoch = here.1 ∙ sym (epoch_more 0 front turn.placed);
+}
+
+pub as_many : (log : List Placed) (n : ℕ) → n ≡ length (map plain_placed log) → n ≡ length log
+as_many log n is = is ∙ length-map log plain_placed

@@ -76,3 +76,8 @@ IsInEpoch before epoch NewEpoch = epoch ≡ before + 1
 abbrev pub AreInEpochs : ℕ → List PlainPlaced → Type 0
 AreInEpochs before [] = Unit {0}
 AreInEpochs before (p ∷ log) = IsInEpoch before p.epoch.0 p.body × AreInEpochs p.epoch.0 log
+
+-- the epoch of the last batch of a log, and this one where there is none
+abbrev pub epoch_behind : ℕ → List PlainPlaced → ℕ
+epoch_behind before [] = before
+epoch_behind before (p ∷ log) = epoch_behind p.epoch.0 log

@@ -1,12 +1,12 @@
 //! Opening a store for writing: its log as the owner's key reads it, and the slots that a stop left empty
 //! (docs/FORMAT.md, "Opening for writing").
-ghost use Rattle.std.specs.Prelude.{◌≡◌, ◌≢◌, ◌⊎◌, ◌<◌, ◌≤◌, ◌+◌, ◌-◌, ◌^◌, Err, drop, map, is_some, IfOk, IfErr, OnOk, All};
+ghost use Rattle.std.specs.Prelude.{◌≡◌, ◌≢◌, ◌⊎◌, ◌<◌, ◌≤◌, ◌+◌, ◌-◌, ◌^◌, Err, drop, length, map, is_some, IfOk, IfErr, OnOk, All};
 ghost use Rattle.cry_io.specs.Counts.{CountsFault};
 ghost use Rattle.cry_io.specs.Stops.{IsDurable};
 ghost use Rattle.cry_io.specs.Told.{WhereTold, WhereBothTold};
 ghost use Rattle.chacha_seal.specs.Sealing.{veil_of};
 ghost use Rattle.commit_journal.specs.Answering.{Answers};
-ghost use Rattle.commit_journal.specs.Logs.{AreInEpochs};
+ghost use Rattle.commit_journal.specs.Logs.{AreInEpochs, epoch_behind};
 ghost use Rattle.commit_journal.specs.Opening as opening;
 ghost use Rattle.commit_journal.specs.Placed.{plain_log, plain_placed};
 ghost use Rattle.commit_journal.specs.Places.{IsStanding};
@@ -102,6 +102,8 @@ fn walk<D: Disk>(
     ensures room { IfOk result (λ w. opening.HasRoom w.past) }
     ensures end { IfOk result (λ w. w.past.at ≤ D.size_of disk.old) }
     ensures epochs { IfOk result (λ w. AreInEpochs 0 (plain_log w.placed)) }
+    ensures count { IfOk result (λ w. w.past.number ≡ length w.placed.items) }
+    ensures last { IfOk result (λ w. w.past.epoch.0 ≡ epoch_behind 0 (plain_log w.placed)) }
     ensures read_only { IsOnlyRead D.shown D.size_of D.may_leave disk.old disk.new }
     ensures counts { D.faults disk.old ≤ D.faults disk.new }
     ensures disk_fault { result ≡ Err OpenFault.DiskFault → D.faults disk.old < D.faults disk.new }
@@ -175,6 +177,8 @@ impl Journal {
         ensures opened { IfOk result (λ o. opening.IsOpened owner.now.bytes limits.store_bytes o.journal) }
         ensures stands { IfOk result (λ o. All IsStanding o.placed.items) }
         ensures epochs { IfOk result (λ o. AreInEpochs 0 (plain_log o.placed)) }
+        ensures count { IfOk result (λ o. o.journal.batches ≡ length o.placed.items) }
+        ensures last { IfOk result (λ o. o.journal.epoch ≡ epoch_behind 0 (plain_log o.placed)) }
         ensures filled { IfOk result (λ o. WhereBothTold (D.shown disk.old) (D.shown disk.new)
             (λ x y. y ≡ opening.slots_filled owner.now.bytes (plain_log o.placed) x)) }
         ensures durable { OnOk result (IsDurable (D.may_leave disk.new) (D.shown disk.new)) }

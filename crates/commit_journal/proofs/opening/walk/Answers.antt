@@ -9,7 +9,7 @@ use Rattle.commit_journal.specs.Opening.{owned_log, opening_verdict, owned_at, o
 use Rattle.commit_journal.specs.Placed.{plain_placed}
 use Rattle.commit_journal.specs.Places.{IsStanding}
 use Rattle.commit_journal.specs.Turns.{plain_turn}
-use Rattle.commit_journal.proofs.Counted.{counts_start, counts_more, counts_all}
+use Rattle.commit_journal.proofs.Counted.{as_many, counts_all, counts_more, counts_start, ends_more, ends_start}
 use Rattle.commit_journal.proofs.Judged.{fault_first}
 use Rattle.commit_journal.proofs.OwnedLemmas.{owned_before-fault, owned_before-end, owned_closed, owned_fails, owned_starts, owned_more}
 use Rattle.commit_journal.proofs.Walked.{only_read_twice}
@@ -36,6 +36,7 @@ loop-past-init g c =
       on_disk = rw c.new-log.ensures (All-nil on_disk);
       read_only = c.in_ok-past.ensures.read_only;
       counted = rw c.new-log.ensures (counts_start c.in_ok-past.past c.in_ok-past.ensures.fresh.1);
+      ends = rw c.new-log.ensures (ends_start c.in_ok-past.past c.in_ok-past.ensures.fresh.0 c.in_ok-past.ensures.fresh.1);
       counts = c.in_ok-past.ensures.counts;
       so_far = λ s is. rw c.new-log.ensures (owned_starts c.args.limit c.args.owner.now.bytes s c.in_ok-past.past (c.in_ok-past.ensures.answer s is) c.in_ok-past.ensures.place);
     }
@@ -77,6 +78,7 @@ loop-past-preserved g c =
       on_disk = rw c.in_ok-push.ensures.items (All-append on_disk c.loop-past.log.items (turn.placed ∷ []) c.loop-past.invariant.on_disk (All-cons on_disk turn.placed [] there (All-nil on_disk)));
       read_only = only_read_twice g.D.Disk.shown g.D.Disk.size_of g.D.Disk.may_leave c.args.disk.now c.loop-past.disk c.read_owned.new.disk c.loop-past.invariant.read_only read;
       counted = rw pushed (counts_more front past (plain_turn turn) c.in_ok-turn.ensures.in_epoch c.loop-past.invariant.counted);
+      ends = rw pushed (ends_more front past (plain_turn turn) c.in_ok-turn.ensures.in_epoch next.number c.loop-past.invariant.ends);
       counts = omega (arith, c.loop-past.invariant.counts, c.in_ok-turn.ensures.counts);
       so_far = λ s is.
           let judged : owned_at c.args.limit owner past (drop past.at s) ≡ Ok (plain_turn turn) =
@@ -96,3 +98,9 @@ returns-clause-verdict g c = λ s is.
 
 pub returns-clause-epochs : goal.returns-clause-epochs
 returns-clause-epochs g c = counts_all (map plain_placed c.loop-past.log.items) c.loop-past.past c.loop-past.invariant.counted
+
+pub returns-clause-count : goal.returns-clause-count
+returns-clause-count g c = as_many c.loop-past.log.items c.loop-past.past.number c.loop-past.invariant.ends.number
+
+pub returns-clause-last : goal.returns-clause-last
+returns-clause-last g c = c.loop-past.invariant.ends.epoch

@@ -4,7 +4,7 @@ use Rattle.commit_journal.specs.Opening.{HasRoom}
 use Rattle.commit_journal.specs.Placed.{plain_placed}
 use Rattle.commit_journal.specs.Places.{IsStanding}
 use Rattle.commit_journal.specs.Reading.{IsOnlyRead}
-use Rattle.commit_journal.proofs.Counted.{CountsOn}
+use Rattle.commit_journal.proofs.Counted.{CountsOn, EndsAt}
 use Rattle.commit_journal.proofs.OwnedLemmas.{IsSoFarOwned}
 use Rattle.commit_journal.proofs.opening.walk.Given as goal
 
@@ -16,6 +16,7 @@ invariant-loop-past g l = record {
   on_disk : All (λ p. p.place ≤ g.D.Disk.size_of l.fn.disk) l.log.items;
   read_only : IsOnlyRead g.D.Disk.shown g.D.Disk.size_of g.D.Disk.may_leave l.fn.disk l.disk;
   counted : CountsOn (map plain_placed l.log.items) l.past;
+  ends : EndsAt (map plain_placed l.log.items) l.past;
   counts : g.D.Disk.faults l.fn.disk ≤ g.D.Disk.faults l.disk;
   so_far : (s : List ℕ) → g.D.Disk.shown l.fn.disk ≡ Some s → IsSoFarOwned l.limit l.owner.bytes s (map plain_placed l.log.items) l.past;
 }
