@@ -33,6 +33,7 @@ pub mod Retitlings
 pub mod RingRecords
 pub mod Scripted
 pub mod Sealable
+pub mod SoundOpened
 pub mod SoundSeals
 pub mod SoundStays
 pub mod SoundSteps

@@ -22,7 +22,7 @@ use Rattle.store_owner.proofs.Ascending.{session_rises}
 use Rattle.store_owner.proofs.StepKeys.{newest-kept, newest-split}
 use Rattle.store_owner.proofs.StepSealed.{counted_after, sealing_same}
 
-newest-role : (keys : List (Role × ℕ)) (r : Role) (n : ℕ) → newest keys r ≡ Some n → In r (map (λ (key : Role × ℕ). key.0) keys)
+pub newest-role : (keys : List (Role × ℕ)) (r : Role) (n : ℕ) → newest keys r ≡ Some n → In r (map (λ (key : Role × ℕ). key.0) keys)
 unfolding newest
 newest-role [] r n = λ e. absurd cc
 newest-role (x ∷ xs) r n =

@@ -147,7 +147,7 @@ unfolding numbered
 numbered-fst X n [] q i = absurd i
 numbered-fst X n (x ∷ xs) q i = ⊎_elim (λ (e : q ≡ (x, n)). inl (ap (λ (z : X × ℕ). z.0) e)) (λ u. inr (numbered-fst X (n + 1) xs q u)) i
 
-present_is : (keys : List (Role × ℕ)) (r : Role) (n : ℕ) → newest keys r ≡ Some n → newest keys r ≡ Some (present keys r)
+pub present_is : (keys : List (Role × ℕ)) (r : Role) (n : ℕ) → newest keys r ≡ Some n → newest keys r ≡ Some (present keys r)
 unfolding present
 present_is keys r n e = e ∙ ap Some (sym (ap (λ o. unwrap_or o 0) e))
 

@@ -1,12 +1,20 @@
 -- What holds of every owner that is open, on whatever bytes it was opened. This project's own, docs/MODEL.md.
-use Rattle.std.specs.Prelude.{◌≡◌, ◌≤◌, ℕ, cond, List, length, Some, None, IsTrue}
+use Rattle.std.specs.Prelude.{◌≡◌, ◌≤◌, ℕ, false, cond, List, [], ◌∷◌, length, Some, None, Ok, IsTrue}
 use Rattle.chacha_seal.specs.Keys.{KeyParts}
+use Rattle.commit_journal.specs.Logs.{AreInEpochs}
+use Rattle.commit_journal.specs.Placed.{PlainPlaced}
 use Rattle.cry_base.specs.Store.{Store}
+use Rattle.cry_base.specs.declared.roles.Role.{Role}
 use Rattle.folder_nodes.specs.Titles.{bytes_in, title_at, tree_store}
 use Rattle.grant_book.specs.Granted.{Granted}
+use Rattle.holder_client.specs.Folding.{folded}
+use Rattle.key_links.specs.Ringed.{key_of}
+use Rattle.move_plan.specs.Fitting.{folder_stands}
 use Rattle.public_fold.specs.Journal.{Stand, nothing}
+use Rattle.public_fold.specs.KeyStep.{newest}
 use Rattle.public_fold.specs.Standing.{IsSeenAs, public_store_of}
 use Rattle.public_fold.specs.Turns.{Turn, turns_fit, turns_stand}
+use Rattle.role_graph.specs.Roles.{role_id}
 use Rattle.store_owner.specs.Owned.{OwnerView, counting}
 use Rattle.store_owner.specs.Sealing.{HoldsKeys}
 
@@ -31,3 +39,24 @@ granted_in o = record { checks = o.state.checks; pairs = o.state.pairs; spare = 
 -- the store that an owner keeps: everyone's, with the names and bytes
 abbrev pub own_store : OwnerView → Store
 own_store o = tree_store (public_store_of o.state) o.names
+
+-- the epoch of the last batch of a log
+abbrev pub epoch_behind : ℕ → List PlainPlaced → ℕ
+epoch_behind before [] = before
+epoch_behind before (p ∷ log) = epoch_behind p.epoch.0 log
+
+-- What an owner has who opened a log and has begun no epoch: what is seen is what the log's payloads leave, each of which fits, with
+-- the root; as many batches, and the epoch of the last one; the present key of each role, whatever its bytes; no file with more
+-- bytes than one may have.
+pub record IsOpenedWith (log : List PlainPlaced) (at : Stand) (o : OwnerView) : Type 0 where
+  pub epochs : AreInEpochs 0 log
+  pub folds : folded nothing log ≡ Ok at
+  pub has_root : IsTrue (folder_stands at.store 1)
+  pub seen : IsSeenAs o.state at
+  pub batches : o.journal.batches ≡ length log
+  pub epoch : o.journal.epoch ≡ epoch_behind 0 log
+  pub keyed : (role : Role) (n : ℕ) → newest at.keys.keys role ≡ Some n → (key : KeyParts) × (key_of o.ring role ≡ Some key) × (key.id ≡ role_id role) × (key.serial ≡ n)
+  pub not_begun : o.journal.has_epoch ≡ false
+  pub not_counted : o.counter ≡ None
+  pub sized : (x : ℕ) → length (bytes_in (title_at o.names.files x)) ≤ 1048576
+  pub bounded : o.file_bytes ≤ 1048576

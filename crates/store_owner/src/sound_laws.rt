@@ -1,8 +1,11 @@
 //! Laws of every owner that is open, on whatever bytes it was opened.
-ghost use Rattle.std.specs.Prelude.{◌≡◌, ◌+◌, ◌*◌, ◌<◌, ◌≤◌, ℕ, All, IsTrue, List, None, Option, Some, cond, false, length, not, replicate, true};
+ghost use Rattle.std.specs.Prelude.{◌≡◌, ◌+◌, ◌*◌, ◌<◌, ◌≤◌, ℕ, All, IsTrue, List, None, Ok, Option, Some, cond, false, length, not, replicate, true};
 ghost use Rattle.chacha_seal.specs.Serials.{Counting};
+ghost use Rattle.commit_journal.specs.Logs.{AreInEpochs};
+ghost use Rattle.commit_journal.specs.Placed.{PlainPlaced};
 ghost use Rattle.cry_base.specs.Refusing.{has_bad_name, refusal_of};
 ghost use Rattle.cry_base.specs.Requests.{Request};
+ghost use Rattle.holder_client.specs.Folding.{folded};
 ghost use Rattle.key_links.specs.Ringed.{Ringed};
 ghost use Rattle.move_plan.specs.Noting.{note_of};
 ghost use Rattle.record_format.specs.Noted.{Note};
@@ -18,7 +21,7 @@ ghost use Rattle.store_owner.specs.Applying.{IsCarriedOut, sealed_text};
 ghost use Rattle.store_owner.specs.Owned.{OwnerView};
 ghost use Rattle.store_owner.specs.Owning.{IsStoreOf};
 ghost use Rattle.store_owner.specs.Sealing.{CanSeal, IsSealable};
-ghost use Rattle.store_owner.specs.Sound.{IsSound, granted_in, own_store};
+ghost use Rattle.store_owner.specs.Sound.{IsOpenedWith, IsSound, epoch_behind, granted_in, own_store};
 
 /// Law: the step of a note that fits can be sealed, after whatever turns that fit.
 pub fn fitting_steps_can_be_sealed()
@@ -57,4 +60,11 @@ pub fn carried_out_owners_stay_sound()
         → IsCarriedOut r drawn old new was shows
         → new.journal.batches ≡ old.journal.batches + cond old.journal.has_epoch 1 2 → new.journal.epoch ≡ old.journal.epoch + cond old.journal.has_epoch 0 1
         → IsSound new }
+{}
+
+/// Law: an owner is sound who has what the payloads of a log leave, each of which fits, and the present key of each role; and
+/// the epoch that they leave is that of the log's last batch.
+pub fn opened_owners_are_sound()
+    ensures epoch { (log : List PlainPlaced) (at : Stand) → AreInEpochs 0 log → folded nothing log ≡ Ok at → at.keys.epoch ≡ epoch_behind 0 log }
+    ensures sound { (log : List PlainPlaced) (at : Stand) (o : OwnerView) → IsOpenedWith log at o → IsSound o }
 {}
