@@ -13,6 +13,7 @@ pub mod OwnPath
 pub mod OwnerKey
 pub mod OwnerVisits
 pub mod SameShown
+pub mod Sized
 pub mod Steps
 pub mod ToldLemmas
 pub mod Verdicts

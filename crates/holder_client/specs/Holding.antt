@@ -9,7 +9,7 @@ use Rattle.cry_base.specs.declared.roles.Edge.{Edge}
 use Rattle.cry_base.specs.declared.roles.Role.{Role}
 use Rattle.cry_base.specs.declared.roles.Role.TheVariants.{Holder}
 use Rattle.commit_journal.specs.Answering.{Fault}
-use Rattle.folder_nodes.specs.Titles.{Titles, tree_store}
+use Rattle.folder_nodes.specs.Titles.{Titles, bytes_in, title_at, tree_store}
 use Rattle.holder_client.specs.Answering.{IsFault}
 use Rattle.holder_client.specs.declared.fault.ClientFault.{ClientFault}
 use Rattle.holder_client.specs.declared.visiting.OpenedText.{OpenedText}
@@ -67,3 +67,7 @@ pub record IsHeldBy (new old : Ringed) (h : ℕ) (o behind : opened.Opened) : Ty
 -- the text is a byte with the name's length, the name, and the bytes of a file
 abbrev pub HasParts : List ℕ → List ℕ → List ℕ → Type 0
 HasParts text name bytes = IsTrue (opened.is_file_text text) × (text ≡ length name ∷ (name ++ bytes)) × IsTrue (is_name name)
+
+-- no file has more bytes than a file of any store may have
+abbrev pub AreSized : Titles → Type 0
+AreSized names = (x : ℕ) → length (bytes_in (title_at names.files x)) ≤ 1048576

@@ -5,7 +5,7 @@ ghost use Rattle.commit_journal.specs.Places.{IsStanding};
 ghost use Rattle.cry_base.specs.declared.roles.Role.{Role as TheRole};
 ghost use Rattle.cry_base.specs.declared.roles.Role.TheVariants.{Owner};
 ghost use Rattle.holder_client.specs.Answering.{AnswersBy};
-ghost use Rattle.holder_client.specs.Holding.{ArePresent, HoldsKeys, IsPresent, IsReadingOf};
+ghost use Rattle.holder_client.specs.Holding.{ArePresent, AreSized, HoldsKeys, IsPresent, IsReadingOf};
 ghost use Rattle.holder_client.specs.Opening.{IsOpenedBy, IsOpenedTo, IsOwners, is_no_holders, plain_visit};
 ghost use Rattle.holder_client.specs.Visiting.{Opened, Reading};
 ghost use Rattle.holder_client.specs.Visiting as spec;
@@ -71,6 +71,7 @@ fn visit_one(
     ensures answer { (r : Reading) (o : Opened) (left : List PlainVisit) → IsReadingOf state.now log.now r → IsOpenedTo r.stand.store (plain_visit visit.now ∷ left) view.old o →
         AnswersBy (λ _ behind. IsOpenedTo r.stand.store left view.new behind) result (spec.visit r (plain_visit visit.now) o) }
     ensures keys { OnOk result (ArePresent state.now.keys.keys view.new.ring) }
+    ensures sized { OnOk result (AreSized view.old.names → AreSized view.new.names) }
     ensures no_disk { result ≢ Err ClientFault.DiskFault }
 {
     match visit {
@@ -92,9 +93,11 @@ fn visit_each(
     requires stands { All IsStanding log.now }
     requires owners { AllByRecursion IsOwners (map plain_visit visits.now) }
     requires keys { ArePresent state.now.keys.keys before.ring }
+    requires sized { AreSized before.names }
     ensures answer { (r : Reading) (o : Opened) → IsReadingOf state.now log.now r → IsOpenedTo r.stand.store (map plain_visit visits.now) before o →
         AnswersBy (λ view behind. IsOpenedTo r.stand.store [] view behind) result (spec.visit_all r (map plain_visit visits.now) o) }
     ensures keys { IfOk result (λ view. ArePresent state.now.keys.keys view.ring) }
+    ensures sized { IfOk result (λ view. AreSized view.names) }
     ensures no_disk { result ≢ Err ClientFault.DiskFault }
 {
     let mut view = before;
@@ -120,6 +123,7 @@ pub fn open_all(
         AnswersBy (λ view behind. IsOpenedBy r.stand.store view behind) result
         (spec.visit_all r (all_visits r.stand.store TheOwner ++ holder_visits r.stand.store) (record { keys = (Owner, owner.bytes) ∷ []; store = r.stand.store })) }
     ensures present { IfOk result (λ view. ArePresent state.now.keys.keys view.ring) }
+    ensures sized { IfOk result (λ view. AreSized view.names) }
     ensures no_disk { result ≢ Err ClientFault.DiskFault }
 {
     let visits = owner_visits(alloc, state)?;

@@ -7,7 +7,7 @@ ghost use Rattle.cry_base.specs.Store.{Store};
 ghost use Rattle.cry_base.specs.declared.roles.Role.{Role as TheRole};
 ghost use Rattle.cry_base.specs.declared.roles.Role.TheVariants.{Owner};
 ghost use Rattle.holder_client.specs.Answering.{AnswersBy};
-ghost use Rattle.holder_client.specs.Holding.{ArePresent, HasNames, HasParts, HoldsKeys, IsHeldBy, IsTitledBy};
+ghost use Rattle.holder_client.specs.Holding.{ArePresent, AreSized, HasNames, HasParts, HoldsKeys, IsHeldBy, IsTitledBy};
 ghost use Rattle.holder_client.specs.Visiting as spec;
 ghost use Rattle.holder_client.specs.Visits.Visit.{ToFile, ToHolder, ToName};
 ghost use Rattle.public_fold.specs.KeyStep.{present};
@@ -82,6 +82,7 @@ pub(crate) fn visit_name(
     ensures answer { (told : TheRole → Bool) (r : spec.Reading) (o : spec.Opened) (s : Store) → r.log ≡ map plain_placed log.now → IsTrue (told (data_of folder.0)) →
         HoldsKeys told ring.now o.keys → HasNames s names.old o.store →
         AnswersBy (λ _ behind. IsTitledBy s names.new o behind) result (spec.visit r (ToName folder.0) o) }
+    ensures sized { OnOk result (AreSized names.old → AreSized names.new) }
     ensures no_disk { result ≢ Err ClientFault.DiskFault }
 {
     names.reserve()?;
@@ -107,6 +108,7 @@ pub(crate) fn visit_file(
     ensures answer { (told : TheRole → Bool) (r : spec.Reading) (o : spec.Opened) (s : Store) → r.log ≡ map plain_placed log.now → IsTrue (told (file_role file.0)) →
         HoldsKeys told ring.now o.keys → HasNames s names.old o.store →
         AnswersBy (λ _ behind. IsTitledBy s names.new o behind) result (spec.visit r (ToFile file.0) o) }
+    ensures sized { OnOk result (AreSized names.old → AreSized names.new) }
     ensures no_disk { result ≢ Err ClientFault.DiskFault }
 {
     names.reserve()?;

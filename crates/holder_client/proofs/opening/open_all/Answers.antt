@@ -7,6 +7,7 @@ use Rattle.holder_client.specs.Visiting.{Opened, visit_all}
 use Rattle.holder_client.specs.Visits.{Visit, all_visits, holder_visits}
 use Rattle.holder_client.proofs.Opens.{answered, opening_begins}
 use Rattle.holder_client.proofs.OwnerVisits.{seen_nameless}
+use Rattle.holder_client.proofs.Sized.{unnamed_sized}
 use Rattle.role_graph.specs.Rights.Who.{TheOwner}
 use Rattle.holder_client.proofs.opening.open_all.Goals as goal
 
@@ -27,3 +28,6 @@ returns-clause-answer c = λ r of_log.
     in
     subst (λ (l : List Visit). AnswersBy (λ (x : OwnersView) behind. IsOpenedBy bare x behind) c.visit_each.result (visit_all r l begun)) is
     (answered bare c.visit_each.result (visit_all r visits begun) (c.visit_each.ensures.answer r begun of_log opening))
+
+pub visit_each-requires-clause-sized : goal.visit_each-requires-clause-sized
+visit_each-requires-clause-sized c = unnamed_sized c.new-2.result c.new-2.ensures.files

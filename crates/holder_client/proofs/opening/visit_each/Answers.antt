@@ -37,6 +37,7 @@ loop-visit-preserved c =
     record {
       owners = owners.1;
       present = c.in_ok-visit_one.ensures.keys;
+      sized = c.in_ok-visit_one.ensures.sized c.loop-visit.invariant.sized;
       visited = visits_go_on state log all (map plain_visit (drop (i + 1) visits)) (plain_visit (get_or visits i d)) c.args.before c.loop-visit.view c.visit_one.new.view
           so_far c.in_ok-visit_one.ensures.answer;
     }

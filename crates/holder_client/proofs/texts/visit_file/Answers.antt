@@ -3,6 +3,7 @@ use Rattle.std.proofs.lemmas.Result.{err_from_is_err_and}
 use Rattle.holder_client.specs.Holding.{HasParts}
 use Rattle.holder_client.specs.Visiting.{is_file_text, visit, with_text_at}
 use Rattle.holder_client.proofs.Naming.{text_refused, file_taken}
+use Rattle.holder_client.proofs.Sized.{file_sized}
 use Rattle.role_graph.specs.Roles.{file_role}
 use Rattle.holder_client.proofs.texts.visit_file.Goals as goal
 
@@ -32,3 +33,14 @@ returns-clause-answer c = λ told r o s of_log is_told holds has.
     c.in_ok-reserve.ensures.folders c.in_ok-reserve.ensures.files has
     in
     (w.0, c.in_ok-at.ensures.answer told r o (with_text_at o c.args.file.0) of_log is_told holds ∙ w.1, w.2)
+
+pub returns-clause-sized : goal.returns-clause-sized
+returns-clause-sized c = λ sized.
+    let text = c.in_ok-at.field-0.text.items in
+    let name = c.in_ok-name.name.items in
+    let bytes = c.in_ok-bytes.bytes.items in
+    let parts : HasParts text name bytes =
+    subst (λ n. HasParts text n bytes) (sym c.in_ok-name.ensures) (subst (λ b. HasParts text c.in-Some.name.now b) (sym c.in_ok-bytes.ensures)
+    (subst (λ t. HasParts t c.in-Some.name.now c.in-Some.bytes.now) c.as_slice.ensures c.in-Some.ensures))
+    in
+    file_sized c.args.file.0 text name bytes c.set.new.self c.reserve.new.self c.args.names.now parts c.set.ensures.titles c.in_ok-reserve.ensures.files sized

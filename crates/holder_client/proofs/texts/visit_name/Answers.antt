@@ -2,6 +2,7 @@ use Rattle.std.proofs.Common.{sym, ap, ◌∙◌}
 use Rattle.std.proofs.lemmas.Result.{err_from_is_err_and}
 use Rattle.holder_client.specs.Visiting.{is_folder_text, visit, with_name_at}
 use Rattle.holder_client.proofs.Naming.{may_be_named, name_refused, name_taken}
+use Rattle.holder_client.proofs.Sized.{folder_sized}
 use Rattle.role_graph.specs.Roles.{data_of}
 use Rattle.holder_client.proofs.texts.visit_name.Goals as goal
 
@@ -31,3 +32,7 @@ returns-clause-answer c = λ told r o s of_log is_told holds has.
     c.in_ok-reserve.ensures.folders c.in_ok-reserve.ensures.files has
     in
     (w.0, c.in_ok-at.ensures.answer told r o (with_name_at o c.args.folder.0) of_log is_told holds ∙ w.1, w.2)
+
+pub returns-clause-sized : goal.returns-clause-sized
+returns-clause-sized c = λ sized.
+    folder_sized c.args.folder.0 c.in_ok-at.field-0.text.items c.new.result.items c.set.new.self c.reserve.new.self c.args.names.now c.set.ensures.titles c.in_ok-reserve.ensures.files sized
