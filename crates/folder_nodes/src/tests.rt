@@ -1,3 +1,7 @@
+mod paths;
+mod refusals;
+mod restoring;
+
 use super::*;
 use cry_base::{FileId, FolderId, Node};
 use std::test::Fail;
