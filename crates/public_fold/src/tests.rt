@@ -1,4 +1,7 @@
 //! Skeletons row by row, from the key step's table in docs/FORMAT.md worked by hand, and payloads that miss them.
+mod lengths;
+mod moves;
+
 use crate::publishing::number_of;
 use crate::{FoldFault, LinkHead, PublicState, Skeleton};
 use cry_base::{FileId, FolderId, HolderId, List, Role, Serial};
