@@ -1,12 +1,12 @@
 -- The tests of rows are passed by exactly those that are a tree.
-use Rattle.std.proofs.Common.{◌≡◌, ◌≢◌, ℕ, zero, suc, ◌+◌, ◌-◌, ◌<◌, ◌≤◌, Bool, true, false, cond, ◌==◌, ◌&&◌, ◌||◌, List, [], ◌∷◌, length, map, find, Option, Some, None, IsTrue, refl, sym, ap, ◌∙◌, subst, arith}
-use Rattle.std.specs.Prelude.{is_some, IsSome, nat_le, MatchOption}
-use Rattle.std.specs.List.{All, AllPairs, list_all}
+use Rattle.std.proofs.Common.{◌≡◌, ◌≢◌, ℕ, zero, suc, ◌+◌, ◌-◌, ◌<◌, ◌≤◌, Bool, true, false, cond, ◌==◌, ◌||◌, List, [], ◌∷◌, length, map, find, Option, Some, None, IsTrue, refl, sym, ap, ◌∙◌, subst, arith}
+use Rattle.std.specs.Prelude.{is_some, nat_le, MatchOption}
+use Rattle.std.specs.List.{All, list_all}
 use Rattle.std.specs.Option.{option_map}
-use Rattle.std.proofs.lemmas.Bool.{eqb-true, eqb-false, eq-eqb, ne_eqb, le-leb, leb-true, false≢true, and_parts, and_from, or_cases, or_left, or_right}
+use Rattle.std.proofs.lemmas.Bool.{eqb-true, eqb-false, eq-eqb, ne_eqb, le-leb, leb-true, false≢true, and_parts, and_from}
 use Rattle.std.proofs.lemmas.List.Elements.{All-nil, All-cons, All-head, All-tail, All-map, All-weaker}
 use Rattle.cry_base.specs.Sets.{In}
-use Rattle.cry_base.specs.Store.{Store, FolderEntry, FileEntry, folder_entry, file_entry, way_up, way_to_root}
+use Rattle.cry_base.specs.Store.{Store, FolderEntry, FileEntry, folder_entry, way_up, way_to_root}
 use Rattle.sorted_table.specs.Rows.{IsRising, row_at}
 use Rattle.folder_nodes.specs.Bare.{folder_of_row, file_of_row, bare_store}
 use Rattle.folder_nodes.specs.Restoring.{is_numbered, stands_among, has_root, has_its_parent, is_placed, is_file_placed}
@@ -19,7 +19,7 @@ use Rattle.folder_nodes.proofs.Downward.{entry_id, entry_in}
 use Rattle.folder_nodes.proofs.Located.{entry_there}
 use Rattle.folder_nodes.proofs.Lookups.{find-map}
 use Rattle.folder_nodes.proofs.Rowed.{All-unmap, some_of}
-use Rattle.folder_nodes.proofs.Treed.{rises, levels_are}
+use Rattle.folder_nodes.proofs.Treed.{levels_are}
 use Rattle.folder_nodes.proofs.Upward.{way_none, way_some, way_rises, rises_way}
 
 -- all pass

@@ -1,11 +1,11 @@
 use Rattle.std.proofs.Common.{◌≡◌, ◌∙◌, true, false, map, ap, sym}
 use Rattle.std.specs.List.{list_all}
 use Rattle.folder_nodes.specs.Bare.{bare_store, folder_of_row}
-use Rattle.folder_nodes.specs.Restoring.{is_numbered, has_root, is_placed, is_file_placed}
+use Rattle.folder_nodes.specs.Restoring.{is_numbered, is_placed, is_file_placed}
 use Rattle.folder_nodes.specs.Trees.{IsTree}
 use Rattle.folder_nodes.specs.declared.rows.FolderRow.{FolderRow}
 use Rattle.folder_nodes.specs.declared.rows.FileRow.{FileRow}
-use Rattle.folder_nodes.proofs.Restored.{Tested, tree_tested, tested_tree, refuted}
+use Rattle.folder_nodes.proofs.Restored.{tree_tested, tested_tree, refuted}
 use Rattle.folder_nodes.proofs.restoring.are_tree.Goals as goal
 
 pub returns-then-not-are_numbered : goal.returns-then-not-are_numbered

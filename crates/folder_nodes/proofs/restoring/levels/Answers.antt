@@ -1,4 +1,4 @@
-use Rattle.std.proofs.Common.{◌≤◌, ◌<◌, arith}
+use Rattle.std.proofs.Common.{◌≤◌, arith}
 use Rattle.folder_nodes.proofs.Restored.{count_end, count_on, count_full}
 use Rattle.folder_nodes.proofs.restoring.levels.Goals as goal
 
