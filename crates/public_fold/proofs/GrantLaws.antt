@@ -1,32 +1,29 @@
 -- What a grant publishes, and which keys that seal names and files are renewed.
-use Rattle.std.proofs.Common.{◌≡◌, ℕ, suc, ◌+◌, Bool, true, false, cond, not, ◌==◌, ◌&&◌, ◌||◌, ◌⊎◌, List, [], ◌∷◌, ◌++◌, map, filter, length, inl, inr, ⊎_elim, refl, sym, ap, ◌∙◌, subst}
-use Rattle.std.specs.List.{list_any}
-use Rattle.std.proofs.lemmas.Bool.{and_parts, eq-eqb, false≢true, not-true, cases_Bool}
+use Rattle.std.proofs.Common.{◌≡◌, ℕ, suc, Bool, true, false, cond, not, ◌||◌, List, [], ◌∷◌, ◌++◌, filter, length, inl, inr, ⊎_elim, refl, sym, ap, ◌∙◌, subst}
+use Rattle.std.proofs.lemmas.Bool.{and_parts, false≢true, not-true}
 use Rattle.std.proofs.lemmas.List.{length-map}
 use Rattle.std.proofs.lemmas.List.Elements.{filter-append}
-use Rattle.cry_base.specs.Sets.{In, Path, has}
+use Rattle.cry_base.specs.Sets.{In, has}
 use Rattle.cry_base.specs.Sets.Path.{Here, On}
-use Rattle.cry_base.specs.Store.{Store, FolderEntry, FileEntry, GrantEntry, has_grant}
+use Rattle.cry_base.specs.Store.{Store, GrantEntry, has_grant}
 use Rattle.cry_base.specs.declared.roles.Edge.{Edge}
 use Rattle.cry_base.specs.declared.roles.Role.{Role}
-use Rattle.cry_base.proofs.Members.{In-filter, In-map}
-use Rattle.grant_book.specs.Granted.{grant_of}
+use Rattle.cry_base.proofs.Members.{In-map}
 use Rattle.grant_book.proofs.Ordered.{any_grant_told}
 use Rattle.role_graph.specs.Ascending.{ascending}
-use Rattle.role_graph.specs.Edges.{Reaches, IsEdge, IsFileEdge, IsGrantEdge, IsOwnEdge, IsParentEdge, edge_before, edges, grant_edge, in_order, pairs_of, put_in_order, same_edge}
-use Rattle.role_graph.specs.Roles.{is_sealing_role, same_role}
+use Rattle.role_graph.specs.Edges.{Reaches, IsFileEdge, IsGrantEdge, IsOwnEdge, IsParentEdge, edge_before, edges, grant_edge, in_order, pairs_of, put_in_order, same_edge}
+use Rattle.role_graph.specs.Roles.{is_sealing_role}
 use Rattle.role_graph.proofs.Edging.{edges_told}
 use Rattle.role_graph.proofs.Typing.{typed}
 use Rattle.rekey_walk.specs.Dirty.{leads_to_any, plan}
 use Rattle.rekey_walk.proofs.Marking.{plan_told}
-use Rattle.record_format.specs.Noted.{Note}
 use Rattle.record_format.specs.Noted.Note.{Give}
 use Rattle.move_plan.specs.Change.{Change, change_of, no_change}
 use Rattle.move_plan.specs.Fitting.{fits, folder_stands, needs_root, row_fits}
 use Rattle.public_fold.specs.Fitted.{told_step}
 use Rattle.public_fold.specs.Journal.{Stand, note_step}
-use Rattle.public_fold.specs.KeyStep.{KeyState, contents_from, edges_left, edges_then, given, is_published, key_step, keys_then, link_of, links_from, next_serial, numbered, published, published_edges, renewed, step_with}
-use Rattle.public_fold.specs.Records.{Content, Link, pieces_of}
+use Rattle.public_fold.specs.KeyStep.{KeyState, contents_from, edges_left, edges_then, given, is_published, key_step, link_of, links_from, next_serial, numbered, published, published_edges, renewed, step_with}
+use Rattle.public_fold.specs.Records.{pieces_of}
 use Rattle.public_fold.proofs.EdgesThen.{apart, file_kind, grant_edge-ids, grant_kind, is_kind, left_told, own_no_grant, parent_no_grant, same_edge_tells}
 use Rattle.public_fold.proofs.Serials.{numbered-length}
 

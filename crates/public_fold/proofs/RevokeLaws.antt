@@ -1,16 +1,16 @@
 -- What taking a grant back publishes.
-use Rattle.std.proofs.Common.{◌≡◌, ℕ, ◌+◌, Bool, true, false, cond, not, ◌==◌, ◌&&◌, ◌||◌, ◌⊎◌, List, [], ◌∷◌, ◌++◌, map, filter, flat_map, length, suc, inl, inr, ⊎_elim, refl, sym, ap, ◌∙◌, subst, arith, zero-add}
+use Rattle.std.proofs.Common.{◌≡◌, ℕ, ◌+◌, Bool, true, false, cond, not, ◌==◌, ◌&&◌, List, [], ◌∷◌, ◌++◌, map, filter, flat_map, length, suc, inl, inr, ⊎_elim, refl, sym, ap, ◌∙◌, subst, arith, zero-add}
 use Rattle.std.proofs.lemmas.Bool.{false≢true}
 use Rattle.std.proofs.lemmas.List.{append-nil, length-append, length-map}
 use Rattle.std.proofs.lemmas.List.Elements.{filter-append}
-use Rattle.cry_base.specs.Sets.{In, Path, has}
+use Rattle.cry_base.specs.Sets.{In, has}
 use Rattle.cry_base.specs.Sets.Path.{Here, On}
 use Rattle.cry_base.specs.Stepping.{without_grant}
 use Rattle.cry_base.specs.Store.{Store, FolderEntry, FileEntry, GrantEntry}
 use Rattle.cry_base.specs.declared.roles.Edge.{Edge}
 use Rattle.cry_base.specs.declared.roles.Role.{Role}
 use Rattle.cry_base.proofs.Members.{In-filter, In-map, filter-In}
-use Rattle.role_graph.specs.Ascending.{IsAscending, ascending}
+use Rattle.role_graph.specs.Ascending.{IsAscending}
 use Rattle.role_graph.specs.Edges.{Reaches, edge, edge_before, edges, file_edge, folder_edges, grant_edge, in_order, pairs_of, parent_edges, same_edge}
 use Rattle.role_graph.specs.Roles.{back_of, clear_of, data_of, file_role, files_of, holder_role, is_clear_role, is_root_role, role_id, same_role, sub_of, variant_of}
 use Rattle.role_graph.proofs.Rising.{ascending_ascends, same_list}
@@ -18,16 +18,15 @@ use Rattle.role_graph.proofs.Typing.{typed}
 use Rattle.rekey_walk.specs.Dirty.{mark_all, plan}
 use Rattle.rekey_walk.proofs.Marking.{mark_all_told, plan_told}
 use Rattle.record_format.specs.Noted.Note.{Take}
-use Rattle.move_plan.specs.Change.{Change, change_of, no_change}
+use Rattle.move_plan.specs.Change.{change_of, no_change}
 use Rattle.public_fold.specs.Fitted.{told_step}
 use Rattle.public_fold.specs.Journal.{Stand, note_step}
-use Rattle.public_fold.specs.KeyStep.{KeyState, contents_from, dirty_left, edges_left, edges_then, given, is_published, key_step, links_from, next_serial, numbered, published, published_edges, renewed, step_with, without}
+use Rattle.public_fold.specs.KeyStep.{KeyState, contents_from, dirty_left, edges_left, edges_then, given, is_published, key_step, next_serial, numbered, published, published_edges, renewed, step_with, without}
 use Rattle.public_fold.specs.Records.{pieces_of}
 use Rattle.public_fold.specs.Told.{told_store}
 use Rattle.public_fold.proofs.EdgesThen.{left_told}
 use Rattle.public_fold.proofs.GrantLaws.{as_many_links, order_counts}
 use Rattle.public_fold.proofs.SameOrder.{edge_of_grant, filter_made}
-use Rattle.public_fold.proofs.Serials.{numbered-length}
 
 -- ---- one key is renewed
 

@@ -1,5 +1,5 @@
 -- Each folder, file and holder that comes has a content in the step of its note.
-use Rattle.std.proofs.Common.{◌≡◌, true, ℕ, ◌+◌, ◌≤◌, false, ◌==◌, ◌⊎◌, List, [], ◌∷◌, ◌++◌, length, Some, None, inl, inr, ⊎_elim, refl, sym, ap, ◌∙◌, subst, arith}
+use Rattle.std.proofs.Common.{◌≡◌, true, ℕ, ◌+◌, ◌≤◌, false, ◌==◌, List, [], ◌∷◌, ◌++◌, length, Some, None, inl, inr, ⊎_elim, refl, sym, ap, ◌∙◌, subst, arith}
 use Rattle.std.proofs.lemmas.Bool.{eq-eqb, false≢true}
 use Rattle.cry_base.specs.Sets.{In}
 use Rattle.cry_base.specs.Store.{Store, FolderEntry, FileEntry, HolderEntry, folder_entry, file_entry, holder_entry}
@@ -15,8 +15,7 @@ use Rattle.record_format.specs.Noted.{Note}
 use Rattle.record_format.specs.Noted.Note.{Root, NewHolder, NewFolder, NewFile, Rewrite, NameFile, NameFolder, DropFile, DropFolder, ShiftFile, ShiftFolder, Give, Take}
 use Rattle.public_fold.specs.Fitted.{told_stand, told_step}
 use Rattle.public_fold.specs.Journal.{Stand, note_step}
-use Rattle.public_fold.specs.Keyed.{HasRole}
-use Rattle.public_fold.specs.KeyStep.{KeyState, next_serial, numbered, present, renewed, given, keys_then, published_edges, content_of, contents_from, published, step_with, key_step}
+use Rattle.public_fold.specs.KeyStep.{next_serial, numbered, present, renewed, given, keys_then, published_edges, content_of, contents_from, published, step_with, key_step}
 use Rattle.public_fold.specs.Records.{Piece, Content, folder_piece, file_piece, holder_piece, pieces_of, sealing_role}
 use Rattle.public_fold.specs.Rooted.{MayStand}
 use Rattle.public_fold.specs.Texts.{HasContent, AreWritten}
