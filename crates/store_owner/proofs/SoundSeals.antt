@@ -41,7 +41,7 @@ use Rattle.store_owner.proofs.Ready.{can_seal, next_holds}
 use Rattle.store_owner.proofs.Sealable.{content_from}
 use Rattle.store_owner.proofs.SoundSteps.{begun_sealable}
 use Rattle.store_owner.proofs.SoundStores.{own_kept}
-use Rattle.store_owner.proofs.SoundTexts.{IsKeyFor, IsSized, due_fits, titles_sized}
+use Rattle.store_owner.proofs.SoundTexts.{IsKeyFor, IsSized, due_fits, files_sized}
 
 -- ---- the keys once the session has its epoch
 
@@ -143,5 +143,5 @@ sound_seals o r drawn s ring counter sound good none skeleton fits same room lon
     let text = due_same (tree_store o.state.tree o.names) (own_store o) r (own_kept o).tree in
     sealing sound.keys at note ring counter s (sealed_text o r drawn) drawn holds (begun_sealable (not o.journal.has_epoch) sound.turns note sound.fit fit) made (has_room at note fit) long room
     (subst (λ t. HasLength (told_step at note) (t ++ due_key r (first_key drawn))) (sym text)
-    (lengths at (own_store o) r (first_key drawn) (replicate 32 0) o.file_bytes sound.bounded good none (titles_sized _ o.names sound.sized)
+    (lengths at (own_store o) r (first_key drawn) (replicate 32 0) o.file_bytes sound.bounded good none (files_sized (own_store o) sound.sized)
     (keyed at (own_store o) r (replicate 32 0) drawn (long ∙ ap length made.keys) sizes)))

@@ -1,19 +1,25 @@
 -- An owner stays sound who carries out a command that isn't refused, and whose note fits.
-use Rattle.std.proofs.Common.{◌≡◌, ℕ, ◌+◌, ◌≤◌, Bool, true, false, cond, not, ◌&&◌, List, [], ◌∷◌, ◌++◌, length, replicate, All, Option, Some, None, IsTrue, refl, sym, ap, ◌∙◌, subst, arith, length-append}
+use Rattle.std.proofs.Common.{◌≡◌, ℕ, ◌+◌, ◌≤◌, Bool, true, false, cond, not, ◌&&◌, ◌⊎◌, List, [], ◌∷◌, ◌++◌, map, filter, length, replicate, Option, Some, None, inl, inr, ⊎_elim, refl, sym, ap, ◌∙◌, subst, arith, length-append}
 use Rattle.std.specs.Prelude.{◌==◌}
-use Rattle.std.proofs.lemmas.Bool.{and_from, and_parts}
+use Rattle.std.proofs.lemmas.Bool.{and_from, and_parts, eq-eqb, eqb-true}
 use Rattle.chacha_seal.specs.Keys.{KeyParts}
 use Rattle.chacha_seal.specs.Serials.{Counting}
-use Rattle.cry_base.specs.Refusing.{has_bad_name, refusal_of}
+use Rattle.cry_base.specs.Refusing.{has_bad_name, id_of, refusal_of}
 use Rattle.cry_base.specs.Requests.{Request}
 use Rattle.cry_base.specs.Requests.Request.{AddHolder, MakeFolder, WriteFile, Remove, Rename, Relocate, Grant, Revoke}
-use Rattle.cry_base.specs.Store.{Store, file_node, node_at}
+use Rattle.cry_base.specs.Naming.{parent_path}
+use Rattle.cry_base.specs.Sets.{In}
+use Rattle.cry_base.specs.Stepping.{with_file, with_folder, with_new_file, with_new_folder, with_new_holder, without_file, without_folder, without_grant}
+use Rattle.cry_base.specs.Store.{Store, FileEntry, no_store, node_at, root_store}
 use Rattle.cry_base.specs.declared.roles.Node.{Node}
 use Rattle.cry_base.specs.declared.roles.Node.TheVariants.{Folder, File}
-use Rattle.folder_nodes.specs.Joining.{IsForgotten, IsSet}
-use Rattle.folder_nodes.specs.Titles.{Title, Titles, bytes_in, is_node, new_title, title_at, title_of}
-use Rattle.move_plan.specs.Noting.{note_of}
+use Rattle.cry_base.proofs.Members.{In-append, In-filter, In-map}
+use Rattle.folder_nodes.specs.Joining.{IsSet}
+use Rattle.folder_nodes.specs.Titles.{Title, Titles, bytes_in, is_node, new_title, title_at, tree_store}
+use Rattle.folder_nodes.proofs.Named.{named_file}
+use Rattle.move_plan.specs.Noting.{move_note, note_of, remove_note, rename_note, write_note}
 use Rattle.record_format.specs.Noted.{Note}
+use Rattle.record_format.specs.Noted.Note.{Root, NewHolder, NewFolder, NewFile, Rewrite, NameFile, NameFolder, DropFile, DropFolder, ShiftFile, ShiftFolder, Give, Take}
 use Rattle.public_fold.specs.Fitted.{told_stand, told_step}
 use Rattle.public_fold.specs.Heads.{IsSkeleton}
 use Rattle.public_fold.specs.Journal.{Stand, note_step, nothing}
@@ -78,57 +84,183 @@ session_epoch false at note = refl
 
 -- ---- the bytes of files
 
--- no file has more bytes than a file may have
-abbrev AreSized : Titles → Type 0
-AreSized n = (x : ℕ) → length (bytes_in (title_at n.files x)) ≤ 1048576
+-- what stands beside the number has no more bytes than a file may have
+abbrev IsSizedAt : Titles → ℕ → Type 0
+IsSizedAt n x = length (bytes_in (title_at n.files x)) ≤ 1048576
 
-same_sized : (old new : Titles) → ((x : ℕ) → title_at new.files x ≡ title_at old.files x) → AreSized old → AreSized new
-same_sized old new same sized x = subst (λ (o : Option Title). length (bytes_in o) ≤ 1048576) (sym (same x)) (sized x)
+same_sized : (old new : Titles) (x : ℕ) → title_at new.files x ≡ title_at old.files x → IsSizedAt old x → IsSizedAt new x
+same_sized old new x same sized = subst (λ (o : Option Title). length (bytes_in o) ≤ 1048576) (sym same) sized
 
-kept_sized : (old new : Titles) → AreKept old new → AreSized old → AreSized new
-kept_sized old new are = same_sized old new (λ x. ap (λ ts. title_at ts x) are.files)
+kept_sized : (old new : Titles) (x : ℕ) → AreKept old new → IsSizedAt old x → IsSizedAt new x
+kept_sized old new x are = same_sized old new x (ap (λ ts. title_at ts x) are.files)
 
-folder_sized : (old new : Titles) (f : ℕ) (name : List ℕ) → IsSet old new (Folder (record { 0 = f })) name [] → AreSized old → AreSized new
-folder_sized old new f name set = same_sized old new (λ x. set (File (record { 0 = x })))
-
-one_sized : (b : Bool) (t : Title) (o : Option Title) → length t.bytes ≤ 1048576 → length (bytes_in o) ≤ 1048576 → length (bytes_in (cond b (Some t) o)) ≤ 1048576
-one_sized true t o new old = new
+-- a title with so many bytes stands where another one stood, or may have stood
+one_sized : (b : Bool) (t : Title) (o : Option Title) → (b ≡ true → length t.bytes ≤ 1048576) → length (bytes_in o) ≤ 1048576 → length (bytes_in (cond b (Some t) o)) ≤ 1048576
+one_sized true t o new old = new refl
 one_sized false t o new old = old
 
-file_sized : (old new : Titles) (x : ℕ) (name bytes : List ℕ) → IsSet old new (File (record { 0 = x })) name bytes → length bytes ≤ 1048576 → AreSized old → AreSized new
-file_sized old new x name bytes set low sized y =
-    subst (λ (o : Option Title). length (bytes_in o) ≤ 1048576) (sym (set (File (record { 0 = y }))))
-    (one_sized (x == y) (record { id = x; name = name; bytes = bytes }) (title_at old.files y) low (sized y))
+file_sized : (old new : Titles) (y x : ℕ) (name bytes : List ℕ) → IsSet old new (File (record { 0 = y })) name bytes → (y ≡ x → length bytes ≤ 1048576) → IsSizedAt old x → IsSizedAt new x
+file_sized old new y x name bytes set low sized =
+    subst (λ (o : Option Title). length (bytes_in o) ≤ 1048576) (sym (set (File (record { 0 = x }))))
+    (one_sized (y == x) (record { id = y; name = name; bytes = bytes }) (title_at old.files x) (λ t. low (eqb-true y x t)) sized)
+
+-- the file that is made has the bytes that it is given
+made_sized : (old new : Titles) (y : ℕ) (name bytes : List ℕ) → IsSet old new (File (record { 0 = y })) name bytes → length bytes ≤ 1048576 → IsSizedAt new y
+made_sized old new y name bytes set low =
+    subst (λ (o : Option Title). length (bytes_in o) ≤ 1048576)
+    (sym (set (File (record { 0 = y })) ∙ ap (λ b. cond b (Some (new_title (File (record { 0 = y })) name bytes)) (title_at old.files y)) (eq-eqb y y refl))) low
 
 gone_sized : (b : Bool) (o : Option Title) → length (bytes_in o) ≤ 1048576 → length (bytes_in (cond b None o)) ≤ 1048576
 gone_sized true o old = omega arith
 gone_sized false o old = old
 
-written_sized : (made : ℕ) (old new : Titles) (o : Option Node) (name bytes : List ℕ) → IsWritten made old new o name bytes → length bytes ≤ 1048576 → AreSized old → AreSized new
-written_sized made old new None name bytes set low sized = file_sized old new (made + 1) name bytes set low sized
-written_sized made old new (Some (Folder f)) name bytes are low sized = kept_sized old new are sized
-written_sized made old new (Some (File x)) name bytes set low sized = file_sized old new x.0 name bytes set low sized
+written_sized : (made : ℕ) (old new : Titles) (x : ℕ) (o : Option Node) (name bytes : List ℕ) → IsWritten made old new o name bytes → length bytes ≤ 1048576 → IsSizedAt old x → IsSizedAt new x
+written_sized made old new x None name bytes set low sized = file_sized old new (made + 1) x name bytes set (λ e. low) sized
+written_sized made old new x (Some (Folder f)) name bytes are low sized = kept_sized old new x are sized
+written_sized made old new x (Some (File y)) name bytes set low sized = file_sized old new y.0 x name bytes set (λ e. low) sized
 
-removed_sized : (old new : Titles) (o : Option Node) → IsRemoved old new o → AreSized old → AreSized new
-removed_sized old new None are sized = kept_sized old new are sized
-removed_sized old new (Some node) gone sized = λ x.
+removed_sized : (old new : Titles) (x : ℕ) (o : Option Node) → IsRemoved old new o → IsSizedAt old x → IsSizedAt new x
+removed_sized old new x None are sized = kept_sized old new x are sized
+removed_sized old new x (Some node) gone sized =
     subst (λ (o : Option Title). length (bytes_in o) ≤ 1048576) (sym (gone (File (record { 0 = x }))))
-    (gone_sized (is_node node (File (record { 0 = x }))) (title_at old.files x) (sized x))
+    (gone_sized (is_node node (File (record { 0 = x }))) (title_at old.files x) sized)
 
-renamed_sized : (old new : Titles) (o : Option Node) (name : List ℕ) → IsRenamed old new o name → AreSized old → AreSized new
-renamed_sized old new None name are sized = kept_sized old new are sized
-renamed_sized old new (Some (Folder f)) name set sized = folder_sized old new f.0 name set sized
-renamed_sized old new (Some (File x)) name set sized = file_sized old new x.0 name (bytes_in (title_at old.files x.0)) set (sized x.0) sized
+renamed_sized : (old new : Titles) (x : ℕ) (o : Option Node) (name : List ℕ) → IsRenamed old new o name → IsSizedAt old x → IsSizedAt new x
+renamed_sized old new x None name are sized = kept_sized old new x are sized
+renamed_sized old new x (Some (Folder f)) name set sized = same_sized old new x (set (File (record { 0 = x }))) sized
+renamed_sized old new x (Some (File y)) name set sized =
+    file_sized old new y.0 x name (bytes_in (title_at old.files y.0)) set (λ e. subst (IsSizedAt old) (sym e) sized) sized
 
-titles_stay : (s : Store) (r : Request) (n : ℕ) (old new : Titles) → n ≤ 1048576 → refusal_of s r n ≡ None → AreTitlesAfter s r old new → AreSized old → AreSized new
-titles_stay s AddHolder n old new small none are sized = kept_sized old new are sized
-titles_stay s (MakeFolder path) n old new small none set sized = folder_sized old new (s.folders_made + 1) (name_at path) set sized
-titles_stay s (WriteFile path bytes) n old new small none set sized = written_sized s.files_made old new (node_at s path) (name_at path) bytes set (few_bytes s path bytes n small none) sized
-titles_stay s (Remove path) n old new small none gone sized = removed_sized old new (node_at s path) gone sized
-titles_stay s (Rename path name) n old new small none set sized = renamed_sized old new (node_at s path) name set sized
-titles_stay s (Relocate path into) n old new small none are sized = kept_sized old new are sized
-titles_stay s (Grant h path) n old new small none are sized = kept_sized old new are sized
-titles_stay s (Revoke h path) n old new small none are sized = kept_sized old new are sized
+titles_stay : (s : Store) (r : Request) (n : ℕ) (old new : Titles) (x : ℕ) → n ≤ 1048576 → refusal_of s r n ≡ None → AreTitlesAfter s r old new → IsSizedAt old x → IsSizedAt new x
+titles_stay s AddHolder n old new x small none are sized = kept_sized old new x are sized
+titles_stay s (MakeFolder path) n old new x small none set sized = same_sized old new x (set (File (record { 0 = x }))) sized
+titles_stay s (WriteFile path bytes) n old new x small none set sized = written_sized s.files_made old new x (node_at s path) (name_at path) bytes set (few_bytes s path bytes n small none) sized
+titles_stay s (Remove path) n old new x small none gone sized = removed_sized old new x (node_at s path) gone sized
+titles_stay s (Rename path name) n old new x small none set sized = renamed_sized old new x (node_at s path) name set sized
+titles_stay s (Relocate path into) n old new x small none are sized = kept_sized old new x are sized
+titles_stay s (Grant h path) n old new x small none are sized = kept_sized old new x are sized
+titles_stay s (Revoke h path) n old new x small none are sized = kept_sized old new x are sized
+
+-- ---- the files after a note
+
+-- whether the note makes a file
+abbrev MakesFile : Note → Type 0
+MakesFile Root = ⊥
+MakesFile (NewHolder h check) = ⊥
+MakesFile (NewFolder f p) = ⊥
+MakesFile (NewFile x f) = Unit {0}
+MakesFile (Rewrite x) = ⊥
+MakesFile (NameFile x) = ⊥
+MakesFile (NameFolder f) = ⊥
+MakesFile (DropFile x) = ⊥
+MakesFile (DropFolder f) = ⊥
+MakesFile (ShiftFile x g) = ⊥
+MakesFile (ShiftFolder g q) = ⊥
+MakesFile (Give h f) = ⊥
+MakesFile (Take h f) = ⊥
+
+-- a file with the number stood before, or the note has made it
+abbrev StoodOrMade : Store → Note → FileEntry → Type 0
+StoodOrMade s note x = ((y : FileEntry) × In y s.files × (y.id ≡ x.id)) ⊎ (MakesFile note × (x.id ≡ s.files_made + 1))
+
+stood : (s : Store) (note : Note) (x : FileEntry) → In x s.files → StoodOrMade s note x
+stood s note x i = inl (x, i, refl)
+
+shifted_id : (x g : ℕ) (e : FileEntry) → (cond (e.id == x) (record e { folder = g }) e).id ≡ e.id
+shifted_id x g e = elim (e.id == x) as (λ b. (cond b (record e { folder = g }) e).id ≡ e.id) [ | true ↦ refl | false ↦ refl ]
+
+files_after : (s : Store) (note : Note) (x : FileEntry) → In x (told_store s note).files → StoodOrMade s note x
+unfolding told_store with_new_holder with_new_folder with_new_file with_folder with_file without_folder without_file without_grant root_store no_store
+files_after s Root x i = absurd i
+files_after s (NewHolder h check) x i = stood s (NewHolder h check) x i
+files_after s (NewFolder f p) x i = stood s (NewFolder f p) x i
+files_after s (NewFile n f) x i =
+    let new : FileEntry = record { id = s.files_made + 1; folder = f; name = []; bytes = [] } in
+    ⊎_elim (λ u. stood s (NewFile n f) x u) (λ v. ⊎_elim (λ (e : x ≡ new). inr (tt, ap (λ (z : FileEntry). z.id) e)) (λ none. absurd none) v) ((In-append FileEntry x s.files (new ∷ [])).0 i)
+files_after s (Rewrite n) x i = stood s (Rewrite n) x i
+files_after s (NameFile n) x i = stood s (NameFile n) x i
+files_after s (NameFolder f) x i = stood s (NameFolder f) x i
+files_after s (DropFile n) x i = stood s (DropFile n) x (In-filter FileEntry (λ e. not (e.id == n)) x s.files i).0
+files_after s (DropFolder f) x i = stood s (DropFolder f) x i
+files_after s (ShiftFile n g) x i =
+    let w = (In-map FileEntry FileEntry (λ e. cond (e.id == n) (record e { folder = g }) e) x s.files).0 i in
+    inl (w.0, w.1, sym (ap (λ (z : FileEntry). z.id) w.2 ∙ shifted_id n g w.0))
+files_after s (ShiftFolder g q) x i = stood s (ShiftFolder g q) x i
+files_after s (Give h f) x i = stood s (Give h f) x i
+files_after s (Take h f) x i = stood s (Take h f) x i
+
+written_makes : (s : Store) (o : Option Node) (f : ℕ) (old new : Titles) (name bytes : List ℕ) → MakesFile (write_note s o f) → IsWritten s.files_made old new o name bytes → length bytes ≤ 1048576 → IsSizedAt new (s.files_made + 1)
+unfolding write_note
+written_makes s None f old new name bytes makes set low = made_sized old new (s.files_made + 1) name bytes set low
+written_makes s (Some (Folder g)) f old new name bytes makes set low = absurd makes
+written_makes s (Some (File x)) f old new name bytes makes set low = absurd makes
+
+removes_none : (o : Option Node) → MakesFile (remove_note o) → ⊥
+unfolding remove_note
+removes_none None makes = makes
+removes_none (Some (Folder f)) makes = makes
+removes_none (Some (File x)) makes = makes
+
+renames_none : (o : Option Node) → MakesFile (rename_note o) → ⊥
+unfolding rename_note
+renames_none None makes = makes
+renames_none (Some (Folder f)) makes = makes
+renames_none (Some (File x)) makes = makes
+
+shifts_none : (o : Option Node) (into : ℕ) → MakesFile (move_note o into) → ⊥
+unfolding move_note
+shifts_none None into makes = makes
+shifts_none (Some (Folder f)) into makes = makes
+shifts_none (Some (File x)) into makes = makes
+
+-- a file that a command makes has no more bytes than a file may have
+made_stays : (s : Store) (r : Request) (check : List ℕ) (n : ℕ) (old new : Titles) → n ≤ 1048576 → refusal_of s r n ≡ None → AreTitlesAfter s r old new → MakesFile (note_of s r check) → IsSizedAt new (s.files_made + 1)
+unfolding note_of
+made_stays s AddHolder check n old new small none are makes = absurd makes
+made_stays s (MakeFolder path) check n old new small none set makes = absurd makes
+made_stays s (WriteFile path bytes) check n old new small none set makes =
+    written_makes s (node_at s path) (id_of (node_at s (parent_path path))) old new (name_at path) bytes makes set (few_bytes s path bytes n small none)
+made_stays s (Remove path) check n old new small none gone makes = absurd (removes_none (node_at s path) makes)
+made_stays s (Rename path name) check n old new small none set makes = absurd (renames_none (node_at s path) makes)
+made_stays s (Relocate path into) check n old new small none are makes = absurd (shifts_none (node_at s path) (id_of (node_at s into)) makes)
+made_stays s (Grant h path) check n old new small none are makes = absurd makes
+made_stays s (Revoke h path) check n old new small none are makes = absurd makes
+
+-- the files of an owner's store have the bytes beside their numbers
+own_file : (o : OwnerView) (x : FileEntry) → In x (own_store o).files → (y : FileEntry) × In y o.state.tree.files × (x.bytes ≡ bytes_in (title_at o.names.files y.id))
+unfolding tree_store
+own_file o x i =
+    let w = (In-map FileEntry FileEntry (named_file o.names) x o.state.tree.files).0 i in (w.0, w.1, ap (λ (z : FileEntry). z.bytes) w.2)
+
+file_owned : (o : OwnerView) (y : FileEntry) → In y o.state.tree.files → In (named_file o.names y) (own_store o).files
+unfolding tree_store
+file_owned o y i = (In-map FileEntry FileEntry (named_file o.names) (named_file o.names y) o.state.tree.files).1 (y, i, refl)
+
+made_same : (o : OwnerView) → (own_store o).files_made ≡ o.state.tree.files_made
+unfolding tree_store
+made_same o = refl
+
+told_files : (at : Stand) (note : Note) → (told_stand at note).store.files ≡ (told_store at.store note).files
+unfolding told_stand
+told_files at note = refl
+
+-- so of all files behind a command
+files_stay : (r : Request) (old new : OwnerView) (begins : Bool) (at : Stand) → IsSeenAs old.state at → IsSeenAs new.state (told_stand (begun begins at) (note_of (own_store old) r (replicate 32 0)))
+    → old.file_bytes ≤ 1048576 → refusal_of (own_store old) r old.file_bytes ≡ None → AreTitlesAfter (own_store old) r old.names new.names
+    → ((x : FileEntry) → In x (own_store old).files → length x.bytes ≤ 1048576) → (x : FileEntry) → In x (own_store new).files → length x.bytes ≤ 1048576
+files_stay r old new begins at seen after small none titles sized x i =
+    let note = note_of (own_store old) r (replicate 32 0) in
+    let own = own_file new x i in
+    let there = subst (λ fs. In own.0 fs) (ap (λ (s : Store). s.files) (sym after.store) ∙ told_files (begun begins at) note) own.1 in
+    subst (λ (b : List ℕ). length b ≤ 1048576) (sym own.2)
+    (⊎_elim
+    (λ (w : (y : FileEntry) × In y at.store.files × (y.id ≡ own.0.id)).
+    let old_one = subst (λ fs. In w.0 fs) (ap (λ (s : Store). s.files) seen.store) w.1 in
+    subst (IsSizedAt new.names) w.2 (titles_stay (own_store old) r old.file_bytes old.names new.names w.0.id small none titles (sized (named_file old.names w.0) (file_owned old w.0 old_one))))
+    (λ (w : MakesFile note × (own.0.id ≡ at.store.files_made + 1)).
+    let number : (own_store old).files_made + 1 ≡ own.0.id = ap (λ n. n + 1) (made_same old ∙ sym (ap (λ (s : Store). s.files_made) seen.store)) ∙ sym w.1 in
+    subst (IsSizedAt new.names) number (made_stays (own_store old) r (replicate 32 0) old.file_bytes old.names new.names small none titles w.0))
+    (files_after at.store note own.0 there))
 
 -- ---- the whole
 
@@ -176,6 +308,6 @@ stays_sound r drawn old new was shows sound good none fits out batches epoch =
       held = subst (λ (z : Stand). HoldsKeys (keys_with sound.keys (told_step at note) drawn) z.keys new.ring (counting z.keys)) stands
           (subst (HoldsKeys (keys_with sound.keys (told_step at note) drawn) after.keys new.ring) holds.is_counted holds);
       counts = out.ends_as ∙ ap Some (holds.is_counted ∙ ap (λ (z : Stand). counting z.keys) stands) ∙ ap (λ b. cond b (Some (counting (turns_stand nothing (sound.turns ++ session_turns has note)).keys)) None) (sym out.has_begun);
-      sized = titles_stay (own_store old) r old.file_bytes old.names new.names sound.bounded none (out.titles_then (own_store old) (own_kept old).tree) sound.sized;
+      sized = files_stay r old new (not has) first sound.seen (out.seen_then first (own_store old) sound.seen (own_kept old)) sound.bounded none (out.titles_then (own_store old) (own_kept old).tree) sound.sized;
       bounded = subst (λ n. n ≤ 1048576) (sym out.same_bound) sound.bounded;
     }

@@ -1,6 +1,6 @@
 -- The text that a command seals has a length in its kind's range, in whatever store the command isn't refused.
 use Rattle.std.proofs.Common.{◌≡◌, ℕ, ◌+◌, ◌≤◌, Bool, true, false, ◌||◌, List, [], ◌∷◌, ◌++◌, length, Option, Some, None, inl, inr, ⊎_elim, refl, sym, ap, ◌∙◌, subst, arith, append-nil, length-append}
-use Rattle.std.specs.Prelude.{is_none, nat_lt, option_map}
+use Rattle.std.specs.Prelude.{◌==◌, is_none}
 use Rattle.std.proofs.lemmas.Bool.{false≢true, or_parts, ltb-false}
 use Rattle.cry_base.specs.Naming.{is_name, last_name, names_of, parent_path}
 use Rattle.cry_base.specs.Refusing.{causes, changes_root, finds_no_path, has_bad_name, id_of, is_folder, is_too_long, refusal_of, writes_folder}
@@ -11,8 +11,7 @@ use Rattle.cry_base.specs.Store.{Store, FolderEntry, FileEntry, HolderEntry, fil
 use Rattle.cry_base.specs.declared.commands.Refusal.TheVariants.{TooLong}
 use Rattle.cry_base.specs.declared.roles.Node.{Node}
 use Rattle.cry_base.specs.declared.roles.Node.TheVariants.{Folder, File}
-use Rattle.folder_nodes.specs.Titles.{Titles, bytes_in, title_at, tree_store}
-use Rattle.folder_nodes.proofs.Named.{file_named, named_file}
+use Rattle.cry_base.proofs.Finding.{find-found}
 use Rattle.folder_nodes.proofs.Slashes.{path_parts}
 use Rattle.move_plan.specs.Noting.{move_note, note_of, remove_note, rename_note, write_note}
 use Rattle.record_format.specs.Spellable.{longest_text, shortest_text}
@@ -149,12 +148,15 @@ due_fits s t (Relocate path into) key check n small good none sized keyed p i =
 due_fits s t (Grant h path) key check n small good none sized keyed p i = absurd i
 due_fits s t (Revoke h path) key check n small good none sized keyed p i = absurd i
 
--- ---- the bytes beside a tree
+-- ---- the bytes of files
 
 abbrev bytes_then : Option FileEntry → List ℕ
 bytes_then o = elim o [ None ↦ [] | Some e ↦ e.bytes ]
 
-pub titles_sized : (tree : Store) (n : Titles) → ((x : ℕ) → length (bytes_in (title_at n.files x)) ≤ 1048576) → IsSized (tree_store tree n)
-titles_sized tree n sized x =
-    subst (λ o. length (bytes_then o) ≤ 1048576) (sym (file_named tree n x))
-    (elim (file_entry tree x) as (λ o. length (bytes_then (option_map (named_file n) o)) ≤ 1048576) [ None ↦ omega arith | Some e ↦ sized e.id ])
+pub files_sized : (s : Store) → ((x : FileEntry) → In x s.files → length x.bytes ≤ 1048576) → IsSized s
+unfolding file_entry
+files_sized s sized x =
+    (elim (file_entry s x) as (λ (o : Option FileEntry). file_entry s x ≡ o → length (bytes_then o) ≤ 1048576) [
+      | None ↦ λ is. omega arith
+      | Some e ↦ λ is. sized e (find-found FileEntry (λ y. y.id == x) s.files e is).0
+    ]) refl

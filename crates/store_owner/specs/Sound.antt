@@ -3,9 +3,10 @@ use Rattle.std.specs.Prelude.{◌≡◌, ◌≤◌, ℕ, false, cond, List, [], 
 use Rattle.chacha_seal.specs.Keys.{KeyParts}
 use Rattle.commit_journal.specs.Logs.{AreInEpochs}
 use Rattle.commit_journal.specs.Placed.{PlainPlaced}
-use Rattle.cry_base.specs.Store.{Store}
+use Rattle.cry_base.specs.Sets.{In}
+use Rattle.cry_base.specs.Store.{Store, FileEntry}
 use Rattle.cry_base.specs.declared.roles.Role.{Role}
-use Rattle.folder_nodes.specs.Titles.{bytes_in, title_at, tree_store}
+use Rattle.folder_nodes.specs.Titles.{tree_store}
 use Rattle.grant_book.specs.Granted.{Granted}
 use Rattle.holder_client.specs.Folding.{folded}
 use Rattle.key_links.specs.Ringed.{key_of}
@@ -18,6 +19,14 @@ use Rattle.role_graph.specs.Roles.{role_id}
 use Rattle.store_owner.specs.Owned.{OwnerView, counting}
 use Rattle.store_owner.specs.Sealing.{HoldsKeys}
 
+-- the grants that an owner keeps
+abbrev pub granted_in : OwnerView → Granted
+granted_in o = record { checks = o.state.checks; pairs = o.state.pairs; spare = 0 }
+
+-- the store that an owner keeps: everyone's, with the names and bytes
+abbrev pub own_store : OwnerView → Store
+own_store o = tree_store (public_store_of o.state) o.names
+
 -- what is seen is what some turns that fit leave, no more of them than there are batches; the ring has the present keys, and
 -- the counter is that of the session's epoch; no file has more bytes than one may have
 pub record IsSound (o : OwnerView) : Type 0 where
@@ -29,16 +38,8 @@ pub record IsSound (o : OwnerView) : Type 0 where
   pub same_epoch : o.journal.epoch ≡ (turns_stand nothing turns).keys.epoch
   pub held : HoldsKeys keys (turns_stand nothing turns).keys o.ring (counting (turns_stand nothing turns).keys)
   pub counts : o.counter ≡ cond o.journal.has_epoch (Some (counting (turns_stand nothing turns).keys)) None
-  pub sized : (x : ℕ) → length (bytes_in (title_at o.names.files x)) ≤ 1048576
+  pub sized : (x : FileEntry) → In x (own_store o).files → length x.bytes ≤ 1048576
   pub bounded : o.file_bytes ≤ 1048576
-
--- the grants that an owner keeps
-abbrev pub granted_in : OwnerView → Granted
-granted_in o = record { checks = o.state.checks; pairs = o.state.pairs; spare = 0 }
-
--- the store that an owner keeps: everyone's, with the names and bytes
-abbrev pub own_store : OwnerView → Store
-own_store o = tree_store (public_store_of o.state) o.names
 
 -- the epoch of the last batch of a log
 abbrev pub epoch_behind : ℕ → List PlainPlaced → ℕ
@@ -58,5 +59,5 @@ pub record IsOpenedWith (log : List PlainPlaced) (at : Stand) (o : OwnerView) : 
   pub keyed : (role : Role) (n : ℕ) → newest at.keys.keys role ≡ Some n → (key : KeyParts) × (key_of o.ring role ≡ Some key) × (key.id ≡ role_id role) × (key.serial ≡ n)
   pub not_begun : o.journal.has_epoch ≡ false
   pub not_counted : o.counter ≡ None
-  pub sized : (x : ℕ) → length (bytes_in (title_at o.names.files x)) ≤ 1048576
+  pub sized : (x : FileEntry) → In x (own_store o).files → length x.bytes ≤ 1048576
   pub bounded : o.file_bytes ≤ 1048576
