@@ -1,19 +1,18 @@
 -- An owner who opened a log of payloads that fit is sound.
-use Rattle.std.proofs.Common.{◌≡◌, ℕ, suc, ◌+◌, ◌<◌, Bool, true, false, cond, ◌&&◌, ◌==◌, List, [], ◌∷◌, map, length, Option, Some, None, IsTrue, inl, inr, ⊎_elim, refl, sym, ap, ◌∙◌, subst, arith}
-use Rattle.std.specs.Prelude.{find, unwrap_or, Result, Ok, Err, if◌then◌else◌}
+use Rattle.std.proofs.Common.{◌≡◌, ℕ, suc, ◌<◌, true, false, cond, ◌==◌, List, [], ◌∷◌, map, length, Some, None, inl, inr, ⊎_elim, refl, sym, ap, ◌∙◌, subst, arith}
+use Rattle.std.specs.Prelude.{find, unwrap_or, Ok, Err, if◌then◌else◌}
 use Rattle.std.proofs.lemmas.Bool.{and_parts, and_from, eqb-true, eq-eqb, false≢true}
 use Rattle.chacha_seal.specs.Keys.{KeyParts}
-use Rattle.commit_journal.specs.Answering.{Fault, Damaged, and_then}
+use Rattle.commit_journal.specs.Answering.{Damaged, and_then}
 use Rattle.commit_journal.specs.Logs.{AreInEpochs, IsInEpoch}
 use Rattle.commit_journal.specs.Placed.{PlainBody, Commands, NewEpoch, PlainPlaced}
 use Rattle.cry_base.specs.Sets.{In}
-use Rattle.cry_base.specs.Store.{Store, folder_entry, no_store}
+use Rattle.cry_base.specs.Store.{folder_entry, no_store}
 use Rattle.cry_base.specs.declared.roles.Role.{Role}
 use Rattle.cry_base.proofs.Members.{In-map}
 use Rattle.holder_client.specs.Folding.{folded, stand_behind}
 use Rattle.key_links.specs.Ringed.{Ringed, key_of}
 use Rattle.move_plan.specs.Fitting.{folder_stands}
-use Rattle.record_format.specs.Noted.{Note}
 use Rattle.record_format.specs.Plain.{PlainPayload}
 use Rattle.record_format.specs.Told.{told_note}
 use Rattle.role_graph.specs.Roles.{role_id, same_role}

@@ -1,5 +1,5 @@
 -- A command that isn't refused, and whose note fits, can be sealed by the keys of a sound owner's ring.
-use Rattle.std.proofs.Common.{◌≡◌, ℕ, ◌+◌, ◌-◌, ◌^◌, ◌≤◌, ◌<◌, Bool, true, false, cond, not, List, [], ◌∷◌, ◌++◌, length, replicate, All, Option, Some, None, refl, sym, ap, ◌∙◌, subst, arith, length-append}
+use Rattle.std.proofs.Common.{◌≡◌, ℕ, ◌+◌, ◌-◌, ◌^◌, ◌≤◌, ◌<◌, Bool, true, false, cond, not, List, [], ◌∷◌, ◌++◌, length, replicate, All, Option, Some, None, sym, ap, ◌∙◌, subst, arith, length-append}
 use Rattle.std.proofs.lemmas.Bool.{ltb-true}
 use Rattle.std.proofs.lemmas.List.Elements.{All-head}
 use Rattle.chacha_seal.specs.Keys.{KeyParts}
@@ -7,11 +7,10 @@ use Rattle.chacha_seal.specs.Serials.{Counting}
 use Rattle.cry_base.specs.Refusing.{has_bad_name, refusal_of}
 use Rattle.cry_base.specs.Requests.{Request}
 use Rattle.cry_base.specs.Requests.Request.{AddHolder, MakeFolder, WriteFile, Remove, Rename, Relocate, Grant, Revoke}
-use Rattle.cry_base.specs.Sets.{In}
 use Rattle.cry_base.specs.Store.{Store}
 use Rattle.cry_base.specs.declared.roles.Role.{Role}
 use Rattle.folder_nodes.specs.Titles.{tree_store}
-use Rattle.key_links.specs.Ringed.{Ringed, found, key_of, parts_of}
+use Rattle.key_links.specs.Ringed.{Ringed, key_of}
 use Rattle.move_plan.specs.Change.{change_of, no_change}
 use Rattle.move_plan.specs.Noting.{note_of}
 use Rattle.record_format.specs.Noted.{Note}
@@ -21,9 +20,9 @@ use Rattle.role_graph.specs.Roles.{holder_role}
 use Rattle.public_fold.specs.Fitted.{told_step}
 use Rattle.public_fold.specs.Heads.{IsSkeleton}
 use Rattle.public_fold.specs.Journal.{Stand, first_key, note_step, nothing}
-use Rattle.public_fold.specs.KeyStep.{KeyState, given, key_step, keys_then, next_epoch, next_serial, no_keys, numbered, published, published_edges, renewed, step_with}
+use Rattle.public_fold.specs.KeyStep.{KeyState, given, key_step, keys_then, next_epoch, next_serial, no_keys, published, published_edges, renewed, step_with}
 use Rattle.public_fold.specs.Preparing.{begun, begun_keys}
-use Rattle.public_fold.specs.Records.{Content, pieces_of}
+use Rattle.public_fold.specs.Records.{pieces_of}
 use Rattle.public_fold.specs.StandFits.{has_count, note_fits}
 use Rattle.public_fold.specs.Standing.{IsSeenAs}
 use Rattle.public_fold.specs.Told.{told_store}
@@ -129,7 +128,7 @@ pub sound_seals : (o : OwnerView) (r : Request) (drawn : List (List ℕ)) (s : S
     → refusal_of (own_store o) r o.file_bytes ≡ None
     → ((at : Stand) → IsSeenAs o.state at → IsSkeleton (told_step (begun (not o.journal.has_epoch) at) (note_of (own_store o) r (replicate 32 0))) s)
     → ((at : Stand) → IsSeenAs o.state at → note_fits (begun (not o.journal.has_epoch) at) (note_of (own_store o) r (replicate 32 0))
-        (told_step (begun (not o.journal.has_epoch) at) (note_of (own_store o) r (replicate 32 0))) ≡ true)
+    (told_step (begun (not o.journal.has_epoch) at) (note_of (own_store o) r (replicate 32 0))) ≡ true)
     → ring.keys ≡ o.ring.keys → length s.keys.items ≤ ring.spare → length drawn ≡ length s.keys.items → All (λ (key : List ℕ). length key ≡ 32) drawn
     → cond o.journal.has_epoch (o.counter ≡ Some counter) (counter ≡ record { epoch = o.journal.epoch + 1; count = 0 })
     → CanSeal ring counter s drawn (sealed_text o r drawn)

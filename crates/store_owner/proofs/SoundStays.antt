@@ -1,5 +1,5 @@
 -- An owner stays sound who carries out a command that isn't refused, and whose note fits.
-use Rattle.std.proofs.Common.{◌≡◌, ℕ, ◌+◌, ◌≤◌, Bool, true, false, cond, not, ◌&&◌, ◌⊎◌, List, [], ◌∷◌, ◌++◌, map, filter, length, replicate, Option, Some, None, inl, inr, ⊎_elim, refl, sym, ap, ◌∙◌, subst, arith, length-append}
+use Rattle.std.proofs.Common.{◌≡◌, ℕ, ◌+◌, ◌≤◌, Bool, true, false, cond, not, ◌&&◌, ◌⊎◌, List, [], ◌∷◌, ◌++◌, length, replicate, Option, Some, None, inl, inr, ⊎_elim, refl, sym, ap, ◌∙◌, subst, arith, length-append}
 use Rattle.std.specs.Prelude.{◌==◌}
 use Rattle.std.proofs.lemmas.Bool.{and_from, and_parts, eq-eqb, eqb-true}
 use Rattle.chacha_seal.specs.Keys.{KeyParts}
@@ -23,14 +23,13 @@ use Rattle.record_format.specs.Noted.Note.{Root, NewHolder, NewFolder, NewFile, 
 use Rattle.public_fold.specs.Fitted.{told_stand, told_step}
 use Rattle.public_fold.specs.Heads.{IsSkeleton}
 use Rattle.public_fold.specs.Journal.{Stand, note_step, nothing}
-use Rattle.public_fold.specs.KeyStep.{KeyState, key_step, next_epoch, published, step_with}
+use Rattle.public_fold.specs.KeyStep.{key_step, next_epoch, published, step_with}
 use Rattle.public_fold.specs.Preparing.{begun, begun_keys}
 use Rattle.public_fold.specs.StandFits.{note_fits}
 use Rattle.public_fold.specs.Standing.{IsSeenAs}
 use Rattle.public_fold.specs.Told.{told_store}
 use Rattle.public_fold.specs.Turns.{Turn, turn_fits, turn_stand, turns_fit, turns_stand}
 use Rattle.public_fold.specs.Turns.Turn.{Began, Noted}
-use Rattle.public_fold.specs.declared.heads.Skeleton.{Skeleton}
 use Rattle.store_owner.specs.Applying.{IsCarriedOut}
 use Rattle.store_owner.specs.Owned.{OwnerView, counting}
 use Rattle.store_owner.specs.Sealing.{HoldsKeys, IsSealable, keys_with}
@@ -167,7 +166,7 @@ stood : (s : Store) (note : Note) (x : FileEntry) → In x s.files → StoodOrMa
 stood s note x i = inl (x, i, refl)
 
 shifted_id : (x g : ℕ) (e : FileEntry) → (cond (e.id == x) (record e { folder = g }) e).id ≡ e.id
-shifted_id x g e = elim (e.id == x) as (λ b. (cond b (record e { folder = g }) e).id ≡ e.id) [ | true ↦ refl | false ↦ refl ]
+shifted_id x g e = elim (e.id == x) as (λ b. (cond b (record e { folder = g }) e).id ≡ e.id) [ true ↦ refl | false ↦ refl ]
 
 files_after : (s : Store) (note : Note) (x : FileEntry) → In x (told_store s note).files → StoodOrMade s note x
 unfolding told_store with_new_holder with_new_folder with_new_file with_folder with_file without_folder without_file without_grant root_store no_store
@@ -282,7 +281,7 @@ keys_on r drawn old new was shows out keys at note held can skeleton = out.keys_
 pub stays_sound : (r : Request) (drawn : List (List ℕ)) (old new : OwnerView) (was shows : Option (List ℕ)) → IsSound old → has_bad_name r ≡ false
     → refusal_of (own_store old) r old.file_bytes ≡ None
     → ((at : Stand) → IsSeenAs old.state at → note_fits (begun (not old.journal.has_epoch) at) (note_of (own_store old) r (replicate 32 0))
-        (told_step (begun (not old.journal.has_epoch) at) (note_of (own_store old) r (replicate 32 0))) ≡ true)
+    (told_step (begun (not old.journal.has_epoch) at) (note_of (own_store old) r (replicate 32 0))) ≡ true)
     → IsCarriedOut r drawn old new was shows
     → new.journal.batches ≡ old.journal.batches + cond old.journal.has_epoch 1 2 → new.journal.epoch ≡ old.journal.epoch + cond old.journal.has_epoch 0 1
     → IsSound new

@@ -1,6 +1,5 @@
 -- The step of a note that fits can be sealed, after whatever turns that fit.
-use Rattle.std.proofs.Common.{◌≡◌, Bool, true, false, ◌&&◌, List, [], ◌∷◌, IsTrue}
-use Rattle.role_graph.specs.Edges.{edges}
+use Rattle.std.proofs.Common.{◌≡◌, Bool, true, false, List, [], ◌∷◌}
 use Rattle.move_plan.specs.Change.{change_of}
 use Rattle.record_format.specs.Noted.{Note}
 use Rattle.public_fold.specs.Fitted.{told_step}

@@ -1,7 +1,6 @@
 -- The store that an owner keeps, whatever it was opened on, and how many of each kind were ever made in it.
-use Rattle.std.proofs.Common.{◌≡◌, ℕ, suc, ◌+◌, ◌*◌, ◌≤◌, ◌<◌, true, ◌&&◌, List, [], ◌∷◌, length, refl, sym, ap, ◌∙◌, arith}
+use Rattle.std.proofs.Common.{ℕ, suc, ◌+◌, ◌*◌, ◌≤◌, ◌<◌, List, [], ◌∷◌, length, refl, ap, arith}
 use Rattle.std.specs.List.{range_with_len}
-use Rattle.std.proofs.lemmas.Bool.{and_parts}
 use Rattle.cry_base.specs.Stepping.{with_new_holder, with_new_folder, with_new_file, with_folder, with_file, without_folder, without_file, without_grant}
 use Rattle.cry_base.specs.Store.{Store, no_store, root_store}
 use Rattle.folder_nodes.specs.Titles.{tree_store}
@@ -10,7 +9,6 @@ use Rattle.record_format.specs.Noted.Note.{Root, NewHolder, NewFolder, NewFile, 
 use Rattle.public_fold.specs.Fitted.{told_stand, told_step}
 use Rattle.public_fold.specs.Journal.{Stand, note_step, nothing}
 use Rattle.public_fold.specs.KeyStep.{key_step, next_epoch, no_keys, published, step_with}
-use Rattle.public_fold.specs.Standing.{public_store_of}
 use Rattle.public_fold.specs.Told.{told_store}
 use Rattle.public_fold.specs.Turns.{Turn, turn_stand, turns_stand}
 use Rattle.public_fold.specs.Turns.Turn.{Began, Noted}

@@ -1,8 +1,8 @@
 -- The text that a command seals has a length in its kind's range, in whatever store the command isn't refused.
-use Rattle.std.proofs.Common.{◌≡◌, ℕ, ◌+◌, ◌≤◌, Bool, true, false, ◌||◌, List, [], ◌∷◌, ◌++◌, length, Option, Some, None, inl, inr, ⊎_elim, refl, sym, ap, ◌∙◌, subst, arith, append-nil, length-append}
+use Rattle.std.proofs.Common.{◌≡◌, ℕ, ◌+◌, ◌≤◌, true, false, ◌||◌, List, [], ◌∷◌, ◌++◌, length, Option, Some, None, inl, inr, ⊎_elim, refl, sym, ap, ◌∙◌, subst, arith, append-nil, length-append}
 use Rattle.std.specs.Prelude.{◌==◌, is_none}
 use Rattle.std.proofs.lemmas.Bool.{false≢true, or_parts, ltb-false}
-use Rattle.cry_base.specs.Naming.{is_name, last_name, names_of, parent_path}
+use Rattle.cry_base.specs.Naming.{is_name, parent_path}
 use Rattle.cry_base.specs.Refusing.{causes, changes_root, finds_no_path, has_bad_name, id_of, is_folder, is_too_long, refusal_of, writes_folder}
 use Rattle.cry_base.specs.Requests.{Request, paths_of}
 use Rattle.cry_base.specs.Requests.Request.{AddHolder, MakeFolder, WriteFile, Remove, Rename, Relocate, Grant, Revoke}
@@ -16,7 +16,7 @@ use Rattle.folder_nodes.proofs.Slashes.{path_parts}
 use Rattle.move_plan.specs.Noting.{move_note, note_of, remove_note, rename_note, write_note}
 use Rattle.record_format.specs.Spellable.{longest_text, shortest_text}
 use Rattle.public_fold.specs.Records.{Piece, file_piece, folder_piece, holder_piece, pieces_of}
-use Rattle.public_fold.proofs.Accepting.{IsAccepted, accepted}
+use Rattle.public_fold.proofs.Accepting.{accepted}
 use Rattle.public_fold.proofs.Settling.{no_cause}
 use Rattle.store_owner.specs.Texting.{bytes_of_file, due_key, due_text, file_text, name_at, renamed_text}
 use Rattle.store_owner.proofs.Forms.{bytes_form, folder_form, last_named, name_form, name_size, short}

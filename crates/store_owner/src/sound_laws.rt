@@ -45,7 +45,7 @@ pub fn sound_owners_can_seal()
         → refusal_of (own_store o) r o.file_bytes ≡ None
         → ((at : Stand) → IsSeenAs o.state at → IsSkeleton (told_step (begun (not o.journal.has_epoch) at) (note_of (own_store o) r (replicate 32 0))) s)
         → ((at : Stand) → IsSeenAs o.state at → note_fits (begun (not o.journal.has_epoch) at) (note_of (own_store o) r (replicate 32 0))
-            (told_step (begun (not o.journal.has_epoch) at) (note_of (own_store o) r (replicate 32 0))) ≡ true)
+        (told_step (begun (not o.journal.has_epoch) at) (note_of (own_store o) r (replicate 32 0))) ≡ true)
         → ring.keys ≡ o.ring.keys → length s.keys.items ≤ ring.spare → length drawn ≡ length s.keys.items → All (λ (key : List ℕ). length key ≡ 32) drawn
         → cond o.journal.has_epoch (o.counter ≡ Some counter) (counter ≡ record { epoch = o.journal.epoch + 1; count = 0 })
         → CanSeal ring counter s drawn (sealed_text o r drawn) }
@@ -56,7 +56,7 @@ pub fn carried_out_owners_stay_sound()
     ensures { (r : Request) (drawn : List (List ℕ)) (old new : OwnerView) (was shows : Option (List ℕ)) → IsSound old → has_bad_name r ≡ false
         → refusal_of (own_store old) r old.file_bytes ≡ None
         → ((at : Stand) → IsSeenAs old.state at → note_fits (begun (not old.journal.has_epoch) at) (note_of (own_store old) r (replicate 32 0))
-            (told_step (begun (not old.journal.has_epoch) at) (note_of (own_store old) r (replicate 32 0))) ≡ true)
+        (told_step (begun (not old.journal.has_epoch) at) (note_of (own_store old) r (replicate 32 0))) ≡ true)
         → IsCarriedOut r drawn old new was shows
         → new.journal.batches ≡ old.journal.batches + cond old.journal.has_epoch 1 2 → new.journal.epoch ≡ old.journal.epoch + cond old.journal.has_epoch 0 1
         → IsSound new }
