@@ -41,6 +41,7 @@ pub mod SoundStores
 pub mod SoundTexts
 pub mod SeenFits
 pub mod Spelled
+pub mod SoundVisits
 pub mod StepKeys
 pub mod StepSealed
 pub mod ToldSkeleton

@@ -36,11 +36,11 @@ use Rattle.store_owner.proofs.Sealable.{present_is}
 
 -- ---- the turns of a log
 
-turn_of : PlainBody → Turn
+pub turn_of : PlainBody → Turn
 turn_of NewEpoch = Began
 turn_of (Commands p) = Noted (told_note p.note)
 
-turns_of : List PlainPlaced → List Turn
+pub turns_of : List PlainPlaced → List Turn
 turns_of [] = []
 turns_of (p ∷ log) = turn_of p.body ∷ turns_of log
 
@@ -75,7 +75,7 @@ body_turn at stand place (Commands p) log on e =
       | false ↦ λ t f. absurd cc
     ]) refl e
 
-log_turns : (log : List PlainPlaced) (at stand : Stand) → folded at log ≡ Ok stand → AreTurnsTo at stand (turns_of log)
+pub log_turns : (log : List PlainPlaced) (at stand : Stand) → folded at log ≡ Ok stand → AreTurnsTo at stand (turns_of log)
 unfolding folded turns_of turns_fit turns_stand
 log_turns [] at stand e = let same : at ≡ stand = cc in record { fit = unfold turns_fit turns_of in refl; stands = unfold turns_stand turns_of in same }
 log_turns (p ∷ log) at stand e = body_turn at stand p.place p.body log (λ next f. log_turns log next stand f) e
@@ -115,7 +115,7 @@ turns_hold [] stand are some = absurd (some refl)
 turns_hold (turn ∷ turns) stand are some =
     let links = turns_links nothing (turn ∷ turns) in (links, subst (λ z. StandHolds z links) are.stands (log_holds turn turns are.fit))
 
-log_holds_then : (log : List PlainPlaced) (stand : Stand) → folded nothing log ≡ Ok stand → folder_stands stand.store 1 ≡ true → (links : List Link) × StandHolds stand links
+pub log_holds_then : (log : List PlainPlaced) (stand : Stand) → folded nothing log ≡ Ok stand → folder_stands stand.store 1 ≡ true → (links : List Link) × StandHolds stand links
 unfolding turns_of
 log_holds_then [] stand e root = absurd (empty_root stand e root)
 log_holds_then (p ∷ log) stand e root = turns_hold (turns_of (p ∷ log)) stand (log_turns (p ∷ log) nothing stand e) (λ none. cc)

@@ -1,22 +1,32 @@
 //! Laws of every owner that is open, on whatever bytes it was opened.
-ghost use Rattle.std.specs.Prelude.{◌≡◌, ◌+◌, ◌*◌, ◌<◌, ◌≤◌, ℕ, All, IsTrue, List, None, Ok, Option, Some, cond, false, length, not, replicate, true};
+ghost use Rattle.std.specs.Prelude.{◌≡◌, ◌≢◌, ◌+◌, ◌++◌, ◌*◌, ◌<◌, ◌≤◌, ℕ, All, IsSome, IsTrue, List, None, Ok, Option, Some, cond, false, length, not, replicate, true};
 ghost use Rattle.chacha_seal.specs.Serials.{Counting};
 ghost use Rattle.commit_journal.specs.Logs.{AreInEpochs};
 ghost use Rattle.commit_journal.specs.Placed.{PlainPlaced};
 ghost use Rattle.cry_base.specs.Refusing.{has_bad_name, refusal_of};
 ghost use Rattle.cry_base.specs.Requests.{Request};
+ghost use Rattle.cry_base.specs.Sets.{In};
+ghost use Rattle.cry_base.specs.Store.{FileEntry, HolderEntry};
+ghost use Rattle.cry_base.specs.declared.roles.Role.{Role};
+ghost use Rattle.cry_base.specs.declared.roles.Role.TheVariants as roles;
 ghost use Rattle.holder_client.specs.Folding.{folded};
+ghost use Rattle.holder_client.specs.Visiting.{Opened, key_of, visit_all};
+ghost use Rattle.holder_client.specs.Visits.{all_visits, holder_visits};
 ghost use Rattle.key_links.specs.Ringed.{Ringed};
+ghost use Rattle.move_plan.specs.Fitting.{folder_stands};
 ghost use Rattle.move_plan.specs.Noting.{note_of};
 ghost use Rattle.record_format.specs.Noted.{Note};
 ghost use Rattle.public_fold.specs.Fitted.{told_step};
 ghost use Rattle.public_fold.specs.Heads.{IsSkeleton};
 ghost use Rattle.public_fold.specs.Journal.{Stand, nothing};
+ghost use Rattle.public_fold.specs.KeyStep.{newest};
 ghost use Rattle.public_fold.specs.Preparing.{begun};
 ghost use Rattle.public_fold.specs.Standing.{IsSeenAs};
 ghost use Rattle.public_fold.specs.StandFits.{note_fits};
 ghost use Rattle.public_fold.specs.Turns.{Turn, turns_fit, turns_stand};
 ghost use Rattle.public_fold.specs.declared.heads.Skeleton.{Skeleton};
+ghost use Rattle.role_graph.specs.Rights.Who.{TheOwner};
+ghost use Rattle.role_graph.specs.Roles.{holder_role};
 ghost use Rattle.store_owner.specs.Applying.{IsCarriedOut, sealed_text};
 ghost use Rattle.store_owner.specs.Owned.{OwnerView};
 ghost use Rattle.store_owner.specs.Owning.{IsStoreOf};
@@ -60,6 +70,21 @@ pub fn carried_out_owners_stay_sound()
         → IsCarriedOut r drawn old new was shows
         → new.journal.batches ≡ old.journal.batches + cond old.journal.has_epoch 1 2 → new.journal.epoch ≡ old.journal.epoch + cond old.journal.has_epoch 0 1
         → IsSound new }
+{}
+
+/// Law: where the payloads of a log fit and make the root, the owner's visits, once they all went well, have opened a key for
+/// each role that has a present one but the holders', each of whom stands in the store; and no file there has more bytes than
+/// one may have. Of the bytes of the log nothing else is asked.
+pub fn owners_visits_open_all()
+    ensures keys { (log : List PlainPlaced) (at : Stand) (start after : Opened) → folded nothing log ≡ Ok at → folder_stands at.store 1 ≡ true → IsSome (key_of start.keys roles.Owner)
+        → visit_all (record { log = log; stand = at }) (all_visits at.store TheOwner ++ holder_visits at.store) start ≡ Ok after
+        → (role : Role) (n : ℕ) → newest at.keys.keys role ≡ Some n → ((h : ℕ) → role ≢ holder_role h) → IsSome (key_of after.keys role) }
+    ensures holders { (log : List PlainPlaced) (at : Stand) (start after : Opened) → folded nothing log ≡ Ok at → folder_stands at.store 1 ≡ true → start.store ≡ at.store
+        → visit_all (record { log = log; stand = at }) (all_visits at.store TheOwner ++ holder_visits at.store) start ≡ Ok after
+        → (h n : ℕ) → newest at.keys.keys (holder_role h) ≡ Some n → (e : HolderEntry) × In e after.store.holders × (e.number ≡ h) }
+    ensures sized { (log : List PlainPlaced) (at : Stand) (start after : Opened) → folded nothing log ≡ Ok at → start.store ≡ at.store
+        → visit_all (record { log = log; stand = at }) (all_visits at.store TheOwner ++ holder_visits at.store) start ≡ Ok after
+        → (x : FileEntry) → In x after.store.files → length x.bytes ≤ 1048576 }
 {}
 
 /// Law: an owner is sound who has what the payloads of a log leave, each of which fits, and the present key of each role; and
