@@ -20,7 +20,11 @@ pub mod NextValid
 pub mod NotesDeclared
 pub mod NeverFails
 pub mod NotesTold
+pub mod OpenedBehind
+pub mod OpenedContents
 pub mod OpenedKeys
+pub mod OpenedOwners
+pub mod OpenedRings
 pub mod OpenedTexts
 pub mod OwnerGoesOn
 pub mod OwnerKeeps

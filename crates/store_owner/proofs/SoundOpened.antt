@@ -4,7 +4,7 @@ use Rattle.std.specs.Prelude.{find, unwrap_or, Ok, Err, if◌then◌else◌}
 use Rattle.std.proofs.lemmas.Bool.{and_parts, and_from, eqb-true, eq-eqb, false≢true}
 use Rattle.chacha_seal.specs.Keys.{KeyParts}
 use Rattle.commit_journal.specs.Answering.{Damaged, and_then}
-use Rattle.commit_journal.specs.Logs.{AreInEpochs, IsInEpoch}
+use Rattle.commit_journal.specs.Logs.{AreInEpochs, IsInEpoch, epoch_behind}
 use Rattle.commit_journal.specs.Placed.{PlainBody, Commands, NewEpoch, PlainPlaced}
 use Rattle.cry_base.specs.Sets.{In}
 use Rattle.cry_base.specs.Store.{folder_entry, no_store}
@@ -30,7 +30,7 @@ use Rattle.public_fold.proofs.TurnsHold.{log_holds}
 use Rattle.store_owner.specs.Keys.{bytes_in, bytes_of}
 use Rattle.store_owner.specs.Owned.{OwnerView, counting}
 use Rattle.store_owner.specs.Sealing.{HoldsKeys}
-use Rattle.store_owner.specs.Sound.{IsOpenedWith, IsSound, epoch_behind}
+use Rattle.store_owner.specs.Sound.{IsOpenedWith, IsSound}
 use Rattle.store_owner.proofs.Ready.{newest-role}
 use Rattle.store_owner.proofs.Sealable.{present_is}
 

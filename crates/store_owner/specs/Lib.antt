@@ -4,6 +4,7 @@ pub mod Folds
 pub mod Journals
 pub mod Keys
 pub mod Notes
+pub mod Opened
 pub mod Opening
 pub mod Owned
 pub mod Owning

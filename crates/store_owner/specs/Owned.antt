@@ -1,5 +1,5 @@
 -- What an owner keeps in memory, and which journal it stands for. This project's own, docs/MODEL.md.
-use Rattle.std.specs.Prelude.{◌≡◌, ℕ, Bool, cond, List, Option, Some, None}
+use Rattle.std.specs.Prelude.{◌≡◌, ℕ, cond, List, Option, Some, None}
 use Rattle.chacha_seal.specs.Serials.{Counting}
 use Rattle.commit_journal.specs.Journals.{IsJournalOf, JournalState}
 use Rattle.cry_base.specs.declared.limits.Limits.{Limits}
@@ -25,6 +25,11 @@ pub record OwnerView : Type 0 where
   pub ring : Ringed
   pub counter : Option Counting
   pub file_bytes : ℕ
+
+-- what an owner keeps who has begun no epoch
+abbrev pub owner_at : List ℕ → JournalState → PublicView → Titles → Ringed → ℕ → OwnerView
+owner_at key journal state names ring file_bytes =
+    record { key = key; journal = journal; state = state; names = names; ring = ring; counter = None; file_bytes = file_bytes }
 
 -- the sizes that the owner keeps to
 abbrev pub limits_in : OwnerView → Limits

@@ -1,7 +1,7 @@
 -- What holds of every owner that is open, on whatever bytes it was opened. This project's own, docs/MODEL.md.
-use Rattle.std.specs.Prelude.{◌≡◌, ◌≤◌, ℕ, false, cond, List, [], ◌∷◌, length, Some, None, Ok, IsTrue}
+use Rattle.std.specs.Prelude.{◌≡◌, ◌≤◌, ℕ, false, cond, List, length, Some, None, Ok, IsTrue}
 use Rattle.chacha_seal.specs.Keys.{KeyParts}
-use Rattle.commit_journal.specs.Logs.{AreInEpochs}
+use Rattle.commit_journal.specs.Logs.{AreInEpochs, epoch_behind}
 use Rattle.commit_journal.specs.Placed.{PlainPlaced}
 use Rattle.cry_base.specs.Sets.{In}
 use Rattle.cry_base.specs.Store.{Store, FileEntry}
@@ -40,11 +40,6 @@ pub record IsSound (o : OwnerView) : Type 0 where
   pub counts : o.counter ≡ cond o.journal.has_epoch (Some (counting (turns_stand nothing turns).keys)) None
   pub sized : (x : FileEntry) → In x (own_store o).files → length x.bytes ≤ 1048576
   pub bounded : o.file_bytes ≤ 1048576
-
--- the epoch of the last batch of a log
-abbrev pub epoch_behind : ℕ → List PlainPlaced → ℕ
-epoch_behind before [] = before
-epoch_behind before (p ∷ log) = epoch_behind p.epoch.0 log
 
 -- What an owner has who opened a log and has begun no epoch: what is seen is what the log's payloads leave, each of which fits, with
 -- the root; as many batches, and the epoch of the last one; the present key of each role, whatever its bytes; no file with more

@@ -7,7 +7,10 @@ mod command_notes;
 pub mod folding;
 pub mod holding;
 pub mod laws;
+pub mod opened_laws;
+mod opening;
 pub mod opening_laws;
+mod owner;
 pub mod owner_laws;
 mod path_ends;
 mod records;
@@ -23,5 +26,6 @@ mod step_room;
 mod texts;
 
 pub use apply_fault::ApplyFault;
+pub use owner::Owner;
 pub use step_records::seal_step;
 pub use step_room::StepRoom;

@@ -1,7 +1,7 @@
 //! Laws of every owner that is open, on whatever bytes it was opened.
 ghost use Rattle.std.specs.Prelude.{◌≡◌, ◌≢◌, ◌+◌, ◌++◌, ◌*◌, ◌<◌, ◌≤◌, ℕ, All, IsSome, IsTrue, List, None, Ok, Option, Some, cond, false, length, not, replicate, true};
 ghost use Rattle.chacha_seal.specs.Serials.{Counting};
-ghost use Rattle.commit_journal.specs.Logs.{AreInEpochs};
+ghost use Rattle.commit_journal.specs.Logs.{AreInEpochs, epoch_behind};
 ghost use Rattle.commit_journal.specs.Placed.{PlainPlaced};
 ghost use Rattle.cry_base.specs.Refusing.{has_bad_name, refusal_of};
 ghost use Rattle.cry_base.specs.Requests.{Request};
@@ -31,7 +31,7 @@ ghost use Rattle.store_owner.specs.Applying.{IsCarriedOut, sealed_text};
 ghost use Rattle.store_owner.specs.Owned.{OwnerView};
 ghost use Rattle.store_owner.specs.Owning.{IsStoreOf};
 ghost use Rattle.store_owner.specs.Sealing.{CanSeal, IsSealable};
-ghost use Rattle.store_owner.specs.Sound.{IsOpenedWith, IsSound, epoch_behind, granted_in, own_store};
+ghost use Rattle.store_owner.specs.Sound.{IsOpenedWith, IsSound, granted_in, own_store};
 
 /// Law: the step of a note that fits can be sealed, after whatever turns that fit.
 pub fn fitting_steps_can_be_sealed()

@@ -1,0 +1,65 @@
+use Rattle.std.proofs.Common.{◌≡◌, Ok, ap, subst}
+use Rattle.std.proofs.lemmas.Result.{err_from_is_err_and}
+use Rattle.chacha_seal.specs.Keys.{KeyParts}
+use Rattle.cry_io.specs.Told.{WhereTold, WhereBothTold}
+use Rattle.commit_journal.specs.Answering.{IsFault}
+use Rattle.commit_journal.specs.Opening.{IsOpened, opening_verdict, plain_opened, slots_filled}
+use Rattle.commit_journal.specs.Placed.{plain_log}
+use Rattle.store_owner.proofs.OpenedBehind.{journal_never, journal_settled, journal_stands, largest_verdict, same_verdict}
+use Rattle.store_owner.proofs.OpenedContents.{log_fails}
+use Rattle.store_owner.proofs.owner.Owner.open_store.Goals as goal
+
+pub returns-in_err-opened-clause-verdict : goal.returns-in_err-opened-clause-verdict
+returns-in_err-opened-clause-verdict g c = λ s is.
+    let p = err_from_is_err_and c.from_residual.result c.from_residual.ensures.1 in
+    let limit = c.args.limits.store_bytes in
+    let fault = c.in_err-opened.field-0.0 in
+    let bytes = ap (λ (k : KeyParts). k.bytes) c.owner-owner.ensures in
+    rw (p.1, p.2)
+    (log_fails fault c.args.key (opening_verdict limit c.args.key s)
+    (subst (λ b. IsFault fault (opening_verdict limit b s)) bytes (c.in_err-opened.ensures.verdict s is)))
+
+pub returns-in_err-opened-clause-largest : goal.returns-in_err-opened-clause-largest
+returns-in_err-opened-clause-largest g c = λ most s is.
+    largest_verdict c.args.limits.store_bytes c.args.key s c.from_residual.result most (returns-in_err-opened-clause-verdict g c s is)
+
+pub returns-in_err-opened-clause-never : goal.returns-in_err-opened-clause-never
+returns-in_err-opened-clause-never g c =
+    journal_never c.args.limits.store_bytes c.args.key (g.D.Disk.shown c.args.disk.now) c.from_residual.result c.requires.known (returns-in_err-opened-clause-verdict g c)
+
+pub returns-clause-verdict : goal.returns-clause-verdict
+returns-clause-verdict g c = λ s is.
+    let limit = c.args.limits.store_bytes in
+    let bytes = ap (λ (k : KeyParts). k.bytes) c.owner-owner.ensures in
+    same_verdict limit c.args.key s c.in_ok-opened.opened c.owner_behind.result
+    (subst (λ b. opening_verdict limit b s ≡ Ok (plain_opened c.in_ok-opened.opened)) bytes (c.in_ok-opened.ensures.verdict s is)) c.owner_behind.ensures.answer
+
+pub returns-clause-largest : goal.returns-clause-largest
+returns-clause-largest g c = λ most s is.
+    largest_verdict c.args.limits.store_bytes c.args.key s c.owner_behind.result most (returns-clause-verdict g c s is)
+
+pub returns-clause-never : goal.returns-clause-never
+returns-clause-never g c =
+    journal_never c.args.limits.store_bytes c.args.key (g.D.Disk.shown c.args.disk.now) c.owner_behind.result c.requires.known (returns-clause-verdict g c)
+
+pub returns-clause-stands : goal.returns-clause-stands
+returns-clause-stands g c =
+    let limit = c.args.limits.store_bytes in
+    let o = c.in_ok-opened.opened in
+    let bytes = ap (λ (k : KeyParts). k.bytes) c.owner-owner.ensures in
+    journal_stands limit c.args.limits.file_bytes c.args.key o (g.D.Disk.shown c.args.disk.now) c.owner_behind.result c.requires.known
+    (subst (λ b. IsOpened b limit o.journal) bytes c.in_ok-opened.ensures.opened)
+    (subst (λ b. WhereTold (g.D.Disk.shown c.args.disk.now) (λ s. opening_verdict limit b s ≡ Ok (plain_opened o))) bytes c.in_ok-opened.ensures.verdict)
+    c.owner_behind.ensures.answer c.owner_behind.ensures.journal c.owner_behind.ensures.fresh
+
+pub returns-clause-settled : goal.returns-clause-settled
+returns-clause-settled g c =
+    let limit = c.args.limits.store_bytes in
+    let o = c.in_ok-opened.opened in
+    let was = g.D.Disk.shown c.args.disk.now in
+    let shows = g.D.Disk.shown c.open_owner.new.disk in
+    let bytes = ap (λ (k : KeyParts). k.bytes) c.owner-owner.ensures in
+    journal_settled limit c.args.key o was shows (g.D.Disk.may_leave c.open_owner.new.disk) c.owner_behind.result c.requires.known
+    (subst (λ b. WhereTold was (λ s. opening_verdict limit b s ≡ Ok (plain_opened o))) bytes c.in_ok-opened.ensures.verdict)
+    (subst (λ b. WhereBothTold was shows (λ x y. y ≡ slots_filled b (plain_log o.placed) x)) bytes c.in_ok-opened.ensures.filled)
+    c.in_ok-opened.ensures.told c.in_ok-opened.ensures.durable

@@ -1,0 +1,97 @@
+-- What an owner keeps of what the owner's key opened of a store. This project's own, docs/FORMAT.md, "Opening for writing".
+use Rattle.std.specs.Prelude.{◌≡◌, ℕ, if◌then◌else◌, false, List, [], ◌∷◌, ◌++◌, None, Result, Ok, Err}
+use Rattle.cry_base.specs.Sets.{In}
+use Rattle.cry_base.specs.Store.{HolderEntry}
+use Rattle.cry_base.specs.declared.roles.Role.TheVariants.{Owner}
+use Rattle.commit_journal.specs.Answering.{Fault, NotAStore, WrongKey, Damaged, Tampered, and_then}
+use Rattle.commit_journal.specs.Opening.{OwnedLog}
+use Rattle.commit_journal.specs.Placed.{PlainPlaced}
+use Rattle.commit_journal.specs.declared.fault.OpenFault.{OpenFault}
+use Rattle.commit_journal.specs.declared.fault.OpenFault.TheVariants as faults
+use Rattle.folder_nodes.specs.Titles.{Titles}
+use Rattle.holder_client.specs.Asking.{OpenStore}
+use Rattle.holder_client.specs.Folding.{folded}
+use Rattle.holder_client.specs.Holding as holding
+use Rattle.holder_client.specs.Holding.{HasNames, HoldsKeys}
+use Rattle.holder_client.specs.Judging.{Failure, OfBytes}
+use Rattle.holder_client.specs.Opening.{HasHolder, IsOpenedBy, is_no_holders}
+use Rattle.holder_client.specs.Visiting.{Opened, Reading, visit_all}
+use Rattle.holder_client.specs.Visits.{Visit, all_visits, holder_visits}
+use Rattle.key_links.specs.Ringed.{Ringed}
+use Rattle.move_plan.specs.Fitting.{folder_stands}
+use Rattle.public_fold.specs.Journal.{Stand, nothing}
+use Rattle.public_fold.specs.Standing.{IsSeenAs}
+use Rattle.role_graph.specs.Rights.Who.{TheOwner}
+use Rattle.store_owner.specs.Owned.{OwnerView}
+use Rattle.store_owner.specs.declared.opening.Contents.{Contents}
+
+-- a log with what its payloads leave, what the owner visits of it, and what is open before the first visit
+abbrev pub reading_with : List PlainPlaced → Stand → Reading
+reading_with log at = record { log = log; stand = at }
+
+abbrev pub visits_of : Stand → List Visit
+visits_of at = all_visits at.store TheOwner ++ holder_visits at.store
+
+abbrev pub starts_with : List ℕ → Stand → Opened
+starts_with owner at = record { keys = (Owner, owner) ∷ []; store = at.store }
+
+-- the ring has the keys that were opened, each as the present one of its role, and each holder's key; the names and bytes are
+-- those that were opened
+pub record IsKept (at : Stand) (after : Opened) (ring : Ringed) (names : Titles) : Type 0 where
+  pub present : holding.ArePresent at.keys.keys ring
+  pub opened : HoldsKeys is_no_holders ring after.keys
+  pub titled : HasNames at.store names after.store
+  pub holders : (e : HolderEntry) → In e after.store.holders → HasHolder ring e
+
+-- ---- one step after another
+
+-- the root stands; a log that doesn't make it is damaged behind the header
+unfoldable pub rooted : Stand → Result Stand Fault
+rooted at = if folder_stands at.store 1 then Ok at else Err (Damaged 42)
+
+-- what the owner's visits open
+unfoldable pub opened_at : List ℕ → List PlainPlaced → Stand → Result OpenStore Fault
+opened_at owner log at =
+    and_then (visit_all (reading_with log at) (visits_of at) (starts_with owner at)) (λ after. Ok (record { reading = reading_with log at; opened = after }))
+
+-- once the payloads were followed, and the root was found
+unfoldable pub opened_of : List ℕ → List PlainPlaced → Result OpenStore Fault
+opened_of owner log = and_then (folded nothing log) (λ at. and_then (rooted at) (opened_at owner log))
+
+-- these are what was opened
+abbrev pub AreContents : Contents → OpenStore → Type 0
+AreContents contents s = IsSeenAs contents.state s.reading.stand × IsOpenedBy s.reading.stand.store contents.view s.opened
+
+-- ---- what opening answers
+
+-- an owner keeps what was opened
+abbrev pub Keeps : OwnerView → OpenStore → Type 0
+Keeps o s = IsSeenAs o.state s.reading.stand × IsKept s.reading.stand s.opened o.ring o.names
+
+-- the fault is the one that is wanted. A disk that fails and want of memory may come at any time
+abbrev pub IsOpenFault : OpenFault → Result OpenStore Failure → Type 0
+IsOpenFault faults.NotAStore wanted = wanted ≡ Err (OfBytes NotAStore)
+IsOpenFault faults.WrongKey wanted = wanted ≡ Err (OfBytes WrongKey)
+IsOpenFault (faults.Damaged at) wanted = wanted ≡ Err (OfBytes (Damaged at))
+IsOpenFault (faults.Tampered batch at) wanted = wanted ≡ Err (OfBytes (Tampered batch at))
+IsOpenFault faults.DiskFault wanted = Unit {0}
+IsOpenFault faults.OutOfMemory wanted = Unit {0}
+
+-- an owner who keeps what is wanted, or the fault that is
+abbrev pub OpensAs : Result OwnerView OpenFault → Result OpenStore Failure → Type 0
+OpensAs (Ok o) wanted = (s : OpenStore) × (wanted ≡ Ok s) × Keeps o s
+OpensAs (Err fault) wanted = IsOpenFault fault wanted
+
+-- the batches of a log
+abbrev pub placed_in : Result OwnedLog Fault → Result (List PlainPlaced) Fault
+placed_in log = and_then log (λ (l : OwnedLog). Ok l.placed)
+
+-- the owner has this key, keeps to these sizes, has begun no epoch, and is open
+pub record IsFresh (key : List ℕ) (store_bytes file_bytes : ℕ) (o : OwnerView) : Type 0 where
+  pub same_key : o.key ≡ key
+  pub own_log : o.journal.owner ≡ key
+  pub limit : o.journal.limit ≡ store_bytes
+  pub bound : o.file_bytes ≡ file_bytes
+  pub not_begun : o.journal.has_epoch ≡ false
+  pub not_closed : o.journal.is_closed ≡ false
+  pub not_counted : o.counter ≡ None

@@ -1,0 +1,147 @@
+//! Opens a store for writing (docs/FORMAT.md, "Opening for writing").
+ghost use Rattle.std.specs.Prelude.{◌≡◌, ◌≢◌, ◌⊎◌, ◌<◌, ◌≤◌, All, Err, IfErr, IfOk, OnOk, Ok, is_some, length, map};
+ghost use Rattle.cry_base.specs.declared.roles.Role.TheVariants.{Owner as OwnerRole};
+ghost use Rattle.cry_io.specs.Stops.{IsDurable};
+ghost use Rattle.cry_io.specs.Told.{WhereTold};
+ghost use Rattle.commit_journal.specs.Logs.{AreInEpochs, epoch_behind};
+ghost use Rattle.commit_journal.specs.Opening.{IsOpened, opening_verdict};
+ghost use Rattle.commit_journal.specs.Placed.{plain_log, plain_placed};
+ghost use Rattle.commit_journal.specs.Places.{IsStanding};
+ghost use Rattle.holder_client.specs.Answering.{AnswersBy, client_fault};
+ghost use Rattle.holder_client.specs.Asking.{open_with, opened_store};
+ghost use Rattle.holder_client.specs.Holding.{ArePresent, AreSized};
+ghost use Rattle.move_plan.specs.Fitting.{folder_stands};
+ghost use Rattle.public_fold.specs.Journal.{Journal as AnyJournal, Stand};
+ghost use Rattle.public_fold.specs.Lengths.{end_of};
+ghost use Rattle.public_fold.specs.Standing.{IsSeenAs};
+ghost use Rattle.store_owner.specs.Journals.{IsSettled, StandsForJournal};
+ghost use Rattle.store_owner.specs.Opened.{AreContents, IsFresh, OpensAs, opened_of, placed_in};
+ghost use Rattle.store_owner.specs.Owned.{IsOwnerOf};
+
+use crate::owner::Owner;
+use chacha_seal::{Key, OwnerK};
+use commit_journal::{Journal, OpenFault, Opened, Placed};
+use cry_base::{FolderId, Limits};
+use cry_io::Disk;
+use holder_client::{ClientFault, OwnersView, fold, open_all};
+use public_fold::PublicState;
+use std::alloc::Global;
+
+const ROOT: FolderId = FolderId(1);
+
+/// The place behind the header: of a log that makes no root.
+const BEHIND_HEADER: u64 = 42;
+
+/// What was opened of a log: what everyone may see, and what the owner's key opens.
+#[derive(Drop)]
+struct Contents {
+    state: PublicState,
+    view: OwnersView,
+}
+
+fn has_root(state: &PublicState) -> bool
+    ensures { (at : Stand) → IsSeenAs state.now at → result ≡ folder_stands at.store 1 }
+{
+    state.shape().has_folder(ROOT)
+}
+
+/// Follows the payloads of a log, looks for the root, and then opens all that the owner's key opens. The first of these that
+/// fails ends it.
+fn open_contents(alloc: Global, log: &[Placed], owner: Key<OwnerK>) -> Result<Contents, ClientFault>
+    requires stands { All IsStanding log.now }
+    requires epochs { AreInEpochs 0 (map plain_placed log.now) }
+    requires number { owner.id ≡ 0 }
+    requires serial { owner.serial ≡ 0 }
+    ensures answer { AnswersBy AreContents result (opened_of owner.bytes (map plain_placed log.now)) }
+    ensures present { IfOk result (λ contents. ArePresent contents.state.keys.keys contents.view.ring) }
+    ensures sized { IfOk result (λ contents. AreSized contents.view.names) }
+    ensures no_disk { result ≢ Err ClientFault.DiskFault }
+{
+    let state = fold(alloc, log)?;
+    if !has_root(&state) {
+        return Err(ClientFault::Damaged { at: BEHIND_HEADER });
+    }
+    let view = open_all(alloc, &state, log, owner)?;
+    Ok(Contents { state, view })
+}
+
+fn open_fault(fault: ClientFault) -> OpenFault
+    ensures { fault ≡ client_fault result }
+{
+    match fault {
+        ClientFault::NotAStore => OpenFault::NotAStore,
+        ClientFault::WrongKey => OpenFault::WrongKey,
+        ClientFault::Damaged { at } => OpenFault::Damaged { at },
+        ClientFault::Tampered { batch, at } => OpenFault::Tampered { batch, at },
+        ClientFault::DiskFault => OpenFault::DiskFault,
+        ClientFault::OutOfMemory => OpenFault::OutOfMemory,
+    }
+}
+
+/// Goes on from a log that was opened, with no disk.
+fn owner_behind(
+    alloc: Global,
+    key: [u8; 32],
+    opened: Opened,
+    limits: Limits,
+) -> Result<Owner, OpenFault>
+    requires files { limits.file_bytes ≤ 1048576 }
+    requires opened { IsOpened key limits.store_bytes opened.journal }
+    requires stands { All IsStanding opened.placed.items }
+    requires epochs { AreInEpochs 0 (plain_log opened.placed) }
+    requires count { opened.journal.batches ≡ length opened.placed.items }
+    requires last { opened.journal.epoch ≡ epoch_behind 0 (plain_log opened.placed) }
+    ensures answer { OpensAs result (open_with key (Ok (plain_log opened.placed))) }
+    ensures journal { IfOk result (λ o. o.journal ≡ opened.journal) }
+    ensures fresh { IfOk result (IsFresh key limits.store_bytes limits.file_bytes) }
+    ensures no_disk { result ≢ Err OpenFault.DiskFault }
+{
+    let Opened { journal, placed } = opened;
+    match open_contents(alloc, placed.as_slice(), Key::owner(key)) {
+        Ok(contents) => {
+            let OwnersView { ring, names } = contents.view;
+            Ok(Owner::at(key, journal, contents.state, names, ring, limits))
+        }
+        Err(fault) => Err(open_fault(fault)),
+    }
+}
+
+impl Owner {
+    /// Opens a store for writing with the owner's key: syncs it, reads its log and writes each slot that a stop left without its
+    /// veil key, with a sync; then follows the payloads, looks for the root, and opens every key, name, text and holder's key.
+    /// The batches that are read may be unpublished, since a stop left them so. The owner has begun no epoch.
+    ///
+    /// `NotAStore` and `WrongKey` come of the header. `Damaged` comes behind an open gate where no batch stands that ends
+    /// within the store limit, and for a payload that has no form; then for the first payload that doesn't fit what stands
+    /// before it, with the place of its first byte; behind the header where no root was made or a record is missing; and for a
+    /// text of another form, with the place of its content. `Tampered` comes for a wrong tag, of a batch or of a record, with
+    /// its place. The first of these ends the call. `DiskFault` comes only where the disk's faults rose in this call.
+    pub fn open_store<D: Disk>(
+        alloc: Global,
+        disk: &mut D,
+        key: [u8; 32],
+        limits: Limits,
+    ) -> Result<Owner, OpenFault>
+        requires known { limits.store_bytes ≤ 268435456 }
+        requires files { limits.file_bytes ≤ 1048576 }
+        ensures verdict { WhereTold (D.shown disk.old) (λ s. OpensAs result (open_with key (placed_in (opening_verdict limits.store_bytes key s)))) }
+        ensures largest { limits.store_bytes ≡ 268435456 → WhereTold (D.shown disk.old) (λ s. OpensAs result (opened_store key s)) }
+        ensures stands { IfOk result (λ o. (m : AnyJournal) → WhereTold (D.shown disk.old)
+            (λ s. StandsForJournal key m s → end_of m ≤ limits.store_bytes → IsOwnerOf m o)) }
+        ensures settled { OnOk result ((m : AnyJournal) → WhereTold (D.shown disk.old)
+            (λ s. StandsForJournal key m s → end_of m ≤ limits.store_bytes → IsSettled key m (D.shown disk.new) (D.may_leave disk.new))) }
+        ensures never { IfErr result (λ fault. (m : AnyJournal) → WhereTold (D.shown disk.old) (λ s. StandsForJournal key m s → end_of m ≤ limits.store_bytes
+            → (fault ≡ OpenFault.DiskFault) ⊎ (fault ≡ OpenFault.OutOfMemory))) }
+        ensures fresh { IfOk result (IsFresh key limits.store_bytes limits.file_bytes) }
+        ensures inside { IfOk result (λ o. o.journal.end ≤ D.size_of disk.new) }
+        ensures durable { OnOk result (IsDurable (D.may_leave disk.new) (D.shown disk.new)) }
+        ensures told { is_some (D.shown disk.new) ≡ is_some (D.shown disk.old) }
+        ensures size { OnOk result (D.size_of disk.new ≡ D.size_of disk.old) }
+        ensures counts { D.faults disk.old ≤ D.faults disk.new }
+        ensures disk_fault { result ≡ Err OpenFault.DiskFault → D.faults disk.old < D.faults disk.new }
+    {
+        let owner = Key::owner(key);
+        let opened = Journal::open_owner(alloc, disk, &owner, limits)?;
+        owner_behind(alloc, key, opened, limits)
+    }
+}
