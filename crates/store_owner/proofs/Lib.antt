@@ -1,5 +1,6 @@
 pub mod Ascending
 pub mod Counted
+pub mod DrawLemmas
 pub mod DueTexts
 pub mod FitsPublic
 pub mod Followed

@@ -1,5 +1,5 @@
 -- The payload of a step as a ring makes it, and the ring after it.
-use Rattle.std.proofs.Common.{◌≡◌, ⊎_elim, inl, inr, ℕ, ◌+◌, ◌<◌, List, [], ◌∷◌, ◌++◌, length, map, Option, Some, arith, refl, sym, ap, subst, ◌∙◌}
+use Rattle.std.proofs.Common.{◌≡◌, ⊎_elim, inl, inr, ℕ, ◌+◌, ◌*◌, ◌<◌, List, [], ◌∷◌, ◌++◌, length, map, Option, Some, arith, refl, sym, ap, subst, ◌∙◌}
 use Rattle.std.specs.Prelude.{IsSome, unwrap_or}
 use Rattle.std.specs.List.{sum_by}
 use Rattle.std.proofs.lemmas.List.{length-map}
@@ -29,10 +29,11 @@ use Rattle.public_fold.specs.Records.{Content, Link, Piece, sealing_role, text_o
 use Rattle.public_fold.specs.declared.heads.ContentHead.{ContentHead}
 use Rattle.public_fold.specs.declared.heads.Skeleton.{Skeleton}
 use Rattle.public_fold.proofs.Serials.{keys_between, numbered-length}
+use Rattle.store_owner.specs.Applying.{skeleton_size}
 use Rattle.store_owner.specs.Bytes.{content_record, link_record, step_payload}
 use Rattle.store_owner.specs.Keys.{bytes_in, with_bytes}
 use Rattle.store_owner.specs.Ringing.{content_by, contents_by, held_key, key_after, key_for, links_by}
-use Rattle.store_owner.specs.Sealing.{HoldsKeys, IsTold, WillHave, keys_with}
+use Rattle.store_owner.specs.Sealing.{HoldsKeys, IsSealable, IsTold, WillHave, keys_with}
 use Rattle.store_owner.proofs.Ascending.{step_between, step_rises}
 use Rattle.store_owner.proofs.GivenKeys.{will_have}
 use Rattle.store_owner.proofs.StepKeys.{key_then, newest-in, newest-kept, newest-split}
@@ -125,6 +126,30 @@ payload_weighs step s text note ring n m links contents told links_is contents_i
     ap (sum_by content_size) contents_is ∙ ap (λ hs. sum_by content_size (contents_by ring m text hs)) told.is_skeleton.contents ∙ texts_weigh ring m text step.contents told.is_text in
     omega (arith, first, second, third)
 
+one_more : (a b : ℕ) → a * (1 + b) ≡ a + a * b
+one_more a b = omega arith
+
+heads_weigh : (ring : Ringed) (n : ℕ) (text : List ℕ) (hs : List ContentHead) → sum_by content_size (contents_by ring n text hs) ≡ (58 + length text) * length hs
+unfolding contents_by sealed_content
+heads_weigh ring n text [] = omega arith
+heads_weigh ring n text (h ∷ hs) =
+    let r = content_by ring n h text in
+    let first : length r.cipher ≡ length text = length-sealed (held_key ring (ended.sealing_role h.kind h.object)).bytes n text in
+    let more = heads_weigh ring (n + 1) text hs in
+    let whole = sum_by-cons content_size r (contents_by ring (n + 1) text hs) in
+    let product : (58 + length text) * (1 + length hs) ≡ (58 + length text) + (58 + length text) * length hs = one_more (58 + length text) (length hs) in
+    omega (arith, first, more, whole, product)
+
+pub skeleton_weighs : (s : Skeleton) (text : List ℕ) (note : Note) (ring : Ringed) (n m : ℕ) (links : List LinkRecord) (contents : List PlainContent)
+    → links ≡ links_by ring n s.links.items → contents ≡ contents_by ring m text s.contents.items
+    → payload_size (record { note = note; links = links; contents = contents }) ≡ skeleton_size (told_note note) s (length text)
+skeleton_weighs s text note ring n m links contents links_is contents_is =
+    let first = note_weighs note in
+    let second : length links ≡ length s.links.items = ap length links_is ∙ length-links_by ring n s.links.items in
+    let third : sum_by content_size contents ≡ (58 + length text) * length s.contents.items =
+    ap (sum_by content_size) contents_is ∙ heads_weigh ring m text s.contents.items in
+    omega (arith, first, second, third)
+
 -- a role that will have a key has one once the keys were given
 pub gets_key : (old new : Ringed) (n : ℕ) (heads given : List (Role × ℕ)) (drawn : List (List ℕ)) (role : Role) → heads ≡ given → length drawn ≡ length given
     → key_of new role ≡ key_after (key_of old role) n heads drawn role → WillHave old given role → IsSome (key_of new role)
@@ -206,17 +231,17 @@ pub counted_after : (k : KeyState) (before : List Edge) (c : Change) (pieces : L
     → counter ≡ record { epoch = k.epoch; count = k.count } → IsSkeleton (key_step k before c pieces) s
     → counter.count + length s.keys.items + length s.links.items + length s.contents.items ≡ (key_step k before c pieces).after.count
 unfolding key_step step_with published
-counted_after k before c pieces counter s is skeleton =
+counted_after k before c pieces counter s is shape =
     let start = ap (λ (x : Counting). x.count) is in
-    let keys_many = ap length skeleton.keys in
-    let links_many = ap length skeleton.links in
-    let contents_many = ap length skeleton.contents ∙ length-map (key_step k before c pieces).contents content_head in
+    let keys_many = ap length shape.keys in
+    let links_many = ap length shape.links in
+    let contents_many = ap length shape.contents ∙ length-map (key_step k before c pieces).contents content_head in
     omega (arith, start, keys_many, links_many, links_long k before c pieces, contents_many, contents_long k before c pieces)
 
 -- ---- a whole step
 
-module _ (keys : List KeyParts) (k : KeyState) (before : List Edge) (c : Change) (pieces : List Piece) (drawn : List (List ℕ)) (old new : Ringed) (counter : Counting) (s : Skeleton) (text : List ℕ)
-    (holds : HoldsKeys keys k old counter) (told : IsTold (key_step k before c pieces) s text) (long : length drawn ≡ length s.keys.items)
+module _ (keys : List KeyParts) (k : KeyState) (before : List Edge) (c : Change) (pieces : List Piece) (drawn : List (List ℕ)) (old new : Ringed) (counter : Counting) (s : Skeleton)
+    (holds : HoldsKeys keys k old counter) (can : IsSealable (key_step k before c pieces)) (shape : IsSkeleton (key_step k before c pieces) s) (long : length drawn ≡ length s.keys.items)
     (made : (r : Role) → key_of new r ≡ key_after (key_of old r) (serial_of counter.epoch counter.count) s.keys.items drawn r) where
   first_is : serial_of counter.epoch counter.count ≡ next_serial k
   unfolding next_serial
@@ -224,32 +249,32 @@ module _ (keys : List KeyParts) (k : KeyState) (before : List Edge) (c : Change)
 
   given_long : length drawn ≡ length (renewed k before c ++ c.fresh)
   unfolding key_step step_with published given
-  given_long = long ∙ ap length told.is_skeleton.keys ∙ numbered-length Role (next_serial k) (renewed k before c ++ c.fresh)
+  given_long = long ∙ ap length shape.keys ∙ numbered-length Role (next_serial k) (renewed k before c ++ c.fresh)
 
   has_after : HasNewest new (keys_with keys (key_step k before c pieces) drawn) (key_step k before c pieces).after.keys
   unfolding key_step step_with published keys_then given
   has_after r m e =
       made r
       ∙ ap (λ n. key_after (key_of old r) n s.keys.items drawn r) first_is
-      ∙ ap (λ g. key_after (key_of old r) (next_serial k) g drawn r) told.is_skeleton.keys
+      ∙ ap (λ g. key_after (key_of old r) (next_serial k) g drawn r) shape.keys
       ∙ key_then keys (key_of old) k.keys (next_serial k) (renewed k before c ++ c.fresh) (renewed k before c ++ c.gone) drawn
-      holds.has_present holds.drawn_below holds.present_below given_long told.can_be_sealed.given_once r m e
+      holds.has_present holds.drawn_below holds.present_below given_long can.given_once r m e
 
   second_is : serial_of counter.epoch (counter.count + length s.keys.items) ≡ next_serial k + length (key_step k before c pieces).given
-  second_is = let keys_long = ap length told.is_skeleton.keys in omega (arith, first_is, keys_long)
+  second_is = let keys_long = ap length shape.keys in omega (arith, first_is, keys_long)
 
   third_is : serial_of counter.epoch (counter.count + length s.keys.items + length s.links.items)
       ≡ next_serial k + length (key_step k before c pieces).given + length (published_edges before c (renewed k before c))
   third_is =
-      let keys_many = ap length told.is_skeleton.keys in
-      let links_many = ap length told.is_skeleton.links in omega (arith, first_is, keys_many, links_many, links_long k before c pieces)
+      let keys_many = ap length shape.keys in
+      let links_many = ap length shape.links in omega (arith, first_is, keys_many, links_many, links_long k before c pieces)
 
-  pub payload_is : (note : Note) (links : List LinkRecord) (contents : List PlainContent)
+  pub payload_is : (text : List ℕ) → ((x : Content) → In x (key_step k before c pieces).contents → text_of x.piece ≡ text) → (note : Note) (links : List LinkRecord) (contents : List PlainContent)
       → links ≡ links_by new (serial_of counter.epoch (counter.count + length s.keys.items)) s.links.items
       → contents ≡ contents_by new (serial_of counter.epoch (counter.count + length s.keys.items + length s.links.items)) text s.contents.items
       → record { note = note; links = links; contents = contents } ≡ step_payload (keys_with keys (key_step k before c pieces) drawn) note (key_step k before c pieces)
   unfolding step_payload key_step step_with published
-  payload_is note links contents links_is contents_is =
+  payload_is text texts note links contents links_is contents_is =
       let step = key_step k before c pieces in
       let all = keys_with keys step drawn in
       let newer = keys_then k c (renewed k before c) in
@@ -258,13 +283,13 @@ module _ (keys : List KeyParts) (k : KeyState) (before : List Edge) (c : Change)
       let first : links ≡ map (link_record all) step.links =
       links_is
       ∙ ap (λ m. links_by new m s.links.items) second_is
-      ∙ ap (links_by new n) told.is_skeleton.links
-      ∙ links_are new all newer n es has_after told.can_be_sealed.sources told.can_be_sealed.targets in
+      ∙ ap (links_by new n) shape.links
+      ∙ links_are new all newer n es has_after can.sources can.targets in
       let second : contents ≡ map (content_record all) step.contents =
       contents_is
       ∙ ap (λ m. contents_by new m text s.contents.items) third_is
-      ∙ ap (contents_by new (n + length es) text) told.is_skeleton.contents
-      ∙ contents_are new all newer text (n + length es) pieces has_after told.can_be_sealed.sealing told.is_text in
+      ∙ ap (contents_by new (n + length es) text) shape.contents
+      ∙ contents_are new all newer text (n + length es) pieces has_after can.sealing texts in
       ap (payload_with note contents) first ∙ ap (λ x. payload_with note x (map (link_record all) step.links)) second
 
   below_after : (r : Role) (m : ℕ) → newest (key_step k before c pieces).after.keys r ≡ Some m → m < next_serial (key_step k before c pieces).after
@@ -291,5 +316,5 @@ module _ (keys : List KeyParts) (k : KeyState) (before : List Edge) (c : Change)
             (λ new_one. (step_between k before c pieces drawn).below key new_one)
             ((In-append KeyParts key keys (with_bytes step.given drawn)).0 i);
         present_below = below_after;
-        is_counted = is ∙ ap (λ n. counting counter.epoch n) (counted_after k before c pieces counter s holds.is_counted told.is_skeleton) ∙ ap (λ n. counting n step.after.count) (epoch_stays k before c pieces counter holds.is_counted);
+        is_counted = is ∙ ap (λ n. counting counter.epoch n) (counted_after k before c pieces counter s holds.is_counted shape) ∙ ap (λ n. counting n step.after.count) (epoch_stays k before c pieces counter holds.is_counted);
       }

@@ -1,5 +1,6 @@
 pub mod Applying
 pub mod Bytes
+pub mod Drawing
 pub mod Folds
 pub mod Journals
 pub mod Keys

@@ -4,6 +4,7 @@
 mod apply_fault;
 pub mod apply_laws;
 mod command_notes;
+mod drawing;
 pub mod folding;
 pub mod holding;
 pub mod laws;

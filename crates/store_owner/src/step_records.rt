@@ -9,10 +9,12 @@ ghost use Rattle.record_format.specs.Plain.{plain_payload};
 ghost use Rattle.record_format.specs.Sizes.{payload_size};
 ghost use Rattle.record_format.specs.Spellable.{IsNote, IsSpellable};
 ghost use Rattle.record_format.specs.Told.{told_note};
+ghost use Rattle.public_fold.specs.Heads.{IsSkeleton};
 ghost use Rattle.public_fold.specs.Journal.{Stand, note_step};
 ghost use Rattle.public_fold.specs.Lengths.{payload_len};
+ghost use Rattle.store_owner.specs.Applying.{skeleton_size};
 ghost use Rattle.store_owner.specs.Bytes.{step_payload};
-ghost use Rattle.store_owner.specs.Sealing.{CanSeal, HoldsKeys, IsSpaceFor, IsTold, WillHave, keys_with};
+ghost use Rattle.store_owner.specs.Sealing.{CanSeal, HoldsKeys, IsSealable, IsSpaceFor, IsTold, WillHave, keys_with};
 
 use crate::StepRoom;
 use crate::records::{give_keys, put_contents, put_links};
@@ -40,12 +42,13 @@ pub fn seal_step(
         → IsTold (note_step at told after) skeleton.now text.items
         → plain_payload result ≡ step_payload (keys_with keys (note_step at told after) drawn.now) note (note_step at told after) }
     ensures keys { (keys : List KeyParts) (at : Stand) (told : AnyNote) (after : Store) → HoldsKeys keys at.keys ring.old counter.old
-        → IsTold (note_step at told after) skeleton.now text.items
+        → IsSealable (note_step at told after) → IsSkeleton (note_step at told after) skeleton.now
         → HoldsKeys (keys_with keys (note_step at told after) drawn.now) (note_step at told after).after ring.new counter.new }
     ensures has { (role : AnyRole) → WillHave ring.old skeleton.now.keys.items role → IsSome (key_of ring.new role) }
     ensures spellable { IsSpellable (plain_payload result) }
     ensures size { (at : Stand) (told : AnyNote) (after : Store) → IsTold (note_step at told after) skeleton.now text.items
         → payload_size (plain_payload result) ≡ payload_len (told_note note) (note_step at told after) }
+    ensures skeleton_size { payload_size (plain_payload result) ≡ skeleton_size (told_note note) skeleton.now (length text.items) }
     ensures counter { counter.new ≡ record {
       epoch = counter.old.epoch;
       count = counter.old.count + length skeleton.now.keys.items + length skeleton.now.links.items + length skeleton.now.contents.items;
