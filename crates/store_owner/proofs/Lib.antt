@@ -20,6 +20,8 @@ pub mod NextFits
 pub mod NextValid
 pub mod NotesDeclared
 pub mod NeverFails
+pub mod KeyDraws
+pub mod Keyed
 pub mod NotesTold
 pub mod OpenedBehind
 pub mod OpenedContents

@@ -231,11 +231,11 @@ pub counted_after : (k : KeyState) (before : List Edge) (c : Change) (pieces : L
     → counter ≡ record { epoch = k.epoch; count = k.count } → IsSkeleton (key_step k before c pieces) s
     → counter.count + length s.keys.items + length s.links.items + length s.contents.items ≡ (key_step k before c pieces).after.count
 unfolding key_step step_with published
-counted_after k before c pieces counter s is shape =
+counted_after k before c pieces counter s is skeleton =
     let start = ap (λ (x : Counting). x.count) is in
-    let keys_many = ap length shape.keys in
-    let links_many = ap length shape.links in
-    let contents_many = ap length shape.contents ∙ length-map (key_step k before c pieces).contents content_head in
+    let keys_many = ap length skeleton.keys in
+    let links_many = ap length skeleton.links in
+    let contents_many = ap length skeleton.contents ∙ length-map (key_step k before c pieces).contents content_head in
     omega (arith, start, keys_many, links_many, links_long k before c pieces, contents_many, contents_long k before c pieces)
 
 -- ---- a whole step

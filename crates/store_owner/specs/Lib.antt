@@ -8,6 +8,7 @@ pub mod Notes
 pub mod Opened
 pub mod Opening
 pub mod Owned
+pub mod Planning
 pub mod Owning
 pub mod Retitled
 pub mod Sound

@@ -3,10 +3,12 @@
 
 mod apply_fault;
 pub mod apply_laws;
+mod change;
 mod command_notes;
 mod drawing;
 pub mod folding;
 pub mod holding;
+mod key_room;
 pub mod laws;
 pub mod opened_laws;
 mod opening;
@@ -22,6 +24,7 @@ pub mod script_laws;
 pub mod script_rows;
 pub mod sealing_laws;
 pub mod sound_laws;
+mod sizing;
 mod step_records;
 mod step_room;
 mod texts;
