@@ -1,4 +1,6 @@
+pub mod Applied
 pub mod Ascending
+pub mod CarriedOut
 pub mod Counted
 pub mod DrawLemmas
 pub mod DueTexts
@@ -22,6 +24,7 @@ pub mod NotesDeclared
 pub mod NeverFails
 pub mod KeyDraws
 pub mod Keyed
+pub mod NotesKeyed
 pub mod NotesTold
 pub mod OpenedBehind
 pub mod OpenedContents
@@ -33,6 +36,9 @@ pub mod OwnerGoesOn
 pub mod OwnerKeeps
 pub mod OwnerVisits
 pub mod PlainTexts
+pub mod OtherRoom
+pub mod OwnerKeeps
+pub mod Planned
 pub mod Published
 pub mod Ready
 pub mod Refused

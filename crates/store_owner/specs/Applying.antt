@@ -1,6 +1,6 @@
 -- What a command leaves of an owner and of the disk, and what is answered. This project's own, docs/FORMAT.md, "The key step"
 -- and "Committing".
-use Rattle.std.specs.Prelude.{◌≡◌, ◌<◌, ℕ, ◌+◌, ◌*◌, Bool, true, false, not, cond, List, [], ◌∷◌, ◌++◌, length, replicate, Option, Some, None, Result, Ok, Err, IsTrue, All, is_some}
+use Rattle.std.specs.Prelude.{◌≡◌, ◌<◌, ◌≤◌, ℕ, ◌+◌, ◌*◌, Bool, true, false, not, cond, List, [], ◌∷◌, ◌++◌, length, replicate, Option, Some, None, Result, Ok, Err, IsTrue, All, is_some}
 use Rattle.std.specs.List.{flat_map}
 use Rattle.chacha_seal.specs.Keys.{KeyParts}
 use Rattle.chacha_seal.specs.Sealing.{check_of}
@@ -141,3 +141,29 @@ pub record StandsAt (limits : Limits) (key : List ℕ) (g : Going) (o : OwnerVie
   pub has_begun : o.journal.has_epoch ≡ g.begun
   pub has_draws : left ≡ Some g.draws
   pub disk_stands : (s : List ℕ) × (shown ≡ Some s) × StandsWhole key (batches_of key g.journal) s
+
+-- What no journal is needed for. A refusal, Closed and want of memory touch neither the source nor the disk, and the first two
+-- not the owner; a source that failed or ended touches no disk
+abbrev pub IsKeptBy : {R D : Type 0} → Result Reply ApplyFault → OwnerView → OwnerView → R → R → D → D → Type 0
+IsKeptBy (Ok (replies.Refused why)) old new random_old random_new disk_old disk_new = (new ≡ old) × (random_new ≡ random_old) × (disk_new ≡ disk_old)
+IsKeptBy (Ok reply) old new random_old random_new disk_old disk_new = new.journal.has_epoch ≡ true
+IsKeptBy (Err faults.Closed) old new random_old random_new disk_old disk_new = (new ≡ old) × (random_new ≡ random_old) × (disk_new ≡ disk_old)
+IsKeptBy (Err faults.OutOfMemory) old new random_old random_new disk_old disk_new = HasOtherRoom old new × (random_new ≡ random_old) × (disk_new ≡ disk_old)
+IsKeptBy (Err faults.RandomFault) old new random_old random_new disk_old disk_new = HasOtherRoom old new × (disk_new ≡ disk_old)
+IsKeptBy (Err (faults.RandomShort left need)) old new random_old random_new disk_old disk_new = HasOtherRoom old new × (disk_new ≡ disk_old)
+IsKeptBy (Err faults.DiskFault) old new random_old random_new disk_old disk_new = IsTrue new.journal.is_closed
+
+-- P holds where the command was done; where no disk failed
+abbrev pub IsDoneThen : Result Reply ApplyFault → Type 0 → Type 0
+IsDoneThen (Ok (replies.Refused why)) P = Unit {0}
+IsDoneThen (Ok reply) P = P
+IsDoneThen (Err fault) P = Unit {0}
+
+abbrev pub UnlessDiskFault : Result Reply ApplyFault → Type 0 → Type 0
+UnlessDiskFault (Err faults.DiskFault) P = Unit {0}
+UnlessDiskFault result P = P
+
+-- the count of the disk's faults never falls, and DiskFault comes only where it rose
+abbrev pub DiskCounts : Result Reply ApplyFault → ℕ → ℕ → Type 0
+DiskCounts (Err faults.DiskFault) old new = old < new
+DiskCounts result old new = old ≤ new

@@ -1,24 +1,29 @@
 //! The owner of a store, and what the owner's commands do to it.
 ghost use Rattle.std.specs.Prelude.{◌≡◌, ◌*◌, ◌<◌, ◌≤◌, ◌+◌, ◌↔◌, None, Some, Err, IfErr, IfOk, IsTrue, OnErr, OnOk, cond, false, is_some, length, true};
+ghost use Rattle.commit_journal.specs.Journals.{IsBehind, Joins, next_command};
 ghost use Rattle.cry_base.specs.Refusing.{has_bad_name, refusal_of};
 ghost use Rattle.cry_base.specs.Requests.{request_of};
 ghost use Rattle.cry_base.specs.Store.{Store};
 ghost use Rattle.cry_io.specs.Counts.{CountsFault};
 ghost use Rattle.cry_io.specs.Stops.{IsDurable};
+ghost use Rattle.record_format.specs.Plain.{plain_payload};
+ghost use Rattle.record_format.specs.Sizes.{payload_size};
+ghost use Rattle.record_format.specs.Spellable.{IsSpellable};
+ghost use Rattle.record_format.specs.Spelling.{spell_payload};
 ghost use Rattle.public_fold.specs.Journal.{Journal as AnyJournal};
-ghost use Rattle.store_owner.specs.Applying.{Answers, HasOtherRoom, IsCarriedOut};
-ghost use Rattle.store_owner.specs.Drawing.{AreKeys};
+ghost use Rattle.store_owner.specs.Applying.{Answers, DiskCounts, HasOtherRoom, IsCarriedOut, IsDoneThen, IsKeptBy, UnlessDiskFault};
+ghost use Rattle.store_owner.specs.Drawing.{AreKeys, FillsByCount};
 ghost use Rattle.store_owner.specs.Owned.{IsOwnerOf};
 ghost use Rattle.store_owner.specs.Owning.{IsStoreOf};
 ghost use Rattle.store_owner.specs.Planning.{AnswersPlan, HasBegun, IsDrafted, IsFurnished, IsUnfit, planned_size, reply_for};
 ghost use Rattle.store_owner.specs.Sealing.{IsSpaceFor};
 ghost use Rattle.store_owner.specs.Sound.{granted_in, own_store};
 
-use crate::apply_laws::commands_are_measured;
+use crate::apply_laws::{commands_are_measured, owners_go_on};
 use crate::change::Change;
 use crate::command_notes::note_for;
 use crate::key_room::KeyRoom;
-use crate::owner_laws::owners_keep_the_store;
+use crate::owner_laws::{owners_keep_the_store, retitlings_leave_the_titles};
 use crate::refusing::refusal;
 use crate::retitling::{retitle, retitling_for};
 use crate::sizing::{sealed_len, size_of};
@@ -34,6 +39,7 @@ use cry_io::{Disk, Source};
 use folder_nodes::Names;
 use key_links::KeyRing;
 use public_fold::{FoldFault, PublicState};
+use record_format::Payload;
 use std::alloc::Global;
 use std::marker::Model;
 
@@ -94,6 +100,61 @@ impl Owner {
         self.key.bytes()
     }
 
+    /// Does a command, or refuses it.
+    ///
+    /// In this order: a closed owner answers `Closed`; a refused command changes nothing; all memory is taken, or `OutOfMemory`
+    /// comes; the keys are drawn, or `RandomFault` or `RandomShort` comes; and the command is committed, behind the session's
+    /// epoch where it has none yet. Until then the owner is as it was, but for room. `DiskFault` closes this owner: the command
+    /// may then stand in the store or not.
+    pub fn apply<D: Disk, R: Source>(
+        &mut self,
+        alloc: Global,
+        disk: &mut D,
+        random: &mut R,
+        command: &Command,
+    ) -> Result<Reply, ApplyFault>
+        requires inside { self.old.journal.is_closed ≡ false → self.old.journal.end ≤ D.size_of disk.old }
+        ensures answers { (m : AnyJournal) → IsOwnerOf m self.old → Answers result m (request_of command.now) self.old self.new
+            (R.left random.old) (R.left random.new) (D.shown disk.old) (D.shown disk.new) }
+        ensures closed { (result ≡ Err ApplyFault.Closed) ↔ IsTrue self.old.journal.is_closed }
+        ensures kept { IsKeptBy result self.old self.new random.old random.new disk.old disk.new }
+        ensures durable { IsDoneThen result (IsDurable (D.may_leave disk.new) (D.shown disk.new)) }
+        ensures inside { self.old.journal.end ≤ D.size_of disk.old → UnlessDiskFault result (self.new.journal.end ≤ D.size_of disk.new) }
+        ensures key { self.new.key ≡ self.old.key }
+        ensures limit { UnlessDiskFault result (self.new.journal.limit ≡ self.old.journal.limit) }
+        ensures file_bytes { self.new.file_bytes ≡ self.old.file_bytes }
+        ensures disk_told { is_some (D.shown disk.new) ≡ is_some (D.shown disk.old) }
+        ensures source_told { is_some (R.left random.new) ≡ is_some (R.left random.old) }
+        ensures disk_counts { DiskCounts result (D.faults disk.old) (D.faults disk.new) }
+        ensures source_counts { FillsByCount result (R.faults random.old) (R.faults random.new) }
+    {
+        commands_are_measured();
+        owners_keep_the_store();
+        owners_go_on();
+        sound_owners_keep_a_store();
+        self.journal.journal_is_within();
+        if self.journal.is_closed() {
+            return Err(ApplyFault::Closed);
+        }
+        if let Some(why) = self.refused(command) {
+            return Ok(Reply::Refused { why });
+        }
+        let (change, room) = match self.plan(alloc, command) {
+            Ok(Verdict::Planned(change, room)) => (change, room),
+            Ok(Verdict::Full) => return Ok(Reply::Refused { why: Refusal::Full }),
+            Err(OutOfMemory) => return Err(ApplyFault::OutOfMemory),
+        };
+        let count = change.ready.skeleton().keys.as_slice().len();
+        let Ok(keys) = KeyRoom::reserve(alloc, count) else {
+            return Err(ApplyFault::OutOfMemory);
+        };
+        let drawn = match keys.fill(random) {
+            Ok(drawn) => drawn,
+            Err(fault) => return Err(fault),
+        };
+        self.carry_out(disk, command, change, room, drawn.as_slice())
+    }
+
     /// Why the store itself refuses the command.
     fn refused(&self, command: &Command) -> Option<Refusal>
         ensures cause { (s : Store) → IsStoreOf self.now.state.tree self.now.names (granted_in self.now) s → result ≡ refusal_of s (request_of command.now) self.now.file_bytes }
@@ -134,6 +195,111 @@ impl Owner {
             titles,
         })
     }
+
+    /// Plans the command with all the memory that it takes, or finds that the store is too full for it. For want of memory the
+    /// owner has at most other room.
+    fn plan(&mut self, alloc: Global, command: &Command) -> Mem<Verdict>
+        requires open { self.old.journal.is_closed ≡ false }
+        requires form { has_bad_name (request_of command.now) ≡ false }
+        requires accepted { (s : Store) → IsStoreOf self.old.state.tree self.old.names (granted_in self.old) s → refusal_of s (request_of command.now) self.old.file_bytes ≡ None }
+        ensures room { HasOtherRoom self.old self.new }
+        ensures answers { AnswersPlan result (request_of command.now) self.old self.new }
+    {
+        commands_are_measured();
+        owners_keep_the_store();
+        self.journal.journal_is_within();
+        let change = match self.draft(alloc, command) {
+            Ok(change) => change,
+            Err(FoldFault::Unfit) => return Ok(Verdict::Full),
+            Err(FoldFault::OutOfMemory) => return Err(OutOfMemory),
+        };
+        let text = sealed_len(command, &change.text);
+        let Some(size) = size_of(&change.note, change.ready.skeleton(), text) else {
+            return Ok(Verdict::Full);
+        };
+        if !self.journal.fits(size) {
+            return Ok(Verdict::Full);
+        }
+        let room = self.furnish(alloc, size, &change)?;
+        Ok(Verdict::Planned(change, room))
+    }
+
+    /// Takes the memory for a change with a payload of so many bytes.
+    fn furnish(&mut self, alloc: Global, size: u64, change: &Change) -> Mem<StepRoom>
+        ensures room { HasOtherRoom self.old self.new }
+        ensures records { IfOk result (λ space. IsSpaceFor space change.now.ready.skeleton) }
+        ensures ring { OnOk result (length change.now.ready.skeleton.keys.items ≤ self.new.ring.spare) }
+        ensures names { OnOk result (1 ≤ self.new.names.spare) }
+        ensures spare { OnOk result (2 ≤ self.new.journal.spare) }
+        ensures payload { OnOk result (size ≤ self.new.journal.room) }
+    {
+        self.journal.prepare(size)?;
+        self.names.reserve()?;
+        StepRoom::reserve(alloc, &mut self.ring, change.ready.skeleton())
+    }
+
+    /// Seals a planned command under the keys that were drawn for it, commits it, and makes its change. It takes no memory.
+    ///
+    /// Only `DiskFault` comes, where the disk's faults rose in this call, and closes the journal.
+    fn carry_out<D: Disk>(
+        &mut self,
+        disk: &mut D,
+        command: &Command,
+        mut change: Change,
+        room: StepRoom,
+        drawn: &[[u8; 32]],
+    ) -> Result<Reply, ApplyFault>
+        requires open { self.old.journal.is_closed ≡ false }
+        requires inside { self.old.journal.end ≤ D.size_of disk.old }
+        requires form { has_bad_name (request_of command.now) ≡ false }
+        requires accepted { refusal_of (own_store self.old) (request_of command.now) self.old.file_bytes ≡ None }
+        requires drafted { IsDrafted (request_of command.now) self.old change }
+        requires furnished { IsFurnished (request_of command.now) self.old change room }
+        requires count { length drawn.now ≡ length change.ready.skeleton.keys.items }
+        requires sizes { AreKeys drawn.now }
+        ensures done { OnOk result (IsCarriedOut (request_of command.now) drawn.now self.old self.new (D.shown disk.old) (D.shown disk.new)) }
+        ensures reply { IfOk result (λ reply. reply ≡ reply_for change.note drawn.now) }
+        ensures fault { IfErr result (λ fault. fault ≡ ApplyFault.DiskFault) }
+        ensures closed { OnErr result (IsTrue self.new.journal.is_closed) }
+        ensures durable { OnOk result (IsDurable (D.may_leave disk.new) (D.shown disk.new)) }
+        ensures inside { OnOk result (self.new.journal.end ≤ D.size_of disk.new) }
+        ensures key { self.new.key ≡ self.old.key }
+        ensures file_bytes { self.new.file_bytes ≡ self.old.file_bytes }
+        ensures told { is_some (D.shown disk.new) ≡ is_some (D.shown disk.old) }
+        ensures counts { CountsFault result (D.faults disk.old) (D.faults disk.new) }
+    {
+        sound_owners_keep_a_store();
+        sound_owners_can_seal();
+        carried_out_owners_stay_sound();
+        retitlings_leave_the_titles();
+        self.state.is_seen();
+        let reply = change.take_key(drawn);
+        let Change {
+            note,
+            ready,
+            text,
+            titles,
+        } = change;
+        let Ok(mut counter) = begin(&mut self.journal, disk, self.counter.take()) else {
+            return Err(ApplyFault::DiskFault);
+        };
+        let payload = seal_step(
+            &mut self.ring,
+            &mut counter,
+            note,
+            ready.skeleton(),
+            drawn,
+            text,
+            room,
+        );
+        let Ok(()) = commit_within(&mut self.journal, disk, &payload) else {
+            return Err(ApplyFault::DiskFault);
+        };
+        self.counter = Some(counter);
+        self.state.settle(ready);
+        retitle(&mut self.names, titles);
+        Ok(reply)
+    }
 }
 
 /// Begins the session's epoch where it has none yet, and answers its counter.
@@ -161,4 +327,30 @@ fn begin<D: Disk>(
             Ok(Counter::new(epoch))
         }
     }
+}
+
+/// Commits a command that ends within the store limit, in the epoch that the journal began.
+fn commit_within<D: Disk>(
+    journal: &mut Journal,
+    disk: &mut D,
+    payload: &Payload,
+) -> Result<(), CommitFault>
+    requires open { journal.old.is_closed ≡ false }
+    requires inside { journal.old.end ≤ D.size_of disk.old }
+    requires begun { IsTrue journal.old.has_epoch }
+    requires spellable { IsSpellable (plain_payload payload.now) }
+    requires spare { 1 ≤ journal.old.spare }
+    requires room { payload_size (plain_payload payload.now) ≤ journal.old.room }
+    requires ends { journal.old.end + (110 + payload_size (plain_payload payload.now)) ≤ journal.old.limit }
+    ensures behind { OnOk result (IsBehind (next_command journal.old (spell_payload (plain_payload payload.now))) journal.old journal.new) }
+    ensures joined { OnOk result (Joins (next_command journal.old (spell_payload (plain_payload payload.now))) journal.old journal.new (D.shown disk.old) (D.shown disk.new)) }
+    ensures begun { journal.new.has_epoch ≡ journal.old.has_epoch }
+    ensures owner { journal.new.owner ≡ journal.old.owner }
+    ensures durable { OnOk result (IsDurable (D.may_leave disk.new) (D.shown disk.new)) }
+    ensures inside { OnOk result (journal.new.end ≤ D.size_of disk.new) }
+    ensures told { is_some (D.shown disk.new) ≡ is_some (D.shown disk.old) }
+    ensures closed { OnErr result (IsTrue journal.new.is_closed) }
+    ensures counts { CountsFault result (D.faults disk.old) (D.faults disk.new) }
+{
+    journal.commit(disk, payload)
 }

@@ -1,0 +1,208 @@
+-- An owner with other room for what is to come is the same owner.
+use Rattle.std.proofs.Common.{◌≡◌, ℕ, ◌+◌, cond, List, [], Option, None, Some, refl, sym, ap, subst, ◌∙◌}
+use Rattle.chacha_seal.specs.Keys.{KeyParts}
+use Rattle.chacha_seal.specs.Serials.{Counting}
+use Rattle.commit_journal.specs.Journals.{JournalState}
+use Rattle.cry_base.specs.Refusing.{refusal_of}
+use Rattle.cry_base.specs.Requests.{Request}
+use Rattle.cry_base.specs.Requests.Request.{AddHolder, MakeFolder, WriteFile, Remove, Rename, Relocate, Grant, Revoke}
+use Rattle.cry_base.specs.Store.{Store, node_at}
+use Rattle.cry_base.specs.declared.roles.Node.{Node}
+use Rattle.cry_base.specs.declared.roles.Node.TheVariants.{Folder, File}
+use Rattle.folder_nodes.specs.Joining.{IsSet}
+use Rattle.folder_nodes.specs.Titles.{Title, Titles, bytes_in, is_node, new_title, title_at, title_of, tree_store}
+use Rattle.grant_book.specs.Granted.{Granted}
+use Rattle.key_links.specs.Ringed.{Ringed, key_of}
+use Rattle.key_links.specs.declared.any_key.AnyKey.{AnyKey}
+use Rattle.public_fold.specs.KeyStep.{KeyState}
+use Rattle.public_fold.specs.Standing.{PublicView}
+use Rattle.store_owner.specs.Applying.{HasOtherRoom, IsCarriedOut}
+use Rattle.store_owner.specs.Owned.{OwnerView}
+use Rattle.store_owner.specs.Owning.{IsStoreOf, IsTreeOf}
+use Rattle.store_owner.specs.Planning.{IsDrafted}
+use Rattle.store_owner.specs.Retitled.{IsRenaming, IsRetitlingOf}
+use Rattle.store_owner.specs.Sealing.{HoldsKeys}
+use Rattle.store_owner.specs.Sound.{IsSound, granted_in, own_store}
+use Rattle.store_owner.specs.Texting.{AreKept, AreTitlesAfter, IsRemoved, IsRenamed, IsWritten, name_at}
+use Rattle.store_owner.specs.declared.change.Change.{Change}
+use Rattle.store_owner.specs.declared.retitling.Retitling.{Retitling}
+
+-- the owner with this room
+abbrev with_room : OwnerView → ℕ → ℕ → ℕ → ℕ → OwnerView
+with_room o a b c d = record {
+  key = o.key;
+  journal = record o.journal { spare = a; room = b };
+  state = o.state;
+  names = record { folders = o.names.folders; files = o.names.files; spare = c };
+  ring = record { keys = o.ring.keys; spare = d };
+  counter = o.counter;
+  file_bytes = o.file_bytes;
+}
+
+abbrev owner : List ℕ → JournalState → PublicView → List Title → List Title → ℕ → List AnyKey → ℕ → Option Counting → ℕ → OwnerView
+owner key journal state folders files c keys d counter file_bytes = record {
+  key = key;
+  journal = journal;
+  state = state;
+  names = record { folders = folders; files = files; spare = c };
+  ring = record { keys = keys; spare = d };
+  counter = counter;
+  file_bytes = file_bytes;
+}
+
+has_room : (old new : OwnerView) → HasOtherRoom old new → new ≡ with_room old new.journal.spare new.journal.room new.names.spare new.ring.spare
+has_room old new h =
+    ap (λ x. owner x new.journal new.state new.names.folders new.names.files new.names.spare new.ring.keys new.ring.spare new.counter new.file_bytes) h.key
+    ∙ ap (λ x. owner old.key x new.state new.names.folders new.names.files new.names.spare new.ring.keys new.ring.spare new.counter new.file_bytes) h.journal
+    ∙ ap (λ x. owner old.key (record old.journal { spare = new.journal.spare; room = new.journal.room }) x new.names.folders new.names.files new.names.spare new.ring.keys new.ring.spare new.counter new.file_bytes) h.state
+    ∙ ap (λ x. owner old.key (record old.journal { spare = new.journal.spare; room = new.journal.room }) old.state x new.names.files new.names.spare new.ring.keys new.ring.spare new.counter new.file_bytes) h.folder_names
+    ∙ ap (λ x. owner old.key (record old.journal { spare = new.journal.spare; room = new.journal.room }) old.state old.names.folders x new.names.spare new.ring.keys new.ring.spare new.counter new.file_bytes) h.file_names
+    ∙ ap (λ x. owner old.key (record old.journal { spare = new.journal.spare; room = new.journal.room }) old.state old.names.folders old.names.files new.names.spare x new.ring.spare new.counter new.file_bytes) h.ring_keys
+    ∙ ap (λ x. owner old.key (record old.journal { spare = new.journal.spare; room = new.journal.room }) old.state old.names.folders old.names.files new.names.spare old.ring.keys new.ring.spare x new.file_bytes) h.counter
+    ∙ ap (λ x. owner old.key (record old.journal { spare = new.journal.spare; room = new.journal.room }) old.state old.names.folders old.names.files new.names.spare old.ring.keys new.ring.spare old.counter x) h.file_bytes
+
+held_still : (keys : List KeyParts) (k : KeyState) (ring : Ringed) (d : ℕ) (counter : Counting) → HoldsKeys keys k ring counter → HoldsKeys keys k (record { keys = ring.keys; spare = d }) counter
+unfolding key_of
+held_still keys k ring d counter h = record { has_present = h.has_present; drawn_below = h.drawn_below; present_below = h.present_below; is_counted = h.is_counted }
+
+held_before : (keys : List KeyParts) (k : KeyState) (ring : Ringed) (d : ℕ) (counter : Counting) → HoldsKeys keys k (record { keys = ring.keys; spare = d }) counter → HoldsKeys keys k ring counter
+unfolding key_of
+held_before keys k ring d counter h = record { has_present = h.has_present; drawn_below = h.drawn_below; present_below = h.present_below; is_counted = h.is_counted }
+
+sound_with : (o : OwnerView) (a b c d : ℕ) → IsSound o → IsSound (with_room o a b c d)
+unfolding tree_store
+sound_with o a b c d s = record {
+  turns = s.turns;
+  keys = s.keys;
+  fit = s.fit;
+  seen = s.seen;
+  numbered = s.numbered;
+  same_epoch = s.same_epoch;
+  held = held_still s.keys _ o.ring d _ s.held;
+  counts = s.counts;
+  sized = s.sized;
+  bounded = s.bounded;
+}
+
+pub sound_still : (old new : OwnerView) → HasOtherRoom old new → IsSound old → IsSound new
+sound_still old new h s = subst IsSound (sym (has_room old new h)) (sound_with old _ _ _ _ s)
+
+store_with : (t s : Store) (n : Titles) (c : ℕ) (g : Granted) → IsStoreOf t n g s → IsStoreOf t (record { folders = n.folders; files = n.files; spare = c }) g s
+unfolding tree_store
+store_with t s n c g h = record { tree = h.tree; grants = h.grants }
+
+store_before : (t s : Store) (n : Titles) (c : ℕ) (g : Granted) → IsStoreOf t (record { folders = n.folders; files = n.files; spare = c }) g s → IsStoreOf t n g s
+unfolding tree_store
+store_before t s n c g h = record { tree = h.tree; grants = h.grants }
+
+-- the names with other room
+abbrev named : Titles → ℕ → Titles
+named n c = record { folders = n.folders; files = n.files; spare = c }
+
+title_with : (n : Titles) (c : ℕ) (node : Node) → title_of (named n c) node ≡ title_of n node
+title_with n c (Folder f) = refl
+title_with n c (File x) = refl
+
+renaming_with : (p : Retitling) (n : Titles) (c : ℕ) (found : Option Node) (name : List ℕ) → IsRenaming p n found name → IsRenaming p (named n c) found name
+renaming_with p n c None name h = h
+renaming_with p n c (Some (Folder f)) name h = h
+renaming_with p n c (Some (File x)) name h = h
+
+retitling_with : (t : Store) (r : Request) (n : Titles) (c : ℕ) (p : Retitling) → IsRetitlingOf t r n p → IsRetitlingOf t r (named n c) p
+retitling_with t AddHolder n c p h = h
+retitling_with t (MakeFolder path) n c p h = h
+retitling_with t (WriteFile path bytes) n c p h = h
+retitling_with t (Remove path) n c p h = h
+retitling_with t (Rename path name) n c p h = renaming_with p n c (node_at t path) name h
+retitling_with t (Relocate path into) n c p h = h
+retitling_with t (Grant holder path) n c p h = h
+retitling_with t (Revoke holder path) n c p h = h
+
+kept_before : (n new : Titles) (c : ℕ) → AreKept (named n c) new → AreKept n new
+kept_before n new c h = record { folders = h.folders; files = h.files }
+
+set_before : (n new : Titles) (c : ℕ) (node : Node) (name bytes : List ℕ) → IsSet (named n c) new node name bytes → IsSet n new node name bytes
+set_before n new c node name bytes h = λ other. h other ∙ ap (cond (is_node node other) (Some (new_title node name bytes))) (title_with n c other)
+
+written_before : (made : ℕ) (n new : Titles) (c : ℕ) (found : Option Node) (name bytes : List ℕ) → IsWritten made (named n c) new found name bytes → IsWritten made n new found name bytes
+written_before made n new c None name bytes h = set_before n new c (File (record { 0 = made + 1 })) name bytes h
+written_before made n new c (Some (Folder f)) name bytes h = kept_before n new c h
+written_before made n new c (Some (File x)) name bytes h = set_before n new c (File x) name bytes h
+
+removed_before : (n new : Titles) (c : ℕ) (found : Option Node) → IsRemoved (named n c) new found → IsRemoved n new found
+removed_before n new c None h = kept_before n new c h
+removed_before n new c (Some node) h = λ other. h other ∙ ap (cond (is_node node other) None) (title_with n c other)
+
+renamed_before : (n new : Titles) (c : ℕ) (found : Option Node) (name : List ℕ) → IsRenamed (named n c) new found name → IsRenamed n new found name
+renamed_before n new c None name h = kept_before n new c h
+renamed_before n new c (Some (Folder f)) name h = set_before n new c (Folder f) name [] h
+renamed_before n new c (Some (File x)) name h = set_before n new c (File x) name (bytes_in (title_at n.files x.0)) h
+
+titles_before : (s : Store) (r : Request) (n new : Titles) (c : ℕ) → AreTitlesAfter s r (named n c) new → AreTitlesAfter s r n new
+titles_before s AddHolder n new c h = kept_before n new c h
+titles_before s (MakeFolder path) n new c h = set_before n new c (Folder (record { 0 = s.folders_made + 1 })) (name_at path) [] h
+titles_before s (WriteFile path bytes) n new c h = written_before s.files_made n new c (node_at s path) (name_at path) bytes h
+titles_before s (Remove path) n new c h = removed_before n new c (node_at s path) h
+titles_before s (Rename path name) n new c h = renamed_before n new c (node_at s path) name h
+titles_before s (Relocate path into) n new c h = kept_before n new c h
+titles_before s (Grant holder path) n new c h = kept_before n new c h
+titles_before s (Revoke holder path) n new c h = kept_before n new c h
+
+pub store_still : (s : Store) (old new : OwnerView) → HasOtherRoom old new → IsStoreOf old.state.tree old.names (granted_in old) s → IsStoreOf new.state.tree new.names (granted_in new) s
+store_still s old new h is = subst (λ (o : OwnerView). IsStoreOf o.state.tree o.names (granted_in o) s) (sym (has_room old new h)) (store_with old.state.tree s old.names _ (granted_in old) is)
+
+drafted_with : (r : Request) (o : OwnerView) (p : Change) (a b c d : ℕ) → IsDrafted r o p → IsDrafted r (with_room o a b c d) p
+unfolding tree_store
+drafted_with r o p a b c d h = record {
+  told = λ s is. h.told s (store_before o.state.tree s o.names c (granted_in o) is);
+  same_note = h.same_note;
+  is_skeleton = h.is_skeleton;
+  seen_then = h.seen_then;
+  fits = h.fits;
+  text_is = h.text_is;
+  text_room = h.text_room;
+  titles_are = retitling_with (tree_store o.state.tree o.names) r o.names c p.titles h.titles_are;
+}
+
+pub drafted_still : (r : Request) (old new : OwnerView) (p : Change) → HasOtherRoom old new → IsDrafted r old p → IsDrafted r new p
+drafted_still r old new p h d = subst (λ (o : OwnerView). IsDrafted r o p) (sym (has_room old new h)) (drafted_with r old p _ _ _ _ d)
+
+carried_before : (r : Request) (drawn : List (List ℕ)) (o new : OwnerView) (was shows : Option (List ℕ)) (a b c d : ℕ) → IsCarriedOut r drawn (with_room o a b c d) new was shows → IsCarriedOut r drawn o new was shows
+unfolding tree_store
+carried_before r drawn o new was shows a b c d h = record {
+  note = h.note;
+  skeleton = h.skeleton;
+  payload = h.payload;
+  ready = h.ready;
+  between = h.between;
+  showed = h.showed;
+  starts = h.starts;
+  ends = h.ends;
+  same_key = h.same_key;
+  same_bound = h.same_bound;
+  drawn_count = h.drawn_count;
+  drawn_sizes = h.drawn_sizes;
+  told = λ s is. h.told s (store_with o.state.tree s o.names c (granted_in o) is);
+  is_skeleton = λ at s seen is. h.is_skeleton at s seen (store_with o.state.tree s o.names c (granted_in o) is);
+  seen_then = λ at s seen is. h.seen_then at s seen (store_with o.state.tree s o.names c (granted_in o) is);
+  has_room = h.has_room;
+  begins = h.begins;
+  stays_told = h.stays_told;
+  starts_as = h.starts_as;
+  payload_is = λ keys at other after held is. h.payload_is keys at other after (held_still keys at.keys o.ring d h.starts held) is;
+  keys_then = λ keys at other after held can is. h.keys_then keys at other after (held_still keys at.keys o.ring d h.starts held) can is;
+  ends_as = h.ends_as;
+  commits = h.commits;
+  same_owner = h.same_owner;
+  same_epoch = h.same_epoch;
+  has_begun = h.has_begun;
+  same_limit = h.same_limit;
+  titles_then = λ s tree. titles_before s r o.names new.names c (h.titles_then s tree);
+}
+
+pub carried_from : (r : Request) (drawn : List (List ℕ)) (old between new : OwnerView) (was shows : Option (List ℕ)) → HasOtherRoom old between → IsCarriedOut r drawn between new was shows → IsCarriedOut r drawn old new was shows
+carried_from r drawn old between new was shows h c = carried_before r drawn old new was shows _ _ _ _ (subst (λ (o : OwnerView). IsCarriedOut r drawn o new was shows) (has_room old between h) c)
+
+pub accepted_still : (r : Request) (old new : OwnerView) → HasOtherRoom old new → refusal_of (own_store old) r old.file_bytes ≡ None → refusal_of (own_store new) r new.file_bytes ≡ None
+unfolding tree_store
+accepted_still r old new h accepted = subst (λ (o : OwnerView). refusal_of (own_store o) r o.file_bytes ≡ None) (sym (has_room old new h)) accepted

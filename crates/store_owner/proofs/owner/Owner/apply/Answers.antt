@@ -1,0 +1,75 @@
+use Rattle.std.proofs.Common.{◌≡◌, ◌≤◌, ◌*◌, ◌++◌, ◌∙◌, Err, List, None, Ok, Option, ap, length, refl, replicate, subst, sym, ℕ}
+use Rattle.cry_base.specs.Requests.{request_of}
+use Rattle.cry_base.specs.declared.limits.Limits.{Limits}
+use Rattle.cry_base.specs.declared.memory.OutOfMemory.{OutOfMemory}
+use Rattle.public_fold.specs.Journal.{Journal, store_of}
+use Rattle.public_fold.specs.declared.heads.Skeleton.{Skeleton}
+use Rattle.store_owner.specs.Applying.{IsCarriedOut, IsDone}
+use Rattle.store_owner.specs.Drawing.{joined}
+use Rattle.store_owner.specs.Folds.{public_stand}
+use Rattle.store_owner.specs.Owned.{OwnerView, limits_in}
+use Rattle.store_owner.specs.Planning.{AnswersPlan, reply_for}
+use Rattle.store_owner.specs.Sound.{own_store}
+use Rattle.store_owner.specs.declared.owner.Verdict.{Verdict}
+use Rattle.store_owner.specs.declared.owner.Verdict.TheVariants as verdicts
+use Rattle.store_owner.proofs.Applied.{carried_answer, reply_due, undrawn_answer}
+use Rattle.store_owner.proofs.OtherRoom.{accepted_still, carried_from, store_still}
+use Rattle.store_owner.proofs.Planned.{is_refused}
+use Rattle.store_owner.proofs.owner.Owner.apply.Goals as goal
+
+pub returns-in-Some-clause-answers : goal.returns-in-Some-clause-answers
+returns-in-Some-clause-answers g c = λ m is.
+    let o : OwnerView = c.args.self.now in
+    let r = request_of c.args.command.now in
+    (is_refused o m r c.in-Some.why (sym (c.refused.ensures.cause (store_of m) (c.owners_keep_the_store.ensures m o is)) ∙ c.in-Some.is), refl)
+
+pub returns-in-Err-fill-clause-answers : goal.returns-in-Err-fill-clause-answers
+returns-in-Err-fill-clause-answers g c = λ m is.
+    let o : OwnerView = c.args.self.now in
+    let r = request_of c.args.command.now in
+    let planned : AnswersPlan {E = OutOfMemory} (Ok (verdicts.Planned c.in-Ok-Planned.change c.in-Ok-Planned.room)) r o c.plan.new.self =
+    subst (λ (v : Verdict). AnswersPlan {E = OutOfMemory} (Ok v) r o c.plan.new.self) c.in-Ok-Planned.field-0-is c.in-Ok-Planned.ensures.answers in
+    let draws = planned.3 m is in
+    undrawn_answer c.in-Err-fill.fault c.in-Ok.keys m r o c.plan.new.self (g.R.Source.left c.args.random.now) (g.R.Source.left c.fill.new.random) (g.D.Disk.shown c.args.disk.now) (g.D.Disk.shown c.args.disk.now)
+    (planned.2 m is) c.plan.ensures.room (c.in-Ok.ensures ∙ ap length c.as_slice-count.ensures ∙ ap (λ (s : Skeleton). length s.keys.items) c.skeleton.ensures ∙ draws.0) draws.1
+    c.in-Err-fill.ensures.faults c.in-Err-fill.ensures.bytes c.in-Err-fill.ensures.told
+
+pub carry_out-requires-clause-accepted : goal.carry_out-requires-clause-accepted
+carry_out-requires-clause-accepted g c =
+    let o : OwnerView = c.args.self.now in
+    accepted_still (request_of c.args.command.now) o c.plan.new.self c.plan.ensures.room (sym (c.refused.ensures.cause (own_store o) (c.sound_owners_keep_a_store.ensures.store o)) ∙ c.in_default.is)
+
+pub returns-clause-answers : goal.returns-clause-answers
+returns-clause-answers g c = λ m is.
+    let o : OwnerView = c.args.self.now in
+    let r = request_of c.args.command.now in
+    let planned : AnswersPlan {E = OutOfMemory} (Ok (verdicts.Planned c.in-Ok-Planned.change c.in-Ok-Planned.room)) r o c.plan.new.self =
+    subst (λ (v : Verdict). AnswersPlan {E = OutOfMemory} (Ok v) r o c.plan.new.self) c.in-Ok-Planned.field-0-is c.in-Ok-Planned.ensures.answers in
+    let mid = c.plan.new.self in
+    let new = c.carry_out.new.self in
+    let note = c.in-Ok-Planned.change.note in
+    let drawn = c.as_slice.result.now in
+    let was = g.D.Disk.shown c.args.disk.now in
+    let shows = g.D.Disk.shown c.carry_out.new.disk in
+    let before = g.R.Source.left c.args.random.now in
+    let after = g.R.Source.left c.fill.new.random in
+    let limit : o.journal.limit ≤ 268435456 = subst (λ (x : OwnerView). x.journal.limit ≤ 268435456) c.self.view_is c.journal_is_within.ensures.bound in
+    let bounded : o.file_bytes ≤ 1048576 = subst (λ (x : OwnerView). x.file_bytes ≤ 1048576) c.self.view_is (c.self.invariant (sym c.is_closed.ensures ∙ c.if-is_closed.false)).bounded in
+    let store = c.owners_keep_the_store.ensures m o is in
+    let refused = sym (c.refused.ensures.cause (store_of m) store) ∙ c.in_default.is in
+    let done : IsCarriedOut r drawn mid new was shows → IsDone m r (reply_for note drawn) o new before after was shows = λ h.
+    let full : IsCarriedOut r drawn o new was shows = carried_from r drawn o mid new was shows c.plan.ensures.room h in
+    record {
+      drawn = drawn;
+      drawn_count = full.drawn_count ∙ c.commands_are_measured.ensures.draws m r o full.skeleton is refused (full.is_skeleton (public_stand m) (store_of m) is.seen store);
+      drawn_sizes = full.drawn_sizes;
+      accepted = planned.2 m is;
+      reply_is = reply_due m r note (replicate 32 0) drawn (planned.0.told (store_of m) (store_still (store_of m) o mid c.plan.ensures.room store));
+      owner_is = c.owners_go_on.ensures.owner m r drawn o new was shows is limit bounded (planned.2 m is) full;
+      has_begun = full.has_begun;
+      same_key = full.same_key;
+      same_limits = ap (λ n. record { store_bytes = n; file_bytes = new.file_bytes }) full.same_limit ∙ ap (λ n. record { store_bytes = o.journal.limit; file_bytes = n }) full.same_bound;
+      next_bytes = λ x y a b. c.in-Ok-fill.ensures.bytes x y a b ∙ ap (λ (d : List (List ℕ)). joined d ++ y) (sym c.as_slice.ensures);
+      disk_stands = c.owners_go_on.ensures.disk m r drawn o new was shows is limit bounded (planned.2 m is) full;
+    } in
+    carried_answer c.carry_out.result note drawn m r o new before after was shows (IsCarriedOut r drawn mid new was shows) (planned.2 m is) c.carry_out.ensures.fault c.carry_out.ensures.closed c.carry_out.ensures.reply c.carry_out.ensures.done done

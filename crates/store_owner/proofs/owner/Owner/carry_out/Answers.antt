@@ -1,0 +1,152 @@
+use Rattle.std.proofs.Common.{◌≡◌, ◌≤◌, ◌∙◌, List, None, Option, Some, ap, arith, cond, refl, subst, sym, ℕ}
+use Rattle.chacha_seal.specs.Serials.{Counting}
+use Rattle.cry_base.specs.Refusing.{refusal_of}
+use Rattle.cry_base.specs.Requests.{request_of}
+use Rattle.cry_base.specs.Store.{Store}
+use Rattle.folder_nodes.specs.Titles.{tree_store}
+use Rattle.record_format.specs.Plain.{plain_payload}
+use Rattle.record_format.specs.Sizes.{payload_size}
+use Rattle.public_fold.specs.Standing.{IsSeenAs, stand_of}
+use Rattle.public_fold.specs.declared.heads.Skeleton.{Skeleton}
+use Rattle.store_owner.specs.Applying.{IsCarriedOut}
+use Rattle.store_owner.specs.Owned.{OwnerView}
+use Rattle.store_owner.specs.Owning.{IsTreeOf}
+use Rattle.store_owner.specs.Planning.{HasBegun, IsDrafted, IsFurnished, planned_size}
+use Rattle.store_owner.specs.Retitled.{IsRetitled, IsRetitlingOf}
+use Rattle.store_owner.specs.Sealing.{CanSeal}
+use Rattle.store_owner.specs.Sound.{own_store}
+use Rattle.store_owner.specs.Texting.{AreTitlesAfter}
+use Rattle.store_owner.specs.declared.retitling.Retitling.{Retitling}
+use Rattle.store_owner.proofs.CarriedOut.{batches_for, carried, ends_for, fits_for, size_for, skeleton_for, starts_for, text_for}
+use Rattle.store_owner.proofs.NotesKeyed.{adds_holder, holder_drawn}
+use Rattle.store_owner.proofs.owner.Owner.carry_out.Goals as goal
+
+pub take_key-reply-requires-clause-holder : goal.take_key-reply-requires-clause-holder
+take_key-reply-requires-clause-holder g c = λ is.
+    let old : OwnerView = c.args.self.now in
+    let at = stand_of c.self.inside.state in
+    let seen = subst (λ (o : OwnerView). IsSeenAs o.state at) c.self.view_is c.is_seen.ensures in
+    (holder_drawn _ c.args.change.note c.args.change.ready.skeleton c.args.drawn.now (c.requires.drafted.is_skeleton at seen) c.requires.count is,
+    c.requires.drafted.text_room (adds_holder c.args.change.note (own_store old) (request_of c.args.command.now) _ (c.requires.drafted.told (own_store old) (c.sound_owners_keep_a_store.ensures.store old)) is))
+
+pub seal_step-payload-requires-clause-can_seal : goal.seal_step-payload-requires-clause-can_seal
+seal_step-payload-requires-clause-can_seal g c =
+    let i = c.self.inside in
+    let old : OwnerView = record { key = i.key.bytes; journal = i.journal; state = i.state; names = i.names; ring = i.ring; counter = i.counter; file_bytes = i.limits.file_bytes } in
+    let r = request_of c.args.command.now in
+    let drawn = c.args.drawn.now in
+    let before = c.args.change in
+    let after = c.take_key-reply.new.self in
+    let at = stand_of i.state in
+    let keyed = c.take_key-reply.ensures.keyed in
+    let drafted : IsDrafted r old before = subst (λ (o : OwnerView). IsDrafted r o before) (sym c.self.view_is) c.requires.drafted in
+    let furnished : IsFurnished r old before c.args.room = subst (λ (o : OwnerView). IsFurnished r o before c.args.room) (sym c.self.view_is) c.requires.furnished in
+    let own = c.sound_owners_keep_a_store.ensures.store old in
+    let sound = c.self.invariant (ap (λ (o : OwnerView). o.journal.is_closed) c.self.view_is ∙ c.requires.open) in
+    let accepted : refusal_of (own_store old) r old.file_bytes ≡ None = subst (λ (o : OwnerView). refusal_of (own_store o) r o.file_bytes ≡ None) (sym c.self.view_is) c.requires.accepted in
+    let fits = fits_for r drawn old before after at drafted keyed c.requires.count c.requires.sizes own c.is_seen.ensures in
+    let has : HasBegun i.journal c.begin.new.journal i.counter c.in-Ok.counter (g.D.Disk.shown c.args.disk.now) (g.D.Disk.shown c.begin.new.disk) =
+    subst (λ (k : Option Counting). HasBegun i.journal c.begin.new.journal k c.in-Ok.counter (g.D.Disk.shown c.args.disk.now) (g.D.Disk.shown c.begin.new.disk)) c.take.ensures.value c.in-Ok.ensures.begun in
+    let can = c.sound_owners_can_seal.ensures old r drawn before.ready.skeleton old.ring c.in-Ok.counter sound c.requires.form accepted
+    (λ x saw. skeleton_for r drawn old before after at drafted keyed c.requires.count c.requires.sizes own c.is_seen.ensures x (own_store old) saw own) fits
+    refl furnished.ring_room c.requires.count c.requires.sizes (starts_for i.journal.has_epoch i.counter c.in-Ok.counter c.begin.new.journal.epoch i.journal.epoch has.epoch has.starts_as) in
+    subst (λ (s : Skeleton). CanSeal i.ring c.in-Ok.counter s drawn after.text.items) (sym (c.skeleton.ensures ∙ keyed.skeleton))
+    (subst (λ (t : List ℕ). CanSeal i.ring c.in-Ok.counter before.ready.skeleton drawn t)
+    (sym (text_for r drawn old before after at drafted keyed c.requires.count c.requires.sizes own c.is_seen.ensures)) can)
+
+pub commit_within-requires-clause-room : goal.commit_within-requires-clause-room
+commit_within-requires-clause-room g c =
+    let i = c.self.inside in
+    let old : OwnerView = record { key = i.key.bytes; journal = i.journal; state = i.state; names = i.names; ring = i.ring; counter = i.counter; file_bytes = i.limits.file_bytes } in
+    let r = request_of c.args.command.now in
+    let drawn = c.args.drawn.now in
+    let before = c.args.change in
+    let after = c.take_key-reply.new.self in
+    let at = stand_of i.state in
+    let keyed = c.take_key-reply.ensures.keyed in
+    let drafted : IsDrafted r old before = subst (λ (o : OwnerView). IsDrafted r o before) (sym c.self.view_is) c.requires.drafted in
+    let furnished : IsFurnished r old before c.args.room = subst (λ (o : OwnerView). IsFurnished r o before c.args.room) (sym c.self.view_is) c.requires.furnished in
+    let own = c.sound_owners_keep_a_store.ensures.store old in
+    let has : HasBegun i.journal c.begin.new.journal i.counter c.in-Ok.counter (g.D.Disk.shown c.args.disk.now) (g.D.Disk.shown c.begin.new.disk) =
+    subst (λ (k : Option Counting). HasBegun i.journal c.begin.new.journal k c.in-Ok.counter (g.D.Disk.shown c.args.disk.now) (g.D.Disk.shown c.begin.new.disk)) c.take.ensures.value c.in-Ok.ensures.begun in
+    let size : payload_size (plain_payload c.seal_step-payload.result) ≡ planned_size r before =
+    c.seal_step-payload.ensures.skeleton_size ∙ size_for r drawn old before after at drafted keyed c.requires.count c.requires.sizes own c.is_seen.ensures c.skeleton.result.now c.skeleton.ensures in
+    let room = has.room in let fit = furnished.journal_room in omega (arith, size, room, fit)
+
+pub commit_within-requires-clause-ends : goal.commit_within-requires-clause-ends
+commit_within-requires-clause-ends g c =
+    let i = c.self.inside in
+    let old : OwnerView = record { key = i.key.bytes; journal = i.journal; state = i.state; names = i.names; ring = i.ring; counter = i.counter; file_bytes = i.limits.file_bytes } in
+    let r = request_of c.args.command.now in
+    let drawn = c.args.drawn.now in
+    let before = c.args.change in
+    let after = c.take_key-reply.new.self in
+    let at = stand_of i.state in
+    let keyed = c.take_key-reply.ensures.keyed in
+    let drafted : IsDrafted r old before = subst (λ (o : OwnerView). IsDrafted r o before) (sym c.self.view_is) c.requires.drafted in
+    let furnished : IsFurnished r old before c.args.room = subst (λ (o : OwnerView). IsFurnished r o before c.args.room) (sym c.self.view_is) c.requires.furnished in
+    let own = c.sound_owners_keep_a_store.ensures.store old in
+    let has : HasBegun i.journal c.begin.new.journal i.counter c.in-Ok.counter (g.D.Disk.shown c.args.disk.now) (g.D.Disk.shown c.begin.new.disk) =
+    subst (λ (k : Option Counting). HasBegun i.journal c.begin.new.journal k c.in-Ok.counter (g.D.Disk.shown c.args.disk.now) (g.D.Disk.shown c.begin.new.disk)) c.take.ensures.value c.in-Ok.ensures.begun in
+    let size : payload_size (plain_payload c.seal_step-payload.result) ≡ planned_size r before =
+    c.seal_step-payload.ensures.skeleton_size ∙ size_for r drawn old before after at drafted keyed c.requires.count c.requires.sizes own c.is_seen.ensures c.skeleton.result.now c.skeleton.ensures in
+    ends_for i.journal.has_epoch i.journal.end c.begin.new.journal.end i.journal.limit c.begin.new.journal.limit (planned_size r before) (payload_size (plain_payload c.seal_step-payload.result)) has.end has.limit size furnished.ends_within
+
+pub invariant_of-self-2 : goal.invariant_of-self-2
+invariant_of-self-2 g c = λ still.
+    let i = c.self.inside in
+    let old : OwnerView = record { key = i.key.bytes; journal = i.journal; state = i.state; names = i.names; ring = i.ring; counter = i.counter; file_bytes = i.limits.file_bytes } in
+    let r = request_of c.args.command.now in
+    let drawn = c.args.drawn.now in
+    let before = c.args.change in
+    let after = c.take_key-reply.new.self in
+    let at = stand_of i.state in
+    let keyed = c.take_key-reply.ensures.keyed in
+    let drafted : IsDrafted r old before = subst (λ (o : OwnerView). IsDrafted r o before) (sym c.self.view_is) c.requires.drafted in
+    let furnished : IsFurnished r old before c.args.room = subst (λ (o : OwnerView). IsFurnished r o before c.args.room) (sym c.self.view_is) c.requires.furnished in
+    let own = c.sound_owners_keep_a_store.ensures.store old in
+    let sound = c.self.invariant (ap (λ (o : OwnerView). o.journal.is_closed) c.self.view_is ∙ c.requires.open) in
+    let accepted : refusal_of (own_store old) r old.file_bytes ≡ None = subst (λ (o : OwnerView). refusal_of (own_store o) r o.file_bytes ≡ None) (sym c.self.view_is) c.requires.accepted in
+    let fits = fits_for r drawn old before after at drafted keyed c.requires.count c.requires.sizes own c.is_seen.ensures in
+    let has : HasBegun i.journal c.begin.new.journal i.counter c.in-Ok.counter (g.D.Disk.shown c.args.disk.now) (g.D.Disk.shown c.begin.new.disk) =
+    subst (λ (k : Option Counting). HasBegun i.journal c.begin.new.journal k c.in-Ok.counter (g.D.Disk.shown c.args.disk.now) (g.D.Disk.shown c.begin.new.disk)) c.take.ensures.value c.in-Ok.ensures.begun in
+    let titles : (s : Store) → IsTreeOf (tree_store i.state.tree i.names) s → AreTitlesAfter s r i.names c.retitle.new.names = λ s tree.
+    c.retitlings_leave_the_titles.ensures.titles (tree_store i.state.tree i.names) s r i.names c.retitle.new.names after.titles tree
+    (subst (λ (t : Retitling). IsRetitlingOf (tree_store i.state.tree i.names) r i.names t) (sym keyed.titles) drafted.titles_are) c.retitle.ensures in
+    let new : OwnerView = record { key = i.key.bytes; journal = c.commit_within.new.journal; state = c.settle.new.self; names = c.retitle.new.names; ring = c.seal_step-payload.new.ring; counter = Some c.seal_step-payload.new.counter; file_bytes = i.limits.file_bytes } in
+    let was = g.D.Disk.shown c.args.disk.now in
+    let shows = g.D.Disk.shown c.commit_within.new.disk in
+    let done : IsCarriedOut r drawn old new was shows =
+    carried r drawn old before after at drafted keyed c.requires.count c.requires.sizes own c.is_seen.ensures new was (g.D.Disk.shown c.begin.new.disk) shows c.begin.new.journal c.in-Ok.counter c.seal_step-payload.new.counter
+    c.skeleton.result.now (plain_payload c.seal_step-payload.result) has c.in-Ok.ensures.told refl refl c.settle.ensures c.skeleton.ensures c.seal_step-payload.ensures.payload c.seal_step-payload.ensures.keys refl
+    c.in-Ok-commit_within.ensures.joined c.in-Ok-commit_within.ensures.behind c.in-Ok-commit_within.ensures.begun titles in
+    let behind = c.in-Ok-commit_within.ensures.behind in
+    c.carried_out_owners_stay_sound.ensures r drawn old new was shows sound c.requires.form accepted fits done
+    (batches_for i.journal.has_epoch new.journal.batches c.begin.new.journal.batches i.journal.batches behind.batches has.batches) (behind.epoch ∙ has.epoch)
+
+pub returns-clause-done : goal.returns-clause-done
+returns-clause-done g c =
+    let i = c.self.inside in
+    let old : OwnerView = record { key = i.key.bytes; journal = i.journal; state = i.state; names = i.names; ring = i.ring; counter = i.counter; file_bytes = i.limits.file_bytes } in
+    let r = request_of c.args.command.now in
+    let drawn = c.args.drawn.now in
+    let before = c.args.change in
+    let after = c.take_key-reply.new.self in
+    let at = stand_of i.state in
+    let keyed = c.take_key-reply.ensures.keyed in
+    let drafted : IsDrafted r old before = subst (λ (o : OwnerView). IsDrafted r o before) (sym c.self.view_is) c.requires.drafted in
+    let furnished : IsFurnished r old before c.args.room = subst (λ (o : OwnerView). IsFurnished r o before c.args.room) (sym c.self.view_is) c.requires.furnished in
+    let own = c.sound_owners_keep_a_store.ensures.store old in
+    let has : HasBegun i.journal c.begin.new.journal i.counter c.in-Ok.counter (g.D.Disk.shown c.args.disk.now) (g.D.Disk.shown c.begin.new.disk) =
+    subst (λ (k : Option Counting). HasBegun i.journal c.begin.new.journal k c.in-Ok.counter (g.D.Disk.shown c.args.disk.now) (g.D.Disk.shown c.begin.new.disk)) c.take.ensures.value c.in-Ok.ensures.begun in
+    let titles : (s : Store) → IsTreeOf (tree_store i.state.tree i.names) s → AreTitlesAfter s r i.names c.retitle.new.names = λ s tree.
+    c.retitlings_leave_the_titles.ensures.titles (tree_store i.state.tree i.names) s r i.names c.retitle.new.names after.titles tree
+    (subst (λ (t : Retitling). IsRetitlingOf (tree_store i.state.tree i.names) r i.names t) (sym keyed.titles) drafted.titles_are) c.retitle.ensures in
+    let new : OwnerView = record { key = i.key.bytes; journal = c.commit_within.new.journal; state = c.settle.new.self; names = c.retitle.new.names; ring = c.seal_step-payload.new.ring; counter = Some c.seal_step-payload.new.counter; file_bytes = i.limits.file_bytes } in
+    let was = g.D.Disk.shown c.args.disk.now in
+    let shows = g.D.Disk.shown c.commit_within.new.disk in
+    let done : IsCarriedOut r drawn old new was shows =
+    carried r drawn old before after at drafted keyed c.requires.count c.requires.sizes own c.is_seen.ensures new was (g.D.Disk.shown c.begin.new.disk) shows c.begin.new.journal c.in-Ok.counter c.seal_step-payload.new.counter
+    c.skeleton.result.now (plain_payload c.seal_step-payload.result) has c.in-Ok.ensures.told refl refl c.settle.ensures c.skeleton.ensures c.seal_step-payload.ensures.payload c.seal_step-payload.ensures.keys refl
+    c.in-Ok-commit_within.ensures.joined c.in-Ok-commit_within.ensures.behind c.in-Ok-commit_within.ensures.begun titles in
+    subst (λ (o : OwnerView). IsCarriedOut r drawn o new was shows) c.self.view_is done

@@ -1,0 +1,35 @@
+use Rattle.std.proofs.Common.{◌≡◌, ◌∙◌, ap, refl, sym}
+use Rattle.commit_journal.specs.Journals.{JournalState}
+use Rattle.store_owner.specs.Owned.{OwnerView}
+use Rattle.store_owner.proofs.OtherRoom.{sound_still}
+use Rattle.store_owner.proofs.owner.Owner.furnish.Goals as goal
+
+pub invariant_of-self-in_err-reserve : goal.invariant_of-self-in_err-reserve
+invariant_of-self-in_err-reserve c = λ still.
+    let i = c.self.inside in
+    let old : OwnerView = record { key = i.key.bytes; journal = i.journal; state = i.state; names = i.names; ring = i.ring; counter = i.counter; file_bytes = i.limits.file_bytes } in
+    sound_still old _ (record {
+      key = refl;
+      journal = c.prepare.ensures.state;
+      state = refl;
+      folder_names = c.reserve.ensures.folders;
+      file_names = c.reserve.ensures.files;
+      ring_keys = refl;
+      counter = refl;
+      file_bytes = refl;
+    }) (c.self.invariant (sym (ap (λ (j : JournalState). j.is_closed) c.prepare.ensures.state) ∙ still))
+
+pub invariant_of-self-2 : goal.invariant_of-self-2
+invariant_of-self-2 c = λ still.
+    let i = c.self.inside in
+    let old : OwnerView = record { key = i.key.bytes; journal = i.journal; state = i.state; names = i.names; ring = i.ring; counter = i.counter; file_bytes = i.limits.file_bytes } in
+    sound_still old _ (record {
+      key = refl;
+      journal = c.prepare.ensures.state;
+      state = refl;
+      folder_names = c.reserve.ensures.folders;
+      file_names = c.reserve.ensures.files;
+      ring_keys = c.reserve-2.ensures.keys;
+      counter = refl;
+      file_bytes = refl;
+    }) (c.self.invariant (sym (ap (λ (j : JournalState). j.is_closed) c.prepare.ensures.state) ∙ still))
