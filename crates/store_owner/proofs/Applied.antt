@@ -110,10 +110,14 @@ pub undrawn_answer : (fault : ApplyFault) (keys : ℕ) (m : Journal) (r : Reques
 undrawn_answer faults.RandomFault keys m r old new left_before left_after was shows accepted room count few fault bytes tells = (accepted, room)
 undrawn_answer (faults.RandomShort left need) keys m r old new left_before left_after was shows accepted room count few fault bytes tells =
     let small : 32 * keys < 2 ^ 32 = subst (λ n. 32 * n < 2 ^ 32) (sym count) few in
-    let f = fault small in
-    (accepted, room, f.0 ∙ ap (λ n. 32 * n) count, f.1,
-    λ x is. let y = told_again left_before left_after x tells is in (bytes x y.0 is y.1).0 small,
-    λ y is. let x = told_again left_after left_before y (sym tells) is in (bytes x.0 y x.1 is).1)
+    let f = fault small in (
+      accepted,
+      room,
+      f.0 ∙ ap (λ n. 32 * n) count,
+      f.1,
+      λ x is. let y = told_again left_before left_after x tells is in (bytes x y.0 is y.1).0 small,
+      λ y is. let x = told_again left_after left_before y (sym tells) is in (bytes x.0 y x.1 is).1,
+    )
 undrawn_answer faults.DiskFault keys m r old new left_before left_after was shows accepted room count few fault bytes tells = absurd fault
 undrawn_answer faults.Closed keys m r old new left_before left_after was shows accepted room count few fault bytes tells = absurd fault
 undrawn_answer faults.OutOfMemory keys m r old new left_before left_after was shows accepted room count few fault bytes tells = absurd fault

@@ -37,7 +37,6 @@ pub mod OwnerKeeps
 pub mod OwnerVisits
 pub mod PlainTexts
 pub mod OtherRoom
-pub mod OwnerKeeps
 pub mod Planned
 pub mod Published
 pub mod Ready

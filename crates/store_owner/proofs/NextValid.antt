@@ -38,20 +38,20 @@ long_still (Revoke h path) n more le e = refl
 abbrev refusal_where : Store → Request → Bool → Option Refusal
 refusal_where s r long =
     option_map (λ (cause : Bool × Refusal). cause.1) (find (λ (cause : Bool × Refusal). cause.0) (
-      (has_bad_name r, BadName)
-      ∷ (finds_no_path s r, NoPath)
-      ∷ (changes_root r, IsRoot)
-      ∷ (needs_folder s r, NotFolder)
-      ∷ (writes_folder s r, IsFolder)
-      ∷ (finds_name_taken s r, Exists)
-      ∷ (removes_children s r, NotEmpty)
-      ∷ (moves_into_itself s r, InsideItself)
-      ∷ (goes_too_deep s r, TooDeep)
-      ∷ (finds_no_holder s r, NoHolder)
-      ∷ (grants_again s r, HasGrant)
-      ∷ (revokes_nothing s r, NoGrant)
-      ∷ (long, TooLong)
-      ∷ []
+    (has_bad_name r, BadName)
+    ∷ (finds_no_path s r, NoPath)
+    ∷ (changes_root r, IsRoot)
+    ∷ (needs_folder s r, NotFolder)
+    ∷ (writes_folder s r, IsFolder)
+    ∷ (finds_name_taken s r, Exists)
+    ∷ (removes_children s r, NotEmpty)
+    ∷ (moves_into_itself s r, InsideItself)
+    ∷ (goes_too_deep s r, TooDeep)
+    ∷ (finds_no_holder s r, NoHolder)
+    ∷ (grants_again s r, HasGrant)
+    ∷ (revokes_nothing s r, NoGrant)
+    ∷ (long, TooLong)
+    ∷ []
     ))
 
 pub refusal_still : (s : Store) (r : Request) (n more : ℕ) → n ≤ more → refusal_of s r n ≡ None → refusal_of s r more ≡ None

@@ -67,8 +67,7 @@ module _ (limits : Limits) (key : List ℕ) (g : Going) (r : Request) (old new :
   refused why is same left shown =
       let e = limited (Some why) is in
       let at_old : StandsAt limits key g old left_after shows = subst (λ (l : Option (List ℕ)). StandsAt limits key g old l shows) (sym left) (subst (λ (s : Option (List ℕ)). StandsAt limits key g old left_before s) (sym shown) stands) in
-      let at_new : StandsAt limits key g new left_after shows = subst (λ (o : OwnerView). StandsAt limits key g o left_after shows) (sym same) at_old in
-      (
+      let at_new : StandsAt limits key g new left_after shows = subst (λ (o : OwnerView). StandsAt limits key g o left_after shows) (sym same) at_old in (
         sym (ap (line_reply g r) e),
         subst (λ (h : Going). StandsAt limits key h new left_after shows) (sym (ap (line_going g r) e)) at_new,
       )
@@ -82,15 +81,14 @@ module _ (limits : Limits) (key : List ℕ) (g : Going) (r : Request) (old new :
       let disk = still_told shows was stands.disk_stands.0 disk_told stands.disk_stands.1 in
       let bytes : g.draws ≡ joined is.drawn ++ left.0 = is.next_bytes g.draws left.0 stands.has_draws left.1 in
       let keys : keys_from (draws_of g.journal r) g.draws ≡ is.drawn =
-          ap (λ b. keys_from (draws_of g.journal r) b) bytes ∙ ap (λ n. keys_from n (joined is.drawn ++ left.0)) (sym is.drawn_count) ∙ keys_again is.drawn left.0 is.drawn_sizes in
+      ap (λ b. keys_from (draws_of g.journal r) b) bytes ∙ ap (λ n. keys_from n (joined is.drawn ++ left.0)) (sym is.drawn_count) ∙ keys_again is.drawn left.0 is.drawn_sizes in
       let rest : drop (32 * draws_of g.journal r) g.draws ≡ left.0 =
-          ap (λ b. drop (32 * draws_of g.journal r) b) bytes ∙ ap (λ n. drop (32 * n) (joined is.drawn ++ left.0)) (sym is.drawn_count) ∙ rest_again is.drawn left.0 is.drawn_sizes in
+      ap (λ b. drop (32 * draws_of g.journal r) b) bytes ∙ ap (λ n. drop (32 * n) (joined is.drawn ++ left.0)) (sym is.drawn_count) ∙ rest_again is.drawn left.0 is.drawn_sizes in
       let journal : journal_then g.journal old.journal.has_epoch r is.drawn ≡ (accepted_going g r (draws_of g.journal r)).journal =
-          ap (λ b. journal_then g.journal b r is.drawn) stands.has_begun ∙ ap (λ ks. journal_then g.journal g.begun r ks) (sym keys) in
+      ap (λ b. journal_then g.journal b r is.drawn) stands.has_begun ∙ ap (λ ks. journal_then g.journal g.begun r ks) (sym keys) in
       let whole : StandsWhole old.key (batches_of old.key (journal_then g.journal old.journal.has_epoch r is.drawn)) disk.0 =
-          is.disk_stands stands.disk_stands.0 disk.0 stands.disk_stands.1 disk.1
-          (subst (λ k. StandsWhole k (batches_of k g.journal) stands.disk_stands.0) (sym stands.has_key) stands.disk_stands.2) in
-      (
+      is.disk_stands stands.disk_stands.0 disk.0 stands.disk_stands.1 disk.1
+      (subst (λ k. StandsWhole k (batches_of k g.journal) stands.disk_stands.0) (sym stands.has_key) stands.disk_stands.2) in (
         is.reply_is ∙ ap (λ ks. done_reply g.journal r ks) (sym keys) ∙ sym (ap (line_reply g r) e),
         subst (λ (h : Going). StandsAt limits key h new left_after shows) (sym (ap (line_going g r) e)) (record {
           owner_is = subst (λ m. IsOwnerOf m new) journal is.owner_is;

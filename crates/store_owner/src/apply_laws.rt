@@ -46,6 +46,6 @@ pub fn commands_are_measured()
     ensures end { (m : Journal) (r : Request) (o : OwnerView) → IsOwnerOf m o → end_with o.journal (due_payload m r) ≡ due_end m o.journal.has_epoch r }
     ensures fits { (m : Journal) (r : Request) (o : OwnerView) → IsOwnerOf m o → o.file_bytes ≤ 1048576 → refusal_of (store_of m) r o.file_bytes ≡ None
         → note_fits (begun (not o.journal.has_epoch) (public_stand m)) (note_of (store_of m) r (replicate 32 0))
-            (told_step (begun (not o.journal.has_epoch) (public_stand m)) (note_of (store_of m) r (replicate 32 0))) ≡ false
+        (told_step (begun (not o.journal.has_epoch) (public_stand m)) (note_of (store_of m) r (replicate 32 0))) ≡ false
         → 268435456 < due_end m o.journal.has_epoch r }
 {}

@@ -45,10 +45,7 @@ impl KeyRoom {
     ///
     /// `RandomFault` comes only where the source's faults rose in this call; `RandomShort` where the source ended before the last
     /// byte, and its numbers are exact where all the keys together have less than 2^32 bytes. No other fault comes.
-    pub(crate) fn fill<R: Source>(
-        self,
-        random: &mut R,
-    ) -> Result<List<[u8; KEY_LEN]>, ApplyFault>
+    pub(crate) fn fill<R: Source>(self, random: &mut R) -> Result<List<[u8; KEY_LEN]>, ApplyFault>
         ensures count { IfOk result (λ drawn. length drawn.items ≡ self) }
         ensures sizes { IfOk result (λ drawn. AreKeys drawn.items) }
         ensures bytes { WhereBothTold (R.left random.old) (R.left random.new) (DrawsKeys self result) }

@@ -13,11 +13,11 @@ ghost use Rattle.record_format.specs.Spelling.{spell_payload};
 ghost use Rattle.public_fold.specs.Journal.{Journal as AnyJournal};
 ghost use Rattle.store_owner.specs.Applying.{Answers, DiskCounts, HasOtherRoom, IsCarriedOut, IsDoneThen, IsKeptBy, UnlessDiskFault};
 ghost use Rattle.store_owner.specs.Drawing.{AreKeys, FillsByCount};
-ghost use Rattle.store_owner.specs.Owned.{IsOwnerOf};
+ghost use Rattle.store_owner.specs.Owned.{IsOwnerOf, owner_at};
 ghost use Rattle.store_owner.specs.Owning.{IsStoreOf};
 ghost use Rattle.store_owner.specs.Planning.{AnswersPlan, HasBegun, IsDrafted, IsFurnished, IsUnfit, planned_size, reply_for};
 ghost use Rattle.store_owner.specs.Sealing.{IsSpaceFor};
-ghost use Rattle.store_owner.specs.Sound.{granted_in, own_store};
+ghost use Rattle.store_owner.specs.Sound.{IsSound, granted_in, own_store};
 
 use crate::apply_laws::{commands_are_measured, owners_go_on};
 use crate::change::Change;
@@ -93,6 +93,29 @@ enum Verdict {
 }
 
 impl Owner {
+    /// The owner of what was opened. It has begun no epoch.
+    pub(crate) fn at(
+        key: [u8; 32],
+        journal: Journal,
+        state: PublicState,
+        names: Names,
+        ring: KeyRing,
+        limits: Limits,
+    ) -> Owner
+        requires sound { IsSound (owner_at key journal state names ring limits.file_bytes) }
+        ensures { result ≡ owner_at key journal state names ring limits.file_bytes }
+    {
+        Owner {
+            key: Key::owner(key),
+            journal,
+            state,
+            names,
+            ring,
+            counter: None,
+            limits,
+        }
+    }
+
     /// The 32 bytes of the owner's key.
     pub fn key(&self) -> &[u8; 32]
         ensures { result.now ≡ self.now.key }
@@ -117,6 +140,7 @@ impl Owner {
         ensures answers { (m : AnyJournal) → IsOwnerOf m self.old → Answers result m (request_of command.now) self.old self.new
             (R.left random.old) (R.left random.new) (D.shown disk.old) (D.shown disk.new) }
         ensures closed { (result ≡ Err ApplyFault.Closed) ↔ IsTrue self.old.journal.is_closed }
+        ensures open { UnlessDiskFault result (self.new.journal.is_closed ≡ self.old.journal.is_closed) }
         ensures kept { IsKeptBy result self.old self.new random.old random.new disk.old disk.new }
         ensures durable { IsDoneThen result (IsDurable (D.may_leave disk.new) (D.shown disk.new)) }
         ensures inside { self.old.journal.end ≤ D.size_of disk.old → UnlessDiskFault result (self.new.journal.end ≤ D.size_of disk.new) }
@@ -261,6 +285,7 @@ impl Owner {
         ensures reply { IfOk result (λ reply. reply ≡ reply_for change.note drawn.now) }
         ensures fault { IfErr result (λ fault. fault ≡ ApplyFault.DiskFault) }
         ensures closed { OnErr result (IsTrue self.new.journal.is_closed) }
+        ensures open { OnOk result (self.new.journal.is_closed ≡ self.old.journal.is_closed) }
         ensures durable { OnOk result (IsDurable (D.may_leave disk.new) (D.shown disk.new)) }
         ensures inside { OnOk result (self.new.journal.end ≤ D.size_of disk.new) }
         ensures key { self.new.key ≡ self.old.key }
@@ -315,6 +340,7 @@ fn begin<D: Disk>(
     requires counts { is_some counter ≡ journal.old.has_epoch }
     ensures begun { IfOk result (λ starts. HasBegun journal.old journal.new counter starts (D.shown disk.old) (D.shown disk.new)) }
     ensures closed { OnErr result (IsTrue journal.new.is_closed) }
+    ensures open { OnOk result (journal.new.is_closed ≡ journal.old.is_closed) }
     ensures owner { journal.new.owner ≡ journal.old.owner }
     ensures inside { OnOk result (journal.new.end ≤ D.size_of disk.new) }
     ensures told { is_some (D.shown disk.new) ≡ is_some (D.shown disk.old) }

@@ -25,9 +25,10 @@ pub take_key-reply-requires-clause-holder : goal.take_key-reply-requires-clause-
 take_key-reply-requires-clause-holder g c = λ is.
     let old : OwnerView = c.args.self.now in
     let at = stand_of c.self.inside.state in
-    let seen = subst (λ (o : OwnerView). IsSeenAs o.state at) c.self.view_is c.is_seen.ensures in
-    (holder_drawn _ c.args.change.note c.args.change.ready.skeleton c.args.drawn.now (c.requires.drafted.is_skeleton at seen) c.requires.count is,
-    c.requires.drafted.text_room (adds_holder c.args.change.note (own_store old) (request_of c.args.command.now) _ (c.requires.drafted.told (own_store old) (c.sound_owners_keep_a_store.ensures.store old)) is))
+    let seen = subst (λ (o : OwnerView). IsSeenAs o.state at) c.self.view_is c.is_seen.ensures in (
+      holder_drawn _ c.args.change.note c.args.change.ready.skeleton c.args.drawn.now (c.requires.drafted.is_skeleton at seen) c.requires.count is,
+      c.requires.drafted.text_room (adds_holder c.args.change.note (own_store old) (request_of c.args.command.now) _ (c.requires.drafted.told (own_store old) (c.sound_owners_keep_a_store.ensures.store old)) is),
+    )
 
 pub seal_step-payload-requires-clause-can_seal : goal.seal_step-payload-requires-clause-can_seal
 seal_step-payload-requires-clause-can_seal g c =

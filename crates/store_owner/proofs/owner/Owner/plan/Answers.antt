@@ -20,13 +20,15 @@ returns-in-Err-Unfit-clause-answers c =
     let o : OwnerView = c.args.self.now in
     let r = request_of c.args.command.now in
     let limit : o.journal.limit ≤ 268435456 = subst (λ (x : OwnerView). x.journal.limit ≤ 268435456) c.self.view_is c.journal_is_within.ensures.bound in
-    let bounded : o.file_bytes ≤ 1048576 = subst (λ (x : OwnerView). x.file_bytes ≤ 1048576) c.self.view_is (c.self.invariant (ap (λ (x : OwnerView). x.journal.is_closed) c.self.view_is ∙ c.requires.open)).bounded in
-    (refl, λ m is.
-    let store = c.owners_keep_the_store.ensures m o is in
-    let accepted = c.requires.accepted (store_of m) store in
-    let unfit = c.draft.ensures.unfit (c.in-Err-Unfit.is ∙ ap Err c.in-Err-Unfit.field-0-is) (public_stand m) (store_of m) is.seen store in
-    let past = c.commands_are_measured.ensures.fits m r o is bounded accepted unfit in
-    is_full o m r accepted (omega (arith, past, limit)))
+    let bounded : o.file_bytes ≤ 1048576 = subst (λ (x : OwnerView). x.file_bytes ≤ 1048576) c.self.view_is (c.self.invariant (ap (λ (x : OwnerView). x.journal.is_closed) c.self.view_is ∙ c.requires.open)).bounded in (
+      refl,
+      λ m is.
+          let store = c.owners_keep_the_store.ensures m o is in
+          let accepted = c.requires.accepted (store_of m) store in
+          let unfit = c.draft.ensures.unfit (c.in-Err-Unfit.is ∙ ap Err c.in-Err-Unfit.field-0-is) (public_stand m) (store_of m) is.seen store in
+          let past = c.commands_are_measured.ensures.fits m r o is bounded accepted unfit in
+          is_full o m r accepted (omega (arith, past, limit)),
+    )
 
 pub returns-in_default-clause-answers : goal.returns-in_default-clause-answers
 returns-in_default-clause-answers c =
@@ -36,13 +38,15 @@ returns-in_default-clause-answers c =
     let change = c.in-Ok.change in
     let size : skeleton_size (told_note change.note) c.skeleton.result.now c.sealed_len-text.result ≡ planned_size r change =
     ap (λ (s : Skeleton). skeleton_size (told_note change.note) s c.sealed_len-text.result) c.skeleton.ensures
-    ∙ ap (λ n. skeleton_size (told_note change.note) change.ready.skeleton n) c.sealed_len-text.ensures.length in
-    (refl, λ m is.
-    let store = c.owners_keep_the_store.ensures m o is in
-    let accepted = c.requires.accepted (store_of m) store in
-    let due = size_due m r o change c.in-Ok.ensures.drafted is store (c.commands_are_measured.ensures.payload m r o change.ready.skeleton is accepted (skeleton_due m r o change c.in-Ok.ensures.drafted is store)) in
-    let end = c.commands_are_measured.ensures.end m r o is in
-    is_full o m r accepted (past_end o (planned_size r change) (due_payload m r) (due_end m o.journal.has_epoch r) due end (far_past o _ (planned_size r change) limit size c.in_default.ensures)))
+    ∙ ap (λ n. skeleton_size (told_note change.note) change.ready.skeleton n) c.sealed_len-text.ensures.length in (
+      refl,
+      λ m is.
+          let store = c.owners_keep_the_store.ensures m o is in
+          let accepted = c.requires.accepted (store_of m) store in
+          let due = size_due m r o change c.in-Ok.ensures.drafted is store (c.commands_are_measured.ensures.payload m r o change.ready.skeleton is accepted (skeleton_due m r o change c.in-Ok.ensures.drafted is store)) in
+          let end = c.commands_are_measured.ensures.end m r o is in
+          is_full o m r accepted (past_end o (planned_size r change) (due_payload m r) (due_end m o.journal.has_epoch r) due end (far_past o _ (planned_size r change) limit size c.in_default.ensures)),
+    )
 
 pub returns-then-not-fits-clause-answers : goal.returns-then-not-fits-clause-answers
 returns-then-not-fits-clause-answers c =
@@ -57,13 +61,15 @@ returns-then-not-fits-clause-answers c =
     let sized : c.in-Some.size ≡ planned_size r change = some.1 ∙ size in
     let past : o.journal.limit < end_with o.journal (planned_size r change) =
     subst (λ n. o.journal.limit < end_with o.journal n) sized
-    (subst (λ (x : OwnerView). x.journal.limit < end_with x.journal c.in-Some.size) c.self.view_is (not_within (end_with c.self.inside.journal c.in-Some.size) c.self.inside.journal.limit (λ l. false≢true (c.if-not-fits.ensures.1 l)))) in
-    (refl, λ m is.
-    let store = c.owners_keep_the_store.ensures m o is in
-    let accepted = c.requires.accepted (store_of m) store in
-    let due = size_due m r o change c.in-Ok.ensures.drafted is store (c.commands_are_measured.ensures.payload m r o change.ready.skeleton is accepted (skeleton_due m r o change c.in-Ok.ensures.drafted is store)) in
-    let end = c.commands_are_measured.ensures.end m r o is in
-    is_full o m r accepted (past_end o (planned_size r change) (due_payload m r) (due_end m o.journal.has_epoch r) due end past))
+    (subst (λ (x : OwnerView). x.journal.limit < end_with x.journal c.in-Some.size) c.self.view_is (not_within (end_with c.self.inside.journal c.in-Some.size) c.self.inside.journal.limit (λ l. false≢true (c.if-not-fits.ensures.1 l)))) in (
+      refl,
+      λ m is.
+          let store = c.owners_keep_the_store.ensures m o is in
+          let accepted = c.requires.accepted (store_of m) store in
+          let due = size_due m r o change c.in-Ok.ensures.drafted is store (c.commands_are_measured.ensures.payload m r o change.ready.skeleton is accepted (skeleton_due m r o change c.in-Ok.ensures.drafted is store)) in
+          let end = c.commands_are_measured.ensures.end m r o is in
+          is_full o m r accepted (past_end o (planned_size r change) (due_payload m r) (due_end m o.journal.has_epoch r) due end past),
+    )
 
 pub returns-clause-answers : goal.returns-clause-answers
 returns-clause-answers c =
@@ -79,27 +85,28 @@ returns-clause-answers c =
     let sized : c.in-Some.size ≡ planned_size r change = some.1 ∙ size in
     let within : end_with o.journal (planned_size r change) ≤ o.journal.limit =
     subst (λ n. end_with o.journal n ≤ o.journal.limit) sized
-    (subst (λ (x : OwnerView). end_with x.journal c.in-Some.size ≤ x.journal.limit) c.self.view_is (c.if-not-fits.ensures.0 refl)) in
-    (drafted_still r o c.furnish.new.self change c.furnish.ensures.room c.in-Ok.ensures.drafted,
-    record {
-      records_room = c.in_ok-room.ensures.records;
-      ring_room = c.in_ok-room.ensures.ring;
-      names_room = c.in_ok-room.ensures.names;
-      journal_spare = c.in_ok-room.ensures.spare;
-      journal_room = subst (λ n. n ≤ c.furnish.new.self.journal.room) sized c.in_ok-room.ensures.payload;
-      ends_within = subst (λ (j : JournalState). end_with j (planned_size r change) ≤ j.limit) (sym c.furnish.ensures.room.journal) within;
-    },
-    λ m is.
-    let store = c.owners_keep_the_store.ensures m o is in
-    let accepted = c.requires.accepted (store_of m) store in
-    let due = size_due m r o change c.in-Ok.ensures.drafted is store (c.commands_are_measured.ensures.payload m r o change.ready.skeleton is accepted (skeleton_due m r o change c.in-Ok.ensures.drafted is store)) in
-    let end = c.commands_are_measured.ensures.end m r o is in
-    is_accepted o m r accepted (within_end o (planned_size r change) (due_payload m r) (due_end m o.journal.has_epoch r) due end within),
-    λ m is.
-    let store = c.owners_keep_the_store.ensures m o is in
-    let accepted = c.requires.accepted (store_of m) store in
-    let due = size_due m r o change c.in-Ok.ensures.drafted is store (c.commands_are_measured.ensures.payload m r o change.ready.skeleton is accepted (skeleton_due m r o change c.in-Ok.ensures.drafted is store)) in
-    let end = c.commands_are_measured.ensures.end m r o is in
-    let skeleton = skeleton_due m r o change c.in-Ok.ensures.drafted is store in
-    let ends : due_end m o.journal.has_epoch r ≤ 268435456 = let w = within_end o (planned_size r change) (due_payload m r) (due_end m o.journal.has_epoch r) due end within in omega (arith, w, limit) in
-    (c.commands_are_measured.ensures.draws m r o change.ready.skeleton is accepted skeleton, c.commands_are_measured.ensures.few m r o is bounded accepted ends))
+    (subst (λ (x : OwnerView). end_with x.journal c.in-Some.size ≤ x.journal.limit) c.self.view_is (c.if-not-fits.ensures.0 refl)) in (
+      drafted_still r o c.furnish.new.self change c.furnish.ensures.room c.in-Ok.ensures.drafted,
+      record {
+        records_room = c.in_ok-room.ensures.records;
+        ring_room = c.in_ok-room.ensures.ring;
+        names_room = c.in_ok-room.ensures.names;
+        journal_spare = c.in_ok-room.ensures.spare;
+        journal_room = subst (λ n. n ≤ c.furnish.new.self.journal.room) sized c.in_ok-room.ensures.payload;
+        ends_within = subst (λ (j : JournalState). end_with j (planned_size r change) ≤ j.limit) (sym c.furnish.ensures.room.journal) within;
+      },
+      λ m is.
+          let store = c.owners_keep_the_store.ensures m o is in
+          let accepted = c.requires.accepted (store_of m) store in
+          let due = size_due m r o change c.in-Ok.ensures.drafted is store (c.commands_are_measured.ensures.payload m r o change.ready.skeleton is accepted (skeleton_due m r o change c.in-Ok.ensures.drafted is store)) in
+          let end = c.commands_are_measured.ensures.end m r o is in
+          is_accepted o m r accepted (within_end o (planned_size r change) (due_payload m r) (due_end m o.journal.has_epoch r) due end within),
+      λ m is.
+          let store = c.owners_keep_the_store.ensures m o is in
+          let accepted = c.requires.accepted (store_of m) store in
+          let due = size_due m r o change c.in-Ok.ensures.drafted is store (c.commands_are_measured.ensures.payload m r o change.ready.skeleton is accepted (skeleton_due m r o change c.in-Ok.ensures.drafted is store)) in
+          let end = c.commands_are_measured.ensures.end m r o is in
+          let skeleton = skeleton_due m r o change c.in-Ok.ensures.drafted is store in
+          let ends : due_end m o.journal.has_epoch r ≤ 268435456 = let w = within_end o (planned_size r change) (due_payload m r) (due_end m o.journal.has_epoch r) due end within in omega (arith, w, limit) in
+          (c.commands_are_measured.ensures.draws m r o change.ready.skeleton is accepted skeleton, c.commands_are_measured.ensures.few m r o is bounded accepted ends),
+    )
