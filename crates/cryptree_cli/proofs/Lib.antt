@@ -1,3 +1,4 @@
+pub mod AnsweredScripts
 pub mod BatchLemmas
 pub mod CommitLemmas
 pub mod FirstLines
@@ -7,4 +8,7 @@ pub mod LineLemmas
 pub mod ListingLemmas
 pub mod MakeLemmas
 pub mod OutsideLemmas
+pub mod RunEnds
+pub mod RunLemmas
+pub mod RunOpening
 pub mod ScriptLemmas

@@ -14,8 +14,8 @@ use Rattle.cryptree_cli.specs.Lines.{InputLine, LineState, lines_ahead}
 use Rattle.cryptree_cli.specs.Lines.InputLine.{Whole}
 use Rattle.cryptree_cli.specs.Script.{Answered, AnswersOne, Asks, CountsCommand, GivesCommand, IsReading, PrintsCut, Ran, spell_replies}
 use Rattle.cryptree_cli.specs.Script.Answered.{Begun, Then}
-use Rattle.cryptree_cli.specs.declared.script.ApplyFault.{ApplyFault}
 use Rattle.cryptree_cli.specs.declared.script.ScriptFault.{ScriptFault}
+use Rattle.store_owner.specs.declared.apply_fault.ApplyFault.{ApplyFault}
 use Rattle.cryptree_cli.specs.declared.script.ScriptFault.TheVariants.{BadLine, ReadFault, WriteFault, OutOfMemory, Applying}
 
 asks_none : (before : List InputLine) → Asks [] before before
@@ -41,7 +41,7 @@ spell_more : (replies : List Reply) (reply : Reply) → spell_replies (replies +
 spell_more replies reply = flat_map-append spell_reply replies (reply ∷ []) ∙ ap (λ last. spell_replies replies ++ last) (spell_one reply)
 
 -- all replies were printed
-whole_is_cut : (replies : List Reply) (before after : List ℕ) → after ≡ before ++ spell_replies replies → PrintsCut replies before after
+pub whole_is_cut : (replies : List Reply) (before after : List ℕ) → after ≡ before ++ spell_replies replies → PrintsCut replies before after
 whole_is_cut replies before after is =
     (replies, [], 0, sym (append-nil replies), omega arith, is ∙ ap (λ text. before ++ text) (sym (append-nil (spell_replies replies))))
 

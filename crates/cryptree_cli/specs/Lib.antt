@@ -5,7 +5,9 @@ pub mod Input
 pub mod Lines
 pub mod Listing
 pub mod Outside
+pub mod OwnerSteps
 pub mod Room
+pub mod Running
 pub mod Script
 pub mod Status
 pub mod Top

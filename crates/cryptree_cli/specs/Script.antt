@@ -8,10 +8,10 @@ use Rattle.cry_io.specs.Told.{WhereBothTold}
 use Rattle.cryptree_cli.specs.CommandLines.{asked_in}
 use Rattle.cryptree_cli.specs.Lines.{InputLine, LineState, lines_ahead}
 use Rattle.cryptree_cli.specs.Lines.InputLine.{Whole, TooLong}
-use Rattle.cryptree_cli.specs.declared.script.ApplyFault.{ApplyFault}
 use Rattle.cryptree_cli.specs.declared.script.ScriptFault.{ScriptFault}
 use Rattle.cryptree_cli.specs.declared.script.ScriptFault.TheVariants as script
 use Rattle.script_text.specs.Printing.{spell_reply}
+use Rattle.store_owner.specs.declared.apply_fault.ApplyFault.{ApplyFault}
 
 -- a line is bad that is no command's, or goes past the limit
 abbrev pub IsBadFirst : List InputLine → Type 0
@@ -50,6 +50,11 @@ ReadsByCount _ old new = old ≤ new
 abbrev pub WritesByCount : Result (Unit {0}) ScriptFault → ℕ → ℕ → Type 0
 WritesByCount (Err script.WriteFault) old new = old < new
 WritesByCount _ old new = old ≤ new
+
+-- a command may come, unless the last one met a fault
+abbrev pub StaysReady : Type 0 → Result (Unit {0}) ScriptFault → Type 0
+StaysReady Ready (Err (script.Applying fault)) = Unit {0}
+StaysReady Ready _ = Ready
 
 -- what is printed to these replies, each a line
 abbrev pub spell_replies : List Reply → List ℕ

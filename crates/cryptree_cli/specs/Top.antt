@@ -7,7 +7,7 @@ use Rattle.cryptree_cli.specs.declared.outside.DrawFault.TheVariants.{Failed, Sh
 use Rattle.cryptree_cli.specs.declared.status.Status.{Status}
 use Rattle.cryptree_cli.specs.declared.status.Status.TheVariants.{RandomFault, RandomShort, OutOfMemory}
 use Rattle.cryptree_cli.specs.declared.words.Form.{Form}
-use Rattle.cryptree_cli.specs.declared.words.Form.TheVariants.{Make, Help, Version}
+use Rattle.cryptree_cli.specs.declared.words.Form.TheVariants.{Make, Run, Help, Version}
 use Rattle.cryptree_cli.specs.declared.words.Form.TheVariants as forms
 use Rattle.cryptree_cli.specs.declared.texts.TheConstants.{HELP, VERSION}
 use Rattle.key_links.specs.Fresh.{piece, fresh_image}
@@ -17,6 +17,10 @@ use Rattle.cryptree_cli.specs.Words.{form_of_words}
 -- the words ask for a store to be made
 abbrev pub IsMake : List (Listed ℕ) → Type 0
 IsMake words = form_of_words words ≡ Some Make
+
+-- the words ask for commands to be applied
+abbrev pub IsRun : List (Listed ℕ) → Type 0
+IsRun words = form_of_words words ≡ Some Run
 
 -- the words ask for a key's view
 abbrev pub IsList : List (Listed ℕ) → Type 0

@@ -4,7 +4,7 @@ ghost use Rattle.cry_base.specs.Requests.{Request, request_of};
 ghost use Rattle.cry_base.specs.declared.commands.Reply.{Reply};
 ghost use Rattle.cry_io.specs.Told.{WhereTold, WhereBothTold};
 ghost use Rattle.cryptree_cli.specs.Lines.{lines_ahead};
-ghost use Rattle.cryptree_cli.specs.Script.{GivesCommand, CountsCommand, ReadsByCount, AnswersOne, IsReading, Ran, WritesByCount};
+ghost use Rattle.cryptree_cli.specs.Script.{GivesCommand, CountsCommand, ReadsByCount, AnswersOne, IsReading, Ran, StaysReady, WritesByCount};
 
 use crate::command_lines::read_command;
 use crate::lines::{LineReader, Next, NextFault};
@@ -13,19 +13,7 @@ use cry_base::{Command, List, Reply, Text};
 use cry_io::{Sink, Source};
 use script_text::{LineFault, print_reply};
 use std::alloc::Global;
-
-/// Why a command was neither applied nor refused.
-#[derive(Clone, Copy, Debug, PartialEq, Eq)]
-pub(crate) enum ApplyFault {
-    /// The store's file failed.
-    DiskFault,
-    /// The source of random bytes failed.
-    RandomFault,
-    /// It ended after `left` bytes of the `need` that the command draws.
-    RandomShort { left: u32, need: u32 },
-    /// There was no memory.
-    OutOfMemory,
-}
+use store_owner::ApplyFault;
 
 /// Why the lines weren't done to their end.
 #[derive(Clone, Copy, Debug, PartialEq, Eq)]
@@ -44,7 +32,10 @@ pub(crate) enum ScriptFault {
 
 /// What applies commands: the owner of a store, with the random bytes `R` and the disk `D` that commands use.
 pub(crate) trait Applies<R, D> {
-    ghost use Rattle.cryptree_cli.specs.declared.script.ApplyFault.{ApplyFault};
+    ghost use Rattle.store_owner.specs.declared.apply_fault.ApplyFault.{ApplyFault};
+
+    /// Whether a command may come: it may behind each that was answered.
+    ghost ready: { Self × R × D → Type 0 };
 
     /// What a command does: the state before it, what is asked, the reply, and the state after it.
     ghost answers: { Self × R × D → Request → Reply → Self × R × D → Type 0 };
@@ -60,9 +51,11 @@ pub(crate) trait Applies<R, D> {
         disk: &mut D,
         command: Command,
     ) -> Result<Reply, ApplyFault>
-        ensures { MatchResult result
+        requires { ready (self.old, random.old, disk.old) }
+        ensures answers { MatchResult result
             (λ reply. answers (self.old, random.old, disk.old) (request_of command) reply (self.new, random.new, disk.new))
-            (λ fault. fails (self.old, random.old, disk.old) (request_of command) fault (self.new, random.new, disk.new)) };
+            (λ fault. fails (self.old, random.old, disk.old) (request_of command) fault (self.new, random.new, disk.new)) }
+        ensures ready { OnOk result (ready (self.new, random.new, disk.new)) };
 }
 
 /// Answers the lines that are still to come, one after another.
@@ -75,6 +68,8 @@ pub(crate) fn run_lines<S: Source, O: Applies<R, D>, R, D, W: Sink>(
     disk: &mut D,
     out: &mut W,
 ) -> Result<(), ScriptFault>
+    requires { O.ready (owner.old, random.old, disk.old) }
+    ensures ready { StaysReady (O.ready (owner.new, random.new, disk.new)) result }
     ensures ran { Ran O.answers O.fails result (owner.old, random.old, disk.old) (owner.new, random.new, disk.new) reader.old reader.new
         (S.left input.old) (S.left input.new) (W.written out.old) (W.written out.new) }
     ensures to_end { OnOk result (WhereTold (S.left input.new) (λ after. after ≡ [])) }
@@ -131,6 +126,8 @@ fn answer<O: Applies<R, D>, R, D, W: Sink>(
     command: Command,
     out: &mut W,
 ) -> Result<(), ScriptFault>
+    requires { O.ready (owner.old, random.old, disk.old) }
+    ensures ready { StaysReady (O.ready (owner.new, random.new, disk.new)) result }
     ensures answers { AnswersOne O.answers O.fails result (owner.old, random.old, disk.old) (request_of command) (owner.new, random.new, disk.new) (W.written out.old) (W.written out.new) }
     ensures told { is_some (W.written out.new) ≡ is_some (W.written out.old) }
     ensures counts { WritesByCount result (W.faults out.old) (W.faults out.new) }

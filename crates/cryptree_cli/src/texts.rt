@@ -5,6 +5,8 @@ pub const HELP: &[u8] = b"\
 cryptree keeps shared folders in one store file, on a disk that nobody has to trust
 
   cryptree STORE RANDOM make   make a store in STORE, a missing or empty file, and print its owner's key
+  cryptree STORE RANDOM run    apply the commands of standard input, one a line behind the owner's line, and answer each:
+                               mkdir PATH, write PATH HEX or rename PATH NAME
   cryptree STORE RANDOM list   print what a key opens; the key's line, as make prints it, is read from standard input
   cryptree --help              print this text
   cryptree --version           print the version

@@ -5,13 +5,15 @@ ghost use Rattle.cry_io.specs.Told.{WhereTold, WhereBothTold};
 ghost use Rattle.commit_journal.specs.Reading.{IsOnlyRead};
 ghost use Rattle.cryptree_cli.specs.Input.{input_answer};
 ghost use Rattle.cryptree_cli.specs.Listing.{InputDecides, ListsAs, ListsFresh, owner_in, list_answer, is_list_answer, is_before_read};
+ghost use Rattle.cryptree_cli.specs.Running.{EndsTyped, FirstIsBad, JudgesTyped, is_after_opening, is_before_opening, is_run_answer, key_in_lines, lines_in};
 ghost use Rattle.cryptree_cli.specs.Status.{is_make_answer, is_before_draw, is_before_write, is_before_print};
-ghost use Rattle.cryptree_cli.specs.Top.{IsMake, IsList, Makes, PrintsAll, PrintsFront, IsShort, EndsShort, text_of};
+ghost use Rattle.cryptree_cli.specs.Top.{IsMake, IsRun, IsList, Makes, PrintsAll, PrintsFront, IsShort, EndsShort, text_of};
 ghost use Rattle.cryptree_cli.specs.Words.{form_of_words};
 
 use crate::list::list;
 use crate::make::make;
 use crate::outside::print;
+use crate::run::run;
 use crate::status::Status;
 use crate::texts::{HELP, VERSION};
 use crate::words::{Form, form_of};
@@ -22,8 +24,9 @@ use std::alloc::Global;
 /// Does what the words ask for (docs/FORMAT.md, "The program"). `words` are those after the program's name, `disk` is
 /// the store's file, `random` a source of random bytes, `out` standard output, `input` standard input.
 ///
-/// Where two causes of an answer hold, the one met first is given: words, size, memory, draw, disk, output. Want of
-/// memory comes at its place in this order, and no clause says when.
+/// Where two causes of an answer hold, the one met first is given; for `make`: words, size, memory, draw, disk, output; for
+/// `run`: words, the first line, the store, and then for each line its form, memory, draw, disk, output. Want of memory comes
+/// at its place in this order, and no clause says when.
 pub fn top<S: Source, R: Source, D: Disk, W: Sink>(
     alloc: Global,
     words: &List<Text>,
@@ -37,7 +40,8 @@ pub fn top<S: Source, R: Source, D: Disk, W: Sink>(
     ensures make_answers { IsMake words.now.items → IsTrue (is_make_answer result) }
     ensures list_answers { IsList words.now.items → IsTrue (is_list_answer result) }
     ensures not_blank { (result ≡ Status.NotBlank) ↔ (IsMake words.now.items × (D.size_of disk.old ≢ 0)) }
-    ensures short { (left need : ℕ) → result ≡ Status.RandomShort left need →
+    ensures run_answers { IsRun words.now.items → IsTrue (is_run_answer result) }
+    ensures short { IsMake words.now.items → (left need : ℕ) → result ≡ Status.RandomShort left need →
         IsShort left need (R.left random.old) (R.left random.new) }
     ensures short_only { IsMake words.now.items → D.size_of disk.old ≡ 0 →
         WhereTold (R.left random.old) (EndsShort result) }
@@ -60,6 +64,17 @@ pub fn top<S: Source, R: Source, D: Disk, W: Sink>(
     ensures stays { IsMake words.now.items → (result ≡ Status.Done) ⊎ (result ≡ Status.WriteFault) →
         IsDurable (D.may_leave disk.new) (D.shown disk.new) × (D.size_of disk.new ≡ 819) }
 
+    // What `run` does: it opens the store with the key that the first line hands in, and answers each command before the next
+    // is read. On a disk that shows a journal it ends as that journal's session does, whatever it ends with.
+    ensures run_first_line { IsRun words.now.items → WhereTold (S.left input.old) (λ typed. key_in_lines (lines_in typed) ≡ None → FirstIsBad result) }
+    ensures run_judged { IsRun words.now.items → WhereTold (S.left input.old) (λ typed. WhereTold (D.shown disk.old) (λ image. JudgesTyped result typed image)) }
+    ensures ran { IsRun words.now.items → WhereTold (S.left input.old) (λ typed. WhereTold (R.left random.old) (λ draws.
+        EndsTyped result typed draws (D.shown disk.old) (R.left random.new) (D.shown disk.new) (W.written out.old) (W.written out.new))) }
+    ensures run_read_to_end { IsRun words.now.items → result ≡ Status.Done → WhereTold (S.left input.new) (λ rest. rest ≡ []) }
+    ensures run_stays { IsRun words.now.items → IsTrue (is_after_opening result) → IsDurable (D.may_leave disk.new) (D.shown disk.new) }
+    ensures run_unopened { IsRun words.now.items → IsTrue (is_before_opening result) →
+        (random.new ≡ random.old) × (disk.new ≡ disk.old) × (out.new ≡ out.old) }
+
     // What `list` does: it reads the input to its end, reads the store, and prints what the key shows in one piece.
     ensures list_input { IsList words.now.items → WhereTold (S.left input.old) (λ typed.
         InputDecides result (owner_in (input_answer typed))) }
@@ -80,11 +95,11 @@ pub fn top<S: Source, R: Source, D: Disk, W: Sink>(
         (random.new ≡ random.old) × (disk.new ≡ disk.old) }
 
     // What an answer leaves as it was.
-    ensures input_kept { IsList words.now.items ⊎ (input.new ≡ input.old) }
-    ensures random_kept { IsTrue (is_before_draw result) → random.new ≡ random.old }
-    ensures disk_kept { IsTrue (is_before_write result) → IsList words.now.items ⊎ (disk.new ≡ disk.old) }
-    ensures disk_unread { IsTrue (is_before_read result) → disk.new ≡ disk.old }
-    ensures out_kept { IsTrue (is_before_print result) → out.new ≡ out.old }
+    ensures input_kept { IsList words.now.items ⊎ (IsRun words.now.items ⊎ (input.new ≡ input.old)) }
+    ensures random_kept { IsTrue (is_before_draw result) → IsRun words.now.items ⊎ (random.new ≡ random.old) }
+    ensures disk_kept { IsTrue (is_before_write result) → IsList words.now.items ⊎ (IsRun words.now.items ⊎ (disk.new ≡ disk.old)) }
+    ensures disk_unread { IsTrue (is_before_read result) → IsRun words.now.items ⊎ (disk.new ≡ disk.old) }
+    ensures out_kept { IsTrue (is_before_print result) → IsRun words.now.items ⊎ (out.new ≡ out.old) }
 
     // What is told stays told, and counts never fall.
     ensures input_told { is_some (S.left input.new) ≡ is_some (S.left input.old) }
@@ -99,6 +114,7 @@ pub fn top<S: Source, R: Source, D: Disk, W: Sink>(
     match form_of(words) {
         None => Status::Usage,
         Some(Form::Make) => make(alloc, random, disk, out),
+        Some(Form::Run) => run(alloc, input, random, disk, out),
         Some(Form::List) => list(alloc, input, disk, out),
         Some(Form::Help) => tell(HELP, out),
         Some(Form::Version) => tell(VERSION, out),

@@ -9,6 +9,8 @@ use cry_base::{List, Text};
 pub enum Form {
     /// `STORE RANDOM make`
     Make,
+    /// `STORE RANDOM run`
+    Run,
     /// `STORE RANDOM list`
     List,
     /// `--help`
@@ -45,6 +47,8 @@ fn command_of(word: &Text) -> Option<Form>
 {
     if word.as_slice() == b"make".as_slice() {
         Some(Form::Make)
+    } else if word.as_slice() == b"run".as_slice() {
+        Some(Form::Run)
     } else if word.as_slice() == b"list".as_slice() {
         Some(Form::List)
     } else {

@@ -10,6 +10,7 @@ loop-command-init g c = record {
   out_told = refl;
   input_counts = omega arith;
   out_counts = omega arith;
+  ready = c.requires;
   going = going_at_start g.O.Applies.answers (c.args.owner.now, c.args.random.now, c.args.disk.now) c.args.reader.now (g.S.Source.left c.args.input.now) (g.W.Sink.written c.args.out.now);
 }
 
@@ -60,6 +61,7 @@ loop-command-preserved g c =
       out_told = c.in_default.ensures.told ∙ loop.out_told;
       input_counts = omega (arith, loop.input_counts, c.in-Ok-Some.ensures.counts);
       out_counts = omega (arith, loop.out_counts, c.in_default.ensures.counts);
+      ready = c.in_default.ensures.ready;
       going = goes_on g.O.Applies.answers g.O.Applies.fails c.in-Ok-Some.command (c.args.owner.now, c.args.random.now, c.args.disk.now)
           (c.loop-command.owner, c.loop-command.random, c.loop-command.disk) (c.answer.new.owner, c.answer.new.random, c.answer.new.disk)
           c.args.reader.now c.loop-command.reader c.next_command.new.reader

@@ -9,6 +9,7 @@ invariant-loop-command g l = record {
   out_told : is_some (g.W.Sink.written l.out) ≡ is_some (g.W.Sink.written l.fn.out);
   input_counts : g.S.Source.faults l.fn.input ≤ g.S.Source.faults l.input;
   out_counts : g.W.Sink.faults l.fn.out ≤ g.W.Sink.faults l.out;
+  ready : g.O.Applies.ready (l.owner, l.random, l.disk);
   going : Going g.O.Applies.answers (l.fn.owner, l.fn.random, l.fn.disk) (l.owner, l.random, l.disk) l.fn.reader l.reader (g.S.Source.left l.fn.input) (g.S.Source.left l.input) (g.W.Sink.written l.fn.out) (g.W.Sink.written l.out);
 }
 

@@ -1,0 +1,122 @@
+-- What the lines of a run leave of the random source and of the disk, however they end.
+use Rattle.std.proofs.Common.{◌≡◌, ◌≢◌, ◌≤◌, ◌<◌, ℕ, List, Option, Some, Result, Ok, Err, arith, refl, sym, ap, subst, ◌∙◌}
+use Rattle.std.specs.Prelude.{is_some}
+use Rattle.cry_base.specs.Requests.{Request}
+use Rattle.cry_base.specs.declared.commands.Reply.{Reply}
+use Rattle.cry_io.specs.Stops.{IsDurable}
+use Rattle.cryptree_cli.specs.Lines.{LineState, lines_ahead}
+use Rattle.cryptree_cli.specs.OwnerSteps.{AnswersIn, FailsIn, Scene}
+use Rattle.cryptree_cli.specs.Running.{Ends, ended_status, script_status, version_limits}
+use Rattle.cryptree_cli.specs.Script.{Answered, Ran}
+use Rattle.cryptree_cli.specs.declared.script.ScriptFault.{ScriptFault}
+use Rattle.cryptree_cli.specs.declared.script.ScriptFault.TheVariants.{BadLine, ReadFault, WriteFault, OutOfMemory, Applying}
+use Rattle.cryptree_cli.specs.declared.status.Status.TheVariants as statuses
+use Rattle.cryptree_cli.proofs.AnsweredScripts.{counts_rise, told_stays}
+use Rattle.cryptree_cli.proofs.RunEnds.{ends_as, still_told}
+use Rattle.public_fold.specs.Journal.{Journal}
+use Rattle.store_owner.specs.Applying.{StandsAt}
+use Rattle.store_owner.specs.Owned.{OwnerView}
+use Rattle.store_owner.specs.Script.{opened}
+use Rattle.store_owner.specs.declared.apply_fault.ApplyFault.{ApplyFault}
+use Rattle.store_owner.specs.declared.apply_fault.ApplyFault.TheVariants as faults
+
+module _ (R D : Type 0) (left : R → Option (List ℕ)) (random_faults : R → ℕ) (shown : D → Option (List ℕ)) (disk_faults : D → ℕ) (may_leave : D → List ℕ → Type 0) where
+  abbrev pub scene : OwnerView × R × D → Scene
+  scene x = record { owner = x.0; left = left x.1; shown = shown x.2; random_faults = random_faults x.1; disk_faults = disk_faults x.2 }
+
+  abbrev pub Step : OwnerView × R × D → Request → Reply → OwnerView × R × D → Type 0
+  Step x request reply y = AnswersIn (scene x) request reply (scene y)
+
+  abbrev pub Fails : OwnerView × R × D → Request → ApplyFault → OwnerView × R × D → Type 0
+  Fails x request fault y = FailsIn (scene x) request fault (scene y) × (fault ≢ faults.DiskFault → IsDurable (may_leave y.2) (shown y.2))
+
+  module _ (start end : OwnerView × R × D) (old new : LineState) (left_before left_after out_before out_after : Option (List ℕ)) where
+    abbrev HasRan : Result (Unit {0}) ScriptFault → Type 0
+    HasRan result = Ran Step Fails result start end old new left_before left_after out_before out_after
+
+    -- what is told stays told, and no count falls
+    abbrev GoesOn : Type 0
+    GoesOn = (is_some (left end.1) ≡ is_some (left start.1)) × (is_some (shown end.2) ≡ is_some (shown start.2))
+        × (random_faults start.1 ≤ random_faults end.1) × (disk_faults start.2 ≤ disk_faults end.2)
+
+    answered_on : (asked : List Request) (given : List Reply) → Answered Step start asked given end → GoesOn
+    answered_on asked given answers =
+        let told = told_stays (OwnerView × R × D) scene Step (λ x r reply y step. step) start asked given end answers in
+        let counts = counts_rise (OwnerView × R × D) scene Step (λ x r reply y step. step) start asked given end answers in
+        (told.0, told.1, counts.0, counts.1)
+
+    -- the last command met a fault
+    pub record Stops (fault : ApplyFault) : Type 0 where
+      pub x : OwnerView × R × D
+      pub request : Request
+      pub left_told : is_some (left x.1) ≡ is_some (left start.1)
+      pub shown_told : is_some (shown x.2) ≡ is_some (shown start.2)
+      pub random_counts : random_faults start.1 ≤ random_faults x.1
+      pub disk_counts : disk_faults start.2 ≤ disk_faults x.2
+      pub failed : FailsIn (scene x) request fault (scene end)
+
+    stops : (fault : ApplyFault) → HasRan (Err (Applying fault)) → Stops fault
+    stops fault ran =
+        let x : OwnerView × R × D = ran.stands.0 in
+        let told = told_stays (OwnerView × R × D) scene Step (λ z r reply y step. step) start ran.stands.1 ran.replies x ran.stands.4 in
+        let counts = counts_rise (OwnerView × R × D) scene Step (λ z r reply y step. step) start ran.stands.1 ran.replies x ran.stands.4 in
+        record {
+          x = x;
+          request = ran.stands.2;
+          left_told = told.0;
+          shown_told = told.1;
+          random_counts = counts.0;
+          disk_counts = counts.1;
+          failed = ran.stands.5.0;
+        }
+
+    pub goes_on : (result : Result (Unit {0}) ScriptFault) → HasRan result → GoesOn
+    goes_on (Ok tt) ran = answered_on ran.asked ran.replies ran.stands
+    goes_on (Err (BadLine line)) ran = answered_on ran.asked ran.replies ran.stands
+    goes_on (Err ReadFault) ran = answered_on ran.asked ran.replies ran.stands
+    goes_on (Err WriteFault) ran = answered_on ran.asked ran.replies ran.stands
+    goes_on (Err OutOfMemory) ran = answered_on ran.asked ran.replies ran.stands
+    goes_on (Err (Applying fault)) ran =
+        let s = stops fault ran in (
+          s.failed.left_told ∙ s.left_told,
+          s.failed.shown_told ∙ s.shown_told,
+          omega (arith, s.random_counts, s.failed.random_counts),
+          omega (arith, s.disk_counts, s.failed.disk_counts),
+        )
+
+    random_rose : HasRan (Err (Applying faults.RandomFault)) → random_faults start.1 < random_faults end.1
+    random_rose ran = let s = stops faults.RandomFault ran in omega (arith, s.random_counts, s.failed.random_fault refl)
+
+    disk_rose : HasRan (Err (Applying faults.DiskFault)) → disk_faults start.2 < disk_faults end.2
+    disk_rose ran = let s = stops faults.DiskFault ran in omega (arith, s.disk_counts, s.failed.disk_fault refl)
+
+    pub random_fault : (fault : ScriptFault) → HasRan (Err fault) → script_status fault ≡ statuses.RandomFault → random_faults start.1 < random_faults end.1
+    random_fault (BadLine line) ran e = absurd cc
+    random_fault ReadFault ran e = absurd cc
+    random_fault WriteFault ran e = absurd cc
+    random_fault OutOfMemory ran e = absurd cc
+    random_fault (Applying faults.RandomFault) ran e = random_rose ran
+    random_fault (Applying (faults.RandomShort given need)) ran e = absurd cc
+    random_fault (Applying faults.DiskFault) ran e = absurd cc
+    random_fault (Applying faults.Closed) ran e = absurd cc
+    random_fault (Applying faults.OutOfMemory) ran e = absurd cc
+
+    pub disk_fault : (fault : ScriptFault) → HasRan (Err fault) → script_status fault ≡ statuses.DiskFault → disk_faults start.2 < disk_faults end.2
+    disk_fault (BadLine line) ran e = absurd cc
+    disk_fault ReadFault ran e = absurd cc
+    disk_fault WriteFault ran e = absurd cc
+    disk_fault OutOfMemory ran e = absurd cc
+    disk_fault (Applying faults.RandomFault) ran e = absurd cc
+    disk_fault (Applying (faults.RandomShort given need)) ran e = absurd cc
+    disk_fault (Applying faults.DiskFault) ran e = disk_rose ran
+    disk_fault (Applying faults.Closed) ran e = absurd ((stops faults.Closed ran).failed.never_closed refl)
+    disk_fault (Applying faults.OutOfMemory) ran e = absurd cc
+
+    -- on a disk that shows a journal, where the input tells
+    pub ends_so : (result : Result (Unit {0}) ScriptFault) → HasRan result → old.given ≡ 1 → is_some left_after ≡ is_some left_before → (b : List ℕ) → left_before ≡ Some b
+        → (draws key : List ℕ) (m : Journal) → StandsAt version_limits key (opened m draws) start.0 (left start.1) (shown start.2)
+        → Ends (ended_status result) version_limits key m draws (lines_ahead old b) (left end.1) (shown end.2) out_before out_after
+    ends_so result ran first told b was draws key m stands =
+        let after = still_told left_after left_before b told was in
+        ends_as (OwnerView × R × D) scene Step Fails (λ x r reply y step. step) (λ x r fault y failed. failed.0) version_limits key m draws start end stands
+        old new left_before left_after out_before out_after b after.0 was after.1 result ran first

@@ -1,0 +1,114 @@
+-- How a run ends at its first line, and where the store is opened or isn't.
+use Rattle.std.proofs.Common.{◌≡◌, ◌≤◌, ℕ, List, [], ◌∷◌, Bool, true, false, Option, None, Some, Result, Ok, Err, inl, inr, ⊎_elim, ◌⊎◌, arith, refl, sym, ap, subst, ◌∙◌}
+use Rattle.std.specs.Prelude.{IsTrue, is_some}
+use Rattle.std.proofs.lemmas.Bool.{false≢true}
+use Rattle.commit_journal.specs.declared.fault.OpenFault.{OpenFault}
+use Rattle.commit_journal.specs.declared.fault.OpenFault.TheVariants as opening
+use Rattle.cry_base.specs.declared.limits.Limits.{Limits}
+use Rattle.cryptree_cli.specs.Input.{input_limit}
+use Rattle.cryptree_cli.specs.Lines.{InputLine, LineState, lines_ahead}
+use Rattle.cryptree_cli.specs.Running.{CountsOwner, Ends, FirstIsBad, GivesOwner, Judges, is_after_opening, key_in_lines, lines_behind, lines_in, open_status, script_status, version_limits}
+use Rattle.cryptree_cli.specs.Script.{IsReading}
+use Rattle.cryptree_cli.specs.declared.script.ScriptFault.{ScriptFault}
+use Rattle.cryptree_cli.specs.declared.script.ScriptFault.TheVariants.{BadLine, ReadFault, WriteFault, OutOfMemory, Applying}
+use Rattle.holder_client.specs.Asking.{OpenStore, failure_of, opened_store, verdict}
+use Rattle.holder_client.specs.Asking.Asking.{ToWrite}
+use Rattle.holder_client.specs.Judging.{Failure}
+use Rattle.public_fold.specs.Journal.{Journal}
+use Rattle.store_owner.specs.Applying.{StandsAt}
+use Rattle.store_owner.specs.Bytes.{batches_of}
+use Rattle.store_owner.specs.Journals.{IsSettled}
+use Rattle.store_owner.specs.Opened.{IsFresh, IsOpenFault}
+use Rattle.store_owner.specs.Owned.{IsOwnerOf, OwnerView, limits_in}
+use Rattle.store_owner.specs.Script.{Going, opened}
+
+-- a reader that has read nothing yet
+abbrev pub fresh_reader : LineState
+fresh_reader = record { line = []; piece = []; room = input_limit; given = 0 }
+
+-- what the first line gives, of an input that tells
+pub gives_first : (result : Result (List ℕ) ScriptFault) (reader : LineState) (typed : List ℕ) (after : List InputLine) → reader ≡ fresh_reader
+    → GivesOwner result (lines_ahead reader typed) after → GivesOwner result (lines_in typed) after
+gives_first result reader typed after is gives = subst (λ (r : LineState). GivesOwner result (lines_ahead r typed) after) is gives
+
+pub first_is_bad : (fault : ScriptFault) → IsReading fault → (before after : List InputLine) → GivesOwner (Err fault) before after → FirstIsBad (script_status fault)
+first_is_bad (BadLine line) reading before after gives = gives.1
+first_is_bad ReadFault reading before after gives = tt
+first_is_bad OutOfMemory reading before after gives = tt
+first_is_bad WriteFault reading before after gives = absurd reading
+first_is_bad (Applying fault) reading before after gives = absurd reading
+
+none_is_none : (key : List ℕ) (o : Option (List ℕ)) → o ≡ None → o ≡ Some key → ⊥
+none_is_none key o none some = let both = sym none ∙ some in absurd cc
+
+pub bad_first_is_unjudged : (fault : ScriptFault) → IsReading fault → (before after : List InputLine) → GivesOwner (Err fault) before after
+    → (key : List ℕ) → key_in_lines before ≡ Some key → (v : Option Failure) → Judges (script_status fault) v
+bad_first_is_unjudged (BadLine line) reading before after gives key hands v = absurd (none_is_none key (key_in_lines before) gives.0 hands)
+bad_first_is_unjudged ReadFault reading before after gives key hands v = tt
+bad_first_is_unjudged OutOfMemory reading before after gives key hands v = tt
+bad_first_is_unjudged WriteFault reading before after gives key hands v = absurd reading
+bad_first_is_unjudged (Applying fault) reading before after gives key hands v = absurd reading
+
+pub first_ends : (fault : ScriptFault) → IsReading fault → (before after : List InputLine) → GivesOwner (Err fault) before after
+    → (key : List ℕ) → key_in_lines before ≡ Some key → (limits : Limits) (m : Journal) (draws : List ℕ) (lines : List InputLine) (left shown written : Option (List ℕ)) → left ≡ Some draws
+    → Ends (script_status fault) limits key m draws lines left shown written written
+first_ends (BadLine line) reading before after gives key hands limits m draws lines left shown written undrawn = absurd (none_is_none key (key_in_lines before) gives.0 hands)
+first_ends ReadFault reading before after gives key hands limits m draws lines left shown written undrawn = inl (record { undrawn = undrawn; unprinted = refl })
+first_ends OutOfMemory reading before after gives key hands limits m draws lines left shown written undrawn = inl (record { undrawn = undrawn; unprinted = refl })
+first_ends WriteFault reading before after gives key hands limits m draws lines left shown written undrawn = absurd reading
+first_ends (Applying fault) reading before after gives key hands limits m draws lines left shown written undrawn = absurd reading
+
+pub first_is_before : (fault : ScriptFault) → IsReading fault → (old new : ℕ) → CountsOwner (Err fault) old new → is_after_opening (script_status fault) ≡ false
+first_is_before (BadLine line) reading old new count = subst (λ n. is_after_opening (script_status (BadLine n)) ≡ false) (sym count) refl
+first_is_before ReadFault reading old new count = refl
+first_is_before OutOfMemory reading old new count = refl
+first_is_before WriteFault reading old new count = absurd reading
+first_is_before (Applying fault) reading old new count = absurd reading
+
+-- a line that hands in a key isn't bad
+pub key_is_given : {P : Type 0} (key : List ℕ) (before after : List InputLine) → GivesOwner (Ok key) before after → key_in_lines before ≡ None → P
+key_is_given key before after gives none = absurd (none_is_none key (key_in_lines before) none gives.0)
+
+pub same_key : (given key : List ℕ) (before after : List InputLine) → GivesOwner (Ok given) before after → key_in_lines before ≡ Some key → given ≡ key
+same_key given key before after gives hands = let both = sym gives.0 ∙ hands in cc
+
+-- the bytes' verdict where the store isn't opened, and where it is
+judged : (fault : OpenFault) (wanted : Result OpenStore Failure) → IsOpenFault fault wanted → Judges (open_status fault) (failure_of wanted)
+unfolding failure_of
+judged opening.NotAStore wanted is = ap failure_of is
+judged opening.WrongKey wanted is = ap failure_of is
+judged (opening.Damaged at) wanted is = ap failure_of is
+judged (opening.Tampered batch at) wanted is = ap failure_of is
+judged opening.DiskFault wanted is = tt
+judged opening.OutOfMemory wanted is = tt
+
+pub unopened_is_judged : (fault : OpenFault) (key image : List ℕ) → IsOpenFault fault (opened_store key image) → Judges (open_status fault) (verdict (ToWrite key) image)
+unfolding verdict
+unopened_is_judged fault key image is = judged fault (opened_store key image) is
+
+pub opened_has_no_verdict : (key image : List ℕ) (s : OpenStore) → opened_store key image ≡ Ok s → verdict (ToWrite key) image ≡ None
+unfolding verdict failure_of
+opened_has_no_verdict key image s is = ap failure_of is
+
+-- a store that shows a journal isn't opened where the disk failed, or memory was wanting
+pub unopened_ends : (fault : OpenFault) → (fault ≡ opening.DiskFault) ⊎ (fault ≡ opening.OutOfMemory)
+    → (limits : Limits) (key : List ℕ) (m : Journal) (draws : List ℕ) (lines : List InputLine) (left shown written : Option (List ℕ)) → left ≡ Some draws
+    → Ends (open_status fault) limits key m draws lines left shown written written
+unopened_ends fault why limits key m draws lines left shown written undrawn =
+    ⊎_elim
+    (λ (e : fault ≡ opening.DiskFault). subst (λ (f : OpenFault). Ends (open_status f) limits key m draws lines left shown written written) (sym e) (inl (record { undrawn = undrawn; unprinted = refl })))
+    (λ (e : fault ≡ opening.OutOfMemory). subst (λ (f : OpenFault). Ends (open_status f) limits key m draws lines left shown written written) (sym e) (inl (record { undrawn = undrawn; unprinted = refl })))
+    why
+
+-- an owner who opened a journal's store stands where a session begins
+pub opened_stands : (key : List ℕ) (m : Journal) (draws : List ℕ) (o : OwnerView) (left shown : Option (List ℕ)) (may_leave : List ℕ → Type 0) → IsOwnerOf m o
+    → IsFresh key 268435456 1048576 o → IsSettled key m shown may_leave → left ≡ Some draws → StandsAt version_limits key (opened m draws) o left shown
+unfolding opened
+opened_stands key m draws o left shown may_leave is fresh settled undrawn = record {
+  owner_is = is;
+  has_key = fresh.same_key;
+  has_limits = ap (λ n. let l : Limits = record { store_bytes = n; file_bytes = o.file_bytes } in l) fresh.limit ∙ ap (λ n. let l : Limits = record { store_bytes = 268435456; file_bytes = n } in l) fresh.bound;
+  has_begun = fresh.not_begun;
+  has_draws = undrawn;
+  disk_stands = (settled.shows.0, settled.shows.1, settled.shows.2.stands);
+}

@@ -1,0 +1,104 @@
+use Rattle.std.proofs.Common.{◌≡◌, Ok, Err, sym, subst, ap, ◌∙◌}
+use Rattle.cryptree_cli.specs.Lines.{lines_ahead}
+use Rattle.cryptree_cli.specs.Running.{Ends, version_limits}
+use Rattle.cryptree_cli.specs.declared.status.Status.TheVariants.{DiskFault, RandomFault}
+use Rattle.cryptree_cli.proofs.RunLemmas.{disk_fault, ends_so, goes_on, random_fault}
+use Rattle.cryptree_cli.proofs.run.apply_lines.Goals as goal
+
+pub returns-in-Ok-clause-ran : goal.returns-in-Ok-clause-ran
+returns-in-Ok-clause-ran g c = λ x was draws key m stands.
+    ends_so g.row.R.Denot g.row.D.Denot g.R.Source.left g.R.Source.faults g.D.Disk.shown g.D.Disk.faults g.D.Disk.may_leave
+    (c.args.owner, c.args.random.now, c.args.disk.now) (c.run_lines.new.owner, c.run_lines.new.random, c.run_lines.new.disk)
+    c.args.reader c.run_lines.new.reader (g.S.Source.left c.args.input.now) (g.S.Source.left c.run_lines.new.input)
+    (g.W.Sink.written c.args.out.now) (g.W.Sink.written c.run_lines.new.out)
+    (Ok tt) c.in-Ok.ensures.ran c.requires.second c.in-Ok.ensures.input_told x was draws key m stands
+
+pub returns-in-Ok-clause-random_told : goal.returns-in-Ok-clause-random_told
+returns-in-Ok-clause-random_told g c =
+    (goes_on g.row.R.Denot g.row.D.Denot g.R.Source.left g.R.Source.faults g.D.Disk.shown g.D.Disk.faults g.D.Disk.may_leave
+    (c.args.owner, c.args.random.now, c.args.disk.now) (c.run_lines.new.owner, c.run_lines.new.random, c.run_lines.new.disk)
+    c.args.reader c.run_lines.new.reader (g.S.Source.left c.args.input.now) (g.S.Source.left c.run_lines.new.input)
+    (g.W.Sink.written c.args.out.now) (g.W.Sink.written c.run_lines.new.out)
+    (Ok tt) c.in-Ok.ensures.ran).0
+
+pub returns-in-Ok-clause-disk_told : goal.returns-in-Ok-clause-disk_told
+returns-in-Ok-clause-disk_told g c =
+    (goes_on g.row.R.Denot g.row.D.Denot g.R.Source.left g.R.Source.faults g.D.Disk.shown g.D.Disk.faults g.D.Disk.may_leave
+    (c.args.owner, c.args.random.now, c.args.disk.now) (c.run_lines.new.owner, c.run_lines.new.random, c.run_lines.new.disk)
+    c.args.reader c.run_lines.new.reader (g.S.Source.left c.args.input.now) (g.S.Source.left c.run_lines.new.input)
+    (g.W.Sink.written c.args.out.now) (g.W.Sink.written c.run_lines.new.out)
+    (Ok tt) c.in-Ok.ensures.ran).1
+
+pub returns-in-Ok-clause-random_counts : goal.returns-in-Ok-clause-random_counts
+returns-in-Ok-clause-random_counts g c =
+    (goes_on g.row.R.Denot g.row.D.Denot g.R.Source.left g.R.Source.faults g.D.Disk.shown g.D.Disk.faults g.D.Disk.may_leave
+    (c.args.owner, c.args.random.now, c.args.disk.now) (c.run_lines.new.owner, c.run_lines.new.random, c.run_lines.new.disk)
+    c.args.reader c.run_lines.new.reader (g.S.Source.left c.args.input.now) (g.S.Source.left c.run_lines.new.input)
+    (g.W.Sink.written c.args.out.now) (g.W.Sink.written c.run_lines.new.out)
+    (Ok tt) c.in-Ok.ensures.ran).2
+
+pub returns-in-Ok-clause-disk_counts : goal.returns-in-Ok-clause-disk_counts
+returns-in-Ok-clause-disk_counts g c =
+    (goes_on g.row.R.Denot g.row.D.Denot g.R.Source.left g.R.Source.faults g.D.Disk.shown g.D.Disk.faults g.D.Disk.may_leave
+    (c.args.owner, c.args.random.now, c.args.disk.now) (c.run_lines.new.owner, c.run_lines.new.random, c.run_lines.new.disk)
+    c.args.reader c.run_lines.new.reader (g.S.Source.left c.args.input.now) (g.S.Source.left c.run_lines.new.input)
+    (g.W.Sink.written c.args.out.now) (g.W.Sink.written c.run_lines.new.out)
+    (Ok tt) c.in-Ok.ensures.ran).3
+
+pub returns-clause-ran : goal.returns-clause-ran
+returns-clause-ran g c = λ x was draws key m stands.
+    subst (λ status. Ends status version_limits key m draws (lines_ahead c.args.reader x) (g.R.Source.left c.run_lines.new.random) (g.D.Disk.shown c.run_lines.new.disk)
+    (g.W.Sink.written c.args.out.now) (g.W.Sink.written c.run_lines.new.out)) (sym c.script_status.ensures)
+    (ends_so g.row.R.Denot g.row.D.Denot g.R.Source.left g.R.Source.faults g.D.Disk.shown g.D.Disk.faults g.D.Disk.may_leave
+    (c.args.owner, c.args.random.now, c.args.disk.now) (c.run_lines.new.owner, c.run_lines.new.random, c.run_lines.new.disk)
+    c.args.reader c.run_lines.new.reader (g.S.Source.left c.args.input.now) (g.S.Source.left c.run_lines.new.input)
+    (g.W.Sink.written c.args.out.now) (g.W.Sink.written c.run_lines.new.out)
+    (Err c.in-Err.fault) c.in-Err.ensures.ran c.requires.second c.in-Err.ensures.input_told x was draws key m stands)
+
+pub returns-clause-random_told : goal.returns-clause-random_told
+returns-clause-random_told g c =
+    (goes_on g.row.R.Denot g.row.D.Denot g.R.Source.left g.R.Source.faults g.D.Disk.shown g.D.Disk.faults g.D.Disk.may_leave
+    (c.args.owner, c.args.random.now, c.args.disk.now) (c.run_lines.new.owner, c.run_lines.new.random, c.run_lines.new.disk)
+    c.args.reader c.run_lines.new.reader (g.S.Source.left c.args.input.now) (g.S.Source.left c.run_lines.new.input)
+    (g.W.Sink.written c.args.out.now) (g.W.Sink.written c.run_lines.new.out)
+    (Err c.in-Err.fault) c.in-Err.ensures.ran).0
+
+pub returns-clause-disk_told : goal.returns-clause-disk_told
+returns-clause-disk_told g c =
+    (goes_on g.row.R.Denot g.row.D.Denot g.R.Source.left g.R.Source.faults g.D.Disk.shown g.D.Disk.faults g.D.Disk.may_leave
+    (c.args.owner, c.args.random.now, c.args.disk.now) (c.run_lines.new.owner, c.run_lines.new.random, c.run_lines.new.disk)
+    c.args.reader c.run_lines.new.reader (g.S.Source.left c.args.input.now) (g.S.Source.left c.run_lines.new.input)
+    (g.W.Sink.written c.args.out.now) (g.W.Sink.written c.run_lines.new.out)
+    (Err c.in-Err.fault) c.in-Err.ensures.ran).1
+
+pub returns-clause-random_counts : goal.returns-clause-random_counts
+returns-clause-random_counts g c =
+    (goes_on g.row.R.Denot g.row.D.Denot g.R.Source.left g.R.Source.faults g.D.Disk.shown g.D.Disk.faults g.D.Disk.may_leave
+    (c.args.owner, c.args.random.now, c.args.disk.now) (c.run_lines.new.owner, c.run_lines.new.random, c.run_lines.new.disk)
+    c.args.reader c.run_lines.new.reader (g.S.Source.left c.args.input.now) (g.S.Source.left c.run_lines.new.input)
+    (g.W.Sink.written c.args.out.now) (g.W.Sink.written c.run_lines.new.out)
+    (Err c.in-Err.fault) c.in-Err.ensures.ran).2
+
+pub returns-clause-disk_counts : goal.returns-clause-disk_counts
+returns-clause-disk_counts g c =
+    (goes_on g.row.R.Denot g.row.D.Denot g.R.Source.left g.R.Source.faults g.D.Disk.shown g.D.Disk.faults g.D.Disk.may_leave
+    (c.args.owner, c.args.random.now, c.args.disk.now) (c.run_lines.new.owner, c.run_lines.new.random, c.run_lines.new.disk)
+    c.args.reader c.run_lines.new.reader (g.S.Source.left c.args.input.now) (g.S.Source.left c.run_lines.new.input)
+    (g.W.Sink.written c.args.out.now) (g.W.Sink.written c.run_lines.new.out)
+    (Err c.in-Err.fault) c.in-Err.ensures.ran).3
+
+pub returns-clause-random_fault : goal.returns-clause-random_fault
+returns-clause-random_fault g c = λ is.
+    random_fault g.row.R.Denot g.row.D.Denot g.R.Source.left g.R.Source.faults g.D.Disk.shown g.D.Disk.faults g.D.Disk.may_leave
+    (c.args.owner, c.args.random.now, c.args.disk.now) (c.run_lines.new.owner, c.run_lines.new.random, c.run_lines.new.disk)
+    c.args.reader c.run_lines.new.reader (g.S.Source.left c.args.input.now) (g.S.Source.left c.run_lines.new.input)
+    (g.W.Sink.written c.args.out.now) (g.W.Sink.written c.run_lines.new.out)
+    c.in-Err.fault c.in-Err.ensures.ran (sym c.script_status.ensures ∙ is)
+
+pub returns-clause-disk_fault : goal.returns-clause-disk_fault
+returns-clause-disk_fault g c = λ is.
+    disk_fault g.row.R.Denot g.row.D.Denot g.R.Source.left g.R.Source.faults g.D.Disk.shown g.D.Disk.faults g.D.Disk.may_leave
+    (c.args.owner, c.args.random.now, c.args.disk.now) (c.run_lines.new.owner, c.run_lines.new.random, c.run_lines.new.disk)
+    c.args.reader c.run_lines.new.reader (g.S.Source.left c.args.input.now) (g.S.Source.left c.run_lines.new.input)
+    (g.W.Sink.written c.args.out.now) (g.W.Sink.written c.run_lines.new.out)
+    c.in-Err.fault c.in-Err.ensures.ran (sym c.script_status.ensures ∙ is)

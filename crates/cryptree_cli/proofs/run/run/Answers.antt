@@ -1,0 +1,89 @@
+use Rattle.std.proofs.Common.{◌≡◌, None, Err, Ok, refl, sym, subst, ap, ◌∙◌}
+use Rattle.cryptree_cli.specs.Lines.{lines_ahead}
+use Rattle.cryptree_cli.specs.Running.{Ends, FirstIsBad, Judges, lines_behind, lines_in, open_status, version_limits}
+use Rattle.cryptree_cli.proofs.RunEnds.{still_told}
+use Rattle.cryptree_cli.proofs.RunOpening.{bad_first_is_unjudged, first_ends, first_is_bad, gives_first, key_is_given, opened_has_no_verdict, opened_stands, same_key, unopened_ends, unopened_is_judged}
+use Rattle.holder_client.specs.Asking.{verdict}
+use Rattle.holder_client.specs.Asking.Asking.{ToWrite}
+use Rattle.store_owner.specs.Journals.{StandsForJournal}
+use Rattle.cryptree_cli.proofs.run.run.Goals as goal
+
+pub returns-in-Err-clause-first_line : goal.returns-in-Err-clause-first_line
+returns-in-Err-clause-first_line g c = λ x was none.
+    let after = still_told (g.S.Source.left c.first_owner.new.input) (g.S.Source.left c.args.input.now) x c.in-Err.ensures.told was in
+    subst FirstIsBad (sym c.script_status.ensures)
+    (first_is_bad c.in-Err.fault c.in-Err.ensures.faults (lines_in x) (lines_ahead c.first_owner.new.reader after.0)
+    (gives_first (Err c.in-Err.fault) c.new-reader.result x (lines_ahead c.first_owner.new.reader after.0) c.new-reader.ensures (c.in-Err.ensures.gives x after.0 was after.1)))
+
+pub returns-in-Err-clause-judged : goal.returns-in-Err-clause-judged
+returns-in-Err-clause-judged g c = λ x was image shown key hands.
+    let after = still_told (g.S.Source.left c.first_owner.new.input) (g.S.Source.left c.args.input.now) x c.in-Err.ensures.told was in
+    subst (λ status. Judges status (verdict (ToWrite key) image)) (sym c.script_status.ensures)
+    (bad_first_is_unjudged c.in-Err.fault c.in-Err.ensures.faults (lines_in x) (lines_ahead c.first_owner.new.reader after.0)
+    (gives_first (Err c.in-Err.fault) c.new-reader.result x (lines_ahead c.first_owner.new.reader after.0) c.new-reader.ensures (c.in-Err.ensures.gives x after.0 was after.1))
+    key hands (verdict (ToWrite key) image))
+
+pub returns-in-Err-clause-ran : goal.returns-in-Err-clause-ran
+returns-in-Err-clause-ran g c = λ x was draws left key m hands shows.
+    let after = still_told (g.S.Source.left c.first_owner.new.input) (g.S.Source.left c.args.input.now) x c.in-Err.ensures.told was in
+    subst (λ status. Ends status version_limits key m draws (lines_behind (lines_in x)) (g.R.Source.left c.args.random.now) (g.D.Disk.shown c.args.disk.now)
+    (g.W.Sink.written c.args.out.now) (g.W.Sink.written c.args.out.now)) (sym c.script_status.ensures)
+    (first_ends c.in-Err.fault c.in-Err.ensures.faults (lines_in x) (lines_ahead c.first_owner.new.reader after.0)
+    (gives_first (Err c.in-Err.fault) c.new-reader.result x (lines_ahead c.first_owner.new.reader after.0) c.new-reader.ensures (c.in-Err.ensures.gives x after.0 was after.1))
+    key hands version_limits m draws (lines_behind (lines_in x)) (g.R.Source.left c.args.random.now) (g.D.Disk.shown c.args.disk.now) (g.W.Sink.written c.args.out.now) left)
+
+pub returns-in-Ok-open_store-clause-first_line : goal.returns-in-Ok-open_store-clause-first_line
+returns-in-Ok-open_store-clause-first_line g c = λ x was none.
+    let after = still_told (g.S.Source.left c.first_owner.new.input) (g.S.Source.left c.args.input.now) x c.in-Ok.ensures.told was in
+    key_is_given c.in-Ok.key (lines_in x) (lines_ahead c.first_owner.new.reader after.0)
+    (gives_first (Ok c.in-Ok.key) c.new-reader.result x (lines_ahead c.first_owner.new.reader after.0) c.new-reader.ensures (c.in-Ok.ensures.gives x after.0 was after.1)) none
+
+pub returns-in-Err-open_store-clause-first_line : goal.returns-in-Err-open_store-clause-first_line
+returns-in-Err-open_store-clause-first_line g c = λ x was none.
+    let after = still_told (g.S.Source.left c.first_owner.new.input) (g.S.Source.left c.args.input.now) x c.in-Ok.ensures.told was in
+    key_is_given c.in-Ok.key (lines_in x) (lines_ahead c.first_owner.new.reader after.0)
+    (gives_first (Ok c.in-Ok.key) c.new-reader.result x (lines_ahead c.first_owner.new.reader after.0) c.new-reader.ensures (c.in-Ok.ensures.gives x after.0 was after.1)) none
+
+pub returns-in-Ok-open_store-clause-judged : goal.returns-in-Ok-open_store-clause-judged
+returns-in-Ok-open_store-clause-judged g c = λ x was image shown key hands.
+    let after = still_told (g.S.Source.left c.first_owner.new.input) (g.S.Source.left c.args.input.now) x c.in-Ok.ensures.told was in
+    let same = same_key c.in-Ok.key key (lines_in x) (lines_ahead c.first_owner.new.reader after.0)
+    (gives_first (Ok c.in-Ok.key) c.new-reader.result x (lines_ahead c.first_owner.new.reader after.0) c.new-reader.ensures (c.in-Ok.ensures.gives x after.0 was after.1)) hands in
+    let opens = c.in-Ok-open_store.ensures.largest refl image shown in
+    c.apply_lines.ensures.none_of_bytes (verdict (ToWrite key) image)
+    (subst (λ k. verdict (ToWrite k) image ≡ None) same (opened_has_no_verdict c.in-Ok.key image opens.0 opens.1))
+
+pub returns-in-Err-open_store-clause-judged : goal.returns-in-Err-open_store-clause-judged
+returns-in-Err-open_store-clause-judged g c = λ x was image shown key hands.
+    let after = still_told (g.S.Source.left c.first_owner.new.input) (g.S.Source.left c.args.input.now) x c.in-Ok.ensures.told was in
+    let same = same_key c.in-Ok.key key (lines_in x) (lines_ahead c.first_owner.new.reader after.0)
+    (gives_first (Ok c.in-Ok.key) c.new-reader.result x (lines_ahead c.first_owner.new.reader after.0) c.new-reader.ensures (c.in-Ok.ensures.gives x after.0 was after.1)) hands in
+    subst (λ status. Judges status (verdict (ToWrite key) image)) (sym c.open_status.ensures)
+    (subst (λ k. Judges (open_status c.in-Err-open_store.fault) (verdict (ToWrite k) image)) same
+    (unopened_is_judged c.in-Err-open_store.fault c.in-Ok.key image (c.in-Err-open_store.ensures.largest refl image shown)))
+
+pub returns-in-Err-open_store-clause-ran : goal.returns-in-Err-open_store-clause-ran
+returns-in-Err-open_store-clause-ran g c = λ x was draws left key m hands shows.
+    let after = still_told (g.S.Source.left c.first_owner.new.input) (g.S.Source.left c.args.input.now) x c.in-Ok.ensures.told was in
+    let same = same_key c.in-Ok.key key (lines_in x) (lines_ahead c.first_owner.new.reader after.0)
+    (gives_first (Ok c.in-Ok.key) c.new-reader.result x (lines_ahead c.first_owner.new.reader after.0) c.new-reader.ensures (c.in-Ok.ensures.gives x after.0 was after.1)) hands in
+    let stands = subst (λ k. StandsForJournal k m shows.0) (sym same) shows.2 in
+    subst (λ status. Ends status version_limits key m draws (lines_behind (lines_in x)) (g.R.Source.left c.args.random.now) (g.D.Disk.shown c.open_store.new.disk)
+    (g.W.Sink.written c.args.out.now) (g.W.Sink.written c.args.out.now)) (sym c.open_status.ensures)
+    (unopened_ends c.in-Err-open_store.fault (c.in-Err-open_store.ensures.never m shows.0 shows.1 stands stands.valid.1)
+    version_limits key m draws (lines_behind (lines_in x)) (g.R.Source.left c.args.random.now) (g.D.Disk.shown c.open_store.new.disk) (g.W.Sink.written c.args.out.now) left)
+
+pub returns-in-Ok-open_store-clause-ran : goal.returns-in-Ok-open_store-clause-ran
+returns-in-Ok-open_store-clause-ran g c = λ x was draws left key m hands shows.
+    let after = still_told (g.S.Source.left c.first_owner.new.input) (g.S.Source.left c.args.input.now) x c.in-Ok.ensures.told was in
+    let gives = gives_first (Ok c.in-Ok.key) c.new-reader.result x (lines_ahead c.first_owner.new.reader after.0) c.new-reader.ensures (c.in-Ok.ensures.gives x after.0 was after.1) in
+    let same = same_key c.in-Ok.key key (lines_in x) (lines_ahead c.first_owner.new.reader after.0) gives hands in
+    let stands = subst (λ k. StandsForJournal k m shows.0) (sym same) shows.2 in
+    let begins = opened_stands c.in-Ok.key m draws c.in-Ok-open_store.owner (g.R.Source.left c.args.random.now) (g.D.Disk.shown c.open_store.new.disk) (g.D.Disk.may_leave c.open_store.new.disk)
+    (c.in-Ok-open_store.ensures.stands m shows.0 shows.1 stands stands.valid.1) c.in-Ok-open_store.ensures.fresh
+    (c.in-Ok-open_store.ensures.settled m shows.0 shows.1 stands stands.valid.1) left in
+    subst (λ lines. Ends c.apply_lines.result version_limits key m draws lines (g.R.Source.left c.apply_lines.new.random) (g.D.Disk.shown c.apply_lines.new.disk)
+    (g.W.Sink.written c.args.out.now) (g.W.Sink.written c.apply_lines.new.out)) gives.1
+    (subst (λ k. Ends c.apply_lines.result version_limits k m draws (lines_ahead c.first_owner.new.reader after.0) (g.R.Source.left c.apply_lines.new.random) (g.D.Disk.shown c.apply_lines.new.disk)
+    (g.W.Sink.written c.args.out.now) (g.W.Sink.written c.apply_lines.new.out)) same
+    (c.apply_lines.ensures.ran after.0 after.1 draws c.in-Ok.key m begins))

@@ -1,0 +1,41 @@
+-- What an owner promises of each command, whatever the owner stands for. This project's own, docs/FORMAT.md, "The program".
+use Rattle.std.specs.Prelude.{◌≡◌, ◌≢◌, ◌<◌, ◌≤◌, ℕ, List, Option, Ok, Err, is_some}
+use Rattle.cry_base.specs.Requests.{Request}
+use Rattle.cry_base.specs.declared.commands.Refusal.{Refusal}
+use Rattle.cry_base.specs.declared.commands.Reply.{Reply}
+use Rattle.cry_base.specs.declared.commands.Reply.TheVariants.{Refused}
+use Rattle.public_fold.specs.Journal.{Journal}
+use Rattle.store_owner.specs.Applying.{Answers}
+use Rattle.store_owner.specs.Owned.{IsOwnerOf, OwnerView}
+use Rattle.store_owner.specs.declared.apply_fault.ApplyFault.{ApplyFault}
+use Rattle.store_owner.specs.declared.apply_fault.ApplyFault.TheVariants as faults
+
+-- an owner with the random bytes that are left, what the disk shows, and how often either failed
+pub record Scene : Type 0 where
+  pub owner : OwnerView
+  pub left : Option (List ℕ)
+  pub shown : Option (List ℕ)
+  pub random_faults : ℕ
+  pub disk_faults : ℕ
+
+-- a command that is answered: as the journal says for which the owner stands; a refused one draws and writes nothing
+pub record AnswersIn (before : Scene) (request : Request) (reply : Reply) (after : Scene) : Type 0 where
+  pub answers : (m : Journal) → IsOwnerOf m before.owner → Answers (Ok reply) m request before.owner after.owner before.left after.left before.shown after.shown
+  pub left_told : is_some after.left ≡ is_some before.left
+  pub shown_told : is_some after.shown ≡ is_some before.shown
+  pub kept : (why : Refusal) → reply ≡ Refused why → (after.left ≡ before.left) × (after.shown ≡ before.shown)
+  pub random_counts : before.random_faults ≤ after.random_faults
+  pub disk_counts : before.disk_faults ≤ after.disk_faults
+
+-- a command that meets a fault: only that of the disk changes what it shows, and each comes only where its count rose
+pub record FailsIn (before : Scene) (request : Request) (fault : ApplyFault) (after : Scene) : Type 0 where
+  pub answers : (m : Journal) → IsOwnerOf m before.owner → Answers (Err fault) m request before.owner after.owner before.left after.left before.shown after.shown
+  pub left_told : is_some after.left ≡ is_some before.left
+  pub shown_told : is_some after.shown ≡ is_some before.shown
+  pub undrawn : fault ≡ faults.OutOfMemory → after.left ≡ before.left
+  pub unwritten : fault ≢ faults.DiskFault → after.shown ≡ before.shown
+  pub never_closed : fault ≢ faults.Closed
+  pub random_counts : before.random_faults ≤ after.random_faults
+  pub disk_counts : before.disk_faults ≤ after.disk_faults
+  pub random_fault : fault ≡ faults.RandomFault → before.random_faults < after.random_faults
+  pub disk_fault : fault ≡ faults.DiskFault → before.disk_faults < after.disk_faults

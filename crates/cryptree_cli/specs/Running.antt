@@ -1,0 +1,222 @@
+-- What `run` answers, prints and leaves, on a disk that shows a journal. This project's own, docs/FORMAT.md, "The program".
+use Rattle.std.specs.Prelude.{◌≡◌, ◌<◌, ◌⊎◌, ℕ, ◌+◌, ◌*◌, ◌==◌, nat_lt, Bool, true, false, List, [], ◌∷◌, ◌++◌, length, Option, Some, None, Result, Ok, Err}
+use Rattle.commit_journal.specs.Answering.{Damaged, NotAStore, Tampered, WrongKey}
+use Rattle.commit_journal.specs.Standing.{StandsWhole}
+use Rattle.cry_base.specs.Requests.{Request}
+use Rattle.cry_base.specs.declared.limits.Limits.{Limits}
+use Rattle.cry_io.specs.Told.{WhereBothTold}
+use Rattle.holder_client.specs.Asking.{verdict}
+use Rattle.holder_client.specs.Asking.Asking.{ToWrite}
+use Rattle.holder_client.specs.Judging.{Failure, OfBytes}
+use Rattle.public_fold.specs.Journal.{Journal}
+use Rattle.script_text.specs.Reading.{bundle_of}
+use Rattle.store_owner.specs.Bytes.{batches_of}
+use Rattle.store_owner.specs.Journals.{ShowsJournal}
+use Rattle.store_owner.specs.Script.{Going, answer, draws_of, opened, script_going, script_replies}
+use Rattle.cryptree_cli.specs.CommandLines.{owner_key}
+use Rattle.cryptree_cli.specs.Input.{input_limit}
+use Rattle.cryptree_cli.specs.Lines.{InputLine, lines_of}
+use Rattle.cryptree_cli.specs.Lines.InputLine.{Whole, TooLong}
+use Rattle.cryptree_cli.specs.Script.{Asks, IsBadFirst, PrintsCut, spell_replies}
+use Rattle.commit_journal.specs.declared.fault.OpenFault.{OpenFault}
+use Rattle.commit_journal.specs.declared.fault.OpenFault.TheVariants as opening
+use Rattle.store_owner.specs.declared.apply_fault.ApplyFault.{ApplyFault}
+use Rattle.store_owner.specs.declared.apply_fault.ApplyFault.TheVariants as applying
+use Rattle.cryptree_cli.specs.declared.script.ScriptFault.{ScriptFault}
+use Rattle.cryptree_cli.specs.declared.script.ScriptFault.TheVariants as script
+use Rattle.cryptree_cli.specs.declared.status.Status.{Status}
+use Rattle.cryptree_cli.specs.declared.status.Status.TheVariants as statuses
+
+-- the owner's key that the first line hands in, and the lines behind it
+abbrev pub key_in_lines : List InputLine → Option (List ℕ)
+key_in_lines [] = None
+key_in_lines (Whole line ∷ lines) = owner_key (bundle_of line)
+key_in_lines (TooLong ∷ lines) = None
+
+abbrev pub lines_behind : List InputLine → List InputLine
+lines_behind [] = []
+lines_behind (line ∷ lines) = lines
+
+-- the lines of a whole input
+abbrev pub lines_in : List ℕ → List InputLine
+lines_in typed = lines_of input_limit typed
+
+-- where a session over a journal stands once it was asked this, and what it replied
+abbrev pub going_asked : Limits → Journal → List ℕ → List Request → Going
+going_asked limits m draws asked = script_going limits (opened m draws) asked
+
+-- the random bytes that are left, and what the disk shows, are those of a session
+pub record LeavesAt (key : List ℕ) (g : Going) (left shown : Option (List ℕ)) : Type 0 where
+  pub draws_left : left ≡ Some g.draws
+  pub shows_whole : (s : List ℕ) × (shown ≡ Some s) × StandsWhole key (batches_of key g.journal) s
+
+-- all replies were printed
+abbrev pub PrintsScript : Limits → Journal → List ℕ → List Request → List ℕ → List ℕ → Type 0
+PrintsScript limits m draws asked before after = after ≡ before ++ spell_replies (script_replies limits (opened m draws) asked)
+
+-- the command is accepted where the session stands
+abbrev pub IsAccepted : Limits → Going → Request → Type 0
+IsAccepted limits g r = answer limits g.journal g.begun r ≡ None
+
+-- The first lines were asked, and all of them answered: what was replied is printed, and the session stands behind them.
+pub record HasRun (limits : Limits) (key : List ℕ) (m : Journal) (draws : List ℕ) (lines rest : List InputLine) (left shown before after : Option (List ℕ)) : Type 0 where
+  pub asked : List Request
+  pub asks : Asks asked lines rest
+  pub leaves : LeavesAt key (going_asked limits m draws asked) left shown
+  pub prints : WhereBothTold before after (PrintsScript limits m draws asked)
+
+-- So they were, and then one was accepted for which random bytes were wanting: so many were left of those that it draws.
+pub record RanShort (limits : Limits) (key : List ℕ) (m : Journal) (draws : List ℕ) (lines : List InputLine) (given need : ℕ) (left shown before after : Option (List ℕ)) : Type 0 where
+  pub asked : List Request
+  pub next : Request
+  pub rest : List InputLine
+  pub asks : Asks (asked ++ next ∷ []) lines rest
+  pub is_accepted : IsAccepted limits (going_asked limits m draws asked) next
+  pub is_need : need ≡ 32 * draws_of (going_asked limits m draws asked).journal next
+  pub is_given : given ≡ length (going_asked limits m draws asked).draws
+  pub is_short : given < need
+  pub nothing_left : left ≡ Some []
+  pub shows_whole : (s : List ℕ) × (shown ≡ Some s) × StandsWhole key (batches_of key (going_asked limits m draws asked).journal) s
+  pub prints : WhereBothTold before after (PrintsScript limits m draws asked)
+
+-- The first lines were asked and answered, and what was replied is printed but for some of the last reply.
+pub record RanCut (limits : Limits) (key : List ℕ) (m : Journal) (draws : List ℕ) (lines : List InputLine) (left shown before after : Option (List ℕ)) : Type 0 where
+  pub asked : List Request
+  pub rest : List InputLine
+  pub asks : Asks asked lines rest
+  pub leaves : LeavesAt key (going_asked limits m draws asked) left shown
+  pub prints : WhereBothTold before after (PrintsCut (script_replies limits (opened m draws) asked))
+
+-- The first lines were asked and answered, and then one was accepted that met a fault of the random source, which leaves the
+-- disk as it was.
+pub record RanUndrawn (limits : Limits) (key : List ℕ) (m : Journal) (draws : List ℕ) (lines : List InputLine) (shown before after : Option (List ℕ)) : Type 0 where
+  pub asked : List Request
+  pub next : Request
+  pub rest : List InputLine
+  pub asks : Asks (asked ++ next ∷ []) lines rest
+  pub is_accepted : IsAccepted limits (going_asked limits m draws asked) next
+  pub shows_whole : (s : List ℕ) × (shown ≡ Some s) × StandsWhole key (batches_of key (going_asked limits m draws asked).journal) s
+  pub prints : WhereBothTold before after (PrintsScript limits m draws asked)
+
+-- Or it met a fault of the disk, of which nothing is said here.
+pub record RanUnwritten (limits : Limits) (m : Journal) (draws : List ℕ) (lines : List InputLine) (before after : Option (List ℕ)) : Type 0 where
+  pub asked : List Request
+  pub next : Request
+  pub rest : List InputLine
+  pub asks : Asks (asked ++ next ∷ []) lines rest
+  pub is_accepted : IsAccepted limits (going_asked limits m draws asked) next
+  pub prints : WhereBothTold before after (PrintsScript limits m draws asked)
+
+-- Nothing was drawn or printed: the store wasn't opened.
+pub record IsUnopened (draws : List ℕ) (left before after : Option (List ℕ)) : Type 0 where
+  pub undrawn : left ≡ Some draws
+  pub unprinted : after ≡ before
+
+-- How `run` ends on a disk that shows a journal, where the input and the random source tell: at Done all lines were asked, before
+-- a bad line those before it. What the bytes of a store answer comes on no such disk.
+abbrev pub Ends : Status → Limits → List ℕ → Journal → List ℕ → List InputLine → Option (List ℕ) → Option (List ℕ) → Option (List ℕ) → Option (List ℕ) → Type 0
+Ends statuses.Done limits key m draws lines left shown before after = HasRun limits key m draws lines [] left shown before after
+Ends (statuses.BadScript line) limits key m draws lines left shown before after =
+    (rest : List InputLine) × IsBadFirst rest × (run : HasRun limits key m draws lines rest left shown before after) × (line ≡ length run.asked + 2)
+Ends statuses.ReadFault limits key m draws lines left shown before after =
+    IsUnopened draws left before after ⊎ ((rest : List InputLine) × HasRun limits key m draws lines rest left shown before after)
+Ends (statuses.RandomShort given need) limits key m draws lines left shown before after = RanShort limits key m draws lines given need left shown before after
+Ends statuses.RandomFault limits key m draws lines left shown before after = RanUndrawn limits key m draws lines shown before after
+Ends statuses.WriteFault limits key m draws lines left shown before after = RanCut limits key m draws lines left shown before after
+Ends statuses.DiskFault limits key m draws lines left shown before after = IsUnopened draws left before after ⊎ RanUnwritten limits m draws lines before after
+Ends statuses.OutOfMemory limits key m draws lines left shown before after = IsUnopened draws left before after ⊎ RanCut limits key m draws lines left shown before after
+Ends _ limits key m draws lines left shown before after = ⊥
+
+-- how `run` may end
+abbrev pub is_run_answer : Status → Bool
+is_run_answer statuses.Usage = false
+is_run_answer statuses.NotBlank = false
+is_run_answer _ = true
+
+-- how it ends before it opens the store
+abbrev pub is_before_opening : Status → Bool
+is_before_opening (statuses.BadScript line) = line == 1
+is_before_opening _ = false
+
+-- what the bytes of a store, opened for writing, have to do with how `run` ends: their verdict is answered exactly, unless something
+-- outside failed first or memory was wanting
+abbrev pub Judges : Status → Option Failure → Type 0
+Judges statuses.NotAStore verdict = verdict ≡ Some (OfBytes NotAStore)
+Judges statuses.WrongKey verdict = verdict ≡ Some (OfBytes WrongKey)
+Judges (statuses.Damaged at) verdict = verdict ≡ Some (OfBytes (Damaged at))
+Judges (statuses.Tampered batch at) verdict = verdict ≡ Some (OfBytes (Tampered batch at))
+Judges statuses.ReadFault verdict = Unit {0}
+Judges statuses.DiskFault verdict = Unit {0}
+Judges statuses.OutOfMemory verdict = Unit {0}
+Judges _ verdict = verdict ≡ None
+
+-- the first line hands in this key, and the others are still to come; or it hands in none, and then it is line 1 that is bad
+abbrev pub GivesOwner : Result (List ℕ) ScriptFault → List InputLine → List InputLine → Type 0
+GivesOwner (Ok key) before after = (key_in_lines before ≡ Some key) × (after ≡ lines_behind before)
+GivesOwner (Err (script.BadLine line)) before after = (key_in_lines before ≡ None) × (line ≡ 1)
+GivesOwner (Err script.ReadFault) before after = Unit {0}
+GivesOwner (Err script.OutOfMemory) before after = Unit {0}
+GivesOwner (Err _) before after = ⊥
+
+-- the line with the key is counted, and a bad one is the first
+abbrev pub CountsOwner : Result (List ℕ) ScriptFault → ℕ → ℕ → Type 0
+CountsOwner (Ok key) old new = new ≡ old + 1
+CountsOwner (Err (script.BadLine line)) old new = line ≡ 1
+CountsOwner (Err _) old new = Unit {0}
+
+-- how the program ends where its lines do
+abbrev pub apply_status : ApplyFault → Status
+apply_status applying.RandomFault = statuses.RandomFault
+apply_status (applying.RandomShort left need) = statuses.RandomShort left need
+apply_status applying.DiskFault = statuses.DiskFault
+apply_status applying.Closed = statuses.DiskFault
+apply_status applying.OutOfMemory = statuses.OutOfMemory
+
+abbrev pub script_status : ScriptFault → Status
+script_status (script.BadLine line) = statuses.BadScript line
+script_status script.ReadFault = statuses.ReadFault
+script_status script.WriteFault = statuses.WriteFault
+script_status script.OutOfMemory = statuses.OutOfMemory
+script_status (script.Applying fault) = apply_status fault
+
+abbrev pub ended_status : Result (Unit {0}) ScriptFault → Status
+ended_status (Ok _) = statuses.Done
+ended_status (Err fault) = script_status fault
+
+-- and where the store isn't opened
+abbrev pub open_status : OpenFault → Status
+open_status opening.NotAStore = statuses.NotAStore
+open_status opening.WrongKey = statuses.WrongKey
+open_status (opening.Damaged at) = statuses.Damaged at
+open_status (opening.Tampered batch at) = statuses.Tampered batch at
+open_status opening.DiskFault = statuses.DiskFault
+open_status opening.OutOfMemory = statuses.OutOfMemory
+
+-- the sizes of the one version of stores that there is
+abbrev pub version_limits : Limits
+version_limits = record { store_bytes = 268435456; file_bytes = 1048576 }
+
+-- a first line that hands in no owner's key is bad, unless the input failed or memory was wanting first
+abbrev pub FirstIsBad : Status → Type 0
+FirstIsBad (statuses.BadScript line) = line ≡ 1
+FirstIsBad statuses.ReadFault = Unit {0}
+FirstIsBad statuses.OutOfMemory = Unit {0}
+FirstIsBad _ = ⊥
+
+-- how it ends once the store was opened, but for what may come before that too
+abbrev pub is_after_opening : Status → Bool
+is_after_opening statuses.Done = true
+is_after_opening (statuses.BadScript line) = nat_lt 1 line
+is_after_opening statuses.WriteFault = true
+is_after_opening statuses.RandomFault = true
+is_after_opening (statuses.RandomShort given need) = true
+is_after_opening _ = false
+
+-- what is answered, in the words of the verdict, to the bytes of a store under the key that the first line hands in
+abbrev pub JudgesTyped : Status → List ℕ → List ℕ → Type 0
+JudgesTyped status typed image = (key : List ℕ) → key_in_lines (lines_in typed) ≡ Some key → Judges status (verdict (ToWrite key) image)
+
+-- how it ends for each journal with that key that the disk showed
+abbrev pub EndsTyped : Status → List ℕ → List ℕ → Option (List ℕ) → Option (List ℕ) → Option (List ℕ) → Option (List ℕ) → Option (List ℕ) → Type 0
+EndsTyped status typed draws was left shown before after = (key : List ℕ) (m : Journal) → key_in_lines (lines_in typed) ≡ Some key → ShowsJournal key m was
+    → Ends status version_limits key m draws (lines_behind (lines_in typed)) left shown before after

@@ -1,0 +1,170 @@
+//! The command `run`: the owner's line, then the store opened for writing, then each command's line answered before the next is
+//! read, in this order.
+ghost use Rattle.std.specs.Prelude.{◌≡◌, ◌<◌, ◌≤◌, ℕ, [], List, Err, IfErr, OnOk, None, Option, Some, false, is_some, IsTrue};
+ghost use Rattle.cry_io.specs.Stops.{IsDurable};
+ghost use Rattle.cry_io.specs.Told.{WhereTold, WhereBothTold};
+ghost use Rattle.holder_client.specs.Judging.{Failure};
+ghost use Rattle.public_fold.specs.Journal.{Journal};
+ghost use Rattle.store_owner.specs.Applying.{StandsAt};
+ghost use Rattle.store_owner.specs.Script.{opened};
+ghost use Rattle.cryptree_cli.specs.Lines.{lines_ahead};
+ghost use Rattle.cryptree_cli.specs.Running as running;
+ghost use Rattle.cryptree_cli.specs.Running.{CountsOwner, Ends, EndsTyped, FirstIsBad, GivesOwner, Judges, JudgesTyped, is_after_opening, is_before_opening, is_run_answer, key_in_lines, lines_in, version_limits};
+ghost use Rattle.cryptree_cli.specs.Script.{IsReading, ReadsByCount};
+
+use crate::command_lines::read_owner;
+use crate::lines::{LineReader, Next, NextFault};
+use crate::script::{ScriptFault, run_lines};
+use crate::status::Status;
+use commit_journal::OpenFault;
+use cry_base::Limits;
+use cry_io::{Disk, Sink, Source};
+use std::alloc::Global;
+use store_owner::{ApplyFault, Owner};
+
+/// The sizes of the one version of stores that there is.
+const LIMITS: Limits = Limits {
+    store_bytes: 268_435_456,
+    file_bytes: 1_048_576,
+};
+
+/// Opens the store with the owner's key, which the first line hands in, and applies the commands of the other lines.
+pub(crate) fn run<S: Source, R: Source, D: Disk, W: Sink>(
+    alloc: Global,
+    input: &mut S,
+    random: &mut R,
+    disk: &mut D,
+    out: &mut W,
+) -> Status
+    ensures answers { IsTrue (is_run_answer result) }
+    ensures first_line { WhereTold (S.left input.old) (λ typed. key_in_lines (lines_in typed) ≡ None → FirstIsBad result) }
+    ensures judged { WhereTold (S.left input.old) (λ typed. WhereTold (D.shown disk.old) (λ image. JudgesTyped result typed image)) }
+    ensures ran { WhereTold (S.left input.old) (λ typed. WhereTold (R.left random.old) (λ draws.
+        EndsTyped result typed draws (D.shown disk.old) (R.left random.new) (D.shown disk.new) (W.written out.old) (W.written out.new))) }
+    ensures read_to_end { result ≡ Status.Done → WhereTold (S.left input.new) (λ rest. rest ≡ []) }
+    ensures stays { IsTrue (is_after_opening result) → IsDurable (D.may_leave disk.new) (D.shown disk.new) }
+    ensures unopened { IsTrue (is_before_opening result) → (random.new ≡ random.old) × (disk.new ≡ disk.old) × (out.new ≡ out.old) }
+    ensures read_fault { result ≡ Status.ReadFault → S.faults input.old < S.faults input.new }
+    ensures random_fault { result ≡ Status.RandomFault → R.faults random.old < R.faults random.new }
+    ensures disk_fault { result ≡ Status.DiskFault → D.faults disk.old < D.faults disk.new }
+    ensures write_fault { result ≡ Status.WriteFault → W.faults out.old < W.faults out.new }
+    ensures input_told { is_some (S.left input.new) ≡ is_some (S.left input.old) }
+    ensures random_told { is_some (R.left random.new) ≡ is_some (R.left random.old) }
+    ensures disk_told { is_some (D.shown disk.new) ≡ is_some (D.shown disk.old) }
+    ensures out_told { is_some (W.written out.new) ≡ is_some (W.written out.old) }
+    ensures input_counts { S.faults input.old ≤ S.faults input.new }
+    ensures random_counts { R.faults random.old ≤ R.faults random.new }
+    ensures disk_counts { D.faults disk.old ≤ D.faults disk.new }
+    ensures out_counts { W.faults out.old ≤ W.faults out.new }
+{
+    let mut reader = LineReader::new(alloc);
+    let key = match first_owner(alloc, &mut reader, input) {
+        Ok(key) => key,
+        Err(fault) => return script_status(fault),
+    };
+    match Owner::open_store(alloc, disk, key, LIMITS) {
+        Ok(owner) => apply_lines(alloc, reader, input, owner, random, disk, out),
+        Err(fault) => open_status(fault),
+    }
+}
+
+/// The owner's key that the first line hands in. Any other line is bad, and so is an empty input's first.
+fn first_owner<S: Source>(
+    alloc: Global,
+    reader: &mut LineReader,
+    input: &mut S,
+) -> Result<[u8; 32], ScriptFault>
+    ensures told { is_some (S.left input.new) ≡ is_some (S.left input.old) }
+    ensures gives { WhereBothTold (S.left input.old) (S.left input.new) (λ before after. GivesOwner result (lines_ahead reader.old before) (lines_ahead reader.new after)) }
+    ensures count { CountsOwner result reader.old.given reader.new.given }
+    ensures faults { IfErr result IsReading }
+    ensures counts { ReadsByCount result (S.faults input.old) (S.faults input.new) }
+{
+    match reader.next_line(alloc, input) {
+        Ok(Next::Line { bytes, .. }) => match read_owner(bytes.as_slice()) {
+            Some(key) => Ok(key),
+            None => Err(ScriptFault::BadLine { line: 1 }),
+        },
+        Ok(Next::End) => Err(ScriptFault::BadLine { line: 1 }),
+        Ok(Next::PastLimit { .. }) => Err(ScriptFault::BadLine { line: 1 }),
+        Err(NextFault::Failed) => Err(ScriptFault::ReadFault),
+        Err(NextFault::OutOfMemory) => Err(ScriptFault::OutOfMemory),
+    }
+}
+
+/// Applies the commands of the lines that are still to come, by the owner of the store that was opened.
+fn apply_lines<S: Source, R: Source, D: Disk, W: Sink>(
+    alloc: Global,
+    mut reader: LineReader,
+    input: &mut S,
+    mut owner: Owner,
+    random: &mut R,
+    disk: &mut D,
+    out: &mut W,
+) -> Status
+    requires open { owner.journal.is_closed ≡ false }
+    requires inside { owner.journal.end ≤ D.size_of disk.old }
+    requires durable { IsDurable (D.may_leave disk.old) (D.shown disk.old) }
+    requires second { reader.given ≡ 1 }
+    ensures answers { IsTrue (is_run_answer result) }
+    ensures ran { WhereTold (S.left input.old) (λ left. (draws key : List ℕ) (m : Journal) → StandsAt version_limits key (opened m draws) owner (R.left random.old) (D.shown disk.old) →
+        Ends result version_limits key m draws (lines_ahead reader left) (R.left random.new) (D.shown disk.new) (W.written out.old) (W.written out.new)) }
+    ensures none_of_bytes { (verdict : Option Failure) → verdict ≡ None → Judges result verdict }
+    ensures read_to_end { result ≡ Status.Done → WhereTold (S.left input.new) (λ rest. rest ≡ []) }
+    ensures stays { IsTrue (is_after_opening result) → IsDurable (D.may_leave disk.new) (D.shown disk.new) }
+    ensures not_first { is_before_opening result ≡ false }
+    ensures read_fault { result ≡ Status.ReadFault → S.faults input.old < S.faults input.new }
+    ensures random_fault { result ≡ Status.RandomFault → R.faults random.old < R.faults random.new }
+    ensures disk_fault { result ≡ Status.DiskFault → D.faults disk.old < D.faults disk.new }
+    ensures write_fault { result ≡ Status.WriteFault → W.faults out.old < W.faults out.new }
+    ensures input_told { is_some (S.left input.new) ≡ is_some (S.left input.old) }
+    ensures random_told { is_some (R.left random.new) ≡ is_some (R.left random.old) }
+    ensures disk_told { is_some (D.shown disk.new) ≡ is_some (D.shown disk.old) }
+    ensures out_told { is_some (W.written out.new) ≡ is_some (W.written out.old) }
+    ensures input_counts { S.faults input.old ≤ S.faults input.new }
+    ensures random_counts { R.faults random.old ≤ R.faults random.new }
+    ensures disk_counts { D.faults disk.old ≤ D.faults disk.new }
+    ensures out_counts { W.faults out.old ≤ W.faults out.new }
+{
+    match run_lines(alloc, &mut reader, input, &mut owner, random, disk, out) {
+        Ok(()) => Status::Done,
+        Err(fault) => script_status(fault),
+    }
+}
+
+fn script_status(fault: ScriptFault) -> Status
+    ensures { result ≡ running.script_status fault }
+{
+    match fault {
+        ScriptFault::BadLine { line } => Status::BadScript { line },
+        ScriptFault::ReadFault => Status::ReadFault,
+        ScriptFault::WriteFault => Status::WriteFault,
+        ScriptFault::OutOfMemory => Status::OutOfMemory,
+        ScriptFault::Applying { fault } => apply_status(fault),
+    }
+}
+
+fn apply_status(fault: ApplyFault) -> Status
+    ensures { result ≡ running.apply_status fault }
+{
+    match fault {
+        ApplyFault::RandomFault => Status::RandomFault,
+        ApplyFault::RandomShort { left, need } => Status::RandomShort { left, need },
+        // `Closed` comes only behind a fault of the disk, at which the lines end.
+        ApplyFault::DiskFault | ApplyFault::Closed => Status::DiskFault,
+        ApplyFault::OutOfMemory => Status::OutOfMemory,
+    }
+}
+
+fn open_status(fault: OpenFault) -> Status
+    ensures { result ≡ running.open_status fault }
+{
+    match fault {
+        OpenFault::NotAStore => Status::NotAStore,
+        OpenFault::WrongKey => Status::WrongKey,
+        OpenFault::Damaged { at } => Status::Damaged { at },
+        OpenFault::Tampered { batch, at } => Status::Tampered { batch, at },
+        OpenFault::DiskFault => Status::DiskFault,
+        OpenFault::OutOfMemory => Status::OutOfMemory,
+    }
+}
