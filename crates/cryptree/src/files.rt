@@ -6,14 +6,34 @@ use std::os::fd::AsRawFd;
 /// The highest number of a standard stream.
 const STDERR: i32 = 2;
 
-/// Opens the store's file to read, and where it is to be made to write too, making it where it is missing. `None` where
-/// it can't be opened.
-pub(crate) fn open_store(rt: &HostRuntime, path: &[u8], make: bool) -> Option<File> {
+/// What a command does with the store's file.
+#[derive(Clone, Copy, PartialEq, Eq)]
+pub(crate) enum Access {
+    Read,
+    Write,
+    /// It writes the file, and makes it where it is missing.
+    Make,
+}
+
+impl Access {
+    pub(crate) fn of(command: &[u8]) -> Access {
+        if command == b"make".as_slice() {
+            Access::Make
+        } else if command == b"run".as_slice() {
+            Access::Write
+        } else {
+            Access::Read
+        }
+    }
+}
+
+/// Opens the store's file. `None` where it can't be opened so.
+pub(crate) fn open_store(rt: &HostRuntime, path: &[u8], access: Access) -> Option<File> {
     let path = std::str::from_utf8(path).ok()?;
     let file = OpenOptions::new()
         .read(true)
-        .write(make)
-        .create(make)
+        .write(access != Access::Read)
+        .create(access == Access::Make)
         .open(rt, path)
         .ok()?;
     behind_streams(file).ok()

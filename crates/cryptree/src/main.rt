@@ -3,7 +3,7 @@
 
 mod files;
 
-use crate::files::{Random, open_store};
+use crate::files::{Access, Random, open_store};
 use cry_base::{List, Mem, Text};
 use cry_io::{FileDisk, StdSink, StdSource};
 use cryptree_cli::status::{Status, fault_line};
@@ -42,11 +42,7 @@ fn words_given(rt: &HostRuntime) -> Mem<List<Text>> {
 fn run(rt: &HostRuntime, words: &List<Text>) -> Status {
     let (store, random) = match words.as_slice() {
         [store, random, command, ..] => (
-            open_store(
-                rt,
-                store.as_slice(),
-                command.as_slice() == b"make".as_slice(),
-            ),
+            open_store(rt, store.as_slice(), Access::of(command.as_slice())),
             Random::open(rt, random.as_slice()),
         ),
         _ => (None, Random::Nothing),

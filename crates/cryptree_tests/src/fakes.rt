@@ -12,6 +12,8 @@ pub(crate) const OWNER_LINE: &[u8] =
 
 pub(crate) const MAKE: [&[u8]; 3] = [b"store", b"random", b"make"];
 
+pub(crate) const RUN: [&[u8]; 3] = [b"store", b"random", b"run"];
+
 pub(crate) const LIST: [&[u8]; 3] = [b"store", b"-", b"list"];
 
 pub(crate) fn words(alloc: Global, given: &[&[u8]]) -> Mem<List<Text>> {

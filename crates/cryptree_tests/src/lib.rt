@@ -9,4 +9,6 @@ mod list;
 #[cfg(test)]
 mod make;
 #[cfg(test)]
+mod run;
+#[cfg(test)]
 mod said;
