@@ -16,3 +16,4 @@ pub mod Falling
 pub mod Joining
 pub mod Lawful
 pub mod Settling
+pub mod Sifting

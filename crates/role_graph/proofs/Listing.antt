@@ -6,7 +6,7 @@ use Rattle.cry_base.specs.declared.roles.Edge.{Edge}
 use Rattle.folder_nodes.specs.Bare.{folder_of_row, file_of_row}
 use Rattle.folder_nodes.specs.declared.rows.FolderRow.{FolderRow}
 use Rattle.folder_nodes.specs.declared.rows.FileRow.{FileRow}
-use Rattle.role_graph.specs.Edges.{edge_before, in_order, folder_edges, parent_edges, grant_edge, file_edge, edges}
+use Rattle.role_graph.specs.Edges.{folder_edges, parent_edges, grant_edge, file_edge, unordered}
 use Rattle.role_graph.specs.PublicStore.{public_store}
 use Rattle.role_graph.proofs.Adding.{flat_map_map, map_map}
 
@@ -37,17 +37,16 @@ files_told t rows e =
     sym (map_map FileRow FileEntry Edge (λ (e : FileEntry). file_edge e.folder e.id) file_of_row rows)
     ∙ ap (λ (l : List FileEntry). map (λ (e : FileEntry). file_edge e.folder e.id) l) e
 
--- what is listed step by step, and then put in order
-pub listed_is : (t : Store) (pairs given : List GrantEntry) (folders again : List FolderRow) (files : List FileRow) (one two three four five six : List Edge)
+-- what is listed step by step
+pub listed_is : (t : Store) (pairs given : List GrantEntry) (folders again : List FolderRow) (files : List FileRow) (one two three four five : List Edge)
     → map folder_of_row folders ≡ t.folders → map folder_of_row again ≡ t.folders → given ≡ pairs → map file_of_row files ≡ t.files
     → one ≡ [] → two ≡ one ++ within_rows folders → three ≡ two ++ between_rows again → four ≡ three ++ grant_rows given → five ≡ four ++ file_rows files
-    → six ≡ in_order edge_before five → six ≡ edges (public_store t pairs)
-unfolding edges
-listed_is t pairs given folders again files one two three four five six fs gs ps xs a b c d e f =
+    → five ≡ unordered (public_store t pairs)
+unfolding unordered
+listed_is t pairs given folders again files one two three four five fs gs ps xs a b c d e =
     let own = flat_map (λ (e : FolderEntry). folder_edges e.id) t.folders in
     let parents = flat_map (λ (e : FolderEntry). cond (e.parent == 0) [] (parent_edges e.id e.parent)) t.folders in
     let first : two ≡ own = b ∙ ap (λ l. l ++ within_rows folders) a ∙ within_told t folders fs in
     let second : three ≡ own ++ parents = c ∙ (λ i. first i ++ between_told t again gs i) in
     let third : four ≡ (own ++ parents) ++ grant_rows pairs = d ∙ (λ i. second i ++ grant_rows (ps i)) in
-    let fourth : five ≡ ((own ++ parents) ++ grant_rows pairs) ++ map (λ (e : FileEntry). file_edge e.folder e.id) t.files = e ∙ (λ i. third i ++ files_told t files xs i) in
-    f ∙ ap (λ l. in_order edge_before l) fourth
+    e ∙ (λ i. third i ++ files_told t files xs i)

@@ -27,11 +27,11 @@ turned X false true x y l never = refl
 turned X false false x y l never = refl
 
 -- none of them is less than x
-abbrev NoneBelow : (X : Type 0) → (X → X → Bool) → X → List X → Type 0
+abbrev pub NoneBelow : (X : Type 0) → (X → X → Bool) → X → List X → Type 0
 NoneBelow X lt x xs = (y : X) → In y xs → lt y x ≡ false
 
 -- none is less than one before it
-abbrev Rises : (X : Type 0) → (X → X → Bool) → List X → Type 0
+abbrev pub Rises : (X : Type 0) → (X → X → Bool) → List X → Type 0
 Rises X lt [] = Unit {0}
 Rises X lt (x ∷ xs) = NoneBelow X lt x xs × Rises X lt xs
 
@@ -78,12 +78,12 @@ put_keeps X lt o w x (y ∷ ys) = (elim (lt y x) as (λ b. lt y x ≡ b → filt
   | false ↦ λ e. refl
 ]) refl
 
-order_rises : (X : Type 0) (lt : X → X → Bool) → IsStrictWeakOrder lt → (xs : List X) → Rises X lt (in_order lt xs)
+pub order_rises : (X : Type 0) (lt : X → X → Bool) → IsStrictWeakOrder lt → (xs : List X) → Rises X lt (in_order lt xs)
 unfolding in_order
 order_rises X lt o [] = tt
 order_rises X lt o (x ∷ xs) = put_rises X lt o x (in_order lt xs) (order_rises X lt o xs)
 
-order_keeps : (X : Type 0) (lt : X → X → Bool) → IsStrictWeakOrder lt → (w : X) (xs : List X) → filter (ties lt w) (in_order lt xs) ≡ filter (ties lt w) xs
+pub order_keeps : (X : Type 0) (lt : X → X → Bool) → IsStrictWeakOrder lt → (w : X) (xs : List X) → filter (ties lt w) (in_order lt xs) ≡ filter (ties lt w) xs
 unfolding in_order
 order_keeps X lt o w [] = refl
 order_keeps X lt o w (x ∷ xs) = put_keeps X lt o w x (in_order lt xs) ∙ ap (λ (l : List X). cond (ties lt w x) (x ∷ l) l) (order_keeps X lt o w xs)
@@ -109,7 +109,7 @@ first_same X a b true true xs ys s t e = cc
 first_same X a b true false xs ys s t e = absurd (false≢true t)
 first_same X a b false q xs ys s t e = absurd (false≢true s)
 
-one_order : (X : Type 0) (lt : X → X → Bool) → IsStrictWeakOrder lt → (xs ys : List X) → Rises X lt xs → Rises X lt ys → ((w : X) → filter (ties lt w) xs ≡ filter (ties lt w) ys) → xs ≡ ys
+pub one_order : (X : Type 0) (lt : X → X → Bool) → IsStrictWeakOrder lt → (xs ys : List X) → Rises X lt xs → Rises X lt ys → ((w : X) → filter (ties lt w) xs ≡ filter (ties lt w) ys) → xs ≡ ys
 one_order X lt o [] [] r s same = refl
 one_order X lt o [] (b ∷ ys) r s same = absurd (first_stands X lt o b ys [] (λ w. sym (same w)))
 one_order X lt o (a ∷ xs) [] r s same = absurd (first_stands X lt o a xs [] same)

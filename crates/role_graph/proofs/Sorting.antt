@@ -10,7 +10,7 @@ use Rattle.role_graph.specs.Edges.{edge_before, in_order}
 use Rattle.role_graph.specs.Roles.{role_id}
 use Rattle.role_graph.proofs.Ordered.{stable_is_in_order}
 
-abbrev Key : Type 0
+abbrev pub Key : Type 0
 Key = ℕ × ℕ × ℕ
 
 abbrev pub key_of : Edge → Key
@@ -44,7 +44,7 @@ before_by_key a b =
     ∙ ap (λ t. nat_lt x.0 y.0 || (x.0 == y.0 && t))
     (first_less (nat_lt x.1 y.1) (x.1 == y.1) (nat_cmp x.2 y.2) ∙ ap (λ t. nat_lt x.1 y.1 || (x.1 == y.1 && t)) (last_less (nat_lt x.2 y.2) (x.2 == y.2)))
 
-key_total : IsTotalOrder key_cmp
+pub key_total : IsTotalOrder key_cmp
 key_total = then_total (then_total (on_total (λ (k : Key). k.0) nat_cmp_total) (on_total (λ (k : Key). k.1) nat_cmp_total)) (on_total (λ (k : Key). k.2) nat_cmp_total)
 
 pub sorted_by_key : (xs ys : List Edge) → IsSortedBy (λ a b. is_lt (key_cmp (key_of a) (key_of b))) ys → IsStableBy (λ a b. is_lt (key_cmp (key_of a) (key_of b))) xs ys → ys ≡ in_order edge_before xs

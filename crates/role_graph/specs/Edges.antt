@@ -55,6 +55,14 @@ edges s = in_order edge_before (
     ++ map (λ g. grant_edge g.holder g.folder) s.grants
     ++ map (λ e. file_edge e.folder e.id) s.files)
 
+-- the same, as the folders, the grants and the files come
+unfoldable pub unordered : Store → List Edge
+unordered s =
+    flat_map (λ e. folder_edges e.id) s.folders
+    ++ flat_map (λ e. cond (e.parent == 0) [] (parent_edges e.id e.parent)) s.folders
+    ++ map (λ g. grant_edge g.holder g.folder) s.grants
+    ++ map (λ e. file_edge e.folder e.id) s.files
+
 -- the pairs of roles that edges join
 unfoldable pub pairs_of : List Edge → List (Role × Role)
 pairs_of es = map (λ e. (e.from, e.to)) es

@@ -2,7 +2,7 @@
 ghost use Rattle.std.specs.Prelude.{◌≡◌, ◌==◌, ◌++◌, ◌∷◌, [], cond, map, IfOk, OnOk};
 ghost use Rattle.std.specs.List.{flat_map};
 ghost use Rattle.role_graph.specs.Edges as spec;
-ghost use Rattle.role_graph.specs.Edges.{edges as edges_of, edge_before, in_order, folder_edges, parent_edges, grant_edge, file_edge};
+ghost use Rattle.role_graph.specs.Edges.{edges as edges_of, edge_before, in_order, unordered, folder_edges, parent_edges, grant_edge, file_edge};
 ghost use Rattle.role_graph.specs.PublicStore.{public_store};
 ghost use Rattle.role_graph.specs.Roles.{role_id};
 
@@ -16,13 +16,21 @@ use std::alloc::Global;
 pub fn edges(alloc: Global, shape: &Shape, grants: &Grants) -> Mem<List<Edge>>
     ensures { IfOk result (λ l. l.items ≡ edges_of (public_store shape.now.tree grants.now.pairs)) }
 {
+    let mut all = unordered_edges(alloc, shape, grants)?;
+    sort(&mut all)?;
+    to_list(alloc, &all)
+}
+
+/// The same edges as the folders, the grants and the files come. It doesn't sort them.
+pub fn unordered_edges(alloc: Global, shape: &Shape, grants: &Grants) -> Mem<Vec<Edge>>
+    ensures { IfOk result (λ l. l.items ≡ unordered (public_store shape.now.tree grants.now.pairs)) }
+{
     let mut all = Vec::new(alloc);
     push_within(&mut all, shape.folders())?;
     push_between(&mut all, shape.folders())?;
     push_grants(&mut all, grants.pairs())?;
     push_files(&mut all, shape.files())?;
-    sort(&mut all)?;
-    to_list(alloc, &all)
+    Ok(all)
 }
 
 /// Adds the edges of each folder within itself.

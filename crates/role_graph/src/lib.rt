@@ -12,7 +12,7 @@ pub mod rows;
 mod store_roles;
 pub mod tabled;
 
-pub use edge_list::edges;
+pub use edge_list::{edges, unordered_edges};
 pub use reaching::{leading_to, reach};
 pub use rights::{allowed, named};
 pub use role_set::RoleSet;
