@@ -1,5 +1,5 @@
 //! A journal that is open for writing: it knows what its next batch follows, and commits it.
-ghost use Rattle.std.specs.Prelude.{◌≡◌, ◌↔◌, ◌+◌, ◌-◌, ◌*◌, ◌<◌, ◌≤◌, ◌^◌, [], ◌∷◌, ◌++◌, codes, false, if◌then◌else◌, is_some, None, Some, Err, IfOk, IfErr, OnOk, MatchResult, IsTrue};
+ghost use Rattle.std.specs.Prelude.{◌≡◌, ◌↔◌, ◌+◌, ◌-◌, ◌*◌, ◌<◌, ◌≤◌, ◌^◌, [], ◌∷◌, ◌++◌, codes, false, if◌then◌else◌, is_some, max, None, Some, Err, IfOk, IfErr, OnErr, OnOk, MatchResult, IsTrue};
 ghost use Rattle.cry_io.specs.Counts.{CountsFault};
 ghost use Rattle.cry_io.specs.Stops.{IsDurable};
 ghost use Rattle.cry_io.specs.Told.{WhereTold};
@@ -103,12 +103,65 @@ impl Journal {
         ensures fault { IfErr result (λ fault. fault ≡ CommitFault.DiskFault) }
         ensures counts { CountsFault result (D.faults disk.old) (D.faults disk.new) }
     {
+        let mut journal = Journal::blank(alloc, limits);
+        journal.found(disk, owner)?;
+        Ok(journal)
+    }
+
+    /// A journal of no store yet, for which memory may be taken before its owner's key is there. It commits nothing before
+    /// `found`. It takes no memory.
+    pub fn blank(alloc: Global, limits: Limits) -> Journal
+        requires known { limits.store_bytes ≤ 268435456 }
+        ensures closed { IsTrue result.is_closed }
+        ensures limit { result.limit ≡ limits.store_bytes }
+    {
+        Journal {
+            alloc,
+            owner: Key::owner([0; 32]),
+            past: Past {
+                at: HEADER_LEN as u64,
+                number: 0,
+                epoch: Epoch(0),
+                tag: [0; 32],
+                gate: CLOSED,
+            },
+            begun: false,
+            closed: true,
+            limit: limits.store_bytes,
+            starts: List::new(alloc),
+            batch: List::new(alloc),
+        }
+    }
+
+    /// Makes this the journal of a store without batches on an empty disk: its header, behind which the gate is closed. It
+    /// has the room that was taken for it, and takes no memory.
+    ///
+    /// `DiskFault` comes only where the disk's faults rose in this call, and closes the journal; the disk is then to be thrown
+    /// away. Another fault never comes.
+    pub fn found<D: Disk>(
+        &mut self,
+        disk: &mut D,
+        owner: &Key<OwnerK>,
+    ) -> Result<(), CommitFault>
+        requires blank { D.size_of disk.old ≡ 0 }
+        requires fits { 42 ≤ self.old.limit }
+        ensures state { OnOk result (self.new ≡ journals.empty_journal owner.now.bytes self.old.limit self.old) }
+        ensures stands { OnOk result (journals.IsJournalOf [] self.new) }
+        ensures closed { OnErr result (IsTrue self.new.is_closed) }
+        ensures shows { OnOk result (WhereTold (D.shown disk.new) (λ s. s ≡ image owner.now.bytes [] ++ 0 ∷ [])) }
+        ensures durable { OnOk result (IsDurable (D.may_leave disk.new) (D.shown disk.new)) }
+        ensures size { OnOk result (D.size_of disk.new ≡ 42) }
+        ensures told { is_some (D.shown disk.new) ≡ is_some (D.shown disk.old) }
+        ensures fault { IfErr result (λ fault. fault ≡ CommitFault.DiskFault) }
+        ensures counts { CountsFault result (D.faults disk.old) (D.faults disk.new) }
+    {
         let check = check_of(owner.bytes());
         let Ok(()) = write_and_sync(disk, 0, &header(&check)) else {
+            self.closed = true;
             return Err(CommitFault::DiskFault);
         };
-        Ok(Journal {
-            alloc,
+        *self = Journal {
+            alloc: self.alloc,
             owner: Key::owner(*owner.bytes()),
             past: Past {
                 at: HEADER_LEN as u64,
@@ -119,10 +172,11 @@ impl Journal {
             },
             begun: false,
             closed: false,
-            limit: limits.store_bytes,
-            starts: List::new(alloc),
-            batch: List::new(alloc),
-        })
+            limit: self.limit,
+            starts: mem::replace(&mut self.starts, List::new(self.alloc)),
+            batch: mem::replace(&mut self.batch, List::new(self.alloc)),
+        };
+        Ok(())
     }
 
     /// A journal that goes on behind a log. It takes no memory.
@@ -241,6 +295,7 @@ impl Journal {
         ensures owner { self.new.owner ≡ self.old.owner }
         ensures durable { OnOk result (IsDurable (D.may_leave disk.new) (D.shown disk.new)) }
         ensures inside { OnOk result (self.new.end ≤ D.size_of disk.new) }
+        ensures size { OnOk result (D.size_of disk.new ≡ max (D.size_of disk.old) self.new.end) }
         ensures told { is_some (D.shown disk.new) ≡ is_some (D.shown disk.old) }
         ensures counts { D.faults disk.old ≤ D.faults disk.new }
         ensures disk_fault { result ≡ Err CommitFault.DiskFault → (D.faults disk.old < D.faults disk.new) × IsTrue self.new.is_closed }
@@ -298,6 +353,7 @@ impl Journal {
         ensures owner { self.new.owner ≡ self.old.owner }
         ensures durable { OnOk result (IsDurable (D.may_leave disk.new) (D.shown disk.new)) }
         ensures inside { OnOk result (self.new.end ≤ D.size_of disk.new) }
+        ensures size { OnOk result (D.size_of disk.new ≡ max (D.size_of disk.old) self.new.end) }
         ensures told { is_some (D.shown disk.new) ≡ is_some (D.shown disk.old) }
         ensures counts { D.faults disk.old ≤ D.faults disk.new }
         ensures disk_fault { result ≡ Err CommitFault.DiskFault → (D.faults disk.old < D.faults disk.new) × IsTrue self.new.is_closed }

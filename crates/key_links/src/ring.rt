@@ -92,6 +92,16 @@ impl KeyRing {
         self.keep(AnyKey::Holder(key));
     }
 
+    /// Keeps the owner's key, in the place of the one that the ring had. It takes no memory.
+    #[tactic(auto, unfolding(crate::specs::Ringed::role_of, crate::specs::Ringed::parts_of))]
+    pub fn adopt_owner(&mut self, key: Key<OwnerK>)
+        requires { 1 ≤ self.old.spare }
+        ensures key { IsWithKey self.new self.old Owner key }
+        ensures spare { self.old.spare ≤ self.new.spare + 1 }
+    {
+        self.keep(AnyKey::Owner(key));
+    }
+
     /// Gives the role's key up, where there is one. It takes no memory.
     pub fn forget(&mut self, role: Role)
         ensures key { IsWithoutKey self.new self.old role }

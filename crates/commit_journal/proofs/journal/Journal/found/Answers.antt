@@ -5,7 +5,7 @@ use Rattle.cry_io.proofs.ToldLemmas.{told_again}
 use Rattle.commit_journal.specs.Standing.{tag_behind}
 use Rattle.commit_journal.proofs.CommitLemmas.{written_first}
 use Rattle.commit_journal.proofs.JournalLemmas.{length-nothing, image_of_nothing}
-use Rattle.commit_journal.proofs.journal.Journal.make.Goals as goal
+use Rattle.commit_journal.proofs.journal.Journal.found.Goals as goal
 
 pub returns-clause-stands : goal.returns-clause-stands
 unfolding tag_behind
