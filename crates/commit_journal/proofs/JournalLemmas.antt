@@ -1,5 +1,5 @@
 -- A journal with one batch more, and why it takes none.
-use Rattle.std.proofs.Common.{◌≡◌, ◌≢◌, ℕ, ◌+◌, ◌-◌, ◌≤◌, ◌<◌, ◌^◌, Bool, true, false, cond, ltb, List, [], ◌∷◌, ◌++◌, length, drop, Option, None, Some, append_assoc, arith, refl, sym, ap, ◌∙◌, subst, length-append}
+use Rattle.std.proofs.Common.{◌≡◌, ◌≢◌, ℕ, zero, suc, ◌+◌, ◌-◌, ◌≤◌, ◌<◌, ◌^◌, Bool, true, false, cond, ltb, List, [], ◌∷◌, ◌++◌, length, drop, Option, None, Some, append_assoc, arith, refl, sym, ap, ◌∙◌, subst, length-append}
 use Rattle.std.specs.Prelude.{codes}
 use Rattle.std.proofs.lemmas.List.{append-nil}
 use Rattle.std.proofs.lemmas.List.Sums.{sum_by-append, sum_by-cons}
@@ -16,7 +16,7 @@ use Rattle.commit_journal.specs.Image.{Batch, batch_veil, empty_slot, owner_tag,
 use Rattle.commit_journal.specs.Journals.{JournalState, IsBehind, IsJournalOf, Joins, last_epoch, refusal}
 use Rattle.commit_journal.specs.Standing.{StandsWhole, tag_behind, last_tag}
 use Rattle.commit_journal.proofs.BatchLemmas.{with_slot-spelled, length-empty_slot}
-use Rattle.commit_journal.proofs.Standings.{length-image, unveiled}
+use Rattle.commit_journal.proofs.Standings.{image-append, length-image, unveiled}
 use borrow.Author.Tests.{ltb-false}
 
 -- a payload with a spelling is small
@@ -66,23 +66,46 @@ stands_for_more b old new bs behind number of =
           ∙ ap (λ o. last_tag o (bs ++ b ∷ [])) (sym behind.owner);
     }
 
--- a batch that is committed behind a whole image makes a whole image
-whole_more : (owner batch veil x y : List ℕ) (bs : List Batch) (b : Batch) (end : ℕ) → StandsWhole owner bs x → end ≡ length (image owner bs) + 1 →
+-- what a batch makes that is committed behind a whole image
+more_is : (owner batch veil x y : List ℕ) (bs : List Batch) (b : Batch) (end gate : ℕ) (behind : List ℕ) → x ≡ image owner bs ++ gate ∷ behind → end ≡ length (image owner bs) + 1 →
     batch ≡ spell_batch owner (last_tag owner bs) empty_slot b ++ 0 ∷ [] → veil ≡ batch_veil owner b → Commits end batch veil x y →
-    StandsWhole owner (bs ++ b ∷ []) y
-whole_more owner batch veil x y bs b end whole at batch_is veil_is commits =
+    y ≡ image owner bs ++ (1 ∷ (spell_batch owner (last_tag owner bs) (batch_veil owner b) b ++ 0 ∷ drop (length batch) behind))
+more_is owner batch veil x y bs b end gate behind was at batch_is veil_is commits =
     let front = image owner bs in
     let previous = last_tag owner bs in
-    let rest = drop (length batch) whole.behind in
-    let is : y ≡ front ++ (1 ∷ (spell_batch owner previous (batch_veil owner b) b ++ 0 ∷ rest)) =
-    commits front whole.behind whole.gate (sym at) whole.bytes_are
+    let rest = drop (length batch) behind in
+    commits front behind gate (sym at) was
     ∙ ap (λ w. front ++ (1 ∷ (with_slot veil w ++ rest))) batch_is
     ∙ ap (λ w. front ++ (1 ∷ (w ++ rest))) (with_slot-spelled owner previous empty_slot veil b length-empty_slot)
     ∙ ap (λ v. front ++ (1 ∷ ((spell_batch owner previous v b ++ 0 ∷ []) ++ rest))) veil_is
     ∙ ap (λ w. front ++ (1 ∷ w)) (append_assoc (spell_batch owner previous (batch_veil owner b) b) (0 ∷ []) rest)
-    in
+
+-- it is a whole image again
+whole_more : (owner batch veil x y : List ℕ) (bs : List Batch) (b : Batch) (end : ℕ) → StandsWhole owner bs x → end ≡ length (image owner bs) + 1 →
+    batch ≡ spell_batch owner (last_tag owner bs) empty_slot b ++ 0 ∷ [] → veil ≡ batch_veil owner b → Commits end batch veil x y →
+    StandsWhole owner (bs ++ b ∷ []) y
+whole_more owner batch veil x y bs b end whole at batch_is veil_is commits =
     let shut : 0 ≢ 1 = λ e. omega (arith, e) in
-    subst (λ (r : List ℕ). StandsWhole owner (bs ++ b ∷ []) r) (sym is) (unveiled owner bs b 0 rest shut)
+    subst (λ (r : List ℕ). StandsWhole owner (bs ++ b ∷ []) r) (sym (more_is owner batch veil x y bs b end whole.gate whole.behind whole.bytes_are at batch_is veil_is commits))
+    (unveiled owner bs b 0 (drop (length batch) whole.behind) shut)
+
+drop-nothing : (n : ℕ) → let none : List ℕ = [] in drop n none ≡ none
+drop-nothing zero = refl
+drop-nothing (suc n) = refl
+
+-- and nothing stands behind it where nothing did
+ended_more : (owner batch veil x y : List ℕ) (bs : List Batch) (b : Batch) (end : ℕ) → x ≡ image owner bs ++ 0 ∷ [] → end ≡ length (image owner bs) + 1 →
+    batch ≡ spell_batch owner (last_tag owner bs) empty_slot b ++ 0 ∷ [] → veil ≡ batch_veil owner b → Commits end batch veil x y →
+    y ≡ image owner (bs ++ b ∷ []) ++ 0 ∷ []
+unfolding spell_batches
+ended_more owner batch veil x y bs b end was at batch_is veil_is commits =
+    let front = image owner bs in
+    let bytes = spell_batch owner (last_tag owner bs) (batch_veil owner b) b in
+    more_is owner batch veil x y bs b end 0 [] was at batch_is veil_is commits
+    ∙ ap (λ r. front ++ (1 ∷ (bytes ++ 0 ∷ r))) (drop-nothing (length batch))
+    ∙ ap (λ w. front ++ (1 ∷ (w ++ 0 ∷ []))) (sym (append-nil bytes))
+    ∙ sym (append_assoc front (1 ∷ (bytes ++ [])) (0 ∷ []))
+    ∙ ap (λ r. r ++ 0 ∷ []) (sym (image-append owner bs (b ∷ [])))
 
 pub joins : (old new : JournalState) (b : Batch) (batch veil : List ℕ) (was shows : Option (List ℕ)) → IsBehind b old new → b.number ≡ old.batches + 1 →
     batch ≡ spell_batch old.owner old.tag empty_slot b ++ 0 ∷ [] → veil ≡ batch_veil old.owner b → WhereBothTold was shows (Commits old.end batch veil) →
@@ -91,6 +114,9 @@ joins old new b batch veil was shows behind number batch_is veil_is committed = 
   stands = λ bs of. stands_for_more b old new bs behind number of;
   shown = λ bs of x y x_is y_is whole.
       whole_more old.owner batch veil x y bs b old.end whole of.end
+      (batch_is ∙ ap (λ t. spell_batch old.owner t empty_slot b ++ 0 ∷ []) of.tag) veil_is (committed x y x_is y_is);
+  ended = λ bs of x y x_is y_is whole.
+      ended_more old.owner batch veil x y bs b old.end whole of.end
       (batch_is ∙ ap (λ t. spell_batch old.owner t empty_slot b ++ 0 ∷ []) of.tag) veil_is (committed x y x_is y_is);
 }
 

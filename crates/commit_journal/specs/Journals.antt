@@ -63,10 +63,11 @@ pub record IsBehind (b : Batch) (old new : JournalState) : Type 0 where
   pub open_still : new.is_closed ≡ old.is_closed
 
 -- a journal with one batch more: of whatever batches it stood, it now stands for one more, and where the disk showed
--- the whole image of those, it now shows the whole image of all
+-- the whole image of those, it now shows the whole image of all, and nothing behind its closed gate where nothing was there
 pub record Joins (b : Batch) (old new : JournalState) (was shows : Option (List ℕ)) : Type 0 where
   pub stands : (bs : List Batch) → IsJournalOf bs old → IsJournalOf (bs ++ b ∷ []) new
   pub shown : (bs : List Batch) → IsJournalOf bs old → WhereBothTold was shows (λ x y. StandsWhole old.owner bs x → StandsWhole old.owner (bs ++ b ∷ []) y)
+  pub ended : (bs : List Batch) → IsJournalOf bs old → WhereBothTold was shows (λ x y. x ≡ image old.owner bs ++ 0 ∷ [] → y ≡ image old.owner (bs ++ b ∷ []) ++ 0 ∷ [])
 
 -- why a journal takes no batch with a payload of so many bytes, if it takes none: an earlier fault is told first
 abbrev pub refusal : JournalState → ℕ → Option CommitFault
