@@ -138,11 +138,7 @@ impl Journal {
     ///
     /// `DiskFault` comes only where the disk's faults rose in this call, and closes the journal; the disk is then to be thrown
     /// away. Another fault never comes.
-    pub fn found<D: Disk>(
-        &mut self,
-        disk: &mut D,
-        owner: &Key<OwnerK>,
-    ) -> Result<(), CommitFault>
+    pub fn found<D: Disk>(&mut self, disk: &mut D, owner: &Key<OwnerK>) -> Result<(), CommitFault>
         requires blank { D.size_of disk.old ≡ 0 }
         requires fits { 42 ≤ self.old.limit }
         ensures state { OnOk result (self.new ≡ journals.empty_journal owner.now.bytes self.old.limit self.old) }
