@@ -10,10 +10,12 @@ pub mod FewDraws
 pub mod Followings
 pub mod Forms
 pub mod Found
+pub mod Founded
 pub mod GivenKeys
 pub mod Grown
 pub mod Kept
 pub mod LogsWalked
+pub mod MadeOwner
 pub mod Measured
 pub mod NewTitles
 pub mod NextBatches
@@ -43,6 +45,7 @@ pub mod Ready
 pub mod Refused
 pub mod Retitlings
 pub mod RingRecords
+pub mod RootSealed
 pub mod Scripted
 pub mod Sealable
 pub mod SoundOpened

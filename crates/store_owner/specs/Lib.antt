@@ -4,6 +4,7 @@ pub mod Drawing
 pub mod Folds
 pub mod Journals
 pub mod Keys
+pub mod Making
 pub mod Notes
 pub mod Opened
 pub mod Opening

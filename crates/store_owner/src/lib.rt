@@ -10,6 +10,8 @@ pub mod folding;
 pub mod holding;
 mod key_room;
 pub mod laws;
+mod making;
+pub mod making_laws;
 pub mod opened_laws;
 mod opening;
 pub mod opening_laws;
