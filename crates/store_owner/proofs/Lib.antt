@@ -16,6 +16,7 @@ pub mod Grown
 pub mod Kept
 pub mod LogsWalked
 pub mod MadeOwner
+pub mod MadePieces
 pub mod Measured
 pub mod NewTitles
 pub mod NextBatches

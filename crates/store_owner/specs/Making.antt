@@ -1,8 +1,11 @@
 -- What the making of a store takes and leaves. This project's own, docs/FORMAT.md, "The bytes of a fresh store".
-use Rattle.std.specs.Prelude.{◌≡◌, ℕ, true, false, List, [], ◌∷◌}
+use Rattle.std.specs.Prelude.{◌≡◌, ℕ, true, false, List, [], ◌∷◌, ◌++◌, length, Option, None}
 use Rattle.commit_journal.specs.Image.{Batch}
 use Rattle.commit_journal.specs.Journals.{JournalState, command_batch, epoch_batch}
 use Rattle.cry_base.specs.Store.{root_store}
+use Rattle.cry_base.specs.declared.limits.Limits.{Limits}
+use Rattle.cry_io.specs.Told.{WhereBothTold, WhereTold}
+use Rattle.key_links.specs.Fresh.{fresh_image, piece}
 use Rattle.record_format.specs.Noted.Note.{Root}
 use Rattle.record_format.specs.declared.note.Note.TheVariants as declared
 use Rattle.record_format.specs.Plain.{PlainPayload}
@@ -13,6 +16,7 @@ use Rattle.public_fold.specs.KeyStep.{Stepped}
 use Rattle.public_fold.specs.Preparing.{begun}
 use Rattle.store_owner.specs.Bytes.{step_payload}
 use Rattle.store_owner.specs.Keys.{all_keys}
+use Rattle.store_owner.specs.Owned.{IsOwnerOf, OwnerView}
 
 -- the journal that makes a store under five keys
 abbrev pub made_with : List (List ℕ) → Journal
@@ -41,3 +45,21 @@ pub record IsMadeJournal (owner : List ℕ) (limit : ℕ) (j : JournalState) : T
   pub ends_at : j.end ≡ 819
   pub same_limit : j.limit ≡ limit
   pub is_open : j.is_closed ≡ false
+
+-- the root's keys among the bytes that are drawn for a store, behind the owner's
+abbrev pub root_keys : List ℕ → List (List ℕ)
+root_keys drawn = piece drawn 1 ∷ piece drawn 2 ∷ piece drawn 3 ∷ piece drawn 4 ∷ piece drawn 5 ∷ []
+
+-- the owner of the store that these bytes make: it stands for the journal of the root alone, whose session has ended
+pub record IsMade (drawn : List ℕ) (limits : Limits) (o : OwnerView) : Type 0 where
+  pub all_drawn : length drawn ≡ 192
+  pub same_key : o.key ≡ piece drawn 0
+  pub owner : IsOwnerOf (made_with (root_keys drawn)) o
+  pub journal : IsMadeJournal (piece drawn 0) limits.store_bytes o.journal
+  pub not_counted : o.counter ≡ None
+  pub same_file_bytes : o.file_bytes ≡ limits.file_bytes
+
+-- the bytes drawn were the next ones of the source, and the disk shows the fresh store that they make
+abbrev pub Makes : Limits → Option (List ℕ) → Option (List ℕ) → Option (List ℕ) → OwnerView → Type 0
+Makes limits before after shown o =
+    (drawn : List ℕ) × IsMade drawn limits o × WhereBothTold before after (λ x y. x ≡ drawn ++ y) × WhereTold shown (λ s. s ≡ fresh_image drawn)

@@ -1,13 +1,14 @@
-//! What the making of a store is made of: its memory, the root sealed, the store file written.
-ghost use Rattle.std.specs.Prelude.{◌≡◌, ◌≢◌, ◌≤◌, IfErr, IfOk, None, OnOk, Some, [], ◌∷◌, ◌++◌, is_some, length};
+//! Makes a store: all memory, one draw, the root sealed, the store file written, in this order.
+ghost use Rattle.std.specs.Prelude.{◌≡◌, ◌≢◌, ◌<◌, ◌≤◌, ℕ, Err, IfErr, IfOk, None, OnOk, Some, [], ◌∷◌, ◌++◌, is_some, length};
 ghost use Rattle.commit_journal.specs.Image.{image};
 ghost use Rattle.commit_journal.specs.Journals.{IsJournalOf};
 ghost use Rattle.cry_base.specs.declared.roles.Role.{Role as AnyRole};
 ghost use Rattle.cry_base.specs.declared.roles.Role.TheVariants.{Owner as OwnerRole};
 ghost use Rattle.cry_io.specs.Counts.{CountsFault};
 ghost use Rattle.cry_io.specs.Stops.{IsDurable};
-ghost use Rattle.cry_io.specs.Told.{WhereTold};
+ghost use Rattle.cry_io.specs.Told.{WhereBothTold, WhereTold};
 ghost use Rattle.folder_nodes.specs.Titles.{title_at};
+ghost use Rattle.key_links.specs.Fresh.{fresh_image};
 ghost use Rattle.key_links.specs.Ringed.{key_of};
 ghost use Rattle.record_format.specs.Plain.{plain_payload};
 ghost use Rattle.record_format.specs.Sizes.{payload_size};
@@ -17,16 +18,21 @@ ghost use Rattle.public_fold.specs.Fitted.{told_stand, told_step};
 ghost use Rattle.public_fold.specs.Heads.{IsSkeleton};
 ghost use Rattle.public_fold.specs.Journal.{keys_of, nothing};
 ghost use Rattle.public_fold.specs.Standing.{IsSeenAs};
+ghost use Rattle.store_owner.specs.Drawing.{AreKeys, FillsByCount, joined};
 ghost use Rattle.store_owner.specs.Keys.{all_keys};
-ghost use Rattle.store_owner.specs.Making.{IsMadeJournal, first_stand, made_batches, made_with, root_payload};
-ghost use Rattle.store_owner.specs.Owned.{counting};
+ghost use Rattle.store_owner.specs.Making.{IsMade, IsMadeJournal, Makes, first_stand, made_batches, made_with, root_payload};
+ghost use Rattle.store_owner.specs.Owned.{counting, owner_at};
 ghost use Rattle.store_owner.specs.Sealing.{HoldsKeys, IsSpaceFor};
+ghost use Rattle.store_owner.specs.Sound.{IsSound};
 
-use crate::{StepRoom, seal_step};
+use crate::key_room::KeyRoom;
+use crate::laws::fresh_journal_has_the_fresh_image;
+use crate::making_laws::makers_own_the_store;
+use crate::{ApplyFault, Owner, StepRoom, seal_step};
 use chacha_seal::{Counter, Key};
 use commit_journal::{CommitFault, Journal};
 use cry_base::{Epoch, FolderId, Limits, List, Mem, Node, OutOfMemory};
-use cry_io::Disk;
+use cry_io::{Disk, Source};
 use folder_nodes::Names;
 use key_links::KeyRing;
 use public_fold::{Prepared, PublicState, Skeleton};
@@ -40,49 +46,248 @@ const KEYS: usize = 6;
 
 const FIRST_EPOCH: Epoch = Epoch(1);
 
-/// The state before anything was made, and the change that makes the root.
-fn first_state(alloc: Global) -> Mem<(PublicState, Prepared)>
-    ensures skeleton { IfOk result (λ both. IsSkeleton (told_step first_stand Root) both.1.skeleton) }
-    ensures after { IfOk result (λ both. IsSeenAs both.1.after (told_stand first_stand Root)) }
-{
-    let state = PublicState::new(alloc)?;
-    let ready = prepared(alloc, &state)?;
-    Ok((state, ready))
+/// What an owner keeps before there are keys: a journal of no store, the state before anything was made, no names, and a ring that
+/// has zeros in the place of the owner's key.
+#[derive(Drop)]
+struct Blank {
+    journal: Journal,
+    state: PublicState,
+    names: Names,
+    ring: KeyRing,
 }
 
-/// A ring that has zeros in the place of the owner's key, and room to seal the root.
-fn sealing_room(alloc: Global, skeleton: &Skeleton) -> Mem<(KeyRing, StepRoom)>
-    ensures no_key { IfOk result (λ both. (role : AnyRole) → role ≢ OwnerRole → key_of both.0 role ≡ None) }
-    ensures ring_room { IfOk result (λ both. 6 ≤ both.0.spare) }
-    ensures records_room { IfOk result (λ both. IsSpaceFor both.1 skeleton.now) }
-{
-    let mut ring = KeyRing::new(alloc, Key::owner([0; 32]));
-    ring.reserve(KEYS)?;
-    let room = StepRoom::reserve(alloc, &mut ring, skeleton)?;
-    Ok((ring, room))
+/// A store that is about to be made: the change that makes the root, and all the memory that it takes. Its keys aren't drawn.
+#[derive(Drop)]
+struct Making {
+    blank: Blank,
+    ready: Prepared,
+    room: StepRoom,
 }
 
-/// A journal of no store yet, with room for its first two batches.
-fn blank_journal(alloc: Global, limits: Limits) -> Mem<Journal>
-    requires known { limits.store_bytes ≤ 268435456 }
-    ensures spare { IfOk result (λ journal. 2 ≤ journal.spare) }
-    ensures room { IfOk result (λ journal. 557 ≤ journal.room) }
-    ensures limit { IfOk result (λ journal. journal.limit ≡ limits.store_bytes) }
-{
-    let mut journal = Journal::blank(alloc, limits);
-    journal.prepare(ROOT_PAYLOAD_LEN)?;
-    Ok(journal)
+impl Blank {
+    fn new(alloc: Global, limits: Limits) -> Mem<Blank>
+        requires known { limits.store_bytes ≤ 268435456 }
+        ensures state { IfOk result (λ blank. IsSeenAs blank.state nothing) }
+        ensures no_key { IfOk result (λ blank. (role : AnyRole) → role ≢ OwnerRole → key_of blank.ring role ≡ None) }
+        ensures limit { IfOk result (λ blank. blank.journal.limit ≡ limits.store_bytes) }
+    {
+        let state = PublicState::new(alloc)?;
+        let journal = Journal::blank(alloc, limits);
+        let names = Names::new(alloc);
+        let ring = KeyRing::new(alloc, Key::owner([0; 32]));
+        Ok(Blank {
+            journal,
+            state,
+            names,
+            ring,
+        })
+    }
+
+    /// Takes the memory for the root's batch behind the first epoch's, its records, its keys and its name.
+    fn furnish(&mut self, alloc: Global, skeleton: &Skeleton) -> Mem<StepRoom>
+        requires no_key { (role : AnyRole) → role ≢ OwnerRole → key_of self.old.ring role ≡ None }
+        ensures no_key { OnOk result ((role : AnyRole) → role ≢ OwnerRole → key_of self.new.ring role ≡ None) }
+        ensures limit { OnOk result (self.new.journal.limit ≡ self.old.journal.limit) }
+        ensures records_room { IfOk result (λ room. IsSpaceFor room skeleton.now) }
+        ensures ring_room { OnOk result (6 ≤ self.new.ring.spare) }
+        ensures names_room { OnOk result (1 ≤ self.new.names.spare) }
+        ensures journal_spare { OnOk result (2 ≤ self.new.journal.spare) }
+        ensures journal_room { OnOk result (557 ≤ self.new.journal.room) }
+    {
+        self.journal.prepare(ROOT_PAYLOAD_LEN)?;
+        self.names.reserve()?;
+        self.ring.reserve(KEYS)?;
+        StepRoom::reserve(alloc, &mut self.ring, skeleton)
+    }
+
+    /// Seals the root under these keys, writes the store onto an empty disk, and keeps what it is then. It takes no memory.
+    ///
+    /// Only `DiskFault` comes, where the disk's faults rose in this call.
+    fn write<D: Disk>(
+        &mut self,
+        alloc: Global,
+        disk: &mut D,
+        owner: &[u8; 32],
+        keys: &[[u8; 32]],
+        ready: Prepared,
+        room: StepRoom,
+    ) -> Result<(), ApplyFault>
+        requires blank { D.size_of disk.old ≡ 0 }
+        requires skeleton { IsSkeleton (told_step first_stand Root) ready.skeleton }
+        requires seen { IsSeenAs ready.after (told_stand first_stand Root) }
+        requires no_key { (role : AnyRole) → role ≢ OwnerRole → key_of self.old.ring role ≡ None }
+        requires ring_room { 6 ≤ self.old.ring.spare }
+        requires records_room { IsSpaceFor room ready.skeleton }
+        requires names_room { 1 ≤ self.old.names.spare }
+        requires journal_spare { 2 ≤ self.old.journal.spare }
+        requires journal_room { 557 ≤ self.old.journal.room }
+        requires least { 819 ≤ self.old.journal.limit }
+        requires five { length keys.now ≡ 5 }
+        ensures stands { OnOk result (IsJournalOf (made_batches (root_payload owner.now keys.now)) self.new.journal) }
+        ensures journal { OnOk result (IsMadeJournal owner.now self.old.journal.limit self.new.journal) }
+        ensures seen { OnOk result (IsSeenAs self.new.state (told_stand first_stand Root)) }
+        ensures root { OnOk result (title_at self.new.names.folders 1 ≡ Some (record { id = 1; name = []; bytes = [] })) }
+        ensures held { OnOk result (HoldsKeys (all_keys owner.now (made_with keys.now)) (keys_of (made_with keys.now)) self.new.ring (counting (keys_of (made_with keys.now)))) }
+        ensures shows { OnOk result (WhereTold (D.shown disk.new) (λ s. s ≡ image owner.now (made_batches (root_payload owner.now keys.now)) ++ 0 ∷ [])) }
+        ensures durable { OnOk result (IsDurable (D.may_leave disk.new) (D.shown disk.new)) }
+        ensures size { OnOk result (D.size_of disk.new ≡ 819) }
+        ensures told { is_some (D.shown disk.new) ≡ is_some (D.shown disk.old) }
+        ensures fault { IfErr result (λ fault. fault ≡ ApplyFault.DiskFault) }
+        ensures counts { CountsFault result (D.faults disk.old) (D.faults disk.new) }
+    {
+        let payload = seal_root(alloc, &mut self.ring, ready.skeleton(), room, owner, keys);
+        let Ok(()) = write_store(&mut self.journal, disk, owner, &payload) else {
+            return Err(ApplyFault::DiskFault);
+        };
+        self.state.settle(ready);
+        name_root(alloc, &mut self.names);
+        Ok(())
+    }
+
+    /// The owner of what was written under this key.
+    fn into_owner(self, key: [u8; 32], limits: Limits) -> Owner
+        requires sound { IsSound (owner_at key self.journal self.state self.names self.ring limits.file_bytes) }
+        ensures { result ≡ owner_at key self.journal self.state self.names self.ring limits.file_bytes }
+    {
+        let Blank {
+            journal,
+            state,
+            names,
+            ring,
+        } = self;
+        Owner::at(key, journal, state, names, ring, limits)
+    }
 }
 
-/// No names, with room for one.
-fn blank_names(alloc: Global) -> Mem<Names>
-    ensures folders { IfOk result (λ names. names.folders ≡ []) }
-    ensures files { IfOk result (λ names. names.files ≡ []) }
-    ensures room { IfOk result (λ names. 1 ≤ names.spare) }
+impl Making {
+    /// Prepares it, with all its memory but that of the keys.
+    fn prepare(alloc: Global, limits: Limits) -> Mem<Making>
+        requires known { limits.store_bytes ≤ 268435456 }
+        ensures skeleton { IfOk result (λ making. IsSkeleton (told_step first_stand Root) making.ready.skeleton) }
+        ensures seen { IfOk result (λ making. IsSeenAs making.ready.after (told_stand first_stand Root)) }
+        ensures no_key { IfOk result (λ making. (role : AnyRole) → role ≢ OwnerRole → key_of making.blank.ring role ≡ None) }
+        ensures ring_room { IfOk result (λ making. 6 ≤ making.blank.ring.spare) }
+        ensures records_room { IfOk result (λ making. IsSpaceFor making.room making.ready.skeleton) }
+        ensures names_room { IfOk result (λ making. 1 ≤ making.blank.names.spare) }
+        ensures journal_spare { IfOk result (λ making. 2 ≤ making.blank.journal.spare) }
+        ensures journal_room { IfOk result (λ making. 557 ≤ making.blank.journal.room) }
+        ensures limit { IfOk result (λ making. making.blank.journal.limit ≡ limits.store_bytes) }
+    {
+        let blank = Blank::new(alloc, limits)?;
+        let ready = prepared(alloc, &blank.state)?;
+        with_room(alloc, blank, ready)
+    }
+}
+
+/// Takes the memory for a change that is prepared.
+fn with_room(alloc: Global, mut blank: Blank, ready: Prepared) -> Mem<Making>
+    requires skeleton { IsSkeleton (told_step first_stand Root) ready.skeleton }
+    requires seen { IsSeenAs ready.after (told_stand first_stand Root) }
+    requires no_key { (role : AnyRole) → role ≢ OwnerRole → key_of blank.ring role ≡ None }
+    ensures skeleton { IfOk result (λ making. IsSkeleton (told_step first_stand Root) making.ready.skeleton) }
+    ensures seen { IfOk result (λ making. IsSeenAs making.ready.after (told_stand first_stand Root)) }
+    ensures no_key { IfOk result (λ making. (role : AnyRole) → role ≢ OwnerRole → key_of making.blank.ring role ≡ None) }
+    ensures ring_room { IfOk result (λ making. 6 ≤ making.blank.ring.spare) }
+    ensures records_room { IfOk result (λ making. IsSpaceFor making.room making.ready.skeleton) }
+    ensures names_room { IfOk result (λ making. 1 ≤ making.blank.names.spare) }
+    ensures journal_spare { IfOk result (λ making. 2 ≤ making.blank.journal.spare) }
+    ensures journal_room { IfOk result (λ making. 557 ≤ making.blank.journal.room) }
+    ensures limit { IfOk result (λ making. making.blank.journal.limit ≡ blank.journal.limit) }
 {
-    let mut names = Names::new(alloc);
-    names.reserve()?;
-    Ok(names)
+    let room = blank.furnish(alloc, ready.skeleton())?;
+    Ok(Making { blank, ready, room })
+}
+
+/// Writes the store of six keys that were drawn, the owner's first, and answers its owner. It takes no memory.
+///
+/// Only `DiskFault` comes, where the disk's faults rose in this call.
+fn made<D: Disk>(
+    making: Making,
+    alloc: Global,
+    disk: &mut D,
+    drawn: &[[u8; 32]],
+    limits: Limits,
+) -> Result<Owner, ApplyFault>
+    requires blank { D.size_of disk.old ≡ 0 }
+    requires skeleton { IsSkeleton (told_step first_stand Root) making.ready.skeleton }
+    requires seen { IsSeenAs making.ready.after (told_stand first_stand Root) }
+    requires no_key { (role : AnyRole) → role ≢ OwnerRole → key_of making.blank.ring role ≡ None }
+    requires ring_room { 6 ≤ making.blank.ring.spare }
+    requires records_room { IsSpaceFor making.room making.ready.skeleton }
+    requires names_room { 1 ≤ making.blank.names.spare }
+    requires journal_spare { 2 ≤ making.blank.journal.spare }
+    requires journal_room { 557 ≤ making.blank.journal.room }
+    requires limit { making.blank.journal.limit ≡ limits.store_bytes }
+    requires least { 819 ≤ limits.store_bytes }
+    requires files { limits.file_bytes ≤ 1048576 }
+    requires six { length drawn.now ≡ 6 }
+    requires sizes { AreKeys drawn.now }
+    ensures made { IfOk result (IsMade (joined drawn.now) limits) }
+    ensures shows { OnOk result (WhereTold (D.shown disk.new) (λ s. s ≡ fresh_image (joined drawn.now))) }
+    ensures durable { OnOk result (IsDurable (D.may_leave disk.new) (D.shown disk.new)) }
+    ensures size { OnOk result (D.size_of disk.new ≡ 819) }
+    ensures told { is_some (D.shown disk.new) ≡ is_some (D.shown disk.old) }
+    ensures fault { IfErr result (λ fault. fault ≡ ApplyFault.DiskFault) }
+    ensures counts { CountsFault result (D.faults disk.old) (D.faults disk.new) }
+{
+    makers_own_the_store();
+    fresh_journal_has_the_fresh_image();
+    let Making {
+        mut blank,
+        ready,
+        room,
+    } = making;
+    let owner = drawn[0];
+    let keys = &drawn[1..];
+    let Ok(()) = blank.write(alloc, disk, &owner, keys, ready, room) else {
+        return Err(ApplyFault::DiskFault);
+    };
+    Ok(blank.into_owner(owner, limits))
+}
+
+impl Owner {
+    /// Makes a store on an empty disk, and answers its owner, who has begun no epoch: that which the store is made in doesn't count.
+    ///
+    /// All memory comes first, or `OutOfMemory`, which leaves source and disk as they were. Then 192 bytes are drawn, the owner's
+    /// key and the root's five: `RandomFault` and `RandomShort` leave the disk as it was. `DiskFault` comes only where the disk's
+    /// faults rose in this call, and the disk is then to be thrown away. `Closed` never comes.
+    pub fn make<D: Disk, R: Source>(
+        alloc: Global,
+        disk: &mut D,
+        random: &mut R,
+        limits: Limits,
+    ) -> Result<Owner, ApplyFault>
+        requires blank { D.size_of disk.old ≡ 0 }
+        requires least { 819 ≤ limits.store_bytes }
+        requires known { limits.store_bytes ≤ 268435456 }
+        requires files { limits.file_bytes ≤ 1048576 }
+        ensures made { IfOk result (Makes limits (R.left random.old) (R.left random.new) (D.shown disk.new)) }
+        ensures durable { OnOk result (IsDurable (D.may_leave disk.new) (D.shown disk.new)) }
+        ensures size { OnOk result (D.size_of disk.new ≡ 819) }
+        ensures inside { IfOk result (λ o. o.journal.end ≤ D.size_of disk.new) }
+        ensures short { (left need : ℕ) → result ≡ Err (ApplyFault.RandomShort left need) →
+            (need ≡ 192) × (left < 192) × WhereBothTold (R.left random.old) (R.left random.new) (λ before after. (length before ≡ left) × (after ≡ [])) }
+        ensures not_closed { result ≢ Err ApplyFault.Closed }
+        ensures no_memory { result ≡ Err ApplyFault.OutOfMemory → (random.new ≡ random.old) × (disk.new ≡ disk.old) }
+        ensures untouched { IfErr result (λ fault. fault ≢ ApplyFault.DiskFault → disk.new ≡ disk.old) }
+        ensures disk_told { is_some (D.shown disk.new) ≡ is_some (D.shown disk.old) }
+        ensures source_told { is_some (R.left random.new) ≡ is_some (R.left random.old) }
+        ensures disk_counts { D.faults disk.old ≤ D.faults disk.new }
+        ensures disk_fault { result ≡ Err ApplyFault.DiskFault → D.faults disk.old < D.faults disk.new }
+        ensures source_counts { FillsByCount result (R.faults random.old) (R.faults random.new) }
+    {
+        let Ok(making) = Making::prepare(alloc, limits) else {
+            return Err(ApplyFault::OutOfMemory);
+        };
+        let Ok(keys) = KeyRoom::reserve(alloc, KEYS) else {
+            return Err(ApplyFault::OutOfMemory);
+        };
+        let drawn = match keys.fill(random) {
+            Ok(drawn) => drawn,
+            Err(fault) => return Err(fault),
+        };
+        made(making, alloc, disk, drawn.as_slice(), limits)
+    }
 }
 
 /// The change that makes the root, once the first epoch was begun.
@@ -105,7 +310,7 @@ fn seal_root(
     skeleton: &Skeleton,
     room: StepRoom,
     owner: &[u8; 32],
-    keys: &[[u8; 32]; 5],
+    keys: &[[u8; 32]],
 ) -> Payload
     requires no_key { (role : AnyRole) → role ≢ OwnerRole → key_of ring.old role ≡ None }
     requires ring_room { 6 ≤ ring.old.spare }

@@ -1,0 +1,23 @@
+use Rattle.std.proofs.Common.{◌≡◌, ℕ, List, Err, ◌++◌, ap, refl, subst, sym, ◌∙◌}
+use Rattle.std.proofs.lemmas.Result.{IfErr-at_err}
+use Rattle.cry_io.specs.Told.{WhereBothTold}
+use Rattle.cry_base.specs.Listed.{Listed}
+use Rattle.store_owner.specs.declared.apply_fault.ApplyFault.{ApplyFault}
+use Rattle.store_owner.specs.Drawing.{DrawsKeys, IsFillFault, joined}
+use Rattle.store_owner.proofs.MadePieces.{makes_all, short_of_six}
+use Rattle.store_owner.proofs.owner.Owner.make.Goals as goal
+
+pub returns-clause-made : goal.returns-clause-made
+returns-clause-made g c =
+    let left = g.R.Source.left in
+    let drawn = c.as_slice.result.now in
+    makes_all c.made.result c.args.limits (joined drawn) (left c.args.random.now) (left c.fill.new.random) (g.D.Disk.shown c.made.new.disk) c.made.ensures.made c.made.ensures.shows
+    (λ x y a b. c.in-Ok-fill.ensures.bytes x y a b ∙ ap (λ (d : List (List ℕ)). joined d ++ y) (sym c.as_slice.ensures))
+
+pub returns-in-Err-clause-short : goal.returns-in-Err-clause-short
+returns-in-Err-clause-short g c = λ short need is.
+    let left = g.R.Source.left in
+    short_of_six c.in-Err.fault (left c.args.random.now) (left c.fill.new.random) short need
+    (subst (λ (n : ℕ). IsFillFault {T = Listed (List ℕ)} n (Err c.in-Err.fault)) c.in-Ok-reserve.ensures c.in-Err.ensures.faults)
+    (subst (λ (n : ℕ). WhereBothTold (left c.args.random.now) (left c.fill.new.random) (DrawsKeys n (Err c.in-Err.fault))) c.in-Ok-reserve.ensures c.in-Err.ensures.bytes)
+    (IfErr-at_err (λ (f : ApplyFault). c.in-Err.fault ≡ f) is refl)
