@@ -140,6 +140,10 @@ pub makes_all : (result : Result OwnerView ApplyFault) (limits : Limits) (drawn 
 makes_all (Ok o) limits drawn before after shown is shows bytes = (drawn, is, bytes, shows)
 makes_all (Err fault) limits drawn before after shown is shows bytes = tt
 
+-- once six keys were drawn their bytes are gone
+pub six_are_gone : (keys : List (List ℕ)) → length keys ≡ 6 → AreKeys keys → (x y : List ℕ) → x ≡ joined keys ++ y → length x ≡ 192 + length y
+six_are_gone keys six sizes x y is = ap length is ∙ length-append (joined keys) y ∙ ap (λ n. n + length y) (six_pieces keys six sizes).long
+
 -- a source that ended before the last byte of six keys
 pub short_of_six : (fault : ApplyFault) (before after : Option (List ℕ)) (left need : ℕ) → IsFillFault {T = Listed (List ℕ)} 6 (Err fault) → WhereBothTold before after (DrawsKeys 6 (Err fault))
     → fault ≡ answers.RandomShort left need → (need ≡ 192) × (left < 192) × WhereBothTold before after (λ x y. (length x ≡ left) × (y ≡ []))

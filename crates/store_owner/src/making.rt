@@ -1,5 +1,5 @@
 //! Makes a store: all memory, one draw, the root sealed, the store file written, in this order.
-ghost use Rattle.std.specs.Prelude.{◌≡◌, ◌≢◌, ◌<◌, ◌≤◌, ℕ, Err, IfErr, IfOk, None, OnOk, Some, [], ◌∷◌, ◌++◌, is_some, length};
+ghost use Rattle.std.specs.Prelude.{◌≡◌, ◌≢◌, ◌<◌, ◌≤◌, ◌+◌, ℕ, Err, IfErr, IfOk, None, OnOk, Some, [], ◌∷◌, ◌++◌, is_some, length};
 ghost use Rattle.commit_journal.specs.Image.{image};
 ghost use Rattle.commit_journal.specs.Journals.{IsJournalOf};
 ghost use Rattle.cry_base.specs.declared.roles.Role.{Role as AnyRole};
@@ -249,8 +249,8 @@ impl Owner {
     /// Makes a store on an empty disk, and answers its owner, who has begun no epoch: that which the store is made in doesn't count.
     ///
     /// All memory comes first, or `OutOfMemory`, which leaves source and disk as they were. Then 192 bytes are drawn, the owner's
-    /// key and the root's five: `RandomFault` and `RandomShort` leave the disk as it was. `DiskFault` comes only where the disk's
-    /// faults rose in this call, and the disk is then to be thrown away. `Closed` never comes.
+    /// key and the root's five: `RandomFault` and `RandomShort` leave the disk as it was. `DiskFault` comes only behind the draw, where
+    /// the disk's faults rose in this call, and the disk is then to be thrown away. `Closed` never comes.
     pub fn make<D: Disk, R: Source>(
         alloc: Global,
         disk: &mut D,
@@ -267,6 +267,7 @@ impl Owner {
         ensures inside { IfOk result (λ o. o.journal.end ≤ D.size_of disk.new) }
         ensures short { (left need : ℕ) → result ≡ Err (ApplyFault.RandomShort left need) →
             (need ≡ 192) × (left < 192) × WhereBothTold (R.left random.old) (R.left random.new) (λ before after. (length before ≡ left) × (after ≡ [])) }
+        ensures drew { result ≡ Err ApplyFault.DiskFault → WhereBothTold (R.left random.old) (R.left random.new) (λ before after. length before ≡ 192 + length after) }
         ensures not_closed { result ≢ Err ApplyFault.Closed }
         ensures no_memory { result ≡ Err ApplyFault.OutOfMemory → (random.new ≡ random.old) × (disk.new ≡ disk.old) }
         ensures untouched { IfErr result (λ fault. fault ≢ ApplyFault.DiskFault → disk.new ≡ disk.old) }

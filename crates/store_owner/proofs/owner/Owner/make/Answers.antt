@@ -1,10 +1,10 @@
-use Rattle.std.proofs.Common.{◌≡◌, ℕ, List, Err, ◌++◌, ap, refl, subst, sym, ◌∙◌}
+use Rattle.std.proofs.Common.{◌≡◌, ℕ, List, Err, ◌++◌, ap, length, refl, subst, sym, ◌∙◌}
 use Rattle.std.proofs.lemmas.Result.{IfErr-at_err}
 use Rattle.cry_io.specs.Told.{WhereBothTold}
 use Rattle.cry_base.specs.Listed.{Listed}
 use Rattle.store_owner.specs.declared.apply_fault.ApplyFault.{ApplyFault}
-use Rattle.store_owner.specs.Drawing.{DrawsKeys, IsFillFault, joined}
-use Rattle.store_owner.proofs.MadePieces.{makes_all, short_of_six}
+use Rattle.store_owner.specs.Drawing.{AreKeys, DrawsKeys, IsFillFault, joined}
+use Rattle.store_owner.proofs.MadePieces.{makes_all, short_of_six, six_are_gone}
 use Rattle.store_owner.proofs.owner.Owner.make.Goals as goal
 
 pub returns-clause-made : goal.returns-clause-made
@@ -13,6 +13,12 @@ returns-clause-made g c =
     let drawn = c.as_slice.result.now in
     makes_all c.made.result c.args.limits (joined drawn) (left c.args.random.now) (left c.fill.new.random) (g.D.Disk.shown c.made.new.disk) c.made.ensures.made c.made.ensures.shows
     (λ x y a b. c.in-Ok-fill.ensures.bytes x y a b ∙ ap (λ (d : List (List ℕ)). joined d ++ y) (sym c.as_slice.ensures))
+
+pub returns-clause-drew : goal.returns-clause-drew
+returns-clause-drew g c = λ failed x y a b.
+    let whole = c.as_slice.ensures in
+    six_are_gone c.as_slice.result.now (ap length whole ∙ c.in-Ok-fill.ensures.count ∙ c.in-Ok-reserve.ensures) (subst AreKeys (sym whole) c.in-Ok-fill.ensures.sizes) x y
+    (c.in-Ok-fill.ensures.bytes x y a b ∙ ap (λ (d : List (List ℕ)). joined d ++ y) (sym whole))
 
 pub returns-in-Err-clause-short : goal.returns-in-Err-clause-short
 returns-in-Err-clause-short g c = λ short need is.
