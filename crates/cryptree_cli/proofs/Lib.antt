@@ -1,8 +1,5 @@
 pub mod AnsweredScripts
-pub mod BatchLemmas
-pub mod CommitLemmas
 pub mod FirstLines
-pub mod FreshLemmas
 pub mod InputLemmas
 pub mod LineLemmas
 pub mod ListingLemmas

@@ -1,40 +1,73 @@
--- How `make` ends where its draw does.
-use Rattle.std.proofs.Common.{◌≡◌, ◌≢◌, ◌<◌, ◌⊎◌, ℕ, List, Option, refl, sym, ap, ◌∙◌, subst, inl, inr}
+-- How `make` ends where the making of its store does.
+use Rattle.std.proofs.Common.{◌≡◌, ◌≢◌, ◌+◌, ◌<◌, ◌⊎◌, ℕ, List, [], Option, length, arith, refl, sym, ap, subst, inl, inr, length-append}
 use Rattle.std.specs.Prelude.{is_some, true, false, IsTrue}
-use Rattle.std.proofs.Common.{Err}
 use Rattle.cry_io.specs.Told.{WhereTold, WhereBothTold}
 use Rattle.cry_io.proofs.ToldLemmas.{told_again}
-use Rattle.cryptree_cli.specs.declared.outside.DrawFault.{DrawFault}
-use Rattle.cryptree_cli.specs.declared.outside.DrawFault.TheVariants.{Failed, Short}
+use Rattle.cry_base.specs.declared.limits.Limits.{Limits}
+use Rattle.script_text.specs.Printing.{owner_line}
+use Rattle.store_owner.specs.Making as making
+use Rattle.store_owner.specs.Owned.{OwnerView}
+use Rattle.store_owner.specs.declared.apply_fault.ApplyFault.{ApplyFault}
+use Rattle.store_owner.specs.declared.apply_fault.ApplyFault.TheVariants as faults
 use Rattle.cryptree_cli.specs.declared.status.Status.{Status}
 use Rattle.cryptree_cli.specs.declared.status.Status.TheVariants.{Done, Usage, BadScript, ReadFault, NotAStore, Damaged, WrongKey, Tampered, WriteFault, DiskFault, RandomFault, RandomShort, OutOfMemory, NotBlank}
-use Rattle.cryptree_cli.specs.Outside.{Draws, IsShortOf}
+use Rattle.cryptree_cli.specs.Running.{apply_status}
 use Rattle.cryptree_cli.specs.Status.{is_make_answer}
-use Rattle.cryptree_cli.specs.Top.{drawn_status, IsShort, EndsShort}
+use Rattle.cryptree_cli.specs.Top.{EndsShort, IsShort, Makes}
 
--- a draw that ended short tells how short
-pub is_short : (fault : DrawFault) (drawn : List ℕ) (before after : Option (List ℕ)) → is_some after ≡ is_some before →
-    IsShortOf 192 fault → WhereBothTold before after (Draws {U = Unit {0}} (Err fault) drawn) →
-    (left need : ℕ) → drawn_status fault ≡ RandomShort left need → IsShort left need before after
-is_short Failed drawn before after told fewer draws left need is = absurd (let e : RandomFault ≡ RandomShort left need = is in cc)
-is_short (Short n) drawn before after told fewer draws left need is =
-    let same_left : n ≡ left = cc in
-    let same_need : 192 ≡ need = cc in
-    record {
-      need_is = sym same_need;
-      fewer = subst (λ (m : ℕ). m < 192) same_left fewer;
-      had = λ x was. let again = told_again before after x told was in (draws x again.0 was again.1).0 ∙ same_left;
-      gone = λ y now. let again = told_again after before y (sym told) now in (draws again.0 y again.1 now).1;
-    }
+-- a store whose owner's line was printed as `Prints` says
+pub makes : (Prints : List ℕ → List ℕ → List ℕ → Type 0) (limits : Limits) (o : OwnerView) (left_before left_after shown written_before written_after : Option (List ℕ))
+    → making.Makes limits left_before left_after shown o → WhereBothTold written_before written_after (Prints (owner_line o.key))
+    → Makes Prints left_before left_after shown written_before written_after
+makes Prints limits o left_before left_after shown written_before written_after store printed = record {
+  drawn = store.0;
+  drawn_length = store.1.all_drawn;
+  next = store.2;
+  shows = store.3;
+  printed = subst (λ (key : List ℕ). WhereBothTold written_before written_after (Prints (owner_line key))) store.1.same_key printed;
+}
 
--- where fewer bytes were left than are drawn, a draw that ended, ended so
-pub ends_short : (fault : DrawFault) (drawn : List ℕ) (before after : Option (List ℕ)) → is_some after ≡ is_some before →
-    WhereBothTold before after (Draws {U = Unit {0}} (Err fault) drawn) →
-    WhereTold before (EndsShort (drawn_status fault))
-ends_short Failed drawn before after told draws x was fewer = inr (inl refl)
-ends_short (Short n) drawn before after told draws x was fewer =
+-- a store takes 192 bytes: where one was made there were no fewer
+pub never_fewer : (limits : Limits) (o : OwnerView) (before after shown : Option (List ℕ)) (status : Status) → is_some after ≡ is_some before
+    → making.Makes limits before after shown o → WhereTold before (EndsShort status)
+never_fewer limits o before after shown status told store x was fewer =
     let again = told_again before after x told was in
-    inl (ap (λ m. RandomShort m 192) (sym (draws x again.0 was again.1).0))
+    absurd (omega (arith, ap length (store.2 x again.0 was again.1), length-append store.0 again.0, store.1.all_drawn, fewer))
+
+-- a source that ended tells how short it was
+pub is_short : (left need : ℕ) (before after : Option (List ℕ)) → is_some after ≡ is_some before → (need ≡ 192) × (left < 192) × WhereBothTold before after (λ x y. (length x ≡ left) × (y ≡ []))
+    → IsShort left need before after
+is_short left need before after told short = record {
+  need_is = short.0;
+  fewer = short.1;
+  had = λ x was. let again = told_again before after x told was in (short.2 x again.0 was again.1).0;
+  gone = λ y now. let again = told_again after before y (sym told) now in (short.2 again.0 y again.1 now).1;
+}
+
+-- only a source that ended is answered as one
+pub short_of : (fault : ApplyFault) (left need : ℕ) → apply_status fault ≡ RandomShort left need → fault ≡ faults.RandomShort left need
+short_of faults.RandomFault left need is = absurd (let no : RandomFault ≡ RandomShort left need = is in cc)
+short_of (faults.RandomShort given wanted) left need is = let told : RandomShort given wanted ≡ RandomShort left need = is in cc
+short_of faults.DiskFault left need is = absurd (let no : DiskFault ≡ RandomShort left need = is in cc)
+short_of faults.Closed left need is = absurd (let no : DiskFault ≡ RandomShort left need = is in cc)
+short_of faults.OutOfMemory left need is = absurd (let no : OutOfMemory ≡ RandomShort left need = is in cc)
+
+-- where fewer bytes were left than a store takes, the making of it ended so
+pub ends_short : (fault : ApplyFault) (before after : Option (List ℕ)) → is_some after ≡ is_some before
+    → ((left need : ℕ) → fault ≡ faults.RandomShort left need → (need ≡ 192) × (left < 192) × WhereBothTold before after (λ x y. (length x ≡ left) × (y ≡ [])))
+    → (fault ≡ faults.DiskFault → WhereBothTold before after (λ x y. length x ≡ 192 + length y))
+    → fault ≢ faults.Closed → WhereTold before (EndsShort (apply_status fault))
+ends_short faults.RandomFault before after told short drew unclosed x was fewer = inr (inl refl)
+ends_short (faults.RandomShort left need) before after told short drew unclosed x was fewer =
+    let again = told_again before after x told was in
+    let told_short = short left need refl in
+    let same_left : left ≡ length x = sym (told_short.2 x again.0 was again.1).0 in
+    inl (λ i. RandomShort (same_left i) (told_short.0 i))
+ends_short faults.DiskFault before after told short drew unclosed x was fewer =
+    let again = told_again before after x told was in
+    absurd (omega (arith, drew refl x again.0 was again.1, fewer))
+ends_short faults.Closed before after told short drew unclosed x was fewer = absurd (unclosed refl)
+ends_short faults.OutOfMemory before after told short drew unclosed x was fewer = inr (inr refl)
 
 -- a call of `make` that blames no one is done or out of memory
 pub done_or_no_memory : (status : Status) → IsTrue (is_make_answer status) → status ≢ NotBlank → status ≢ RandomFault → status ≢ DiskFault →

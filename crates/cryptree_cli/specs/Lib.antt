@@ -1,12 +1,10 @@
 pub mod CommandLines
-pub mod Commit
 pub mod Heard
 pub mod Input
 pub mod Lines
 pub mod Listing
 pub mod Outside
 pub mod OwnerSteps
-pub mod Room
 pub mod Running
 pub mod Script
 pub mod Status

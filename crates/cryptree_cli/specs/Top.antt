@@ -2,8 +2,6 @@
 use Rattle.std.specs.Prelude.{◌≡◌, ◌<◌, ◌≤◌, ◌⊎◌, ℕ, List, [], ◌++◌, length, take, Option, Some, None}
 use Rattle.cry_base.specs.Listed.{Listed}
 use Rattle.cry_io.specs.Told.{WhereTold, WhereBothTold}
-use Rattle.cryptree_cli.specs.declared.outside.DrawFault.{DrawFault}
-use Rattle.cryptree_cli.specs.declared.outside.DrawFault.TheVariants.{Failed, Short}
 use Rattle.cryptree_cli.specs.declared.status.Status.{Status}
 use Rattle.cryptree_cli.specs.declared.status.Status.TheVariants.{RandomFault, RandomShort, OutOfMemory}
 use Rattle.cryptree_cli.specs.declared.words.Form.{Form}
@@ -52,11 +50,6 @@ pub record Makes (Prints : List ℕ → List ℕ → List ℕ → Type 0) (left_
   pub next : WhereBothTold left_before left_after (λ before after. before ≡ drawn ++ after)
   pub shows : WhereTold shown (λ s. s ≡ fresh_image drawn)
   pub printed : WhereBothTold written_before written_after (Prints (line_drawn drawn))
-
--- how `make` ends where its draw does
-abbrev pub drawn_status : DrawFault → Status
-drawn_status Failed = RandomFault
-drawn_status (Short left) = RandomShort left 192
 
 -- the source ended after so many bytes of the 192 that `make` draws, and they are gone
 pub record IsShort (left need : ℕ) (left_before left_after : Option (List ℕ)) : Type 0 where

@@ -1,10 +1,7 @@
 //! What the program does, over any source of input and of random bytes, any disk and any sink.
 #![tactic(auto)]
 
-mod batch;
 mod command_lines;
-mod commit;
-mod fresh;
 mod heard;
 mod input;
 pub mod laws;
@@ -16,11 +13,9 @@ mod make;
 mod outside;
 mod owner_steps;
 mod piece;
-mod room;
 mod run;
 mod script;
 pub mod status;
-mod store;
 mod texts;
 pub mod top;
 mod words;

@@ -23,7 +23,7 @@ use std::alloc::Global;
 use store_owner::{ApplyFault, Owner};
 
 /// The sizes of the one version of stores that there is.
-const LIMITS: Limits = Limits {
+pub(crate) const LIMITS: Limits = Limits {
     store_bytes: 268_435_456,
     file_bytes: 1_048_576,
 };
@@ -144,7 +144,7 @@ fn script_status(fault: ScriptFault) -> Status
     }
 }
 
-fn apply_status(fault: ApplyFault) -> Status
+pub(crate) fn apply_status(fault: ApplyFault) -> Status
     ensures { result ≡ running.apply_status fault }
 {
     match fault {

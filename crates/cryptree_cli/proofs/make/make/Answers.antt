@@ -1,49 +1,41 @@
-use Rattle.std.proofs.Common.{◌≡◌, length, arith, sym, ap, ◌∙◌, subst, length-append}
-use Rattle.cry_io.specs.Told.{WhereTold}
-use Rattle.cry_io.proofs.ToldLemmas.{told_again}
+use Rattle.std.proofs.Common.{List, ℕ, Err, ap, sym, ◌∙◌, subst}
+use Rattle.cry_io.specs.Told.{WhereBothTold, WhereTold}
+use Rattle.script_text.specs.Printing.{owner_line}
 use Rattle.cryptree_cli.specs.declared.status.Status.{Status}
-use Rattle.cryptree_cli.specs.declared.status.Status.TheVariants.{Done, DiskFault, WriteFault}
-use Rattle.cryptree_cli.specs.Top.{EndsShort}
-use Rattle.cryptree_cli.proofs.MakeLemmas.{is_short, ends_short}
+use Rattle.cryptree_cli.specs.Running.{version_limits}
+use Rattle.cryptree_cli.specs.Top.{EndsShort, PrintsAll, PrintsFront}
+use Rattle.cryptree_cli.proofs.MakeLemmas.{ends_short, is_short, makes, never_fewer, short_of}
 use Rattle.cryptree_cli.proofs.make.make.Goals as goal
 
-pub returns-in-Ok-draw-clause-short_only : goal.returns-in-Ok-draw-clause-short_only
-returns-in-Ok-draw-clause-short_only g c = λ blank x was fewer.
+pub returns-in-Ok-make-clause-short_only : goal.returns-in-Ok-make-clause-short_only
+returns-in-Ok-make-clause-short_only g c = λ blank.
     let left = g.R.Source.left in
-    let again = told_again (left c.args.random.now) (left c.draw.new.random) x c.in-Ok-draw.ensures.told was in
-    absurd (omega (
-      arith,
-      ap length (c.in-Ok-draw.ensures.bytes x again.0 was again.1),
-      length-append c.draw.new.buf again.0,
-      c.draw.auto.buf,
-      fewer,
-    ))
+    never_fewer version_limits c.in-Ok-make.owner (left c.args.random.now) (left c.make.new.random) (g.D.Disk.shown c.make.new.disk) c.tell.result
+    c.in-Ok-make.ensures.source_told c.in-Ok-make.ensures.made
 
-pub returns-in-Ok-draw-clause-made : goal.returns-in-Ok-draw-clause-made
-returns-in-Ok-draw-clause-made g c = λ done. record {
-  drawn = c.draw.new.buf;
-  drawn_length = c.draw.auto.buf;
-  next = c.in-Ok-draw.ensures.bytes;
-  shows = c.write_and_tell.ensures.shows (λ e. let apart : Done ≡ DiskFault = sym done ∙ e in cc);
-  printed = c.write_and_tell.ensures.printed done;
-}
+pub returns-in-Ok-make-clause-made : goal.returns-in-Ok-make-clause-made
+returns-in-Ok-make-clause-made g c = λ done.
+    let left = g.R.Source.left in
+    let written = g.W.Sink.written in
+    makes PrintsAll version_limits c.in-Ok-make.owner (left c.args.random.now) (left c.make.new.random) (g.D.Disk.shown c.make.new.disk)
+    (written c.args.out.now) (written c.tell.new.out) c.in-Ok-make.ensures.made
+    (subst (λ (key : List ℕ). WhereBothTold (written c.args.out.now) (written c.tell.new.out) (PrintsAll (owner_line key))) c.key.ensures (c.tell.ensures.printed done))
 
-pub returns-in-Ok-draw-clause-cut_short : goal.returns-in-Ok-draw-clause-cut_short
-returns-in-Ok-draw-clause-cut_short g c = λ failed. record {
-  drawn = c.draw.new.buf;
-  drawn_length = c.draw.auto.buf;
-  next = c.in-Ok-draw.ensures.bytes;
-  shows = c.write_and_tell.ensures.shows (λ e. let apart : WriteFault ≡ DiskFault = sym failed ∙ e in cc);
-  printed = c.write_and_tell.ensures.cut_short failed;
-}
+pub returns-in-Ok-make-clause-cut_short : goal.returns-in-Ok-make-clause-cut_short
+returns-in-Ok-make-clause-cut_short g c = λ failed.
+    let left = g.R.Source.left in
+    let written = g.W.Sink.written in
+    makes PrintsFront version_limits c.in-Ok-make.owner (left c.args.random.now) (left c.make.new.random) (g.D.Disk.shown c.make.new.disk)
+    (written c.args.out.now) (written c.tell.new.out) c.in-Ok-make.ensures.made
+    (subst (λ (key : List ℕ). WhereBothTold (written c.args.out.now) (written c.tell.new.out) (PrintsFront (owner_line key))) c.key.ensures (c.tell.ensures.cut_short failed))
 
 pub returns-in-Err-clause-short : goal.returns-in-Err-clause-short
 returns-in-Err-clause-short g c = λ left need is.
-    is_short c.in-Err.fault c.draw.new.buf (g.R.Source.left c.args.random.now) (g.R.Source.left c.draw.new.random)
-    c.in-Err.ensures.told c.in-Err.ensures.short c.in-Err.ensures.bytes left need (sym c.status_of.ensures ∙ is)
+    is_short left need (g.R.Source.left c.args.random.now) (g.R.Source.left c.make.new.random) c.in-Err.ensures.source_told
+    (c.in-Err.ensures.short left need (ap (λ f. Err f) (short_of c.in-Err.fault left need (sym c.apply_status.ensures ∙ is))))
 
 pub returns-in-Err-clause-short_only : goal.returns-in-Err-clause-short_only
 returns-in-Err-clause-short_only g c = λ blank.
-    subst (λ (s : Status). WhereTold (g.R.Source.left c.args.random.now) (EndsShort s)) (sym c.status_of.ensures)
-    (ends_short c.in-Err.fault c.draw.new.buf (g.R.Source.left c.args.random.now) (g.R.Source.left c.draw.new.random)
-    c.in-Err.ensures.told c.in-Err.ensures.bytes)
+    subst (λ (s : Status). WhereTold (g.R.Source.left c.args.random.now) (EndsShort s)) (sym c.apply_status.ensures)
+    (ends_short c.in-Err.fault (g.R.Source.left c.args.random.now) (g.R.Source.left c.make.new.random) c.in-Err.ensures.source_told
+    (λ short need is. c.in-Err.ensures.short short need (ap (λ f. Err f) is)) (λ is. c.in-Err.ensures.drew (ap (λ f. Err f) is)) (λ is. c.in-Err.ensures.not_closed (ap (λ f. Err f) is)))

@@ -1,7 +1,0 @@
-use Rattle.std.proofs.Common.{sym, ◌∙◌}
-use Rattle.cryptree_cli.proofs.CommitLemmas.{on_ok}
-use Rattle.cryptree_cli.proofs.commit.write_and_sync.Goals as goal
-
-pub returns-clause-written : goal.returns-clause-written
-returns-clause-written g c =
-    on_ok c.sync.result (λ x y was is. c.in_ok-write_at.ensures.written x y was (sym c.sync.ensures.shown ∙ is))
