@@ -1,5 +1,5 @@
 -- What an owner answers to commands, one after another, is what the session's script replies.
-use Rattle.std.proofs.Common.{◌≡◌, ◌≤◌, ℕ, List, [], ◌∷◌, ◌++◌, Option, Some, None, arith, refl, sym, ap, subst, ◌∙◌}
+use Rattle.std.proofs.Common.{◌≡◌, ◌≤◌, ℕ, List, [], ◌∷◌, ◌++◌, arith, refl, sym, ap, subst, ◌∙◌}
 use Rattle.std.specs.Prelude.{is_some}
 use Rattle.cry_base.specs.Requests.{Request}
 use Rattle.cry_base.specs.declared.commands.Reply.{Reply}
@@ -9,7 +9,9 @@ use Rattle.cryptree_cli.specs.Script.{Answered}
 use Rattle.cryptree_cli.specs.Script.Answered.{Begun, Then}
 use Rattle.store_owner.specs.Applying.{StandsAt}
 use Rattle.store_owner.specs.Script.{Going, answer, line_going, line_reply, script_going, script_replies}
+use Rattle.store_owner.specs.Taking.{TakesKeys}
 use Rattle.store_owner.proofs.Scripted.{answered}
+use Rattle.store_owner.proofs.Taken.{takes_more, takes_none}
 
 -- one command more at the end of a script
 going_more : (limits : Limits) (g : Going) (rs : List Request) (r : Request) → script_going limits g (rs ++ r ∷ [])
@@ -63,3 +65,9 @@ module _ (X : Type 0) (scene : X → Scene) (Step : X → Request → Reply → 
       let so_far = told_stays rs told x before in
       let one = is x r reply y step in
       (one.left_told ∙ so_far.0, one.shown_told ∙ so_far.1)
+
+  -- and whole keys are taken of the random source
+  pub keys_taken : (asked : List Request) (given : List Reply) (end : X) → Answered Step start asked given end → TakesKeys (scene start).left (scene end).left
+  keys_taken asked given end Begun = takes_none (scene start).left
+  keys_taken asked given end (Then {asked = rs} {replies = told} {x = x} {y = y} {request = r} {reply = reply} before step) =
+      takes_more (scene start).left (scene x).left (scene y).left (told_stays rs told x before).0 (keys_taken rs told x before) (is x r reply y step).draws

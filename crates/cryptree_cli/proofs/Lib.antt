@@ -2,6 +2,7 @@ pub mod AnsweredScripts
 pub mod FirstLines
 pub mod InputLemmas
 pub mod LineLemmas
+pub mod LinesRun
 pub mod ListingLemmas
 pub mod MakeLemmas
 pub mod OutsideLemmas

@@ -1,5 +1,5 @@
 -- How the lines of a run end, on a disk that shows a journal.
-use Rattle.std.proofs.Common.{◌≡◌, ◌≢◌, ◌≤◌, ◌<◌, ℕ, List, [], ◌∷◌, ◌++◌, length, map, ◌+◌, Option, Some, None, Result, Ok, Err, inl, inr, append_assoc, arith, refl, sym, ap, subst, ◌∙◌}
+use Rattle.std.proofs.Common.{◌≡◌, ◌≢◌, ℕ, List, [], ◌∷◌, ◌++◌, length, map, ◌+◌, Option, Some, None, Result, Ok, Err, inr, append_assoc, arith, refl, sym, ap, subst, ◌∙◌}
 use Rattle.std.specs.Prelude.{is_some}
 use Rattle.std.proofs.lemmas.Bool.{false≢true}
 use Rattle.std.proofs.lemmas.List.{map-append}
@@ -19,10 +19,9 @@ use Rattle.cryptree_cli.specs.declared.script.ScriptFault.TheVariants.{BadLine, 
 use Rattle.cryptree_cli.proofs.AnsweredScripts.{IsScene, answered_script}
 use Rattle.cryptree_cli.proofs.ScriptLemmas.{whole_is_cut}
 use Rattle.public_fold.specs.Journal.{Journal}
-use Rattle.store_owner.specs.Applying.{StandsAt}
 use Rattle.store_owner.specs.Bytes.{batches_of}
 use Rattle.store_owner.specs.Owned.{limits_in}
-use Rattle.store_owner.specs.Script.{Going, answer, draws_of, opened, script_going, script_replies}
+use Rattle.store_owner.specs.Script.{Going, answer, opened, script_replies}
 use Rattle.store_owner.specs.declared.apply_fault.ApplyFault.{ApplyFault}
 use Rattle.store_owner.specs.declared.apply_fault.ApplyFault.TheVariants as faults
 
@@ -51,7 +50,7 @@ last_asked (r ∷ asked) next (line ∷ lines) e =
     let rest = last_asked asked next lines others in
     (line ∷ rest.0, rest.1, ap (λ ls. line ∷ ls) rest.2, ap (λ o. o ∷ map asked_in rest.0) first ∙ ap (λ os. Some r ∷ os) rest.3)
 
-asks_fewer : (asked : List Request) (next : Request) (before after : List InputLine) → Asks (asked ++ next ∷ []) before after
+pub asks_fewer : (asked : List Request) (next : Request) (before after : List InputLine) → Asks (asked ++ next ∷ []) before after
     → (line : List ℕ) × Asks asked before (Whole line ∷ after)
 asks_fewer asked next before after asks =
     let split = last_asked asked next asks.lines asks.asked_are in (

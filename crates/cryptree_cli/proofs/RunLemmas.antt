@@ -1,22 +1,23 @@
 -- What the lines of a run leave of the random source and of the disk, however they end.
-use Rattle.std.proofs.Common.{◌≡◌, ◌≢◌, ◌≤◌, ◌<◌, ℕ, List, Option, Some, Result, Ok, Err, arith, refl, sym, ap, subst, ◌∙◌}
+use Rattle.std.proofs.Common.{◌≡◌, ◌≢◌, ◌≤◌, ◌<◌, ℕ, List, Option, Some, Result, Ok, Err, arith, refl, subst, ◌∙◌}
 use Rattle.std.specs.Prelude.{is_some}
 use Rattle.cry_base.specs.Requests.{Request}
 use Rattle.cry_base.specs.declared.commands.Reply.{Reply}
 use Rattle.cry_io.specs.Stops.{IsDurable}
 use Rattle.cryptree_cli.specs.Lines.{LineState, lines_ahead}
 use Rattle.cryptree_cli.specs.OwnerSteps.{AnswersIn, FailsIn, Scene}
-use Rattle.cryptree_cli.specs.Running.{Ends, ended_status, script_status, version_limits}
+use Rattle.cryptree_cli.specs.Running.{Ends, RanDry, ended_status, script_status, version_limits}
 use Rattle.cryptree_cli.specs.Script.{Answered, Ran}
 use Rattle.cryptree_cli.specs.declared.script.ScriptFault.{ScriptFault}
 use Rattle.cryptree_cli.specs.declared.script.ScriptFault.TheVariants.{BadLine, ReadFault, WriteFault, OutOfMemory, Applying}
 use Rattle.cryptree_cli.specs.declared.status.Status.TheVariants as statuses
-use Rattle.cryptree_cli.proofs.AnsweredScripts.{counts_rise, told_stays}
+use Rattle.cryptree_cli.proofs.AnsweredScripts.{counts_rise, keys_taken, told_stays}
 use Rattle.cryptree_cli.proofs.RunEnds.{ends_as, still_told}
 use Rattle.public_fold.specs.Journal.{Journal}
 use Rattle.store_owner.specs.Applying.{StandsAt}
 use Rattle.store_owner.specs.Owned.{OwnerView}
 use Rattle.store_owner.specs.Script.{opened}
+use Rattle.store_owner.specs.Taking.{TakesKeys}
 use Rattle.store_owner.specs.declared.apply_fault.ApplyFault.{ApplyFault}
 use Rattle.store_owner.specs.declared.apply_fault.ApplyFault.TheVariants as faults
 
@@ -53,6 +54,7 @@ module _ (R D : Type 0) (left : R → Option (List ℕ)) (random_faults : R → 
       pub shown_told : is_some (shown x.2) ≡ is_some (shown start.2)
       pub random_counts : random_faults start.1 ≤ random_faults x.1
       pub disk_counts : disk_faults start.2 ≤ disk_faults x.2
+      pub taken : TakesKeys (left start.1) (left x.1)
       pub failed : FailsIn (scene x) request fault (scene end)
 
     stops : (fault : ApplyFault) → HasRan (Err (Applying fault)) → Stops fault
@@ -67,6 +69,7 @@ module _ (R D : Type 0) (left : R → Option (List ℕ)) (random_faults : R → 
           shown_told = told.1;
           random_counts = counts.0;
           disk_counts = counts.1;
+          taken = keys_taken (OwnerView × R × D) scene Step (λ z r reply y step. step) start ran.stands.1 ran.replies x ran.stands.4;
           failed = ran.stands.5.0;
         }
 
@@ -89,6 +92,37 @@ module _ (R D : Type 0) (left : R → Option (List ℕ)) (random_faults : R → 
 
     disk_rose : HasRan (Err (Applying faults.DiskFault)) → disk_faults start.2 < disk_faults end.2
     disk_rose ran = let s = stops faults.DiskFault ran in omega (arith, s.disk_counts, s.failed.disk_fault refl)
+
+    -- the random source ended in the last command's draw
+    ran_dry : (given wanted : ℕ) → HasRan (Err (Applying (faults.RandomShort given wanted))) → RanDry given wanted (left start.1) (left end.1)
+    ran_dry given wanted ran =
+        let s = stops (faults.RandomShort given wanted) ran in
+        let short = s.failed.short given wanted refl in
+        record {
+          drawn = s.taken.drawn;
+          drawn_sizes = s.taken.drawn_sizes;
+          keys = short.keys;
+          is_need = short.is_need;
+          is_short = short.is_short;
+          were_left = λ b was.
+              let middle = still_told (left s.x.1) (left start.1) b s.left_told was in
+              (middle.0, s.taken.next_bytes b middle.0 was middle.1, short.were_left middle.0 middle.1);
+          nothing_left = short.nothing_left;
+        }
+
+    pub random_short : (fault : ScriptFault) → HasRan (Err fault) → (given wanted : ℕ) → script_status fault ≡ statuses.RandomShort given wanted → RanDry given wanted (left start.1) (left end.1)
+    random_short (BadLine line) ran given wanted e = absurd cc
+    random_short ReadFault ran given wanted e = absurd cc
+    random_short WriteFault ran given wanted e = absurd cc
+    random_short OutOfMemory ran given wanted e = absurd cc
+    random_short (Applying faults.RandomFault) ran given wanted e = absurd cc
+    random_short (Applying (faults.RandomShort had needed)) ran given wanted e =
+        let same_left : had ≡ given = cc in
+        let same_need : needed ≡ wanted = cc in
+        subst (λ n. RanDry n wanted (left start.1) (left end.1)) same_left (subst (λ n. RanDry had n (left start.1) (left end.1)) same_need (ran_dry had needed ran))
+    random_short (Applying faults.DiskFault) ran given wanted e = absurd cc
+    random_short (Applying faults.Closed) ran given wanted e = absurd cc
+    random_short (Applying faults.OutOfMemory) ran given wanted e = absurd cc
 
     pub random_fault : (fault : ScriptFault) → HasRan (Err fault) → script_status fault ≡ statuses.RandomFault → random_faults start.1 < random_faults end.1
     random_fault (BadLine line) ran e = absurd cc

@@ -1,26 +1,26 @@
 -- How a run ends at its first line, and where the store is opened or isn't.
-use Rattle.std.proofs.Common.{◌≡◌, ◌≤◌, ℕ, List, [], ◌∷◌, Bool, true, false, Option, None, Some, Result, Ok, Err, inl, inr, ⊎_elim, ◌⊎◌, arith, refl, sym, ap, subst, ◌∙◌}
-use Rattle.std.specs.Prelude.{IsTrue, is_some}
+use Rattle.std.proofs.Common.{◌≡◌, ℕ, List, [], false, Option, None, Some, Result, Ok, Err, inl, ⊎_elim, ◌⊎◌, refl, sym, ap, subst, ◌∙◌}
 use Rattle.std.proofs.lemmas.Bool.{false≢true}
 use Rattle.commit_journal.specs.declared.fault.OpenFault.{OpenFault}
 use Rattle.commit_journal.specs.declared.fault.OpenFault.TheVariants as opening
 use Rattle.cry_base.specs.declared.limits.Limits.{Limits}
 use Rattle.cryptree_cli.specs.Input.{input_limit}
 use Rattle.cryptree_cli.specs.Lines.{InputLine, LineState, lines_ahead}
-use Rattle.cryptree_cli.specs.Running.{CountsOwner, Ends, FirstIsBad, GivesOwner, Judges, is_after_opening, key_in_lines, lines_behind, lines_in, open_status, script_status, version_limits}
+use Rattle.cryptree_cli.specs.Running.{CountsOwner, Ends, FirstIsBad, GivesOwner, Judges, is_after_opening, is_before_opening, key_in_lines, lines_in, open_status, script_status, version_limits}
 use Rattle.cryptree_cli.specs.Script.{IsReading}
 use Rattle.cryptree_cli.specs.declared.script.ScriptFault.{ScriptFault}
 use Rattle.cryptree_cli.specs.declared.script.ScriptFault.TheVariants.{BadLine, ReadFault, WriteFault, OutOfMemory, Applying}
+use Rattle.cryptree_cli.specs.declared.status.Status.{Status}
+use Rattle.cryptree_cli.specs.declared.status.Status.TheVariants as statuses
 use Rattle.holder_client.specs.Asking.{OpenStore, failure_of, opened_store, verdict}
 use Rattle.holder_client.specs.Asking.Asking.{ToWrite}
 use Rattle.holder_client.specs.Judging.{Failure}
 use Rattle.public_fold.specs.Journal.{Journal}
 use Rattle.store_owner.specs.Applying.{StandsAt}
-use Rattle.store_owner.specs.Bytes.{batches_of}
 use Rattle.store_owner.specs.Journals.{IsSettled}
 use Rattle.store_owner.specs.Opened.{IsFresh, IsOpenFault}
-use Rattle.store_owner.specs.Owned.{IsOwnerOf, OwnerView, limits_in}
-use Rattle.store_owner.specs.Script.{Going, opened}
+use Rattle.store_owner.specs.Owned.{IsOwnerOf, OwnerView}
+use Rattle.store_owner.specs.Script.{opened}
 
 -- a reader that has read nothing yet
 abbrev pub fresh_reader : LineState
@@ -112,3 +112,38 @@ opened_stands key m draws o left shown may_leave is fresh settled undrawn = reco
   has_draws = undrawn;
   disk_stands = (settled.shows.0, settled.shows.1, settled.shows.2.stands);
 }
+
+-- line 1 is bad where it hands in no key, and nowhere else
+pub first_alone : (fault : ScriptFault) → IsReading fault → (before after : List InputLine) → GivesOwner (Err fault) before after → script_status fault ≡ statuses.BadScript 1 → key_in_lines before ≡ None
+first_alone (BadLine line) reading before after gives is = gives.0
+first_alone ReadFault reading before after gives is = absurd cc
+first_alone OutOfMemory reading before after gives is = absurd cc
+first_alone WriteFault reading before after gives is = absurd reading
+first_alone (Applying fault) reading before after gives is = absurd reading
+
+pub not_before : {P : Type 0} (status : Status) → is_before_opening status ≡ false → status ≡ statuses.BadScript 1 → P
+not_before status behind is = absurd (false≢true (sym behind ∙ ap is_before_opening is))
+
+pub unopened_is_no_line : {P : Type 0} (fault : OpenFault) (line : ℕ) → open_status fault ≡ statuses.BadScript line → P
+unopened_is_no_line opening.NotAStore line is = absurd cc
+unopened_is_no_line opening.WrongKey line is = absurd cc
+unopened_is_no_line (opening.Damaged at) line is = absurd cc
+unopened_is_no_line (opening.Tampered batch at) line is = absurd cc
+unopened_is_no_line opening.DiskFault line is = absurd cc
+unopened_is_no_line opening.OutOfMemory line is = absurd cc
+
+-- nothing is drawn before the opening
+pub reading_draws_none : {P : Type 0} (fault : ScriptFault) (left need : ℕ) → IsReading fault → script_status fault ≡ statuses.RandomShort left need → P
+reading_draws_none (BadLine line) left need reading is = absurd cc
+reading_draws_none ReadFault left need reading is = absurd cc
+reading_draws_none OutOfMemory left need reading is = absurd cc
+reading_draws_none WriteFault left need reading is = absurd reading
+reading_draws_none (Applying fault) left need reading is = absurd reading
+
+pub unopened_draws_none : {P : Type 0} (fault : OpenFault) (left need : ℕ) → open_status fault ≡ statuses.RandomShort left need → P
+unopened_draws_none opening.NotAStore left need is = absurd cc
+unopened_draws_none opening.WrongKey left need is = absurd cc
+unopened_draws_none (opening.Damaged at) left need is = absurd cc
+unopened_draws_none (opening.Tampered batch at) left need is = absurd cc
+unopened_draws_none opening.DiskFault left need is = absurd cc
+unopened_draws_none opening.OutOfMemory left need is = absurd cc

@@ -18,7 +18,7 @@ use Rattle.cryptree_cli.specs.declared.script.ScriptFault.{ScriptFault}
 use Rattle.store_owner.specs.declared.apply_fault.ApplyFault.{ApplyFault}
 use Rattle.cryptree_cli.specs.declared.script.ScriptFault.TheVariants.{BadLine, ReadFault, WriteFault, OutOfMemory, Applying}
 
-asks_none : (before : List InputLine) → Asks [] before before
+pub asks_none : (before : List InputLine) → Asks [] before before
 asks_none before = record { lines = []; before_is = refl; asked_are = refl }
 
 asks_more : (asked : List Request) (request : Request) (line : List ℕ) (before middle after : List InputLine) → Asks asked before middle
@@ -69,7 +69,7 @@ pub record Going {X : Type 0} (Step : X → Request → Reply → X → Type 0) 
   pub lines : WhereBothTold left_first left (λ before after. Asks asked (lines_ahead old before) (lines_ahead now after))
   pub printed : WhereBothTold written_first written (λ before after. after ≡ before ++ spell_replies replies)
 
-same_told : {X : Type 0} (o : Option X) (x y : X) → o ≡ Some x → o ≡ Some y → y ≡ x
+pub same_told : {X : Type 0} (o : Option X) (x y : X) → o ≡ Some x → o ≡ Some y → y ≡ x
 same_told o x y one other = let both = sym one ∙ other in cc
 
 pub going_at_start : {X : Type 0} (Step : X → Request → Reply → X → Type 0) (start : X) (old : LineState) (left written : Option (List ℕ))

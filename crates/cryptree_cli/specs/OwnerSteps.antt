@@ -7,6 +7,7 @@ use Rattle.cry_base.specs.declared.commands.Reply.TheVariants.{Refused}
 use Rattle.public_fold.specs.Journal.{Journal}
 use Rattle.store_owner.specs.Applying.{Answers}
 use Rattle.store_owner.specs.Owned.{IsOwnerOf, OwnerView}
+use Rattle.store_owner.specs.Taking.{FallsShort, TakesKeys}
 use Rattle.store_owner.specs.declared.apply_fault.ApplyFault.{ApplyFault}
 use Rattle.store_owner.specs.declared.apply_fault.ApplyFault.TheVariants as faults
 
@@ -18,20 +19,24 @@ pub record Scene : Type 0 where
   pub random_faults : ℕ
   pub disk_faults : ℕ
 
--- a command that is answered: as the journal says for which the owner stands; a refused one draws and writes nothing
+-- a command that is answered: as the journal says for which the owner stands; it takes whole keys, and a refused one draws and writes
+-- nothing
 pub record AnswersIn (before : Scene) (request : Request) (reply : Reply) (after : Scene) : Type 0 where
   pub answers : (m : Journal) → IsOwnerOf m before.owner → Answers (Ok reply) m request before.owner after.owner before.left after.left before.shown after.shown
   pub left_told : is_some after.left ≡ is_some before.left
   pub shown_told : is_some after.shown ≡ is_some before.shown
+  pub draws : TakesKeys before.left after.left
   pub kept : (why : Refusal) → reply ≡ Refused why → (after.left ≡ before.left) × (after.shown ≡ before.shown)
   pub random_counts : before.random_faults ≤ after.random_faults
   pub disk_counts : before.disk_faults ≤ after.disk_faults
 
--- a command that meets a fault: only that of the disk changes what it shows, and each comes only where its count rose
+-- a command that meets a fault: only that of the disk changes what it shows, each comes only where its count rose, and the random
+-- source falls short of whole keys
 pub record FailsIn (before : Scene) (request : Request) (fault : ApplyFault) (after : Scene) : Type 0 where
   pub answers : (m : Journal) → IsOwnerOf m before.owner → Answers (Err fault) m request before.owner after.owner before.left after.left before.shown after.shown
   pub left_told : is_some after.left ≡ is_some before.left
   pub shown_told : is_some after.shown ≡ is_some before.shown
+  pub short : (left need : ℕ) → fault ≡ faults.RandomShort left need → FallsShort left need before.left after.left
   pub undrawn : fault ≡ faults.OutOfMemory → after.left ≡ before.left
   pub unwritten : fault ≢ faults.DiskFault → after.shown ≡ before.shown
   pub never_closed : fault ≢ faults.Closed

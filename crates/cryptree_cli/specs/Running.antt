@@ -1,16 +1,18 @@
--- What `run` answers, prints and leaves, on a disk that shows a journal. This project's own, docs/FORMAT.md, "The program".
+-- What `run` answers, prints and leaves: on every disk, and on one that shows a journal. This project's own, docs/FORMAT.md, "The program".
 use Rattle.std.specs.Prelude.{◌≡◌, ◌<◌, ◌⊎◌, ℕ, ◌+◌, ◌*◌, ◌==◌, nat_lt, Bool, true, false, List, [], ◌∷◌, ◌++◌, length, Option, Some, None, Result, Ok, Err}
 use Rattle.commit_journal.specs.Answering.{Damaged, NotAStore, Tampered, WrongKey}
 use Rattle.commit_journal.specs.Standing.{StandsWhole}
 use Rattle.cry_base.specs.Requests.{Request}
+use Rattle.cry_base.specs.declared.commands.Reply.{Reply}
 use Rattle.cry_base.specs.declared.limits.Limits.{Limits}
-use Rattle.cry_io.specs.Told.{WhereBothTold}
+use Rattle.cry_io.specs.Told.{WhereTold, WhereBothTold}
 use Rattle.holder_client.specs.Asking.{verdict}
 use Rattle.holder_client.specs.Asking.Asking.{ToWrite}
 use Rattle.holder_client.specs.Judging.{Failure, OfBytes}
 use Rattle.public_fold.specs.Journal.{Journal}
 use Rattle.script_text.specs.Reading.{bundle_of}
 use Rattle.store_owner.specs.Bytes.{batches_of}
+use Rattle.store_owner.specs.Drawing.{AreKeys, joined}
 use Rattle.store_owner.specs.Journals.{ShowsJournal}
 use Rattle.store_owner.specs.Script.{Going, answer, draws_of, opened, script_going, script_replies}
 use Rattle.cryptree_cli.specs.CommandLines.{owner_key}
@@ -220,3 +222,63 @@ JudgesTyped status typed image = (key : List ℕ) → key_in_lines (lines_in typ
 abbrev pub EndsTyped : Status → List ℕ → List ℕ → Option (List ℕ) → Option (List ℕ) → Option (List ℕ) → Option (List ℕ) → Option (List ℕ) → Type 0
 EndsTyped status typed draws was left shown before after = (key : List ℕ) (m : Journal) → key_in_lines (lines_in typed) ≡ Some key → ShowsJournal key m was
     → Ends status version_limits key m draws (lines_behind (lines_in typed)) left shown before after
+
+-- ---- on every disk
+
+-- the lines behind the first, of a whole input
+abbrev pub lines_typed : List ℕ → List InputLine
+lines_typed typed = lines_behind (lines_in typed)
+
+-- the first lines ask for this, and the next one for a command too
+abbrev pub AsksNext : List Request → List InputLine → Type 0
+AsksNext asked lines = (next : Request) × (rest : List InputLine) × Asks (asked ++ next ∷ []) lines rest
+
+-- how many lines were answered: none before the opening; and the bad line is the first of all, or the one behind those that were
+-- answered
+abbrev pub CountsAnswered : Status → List Request → Type 0
+CountsAnswered (statuses.BadScript line) asked = (line ≡ 1) × (asked ≡ []) ⊎ (line ≡ length asked + 2)
+CountsAnswered statuses.NotAStore asked = asked ≡ []
+CountsAnswered statuses.WrongKey asked = asked ≡ []
+CountsAnswered (statuses.Damaged at) asked = asked ≡ []
+CountsAnswered (statuses.Tampered batch at) asked = asked ≡ []
+CountsAnswered _ asked = Unit {0}
+
+-- which of these lines were answered: at Done all; before a bad one those before it; else the first ones, and behind them a fault
+-- of the random source, or of the disk once the store was opened, met a command too
+abbrev pub AnswersLines : Status → List Request → List InputLine → Type 0
+AnswersLines statuses.Done asked lines = Asks asked lines []
+AnswersLines (statuses.BadScript line) asked lines = (line ≡ 1) ⊎ ((rest : List InputLine) × Asks asked lines rest × IsBadFirst rest)
+AnswersLines (statuses.RandomShort left need) asked lines = AsksNext asked lines
+AnswersLines statuses.RandomFault asked lines = AsksNext asked lines
+AnswersLines statuses.DiskFault asked lines = (asked ≡ []) ⊎ AsksNext asked lines
+AnswersLines _ asked lines = (rest : List InputLine) × Asks asked lines rest
+
+-- what was printed: each reply; after a write fault or without memory a front of it, without more than the last reply
+abbrev pub PrintsAnswers : Status → List Reply → List ℕ → List ℕ → Type 0
+PrintsAnswers statuses.WriteFault replies before after = PrintsCut replies before after
+PrintsAnswers statuses.OutOfMemory replies before after = PrintsCut replies before after
+PrintsAnswers _ replies before after = after ≡ before ++ spell_replies replies
+
+-- The lines of a run: these were asked and answered, each with one reply, in their order; and the replies are what was printed.
+pub record RanLines (status : Status) (lines : List ℕ → List InputLine) (typed before after : Option (List ℕ)) : Type 0 where
+  pub asked : List Request
+  pub replies : List Reply
+  pub one_each : length replies ≡ length asked
+  pub counted : CountsAnswered status asked
+  pub answered : WhereTold typed (λ bytes. AnswersLines status asked (lines bytes))
+  pub printed : WhereBothTold before after (PrintsAnswers status replies)
+
+-- some line among them is bad
+abbrev pub HasBadLine : List InputLine → Type 0
+HasBadLine lines = (front rest : List InputLine) × (lines ≡ front ++ rest) × IsBadFirst rest
+
+-- The random source ended in a command's draw of so many keys, 32 bytes each: the commands before it drew whole keys, fewer bytes
+-- than it needs were left behind these, and they are gone too.
+pub record RanDry (left need : ℕ) (left_before left_after : Option (List ℕ)) : Type 0 where
+  pub drawn : List (List ℕ)
+  pub drawn_sizes : AreKeys drawn
+  pub keys : ℕ
+  pub is_need : need ≡ 32 * keys
+  pub is_short : left < need
+  pub were_left : WhereTold left_before (λ before. (last : List ℕ) × (before ≡ joined drawn ++ last) × (length last ≡ left))
+  pub nothing_left : WhereTold left_after (λ after. after ≡ [])

@@ -1,6 +1,6 @@
 //! The command `run`: the owner's line, then the store opened for writing, then each command's line answered before the next is
 //! read, in this order.
-ghost use Rattle.std.specs.Prelude.{◌≡◌, ◌<◌, ◌≤◌, ℕ, [], List, Err, IfErr, OnOk, None, Option, Some, false, is_some, IsTrue};
+ghost use Rattle.std.specs.Prelude.{◌≡◌, ◌≢◌, ◌<◌, ◌≤◌, ℕ, [], List, Err, IfErr, OnOk, None, Option, Some, false, is_some, IsTrue};
 ghost use Rattle.cry_io.specs.Stops.{IsDurable};
 ghost use Rattle.cry_io.specs.Told.{WhereTold, WhereBothTold};
 ghost use Rattle.holder_client.specs.Judging.{Failure};
@@ -9,7 +9,7 @@ ghost use Rattle.store_owner.specs.Applying.{StandsAt};
 ghost use Rattle.store_owner.specs.Script.{opened};
 ghost use Rattle.cryptree_cli.specs.Lines.{lines_ahead};
 ghost use Rattle.cryptree_cli.specs.Running as running;
-ghost use Rattle.cryptree_cli.specs.Running.{CountsOwner, Ends, EndsTyped, FirstIsBad, GivesOwner, Judges, JudgesTyped, is_after_opening, is_before_opening, is_run_answer, key_in_lines, lines_in, version_limits};
+ghost use Rattle.cryptree_cli.specs.Running.{CountsOwner, Ends, EndsTyped, FirstIsBad, GivesOwner, HasBadLine, Judges, JudgesTyped, RanDry, RanLines, is_after_opening, is_before_opening, is_run_answer, key_in_lines, lines_in, lines_typed, version_limits};
 ghost use Rattle.cryptree_cli.specs.Script.{IsReading, ReadsByCount};
 
 use crate::command_lines::read_owner;
@@ -41,6 +41,10 @@ pub(crate) fn run<S: Source, R: Source, D: Disk, W: Sink>(
     ensures judged { WhereTold (S.left input.old) (λ typed. WhereTold (D.shown disk.old) (λ image. JudgesTyped result typed image)) }
     ensures ran { WhereTold (S.left input.old) (λ typed. WhereTold (R.left random.old) (λ draws.
         EndsTyped result typed draws (D.shown disk.old) (R.left random.new) (D.shown disk.new) (W.written out.old) (W.written out.new))) }
+    ensures lines { RanLines result lines_typed (S.left input.old) (W.written out.old) (W.written out.new) }
+    ensures bad_line { WhereTold (S.left input.old) (λ typed. HasBadLine (lines_typed typed) → result ≢ Status.Done) }
+    ensures key_line { result ≡ Status.BadScript 1 → WhereTold (S.left input.old) (λ typed. key_in_lines (lines_in typed) ≡ None) }
+    ensures short { (left need : ℕ) → result ≡ Status.RandomShort left need → RanDry left need (R.left random.old) (R.left random.new) }
     ensures read_to_end { result ≡ Status.Done → WhereTold (S.left input.new) (λ rest. rest ≡ []) }
     ensures stays { IsTrue (is_after_opening result) → IsDurable (D.may_leave disk.new) (D.shown disk.new) }
     ensures unopened { IsTrue (is_before_opening result) → (random.new ≡ random.old) × (disk.new ≡ disk.old) × (out.new ≡ out.old) }
@@ -109,6 +113,8 @@ fn apply_lines<S: Source, R: Source, D: Disk, W: Sink>(
     ensures answers { IsTrue (is_run_answer result) }
     ensures ran { WhereTold (S.left input.old) (λ left. (draws key : List ℕ) (m : Journal) → StandsAt version_limits key (opened m draws) owner (R.left random.old) (D.shown disk.old) →
         Ends result version_limits key m draws (lines_ahead reader left) (R.left random.new) (D.shown disk.new) (W.written out.old) (W.written out.new)) }
+    ensures lines { RanLines result (lines_ahead reader) (S.left input.old) (W.written out.old) (W.written out.new) }
+    ensures short { (left need : ℕ) → result ≡ Status.RandomShort left need → RanDry left need (R.left random.old) (R.left random.new) }
     ensures none_of_bytes { (verdict : Option Failure) → verdict ≡ None → Judges result verdict }
     ensures read_to_end { result ≡ Status.Done → WhereTold (S.left input.new) (λ rest. rest ≡ []) }
     ensures stays { IsTrue (is_after_opening result) → IsDurable (D.may_leave disk.new) (D.shown disk.new) }

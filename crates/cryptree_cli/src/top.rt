@@ -5,7 +5,7 @@ ghost use Rattle.cry_io.specs.Told.{WhereTold, WhereBothTold};
 ghost use Rattle.commit_journal.specs.Reading.{IsOnlyRead};
 ghost use Rattle.cryptree_cli.specs.Input.{input_answer};
 ghost use Rattle.cryptree_cli.specs.Listing.{InputDecides, ListsAs, ListsFresh, owner_in, list_answer, is_list_answer, is_before_read};
-ghost use Rattle.cryptree_cli.specs.Running.{EndsTyped, FirstIsBad, JudgesTyped, is_after_opening, is_before_opening, is_run_answer, key_in_lines, lines_in};
+ghost use Rattle.cryptree_cli.specs.Running.{EndsTyped, FirstIsBad, HasBadLine, JudgesTyped, RanDry, RanLines, is_after_opening, is_before_opening, is_run_answer, key_in_lines, lines_in, lines_typed};
 ghost use Rattle.cryptree_cli.specs.Status.{is_make_answer, is_before_draw, is_before_write, is_before_print};
 ghost use Rattle.cryptree_cli.specs.Top.{IsMake, IsRun, IsList, Makes, PrintsAll, PrintsFront, IsShort, EndsShort, text_of};
 ghost use Rattle.cryptree_cli.specs.Words.{form_of_words};
@@ -65,9 +65,17 @@ pub fn top<S: Source, R: Source, D: Disk, W: Sink>(
         IsDurable (D.may_leave disk.new) (D.shown disk.new) × (D.size_of disk.new ≡ 819) }
 
     // What `run` does: it opens the store with the key that the first line hands in, and answers each command before the next
-    // is read. On a disk that shows a journal it ends as that journal's session does, whatever it ends with.
+    // is read. Whatever the disk shows: line 1 is bad where it hands in no key, and there alone; the lines behind it are answered
+    // in their order, up to a bad one or a fault, and these answers are what is printed; and the random source is said to end
+    // only where it did, in a command's draw.
     ensures run_first_line { IsRun words.now.items → WhereTold (S.left input.old) (λ typed. key_in_lines (lines_in typed) ≡ None → FirstIsBad result) }
     ensures run_judged { IsRun words.now.items → WhereTold (S.left input.old) (λ typed. WhereTold (D.shown disk.old) (λ image. JudgesTyped result typed image)) }
+    ensures run_key_line { IsRun words.now.items → result ≡ Status.BadScript 1 → WhereTold (S.left input.old) (λ typed. key_in_lines (lines_in typed) ≡ None) }
+    ensures run_lines { IsRun words.now.items → RanLines result lines_typed (S.left input.old) (W.written out.old) (W.written out.new) }
+    ensures run_bad_line { IsRun words.now.items → WhereTold (S.left input.old) (λ typed. HasBadLine (lines_typed typed) → result ≢ Status.Done) }
+    ensures run_short { IsRun words.now.items → (left need : ℕ) → result ≡ Status.RandomShort left need → RanDry left need (R.left random.old) (R.left random.new) }
+
+    // On a disk that shows a journal it ends as that journal's session does, whatever it ends with.
     ensures ran { IsRun words.now.items → WhereTold (S.left input.old) (λ typed. WhereTold (R.left random.old) (λ draws.
         EndsTyped result typed draws (D.shown disk.old) (R.left random.new) (D.shown disk.new) (W.written out.old) (W.written out.new))) }
     ensures run_read_to_end { IsRun words.now.items → result ≡ Status.Done → WhereTold (S.left input.new) (λ rest. rest ≡ []) }

@@ -1,8 +1,9 @@
-use Rattle.std.proofs.Common.{◌≡◌, None, Err, Ok, refl, sym, subst, ap, ◌∙◌}
+use Rattle.std.proofs.Common.{◌≡◌, None, Err, Ok, refl, sym, subst, ◌∙◌}
 use Rattle.cryptree_cli.specs.Lines.{lines_ahead}
-use Rattle.cryptree_cli.specs.Running.{Ends, FirstIsBad, Judges, lines_behind, lines_in, open_status, version_limits}
+use Rattle.cryptree_cli.specs.Running.{Ends, FirstIsBad, Judges, RanLines, lines_behind, lines_in, lines_typed, open_status, version_limits}
+use Rattle.cryptree_cli.proofs.LinesRun.{bad_is_never_done, lines_as_typed, unopened_lines, unread_lines}
 use Rattle.cryptree_cli.proofs.RunEnds.{still_told}
-use Rattle.cryptree_cli.proofs.RunOpening.{bad_first_is_unjudged, first_ends, first_is_bad, gives_first, key_is_given, opened_has_no_verdict, opened_stands, same_key, unopened_ends, unopened_is_judged}
+use Rattle.cryptree_cli.proofs.RunOpening.{bad_first_is_unjudged, first_alone, first_ends, first_is_bad, gives_first, key_is_given, not_before, opened_has_no_verdict, opened_stands, reading_draws_none, same_key, unopened_draws_none, unopened_ends, unopened_is_judged, unopened_is_no_line}
 use Rattle.holder_client.specs.Asking.{verdict}
 use Rattle.holder_client.specs.Asking.Asking.{ToWrite}
 use Rattle.store_owner.specs.Journals.{StandsForJournal}
@@ -87,3 +88,50 @@ returns-in-Ok-open_store-clause-ran g c = λ x was draws left key m hands shows.
     (subst (λ k. Ends c.apply_lines.result version_limits k m draws (lines_ahead c.first_owner.new.reader after.0) (g.R.Source.left c.apply_lines.new.random) (g.D.Disk.shown c.apply_lines.new.disk)
     (g.W.Sink.written c.args.out.now) (g.W.Sink.written c.apply_lines.new.out)) same
     (c.apply_lines.ensures.ran after.0 after.1 draws c.in-Ok.key m begins))
+
+-- ---- the lines, whatever the disk shows
+
+pub returns-in-Err-clause-lines : goal.returns-in-Err-clause-lines
+returns-in-Err-clause-lines g c =
+    subst (λ status. RanLines status lines_typed (g.S.Source.left c.args.input.now) (g.W.Sink.written c.args.out.now) (g.W.Sink.written c.args.out.now)) (sym c.script_status.ensures)
+    (unread_lines lines_typed (g.S.Source.left c.args.input.now) (g.W.Sink.written c.args.out.now) c.in-Err.fault c.in-Err.ensures.faults _ _ c.in-Err.ensures.count)
+
+pub returns-in-Err-open_store-clause-lines : goal.returns-in-Err-open_store-clause-lines
+returns-in-Err-open_store-clause-lines g c =
+    subst (λ status. RanLines status lines_typed (g.S.Source.left c.args.input.now) (g.W.Sink.written c.args.out.now) (g.W.Sink.written c.args.out.now)) (sym c.open_status.ensures)
+    (unopened_lines lines_typed (g.S.Source.left c.args.input.now) (g.W.Sink.written c.args.out.now) c.in-Err-open_store.fault)
+
+pub returns-in-Ok-open_store-clause-lines : goal.returns-in-Ok-open_store-clause-lines
+returns-in-Ok-open_store-clause-lines g c =
+    lines_as_typed c.apply_lines.result (lines_ahead c.first_owner.new.reader) lines_typed (g.S.Source.left c.args.input.now) (g.S.Source.left c.first_owner.new.input)
+    (g.W.Sink.written c.args.out.now) (g.W.Sink.written c.apply_lines.new.out) c.in-Ok.ensures.told
+    (λ x y was now. (gives_first (Ok c.in-Ok.key) c.new-reader.result x (lines_ahead c.first_owner.new.reader y) c.new-reader.ensures (c.in-Ok.ensures.gives x y was now)).1)
+    c.apply_lines.ensures.lines
+
+pub returns-in-Err-clause-bad_line : goal.returns-in-Err-clause-bad_line
+returns-in-Err-clause-bad_line g c = bad_is_never_done c.script_status.result lines_typed (g.S.Source.left c.args.input.now) _ _ (returns-in-Err-clause-lines g c)
+
+pub returns-in-Err-open_store-clause-bad_line : goal.returns-in-Err-open_store-clause-bad_line
+returns-in-Err-open_store-clause-bad_line g c = bad_is_never_done c.open_status.result lines_typed (g.S.Source.left c.args.input.now) _ _ (returns-in-Err-open_store-clause-lines g c)
+
+pub returns-in-Ok-open_store-clause-bad_line : goal.returns-in-Ok-open_store-clause-bad_line
+returns-in-Ok-open_store-clause-bad_line g c = bad_is_never_done c.apply_lines.result lines_typed (g.S.Source.left c.args.input.now) _ _ (returns-in-Ok-open_store-clause-lines g c)
+
+pub returns-in-Err-clause-key_line : goal.returns-in-Err-clause-key_line
+returns-in-Err-clause-key_line g c = λ is x was.
+    let after = still_told (g.S.Source.left c.first_owner.new.input) (g.S.Source.left c.args.input.now) x c.in-Err.ensures.told was in
+    first_alone c.in-Err.fault c.in-Err.ensures.faults (lines_in x) (lines_ahead c.first_owner.new.reader after.0)
+    (gives_first (Err c.in-Err.fault) c.new-reader.result x (lines_ahead c.first_owner.new.reader after.0) c.new-reader.ensures (c.in-Err.ensures.gives x after.0 was after.1))
+    (sym c.script_status.ensures ∙ is)
+
+pub returns-in-Err-open_store-clause-key_line : goal.returns-in-Err-open_store-clause-key_line
+returns-in-Err-open_store-clause-key_line g c = λ is x was. unopened_is_no_line c.in-Err-open_store.fault 1 (sym c.open_status.ensures ∙ is)
+
+pub returns-in-Ok-open_store-clause-key_line : goal.returns-in-Ok-open_store-clause-key_line
+returns-in-Ok-open_store-clause-key_line g c = λ is x was. not_before c.apply_lines.result c.apply_lines.ensures.not_first is
+
+pub returns-in-Err-clause-short : goal.returns-in-Err-clause-short
+returns-in-Err-clause-short g c = λ left need is. reading_draws_none c.in-Err.fault left need c.in-Err.ensures.faults (sym c.script_status.ensures ∙ is)
+
+pub returns-in-Err-open_store-clause-short : goal.returns-in-Err-open_store-clause-short
+returns-in-Err-open_store-clause-short g c = λ left need is. unopened_draws_none c.in-Err-open_store.fault left need (sym c.open_status.ensures ∙ is)

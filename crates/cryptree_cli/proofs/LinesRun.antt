@@ -1,0 +1,263 @@
+-- What a run does of its lines, whatever the disk shows.
+use Rattle.std.proofs.Common.{◌≡◌, ◌≢◌, ℕ, ◌+◌, List, [], ◌∷◌, ◌++◌, length, map, Option, Some, None, Result, Ok, Err, inl, inr, arith, refl, sym, ap, subst, ◌∙◌, length-append}
+use Rattle.std.specs.Prelude.{is_some}
+use Rattle.std.proofs.lemmas.List.{append-nil}
+use Rattle.commit_journal.specs.declared.fault.OpenFault.{OpenFault}
+use Rattle.commit_journal.specs.declared.fault.OpenFault.TheVariants as opening
+use Rattle.cry_base.specs.Requests.{Request}
+use Rattle.cry_base.specs.declared.commands.Reply.{Reply}
+use Rattle.cry_io.specs.Told.{WhereBothTold}
+use Rattle.cry_io.proofs.ToldLemmas.{told_again}
+use Rattle.cryptree_cli.specs.CommandLines.{asked_in}
+use Rattle.cryptree_cli.specs.Lines.{InputLine, LineState, lines_ahead}
+use Rattle.cryptree_cli.specs.Lines.InputLine.{Whole, TooLong}
+use Rattle.cryptree_cli.specs.Running.{AnswersLines, CountsOwner, HasBadLine, PrintsAnswers, RanLines, ended_status, open_status, script_status}
+use Rattle.cryptree_cli.specs.Script.{Answered, Asks, IsBadFirst, IsReading, Ran}
+use Rattle.cryptree_cli.specs.Script.Answered.{Begun, Then}
+use Rattle.cryptree_cli.specs.declared.script.ScriptFault.{ScriptFault}
+use Rattle.cryptree_cli.specs.declared.script.ScriptFault.TheVariants.{BadLine, ReadFault, WriteFault, OutOfMemory, Applying}
+use Rattle.cryptree_cli.specs.declared.status.Status.{Status}
+use Rattle.cryptree_cli.specs.declared.status.Status.TheVariants as statuses
+use Rattle.cryptree_cli.proofs.RunEnds.{asks_fewer}
+use Rattle.cryptree_cli.proofs.ScriptLemmas.{asks_none, same_told, whole_is_cut}
+use Rattle.store_owner.specs.declared.apply_fault.ApplyFault.{ApplyFault}
+use Rattle.store_owner.specs.declared.apply_fault.ApplyFault.TheVariants as faults
+
+-- ---- behind the opening
+
+-- each command that was answered has one reply
+one_reply_each : {X : Type 0} (Step : X → Request → Reply → X → Type 0) (start : X) (asked : List Request) (replies : List Reply) (end : X)
+    → Answered Step start asked replies end → length replies ≡ length asked
+one_reply_each Step start asked replies end Begun = refl
+one_reply_each Step start asked replies end (Then {asked = rs} {replies = told} {x = x} {y = y} {request = r} {reply = reply} before step) =
+    let so_far = one_reply_each Step start rs told x before in
+    let given : length (told ++ reply ∷ []) ≡ length told + 1 = length-append told (reply ∷ []) in
+    let wanted : length (rs ++ r ∷ []) ≡ length rs + 1 = length-append rs (r ∷ []) in
+    omega (arith, so_far, given, wanted)
+
+module _ (X : Type 0) (Step : X → Request → Reply → X → Type 0) (Fails : X → Request → ApplyFault → X → Type 0) (start end : X)
+    (old new : LineState) (left_before left_after out_before out_after : Option (List ℕ)) (told : is_some left_after ≡ is_some left_before) where
+  abbrev HasRan : Result (Unit {0}) ScriptFault → Type 0
+  HasRan result = Ran Step Fails result start end old new left_before left_after out_before out_after
+
+  abbrev RunsLines : Status → Type 0
+  RunsLines status = RanLines status (lines_ahead old) left_before out_before out_after
+
+  again : (b : List ℕ) → left_before ≡ Some b → (a : List ℕ) × (left_after ≡ Some a)
+  again b was = told_again left_before left_after b told was
+
+  -- the last command met a fault of the random source, or of the disk
+  pub record Stopped : Type 0 where
+    pub asked : List Request
+    pub replies : List Reply
+    pub next : Request
+    pub one_each : length replies ≡ length asked
+    pub takes : (b : List ℕ) → left_before ≡ Some b → (a : List ℕ) × Asks (asked ++ next ∷ []) (lines_ahead old b) (lines_ahead new a)
+    pub printed : WhereBothTold out_before out_after (PrintsAnswers statuses.Done replies)
+
+  stopped : (fault : ApplyFault) → HasRan (Err (Applying fault)) → Stopped
+  stopped fault ran =
+      let x : X = ran.stands.0 in
+      let first : List Request = ran.stands.1 in
+      let next : Request = ran.stands.2 in
+      record {
+        asked = first;
+        replies = ran.replies;
+        next = next;
+        one_each = one_reply_each Step start first ran.replies x ran.stands.4;
+        takes = λ b was.
+            let a = again b was in
+            (a.0, subst (λ rs. Asks rs (lines_ahead old b) (lines_ahead new a.0)) ran.stands.3 (ran.lines b a.0 was a.1));
+        printed = ran.printed;
+      }
+
+  lines_all : HasRan (Ok tt) → RunsLines statuses.Done
+  lines_all ran = record {
+    asked = ran.asked;
+    replies = ran.replies;
+    one_each = one_reply_each Step start ran.asked ran.replies end ran.stands;
+    counted = tt;
+    answered = λ b was. let a = again b was in (ran.lines b a.0 was a.1).0;
+    printed = ran.printed;
+  }
+
+  lines_to_bad : (line : ℕ) → old.given ≡ 1 → HasRan (Err (BadLine line)) → RunsLines (statuses.BadScript line)
+  lines_to_bad line first ran = record {
+    asked = ran.asked;
+    replies = ran.replies;
+    one_each = one_reply_each Step start ran.asked ran.replies end ran.stands;
+    counted = inr (omega (arith, ran.number, first));
+    answered = λ b was. let a = again b was in inr (ran.lines b a.0 was a.1);
+    printed = ran.printed;
+  }
+
+  lines_to_fault : HasRan (Err ReadFault) → RunsLines statuses.ReadFault
+  lines_to_fault ran = record {
+    asked = ran.asked;
+    replies = ran.replies;
+    one_each = one_reply_each Step start ran.asked ran.replies end ran.stands;
+    counted = tt;
+    answered = λ b was. let a = again b was in (lines_ahead new a.0, ran.lines b a.0 was a.1);
+    printed = ran.printed;
+  }
+
+  lines_cut : HasRan (Err WriteFault) → RunsLines statuses.WriteFault
+  lines_cut ran = record {
+    asked = ran.asked;
+    replies = ran.replies;
+    one_each = one_reply_each Step start ran.asked ran.replies end ran.stands;
+    counted = tt;
+    answered = λ b was. let a = again b was in (lines_ahead new a.0, ran.lines b a.0 was a.1);
+    printed = ran.printed;
+  }
+
+  lines_out : HasRan (Err OutOfMemory) → RunsLines statuses.OutOfMemory
+  lines_out ran = record {
+    asked = ran.asked;
+    replies = ran.replies;
+    one_each = one_reply_each Step start ran.asked ran.replies end ran.stands;
+    counted = tt;
+    answered = λ b was. let a = again b was in ran.lines b a.0 was a.1;
+    printed = ran.printed;
+  }
+
+  lines_undrawn : Stopped → RunsLines statuses.RandomFault
+  lines_undrawn s = record {
+    asked = s.asked;
+    replies = s.replies;
+    one_each = s.one_each;
+    counted = tt;
+    answered = λ b was. let t = s.takes b was in (s.next, lines_ahead new t.0, t.1);
+    printed = s.printed;
+  }
+
+  lines_short : (left need : ℕ) → Stopped → RunsLines (statuses.RandomShort left need)
+  lines_short left need s = record {
+    asked = s.asked;
+    replies = s.replies;
+    one_each = s.one_each;
+    counted = tt;
+    answered = λ b was. let t = s.takes b was in (s.next, lines_ahead new t.0, t.1);
+    printed = s.printed;
+  }
+
+  lines_unwritten : Stopped → RunsLines statuses.DiskFault
+  lines_unwritten s = record {
+    asked = s.asked;
+    replies = s.replies;
+    one_each = s.one_each;
+    counted = tt;
+    answered = λ b was. let t = s.takes b was in inr (s.next, lines_ahead new t.0, t.1);
+    printed = s.printed;
+  }
+
+  lines_without : Stopped → RunsLines statuses.OutOfMemory
+  lines_without s = record {
+    asked = s.asked;
+    replies = s.replies;
+    one_each = s.one_each;
+    counted = tt;
+    answered = λ b was.
+        let t = s.takes b was in
+        let fewer = asks_fewer s.asked s.next (lines_ahead old b) (lines_ahead new t.0) t.1 in
+        (Whole fewer.0 ∷ lines_ahead new t.0, fewer.1);
+    printed = λ x y before after. whole_is_cut s.replies x y (s.printed x y before after);
+  }
+
+  -- all of it by the status
+  pub ran_lines : (result : Result (Unit {0}) ScriptFault) → HasRan result → old.given ≡ 1 → RunsLines (ended_status result)
+  ran_lines (Ok tt) ran first = lines_all ran
+  ran_lines (Err (BadLine line)) ran first = lines_to_bad line first ran
+  ran_lines (Err ReadFault) ran first = lines_to_fault ran
+  ran_lines (Err WriteFault) ran first = lines_cut ran
+  ran_lines (Err OutOfMemory) ran first = lines_out ran
+  ran_lines (Err (Applying faults.RandomFault)) ran first = lines_undrawn (stopped faults.RandomFault ran)
+  ran_lines (Err (Applying (faults.RandomShort left need))) ran first = lines_short left need (stopped (faults.RandomShort left need) ran)
+  ran_lines (Err (Applying faults.DiskFault)) ran first = lines_unwritten (stopped faults.DiskFault ran)
+  ran_lines (Err (Applying faults.Closed)) ran first = lines_unwritten (stopped faults.Closed ran)
+  ran_lines (Err (Applying faults.OutOfMemory)) ran first = lines_without (stopped faults.OutOfMemory ran)
+
+-- ---- before the opening nothing is asked
+
+nothing_printed : (written : Option (List ℕ)) → WhereBothTold written written (λ x y. y ≡ x ++ [])
+nothing_printed written = λ x y was now. same_told written x y was now ∙ sym (append-nil x)
+
+module _ (lines : List ℕ → List InputLine) (typed written : Option (List ℕ)) where
+  abbrev Unasked : Status → Type 0
+  Unasked status = RanLines status lines typed written written
+
+  none_asked : (b : List ℕ) → (rest : List InputLine) × Asks [] (lines b) rest
+  none_asked b = (lines b, asks_none (lines b))
+
+  none_read : Unasked statuses.ReadFault
+  none_read = record { asked = []; replies = []; one_each = refl; counted = tt; answered = λ b was. none_asked b; printed = nothing_printed written }
+
+  none_without : Unasked statuses.OutOfMemory
+  none_without = record {
+    asked = [];
+    replies = [];
+    one_each = refl;
+    counted = tt;
+    answered = λ b was. none_asked b;
+    printed = λ x y was now. whole_is_cut [] x y (nothing_printed written x y was now);
+  }
+
+  none_behind_bad : (line : ℕ) → line ≡ 1 → Unasked (statuses.BadScript line)
+  none_behind_bad line first =
+      record { asked = []; replies = []; one_each = refl; counted = inl (first, refl); answered = λ b was. inl first; printed = nothing_printed written }
+
+  -- the first line isn't an owner's, or wasn't read
+  pub unread_lines : (fault : ScriptFault) → IsReading fault → (old new : ℕ) → CountsOwner (Err fault) old new → Unasked (script_status fault)
+  unread_lines (BadLine line) reading old new count = none_behind_bad line count
+  unread_lines ReadFault reading old new count = none_read
+  unread_lines OutOfMemory reading old new count = none_without
+  unread_lines WriteFault reading old new count = absurd reading
+  unread_lines (Applying fault) reading old new count = absurd reading
+
+  -- the store isn't opened
+  pub unopened_lines : (fault : OpenFault) → Unasked (open_status fault)
+  unopened_lines opening.NotAStore = record { asked = []; replies = []; one_each = refl; counted = refl; answered = λ b was. none_asked b; printed = nothing_printed written }
+  unopened_lines opening.WrongKey = record { asked = []; replies = []; one_each = refl; counted = refl; answered = λ b was. none_asked b; printed = nothing_printed written }
+  unopened_lines (opening.Damaged at) = record { asked = []; replies = []; one_each = refl; counted = refl; answered = λ b was. none_asked b; printed = nothing_printed written }
+  unopened_lines (opening.Tampered batch at) = record { asked = []; replies = []; one_each = refl; counted = refl; answered = λ b was. none_asked b; printed = nothing_printed written }
+  unopened_lines opening.DiskFault = record { asked = []; replies = []; one_each = refl; counted = tt; answered = λ b was. inl refl; printed = nothing_printed written }
+  unopened_lines opening.OutOfMemory = none_without
+
+-- ---- the lines as they were typed
+
+pub lines_as_typed : (status : Status) (lines behind : List ℕ → List InputLine) (first later before after : Option (List ℕ)) → is_some later ≡ is_some first
+    → ((x y : List ℕ) → first ≡ Some x → later ≡ Some y → lines y ≡ behind x) → RanLines status lines later before after → RanLines status behind first before after
+lines_as_typed status lines behind first later before after told same ran = record {
+  asked = ran.asked;
+  replies = ran.replies;
+  one_each = ran.one_each;
+  counted = ran.counted;
+  answered = λ x was. let y = told_again first later x told was in subst (AnswersLines status ran.asked) (same x y.0 was y.1) (ran.answered y.0 y.1);
+  printed = ran.printed;
+}
+
+-- ---- a bad line
+
+none_bad : (lines : List (List ℕ)) (asked : List Request) (front rest : List InputLine) → map asked_in lines ≡ map Some asked → map Whole lines ≡ front ++ rest → IsBadFirst rest → ⊥
+none_bad [] asked [] [] are same bad = bad
+none_bad [] asked [] (line ∷ rest) are same bad = absurd cc
+none_bad (line ∷ lines) asked [] [] are same bad = bad
+none_bad (line ∷ lines) [] [] (Whole other ∷ rest) are same bad = absurd cc
+none_bad (line ∷ lines) (r ∷ asked) [] (Whole other ∷ rest) are same bad =
+    let here : line ≡ other = cc in
+    let asks : asked_in line ≡ Some r = cc in
+    let both : None ≡ Some r = sym bad ∙ ap asked_in (sym here) ∙ asks in
+    absurd cc
+none_bad (line ∷ lines) asked [] (TooLong ∷ rest) are same bad = absurd cc
+none_bad [] asked (one ∷ front) rest are same bad = absurd cc
+none_bad (line ∷ lines) [] (one ∷ front) rest are same bad = absurd cc
+none_bad (line ∷ lines) (r ∷ asked) (one ∷ front) rest are same bad =
+    let others : map asked_in lines ≡ map Some asked = cc in
+    let behind : map Whole lines ≡ front ++ rest = cc in
+    none_bad lines asked front rest others behind bad
+
+pub bad_is_never_done : (status : Status) (lines : List ℕ → List InputLine) (typed before after : Option (List ℕ)) → RanLines status lines typed before after
+    → (b : List ℕ) → typed ≡ Some b → HasBadLine (lines b) → status ≢ statuses.Done
+bad_is_never_done status lines typed before after ran b was bad = λ done.
+    let all : Asks ran.asked (lines b) [] = subst (λ (s : Status). AnswersLines s ran.asked (lines b)) done (ran.answered b was) in
+    none_bad all.lines ran.asked bad.0 bad.1 all.asked_are (sym (append-nil (map Whole all.lines)) ∙ sym all.before_is ∙ bad.2) bad.3
