@@ -1,5 +1,5 @@
 -- A command that fits into a store draws few keys: each renewed role is the end of a link that its payload has.
-use Rattle.std.proofs.Common.{◌≡◌, ⊎_elim, inl, inr, ℕ, suc, ◌+◌, ◌*◌, ◌≤◌, ◌<◌, Bool, true, false, not, ◌||◌, cond, List, [], ◌∷◌, ◌++◌, filter, length, replicate, None, arith, refl, sym, ap, subst, ◌∙◌, length-append}
+use Rattle.std.proofs.Common.{◌≡◌, ⊎_elim, inl, inr, ℕ, suc, ◌+◌, ◌*◌, ◌≤◌, ◌<◌, Bool, true, false, not, ◌||◌, List, [], ◌∷◌, ◌++◌, filter, length, replicate, None, arith, refl, sym, ap, subst, ◌∙◌, length-append}
 use Rattle.std.proofs.lemmas.Bool.{cases_Bool, false≢true, not_from_false, or_right}
 use Rattle.cry_base.specs.Refusing.{refusal_of}
 use Rattle.cry_base.specs.Requests.{Request}
@@ -20,12 +20,10 @@ use Rattle.rekey_walk.specs.Dirty.{plan}
 use Rattle.move_plan.specs.Change.{Change, change_of}
 use Rattle.move_plan.specs.Noting.{note_of}
 use Rattle.public_fold.specs.Journal.{Journal, nothing, entry_step, first_key, keys_of, note_step, stand_after, steps_of, store_of}
-use Rattle.public_fold.specs.Journal.Entry.{Did}
 use Rattle.public_fold.specs.Keyed.{HasRole, KeysHold, links_of}
 use Rattle.public_fold.specs.KeyStep.{KeyState, edges_then, is_published, published_edges, renewed}
-use Rattle.public_fold.specs.Lengths.{end_of, note_len}
 use Rattle.public_fold.specs.Preparing.{begun_keys}
-use Rattle.public_fold.specs.Records.{Link, pieces_of}
+use Rattle.public_fold.specs.Records.{Link}
 use Rattle.public_fold.specs.Valid.{IsValid}
 use Rattle.public_fold.proofs.EdgesThen.{then_told}
 use Rattle.public_fold.proofs.KeepingKeys.{IsMove, marked_no_root, marked_stands, marked_told, planned_told}
@@ -72,7 +70,7 @@ led_to s (Data f) h t = own_edge s f.0 7 (back_of f.0) (data_of f.0) (Data f) re
 led_to s (File x) h t = file_led s x.0 h
 
 module _ (s t : Store) (k : KeyState) (c : Change) (links : List Link) (mv : IsMove s c t) (ok : KeysHold s k links) where
-  plan_short : length (renewed k (edges s) c) ≤ length (published_edges (edges s) c (renewed k (edges s) c))
+  pub plan_short : length (renewed k (edges s) c) ≤ length (published_edges (edges s) c (renewed k (edges s) c))
   unfolding renewed plan published_edges is_published
   plan_short =
       let p = renewed k (edges s) c in

@@ -7,6 +7,7 @@ pub mod DueTexts
 pub mod FitsPublic
 pub mod Followed
 pub mod FewDraws
+pub mod FewKeys
 pub mod Followings
 pub mod Forms
 pub mod Found
@@ -60,6 +61,7 @@ pub mod Spelled
 pub mod SoundVisits
 pub mod StepKeys
 pub mod StepSealed
+pub mod Taken
 pub mod ToldSkeleton
 pub mod TextSizes
 pub mod TextsTold

@@ -1,5 +1,5 @@
 -- An owner with other room for what is to come is the same owner.
-use Rattle.std.proofs.Common.{◌≡◌, ℕ, ◌+◌, cond, List, [], Option, None, Some, refl, sym, ap, subst, ◌∙◌}
+use Rattle.std.proofs.Common.{◌≡◌, ℕ, ◌+◌, ◌≤◌, cond, List, [], Option, None, Some, refl, sym, ap, subst, ◌∙◌}
 use Rattle.chacha_seal.specs.Keys.{KeyParts}
 use Rattle.chacha_seal.specs.Serials.{Counting}
 use Rattle.commit_journal.specs.Journals.{JournalState}
@@ -18,7 +18,7 @@ use Rattle.public_fold.specs.KeyStep.{KeyState}
 use Rattle.public_fold.specs.Standing.{PublicView}
 use Rattle.store_owner.specs.Applying.{HasOtherRoom, IsCarriedOut}
 use Rattle.store_owner.specs.Owned.{OwnerView}
-use Rattle.store_owner.specs.Owning.{IsStoreOf, IsTreeOf}
+use Rattle.store_owner.specs.Owning.{IsStoreOf}
 use Rattle.store_owner.specs.Planning.{IsDrafted}
 use Rattle.store_owner.specs.Retitled.{IsRenaming, IsRetitlingOf}
 use Rattle.store_owner.specs.Sealing.{HoldsKeys}
@@ -86,6 +86,9 @@ sound_with o a b c d s = record {
 
 pub sound_still : (old new : OwnerView) → HasOtherRoom old new → IsSound old → IsSound new
 sound_still old new h s = subst IsSound (sym (has_room old new h)) (sound_with old _ _ _ _ s)
+
+pub limit_still : (old new : OwnerView) → HasOtherRoom old new → (most : ℕ) → old.journal.limit ≤ most → new.journal.limit ≤ most
+limit_still old new h most low = subst (λ (o : OwnerView). o.journal.limit ≤ most) (sym (has_room old new h)) low
 
 store_with : (t s : Store) (n : Titles) (c : ℕ) (g : Granted) → IsStoreOf t n g s → IsStoreOf t (record { folders = n.folders; files = n.files; spare = c }) g s
 unfolding tree_store

@@ -16,6 +16,7 @@ pub mod Sound
 pub mod Ringing
 pub mod Sealing
 pub mod Script
+pub mod Taking
 pub mod Texting
 pub mod Attempts
 pub mod WorkedBytes

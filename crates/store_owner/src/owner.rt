@@ -1,5 +1,5 @@
 //! The owner of a store, and what the owner's commands do to it.
-ghost use Rattle.std.specs.Prelude.{◌≡◌, ◌*◌, ◌<◌, ◌≤◌, ◌+◌, ◌↔◌, None, Some, Err, IfErr, IfOk, IsTrue, OnErr, OnOk, cond, false, is_some, length, true};
+ghost use Rattle.std.specs.Prelude.{◌≡◌, ◌*◌, ◌<◌, ◌≤◌, ◌+◌, ◌↔◌, ℕ, None, Some, Err, IfErr, IfOk, IsTrue, OnErr, OnOk, cond, false, is_some, length, true};
 ghost use Rattle.commit_journal.specs.Journals.{IsBehind, Joins, next_command};
 ghost use Rattle.cry_base.specs.Refusing.{has_bad_name, refusal_of};
 ghost use Rattle.cry_base.specs.Requests.{request_of};
@@ -18,6 +18,7 @@ ghost use Rattle.store_owner.specs.Owning.{IsStoreOf};
 ghost use Rattle.store_owner.specs.Planning.{AnswersPlan, HasBegun, IsDrafted, IsFurnished, IsUnfit, planned_size, reply_for};
 ghost use Rattle.store_owner.specs.Sealing.{IsSpaceFor};
 ghost use Rattle.store_owner.specs.Sound.{IsSound, granted_in, own_store};
+ghost use Rattle.store_owner.specs.Taking.{FallsShort, TakesKeys};
 
 use crate::apply_laws::{commands_are_measured, owners_go_on};
 use crate::change::Change;
@@ -28,7 +29,8 @@ use crate::refusing::refusal;
 use crate::retitling::{retitle, retitling_for};
 use crate::sizing::{sealed_len, size_of};
 use crate::sound_laws::{
-    carried_out_owners_stay_sound, sound_owners_can_seal, sound_owners_keep_a_store,
+    carried_out_owners_stay_sound, sound_owners_can_seal, sound_owners_draw_few_keys,
+    sound_owners_keep_a_store,
 };
 use crate::texts::text_for;
 use crate::{ApplyFault, StepRoom, seal_step};
@@ -128,7 +130,7 @@ impl Owner {
     /// In this order: a closed owner answers `Closed`; a refused command changes nothing; all memory is taken, or `OutOfMemory`
     /// comes; the keys are drawn, or `RandomFault` or `RandomShort` comes; and the command is committed, behind the session's
     /// epoch where it has none yet. Until then the owner is as it was, but for room. `DiskFault` closes this owner: the command
-    /// may then stand in the store or not.
+    /// may then stand in the store or not. `RandomShort` comes only where the source has ended, and its numbers are exact.
     pub fn apply<D: Disk, R: Source>(
         &mut self,
         alloc: Global,
@@ -151,11 +153,14 @@ impl Owner {
         ensures source_told { is_some (R.left random.new) ≡ is_some (R.left random.old) }
         ensures disk_counts { DiskCounts result (D.faults disk.old) (D.faults disk.new) }
         ensures source_counts { FillsByCount result (R.faults random.old) (R.faults random.new) }
+        ensures draws { OnOk result (TakesKeys (R.left random.old) (R.left random.new)) }
+        ensures short { (left need : ℕ) → result ≡ Err (ApplyFault.RandomShort left need) → FallsShort left need (R.left random.old) (R.left random.new) }
     {
         commands_are_measured();
         owners_keep_the_store();
         owners_go_on();
         sound_owners_keep_a_store();
+        sound_owners_draw_few_keys();
         self.journal.journal_is_within();
         if self.journal.is_closed() {
             return Err(ApplyFault::Closed);

@@ -1,6 +1,7 @@
 //! Laws of every owner that is open, on whatever bytes it was opened.
-ghost use Rattle.std.specs.Prelude.{◌≡◌, ◌≢◌, ◌+◌, ◌++◌, ◌*◌, ◌<◌, ◌≤◌, ℕ, All, IsSome, IsTrue, List, None, Ok, Option, Some, cond, false, length, not, replicate, true};
+ghost use Rattle.std.specs.Prelude.{◌≡◌, ◌≢◌, ◌+◌, ◌++◌, ◌*◌, ◌<◌, ◌≤◌, ◌^◌, ℕ, All, IsSome, IsTrue, List, None, Ok, Option, Some, cond, false, length, not, replicate, true};
 ghost use Rattle.chacha_seal.specs.Serials.{Counting};
+ghost use Rattle.commit_journal.specs.Journals.{end_with};
 ghost use Rattle.commit_journal.specs.Logs.{AreInEpochs, epoch_behind};
 ghost use Rattle.commit_journal.specs.Placed.{PlainPlaced};
 ghost use Rattle.cry_base.specs.Refusing.{has_bad_name, refusal_of};
@@ -27,7 +28,7 @@ ghost use Rattle.public_fold.specs.Turns.{Turn, turns_fit, turns_stand};
 ghost use Rattle.public_fold.specs.declared.heads.Skeleton.{Skeleton};
 ghost use Rattle.role_graph.specs.Rights.Who.{TheOwner};
 ghost use Rattle.role_graph.specs.Roles.{holder_role};
-ghost use Rattle.store_owner.specs.Applying.{IsCarriedOut, sealed_text};
+ghost use Rattle.store_owner.specs.Applying.{IsCarriedOut, sealed_text, skeleton_size};
 ghost use Rattle.store_owner.specs.Owned.{OwnerView};
 ghost use Rattle.store_owner.specs.Owning.{IsStoreOf};
 ghost use Rattle.store_owner.specs.Sealing.{CanSeal, IsSealable};
@@ -59,6 +60,14 @@ pub fn sound_owners_can_seal()
         → ring.keys ≡ o.ring.keys → length s.keys.items ≤ ring.spare → length drawn ≡ length s.keys.items → All (λ (key : List ℕ). length key ≡ 32) drawn
         → cond o.journal.has_epoch (o.counter ≡ Some counter) (counter ≡ record { epoch = o.journal.epoch + 1; count = 0 })
         → CanSeal ring counter s drawn (sealed_text o r drawn) }
+{}
+
+/// Law: a command whose note fits, and whose batches end within the store limit, draws few keys: their bytes are counted by 32 bits.
+pub fn sound_owners_draw_few_keys()
+    ensures { (o : OwnerView) (note : Note) (s : Skeleton) (text : ℕ) → IsSound o → o.journal.limit ≤ 268435456
+        → ((at : Stand) → IsSeenAs o.state at → IsSkeleton (told_step (begun (not o.journal.has_epoch) at) note) s)
+        → ((at : Stand) → IsSeenAs o.state at → note_fits (begun (not o.journal.has_epoch) at) note (told_step (begun (not o.journal.has_epoch) at) note) ≡ true)
+        → end_with o.journal (skeleton_size note s text) ≤ o.journal.limit → 32 * length s.keys.items < 2 ^ 32 }
 {}
 
 /// Law: an owner stays sound who carries out a command that isn't refused, and whose note fits.

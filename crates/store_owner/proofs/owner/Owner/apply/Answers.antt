@@ -1,20 +1,23 @@
-use Rattle.std.proofs.Common.{◌≡◌, ◌≤◌, ◌*◌, ◌++◌, ◌∙◌, Err, List, None, Ok, Option, ap, length, refl, replicate, subst, sym, ℕ}
+use Rattle.std.proofs.Common.{◌≡◌, ◌<◌, ◌≤◌, ◌*◌, ◌^◌, ◌++◌, ◌∙◌, List, Ok, ap, length, refl, replicate, subst, sym, ℕ}
 use Rattle.cry_base.specs.Requests.{request_of}
-use Rattle.cry_base.specs.declared.limits.Limits.{Limits}
 use Rattle.cry_base.specs.declared.memory.OutOfMemory.{OutOfMemory}
-use Rattle.public_fold.specs.Journal.{Journal, store_of}
+use Rattle.record_format.specs.Told.{told_note}
+use Rattle.public_fold.specs.Journal.{store_of}
 use Rattle.public_fold.specs.declared.heads.Skeleton.{Skeleton}
 use Rattle.store_owner.specs.Applying.{IsCarriedOut, IsDone}
 use Rattle.store_owner.specs.Drawing.{joined}
 use Rattle.store_owner.specs.Folds.{public_stand}
-use Rattle.store_owner.specs.Owned.{OwnerView, limits_in}
+use Rattle.store_owner.specs.Owned.{OwnerView}
 use Rattle.store_owner.specs.Planning.{AnswersPlan, reply_for}
-use Rattle.store_owner.specs.Sound.{own_store}
+use Rattle.store_owner.specs.Sound.{IsSound, own_store}
+use Rattle.store_owner.specs.Texting.{due_key}
+use Rattle.store_owner.specs.declared.apply_fault.ApplyFault.TheVariants as faults
 use Rattle.store_owner.specs.declared.owner.Verdict.{Verdict}
 use Rattle.store_owner.specs.declared.owner.Verdict.TheVariants as verdicts
 use Rattle.store_owner.proofs.Applied.{carried_answer, reply_due, undrawn_answer}
-use Rattle.store_owner.proofs.OtherRoom.{accepted_still, carried_from, store_still}
+use Rattle.store_owner.proofs.OtherRoom.{accepted_still, carried_from, limit_still, sound_still, store_still}
 use Rattle.store_owner.proofs.Planned.{is_refused}
+use Rattle.store_owner.proofs.Taken.{err_is, falls_short, never_short, takes_filled, takes_none}
 use Rattle.store_owner.proofs.owner.Owner.apply.Goals as goal
 
 pub returns-in-Some-clause-answers : goal.returns-in-Some-clause-answers
@@ -73,3 +76,37 @@ returns-clause-answers g c = λ m is.
       disk_stands = c.owners_go_on.ensures.disk m r drawn o new was shows is limit bounded (planned.2 m is) full;
     } in
     carried_answer c.carry_out.result note drawn m r o new before after was shows (IsCarriedOut r drawn mid new was shows) (planned.2 m is) c.carry_out.ensures.fault c.carry_out.ensures.closed c.carry_out.ensures.reply c.carry_out.ensures.done done
+
+pub returns-in-Some-clause-draws : goal.returns-in-Some-clause-draws
+returns-in-Some-clause-draws g c = takes_none (g.R.Source.left c.args.random.now)
+
+pub returns-in-Ok-Full-clause-draws : goal.returns-in-Ok-Full-clause-draws
+returns-in-Ok-Full-clause-draws g c = takes_none (g.R.Source.left c.args.random.now)
+
+pub returns-clause-draws : goal.returns-clause-draws
+returns-clause-draws g c =
+    takes_filled c.carry_out.result c.in-Ok.keys c.in-Ok-fill.drawn (g.R.Source.left c.args.random.now) (g.R.Source.left c.fill.new.random) c.in-Ok-fill.ensures.sizes c.in-Ok-fill.ensures.bytes
+
+pub returns-clause-short : goal.returns-clause-short
+returns-clause-short g c = λ left need is. never_short c.carry_out.result left need c.carry_out.ensures.fault is
+
+pub returns-in-Err-fill-clause-short : goal.returns-in-Err-fill-clause-short
+returns-in-Err-fill-clause-short g c = λ left need is.
+    let o : OwnerView = c.args.self.now in
+    let mid = c.plan.new.self in
+    let r = request_of c.args.command.now in
+    let p = c.in-Ok-Planned.change in
+    let planned : AnswersPlan {E = OutOfMemory} (Ok (verdicts.Planned p c.in-Ok-Planned.room)) r o mid =
+    subst (λ (v : Verdict). AnswersPlan {E = OutOfMemory} (Ok v) r o mid) c.in-Ok-Planned.field-0-is c.in-Ok-Planned.ensures.answers in
+    let sound : IsSound o = subst IsSound c.self.view_is (c.self.invariant (sym c.is_closed.ensures ∙ c.if-is_closed.false)) in
+    let limit : o.journal.limit ≤ 268435456 = subst (λ (x : OwnerView). x.journal.limit ≤ 268435456) c.self.view_is c.journal_is_within.ensures.bound in
+    let few = c.sound_owners_draw_few_keys.ensures mid (told_note p.note) p.ready.skeleton (length (p.text.items ++ due_key r (replicate 32 0)))
+    (sound_still o mid c.plan.ensures.room sound) (limit_still o mid c.plan.ensures.room 268435456 limit)
+    planned.0.is_skeleton planned.0.fits planned.1.ends_within
+    in
+    let count : c.in-Ok.keys ≡ length p.ready.skeleton.keys.items =
+    c.in-Ok.ensures ∙ ap length c.as_slice-count.ensures ∙ ap (λ (s : Skeleton). length s.keys.items) c.skeleton.ensures
+    in
+    falls_short c.in-Err-fill.fault c.in-Ok.keys left need (g.R.Source.left c.args.random.now) (g.R.Source.left c.fill.new.random) (subst (λ n. 32 * n < 2 ^ 32) (sym count) few)
+    c.in-Err-fill.ensures.faults c.in-Err-fill.ensures.bytes c.in-Err-fill.ensures.told
+    (err_is c.in-Err-fill.fault (faults.RandomShort left need) is)

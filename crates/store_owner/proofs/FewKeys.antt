@@ -1,0 +1,62 @@
+-- A command that a sound owner has room for draws few keys: each renewed role is the end of a link that its payload has.
+use Rattle.std.proofs.Common.{◌≡◌, ℕ, ◌+◌, ◌*◌, ◌≤◌, ◌<◌, true, not, List, ◌++◌, length, arith, ap, length-append}
+use Rattle.std.specs.Prelude.{if◌then◌else◌}
+use Rattle.commit_journal.specs.Journals.{end_with}
+use Rattle.role_graph.specs.Edges.{edges}
+use Rattle.move_plan.specs.Change.{change_of}
+use Rattle.record_format.specs.Noted.{Note}
+use Rattle.public_fold.specs.Fitted.{told_step}
+use Rattle.public_fold.specs.Heads.{IsSkeleton}
+use Rattle.public_fold.specs.Journal.{Stand, note_step, nothing}
+use Rattle.public_fold.specs.KeyStep.{published_edges, renewed}
+use Rattle.public_fold.specs.Lengths.{note_len}
+use Rattle.public_fold.specs.Preparing.{begun}
+use Rattle.public_fold.specs.Records.{Link, pieces_of}
+use Rattle.public_fold.specs.StandFits.{note_fits}
+use Rattle.public_fold.specs.Standing.{IsSeenAs}
+use Rattle.public_fold.specs.Told.{told_store}
+use Rattle.public_fold.specs.Turns.{StandHolds, turns_stand}
+use Rattle.public_fold.specs.declared.heads.Skeleton.{Skeleton}
+use Rattle.public_fold.proofs.NoteMoves.{note_moves}
+use Rattle.public_fold.proofs.SerialsKept.{few_fresh}
+use Rattle.public_fold.proofs.TurnsHold.{fit_told}
+use Rattle.store_owner.specs.Applying.{skeleton_size}
+use Rattle.store_owner.specs.Owned.{OwnerView}
+use Rattle.store_owner.specs.Sound.{IsSound}
+use Rattle.store_owner.proofs.FewDraws.{plan_short}
+use Rattle.store_owner.proofs.NextEntry.{given_many, links_many}
+use Rattle.store_owner.proofs.SoundSteps.{begun_holds}
+
+-- no more keys than links, but for those of what the note makes
+few_given : (at : Stand) (links : List Link) (note : Note) (s : Skeleton) → StandHolds at links → note_fits at note (told_step at note) ≡ true → IsSkeleton (told_step at note) s
+    → length s.keys.items ≤ length s.links.items + 5
+unfolding told_step note_step
+few_given at links note s holds f is =
+    let after = told_store at.store note in
+    let c = change_of at.store note in
+    let p = renewed at.keys (edges at.store) c in
+    let short : length p ≤ length (published_edges (edges at.store) c p) =
+    plan_short at.store after at.keys c links (note_moves at.store note (unfold told_step note_step in (fit_told at note f).0) holds.store) holds.keys
+    in
+    let joined : length (p ++ c.fresh) ≡ length p + length c.fresh = length-append p c.fresh in
+    let fresh = few_fresh at.store note in
+    let many = given_many at.keys (edges at.store) c (pieces_of note after) in
+    let linked = links_many at.keys (edges at.store) c (pieces_of note after) in
+    let keys = ap length is.keys in
+    let published = ap length is.links in
+    omega (arith, short, joined, fresh, many, linked, keys, published)
+
+few_within : (keys links note texts end more limit : ℕ) → keys ≤ links + 5 → end + (110 + (note + 8 + 98 * links + texts)) + more ≤ limit → limit ≤ 268435456 → 32 * keys < 4294967296
+few_within keys links note texts end more limit many within low = omega arith
+
+pub few_keys : (o : OwnerView) (note : Note) (s : Skeleton) (text : ℕ) → IsSound o → o.journal.limit ≤ 268435456
+    → ((at : Stand) → IsSeenAs o.state at → IsSkeleton (told_step (begun (not o.journal.has_epoch) at) note) s)
+    → ((at : Stand) → IsSeenAs o.state at → note_fits (begun (not o.journal.has_epoch) at) note (told_step (begun (not o.journal.has_epoch) at) note) ≡ true)
+    → end_with o.journal (skeleton_size note s text) ≤ o.journal.limit → 32 * length s.keys.items < 4294967296
+few_keys o note s text sound limit skeleton fits within =
+    let was = turns_stand nothing sound.turns in
+    let at = begun (not o.journal.has_epoch) was in
+    let fit = fits was sound.seen in
+    let stands = begun_holds (not o.journal.has_epoch) sound.turns note sound.fit fit in
+    few_within (length s.keys.items) (length s.links.items) (note_len note) ((58 + text) * length s.contents.items) o.journal.end (if o.journal.has_epoch then 0 else 110) o.journal.limit
+    (few_given at stands.0 note s stands.1 fit (skeleton was sound.seen)) within limit
