@@ -1,6 +1,6 @@
 -- Lists that are written over in one of their parts, and the three steps of a commit.
 use Rattle.std.proofs.Common.{◌≡◌, ℕ, ◌+◌, ◌-◌, ◌≤◌, List, [], ◌∷◌, ◌++◌, length, take, drop, Result, Ok, Err, append_assoc, arith, sym, ap, ◌∙◌, subst, refl, length-append}
-use Rattle.std.specs.Prelude.{OnOk}
+use Rattle.std.specs.Prelude.{OnErr, OnOk}
 use Rattle.std.proofs.Math.Seq.{take-append_seam, drop-append_seam, drop-append-add}
 use Rattle.std.proofs.Math.ListN.{drop_of_length-le}
 use Rattle.std.proofs.lemmas.List.{length-take-le, length-drop, append-nil, take-append-drop, drop-drop}
@@ -11,6 +11,10 @@ use Rattle.commit_journal.specs.Committing.{with_slot}
 pub on_ok : {T E P : Type 0} (r : Result T E) → P → OnOk r P
 on_ok (Ok _) p = p
 on_ok (Err _) p = tt
+
+pub on_err : {T E P : Type 0} (r : Result T E) → P → OnErr r P
+on_err (Ok _) p = tt
+on_err (Err _) p = p
 
 -- a part of a list, written over by one as long
 pub written_over : (place : ℕ) (a b c bytes new : List ℕ) → place ≡ length a → length bytes ≡ length b →
@@ -44,7 +48,7 @@ written_behind place a c bytes new at written =
     ∙ append_assoc a bytes (drop (length bytes) c)
 
 -- a batch as its first bytes, its slot, and what follows
-parts : (batch : List ℕ) → batch ≡ take 13 batch ++ (take 32 (drop 13 batch) ++ drop 45 batch)
+pub parts : (batch : List ℕ) → batch ≡ take 13 batch ++ (take 32 (drop 13 batch) ++ drop 45 batch)
 parts batch =
     sym (take-append-drop 13 batch)
     ∙ ap (λ r. take 13 batch ++ r) (sym (take-append-drop 32 (drop 13 batch)))

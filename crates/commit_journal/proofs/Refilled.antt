@@ -30,7 +30,7 @@ written_over before old new behind place place_is size =
     ∙ append_assoc before new behind
 
 -- a batch behind its gate, with the parts before its slot and behind it
-in_parts : (owner before previous slot : List ℕ) (b : Batch) (more : List ℕ) →
+pub in_parts : (owner before previous slot : List ℕ) (b : Batch) (more : List ℕ) →
     before ++ 1 ∷ (spell_batch owner previous slot b ++ more)
     ≡ (before ++ 1 ∷ batch_head b) ++ (slot ++ ((masked_payload owner b ++ (batch_check owner b ++ owner_tag owner previous b)) ++ more))
 unfolding spell_batch
@@ -39,20 +39,24 @@ in_parts owner before previous slot b more =
     ap (λ r. before ++ 1 ∷ r) (append_assoc (batch_head b) (slot ++ rest) more ∙ ap (λ r. batch_head b ++ r) (append_assoc slot rest more))
     ∙ sym (append_assoc before (1 ∷ batch_head b) (slot ++ (rest ++ more)))
 
-slot_filled : (owner before previous slot : List ℕ) (b : Batch) (more : List ℕ) (at : ℕ) → length before + 1 ≡ at → length slot ≡ 32 →
-    written_at (at + 45 - 32) (batch_veil owner b) (before ++ 1 ∷ (spell_batch owner previous slot b ++ more))
-    ≡ before ++ 1 ∷ (spell_batch owner previous (batch_veil owner b) b ++ more)
-slot_filled owner before previous slot b more at at_is slot_size =
-    let veil = batch_veil owner b in
+-- any bytes written into the slot
+pub slot_written : (owner before previous slot bytes : List ℕ) (b : Batch) (more : List ℕ) (at : ℕ) → length before + 1 ≡ at → length slot ≡ 32 → length bytes ≡ 32 →
+    written_at (at + 45 - 32) bytes (before ++ 1 ∷ (spell_batch owner previous slot b ++ more))
+    ≡ before ++ 1 ∷ (spell_batch owner previous bytes b ++ more)
+slot_written owner before previous slot bytes b more at at_is slot_size bytes_size =
     let behind = (masked_payload owner b ++ (batch_check owner b ++ owner_tag owner previous b)) ++ more in
     let head = before ++ 1 ∷ batch_head b in
     let place : length head ≡ at + 45 - 32 =
     omega (arith, at_is, length-append before (1 ∷ batch_head b), length-head_bytes b.type_of b.number b.epoch (length b.payload))
     in
-    let size : length veil ≡ length slot = length-veil_of owner b.epoch b.number ∙ sym slot_size in
-    ap (written_at (at + 45 - 32) veil) (in_parts owner before previous slot b more)
-    ∙ written_over head slot veil behind (at + 45 - 32) place size
-    ∙ sym (in_parts owner before previous veil b more)
+    ap (written_at (at + 45 - 32) bytes) (in_parts owner before previous slot b more)
+    ∙ written_over head slot bytes behind (at + 45 - 32) place (bytes_size ∙ sym slot_size)
+    ∙ sym (in_parts owner before previous bytes b more)
+
+slot_filled : (owner before previous slot : List ℕ) (b : Batch) (more : List ℕ) (at : ℕ) → length before + 1 ≡ at → length slot ≡ 32 →
+    written_at (at + 45 - 32) (batch_veil owner b) (before ++ 1 ∷ (spell_batch owner previous slot b ++ more))
+    ≡ before ++ 1 ∷ (spell_batch owner previous (batch_veil owner b) b ++ more)
+slot_filled owner before previous slot b more at at_is slot_size = slot_written owner before previous slot (batch_veil owner b) b more at at_is slot_size (length-veil_of owner b.epoch b.number)
 
 -- ---- all of them
 

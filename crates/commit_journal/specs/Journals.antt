@@ -7,7 +7,8 @@ use Rattle.commit_journal.specs.declared.batch_type.BatchType.TheVariants.{Comma
 use Rattle.commit_journal.specs.declared.commit_fault.CommitFault.{CommitFault}
 use Rattle.commit_journal.specs.declared.commit_fault.CommitFault.TheVariants as faults
 use Rattle.commit_journal.specs.Image.{Batch, owner_tag, image}
-use Rattle.commit_journal.specs.Standing.{StandsWhole, last_tag}
+use Rattle.commit_journal.specs.Holding.{IsBetween}
+use Rattle.commit_journal.specs.Standing.{StandsFor, StandsWhole, last_tag}
 
 -- the owner's key; how many batches the log has, the epoch that was begun last (0 for none), whether this session began it,
 -- where the next batch would begin, the last owner tag; the most bytes that the store may have; whether a disk fault closed
@@ -68,6 +69,12 @@ pub record Joins (b : Batch) (old new : JournalState) (was shows : Option (List 
   pub stands : (bs : List Batch) → IsJournalOf bs old → IsJournalOf (bs ++ b ∷ []) new
   pub shown : (bs : List Batch) → IsJournalOf bs old → WhereBothTold was shows (λ x y. StandsWhole old.owner bs x → StandsWhole old.owner (bs ++ b ∷ []) y)
   pub ended : (bs : List Batch) → IsJournalOf bs old → WhereBothTold was shows (λ x y. x ≡ image old.owner bs ++ 0 ∷ [] → y ≡ image old.owner (bs ++ b ∷ []) ++ 0 ∷ [])
+
+-- what a commit leaves that met a fault of the disk: of whatever batches the disk showed the whole image, it now shows bytes that
+-- stand for these, or for these and one more
+abbrev pub MayJoin : Batch → JournalState → Option (List ℕ) → Option (List ℕ) → Type 0
+MayJoin b old was shows = (bs : List Batch) → IsJournalOf bs old
+    → WhereBothTold was shows (λ x y. StandsWhole old.owner bs x → IsBetween (StandsFor old.owner) bs (bs ++ b ∷ []) y)
 
 -- why a journal takes no batch with a payload of so many bytes, if it takes none: an earlier fault is told first
 abbrev pub refusal : JournalState → ℕ → Option CommitFault

@@ -1,6 +1,6 @@
 -- What the owner's key reads of a store that is opened for writing, and the slots that are then filled. This project's own,
 -- docs/FORMAT.md, "Opening for writing".
-use Rattle.std.specs.Prelude.{◌≡◌, ◌≢◌, ◌≤◌, ℕ, zero, suc, ◌+◌, ◌-◌, ◌*◌, true, false, ◌==◌, nat_le, if◌then◌else◌, List, [], ◌∷◌, ◌++◌, length, take, drop, Result, Ok, Err}
+use Rattle.std.specs.Prelude.{◌≡◌, ◌≢◌, ◌⊎◌, ◌≤◌, ℕ, zero, suc, ◌+◌, ◌-◌, ◌*◌, true, false, ◌==◌, nat_le, if◌then◌else◌, List, [], ◌∷◌, ◌++◌, length, take, drop, slice_range, Result, Ok, Err}
 use Rattle.std.specs.Str.{bytes_eq}
 use Rattle.chacha_seal.specs.Sealing.{veil_of, masked}
 use Rattle.commit_journal.specs.declared.head.Head.{Head}
@@ -73,6 +73,18 @@ written_at place bytes image = take place image ++ bytes ++ drop (place + length
 unfoldable pub slots_filled : List ℕ → List PlainPlaced → List ℕ → List ℕ
 slots_filled owner [] image = image
 slots_filled owner (p ∷ ps) image = slots_filled owner ps (written_at (p.place - 32) (veil_of owner p.epoch.0 p.batch) image)
+
+-- the image as before; or with any bytes in a slot that doesn't hold its veil key
+abbrev pub LeavesSlot : ℕ → List ℕ → List ℕ → List ℕ → Type 0
+LeavesSlot place veil old new =
+    (new ≡ old) ⊎ ((slot : List ℕ) × (length slot ≡ 32) × (slice_range old place (place + 32) ≢ veil) × (new ≡ written_at place slot old))
+
+-- what is left where filling the slots of these batches met a fault of the disk: the first of them are filled, and so is left the next
+unfoldable pub LeavesSlots : List ℕ → List PlainPlaced → List ℕ → List ℕ → Type 0
+LeavesSlots owner [] old new = new ≡ old
+LeavesSlots owner (p ∷ ps) old new =
+    LeavesSlot (p.place - 32) (veil_of owner p.epoch.0 p.batch) old new
+    ⊎ LeavesSlots owner ps (written_at (p.place - 32) (veil_of owner p.epoch.0 p.batch) old) new
 
 -- a log that was walked, and a journal that was opened on it, without the room that they have
 abbrev pub plain_walked : Walked → OwnedLog

@@ -23,3 +23,7 @@ abbrev pub StandsWithin : ℕ → List ℕ → List PlainBody → List ℕ → T
 StandsWithin limit owner bodies bytes =
     StandsFor owner (batches_from 0 0 bodies) bytes × AreBodies 0 bodies
     × (42 + sum_by (λ (b : Batch). 110 + length b.payload) (batches_from 0 0 bodies) ≤ limit)
+
+-- of whatever batches within the store limit bytes stood, they stand for them still
+abbrev pub StillStand : ℕ → List ℕ → List ℕ → List ℕ → Type 0
+StillStand limit owner old new = (bodies : List PlainBody) → StandsWithin limit owner bodies old → StandsFor owner (batches_from 0 0 bodies) new

@@ -275,7 +275,8 @@ impl Journal {
     ///
     /// `Closed` comes exactly where an earlier call of this journal answered `DiskFault`, and else `Full` exactly where the
     /// batch would end past the store limit; nothing is changed by either. `DiskFault` comes only where the disk's faults
-    /// rose in this call, and closes the journal. `OutOfMemory` never comes.
+    /// rose in this call, and closes the journal: the disk then shows the log with this batch, or without. `OutOfMemory` never
+    /// comes.
     pub fn begin_epoch<D: Disk>(&mut self, disk: &mut D) -> Result<Epoch, CommitFault>
         requires spare { 1 ≤ self.old.spare }
         requires inside { self.old.is_closed ≡ false → self.old.end ≤ D.size_of disk.old }
@@ -284,6 +285,7 @@ impl Journal {
         ensures taken { journals.refusal self.old 0 ≡ None → IfErr result (λ fault. fault ≡ CommitFault.DiskFault) }
         ensures behind { OnOk result (journals.IsBehind (journals.next_epoch self.old) self.old self.new) }
         ensures joined { OnOk result (journals.Joins (journals.next_epoch self.old) self.old self.new (D.shown disk.old) (D.shown disk.new)) }
+        ensures interrupted { result ≡ Err CommitFault.DiskFault → journals.MayJoin (journals.next_epoch self.old) self.old (D.shown disk.old) (D.shown disk.new) }
         ensures epoch { IfOk result (λ epoch. epoch.0 ≡ self.old.epoch + 1) }
         ensures begun { OnOk result (IsTrue self.new.has_epoch) }
         ensures spare { MatchResult result (λ _. self.old.spare ≤ self.new.spare + 1) (λ _. self.new.spare ≡ self.old.spare) }
@@ -330,7 +332,8 @@ impl Journal {
     ///
     /// `Closed` comes exactly where an earlier call of this journal answered `DiskFault`, and else `Full` exactly where the
     /// batch would end past the store limit; nothing is changed by either. `DiskFault` comes only where the disk's faults
-    /// rose in this call, and closes the journal. `OutOfMemory` never comes.
+    /// rose in this call, and closes the journal: the disk then shows the log with this batch, or without. `OutOfMemory` never
+    /// comes.
     pub fn commit<D: Disk>(&mut self, disk: &mut D, payload: &Payload) -> Result<(), CommitFault>
         requires begun { IsTrue self.old.has_epoch }
         requires spellable { IsSpellable (plain_payload payload.now) }
@@ -344,6 +347,8 @@ impl Journal {
         ensures behind { OnOk result (journals.IsBehind (journals.next_command self.old (spell_payload (plain_payload payload.now))) self.old self.new) }
         ensures joined { OnOk result (journals.Joins (journals.next_command self.old (spell_payload (plain_payload payload.now)))
             self.old self.new (D.shown disk.old) (D.shown disk.new)) }
+        ensures interrupted { result ≡ Err CommitFault.DiskFault → journals.MayJoin (journals.next_command self.old (spell_payload (plain_payload payload.now)))
+            self.old (D.shown disk.old) (D.shown disk.new) }
         ensures begun { self.new.has_epoch ≡ self.old.has_epoch }
         ensures spare { MatchResult result (λ _. self.old.spare ≤ self.new.spare + 1) (λ _. self.new.spare ≡ self.old.spare) }
         ensures owner { self.new.owner ≡ self.old.owner }

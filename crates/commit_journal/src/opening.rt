@@ -1,6 +1,6 @@
 //! Opening a store for writing: its log as the owner's key reads it, and the slots that a stop left empty
 //! (docs/FORMAT.md, "Opening for writing").
-ghost use Rattle.std.specs.Prelude.{◌≡◌, ◌≢◌, ◌⊎◌, ◌<◌, ◌≤◌, ◌+◌, ◌-◌, ◌^◌, Err, drop, length, map, is_some, IfOk, IfErr, OnOk, All};
+ghost use Rattle.std.specs.Prelude.{◌≡◌, ◌≢◌, ◌⊎◌, ◌<◌, ◌≤◌, ◌+◌, ◌-◌, ◌^◌, Err, drop, length, map, is_some, IfOk, IfErr, OnErr, OnOk, All};
 ghost use Rattle.cry_io.specs.Counts.{CountsFault};
 ghost use Rattle.cry_io.specs.Stops.{IsDurable};
 ghost use Rattle.cry_io.specs.Told.{WhereTold, WhereBothTold};
@@ -12,6 +12,7 @@ ghost use Rattle.commit_journal.specs.Placed.{plain_log, plain_placed};
 ghost use Rattle.commit_journal.specs.Places.{IsStanding};
 ghost use Rattle.commit_journal.specs.Reading.{IsOnlyRead};
 ghost use Rattle.commit_journal.specs.Turns.{plain_turn};
+ghost use Rattle.commit_journal.specs.WholeLogs.{StillStand};
 
 use crate::head::{BATCH_LEN, Head};
 use crate::judge::{OPEN, Turn};
@@ -125,6 +126,8 @@ fn fill_slot<D: Disk>(disk: &mut D, owner: &Key<OwnerK>, placed: &Placed) -> Res
     requires inside { placed.now.place ≤ D.size_of disk.old }
     ensures filled { OnOk result (WhereBothTold (D.shown disk.old) (D.shown disk.new)
         (λ x y. y ≡ opening.written_at (placed.now.place - 32) (veil_of owner.now.bytes placed.now.epoch.0 placed.now.batch) x)) }
+    ensures left { OnErr result (WhereBothTold (D.shown disk.old) (D.shown disk.new)
+        (opening.LeavesSlot (placed.now.place - 32) (veil_of owner.now.bytes placed.now.epoch.0 placed.now.batch))) }
     ensures durable { IsDurable (D.may_leave disk.old) (D.shown disk.old) → OnOk result (IsDurable (D.may_leave disk.new) (D.shown disk.new)) }
     ensures told { is_some (D.shown disk.new) ≡ is_some (D.shown disk.old) }
     ensures size { OnOk result (D.size_of disk.new ≡ D.size_of disk.old) }
@@ -146,6 +149,7 @@ fn fill_slots<D: Disk>(disk: &mut D, owner: &Key<OwnerK>, log: &[Placed]) -> Res
     requires inside { All (λ p. p.place ≤ D.size_of disk.old) log.now }
     ensures filled { OnOk result (WhereBothTold (D.shown disk.old) (D.shown disk.new)
         (λ x y. y ≡ opening.slots_filled owner.now.bytes (map plain_placed log.now) x)) }
+    ensures left { OnErr result (WhereBothTold (D.shown disk.old) (D.shown disk.new) (opening.LeavesSlots owner.now.bytes (map plain_placed log.now))) }
     ensures durable { IsDurable (D.may_leave disk.old) (D.shown disk.old) → OnOk result (IsDurable (D.may_leave disk.new) (D.shown disk.new)) }
     ensures told { is_some (D.shown disk.new) ≡ is_some (D.shown disk.old) }
     ensures size { OnOk result (D.size_of disk.new ≡ D.size_of disk.old) }
@@ -164,7 +168,8 @@ impl Journal {
     /// `NotAStore` and `WrongKey` come of the header. `Damaged` comes behind an open gate where no batch stands that ends
     /// within the store limit, with the place of its first byte, and for a payload that has no form, with the place of its
     /// first bad field. `Tampered` comes for a wrong owner tag, with its place. The first of these ends the call, before a
-    /// slot is written. `DiskFault` comes only where the disk's faults rose in this call.
+    /// slot is written. `DiskFault` comes only where the disk's faults rose in this call; bytes
+    /// that stood for batches stand for them then.
     pub fn open_owner<D: Disk>(
         alloc: Global,
         disk: &mut D,
@@ -186,6 +191,7 @@ impl Journal {
         ensures told { is_some (D.shown disk.new) ≡ is_some (D.shown disk.old) }
         ensures size { OnOk result (D.size_of disk.new ≡ D.size_of disk.old) }
         ensures unwritten { IfErr result (λ fault. (fault ≡ OpenFault.DiskFault) ⊎ (D.shown disk.new ≡ D.shown disk.old)) }
+        ensures left { result ≡ Err OpenFault.DiskFault → WhereBothTold (D.shown disk.old) (D.shown disk.new) (StillStand limits.store_bytes owner.now.bytes) }
         ensures counts { D.faults disk.old ≤ D.faults disk.new }
         ensures disk_fault { result ≡ Err OpenFault.DiskFault → D.faults disk.old < D.faults disk.new }
     {

@@ -1,7 +1,7 @@
 use Rattle.std.proofs.Common.{◌≡◌, ◌≤◌, ℕ, List, Some, map, drop}
 use Rattle.std.specs.Prelude.{is_some}
 use Rattle.cry_io.specs.Stops.{IsDurable}
-use Rattle.commit_journal.specs.Opening.{slots_filled}
+use Rattle.commit_journal.specs.Opening.{LeavesSlots, slots_filled}
 use Rattle.commit_journal.specs.Placed.{plain_placed}
 use Rattle.commit_journal.proofs.opening.fill_slots.Given as goal
 
@@ -13,4 +13,6 @@ invariant-loop-placed g l = record {
   counts : g.D.Disk.faults l.fn.disk ≤ g.D.Disk.faults l.disk;
   so_far : (x y : List ℕ) → g.D.Disk.shown l.fn.disk ≡ Some x → g.D.Disk.shown l.disk ≡ Some y →
       slots_filled l.owner.bytes (map plain_placed l.log) x ≡ slots_filled l.owner.bytes (map plain_placed (drop l.placed-index l.log)) y;
+  left : (x y z : List ℕ) → g.D.Disk.shown l.fn.disk ≡ Some x → g.D.Disk.shown l.disk ≡ Some y
+      → LeavesSlots l.owner.bytes (map plain_placed (drop l.placed-index l.log)) y z → LeavesSlots l.owner.bytes (map plain_placed l.log) x z;
 }

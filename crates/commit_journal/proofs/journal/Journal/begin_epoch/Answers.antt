@@ -2,6 +2,7 @@ use Rattle.std.proofs.Common.{◌+◌, true, refl}
 use Rattle.commit_journal.specs.Journals.{JournalState, IsBehind, next_epoch}
 use Rattle.commit_journal.specs.contracts.journal.Journal.{the_view}
 use Rattle.commit_journal.proofs.JournalLemmas.{joins}
+use Rattle.commit_journal.proofs.MayHaveJoined.{may_join}
 use Rattle.commit_journal.proofs.journal.Journal.begin_epoch.Goals as goal
 
 pub returns-clause-joined : goal.returns-clause-joined
@@ -36,3 +37,10 @@ returns-clause-joined g c =
     rw (← c.self.view_is)
     (joins old new (next_epoch old) c.epoch_batch.result.bytes c.veil_key-veil.result (g.D.Disk.shown c.args.disk.now) (g.D.Disk.shown c.append.new.disk)
     behind refl (c.epoch_batch.ensures.spelled c.veil_key-veil.ensures) c.veil_key-veil.ensures c.in-Ok.ensures.committed)
+
+pub returns-in_default-append-clause-interrupted : goal.returns-in_default-append-clause-interrupted
+returns-in_default-append-clause-interrupted g c = λ is.
+    let old = the_view c.self.inside in
+    rw (← c.self.view_is)
+    (may_join old (next_epoch old) c.epoch_batch.result.bytes (g.D.Disk.shown c.args.disk.now) (g.D.Disk.shown c.append.new.disk)
+    (c.epoch_batch.ensures.spelled c.veil_key-veil.ensures) c.in_default-append.ensures.interrupted)

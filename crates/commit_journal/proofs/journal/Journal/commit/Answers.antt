@@ -4,6 +4,7 @@ use Rattle.record_format.specs.Spelling.{spell_payload}
 use Rattle.commit_journal.specs.Journals.{JournalState, IsBehind, next_command}
 use Rattle.commit_journal.specs.contracts.journal.Journal.{the_view}
 use Rattle.commit_journal.proofs.JournalLemmas.{joins, payload_small}
+use Rattle.commit_journal.proofs.MayHaveJoined.{may_join}
 use Rattle.commit_journal.proofs.journal.Journal.commit.Goals as goal
 
 pub refusal-requires : goal.refusal-requires
@@ -43,3 +44,11 @@ returns-clause-joined g c =
     rw (← c.self.view_is)
     (joins old new (next_command old payload) c.as_slice.result.now c.veil_key-veil.result (g.D.Disk.shown c.args.disk.now) (g.D.Disk.shown c.append.new.disk)
     behind refl (c.as_slice.ensures ∙ c.command_batch-tag.ensures.spelled c.veil_key-veil.ensures) c.veil_key-veil.ensures c.in-Ok.ensures.committed)
+
+pub returns-in_default-append-clause-interrupted : goal.returns-in_default-append-clause-interrupted
+returns-in_default-append-clause-interrupted g c = λ is.
+    let payload = spell_payload (plain_payload c.args.payload.now) in
+    let old = the_view c.self.inside in
+    rw (← c.self.view_is)
+    (may_join old (next_command old payload) c.as_slice.result.now (g.D.Disk.shown c.args.disk.now) (g.D.Disk.shown c.append.new.disk)
+    (c.as_slice.ensures ∙ c.command_batch-tag.ensures.spelled c.veil_key-veil.ensures) c.in_default-append.ensures.interrupted)
