@@ -1,50 +1,38 @@
 -- For which batches a log stands whose last commit met a fault of the disk.
-use Rattle.std.proofs.lemmas.List.{append-nil}
-use Rattle.std.proofs.Common.{◌≡◌, ◌≢◌, ⊎_elim, ℕ, ◌+◌, Bool, true, false, eqb, List, [], ◌∷◌, ◌++◌, length, Option, append_assoc, arith, refl, sym, ap, subst, ◌∙◌}
+use Rattle.std.proofs.Common.{◌≡◌, ◌≢◌, ◌⊎◌, inl, inr, ⊎_elim, ℕ, ◌+◌, Bool, true, false, eqb, List, [], ◌∷◌, ◌++◌, length, Option, append_assoc, arith, refl, sym, ap, subst, ◌∙◌}
 use Rattle.std.proofs.lemmas.Bool.Decides.{nat_tests}
 use Rattle.cry_io.specs.Told.{WhereBothTold}
 use Rattle.commit_journal.specs.Committing.{Interrupts, with_slot}
-use Rattle.commit_journal.specs.Holding.{IsBetween}
 use Rattle.commit_journal.specs.Image.{Batch, empty_slot, image, spell_batch}
 use Rattle.commit_journal.specs.Journals.{JournalState, MayJoin}
 use Rattle.commit_journal.specs.Standing.{StandsFor, StandsWhole, last_tag}
 use Rattle.commit_journal.proofs.BatchLemmas.{length-empty_slot, with_slot-spelled}
 use Rattle.commit_journal.proofs.Standings.{opened, staged, whole_stands}
 
-abbrev Between : List ℕ → List Batch → Batch → List ℕ → Type 0
-Between owner bs b y = IsBetween (StandsFor owner) bs (bs ++ b ∷ []) y
+abbrev MayStand : List ℕ → List Batch → Batch → List ℕ → Type 0
+MayStand owner bs b y = StandsFor owner bs y ⊎ StandsFor owner (bs ++ b ∷ []) y
 
 -- behind a closed gate they are the old ones, whatever stands there
-still : (owner : List ℕ) (bs : List Batch) (b : Batch) (gate : ℕ) (after y : List ℕ) → gate ≢ 1 → y ≡ image owner bs ++ gate ∷ after → Between owner bs b y
-still owner bs b gate after y shut is = record {
-  held = bs;
-  from = ([], append-nil bs);
-  to = (b ∷ [], refl);
-  stands_for = subst (StandsFor owner bs) (sym is) (whole_stands owner bs (image owner bs ++ gate ∷ after) (staged owner bs gate after shut));
-}
+still : (owner : List ℕ) (bs : List Batch) (b : Batch) (gate : ℕ) (after y : List ℕ) → gate ≢ 1 → y ≡ image owner bs ++ gate ∷ after → MayStand owner bs b y
+still owner bs b gate after y shut is = inl (subst (StandsFor owner bs) (sym is) (whole_stands owner bs (image owner bs ++ gate ∷ after) (staged owner bs gate after shut)))
 
 -- behind the open gate the batch counts, whatever is in its slot
 more : (owner slot : List ℕ) (bs : List Batch) (b : Batch) (after y : List ℕ) → length slot ≡ 32
-    → y ≡ image owner bs ++ (1 ∷ (spell_batch owner (last_tag owner bs) slot b ++ 0 ∷ after)) → Between owner bs b y
-more owner slot bs b after y size is = record {
-  held = bs ++ b ∷ [];
-  from = (b ∷ [], refl);
-  to = ([], append-nil (bs ++ b ∷ []));
-  stands_for = subst (StandsFor owner (bs ++ b ∷ [])) (sym is) (opened owner slot bs b 0 after size (λ e. omega (arith, e)));
-}
+    → y ≡ image owner bs ++ (1 ∷ (spell_batch owner (last_tag owner bs) slot b ++ 0 ∷ after)) → MayStand owner bs b y
+more owner slot bs b after y size is = inr (subst (StandsFor owner (bs ++ b ∷ [])) (sym is) (opened owner slot bs b 0 after size (λ e. omega (arith, e))))
 
 -- the gate is open or it isn't
 either : (owner slot : List ℕ) (bs : List Batch) (b : Batch) (gate : ℕ) (after y : List ℕ) → length slot ≡ 32
-    → y ≡ image owner bs ++ (gate ∷ (spell_batch owner (last_tag owner bs) slot b ++ 0 ∷ after)) → Between owner bs b y
+    → y ≡ image owner bs ++ (gate ∷ (spell_batch owner (last_tag owner bs) slot b ++ 0 ∷ after)) → MayStand owner bs b y
 either owner slot bs b gate after y size is =
-    (elim (eqb gate 1) as (λ (test : Bool). eqb gate 1 ≡ test → Between owner bs b y) [
+    (elim (eqb gate 1) as (λ (test : Bool). eqb gate 1 ≡ test → MayStand owner bs b y) [
       | true ↦ λ gated. let one : gate ≡ 1 = grind (arith, nat_tests) in
           more owner slot bs b after y size (is ∙ ap (λ g. image owner bs ++ (g ∷ (spell_batch owner (last_tag owner bs) slot b ++ 0 ∷ after))) one)
       | false ↦ λ shut. let other : gate ≢ 1 = grind (arith, nat_tests) in still owner bs b gate _ y other is
     ]) refl
 
 may_stand : (owner batch x y : List ℕ) (bs : List Batch) (b : Batch) (end : ℕ) → StandsWhole owner bs x → end ≡ length (image owner bs) + 1
-    → batch ≡ spell_batch owner (last_tag owner bs) empty_slot b ++ 0 ∷ [] → Interrupts end batch x y → Between owner bs b y
+    → batch ≡ spell_batch owner (last_tag owner bs) empty_slot b ++ 0 ∷ [] → Interrupts end batch x y → MayStand owner bs b y
 may_stand owner batch x y bs b end whole at batch_is interrupts =
     let previous = last_tag owner bs in
     ⊎_elim

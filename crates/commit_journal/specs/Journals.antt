@@ -1,13 +1,12 @@
 -- A journal that is open for writing, and the log that it stands for. This project's own, docs/FORMAT.md, "The file" and
 -- "Committing".
-use Rattle.std.specs.Prelude.{◌≡◌, ◌+◌, ◌-◌, ℕ, Bool, false, nat_lt, if◌then◌else◌, List, [], ◌∷◌, ◌++◌, length, Option, None, Some}
+use Rattle.std.specs.Prelude.{◌≡◌, ◌⊎◌, ◌+◌, ◌-◌, ℕ, Bool, false, nat_lt, if◌then◌else◌, List, [], ◌∷◌, ◌++◌, length, Option, None, Some}
 use Rattle.chacha_seal.specs.Sealing.{check_of}
 use Rattle.cry_io.specs.Told.{WhereBothTold}
 use Rattle.commit_journal.specs.declared.batch_type.BatchType.TheVariants.{Command, NewEpoch}
 use Rattle.commit_journal.specs.declared.commit_fault.CommitFault.{CommitFault}
 use Rattle.commit_journal.specs.declared.commit_fault.CommitFault.TheVariants as faults
 use Rattle.commit_journal.specs.Image.{Batch, owner_tag, image}
-use Rattle.commit_journal.specs.Holding.{IsBetween}
 use Rattle.commit_journal.specs.Standing.{StandsFor, StandsWhole, last_tag}
 
 -- the owner's key; how many batches the log has, the epoch that was begun last (0 for none), whether this session began it,
@@ -74,7 +73,7 @@ pub record Joins (b : Batch) (old new : JournalState) (was shows : Option (List 
 -- stand for these, or for these and one more
 abbrev pub MayJoin : Batch → JournalState → Option (List ℕ) → Option (List ℕ) → Type 0
 MayJoin b old was shows = (bs : List Batch) → IsJournalOf bs old
-    → WhereBothTold was shows (λ x y. StandsWhole old.owner bs x → IsBetween (StandsFor old.owner) bs (bs ++ b ∷ []) y)
+    → WhereBothTold was shows (λ x y. StandsWhole old.owner bs x → StandsFor old.owner bs y ⊎ StandsFor old.owner (bs ++ b ∷ []) y)
 
 -- why a journal takes no batch with a payload of so many bytes, if it takes none: an earlier fault is told first
 abbrev pub refusal : JournalState → ℕ → Option CommitFault

@@ -1,5 +1,5 @@
 -- What an owner who stands for a journal answers once a command was carried out, or its keys weren't drawn.
-use Rattle.std.proofs.Common.{◌≡◌, ℕ, ◌*◌, ◌^◌, ◌≤◌, ◌<◌, true, false, List, [], ◌++◌, length, Option, Some, None, Result, Ok, Err, refl, sym, ap, subst, ◌∙◌}
+use Rattle.std.proofs.Common.{◌≡◌, ℕ, ◌*◌, ◌^◌, ◌<◌, false, List, Option, None, Result, Ok, Err, refl, sym, ap, subst, ◌∙◌}
 use Rattle.std.specs.Prelude.{IfErr, IfOk, OnErr, OnOk, IsTrue, is_some}
 use Rattle.std.proofs.lemmas.Bool.{false≢true}
 use Rattle.cry_base.specs.Listed.{Listed}
@@ -17,7 +17,7 @@ use Rattle.record_format.specs.Told.{told_note}
 use Rattle.record_format.specs.declared.note.Note.{Note as Declared}
 use Rattle.record_format.specs.declared.note.Note.TheVariants as declared
 use Rattle.public_fold.specs.Journal.{Journal, first_key, store_of}
-use Rattle.store_owner.specs.Applying.{Answers, HasOtherRoom, IsDone}
+use Rattle.store_owner.specs.Applying.{Answers, HasOtherRoom, IsCutShort, IsDone}
 use Rattle.store_owner.specs.Drawing.{DrawsKeys, IsFillFault}
 use Rattle.store_owner.specs.Owned.{OwnerView, limits_in}
 use Rattle.store_owner.specs.Planning.{reply_for}
@@ -97,12 +97,12 @@ done_answer (declared.Take h f) drawn m r old new left_before left_after was sho
 
 pub carried_answer : (result : Result Reply ApplyFault) (note : Declared) (drawn : List (List ℕ)) (m : Journal) (r : Request) (old new : OwnerView) (left_before left_after was shows : Option (List ℕ)) (C : Type 0)
     → answer (limits_in old) m old.journal.has_epoch r ≡ None → IfErr result (λ fault. fault ≡ faults.DiskFault) → OnErr result (IsTrue new.journal.is_closed)
-    → IfOk result (λ reply. reply ≡ reply_for note drawn) → OnOk result C → (C → IsDone m r (reply_for note drawn) old new left_before left_after was shows)
+    → OnErr result (IsCutShort m r old was shows) → IfOk result (λ reply. reply ≡ reply_for note drawn) → OnOk result C → (C → IsDone m r (reply_for note drawn) old new left_before left_after was shows)
     → Answers result m r old new left_before left_after was shows
-carried_answer (Ok reply) note drawn m r old new left_before left_after was shows C accepted fault closed is carried done =
+carried_answer (Ok reply) note drawn m r old new left_before left_after was shows C accepted fault closed left is carried done =
     subst (λ (x : Reply). Answers (Ok x) m r old new left_before left_after was shows) (sym is) (done_answer note drawn m r old new left_before left_after was shows (done carried))
-carried_answer (Err why) note drawn m r old new left_before left_after was shows C accepted fault closed is carried done =
-    subst (λ (x : ApplyFault). Answers (Err x) m r old new left_before left_after was shows) (sym fault) (accepted, closed)
+carried_answer (Err why) note drawn m r old new left_before left_after was shows C accepted fault closed left is carried done =
+    subst (λ (x : ApplyFault). Answers (Err x) m r old new left_before left_after was shows) (sym fault) (accepted, closed, left)
 
 pub undrawn_answer : (fault : ApplyFault) (keys : ℕ) (m : Journal) (r : Request) (old new : OwnerView) (left_before left_after was shows : Option (List ℕ))
     → answer (limits_in old) m old.journal.has_epoch r ≡ None → HasOtherRoom old new → keys ≡ draws_of m r → 32 * draws_of m r < 2 ^ 32 → IsFillFault {T = Listed (List ℕ)} keys (Err fault)

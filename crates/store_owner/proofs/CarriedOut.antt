@@ -1,10 +1,10 @@
 -- What the calls that carry out a planned command leave.
-use Rattle.std.proofs.Common.{◌≡◌, ℕ, ◌+◌, ◌≤◌, ◌<◌, Bool, true, false, not, cond, if◌then◌else◌, List, [], ◌∷◌, ◌++◌, length, replicate, Option, Some, None, arith, refl, sym, ap, subst, ◌∙◌, length-append}
+use Rattle.std.proofs.Common.{◌≡◌, ℕ, ◌+◌, ◌≤◌, Bool, true, false, not, cond, List, ◌++◌, length, replicate, Option, Some, arith, refl, sym, ap, subst, ◌∙◌, length-append}
 use Rattle.std.specs.Prelude.{is_some}
 use Rattle.chacha_seal.specs.Keys.{KeyParts}
 use Rattle.chacha_seal.specs.Sealing.{check_of}
 use Rattle.chacha_seal.specs.Serials.{Counting}
-use Rattle.commit_journal.specs.Journals.{IsBehind, JournalState, Joins, end_with, next_command}
+use Rattle.commit_journal.specs.Journals.{IsBehind, JournalState, Joins, next_command}
 use Rattle.cry_base.specs.Requests.{Request}
 use Rattle.cry_base.specs.Store.{Store}
 use Rattle.folder_nodes.specs.Titles.{tree_store}
@@ -20,7 +20,7 @@ use Rattle.public_fold.specs.Preparing.{begun}
 use Rattle.public_fold.specs.StandFits.{note_fits}
 use Rattle.public_fold.specs.Standing.{IsSeenAs}
 use Rattle.public_fold.specs.declared.heads.Skeleton.{Skeleton}
-use Rattle.store_owner.specs.Applying.{IsCarriedOut, sealed_text, skeleton_size}
+use Rattle.store_owner.specs.Applying.{IsCarriedOut, IsSealed, sealed_text, skeleton_size}
 use Rattle.store_owner.specs.Bytes.{step_payload}
 use Rattle.store_owner.specs.Drawing.{AreKeys}
 use Rattle.store_owner.specs.Owned.{OwnerView}
@@ -83,15 +83,12 @@ module _ (r : Request) (drawn : List (List ℕ)) (old : OwnerView) (before after
       ap (λ s. skeleton_size (told_note after.note) s (length after.text.items)) (is ∙ keyed.skeleton)
       ∙ keyed_size before.note after.note (check_of (first_key drawn)) before.ready.skeleton (length after.text.items) (length (before.text.items ++ due_key r (replicate 32 0))) keyed.note text_long
 
-  pub carried : (new : OwnerView) (was showed shows : Option (List ℕ)) (between : JournalState) (starts ends : Counting) (sealed : Skeleton) (payload : PlainPayload)
-      → HasBegun old.journal between old.counter starts was showed → is_some showed ≡ is_some was → new.key ≡ old.key → new.file_bytes ≡ old.file_bytes → new.state ≡ after.ready.after → sealed ≡ after.ready.skeleton
+  unfoldable pub sealed_for : (was showed : Option (List ℕ)) (between : JournalState) (starts : Counting) (sealed : Skeleton) (payload : PlainPayload)
+      → HasBegun old.journal between old.counter starts was showed → is_some showed ≡ is_some was → sealed ≡ after.ready.skeleton
       → ((keys : List KeyParts) (x : Stand) (other : Note) (later : Store) → HoldsKeys keys x.keys old.ring starts → IsTold (note_step x other later) sealed after.text.items
       → payload ≡ step_payload (keys_with keys (note_step x other later) drawn) after.note (note_step x other later))
-      → ((keys : List KeyParts) (x : Stand) (other : Note) (later : Store) → HoldsKeys keys x.keys old.ring starts → IsSealable (note_step x other later) → IsSkeleton (note_step x other later) sealed
-      → HoldsKeys (keys_with keys (note_step x other later) drawn) (note_step x other later).after new.ring ends)
-      → new.counter ≡ Some ends → Joins (next_command between (spell_payload payload)) between new.journal showed shows → IsBehind (next_command between (spell_payload payload)) between new.journal
-      → new.journal.has_epoch ≡ between.has_epoch → ((s : Store) → IsTreeOf (tree_store old.state.tree old.names) s → AreTitlesAfter s r old.names new.names) → IsCarriedOut r drawn old new was shows
-  carried new was showed shows between starts ends sealed payload has tells same_key same_bound state_is sealed_is seals holds counter_is joins behind begun_still titles = record {
+      → IsSealed r drawn old was
+  sealed_for was showed between starts sealed payload has tells sealed_is seals = record {
     note = after.note;
     skeleton = before.ready.skeleton;
     payload = payload;
@@ -99,16 +96,10 @@ module _ (r : Request) (drawn : List (List ℕ)) (old : OwnerView) (before after
     between = between;
     showed = showed;
     starts = starts;
-    ends = ends;
-    same_key = same_key;
-    same_bound = same_bound;
     drawn_count = long;
     drawn_sizes = sizes;
     told = λ s is. keyed_note before.note after.note s r (replicate 32 0) (check_of (first_key drawn)) keyed.note (drafted.told s is);
     is_skeleton = skeleton_for;
-    seen_then = λ x s saw is.
-        subst (λ (v : _). IsSeenAs v (told_stand (begun (not old.journal.has_epoch) x) (note_of s r (replicate 32 0)))) (sym state_is)
-        (subst (λ (n : Note). IsSeenAs after.ready.after (told_stand (begun (not old.journal.has_epoch) x) n)) (drafted.told s is) (keyed.seen _ (drafted.seen_then x saw)));
     has_room = refl;
     begins = has.begins;
     stays_told = tells;
@@ -117,6 +108,25 @@ module _ (r : Request) (drawn : List (List ℕ)) (old : OwnerView) (before after
         seals keys x other later held
         (subst (λ (t : List ℕ). IsTold (note_step x other later) sealed t) (sym text_for)
         (subst (λ (s : Skeleton). IsTold (note_step x other later) s (sealed_text old r drawn)) (sym (sealed_is ∙ keyed.skeleton)) is));
+  }
+
+  pub carried : (new : OwnerView) (was showed shows : Option (List ℕ)) (between : JournalState) (starts ends : Counting) (sealed : Skeleton) (payload : PlainPayload)
+      → HasBegun old.journal between old.counter starts was showed → is_some showed ≡ is_some was → new.key ≡ old.key → new.file_bytes ≡ old.file_bytes → new.state ≡ after.ready.after → sealed ≡ after.ready.skeleton
+      → ((keys : List KeyParts) (x : Stand) (other : Note) (later : Store) → HoldsKeys keys x.keys old.ring starts → IsTold (note_step x other later) sealed after.text.items
+      → payload ≡ step_payload (keys_with keys (note_step x other later) drawn) after.note (note_step x other later))
+      → ((keys : List KeyParts) (x : Stand) (other : Note) (later : Store) → HoldsKeys keys x.keys old.ring starts → IsSealable (note_step x other later) → IsSkeleton (note_step x other later) sealed
+      → HoldsKeys (keys_with keys (note_step x other later) drawn) (note_step x other later).after new.ring ends)
+      → new.counter ≡ Some ends → Joins (next_command between (spell_payload payload)) between new.journal showed shows → IsBehind (next_command between (spell_payload payload)) between new.journal
+      → new.journal.has_epoch ≡ between.has_epoch → ((s : Store) → IsTreeOf (tree_store old.state.tree old.names) s → AreTitlesAfter s r old.names new.names) → IsCarriedOut r drawn old new was shows
+  unfolding sealed_for
+  carried new was showed shows between starts ends sealed payload has tells same_key same_bound state_is sealed_is seals holds counter_is joins behind begun_still titles = record {
+    sealed = sealed_for was showed between starts sealed payload has tells sealed_is seals;
+    ends = ends;
+    same_key = same_key;
+    same_bound = same_bound;
+    seen_then = λ x s saw is.
+        subst (λ (v : _). IsSeenAs v (told_stand (begun (not old.journal.has_epoch) x) (note_of s r (replicate 32 0)))) (sym state_is)
+        (subst (λ (n : Note). IsSeenAs after.ready.after (told_stand (begun (not old.journal.has_epoch) x) n)) (drafted.told s is) (keyed.seen _ (drafted.seen_then x saw)));
     keys_then = λ keys x other later held can is. holds keys x other later held can (subst (λ (s : Skeleton). IsSkeleton (note_step x other later) s) (sym (sealed_is ∙ keyed.skeleton)) is);
     ends_as = counter_is;
     commits = joins;

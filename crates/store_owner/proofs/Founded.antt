@@ -1,5 +1,5 @@
 -- The journal and the bytes of a store once its two batches are committed.
-use Rattle.std.proofs.Common.{◌≡◌, ℕ, ◌+◌, List, [], ◌∷◌, ◌++◌, length, Option, arith, refl, sym, ap, ◌∙◌}
+use Rattle.std.proofs.Common.{◌≡◌, ℕ, ◌+◌, List, [], ◌∷◌, ◌++◌, Option, arith, sym, ap, ◌∙◌}
 use Rattle.std.specs.Prelude.{false, is_some, max}
 use Rattle.cry_io.specs.Told.{WhereTold}
 use Rattle.cry_io.proofs.ToldLemmas.{told_again}

@@ -6,7 +6,7 @@ use Rattle.record_format.specs.declared.note.Note.TheVariants as notes
 use Rattle.public_fold.specs.Journal.{Stand, first_key}
 use Rattle.public_fold.specs.Preparing.{with_check}
 use Rattle.public_fold.specs.Standing.{IsSeenAs}
-use Rattle.store_owner.specs.Planning.{IsKeyed, holder_key, reply_for}
+use Rattle.store_owner.specs.Planning.{IsKeyed, holder_key}
 use Rattle.store_owner.specs.declared.change.Change.{Change}
 
 -- the first of some keys

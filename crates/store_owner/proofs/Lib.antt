@@ -2,10 +2,12 @@ pub mod Applied
 pub mod Ascending
 pub mod CarriedOut
 pub mod Counted
+pub mod CutShort
 pub mod DrawLemmas
 pub mod DueTexts
 pub mod FitsPublic
 pub mod Followed
+pub mod Faulted
 pub mod FewDraws
 pub mod FewKeys
 pub mod Followings

@@ -1,15 +1,13 @@
 -- The owner of a fresh store stands for its journal, and is sound.
-use Rattle.std.proofs.Common.{◌≡◌, ℕ, ◌+◌, ◌≤◌, Bool, true, false, cond, List, [], ◌∷◌, ◌++◌, length, map, Some, None, All, arith, refl, sym, ap, subst, ◌∙◌}
+use Rattle.std.proofs.Common.{◌≡◌, ℕ, ◌≤◌, true, cond, List, [], ◌∷◌, length, map, Some, None, All, arith, refl, sym, ap, subst, ◌∙◌}
 use Rattle.std.proofs.lemmas.List.Elements.{All-cons, All-nil}
 use Rattle.commit_journal.specs.Image.{Batch}
 use Rattle.commit_journal.specs.Journals.{IsJournalOf}
-use Rattle.commit_journal.specs.Laws.{batches_from}
 use Rattle.cry_base.specs.Sets.{In}
 use Rattle.cry_base.specs.Store.{FileEntry, FolderEntry, Store, no_store, root_store}
-use Rattle.folder_nodes.specs.Titles.{Title, bytes_in, name_in, title_at, tree_store}
+use Rattle.folder_nodes.specs.Titles.{bytes_in, name_in, title_at, tree_store}
 use Rattle.move_plan.specs.Fitting.{fits, public_of}
 use Rattle.record_format.specs.Noted.Note.{Root}
-use Rattle.record_format.specs.Plain.{PlainPayload}
 use Rattle.record_format.specs.declared.note.Note.TheVariants as declared
 use Rattle.public_fold.specs.Fitted.{told_stand, told_step}
 use Rattle.public_fold.specs.Journal.{Entry, Stand, entry_step, entry_store, keys_of, nothing, stand_after, stand_then, store_of}
@@ -28,10 +26,10 @@ use Rattle.store_owner.specs.Keys.{AreWhole, all_keys, drawn_by, entry_keys, wit
 use Rattle.store_owner.specs.Making.{IsMadeJournal, first_stand, made_batches, made_with, root_payload, root_step}
 use Rattle.store_owner.specs.Owned.{IsOwnerOf, OwnerView, counting}
 use Rattle.store_owner.specs.Owning.{IsTreeOf}
-use Rattle.store_owner.specs.Sealing.{HoldsKeys, keys_with}
+use Rattle.store_owner.specs.Sealing.{HoldsKeys}
 use Rattle.store_owner.specs.Sound.{IsSound, own_store}
 use Rattle.store_owner.specs.WorkedBytes.{journal_bytes}
-use Rattle.store_owner.proofs.RootSealed.{alone, keys_are, root_fits}
+use Rattle.store_owner.proofs.RootSealed.{keys_are}
 
 -- ---- the journal
 

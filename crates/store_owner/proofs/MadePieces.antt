@@ -1,5 +1,5 @@
 -- Six keys that were drawn are the pieces of their bytes, and who stands for the journal of the last five is made by them.
-use Rattle.std.proofs.Common.{◌≡◌, ℕ, ◌+◌, ◌*◌, ◌<◌, ◌≤◌, List, Result, Ok, Err, Option, [], ◌∷◌, ◌++◌, length, take, drop, slice_index_or, None, arith, refl, sym, ap, subst, ◌∙◌, length-append}
+use Rattle.std.proofs.Common.{◌≡◌, ℕ, ◌+◌, ◌*◌, ◌<◌, ◌≤◌, List, Result, Ok, Err, Option, [], ◌∷◌, ◌++◌, length, take, drop, slice_index_or, None, arith, sym, ap, subst, ◌∙◌, length-append}
 use Rattle.std.proofs.lemmas.List.Elements.{All-head, All-tail}
 use Rattle.std.proofs.Math.Seq.{take-append_seam, drop-append-add}
 use Rattle.std.specs.Prelude.{IfOk, OnOk}

@@ -1,10 +1,9 @@
 -- What the next entries add to a journal's batches and keys.
-use Rattle.std.proofs.Common.{◌≡◌, ℕ, ◌+◌, ◌≤◌, Bool, true, false, not, List, [], ◌∷◌, ◌++◌, length, append-nil, arith, refl, sym, ap, ◌∙◌}
+use Rattle.std.proofs.Common.{◌≡◌, ℕ, ◌+◌, Bool, true, false, not, List, [], ◌∷◌, ◌++◌, length, append-nil, arith, refl, sym, ap, ◌∙◌}
 use Rattle.chacha_seal.specs.Keys.{KeyParts}
-use Rattle.commit_journal.specs.Image.{Batch}
 use Rattle.commit_journal.specs.Journals.{IsJournalOf, JournalState, last_epoch}
 use Rattle.commit_journal.specs.Laws.{batch_of, batches_from}
-use Rattle.commit_journal.specs.Placed.{PlainBody, Commands, NewEpoch}
+use Rattle.commit_journal.specs.Placed.{PlainBody}
 use Rattle.cry_base.specs.Requests.{Request}
 use Rattle.public_fold.specs.Journal.{Entry, Journal, Stand, nothing, entry_step, keys_of, note_step, stand_then, stand_after}
 use Rattle.public_fold.specs.Journal.Entry.{Session, Made, Did}

@@ -1,41 +1,33 @@
 -- What the next entries add to a journal, and when they may come.
-use Rattle.std.proofs.Common.{◌≡◌, inl, inr, ℕ, ◌+◌, ◌*◌, ◌≤◌, Bool, true, false, cond, not, List, [], ◌∷◌, ◌++◌, length, find, replicate, Option, Some, None, option_map, All, append-nil, arith, refl, sym, ap, subst, ◌∙◌}
+use Rattle.std.proofs.Common.{◌≡◌, inl, ℕ, ◌+◌, ◌*◌, ◌≤◌, Bool, true, false, cond, not, List, [], ◌∷◌, ◌++◌, length, replicate, None, All, append-nil, arith, refl, sym, ap, ◌∙◌}
 use Rattle.std.specs.List.{sum_by}
-use Rattle.std.specs.Prelude.{nat_lt}
-use Rattle.std.proofs.lemmas.Bool.{le-ltb, ltb-false}
-use Rattle.std.proofs.lemmas.List.{length-append, length-map, length-replicate}
+use Rattle.std.proofs.lemmas.List.{length-append, length-map}
 use Rattle.std.proofs.lemmas.List.Elements.{All-head}
-use Rattle.std.proofs.lemmas.List.Sums.{sum_by-append, sum_by-cons}
-use Rattle.cry_base.specs.Refusing.{causes, is_too_long, refusal_of}
+use Rattle.std.proofs.lemmas.List.Sums.{sum_by-cons}
+use Rattle.cry_base.specs.Refusing.{refusal_of}
 use Rattle.cry_base.specs.Requests.{Request}
 use Rattle.cry_base.specs.Requests.Request.{AddHolder, MakeFolder, WriteFile, Remove, Rename, Relocate, Grant, Revoke}
 use Rattle.cry_base.specs.Sets.{In}
 use Rattle.cry_base.specs.Stepping.{effect}
-use Rattle.cry_base.specs.declared.commands.Refusal.{Refusal}
-use Rattle.cry_base.specs.declared.commands.Refusal.TheVariants.{BadName, NoPath, IsRoot, NotFolder, IsFolder, Exists, NotEmpty, InsideItself, TooDeep, NoHolder, HasGrant, NoGrant, TooLong}
-use Rattle.cry_base.specs.Refusing.{has_bad_name, finds_no_path, changes_root, needs_folder, writes_folder, finds_name_taken, removes_children, moves_into_itself, goes_too_deep, finds_no_holder, grants_again, revokes_nothing}
 use Rattle.cry_base.specs.Store.{Store}
 use Rattle.cry_base.specs.declared.roles.Edge.{Edge}
 use Rattle.cry_base.specs.declared.roles.Role.{Role}
 use Rattle.role_graph.specs.Edges.{edges}
-use Rattle.record_format.specs.Noted.{Note}
 use Rattle.move_plan.specs.Change.{Change, change_of, no_change}
 use Rattle.move_plan.specs.Noting.{note_of}
-use Rattle.public_fold.specs.Journal.{Entry, Journal, Stand, nothing, first_key, note_step, entry_step, entry_store, stand_then, stand_after, store_of}
-use Rattle.public_fold.specs.Journal.Entry.{Session, Made, Did}
+use Rattle.public_fold.specs.Journal.{Journal, Stand, nothing, first_key, note_step, entry_step, entry_store, stand_then, stand_after, store_of}
+use Rattle.public_fold.specs.Journal.Entry.{Session, Did}
 use Rattle.public_fold.specs.KeyStep.{KeyState, content_of, contents_from, dirty_left, given, key_step, keys_then, links_from, next_epoch, next_serial, numbered, published, published_edges, renewed, step_with}
-use Rattle.public_fold.specs.Lengths.{content_len, end_of, entry_payload, note_len, payload_len, payloads_from}
+use Rattle.public_fold.specs.Lengths.{content_len, entry_payload, note_len, payload_len}
 use Rattle.public_fold.specs.Preparing.{begun, begun_keys}
-use Rattle.public_fold.specs.Records.{Content, Piece, pieces_of, text_of}
-use Rattle.public_fold.specs.Valid.{BeginsWell, FollowOn, IsNext, IsValid}
+use Rattle.public_fold.specs.Records.{Piece, pieces_of, text_of}
+use Rattle.public_fold.specs.Valid.{IsValid}
 use Rattle.public_fold.proofs.Accepting.{accepted}
 use Rattle.public_fold.proofs.Counting.{journal_counted}
 use Rattle.public_fold.proofs.Keeping.{journal_tree}
 use Rattle.public_fold.proofs.Prefixes.{stand_after-append}
 use Rattle.public_fold.proofs.Serials.{numbered-length}
-use Rattle.public_fold.proofs.Settling.{no_cause}
-use Rattle.store_owner.specs.Applying.{journal_then}
-use Rattle.store_owner.specs.Script.{draws_of, due_end, due_payload}
+use Rattle.store_owner.specs.Script.{draws_of, due_payload}
 use Rattle.store_owner.specs.Texting.{due_key, due_text}
 use Rattle.store_owner.proofs.DueTexts.{sealed}
 use Rattle.store_owner.proofs.Sealable.{pieces_due}

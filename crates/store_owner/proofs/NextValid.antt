@@ -1,7 +1,6 @@
 -- A journal with an accepted command is a journal, where its log ends within the store's limit.
-use Rattle.std.proofs.Common.{◌≡◌, inl, inr, ℕ, ◌+◌, ◌≤◌, Bool, true, false, cond, not, List, [], ◌∷◌, ◌++◌, length, find, Option, Some, None, option_map, All, append-nil, arith, refl, sym, ap, subst, ◌∙◌}
+use Rattle.std.proofs.Common.{◌≡◌, inl, inr, ℕ, ◌+◌, ◌≤◌, Bool, true, false, cond, not, List, [], ◌∷◌, ◌++◌, length, find, Option, None, option_map, All, append-nil, arith, refl, sym, ap, subst, ◌∙◌}
 use Rattle.std.specs.List.{sum_by}
-use Rattle.std.specs.Prelude.{nat_lt}
 use Rattle.std.proofs.lemmas.Bool.{le-ltb, ltb-false}
 use Rattle.std.proofs.lemmas.List.Elements.{All-append, All-cons, All-nil}
 use Rattle.std.proofs.lemmas.List.Sums.{sum_by-append, sum_by-cons}
@@ -11,10 +10,9 @@ use Rattle.cry_base.specs.Requests.Request.{AddHolder, MakeFolder, WriteFile, Re
 use Rattle.cry_base.specs.Store.{Store}
 use Rattle.cry_base.specs.declared.commands.Refusal.{Refusal}
 use Rattle.cry_base.specs.declared.commands.Refusal.TheVariants.{BadName, NoPath, IsRoot, NotFolder, IsFolder, Exists, NotEmpty, InsideItself, TooDeep, NoHolder, HasGrant, NoGrant, TooLong}
-use Rattle.public_fold.specs.Journal.{Entry, Journal, Stand, nothing, entry_step, stand_then, stand_after, store_of}
+use Rattle.public_fold.specs.Journal.{Entry, Journal, Stand, nothing, stand_then, stand_after, store_of}
 use Rattle.public_fold.specs.Journal.Entry.{Session, Made, Did}
 use Rattle.public_fold.specs.Lengths.{end_of, entry_payload, payloads_from}
-use Rattle.public_fold.specs.Preparing.{begun}
 use Rattle.public_fold.specs.Valid.{BeginsWell, FollowOn, IsNext, IsValid}
 use Rattle.public_fold.proofs.Settling.{no_cause}
 use Rattle.store_owner.specs.Applying.{journal_then}
@@ -101,6 +99,20 @@ session_follows : (at : Stand) (has_begun : Bool) → FollowOn at (cond has_begu
 session_follows at true = tt
 session_follows at false = (tt, tt)
 
+pub session_valid : (m : Journal) (has_begun : Bool) (r : Request) → IsValid m → due_end m has_begun r ≤ 268435456 → IsValid (between m has_begun)
+unfolding due_end
+session_valid m has_begun r valid low =
+    let first = end_between m has_begun in
+    (begins-append m (cond has_begun [] (Session ∷ [])) valid.0 (session_follows (stand_after nothing m) has_begun), omega (arith, first, low))
+
+pub session_whole : (owner : List ℕ) (m : Journal) (has_begun : Bool) → AreWhole owner m → AreWhole owner (between m has_begun)
+unfolding drawn_by
+session_whole owner m has_begun whole =
+    let sized : Entry → Type 0 = λ entry. All (λ (key : List ℕ). length key ≡ 32) (drawn_by entry) in
+    let one : All sized (Session ∷ []) = All-cons sized Session [] (All-nil (λ (key : List ℕ). length key ≡ 32)) (All-nil sized) in
+    let session : (b : Bool) → All sized (cond b [] (Session ∷ [])) = λ b. elim b as (λ b. All sized (cond b [] (Session ∷ []))) [ true ↦ All-nil sized | false ↦ one ] in
+    record { owner_size = whole.owner_size; drawn_sizes = All-append sized m (cond has_begun [] (Session ∷ [])) whole.drawn_sizes (session has_begun) }
+
 module _ (m : Journal) (has_begun : Bool) (r : Request) (drawn : List (List ℕ)) (file_bytes : ℕ) (valid : IsValid m) (bound : file_bytes ≤ 1048576) (none : refusal_of (store_of m) r file_bytes ≡ None)
     (many : length drawn ≡ draws_of m r) (sizes : All (λ (key : List ℕ). length key ≡ 32) drawn) where
   command_next : IsNext (stand_after nothing (between m has_begun)) (Did r drawn)
@@ -120,10 +132,7 @@ module _ (m : Journal) (has_begun : Bool) (r : Request) (drawn : List (List ℕ)
       omega (arith, last, size, first)
 
   pub between_valid : due_end m has_begun r ≤ 268435456 → IsValid (between m has_begun)
-  unfolding due_end
-  between_valid low =
-      let first = end_between m has_begun in
-      (begins-append m (cond has_begun [] (Session ∷ [])) valid.0 (session_follows (stand_after nothing m) has_begun), omega (arith, first, low))
+  between_valid low = session_valid m has_begun r valid low
 
   pub next_valid : due_end m has_begun r ≤ 268435456 → IsValid (journal_then m has_begun r drawn)
   next_valid low =
@@ -137,10 +146,7 @@ pub next_whole : (owner : List ℕ) (m : Journal) (has_begun : Bool) (r : Reques
 unfolding drawn_by
 next_whole owner m has_begun r drawn whole sizes =
     let sized : Entry → Type 0 = λ entry. All (λ (key : List ℕ). length key ≡ 32) (drawn_by entry) in
-    let one : All sized (Session ∷ []) = All-cons sized Session [] (All-nil (λ (key : List ℕ). length key ≡ 32)) (All-nil sized) in
-    let session : (b : Bool) → All sized (cond b [] (Session ∷ [])) = λ b. elim b as (λ b. All sized (cond b [] (Session ∷ []))) [ true ↦ All-nil sized | false ↦ one ] in
     record {
       owner_size = whole.owner_size;
-      drawn_sizes = All-append sized (between m has_begun) (Did r drawn ∷ []) (All-append sized m (cond has_begun [] (Session ∷ [])) whole.drawn_sizes (session has_begun))
-          (All-cons sized (Did r drawn) [] sizes (All-nil sized));
+      drawn_sizes = All-append sized (between m has_begun) (Did r drawn ∷ []) (session_whole owner m has_begun whole).drawn_sizes (All-cons sized (Did r drawn) [] sizes (All-nil sized));
     }

@@ -10,7 +10,7 @@ use Rattle.commit_journal.specs.Journals.{IsJournalOf}
 use Rattle.commit_journal.specs.Logs.{AreInEpochs, epoch_behind}
 use Rattle.commit_journal.specs.Opening.{IsOpened, opening_verdict, plain_opened, slots_filled}
 use Rattle.commit_journal.specs.Placed.{PlainPlaced, plain_log, plain_placed}
-use Rattle.commit_journal.specs.WholeLogs.{StandsWithin}
+use Rattle.commit_journal.specs.WholeLogs.{StandsWithin, StillStand}
 use Rattle.commit_journal.specs.declared.fault.OpenFault.{OpenFault}
 use Rattle.commit_journal.specs.declared.fault.OpenFault.TheVariants as faults
 use Rattle.commit_journal.specs.declared.opening.Opened.{Opened as OpenedLog}
@@ -235,3 +235,13 @@ journal_never limit key shown (Err fault) known verdict = λ m s is stands fits.
     let opens = journal_opens key m stands.valid stands.whole_keys in
     let read : placed_in (opening_verdict limit key s) ≡ Ok (log_of key m) = ap placed_in (opened_standing limit key (bodies_of key m) s known (within limit key m s stands fits)) in
     no_fault fault (open_with key (placed_in (opening_verdict limit key s))) opens.0 (ap (open_with key) read ∙ opens.1) (verdict s is)
+
+-- a fault of the disk at opening leaves the journal standing
+pub journal_left : (limit : ℕ) (key : List ℕ) (was shows : Option (List ℕ)) → WhereBothTold was shows (StillStand limit key)
+    → (m : Journal) → WhereBothTold was shows (λ x y. StandsForJournal key m x → end_of m ≤ limit → StandsForJournal key m y)
+unfolding batches_of
+journal_left limit key was shows left m = λ x y e f stands low. record {
+  valid = stands.valid;
+  whole_keys = stands.whole_keys;
+  stands = left x y e f (bodies_of key m) (within limit key m x stands low);
+}

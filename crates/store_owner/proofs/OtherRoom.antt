@@ -1,5 +1,5 @@
 -- An owner with other room for what is to come is the same owner.
-use Rattle.std.proofs.Common.{◌≡◌, ℕ, ◌+◌, ◌≤◌, cond, List, [], Option, None, Some, refl, sym, ap, subst, ◌∙◌}
+use Rattle.std.proofs.Common.{◌≡◌, ℕ, ◌+◌, ◌≤◌, cond, List, [], Option, None, Some, refl, sym, ap, subst, ◌∙◌, inl, inr}
 use Rattle.chacha_seal.specs.Keys.{KeyParts}
 use Rattle.chacha_seal.specs.Serials.{Counting}
 use Rattle.commit_journal.specs.Journals.{JournalState}
@@ -16,7 +16,7 @@ use Rattle.key_links.specs.Ringed.{Ringed, key_of}
 use Rattle.key_links.specs.declared.any_key.AnyKey.{AnyKey}
 use Rattle.public_fold.specs.KeyStep.{KeyState}
 use Rattle.public_fold.specs.Standing.{PublicView}
-use Rattle.store_owner.specs.Applying.{HasOtherRoom, IsCarriedOut}
+use Rattle.store_owner.specs.Applying.{HasOtherRoom, IsCarriedOut, IsInterrupted, IsSealed}
 use Rattle.store_owner.specs.Owned.{OwnerView}
 use Rattle.store_owner.specs.Owning.{IsStoreOf}
 use Rattle.store_owner.specs.Planning.{IsDrafted}
@@ -170,9 +170,9 @@ drafted_with r o p a b c d h = record {
 pub drafted_still : (r : Request) (old new : OwnerView) (p : Change) → HasOtherRoom old new → IsDrafted r old p → IsDrafted r new p
 drafted_still r old new p h d = subst (λ (o : OwnerView). IsDrafted r o p) (sym (has_room old new h)) (drafted_with r old p _ _ _ _ d)
 
-carried_before : (r : Request) (drawn : List (List ℕ)) (o new : OwnerView) (was shows : Option (List ℕ)) (a b c d : ℕ) → IsCarriedOut r drawn (with_room o a b c d) new was shows → IsCarriedOut r drawn o new was shows
+sealed_before : (r : Request) (drawn : List (List ℕ)) (o : OwnerView) (was : Option (List ℕ)) (a b c d : ℕ) → IsSealed r drawn (with_room o a b c d) was → IsSealed r drawn o was
 unfolding tree_store
-carried_before r drawn o new was shows a b c d h = record {
+sealed_before r drawn o was a b c d h = record {
   note = h.note;
   skeleton = h.skeleton;
   payload = h.payload;
@@ -180,20 +180,26 @@ carried_before r drawn o new was shows a b c d h = record {
   between = h.between;
   showed = h.showed;
   starts = h.starts;
-  ends = h.ends;
-  same_key = h.same_key;
-  same_bound = h.same_bound;
   drawn_count = h.drawn_count;
   drawn_sizes = h.drawn_sizes;
   told = λ s is. h.told s (store_with o.state.tree s o.names c (granted_in o) is);
   is_skeleton = λ at s seen is. h.is_skeleton at s seen (store_with o.state.tree s o.names c (granted_in o) is);
-  seen_then = λ at s seen is. h.seen_then at s seen (store_with o.state.tree s o.names c (granted_in o) is);
   has_room = h.has_room;
   begins = h.begins;
   stays_told = h.stays_told;
   starts_as = h.starts_as;
   payload_is = λ keys at other after held is. h.payload_is keys at other after (held_still keys at.keys o.ring d h.starts held) is;
-  keys_then = λ keys at other after held can is. h.keys_then keys at other after (held_still keys at.keys o.ring d h.starts held) can is;
+}
+
+carried_before : (r : Request) (drawn : List (List ℕ)) (o new : OwnerView) (was shows : Option (List ℕ)) (a b c d : ℕ) → IsCarriedOut r drawn (with_room o a b c d) new was shows → IsCarriedOut r drawn o new was shows
+unfolding tree_store sealed_before
+carried_before r drawn o new was shows a b c d h = record {
+  sealed = sealed_before r drawn o was a b c d h.sealed;
+  ends = h.ends;
+  same_key = h.same_key;
+  same_bound = h.same_bound;
+  seen_then = λ at s seen is. h.seen_then at s seen (store_with o.state.tree s o.names c (granted_in o) is);
+  keys_then = λ keys at other after held can is. h.keys_then keys at other after (held_still keys at.keys o.ring d h.sealed.starts held) can is;
   ends_as = h.ends_as;
   commits = h.commits;
   same_owner = h.same_owner;
@@ -202,6 +208,14 @@ carried_before r drawn o new was shows a b c d h = record {
   same_limit = h.same_limit;
   titles_then = λ s tree. titles_before s r o.names new.names c (h.titles_then s tree);
 }
+
+interrupted_before : (r : Request) (drawn : List (List ℕ)) (o : OwnerView) (was shows : Option (List ℕ)) (a b c d : ℕ) → IsInterrupted r drawn (with_room o a b c d) was shows → IsInterrupted r drawn o was shows
+unfolding sealed_before
+interrupted_before r drawn o was shows a b c d (inl early) = inl early
+interrupted_before r drawn o was shows a b c d (inr late) = inr (sealed_before r drawn o was a b c d late.0, late.1)
+
+pub interrupted_from : (r : Request) (drawn : List (List ℕ)) (old between : OwnerView) (was shows : Option (List ℕ)) → HasOtherRoom old between → IsInterrupted r drawn between was shows → IsInterrupted r drawn old was shows
+interrupted_from r drawn old between was shows h c = interrupted_before r drawn old was shows _ _ _ _ (subst (λ (o : OwnerView). IsInterrupted r drawn o was shows) (has_room old between h) c)
 
 pub carried_from : (r : Request) (drawn : List (List ℕ)) (old between new : OwnerView) (was shows : Option (List ℕ)) → HasOtherRoom old between → IsCarriedOut r drawn between new was shows → IsCarriedOut r drawn old new was shows
 carried_from r drawn old between new was shows h c = carried_before r drawn old new was shows _ _ _ _ (subst (λ (o : OwnerView). IsCarriedOut r drawn o new was shows) (has_room old between h) c)

@@ -1,5 +1,5 @@
 -- An owner of a journal who carries out a command goes on as the owner of the journal with it.
-use Rattle.std.proofs.Common.{◌≡◌, ℕ, ◌+◌, ◌*◌, ◌≤◌, ◌<◌, ◌^◌, Bool, true, false, cond, not, List, [], ◌∷◌, ◌++◌, length, replicate, Option, Some, None, All, append-nil, arith, refl, sym, ap, subst, ◌∙◌}
+use Rattle.std.proofs.Common.{◌≡◌, ℕ, ◌+◌, ◌≤◌, Bool, true, false, cond, not, List, [], ◌∷◌, ◌++◌, length, replicate, Option, Some, None, append-nil, arith, refl, sym, ap, subst, ◌∙◌}
 use Rattle.std.specs.Prelude.{is_some, nat_lt}
 use Rattle.std.proofs.lemmas.Bool.{ltb-false}
 use Rattle.chacha_seal.specs.Keys.{KeyParts}
@@ -8,7 +8,7 @@ use Rattle.chacha_seal.specs.Serials.{Counting}
 use Rattle.commit_journal.specs.Image.{Batch}
 use Rattle.commit_journal.specs.Journals.{IsJournalOf, Joins, JournalState, next_command, next_epoch as epoch_batch}
 use Rattle.commit_journal.specs.Laws.{batch_of}
-use Rattle.commit_journal.specs.Placed.{PlainBody, Commands}
+use Rattle.commit_journal.specs.Placed.{Commands}
 use Rattle.commit_journal.specs.Standing.{StandsWhole}
 use Rattle.cry_io.specs.Told.{WhereBothTold}
 use Rattle.cry_base.specs.Refusing.{refusal_of}
@@ -25,9 +25,7 @@ use Rattle.key_links.specs.Ringed.{Ringed}
 use Rattle.move_plan.specs.Change.{Change}
 use Rattle.move_plan.specs.Fitting.{public_of}
 use Rattle.move_plan.specs.Noting.{note_of}
-use Rattle.record_format.specs.Noted.{Note}
 use Rattle.record_format.specs.Spelling.{spell_payload}
-use Rattle.record_format.specs.Told.{told_note}
 use Rattle.public_fold.specs.Changing.{tree_then}
 use Rattle.public_fold.specs.Fitted.{told_stand, told_step}
 use Rattle.public_fold.specs.Heads.{IsSkeleton}
@@ -44,21 +42,20 @@ use Rattle.public_fold.proofs.Counting.{journal_counted}
 use Rattle.public_fold.proofs.Keeping.{journal_tree}
 use Rattle.public_fold.proofs.Prefixes.{stand_after-append}
 use Rattle.public_fold.proofs.SerialsKept.{journal_count}
-use Rattle.store_owner.specs.Applying.{IsCarriedOut, journal_then, sealed_text}
+use Rattle.store_owner.specs.Applying.{IsCarriedOut, IsSealed, journal_then, sealed_text}
 use Rattle.store_owner.specs.Bytes.{batches_of, entry_body, step_payload}
 use Rattle.store_owner.specs.Folds.{public_stand}
 use Rattle.store_owner.specs.Keys.{AreWhole, all_keys}
 use Rattle.store_owner.specs.Notes.{declared_note}
 use Rattle.store_owner.specs.Owned.{IsOwnerOf, OwnerView, counting, limits_in}
-use Rattle.store_owner.specs.Owning.{IsStoreOf, IsTreeOf}
+use Rattle.store_owner.specs.Owning.{IsTreeOf}
 use Rattle.store_owner.specs.Script.{answer, answer_with, draws_of, due_end}
-use Rattle.store_owner.specs.Sealing.{HoldsKeys, IsSealable, IsTold, keys_with}
-use Rattle.store_owner.specs.Sound.{granted_in}
-use Rattle.store_owner.specs.Texting.{due_key, due_text}
+use Rattle.store_owner.specs.Sealing.{HoldsKeys, IsSealable, IsTold}
+use Rattle.store_owner.specs.Texting.{due_key}
 use Rattle.store_owner.proofs.DueTexts.{due_same, sealed}
 use Rattle.store_owner.proofs.Measured.{draws_told, skeleton_is}
 use Rattle.store_owner.proofs.NewTitles.{AreBelow}
-use Rattle.store_owner.proofs.NextBatches.{batches_then, epoch_of, keys_between, keys_drawn}
+use Rattle.store_owner.proofs.NextBatches.{batches_then, epoch_of, keys_drawn}
 use Rattle.store_owner.proofs.NextEntry.{between, stand_between}
 use Rattle.store_owner.proofs.NextValid.{between_valid, next_valid, next_whole}
 use Rattle.store_owner.proofs.NotesDeclared.{told_back}
@@ -82,6 +79,9 @@ unfolding answer store_of
 not_refused m r o fine =
     let both = answered (refusal_of (stand_after nothing m).store r o.file_bytes) (nat_lt o.journal.limit (due_end m o.journal.has_epoch r)) fine in
     (both.0, ltb-false o.journal.limit (due_end m o.journal.has_epoch r) both.1)
+
+pub ends_low_is : (m : Journal) (r : Request) (o : OwnerView) → o.journal.limit ≤ 268435456 → answer (limits_in o) m o.journal.has_epoch r ≡ None → due_end m o.journal.has_epoch r ≤ 268435456
+ends_low_is m r o low fine = let end = (not_refused m r o fine).1 in omega (arith, end, low)
 
 -- ---- what is seen of a stand
 
@@ -157,12 +157,12 @@ begun_shown true owner m ready then was showed begins stands = λ x y e f whole.
 begun_shown false owner m ready then was showed begins stands = λ x y e f whole.
     subst (λ bs. StandsWhole ready.owner bs y) (sym (batches_then owner m Session ready stands)) (begins.0.shown (batches_of owner m) stands x y e f whole)
 
-told_some : (o : Option (List ℕ)) → is_some o ≡ true → (x : List ℕ) × (o ≡ Some x)
+pub told_some : (o : Option (List ℕ)) → is_some o ≡ true → (x : List ℕ) × (o ≡ Some x)
 told_some None = λ e. absurd cc
 told_some (Some x) = λ e. (x, refl)
 
-module _ (m : Journal) (r : Request) (drawn : List (List ℕ)) (old new : OwnerView) (was shows : Option (List ℕ)) (is : IsOwnerOf m old) (low : old.journal.limit ≤ 268435456) (bound : old.file_bytes ≤ 1048576)
-    (fine : answer (limits_in old) m old.journal.has_epoch r ≡ None) (done : IsCarriedOut r drawn old new was shows) where
+module _ (m : Journal) (r : Request) (drawn : List (List ℕ)) (old : OwnerView) (was : Option (List ℕ)) (is : IsOwnerOf m old) (low : old.journal.limit ≤ 268435456) (bound : old.file_bytes ≤ 1048576)
+    (fine : answer (limits_in old) m old.journal.has_epoch r ≡ None) (done : IsSealed r drawn old was) where
   abbrev at : Stand
   at = begun (not old.journal.has_epoch) (stand_after nothing m)
 
@@ -202,18 +202,18 @@ module _ (m : Journal) (r : Request) (drawn : List (List ℕ)) (old new : OwnerV
   told = record { can_be_sealed = sealable; is_skeleton = step_skeleton; is_text = text_is }
 
   -- the journal
-  ready_stands : IsJournalOf (batches_of old.key m) done.ready
+  pub ready_stands : IsJournalOf (batches_of old.key m) done.ready
   ready_stands =
       subst (IsJournalOf (batches_of old.key m)) (sym done.has_room)
       (record { batches = is.stands.batches; epoch = is.stands.epoch; end = is.stands.end; tag = is.stands.tag })
 
-  between_stands : IsJournalOf (batches_of old.key (between m old.journal.has_epoch)) done.between
+  pub between_stands : IsJournalOf (batches_of old.key (between m old.journal.has_epoch)) done.between
   between_stands = begun_stands old.journal.has_epoch old.key m done.ready done.between was done.showed done.begins ready_stands
 
   ready_owner : done.ready.owner ≡ old.key
   ready_owner = ap (λ (j : JournalState). j.owner) done.has_room ∙ is.same_key
 
-  between_owner : done.between.owner ≡ old.key
+  pub between_owner : done.between.owner ≡ old.key
   between_owner = begun_owner old.journal.has_epoch done.ready done.between was done.showed done.begins ∙ ready_owner
 
   between_epoch : done.between.epoch ≡ at.keys.epoch
@@ -234,7 +234,7 @@ module _ (m : Journal) (r : Request) (drawn : List (List ℕ)) (old new : OwnerV
       ∙ ap (λ note. step_payload (all_keys old.key (journal_then m old.journal.has_epoch r drawn)) note (entry_step at (Did r drawn)))
       (sym (told_back done.note) ∙ ap declared_note (done.told (store_of m) (store_kept m old is)))
 
-  batches_are : batches_of old.key (journal_then m old.journal.has_epoch r drawn)
+  pub batches_are : batches_of old.key (journal_then m old.journal.has_epoch r drawn)
       ≡ batches_of old.key (between m old.journal.has_epoch) ++ next_command done.between (spell_payload done.payload) ∷ []
   unfolding entry_body store_of
   batches_are =
@@ -244,11 +244,23 @@ module _ (m : Journal) (r : Request) (drawn : List (List ℕ)) (old new : OwnerV
       ∙ ap (λ a. bs ++ batch_of done.between.batches done.between.epoch (entry_body keys a (Did r drawn)) ∷ []) (stand_between m old.journal.has_epoch)
       ∙ ap (λ p. bs ++ batch_of done.between.batches done.between.epoch (Commands p) ∷ []) (sym payload_are)
 
+  -- the disk, once the session is begun
+  pub between_shown : WhereBothTold was done.showed (λ x y. StandsWhole old.key (batches_of old.key m) x → StandsWhole done.between.owner (batches_of old.key (between m old.journal.has_epoch)) y)
+  between_shown = λ x y e f whole.
+      let bs = batches_of old.key (between m old.journal.has_epoch) in
+      subst (λ key. StandsWhole key bs y) (ready_owner ∙ sym between_owner)
+      (begun_shown old.journal.has_epoch old.key m done.ready done.between was done.showed done.begins ready_stands x y e f
+      (subst (λ key. StandsWhole key (batches_of old.key m) x) (sym ready_owner) whole))
+
+-- ---- what is committed
+
+module _ (m : Journal) (r : Request) (drawn : List (List ℕ)) (old new : OwnerView) (was shows : Option (List ℕ)) (is : IsOwnerOf m old) (low : old.journal.limit ≤ 268435456) (bound : old.file_bytes ≤ 1048576)
+    (fine : answer (limits_in old) m old.journal.has_epoch r ≡ None) (out : IsCarriedOut r drawn old new was shows) where
   stands_then : IsJournalOf (batches_of old.key (journal_then m old.journal.has_epoch r drawn)) new.journal
-  stands_then = subst (λ bs. IsJournalOf bs new.journal) (sym batches_are) (done.commits.stands (batches_of old.key (between m old.journal.has_epoch)) between_stands)
+  stands_then = subst (λ bs. IsJournalOf bs new.journal) (sym (batches_are m r drawn old was is low bound fine out.sealed)) (out.commits.stands (batches_of old.key (between m old.journal.has_epoch)) (between_stands m r drawn old was is low bound fine out.sealed))
 
   -- the store and the keys
-  stand_is : stand_after nothing (journal_then m old.journal.has_epoch r drawn) ≡ stand_then at (Did r drawn)
+  stand_is : stand_after nothing (journal_then m old.journal.has_epoch r drawn) ≡ stand_then (at m r drawn old was is low bound fine out.sealed) (Did r drawn)
   unfolding stand_after
   stand_is = stand_after-append nothing (between m old.journal.has_epoch) (Did r drawn ∷ []) ∙ ap (λ a. stand_then a (Did r drawn)) (stand_between m old.journal.has_epoch)
 
@@ -257,12 +269,12 @@ module _ (m : Journal) (r : Request) (drawn : List (List ℕ)) (old new : OwnerV
   public_is =
       ap (λ (a : Stand). record { store = public_of a.store; keys = a.keys }) stand_is
       ∙ (λ i. record {
-        store = accepted_told (store_of m) r (first_key drawn) (replicate 32 0) old.file_bytes accepted_is i;
-        keys = sym (told_keys at r (replicate 32 0) drawn old.file_bytes accepted_is) i;
+        store = accepted_told (store_of m) r (first_key drawn) (replicate 32 0) old.file_bytes (accepted_is m r drawn old was is low bound fine out.sealed) i;
+        keys = sym (told_keys (at m r drawn old was is low bound fine out.sealed) r (replicate 32 0) drawn old.file_bytes (accepted_is m r drawn old was is low bound fine out.sealed)) i;
       })
 
   seen_then : IsSeenAs new.state (public_stand (journal_then m old.journal.has_epoch r drawn))
-  seen_then = subst (IsSeenAs new.state) (sym public_is) (done.seen_then (public_stand m) (store_of m) is.seen (store_kept m old is))
+  seen_then = subst (IsSeenAs new.state) (sym public_is) (out.seen_then (public_stand m) (store_of m) is.seen (store_kept m old is))
 
   tree_is : IsTreeOf (tree_store new.state.tree new.names) (store_of (journal_then m old.journal.has_epoch r drawn))
   unfolding public_stand store_of told_stand stand_then entry_store
@@ -275,44 +287,42 @@ module _ (m : Journal) (r : Request) (drawn : List (List ℕ)) (old new : OwnerV
       tree_on new.state.tree (told_store (public_of s) note) (tree_then old.state.tree note) (tree_back (told_store (public_of s) note) new.state.tree after)
       (told_tree (public_of s) old.state.tree note before)
       in
-      let whole = joined old.state.tree s old.names new.names (seen_below m old.state.tree before) is.tree r (first_key drawn) (replicate 32 0) (accepted s r old.file_bytes accepted_is)
-      (journal_tree m is.valid) (done.titles_then s is.tree)
+      let whole = joined old.state.tree s old.names new.names (seen_below m old.state.tree before) is.tree r (first_key drawn) (replicate 32 0) (accepted s r old.file_bytes (accepted_is m r drawn old was is low bound fine out.sealed))
+      (journal_tree m is.valid) (out.titles_then s is.tree)
       in
       subst (IsTreeOf (tree_store new.state.tree new.names)) (sym (ap (λ (a : Stand). a.store) stand_is))
       (tree_on (tree_store new.state.tree new.names) (tree_store (tree_then old.state.tree note) new.names) (effect s r (first_key drawn))
       (titled_tree new.state.tree (tree_then old.state.tree note) new.names same) whole)
 
-  holds_then : HoldsKeys (all_keys old.key (journal_then m old.journal.has_epoch r drawn)) (keys_of (journal_then m old.journal.has_epoch r drawn)) new.ring done.ends
+  holds_then : HoldsKeys (all_keys old.key (journal_then m old.journal.has_epoch r drawn)) (keys_of (journal_then m old.journal.has_epoch r drawn)) new.ring out.ends
   unfolding keys_of stand_then entry_step note_step store_of
   holds_then =
-      let step = entry_step at (Did r drawn) in
-      subst (λ (k : KeyState). HoldsKeys (all_keys old.key (journal_then m old.journal.has_epoch r drawn)) k new.ring done.ends) (sym (ap (λ (a : Stand). a.keys) stand_is))
-      (subst (λ keys. HoldsKeys keys step.after new.ring done.ends) (keys_drawn old.key m old.journal.has_epoch r drawn)
-      (done.keys_then (all_keys old.key m) at (note_of (store_of m) r []) (effect (store_of m) r (first_key drawn)) holds_at sealable step_skeleton))
+      let step = entry_step (at m r drawn old was is low bound fine out.sealed) (Did r drawn) in
+      subst (λ (k : KeyState). HoldsKeys (all_keys old.key (journal_then m old.journal.has_epoch r drawn)) k new.ring out.ends) (sym (ap (λ (a : Stand). a.keys) stand_is))
+      (subst (λ keys. HoldsKeys keys step.after new.ring out.ends) (keys_drawn old.key m old.journal.has_epoch r drawn)
+      (out.keys_then (all_keys old.key m) (at m r drawn old was is low bound fine out.sealed) (note_of (store_of m) r []) (effect (store_of m) r (first_key drawn)) (holds_at m r drawn old was is low bound fine out.sealed) (sealable m r drawn old was is low bound fine out.sealed) (step_skeleton m r drawn old was is low bound fine out.sealed)))
 
   pub owner_then : IsOwnerOf (journal_then m old.journal.has_epoch r drawn) new
   owner_then =
       let after = journal_then m old.journal.has_epoch r drawn in
-      let back = sym done.same_key in
+      let back = sym out.same_key in
       record {
-        valid = valid_then;
-        whole_keys = subst (λ key. AreWhole key after) back (next_whole old.key m old.journal.has_epoch r drawn is.whole_keys done.drawn_sizes);
-        same_key = done.same_owner ∙ between_owner ∙ back;
+        valid = (valid_then m r drawn old was is low bound fine out.sealed);
+        whole_keys = subst (λ key. AreWhole key after) back (next_whole old.key m old.journal.has_epoch r drawn is.whole_keys out.sealed.drawn_sizes);
+        same_key = out.same_owner ∙ (between_owner m r drawn old was is low bound fine out.sealed) ∙ back;
         stands = subst (λ key. IsJournalOf (batches_of key after) new.journal) back stands_then;
         seen = seen_then;
         tree = tree_is;
         holds = subst (λ key. HoldsKeys (all_keys key after) (keys_of after) new.ring (counting (keys_of after))) back
             (subst (HoldsKeys (all_keys old.key after) (keys_of after) new.ring) holds_then.is_counted holds_then);
-        counts = done.ends_as ∙ ap Some holds_then.is_counted ∙ ap (λ b. cond b (Some (counting (keys_of after))) None) (sym done.has_begun);
+        counts = out.ends_as ∙ ap Some holds_then.is_counted ∙ ap (λ b. cond b (Some (counting (keys_of after))) None) (sym out.has_begun);
       }
 
   pub disk_then : WhereBothTold was shows (λ x y. StandsWhole old.key (batches_of old.key m) x → StandsWhole old.key (batches_of old.key (journal_then m old.journal.has_epoch r drawn)) y)
   disk_then = λ x y e f whole.
       let bs = batches_of old.key (between m old.journal.has_epoch) in
-      let some = told_some done.showed (done.stays_told ∙ ap (λ (o : Option (List ℕ)). is_some o) e) in
-      let first = begun_shown old.journal.has_epoch old.key m done.ready done.between was done.showed done.begins ready_stands x some.0 e some.1
-      (subst (λ key. StandsWhole key (batches_of old.key m) x) (sym ready_owner) whole)
-      in
-      let last = done.commits.shown bs between_stands some.0 y some.1 f (subst (λ key. StandsWhole key bs some.0) (ready_owner ∙ sym between_owner) first) in
-      subst (λ (bs : List Batch). StandsWhole old.key bs y) (sym batches_are)
-      (subst (λ key. StandsWhole key (bs ++ next_command done.between (spell_payload done.payload) ∷ []) y) between_owner last)
+      let some = told_some out.sealed.showed (out.sealed.stays_told ∙ ap (λ (o : Option (List ℕ)). is_some o) e) in
+      let first = between_shown m r drawn old was is low bound fine out.sealed x some.0 e some.1 whole in
+      let last = out.commits.shown bs (between_stands m r drawn old was is low bound fine out.sealed) some.0 y some.1 f first in
+      subst (λ (bs : List Batch). StandsWhole old.key bs y) (sym (batches_are m r drawn old was is low bound fine out.sealed))
+      (subst (λ key. StandsWhole key (bs ++ next_command out.sealed.between (spell_payload out.sealed.payload) ∷ []) y) (between_owner m r drawn old was is low bound fine out.sealed) last)

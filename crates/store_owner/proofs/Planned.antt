@@ -1,5 +1,5 @@
 -- What a planned command is answered: accepted, or that the store is too full.
-use Rattle.std.proofs.Common.{◌≡◌, ℕ, ◌+◌, ◌*◌, ◌^◌, ◌≤◌, ◌<◌, ◌⊎◌, ⊎_elim, inl, inr, Bool, true, false, nat_lt, not, List, ◌++◌, length, replicate, Option, Some, None, arith, refl, sym, ap, subst, ◌∙◌}
+use Rattle.std.proofs.Common.{◌≡◌, ℕ, ◌+◌, ◌^◌, ◌≤◌, ◌<◌, ◌⊎◌, ⊎_elim, Bool, true, false, nat_lt, not, List, ◌++◌, length, replicate, Some, None, arith, ap, subst, ◌∙◌}
 use Rattle.std.proofs.lemmas.Bool.{le-ltb, lt-ltb}
 use Rattle.commit_journal.specs.Journals.{end_with}
 use Rattle.cry_base.specs.Refusing.{refusal_of}
@@ -9,7 +9,6 @@ use Rattle.cry_base.specs.declared.commands.Refusal.TheVariants.{Full}
 use Rattle.folder_nodes.specs.Titles.{tree_store}
 use Rattle.move_plan.specs.Noting.{note_of}
 use Rattle.record_format.specs.Noted.{Note}
-use Rattle.record_format.specs.Told.{told_note}
 use Rattle.public_fold.specs.Fitted.{told_step}
 use Rattle.public_fold.specs.Heads.{IsSkeleton}
 use Rattle.public_fold.specs.Journal.{Journal, store_of}

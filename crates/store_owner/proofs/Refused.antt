@@ -1,8 +1,7 @@
 -- Why a command is refused in the store that a tree, its names and the grants tell of: the tree's causes, and then those of grants.
-use Rattle.std.proofs.Common.{◌≡◌, ℕ, Bool, true, false, cond, List, [], ◌∷◌, map, length, Option, Some, None, Result, Ok, Err, refl, sym, ap, ◌∙◌}
+use Rattle.std.proofs.Common.{◌≡◌, ℕ, Bool, true, false, List, [], ◌∷◌, Option, Some, None, Ok, Err, refl, sym, ap, ◌∙◌}
 use Rattle.std.specs.Prelude.{find, option_map}
-use Rattle.cry_base.specs.Naming.{is_path}
-use Rattle.cry_base.specs.Refusing.{is_folder, is_file, id_of, has_bad_name, has_no_place, finds_no_path, changes_root, needs_folder, writes_folder, holds_name, parent_of, name_of, finds_name_taken, has_child, removes_children, moves_into_itself, is_node_within, deepest, height_of, depth_at, goes_too_deep, finds_no_holder, grants_again, revokes_nothing, is_too_long, causes, refusal_of}
+use Rattle.cry_base.specs.Refusing.{id_of, has_bad_name, has_no_place, finds_no_path, changes_root, needs_folder, writes_folder, holds_name, parent_of, name_of, finds_name_taken, has_child, removes_children, moves_into_itself, is_node_within, deepest, height_of, depth_at, goes_too_deep, finds_no_holder, grants_again, revokes_nothing, is_too_long, causes, refusal_of}
 use Rattle.cry_base.specs.Requests.{Request, paths_of}
 use Rattle.cry_base.specs.Requests.Request.{AddHolder, MakeFolder, WriteFile, Remove, Rename, Relocate, Grant, Revoke}
 use Rattle.cry_base.specs.Store.{Store, FolderEntry, FileEntry, GrantEntry, no_store, folder_entry, file_entry, folder_names, file_names, node_names, path_of, depth_of, nodes_of, node_at, way_to_root, is_within, folder_node, file_node}

@@ -1,6 +1,5 @@
 -- What a change of names makes of them, and when it can be made.
-use Rattle.std.proofs.Common.{◌≡◌, ℕ, ◌+◌, ◌≤◌, false, List, [], ◌∷◌, Option, Some, None, inr, refl, sym, ap, ◌∙◌, subst}
-use Rattle.cry_base.specs.Naming.{is_name}
+use Rattle.std.proofs.Common.{◌≡◌, ℕ, ◌+◌, ◌≤◌, false, List, [], Option, Some, None, inr, sym, subst}
 use Rattle.cry_base.specs.Refusing.{has_bad_name}
 use Rattle.cry_base.specs.Requests.{Request}
 use Rattle.cry_base.specs.Requests.Request.{AddHolder, MakeFolder, WriteFile, Remove, Rename, Relocate, Grant, Revoke}

@@ -1,5 +1,5 @@
 -- The root's step can be sealed by a ring that has the owner's key alone.
-use Rattle.std.proofs.Common.{◌≡◌, ⊎_elim, ℕ, ◌+◌, ◌≤◌, ◌<◌, true, false, cond, List, [], ◌∷◌, ◌++◌, length, Some, None, append-nil, arith, refl, sym, ap, subst, ◌∙◌}
+use Rattle.std.proofs.Common.{◌≡◌, ⊎_elim, ℕ, ◌≤◌, ◌<◌, true, false, cond, List, [], ◌∷◌, length, Some, None, append-nil, arith, refl, sym, ap, subst, ◌∙◌}
 use Rattle.chacha_seal.specs.Keys.{KeyParts}
 use Rattle.chacha_seal.specs.Serials.{Counting}
 use Rattle.cry_base.specs.Sets.{In}
@@ -11,7 +11,6 @@ use Rattle.std.specs.Option.{option_map}
 use Rattle.record_format.specs.Noted.Note.{Root}
 use Rattle.record_format.specs.Spellable.{longest_text, shortest_text}
 use Rattle.record_format.specs.declared.note.Note.TheVariants as declared
-use Rattle.record_format.specs.Told.{told_note}
 use Rattle.role_graph.specs.Roles.{role_id, same_role}
 use Rattle.role_graph.proofs.Comparing.{same_role_tells}
 use Rattle.role_graph.specs.Edges.{edges}

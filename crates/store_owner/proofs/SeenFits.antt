@@ -1,6 +1,6 @@
 -- Whether a note fits a store hangs on nothing that everyone may not see.
-use Rattle.std.proofs.Common.{◌≡◌, ℕ, ◌+◌, Bool, true, false, not, ◌==◌, ◌&&◌, ◌||◌, List, [], ◌∷◌, map, Option, Some, None, refl, sym, ap, ◌∙◌}
-use Rattle.std.specs.Prelude.{is_some, nat_lt, nat_le, find}
+use Rattle.std.proofs.Common.{◌≡◌, ℕ, ◌+◌, not, ◌==◌, ◌&&◌, ◌||◌, [], Option, Some, None, refl, ap, ◌∙◌}
+use Rattle.std.specs.Prelude.{is_some, nat_lt, nat_le}
 use Rattle.std.specs.Option.{option_map}
 use Rattle.cry_base.specs.Refusing.{deepest, has_child, height_of, is_node_within}
 use Rattle.cry_base.specs.Store.{Store, FolderEntry, FileEntry, HolderEntry, depth_of, file_entry, file_names, file_node, folder_entry, folder_names, folder_node, has_grant, holder_entry, is_within, node_names, nodes_of, way_to_root}

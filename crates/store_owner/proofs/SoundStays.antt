@@ -273,7 +273,7 @@ held_on false keys at old starts between new held low same was is more joined =
 
 -- the keys behind the command, by the counter that the owner then has
 keys_on : (r : Request) (drawn : List (List ℕ)) (old new : OwnerView) (was shows : Option (List ℕ)) (out : IsCarriedOut r drawn old new was shows) (keys : List KeyParts) (at : Stand) (note : Note)
-    → HoldsKeys keys at.keys old.ring out.starts → IsSealable (told_step at note) → IsSkeleton (told_step at note) out.skeleton
+    → HoldsKeys keys at.keys old.ring out.sealed.starts → IsSealable (told_step at note) → IsSkeleton (told_step at note) out.sealed.skeleton
     → HoldsKeys (keys_with keys (told_step at note) drawn) (told_stand at note).keys new.ring out.ends
 unfolding told_step told_stand
 keys_on r drawn old new was shows out keys at note held can skeleton = out.keys_then keys at note (told_store at.store note) held can skeleton
@@ -293,8 +293,8 @@ stays_sound r drawn old new was shows sound good none fits out batches epoch =
     let fit = fits first sound.seen in
     let after = told_stand at note in
     let stands : after ≡ turns_stand nothing (sound.turns ++ session_turns has note) = sym (stand_after_turns nothing sound.turns (session_turns has note) ∙ session_stand has first note) in
-    let held = held_on has sound.keys first old out.starts out.between.epoch new.journal.epoch sound.held (count_low sound.turns sound.fit) sound.same_epoch sound.counts out.starts_as epoch out.same_epoch in
-    let holds = keys_on r drawn old new was shows out sound.keys at note held (begun_sealable (not has) sound.turns note sound.fit fit) (out.is_skeleton first (own_store old) sound.seen (own_kept old)) in
+    let held = held_on has sound.keys first old out.sealed.starts out.sealed.between.epoch new.journal.epoch sound.held (count_low sound.turns sound.fit) sound.same_epoch sound.counts out.sealed.starts_as epoch out.same_epoch in
+    let holds = keys_on r drawn old new was shows out sound.keys at note held (begun_sealable (not has) sound.turns note sound.fit fit) (out.sealed.is_skeleton first (own_store old) sound.seen (own_kept old)) in
     let numbered = sound.numbered in
     let long = length-append sound.turns (session_turns has note) ∙ ap (λ n. length sound.turns + n) (session_long has note) in
     record {

@@ -1,6 +1,6 @@
 -- The text of what a path finds, from the names and bytes that are kept beside the tree.
-use Rattle.std.proofs.Common.{◌≡◌, ℕ, ◌==◌, List, [], Option, Some, None, refl, sym, ap, ◌∙◌}
-use Rattle.std.specs.Prelude.{IsSome, find, option_map}
+use Rattle.std.proofs.Common.{◌≡◌, ℕ, List, [], Option, Some, None, refl, sym, ap, ◌∙◌}
+use Rattle.std.specs.Prelude.{IsSome, option_map}
 use Rattle.std.proofs.lemmas.Bool.{false≢true}
 use Rattle.cry_base.specs.Store.{Store, FileEntry, file_entry, node_at}
 use Rattle.cry_base.specs.declared.ids.FileId.{FileId}

@@ -2,7 +2,7 @@
 use Rattle.std.proofs.Common.{◌≡◌, ℕ, ◌+◌, false, cond, not, ◌==◌, ◌||◌, List, [], ◌∷◌, ◌++◌, map, filter, Option, Some, None, refl, sym, ap, ◌∙◌, subst}
 use Rattle.std.specs.Prelude.{find, is_none, option_map}
 use Rattle.std.proofs.lemmas.Bool.{false≢true, or_parts}
-use Rattle.cry_base.specs.Naming.{last_name, names_of, parent_path}
+use Rattle.cry_base.specs.Naming.{parent_path}
 use Rattle.cry_base.specs.Refusing.{finds_no_path, id_of, is_folder, writes_folder}
 use Rattle.cry_base.specs.Requests.{Request, paths_of}
 use Rattle.cry_base.specs.Requests.Request.{AddHolder, MakeFolder, WriteFile, Remove, Rename, Relocate, Grant, Revoke}

@@ -1,11 +1,12 @@
 -- What a command leaves of an owner and of the disk, and what is answered. This project's own, docs/FORMAT.md, "The key step"
 -- and "Committing".
-use Rattle.std.specs.Prelude.{◌≡◌, ◌<◌, ◌≤◌, ℕ, ◌+◌, ◌*◌, Bool, true, false, not, cond, List, [], ◌∷◌, ◌++◌, length, replicate, Option, Some, None, Result, Ok, Err, IsTrue, All, is_some}
+use Rattle.std.specs.Prelude.{◌≡◌, ◌⊎◌, ◌<◌, ◌≤◌, ℕ, ◌+◌, ◌*◌, Bool, true, false, not, cond, List, [], ◌∷◌, ◌++◌, length, replicate, Option, Some, None, Result, Ok, Err, IsTrue, All, is_some}
 use Rattle.std.specs.List.{flat_map}
 use Rattle.chacha_seal.specs.Keys.{KeyParts}
 use Rattle.chacha_seal.specs.Sealing.{check_of}
 use Rattle.chacha_seal.specs.Serials.{Counting}
-use Rattle.commit_journal.specs.Journals.{JournalState, Joins, next_command, next_epoch}
+use Rattle.commit_journal.specs.Holding.{IsBetween}
+use Rattle.commit_journal.specs.Journals.{JournalState, Joins, MayJoin, next_command, next_epoch}
 use Rattle.commit_journal.specs.Standing.{StandsWhole}
 use Rattle.cry_base.specs.Requests.{Request}
 use Rattle.cry_base.specs.Store.{Store}
@@ -31,6 +32,7 @@ use Rattle.public_fold.specs.declared.heads.Skeleton.{Skeleton}
 use Rattle.store_owner.specs.declared.apply_fault.ApplyFault.{ApplyFault}
 use Rattle.store_owner.specs.declared.apply_fault.ApplyFault.TheVariants as faults
 use Rattle.store_owner.specs.Bytes.{batches_of, step_payload}
+use Rattle.store_owner.specs.Journals.{StandsForJournal}
 use Rattle.store_owner.specs.Owned.{IsOwnerOf, OwnerView, limits_in}
 use Rattle.store_owner.specs.Owning.{IsStoreOf, IsTreeOf}
 use Rattle.cry_base.specs.declared.limits.Limits.{Limits}
@@ -62,10 +64,9 @@ pub record HasOtherRoom (old new : OwnerView) : Type 0 where
   pub counter : new.counter ≡ old.counter
   pub file_bytes : new.file_bytes ≡ old.file_bytes
 
--- What the calls that carry out a command leave, whatever the owner stands for: the note with the check of the drawn key; the
--- skeleton of its step; the journal with its room, and once the session has its epoch; the counter then, and at the end; the
--- payload that was sealed and committed.
-pub record IsCarriedOut (r : Request) (drawn : List (List ℕ)) (old new : OwnerView) (was shows : Option (List ℕ)) : Type 0 where
+-- What is sealed for a command, whatever the owner stands for, once the session has its epoch: the note with the check of the drawn
+-- key; the skeleton of its step; the payload; the journal with its room, and with its epoch; what the disk showed then; the counter.
+pub record IsSealed (r : Request) (drawn : List (List ℕ)) (old : OwnerView) (was : Option (List ℕ)) : Type 0 where
   pub note : Declared
   pub skeleton : Skeleton
   pub payload : PlainPayload
@@ -73,31 +74,43 @@ pub record IsCarriedOut (r : Request) (drawn : List (List ℕ)) (old new : Owner
   pub between : JournalState
   pub showed : Option (List ℕ)
   pub starts : Counting
-  pub ends : Counting
-  pub same_key : new.key ≡ old.key
-  pub same_bound : new.file_bytes ≡ old.file_bytes
   pub drawn_count : length drawn ≡ length skeleton.keys.items
   pub drawn_sizes : All (λ (key : List ℕ). length key ≡ 32) drawn
   pub told : (s : Store) → IsStoreOf old.state.tree old.names (granted_in old) s → told_note note ≡ note_of s r (check_of (first_key drawn))
   pub is_skeleton : (at : Stand) (s : Store) → IsSeenAs old.state at → IsStoreOf old.state.tree old.names (granted_in old) s
       → IsSkeleton (told_step (begun (not old.journal.has_epoch) at) (note_of s r (replicate 32 0))) skeleton
-  pub seen_then : (at : Stand) (s : Store) → IsSeenAs old.state at → IsStoreOf old.state.tree old.names (granted_in old) s
-      → IsSeenAs new.state (told_stand (begun (not old.journal.has_epoch) at) (note_of s r (replicate 32 0)))
   pub has_room : ready ≡ record old.journal { spare = ready.spare; room = ready.room }
   pub begins : cond old.journal.has_epoch ((between ≡ ready) × (showed ≡ was)) (Joins (next_epoch ready) ready between was showed × (between.owner ≡ ready.owner))
   pub stays_told : is_some showed ≡ is_some was
   pub starts_as : cond old.journal.has_epoch (old.counter ≡ Some starts) (starts ≡ record { epoch = between.epoch; count = 0 })
   pub payload_is : (keys : List KeyParts) (at : Stand) (other : Note) (after : Store) → HoldsKeys keys at.keys old.ring starts
       → IsTold (note_step at other after) skeleton (sealed_text old r drawn) → payload ≡ step_payload (keys_with keys (note_step at other after) drawn) note (note_step at other after)
-  pub keys_then : (keys : List KeyParts) (at : Stand) (other : Note) (after : Store) → HoldsKeys keys at.keys old.ring starts
-      → IsSealable (note_step at other after) → IsSkeleton (note_step at other after) skeleton → HoldsKeys (keys_with keys (note_step at other after) drawn) (note_step at other after).after new.ring ends
+
+-- What the calls that carry out a command leave, whatever the owner stands for: what was sealed is committed, and the owner goes on
+-- behind it, with the counter at the end.
+pub record IsCarriedOut (r : Request) (drawn : List (List ℕ)) (old new : OwnerView) (was shows : Option (List ℕ)) : Type 0 where
+  pub sealed : IsSealed r drawn old was
+  pub ends : Counting
+  pub same_key : new.key ≡ old.key
+  pub same_bound : new.file_bytes ≡ old.file_bytes
+  pub seen_then : (at : Stand) (s : Store) → IsSeenAs old.state at → IsStoreOf old.state.tree old.names (granted_in old) s
+      → IsSeenAs new.state (told_stand (begun (not old.journal.has_epoch) at) (note_of s r (replicate 32 0)))
+  pub keys_then : (keys : List KeyParts) (at : Stand) (other : Note) (after : Store) → HoldsKeys keys at.keys old.ring sealed.starts
+      → IsSealable (note_step at other after) → IsSkeleton (note_step at other after) sealed.skeleton → HoldsKeys (keys_with keys (note_step at other after) drawn) (note_step at other after).after new.ring ends
   pub ends_as : new.counter ≡ Some ends
-  pub commits : Joins (next_command between (spell_payload payload)) between new.journal showed shows
-  pub same_owner : new.journal.owner ≡ between.owner
-  pub same_epoch : new.journal.epoch ≡ between.epoch
+  pub commits : Joins (next_command sealed.between (spell_payload sealed.payload)) sealed.between new.journal sealed.showed shows
+  pub same_owner : new.journal.owner ≡ sealed.between.owner
+  pub same_epoch : new.journal.epoch ≡ sealed.between.epoch
   pub has_begun : new.journal.has_epoch ≡ true
   pub same_limit : new.journal.limit ≡ old.journal.limit
   pub titles_then : (s : Store) → IsTreeOf (tree_store old.state.tree old.names) s → AreTitlesAfter s r old.names new.names
+
+-- What a fault of the disk leaves of a command that was drawn: its epoch was not begun, as far as is known; or it was sealed, and not
+-- committed, as far as is known.
+abbrev pub IsInterrupted : Request → List (List ℕ) → OwnerView → Option (List ℕ) → Option (List ℕ) → Type 0
+IsInterrupted r drawn old was shows =
+    ((old.journal.has_epoch ≡ false) × ((ready : JournalState) × (ready ≡ record old.journal { spare = ready.spare; room = ready.room }) × MayJoin (next_epoch ready) ready was shows))
+    ⊎ ((sealed : IsSealed r drawn old was) × MayJoin (next_command sealed.between (spell_payload sealed.payload)) sealed.between sealed.showed shows)
 
 -- An accepted command of an owner who stands for a journal: it drew keys from the next random bytes, its reply has them in their
 -- places, the owner stands for the journal with the command, and so does the disk where it showed the journal.
@@ -120,6 +133,12 @@ abbrev pub why_refused : Reply → Option Refusal
 why_refused (replies.Refused why) = Some why
 why_refused reply = None
 
+-- A command that met a fault of the disk: where that showed the whole of the journal, it shows bytes that stand for the journal, or for
+-- it with the session begun, or with the command too, under some keys that it drew
+abbrev pub IsCutShort : Journal → Request → OwnerView → Option (List ℕ) → Option (List ℕ) → Type 0
+IsCutShort m r old was shows = (drawn : List (List ℕ)) × (length drawn ≡ draws_of m r)
+    × WhereBothTold was shows (λ x y. StandsWhole old.key (batches_of old.key m) x → IsBetween (StandsForJournal old.key) m (journal_then m old.journal.has_epoch r drawn) y)
+
 -- What a command is answered by an owner who stands for a journal. A refused one changes nothing; after a source that failed
 -- or ended, and for want of memory, the owner is as it was; after a disk that failed its journal is closed.
 abbrev pub Answers : Result Reply ApplyFault → Journal → Request → OwnerView → OwnerView → Option (List ℕ) → Option (List ℕ) → Option (List ℕ) → Option (List ℕ) → Type 0
@@ -129,7 +148,8 @@ Answers (Err (faults.RandomShort left need)) m r old new left_before left_after 
     (answer (limits_in old) m old.journal.has_epoch r ≡ None) × HasOtherRoom old new × (need ≡ 32 * draws_of m r) × (left < need)
     × WhereTold left_before (λ before. length before ≡ left) × WhereTold left_after (λ after. after ≡ [])
 Answers (Err faults.RandomFault) m r old new left_before left_after was shows = (answer (limits_in old) m old.journal.has_epoch r ≡ None) × HasOtherRoom old new
-Answers (Err faults.DiskFault) m r old new left_before left_after was shows = (answer (limits_in old) m old.journal.has_epoch r ≡ None) × IsTrue new.journal.is_closed
+Answers (Err faults.DiskFault) m r old new left_before left_after was shows =
+    (answer (limits_in old) m old.journal.has_epoch r ≡ None) × IsTrue new.journal.is_closed × IsCutShort m r old was shows
 Answers (Err faults.Closed) m r old new left_before left_after was shows = IsTrue old.journal.is_closed × (new ≡ old)
 Answers (Err faults.OutOfMemory) m r old new left_before left_after was shows = HasOtherRoom old new
 

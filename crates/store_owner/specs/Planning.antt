@@ -1,6 +1,6 @@
 -- What a command seals and changes, planned with all its memory before its keys are drawn. This project's own, docs/FORMAT.md,
 -- "The key step".
-use Rattle.std.specs.Prelude.{◌≡◌, ◌≤◌, ◌<◌, ◌+◌, ◌*◌, ◌^◌, ℕ, true, false, not, cond, Option, List, [], ◌∷◌, ◌++◌, length, replicate, Some, None, Result, Ok, Err}
+use Rattle.std.specs.Prelude.{◌≡◌, ◌≤◌, ◌<◌, ◌+◌, ◌*◌, ◌^◌, ℕ, true, false, not, cond, Option, List, [], ◌++◌, length, replicate, Some, None, Result, Ok, Err}
 use Rattle.chacha_seal.specs.Sealing.{check_of}
 use Rattle.chacha_seal.specs.Serials.{Counting}
 use Rattle.commit_journal.specs.Journals.{JournalState, Joins, end_with, next_epoch}

@@ -1,5 +1,6 @@
 //! Laws of an owner who stands for a journal: what a command takes, and how the owner goes on behind it.
 ghost use Rattle.std.specs.Prelude.{◌≡◌, ◌*◌, ◌++◌, ◌<◌, ◌^◌, ◌≤◌, ℕ, List, None, Option, false, length, not, replicate};
+ghost use Rattle.commit_journal.specs.Holding.{IsBetween};
 ghost use Rattle.commit_journal.specs.Journals.{end_with};
 ghost use Rattle.commit_journal.specs.Standing.{StandsWhole};
 ghost use Rattle.cry_base.specs.Refusing.{refusal_of};
@@ -13,9 +14,10 @@ ghost use Rattle.public_fold.specs.Journal.{Journal, store_of};
 ghost use Rattle.public_fold.specs.Preparing.{begun};
 ghost use Rattle.public_fold.specs.StandFits.{note_fits};
 ghost use Rattle.public_fold.specs.declared.heads.Skeleton.{Skeleton};
-ghost use Rattle.store_owner.specs.Applying.{IsCarriedOut, journal_then, skeleton_size};
+ghost use Rattle.store_owner.specs.Applying.{IsCarriedOut, IsInterrupted, journal_then, skeleton_size};
 ghost use Rattle.store_owner.specs.Bytes.{batches_of};
 ghost use Rattle.store_owner.specs.Folds.{public_stand};
+ghost use Rattle.store_owner.specs.Journals.{StandsForJournal};
 ghost use Rattle.store_owner.specs.Owned.{IsOwnerOf, OwnerView, limits_in};
 ghost use Rattle.store_owner.specs.Script.{answer, draws_of, due_end, due_payload};
 ghost use Rattle.store_owner.specs.Texting.{due_key, due_text};
@@ -30,6 +32,16 @@ pub fn owners_go_on()
         → old.journal.limit ≤ 268435456 → old.file_bytes ≤ 1048576 → answer (limits_in old) m old.journal.has_epoch r ≡ None
         → IsCarriedOut r drawn old new was shows
         → WhereBothTold was shows (λ x y. StandsWhole old.key (batches_of old.key m) x → StandsWhole old.key (batches_of old.key (journal_then m old.journal.has_epoch r drawn)) y) }
+{}
+
+/// Law: where an owner who stands for a journal met a fault of the disk in a command that is accepted there, and the disk showed the
+/// whole of the journal, it shows bytes that stand for the journal, or for it with the session begun, or with the command too.
+pub fn interrupted_commands_leave_a_journal()
+    ensures { (m : Journal) (r : Request) (drawn : List (List ℕ)) (old : OwnerView) (was shows : Option (List ℕ)) → IsOwnerOf m old
+        → old.journal.limit ≤ 268435456 → old.file_bytes ≤ 1048576 → answer (limits_in old) m old.journal.has_epoch r ≡ None
+        → IsInterrupted r drawn old was shows
+        → WhereBothTold was shows (λ x y. StandsWhole old.key (batches_of old.key m) x
+        → IsBetween (StandsForJournal old.key) m (journal_then m old.journal.has_epoch r drawn) y) }
 {}
 
 /// Law: the skeleton that an owner makes of a command that isn't refused tells how many keys it draws and how long its payload

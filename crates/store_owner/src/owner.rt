@@ -1,6 +1,6 @@
 //! The owner of a store, and what the owner's commands do to it.
 ghost use Rattle.std.specs.Prelude.{◌≡◌, ◌*◌, ◌<◌, ◌≤◌, ◌+◌, ◌↔◌, ℕ, None, Some, Err, IfErr, IfOk, IsTrue, OnErr, OnOk, cond, false, is_some, length, true};
-ghost use Rattle.commit_journal.specs.Journals.{IsBehind, Joins, next_command};
+ghost use Rattle.commit_journal.specs.Journals.{IsBehind, Joins, next_command, MayJoin, next_epoch};
 ghost use Rattle.cry_base.specs.Refusing.{has_bad_name, refusal_of};
 ghost use Rattle.cry_base.specs.Requests.{request_of};
 ghost use Rattle.cry_base.specs.Store.{Store};
@@ -11,7 +11,7 @@ ghost use Rattle.record_format.specs.Sizes.{payload_size};
 ghost use Rattle.record_format.specs.Spellable.{IsSpellable};
 ghost use Rattle.record_format.specs.Spelling.{spell_payload};
 ghost use Rattle.public_fold.specs.Journal.{Journal as AnyJournal};
-ghost use Rattle.store_owner.specs.Applying.{Answers, DiskCounts, HasOtherRoom, IsCarriedOut, IsDoneThen, IsKeptBy, UnlessDiskFault};
+ghost use Rattle.store_owner.specs.Applying.{Answers, DiskCounts, HasOtherRoom, IsCarriedOut, IsDoneThen, IsInterrupted, IsKeptBy, UnlessDiskFault};
 ghost use Rattle.store_owner.specs.Drawing.{AreKeys, FillsByCount};
 ghost use Rattle.store_owner.specs.Owned.{IsOwnerOf, owner_at};
 ghost use Rattle.store_owner.specs.Owning.{IsStoreOf};
@@ -20,7 +20,9 @@ ghost use Rattle.store_owner.specs.Sealing.{IsSpaceFor};
 ghost use Rattle.store_owner.specs.Sound.{IsSound, granted_in, own_store};
 ghost use Rattle.store_owner.specs.Taking.{FallsShort, TakesKeys};
 
-use crate::apply_laws::{commands_are_measured, owners_go_on};
+use crate::apply_laws::{
+    commands_are_measured, interrupted_commands_leave_a_journal, owners_go_on,
+};
 use crate::change::Change;
 use crate::command_notes::note_for;
 use crate::key_room::KeyRoom;
@@ -130,7 +132,8 @@ impl Owner {
     /// In this order: a closed owner answers `Closed`; a refused command changes nothing; all memory is taken, or `OutOfMemory`
     /// comes; the keys are drawn, or `RandomFault` or `RandomShort` comes; and the command is committed, behind the session's
     /// epoch where it has none yet. Until then the owner is as it was, but for room. `DiskFault` closes this owner: the command
-    /// may then stand in the store or not. `RandomShort` comes only where the source has ended, and its numbers are exact.
+    /// may then stand in the store or not, and all before it stands. `RandomShort` comes only where the source has ended, and its
+    /// numbers are exact.
     pub fn apply<D: Disk, R: Source>(
         &mut self,
         alloc: Global,
@@ -157,6 +160,7 @@ impl Owner {
         ensures short { (left need : ℕ) → result ≡ Err (ApplyFault.RandomShort left need) → FallsShort left need (R.left random.old) (R.left random.new) }
     {
         commands_are_measured();
+        interrupted_commands_leave_a_journal();
         owners_keep_the_store();
         owners_go_on();
         sound_owners_keep_a_store();
@@ -287,6 +291,7 @@ impl Owner {
         requires count { length drawn.now ≡ length change.ready.skeleton.keys.items }
         requires sizes { AreKeys drawn.now }
         ensures done { OnOk result (IsCarriedOut (request_of command.now) drawn.now self.old self.new (D.shown disk.old) (D.shown disk.new)) }
+        ensures interrupted { OnErr result (IsInterrupted (request_of command.now) drawn.now self.old (D.shown disk.old) (D.shown disk.new)) }
         ensures reply { IfOk result (λ reply. reply ≡ reply_for change.note drawn.now) }
         ensures fault { IfErr result (λ fault. fault ≡ ApplyFault.DiskFault) }
         ensures closed { OnErr result (IsTrue self.new.journal.is_closed) }
@@ -344,6 +349,7 @@ fn begin<D: Disk>(
     requires room { journal.old.end + 110 ≤ journal.old.limit }
     requires counts { is_some counter ≡ journal.old.has_epoch }
     ensures begun { IfOk result (λ starts. HasBegun journal.old journal.new counter starts (D.shown disk.old) (D.shown disk.new)) }
+    ensures interrupted { OnErr result ((journal.old.has_epoch ≡ false) × MayJoin (next_epoch journal.old) journal.old (D.shown disk.old) (D.shown disk.new)) }
     ensures closed { OnErr result (IsTrue journal.new.is_closed) }
     ensures open { OnOk result (journal.new.is_closed ≡ journal.old.is_closed) }
     ensures owner { journal.new.owner ≡ journal.old.owner }
@@ -375,6 +381,7 @@ fn commit_within<D: Disk>(
     requires ends { journal.old.end + (110 + payload_size (plain_payload payload.now)) ≤ journal.old.limit }
     ensures behind { OnOk result (IsBehind (next_command journal.old (spell_payload (plain_payload payload.now))) journal.old journal.new) }
     ensures joined { OnOk result (Joins (next_command journal.old (spell_payload (plain_payload payload.now))) journal.old journal.new (D.shown disk.old) (D.shown disk.new)) }
+    ensures interrupted { OnErr result (MayJoin (next_command journal.old (spell_payload (plain_payload payload.now))) journal.old (D.shown disk.old) (D.shown disk.new)) }
     ensures begun { journal.new.has_epoch ≡ journal.old.has_epoch }
     ensures owner { journal.new.owner ≡ journal.old.owner }
     ensures durable { OnOk result (IsDurable (D.may_leave disk.new) (D.shown disk.new)) }

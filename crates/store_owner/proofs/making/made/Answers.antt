@@ -1,4 +1,4 @@
-use Rattle.std.proofs.Common.{◌≡◌, ℕ, List, [], ◌-◌, drop, length, slice_index_or, take, refl, sym, subst, ◌∙◌}
+use Rattle.std.proofs.Common.{ℕ, [], ◌-◌, drop, length, slice_index_or, take, refl, sym, subst, ◌∙◌}
 use Rattle.std.proofs.lemmas.List.{take_rest}
 use Rattle.store_owner.specs.Drawing.{joined}
 use Rattle.store_owner.specs.Making.{IsMade, IsMadeJournal}

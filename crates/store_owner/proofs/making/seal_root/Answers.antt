@@ -1,10 +1,10 @@
-use Rattle.std.proofs.Common.{◌≡◌, ◌∙◌, ◌≤◌, arith, ap, Some, refl}
+use Rattle.std.proofs.Common.{◌∙◌, arith, ap, Some}
 use Rattle.cry_base.specs.Store.{root_store}
 use Rattle.record_format.specs.Noted.Note.{Root}
 use Rattle.record_format.specs.Plain.{plain_payload}
 use Rattle.record_format.specs.Told.{told_note}
 use Rattle.store_owner.specs.Making.{first_stand}
-use Rattle.store_owner.proofs.RootSealed.{alone, can_now, held_now, held_then, payload_now, root_size, skeleton_now, told_now}
+use Rattle.store_owner.proofs.RootSealed.{alone, can_now, held_now, held_then, payload_now, root_size, told_now}
 use Rattle.store_owner.proofs.making.seal_root.Goals as goal
 
 pub seal_step-payload-requires-clause-can_seal : goal.seal_step-payload-requires-clause-can_seal

@@ -1,8 +1,6 @@
-use Rattle.std.proofs.Common.{◌≡◌, false, ap, subst, sym, ◌∙◌}
+use Rattle.std.proofs.Common.{◌≡◌, false, ap, subst}
 use Rattle.cry_base.specs.Refusing.{has_bad_name}
 use Rattle.cry_base.specs.Requests.{request_of}
-use Rattle.folder_nodes.specs.Titles.{tree_store}
-use Rattle.store_owner.specs.Owning.{refusal_for_grants}
 use Rattle.store_owner.proofs.Forms.{grant_form, revoke_form}
 use Rattle.store_owner.proofs.refusing.refused_for_grants.Goals as goal
 

@@ -1,4 +1,4 @@
-use Rattle.std.proofs.Common.{◌≡◌, ◌∙◌, ◌+◌, [], ap, subst}
+use Rattle.std.proofs.Common.{◌∙◌, ◌+◌, [], ap, subst}
 use Rattle.std.specs.Result.{IfOk}
 use Rattle.cry_base.specs.declared.roles.Node.TheVariants.{Folder}
 use Rattle.store_owner.specs.Retitled.{IsSetting}

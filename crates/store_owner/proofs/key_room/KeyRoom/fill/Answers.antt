@@ -1,4 +1,4 @@
-use Rattle.std.proofs.Common.{◌++◌, ◌*◌, ◌∙◌, ap, arith, length, sym, ℕ}
+use Rattle.std.proofs.Common.{◌++◌, ◌*◌, ◌∙◌, ap, length, sym}
 use Rattle.store_owner.proofs.KeyDraws.{bytes_gone, fault_counted, fault_told, filled_whole}
 use Rattle.store_owner.proofs.key_room.KeyRoom.fill.Goals as goal
 

@@ -4,7 +4,7 @@ use Rattle.cry_base.specs.declared.memory.OutOfMemory.{OutOfMemory}
 use Rattle.record_format.specs.Told.{told_note}
 use Rattle.public_fold.specs.Journal.{store_of}
 use Rattle.public_fold.specs.declared.heads.Skeleton.{Skeleton}
-use Rattle.store_owner.specs.Applying.{IsCarriedOut, IsDone}
+use Rattle.store_owner.specs.Applying.{IsCarriedOut, IsCutShort, IsDone, IsInterrupted}
 use Rattle.store_owner.specs.Drawing.{joined}
 use Rattle.store_owner.specs.Folds.{public_stand}
 use Rattle.store_owner.specs.Owned.{OwnerView}
@@ -15,7 +15,8 @@ use Rattle.store_owner.specs.declared.apply_fault.ApplyFault.TheVariants as faul
 use Rattle.store_owner.specs.declared.owner.Verdict.{Verdict}
 use Rattle.store_owner.specs.declared.owner.Verdict.TheVariants as verdicts
 use Rattle.store_owner.proofs.Applied.{carried_answer, reply_due, undrawn_answer}
-use Rattle.store_owner.proofs.OtherRoom.{accepted_still, carried_from, limit_still, sound_still, store_still}
+use Rattle.store_owner.proofs.OtherRoom.{accepted_still, carried_from, limit_still, sound_still, store_still, interrupted_from}
+use Rattle.std.proofs.lemmas.Result.{on_err_weaker}
 use Rattle.store_owner.proofs.Planned.{is_refused}
 use Rattle.store_owner.proofs.Taken.{err_is, falls_short, never_short, takes_filled, takes_none}
 use Rattle.store_owner.proofs.owner.Owner.apply.Goals as goal
@@ -64,8 +65,8 @@ returns-clause-answers g c = λ m is.
     let full : IsCarriedOut r drawn o new was shows = carried_from r drawn o mid new was shows c.plan.ensures.room h in
     record {
       drawn = drawn;
-      drawn_count = full.drawn_count ∙ c.commands_are_measured.ensures.draws m r o full.skeleton is refused (full.is_skeleton (public_stand m) (store_of m) is.seen store);
-      drawn_sizes = full.drawn_sizes;
+      drawn_count = full.sealed.drawn_count ∙ c.commands_are_measured.ensures.draws m r o full.sealed.skeleton is refused (full.sealed.is_skeleton (public_stand m) (store_of m) is.seen store);
+      drawn_sizes = full.sealed.drawn_sizes;
       accepted = planned.2 m is;
       reply_is = reply_due m r note (replicate 32 0) drawn (planned.0.told (store_of m) (store_still (store_of m) o mid c.plan.ensures.room store));
       owner_is = c.owners_go_on.ensures.owner m r drawn o new was shows is limit bounded (planned.2 m is) full;
@@ -75,7 +76,14 @@ returns-clause-answers g c = λ m is.
       next_bytes = λ x y a b. c.in-Ok-fill.ensures.bytes x y a b ∙ ap (λ (d : List (List ℕ)). joined d ++ y) (sym c.as_slice.ensures);
       disk_stands = c.owners_go_on.ensures.disk m r drawn o new was shows is limit bounded (planned.2 m is) full;
     } in
-    carried_answer c.carry_out.result note drawn m r o new before after was shows (IsCarriedOut r drawn mid new was shows) (planned.2 m is) c.carry_out.ensures.fault c.carry_out.ensures.closed c.carry_out.ensures.reply c.carry_out.ensures.done done
+    let many = c.in-Ok-fill.ensures.count in
+    let left : IsInterrupted r drawn mid was shows → IsCutShort m r o was shows = λ h. (
+      drawn,
+      ap length c.as_slice.ensures ∙ many ∙ c.in-Ok.ensures ∙ ap length c.as_slice-count.ensures ∙ ap (λ (s : Skeleton). length s.keys.items) c.skeleton.ensures ∙ (planned.3 m is).0,
+      c.interrupted_commands_leave_a_journal.ensures m r drawn o was shows is limit bounded (planned.2 m is) (interrupted_from r drawn o mid was shows c.plan.ensures.room h),
+    ) in
+    carried_answer c.carry_out.result note drawn m r o new before after was shows (IsCarriedOut r drawn mid new was shows) (planned.2 m is) c.carry_out.ensures.fault c.carry_out.ensures.closed
+    (on_err_weaker c.carry_out.result left c.carry_out.ensures.interrupted) c.carry_out.ensures.reply c.carry_out.ensures.done done
 
 pub returns-in-Some-clause-draws : goal.returns-in-Some-clause-draws
 returns-in-Some-clause-draws g c = takes_none (g.R.Source.left c.args.random.now)

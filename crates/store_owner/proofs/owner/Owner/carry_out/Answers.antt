@@ -1,4 +1,4 @@
-use Rattle.std.proofs.Common.{◌≡◌, ◌≤◌, ◌∙◌, List, None, Option, Some, ap, arith, cond, refl, subst, sym, ℕ}
+use Rattle.std.proofs.Common.{inl, inr, ◌≡◌, ◌∙◌, List, None, Option, Some, ap, arith, refl, subst, sym, ℕ}
 use Rattle.chacha_seal.specs.Serials.{Counting}
 use Rattle.cry_base.specs.Refusing.{refusal_of}
 use Rattle.cry_base.specs.Requests.{request_of}
@@ -8,16 +8,16 @@ use Rattle.record_format.specs.Plain.{plain_payload}
 use Rattle.record_format.specs.Sizes.{payload_size}
 use Rattle.public_fold.specs.Standing.{IsSeenAs, stand_of}
 use Rattle.public_fold.specs.declared.heads.Skeleton.{Skeleton}
-use Rattle.store_owner.specs.Applying.{IsCarriedOut}
+use Rattle.store_owner.specs.Applying.{IsCarriedOut, IsInterrupted}
 use Rattle.store_owner.specs.Owned.{OwnerView}
 use Rattle.store_owner.specs.Owning.{IsTreeOf}
 use Rattle.store_owner.specs.Planning.{HasBegun, IsDrafted, IsFurnished, planned_size}
-use Rattle.store_owner.specs.Retitled.{IsRetitled, IsRetitlingOf}
+use Rattle.store_owner.specs.Retitled.{IsRetitlingOf}
 use Rattle.store_owner.specs.Sealing.{CanSeal}
 use Rattle.store_owner.specs.Sound.{own_store}
 use Rattle.store_owner.specs.Texting.{AreTitlesAfter}
 use Rattle.store_owner.specs.declared.retitling.Retitling.{Retitling}
-use Rattle.store_owner.proofs.CarriedOut.{batches_for, carried, ends_for, fits_for, size_for, skeleton_for, starts_for, text_for}
+use Rattle.store_owner.proofs.CarriedOut.{batches_for, carried, ends_for, fits_for, sealed_for, size_for, skeleton_for, starts_for, text_for}
 use Rattle.store_owner.proofs.NotesKeyed.{adds_holder, holder_drawn}
 use Rattle.store_owner.proofs.owner.Owner.carry_out.Goals as goal
 
@@ -151,3 +151,33 @@ returns-clause-done g c =
     c.skeleton.result.now (plain_payload c.seal_step-payload.result) has c.in-Ok.ensures.told refl refl c.settle.ensures c.skeleton.ensures c.seal_step-payload.ensures.payload c.seal_step-payload.ensures.keys refl
     c.in-Ok-commit_within.ensures.joined c.in-Ok-commit_within.ensures.behind c.in-Ok-commit_within.ensures.begun titles in
     subst (λ (o : OwnerView). IsCarriedOut r drawn o new was shows) c.self.view_is done
+
+pub returns-in_default-clause-interrupted : goal.returns-in_default-clause-interrupted
+returns-in_default-clause-interrupted g c =
+    let i = c.self.inside in
+    let old : OwnerView = record { key = i.key.bytes; journal = i.journal; state = i.state; names = i.names; ring = i.ring; counter = i.counter; file_bytes = i.limits.file_bytes } in
+    let fault = c.in_default.ensures.interrupted in
+    subst (λ (o : OwnerView). IsInterrupted (request_of c.args.command.now) c.args.drawn.now o (g.D.Disk.shown c.args.disk.now) (g.D.Disk.shown c.begin.new.disk)) c.self.view_is
+    (inl (fault.0, (old.journal, refl, fault.1)))
+
+pub returns-in_default-commit_within-clause-interrupted : goal.returns-in_default-commit_within-clause-interrupted
+unfolding sealed_for
+returns-in_default-commit_within-clause-interrupted g c =
+    let i = c.self.inside in
+    let old : OwnerView = record { key = i.key.bytes; journal = i.journal; state = i.state; names = i.names; ring = i.ring; counter = i.counter; file_bytes = i.limits.file_bytes } in
+    let r = request_of c.args.command.now in
+    let drawn = c.args.drawn.now in
+    let before = c.args.change in
+    let after = c.take_key-reply.new.self in
+    let at = stand_of i.state in
+    let keyed = c.take_key-reply.ensures.keyed in
+    let drafted : IsDrafted r old before = subst (λ (o : OwnerView). IsDrafted r o before) (sym c.self.view_is) c.requires.drafted in
+    let own = c.sound_owners_keep_a_store.ensures.store old in
+    let was = g.D.Disk.shown c.args.disk.now in
+    let showed = g.D.Disk.shown c.begin.new.disk in
+    let has : HasBegun i.journal c.begin.new.journal i.counter c.in-Ok.counter was showed =
+    subst (λ (k : Option Counting). HasBegun i.journal c.begin.new.journal k c.in-Ok.counter was showed) c.take.ensures.value c.in-Ok.ensures.begun in
+    let sealed = sealed_for r drawn old before after at drafted keyed c.requires.count c.requires.sizes own c.is_seen.ensures was showed c.begin.new.journal c.in-Ok.counter
+    c.skeleton.result.now (plain_payload c.seal_step-payload.result) has c.in-Ok.ensures.told c.skeleton.ensures c.seal_step-payload.ensures.payload in
+    subst (λ (o : OwnerView). IsInterrupted r drawn o was (g.D.Disk.shown c.commit_within.new.disk)) c.self.view_is
+    (inr (sealed, c.in_default-commit_within.ensures.interrupted))
