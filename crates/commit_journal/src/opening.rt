@@ -168,8 +168,8 @@ impl Journal {
     /// `NotAStore` and `WrongKey` come of the header. `Damaged` comes behind an open gate where no batch stands that ends
     /// within the store limit, with the place of its first byte, and for a payload that has no form, with the place of its
     /// first bad field. `Tampered` comes for a wrong owner tag, with its place. The first of these ends the call, before a
-    /// slot is written. `DiskFault` comes only where the disk's faults rose in this call; bytes
-    /// that stood for batches stand for them then.
+    /// slot is written. `DiskFault` comes only where the disk's faults rose in this call. After any fault bytes that stood for
+    /// batches stand for them still.
     pub fn open_owner<D: Disk>(
         alloc: Global,
         disk: &mut D,
@@ -191,7 +191,7 @@ impl Journal {
         ensures told { is_some (D.shown disk.new) ≡ is_some (D.shown disk.old) }
         ensures size { OnOk result (D.size_of disk.new ≡ D.size_of disk.old) }
         ensures unwritten { IfErr result (λ fault. (fault ≡ OpenFault.DiskFault) ⊎ (D.shown disk.new ≡ D.shown disk.old)) }
-        ensures left { result ≡ Err OpenFault.DiskFault → WhereBothTold (D.shown disk.old) (D.shown disk.new) (StillStand limits.store_bytes owner.now.bytes) }
+        ensures left { OnErr result (WhereBothTold (D.shown disk.old) (D.shown disk.new) (StillStand limits.store_bytes owner.now.bytes)) }
         ensures counts { D.faults disk.old ≤ D.faults disk.new }
         ensures disk_fault { result ≡ Err OpenFault.DiskFault → D.faults disk.old < D.faults disk.new }
     {

@@ -3,6 +3,7 @@ use Rattle.std.proofs.Common.{◌≡◌, ◌≢◌, ℕ, List, [], ◌∷◌, �
 use Rattle.std.specs.Prelude.{is_some}
 use Rattle.std.proofs.lemmas.Bool.{false≢true}
 use Rattle.std.proofs.lemmas.List.{map-append}
+use Rattle.commit_journal.specs.Holding.{IsBetween}
 use Rattle.commit_journal.specs.Standing.{StandsWhole}
 use Rattle.cry_base.specs.Requests.{Request}
 use Rattle.cry_base.specs.declared.commands.Reply.{Reply}
@@ -19,7 +20,9 @@ use Rattle.cryptree_cli.specs.declared.script.ScriptFault.TheVariants.{BadLine, 
 use Rattle.cryptree_cli.proofs.AnsweredScripts.{IsScene, answered_script}
 use Rattle.cryptree_cli.proofs.ScriptLemmas.{whole_is_cut}
 use Rattle.public_fold.specs.Journal.{Journal}
+use Rattle.store_owner.specs.Applying.{journal_then}
 use Rattle.store_owner.specs.Bytes.{batches_of}
+use Rattle.store_owner.specs.Journals.{StandsForJournal}
 use Rattle.store_owner.specs.Owned.{limits_in}
 use Rattle.store_owner.specs.Script.{Going, answer, opened, script_replies}
 use Rattle.store_owner.specs.declared.apply_fault.ApplyFault.{ApplyFault}
@@ -214,15 +217,33 @@ module _ (X : Type 0) (scene : X → Scene) (Step : X → Request → Reply → 
       }
 
   pub ran_unwritten : Ran Step Fails (Err (Applying faults.DiskFault)) start end old new left_before left_after out_before out_after
-      → RanUnwritten limits m draws (lines_ahead old b) out_before out_after
+      → RanUnwritten limits key m draws (lines_ahead old b) (scene end).left (scene end).shown out_before out_after
   ran_unwritten ran =
       let s = stopped faults.DiskFault ran in
+      let g = going_asked limits m draws s.asked in
+      let met = s.failed.answers g.journal s.there.owner_is in
+      let cut = met.2 in
+      let left = still_told (scene end).left (scene s.x).left g.draws s.failed.left_told s.there.has_draws in
+      let bytes = still_told (scene end).shown (scene s.x).shown s.there.disk_stands.0 s.failed.shown_told s.there.disk_stands.1 in
+      let owner = (scene s.x).owner in
+      let stands : StandsWhole owner.key (batches_of owner.key g.journal) s.there.disk_stands.0 =
+      subst (λ k. StandsWhole k (batches_of k g.journal) s.there.disk_stands.0) (sym s.there.has_key) s.there.disk_stands.2 in
+      let between = cut.disk_stands s.there.disk_stands.0 bytes.0 s.there.disk_stands.1 bytes.1 stands in
       record {
         asked = s.asked;
         next = s.next;
         rest = lines_ahead new a;
+        drawn = cut.drawn;
         asks = s.asks;
-        is_accepted = accepted _ s (s.failed.answers (going_asked limits m draws s.asked).journal s.there.owner_is).0;
+        is_accepted = accepted _ s met.0;
+        drawn_count = cut.drawn_count;
+        draws_left = (left.0, left.1, cut.next_bytes g.draws left.0 s.there.has_draws left.1);
+        shows_between = (
+          bytes.0,
+          bytes.1,
+          subst (λ k. IsBetween (StandsForJournal k) g.journal (journal_then g.journal g.begun s.next cut.drawn) bytes.0) s.there.has_key
+          (subst (λ h. IsBetween (StandsForJournal owner.key) g.journal (journal_then g.journal h s.next cut.drawn) bytes.0) s.there.has_begun between),
+        );
         prints = s.prints;
       }
 

@@ -1,6 +1,7 @@
 -- What `run` answers, prints and leaves: on every disk, and on one that shows a journal. This project's own, docs/FORMAT.md, "The program".
 use Rattle.std.specs.Prelude.{◌≡◌, ◌<◌, ◌⊎◌, ℕ, ◌+◌, ◌*◌, ◌==◌, nat_lt, Bool, true, false, List, [], ◌∷◌, ◌++◌, length, Option, Some, None, Result, Ok, Err}
 use Rattle.commit_journal.specs.Answering.{Damaged, NotAStore, Tampered, WrongKey}
+use Rattle.commit_journal.specs.Holding.{IsBetween}
 use Rattle.commit_journal.specs.Standing.{StandsWhole}
 use Rattle.cry_base.specs.Requests.{Request}
 use Rattle.cry_base.specs.declared.commands.Reply.{Reply}
@@ -13,7 +14,8 @@ use Rattle.public_fold.specs.Journal.{Journal}
 use Rattle.script_text.specs.Reading.{bundle_of}
 use Rattle.store_owner.specs.Bytes.{batches_of}
 use Rattle.store_owner.specs.Drawing.{AreKeys, joined}
-use Rattle.store_owner.specs.Journals.{ShowsJournal}
+use Rattle.store_owner.specs.Applying.{journal_then}
+use Rattle.store_owner.specs.Journals.{ShowsJournal, StandsForJournal}
 use Rattle.store_owner.specs.Script.{Going, answer, draws_of, opened, script_going, script_replies}
 use Rattle.cryptree_cli.specs.CommandLines.{owner_key}
 use Rattle.cryptree_cli.specs.Input.{input_limit}
@@ -100,18 +102,25 @@ pub record RanUndrawn (limits : Limits) (key : List ℕ) (m : Journal) (draws : 
   pub shows_whole : (s : List ℕ) × (shown ≡ Some s) × StandsWhole key (batches_of key (going_asked limits m draws asked).journal) s
   pub prints : WhereBothTold before after (PrintsScript limits m draws asked)
 
--- Or it met a fault of the disk, of which nothing is said here.
-pub record RanUnwritten (limits : Limits) (m : Journal) (draws : List ℕ) (lines : List InputLine) (before after : Option (List ℕ)) : Type 0 where
+-- Or it drew its keys and met a fault of the disk: that shows the journal as it was before, or with the session begun, or with the
+-- command too.
+pub record RanUnwritten (limits : Limits) (key : List ℕ) (m : Journal) (draws : List ℕ) (lines : List InputLine) (left shown before after : Option (List ℕ)) : Type 0 where
   pub asked : List Request
   pub next : Request
   pub rest : List InputLine
+  pub drawn : List (List ℕ)
   pub asks : Asks (asked ++ next ∷ []) lines rest
   pub is_accepted : IsAccepted limits (going_asked limits m draws asked) next
+  pub drawn_count : length drawn ≡ draws_of (going_asked limits m draws asked).journal next
+  pub draws_left : (more : List ℕ) × (left ≡ Some more) × ((going_asked limits m draws asked).draws ≡ flat_map (λ (k : List ℕ). k) drawn ++ more)
+  pub shows_between : (s : List ℕ) × (shown ≡ Some s) × IsBetween (StandsForJournal key) (going_asked limits m draws asked).journal
+      (journal_then (going_asked limits m draws asked).journal (going_asked limits m draws asked).begun next drawn) s
   pub prints : WhereBothTold before after (PrintsScript limits m draws asked)
 
--- Nothing was drawn or printed: the store wasn't opened.
-pub record IsUnopened (draws : List ℕ) (left before after : Option (List ℕ)) : Type 0 where
+-- The store wasn't opened: nothing was drawn or printed, and the disk shows the journal still.
+pub record IsUnopened (key : List ℕ) (m : Journal) (draws : List ℕ) (left shown before after : Option (List ℕ)) : Type 0 where
   pub undrawn : left ≡ Some draws
+  pub shows_still : ShowsJournal key m shown
   pub unprinted : after ≡ before
 
 -- How `run` ends on a disk that shows a journal, where the input and the random source tell: at Done all lines were asked, before
@@ -121,12 +130,14 @@ Ends statuses.Done limits key m draws lines left shown before after = HasRun lim
 Ends (statuses.BadScript line) limits key m draws lines left shown before after =
     (rest : List InputLine) × IsBadFirst rest × (run : HasRun limits key m draws lines rest left shown before after) × (line ≡ length run.asked + 2)
 Ends statuses.ReadFault limits key m draws lines left shown before after =
-    IsUnopened draws left before after ⊎ ((rest : List InputLine) × HasRun limits key m draws lines rest left shown before after)
+    IsUnopened key m draws left shown before after ⊎ ((rest : List InputLine) × HasRun limits key m draws lines rest left shown before after)
 Ends (statuses.RandomShort given need) limits key m draws lines left shown before after = RanShort limits key m draws lines given need left shown before after
 Ends statuses.RandomFault limits key m draws lines left shown before after = RanUndrawn limits key m draws lines shown before after
 Ends statuses.WriteFault limits key m draws lines left shown before after = RanCut limits key m draws lines left shown before after
-Ends statuses.DiskFault limits key m draws lines left shown before after = IsUnopened draws left before after ⊎ RanUnwritten limits m draws lines before after
-Ends statuses.OutOfMemory limits key m draws lines left shown before after = IsUnopened draws left before after ⊎ RanCut limits key m draws lines left shown before after
+Ends statuses.DiskFault limits key m draws lines left shown before after =
+    IsUnopened key m draws left shown before after ⊎ RanUnwritten limits key m draws lines left shown before after
+Ends statuses.OutOfMemory limits key m draws lines left shown before after =
+    IsUnopened key m draws left shown before after ⊎ RanCut limits key m draws lines left shown before after
 Ends _ limits key m draws lines left shown before after = ⊥
 
 -- how `run` may end

@@ -97,7 +97,7 @@ done_answer (declared.Take h f) drawn m r old new left_before left_after was sho
 
 pub carried_answer : (result : Result Reply ApplyFault) (note : Declared) (drawn : List (List ℕ)) (m : Journal) (r : Request) (old new : OwnerView) (left_before left_after was shows : Option (List ℕ)) (C : Type 0)
     → answer (limits_in old) m old.journal.has_epoch r ≡ None → IfErr result (λ fault. fault ≡ faults.DiskFault) → OnErr result (IsTrue new.journal.is_closed)
-    → OnErr result (IsCutShort m r old was shows) → IfOk result (λ reply. reply ≡ reply_for note drawn) → OnOk result C → (C → IsDone m r (reply_for note drawn) old new left_before left_after was shows)
+    → OnErr result (IsCutShort m r old left_before left_after was shows) → IfOk result (λ reply. reply ≡ reply_for note drawn) → OnOk result C → (C → IsDone m r (reply_for note drawn) old new left_before left_after was shows)
     → Answers result m r old new left_before left_after was shows
 carried_answer (Ok reply) note drawn m r old new left_before left_after was shows C accepted fault closed left is carried done =
     subst (λ (x : Reply). Answers (Ok x) m r old new left_before left_after was shows) (sym is) (done_answer note drawn m r old new left_before left_after was shows (done carried))

@@ -14,7 +14,9 @@ use Rattle.commit_journal.specs.WholeLogs.{StandsWithin, StillStand}
 use Rattle.commit_journal.specs.declared.fault.OpenFault.{OpenFault}
 use Rattle.commit_journal.specs.declared.fault.OpenFault.TheVariants as faults
 use Rattle.commit_journal.specs.declared.opening.Opened.{Opened as OpenedLog}
-use Rattle.commit_journal.proofs.OpenedJournals.{journal_whole, opened_settled, placed_whole}
+use Rattle.commit_journal.specs.Standing.{StandsFor}
+use Rattle.commit_journal.proofs.OpenedJournals.{journal_whole, opened_settled, placed_whole, slots_whole}
+use Rattle.commit_journal.proofs.Standings.{whole_stands}
 use Rattle.commit_journal.proofs.Reopened.{opened_standing}
 use Rattle.commit_journal.proofs.Standings.{length-image}
 use Rattle.commit_journal.proofs.Writers.{opened_as_read}
@@ -244,4 +246,16 @@ journal_left limit key was shows left m = λ x y e f stands low. record {
   valid = stands.valid;
   whole_keys = stands.whole_keys;
   stands = left x y e f (bodies_of key m) (within limit key m x stands low);
+}
+
+-- and so does whatever keeps it from going on once the slots are filled
+pub journal_filled : (limit : ℕ) (key : List ℕ) (o : OpenedLog) (was shows : Option (List ℕ)) → limit ≤ 268435456
+    → WhereTold was (λ s. opening_verdict limit key s ≡ Ok (plain_opened o)) → WhereBothTold was shows (λ x y. y ≡ slots_filled key (plain_log o.placed) x)
+    → (m : Journal) → WhereBothTold was shows (λ x y. StandsForJournal key m x → end_of m ≤ limit → StandsForJournal key m y)
+unfolding batches_of
+journal_filled limit key o was shows known verdict filled m = λ x y e f stands low. record {
+  valid = stands.valid;
+  whole_keys = stands.whole_keys;
+  stands = subst (StandsFor key (batches_of key m)) (sym (filled x y e f))
+      (whole_stands key (batches_of key m) (slots_filled key (plain_log o.placed) x) (slots_whole limit key (bodies_of key m) x o known (within limit key m x stands low) (verdict x e)));
 }

@@ -133,11 +133,14 @@ abbrev pub why_refused : Reply → Option Refusal
 why_refused (replies.Refused why) = Some why
 why_refused reply = None
 
--- A command that met a fault of the disk: where that showed the whole of the journal, it shows bytes that stand for the journal, or for
--- it with the session begun, or with the command too, under some keys that it drew
-abbrev pub IsCutShort : Journal → Request → OwnerView → Option (List ℕ) → Option (List ℕ) → Type 0
-IsCutShort m r old was shows = (drawn : List (List ℕ)) × (length drawn ≡ draws_of m r)
-    × WhereBothTold was shows (λ x y. StandsWhole old.key (batches_of old.key m) x → IsBetween (StandsForJournal old.key) m (journal_then m old.journal.has_epoch r drawn) y)
+-- A command that met a fault of the disk: it drew keys from the next random bytes; and where the disk showed the whole of the journal,
+-- it shows bytes that stand for the journal, or for it with the session begun, or with the command too.
+pub record IsCutShort (m : Journal) (r : Request) (old : OwnerView) (left_before left_after was shows : Option (List ℕ)) : Type 0 where
+  pub drawn : List (List ℕ)
+  pub drawn_count : length drawn ≡ draws_of m r
+  pub next_bytes : WhereBothTold left_before left_after (λ before after. before ≡ flat_map (λ (key : List ℕ). key) drawn ++ after)
+  pub disk_stands : WhereBothTold was shows (λ x y. StandsWhole old.key (batches_of old.key m) x
+      → IsBetween (StandsForJournal old.key) m (journal_then m old.journal.has_epoch r drawn) y)
 
 -- What a command is answered by an owner who stands for a journal. A refused one changes nothing; after a source that failed
 -- or ended, and for want of memory, the owner is as it was; after a disk that failed its journal is closed.
@@ -149,7 +152,7 @@ Answers (Err (faults.RandomShort left need)) m r old new left_before left_after 
     × WhereTold left_before (λ before. length before ≡ left) × WhereTold left_after (λ after. after ≡ [])
 Answers (Err faults.RandomFault) m r old new left_before left_after was shows = (answer (limits_in old) m old.journal.has_epoch r ≡ None) × HasOtherRoom old new
 Answers (Err faults.DiskFault) m r old new left_before left_after was shows =
-    (answer (limits_in old) m old.journal.has_epoch r ≡ None) × IsTrue new.journal.is_closed × IsCutShort m r old was shows
+    (answer (limits_in old) m old.journal.has_epoch r ≡ None) × IsTrue new.journal.is_closed × IsCutShort m r old left_before left_after was shows
 Answers (Err faults.Closed) m r old new left_before left_after was shows = IsTrue old.journal.is_closed × (new ≡ old)
 Answers (Err faults.OutOfMemory) m r old new left_before left_after was shows = HasOtherRoom old new
 

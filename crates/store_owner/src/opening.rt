@@ -1,5 +1,5 @@
 //! Opens a store for writing (docs/FORMAT.md, "Opening for writing").
-ghost use Rattle.std.specs.Prelude.{◌≡◌, ◌≢◌, ◌⊎◌, ◌<◌, ◌≤◌, All, Err, IfErr, IfOk, OnOk, Ok, is_some, length, map};
+ghost use Rattle.std.specs.Prelude.{◌≡◌, ◌≢◌, ◌⊎◌, ◌<◌, ◌≤◌, All, Err, IfErr, IfOk, OnErr, OnOk, Ok, is_some, length, map};
 ghost use Rattle.cry_base.specs.declared.roles.Role.TheVariants.{Owner as OwnerRole};
 ghost use Rattle.cry_io.specs.Stops.{IsDurable};
 ghost use Rattle.cry_io.specs.Told.{WhereTold, WhereBothTold};
@@ -115,8 +115,8 @@ impl Owner {
     /// within the store limit, and for a payload that has no form; then for the first payload that doesn't fit what stands
     /// before it, with the place of its first byte; behind the header where no root was made or a record is missing; and for a
     /// text of another form, with the place of its content. `Tampered` comes for a wrong tag, of a batch or of a record, with
-    /// its place. The first of these ends the call. `DiskFault` comes only where the disk's faults rose in this call; a journal for
-    /// which the disk's bytes stood stands then still.
+    /// its place. The first of these ends the call. `DiskFault` comes only where the disk's faults rose in this call. After any fault
+    /// a journal for which the disk's bytes stood stands still.
     pub fn open_store<D: Disk>(
         alloc: Global,
         disk: &mut D,
@@ -138,8 +138,8 @@ impl Owner {
         ensures durable { OnOk result (IsDurable (D.may_leave disk.new) (D.shown disk.new)) }
         ensures told { is_some (D.shown disk.new) ≡ is_some (D.shown disk.old) }
         ensures size { OnOk result (D.size_of disk.new ≡ D.size_of disk.old) }
-        ensures left { result ≡ Err OpenFault.DiskFault → (m : AnyJournal) → WhereBothTold (D.shown disk.old) (D.shown disk.new)
-            (λ x y. StandsForJournal key m x → end_of m ≤ limits.store_bytes → StandsForJournal key m y) }
+        ensures left { OnErr result ((m : AnyJournal) → WhereBothTold (D.shown disk.old) (D.shown disk.new)
+            (λ x y. StandsForJournal key m x → end_of m ≤ limits.store_bytes → StandsForJournal key m y)) }
         ensures counts { D.faults disk.old ≤ D.faults disk.new }
         ensures disk_fault { result ≡ Err OpenFault.DiskFault → D.faults disk.old < D.faults disk.new }
     {

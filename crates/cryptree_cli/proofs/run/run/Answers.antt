@@ -31,7 +31,7 @@ returns-in-Err-clause-ran g c = λ x was draws left key m hands shows.
     (g.W.Sink.written c.args.out.now) (g.W.Sink.written c.args.out.now)) (sym c.script_status.ensures)
     (first_ends c.in-Err.fault c.in-Err.ensures.faults (lines_in x) (lines_ahead c.first_owner.new.reader after.0)
     (gives_first (Err c.in-Err.fault) c.new-reader.result x (lines_ahead c.first_owner.new.reader after.0) c.new-reader.ensures (c.in-Err.ensures.gives x after.0 was after.1))
-    key hands version_limits m draws (lines_behind (lines_in x)) (g.R.Source.left c.args.random.now) (g.D.Disk.shown c.args.disk.now) (g.W.Sink.written c.args.out.now) left)
+    key hands version_limits m draws (lines_behind (lines_in x)) (g.R.Source.left c.args.random.now) (g.D.Disk.shown c.args.disk.now) (g.W.Sink.written c.args.out.now) left shows)
 
 pub returns-in-Ok-open_store-clause-first_line : goal.returns-in-Ok-open_store-clause-first_line
 returns-in-Ok-open_store-clause-first_line g c = λ x was none.
@@ -69,10 +69,12 @@ returns-in-Err-open_store-clause-ran g c = λ x was draws left key m hands shows
     let same = same_key c.in-Ok.key key (lines_in x) (lines_ahead c.first_owner.new.reader after.0)
     (gives_first (Ok c.in-Ok.key) c.new-reader.result x (lines_ahead c.first_owner.new.reader after.0) c.new-reader.ensures (c.in-Ok.ensures.gives x after.0 was after.1)) hands in
     let stands = subst (λ k. StandsForJournal k m shows.0) (sym same) shows.2 in
+    let now = still_told (g.D.Disk.shown c.open_store.new.disk) (g.D.Disk.shown c.args.disk.now) shows.0 c.in-Err-open_store.ensures.told shows.1 in
     subst (λ status. Ends status version_limits key m draws (lines_behind (lines_in x)) (g.R.Source.left c.args.random.now) (g.D.Disk.shown c.open_store.new.disk)
     (g.W.Sink.written c.args.out.now) (g.W.Sink.written c.args.out.now)) (sym c.open_status.ensures)
     (unopened_ends c.in-Err-open_store.fault (c.in-Err-open_store.ensures.never m shows.0 shows.1 stands stands.valid.1)
-    version_limits key m draws (lines_behind (lines_in x)) (g.R.Source.left c.args.random.now) (g.D.Disk.shown c.open_store.new.disk) (g.W.Sink.written c.args.out.now) left)
+    version_limits key m draws (lines_behind (lines_in x)) (g.R.Source.left c.args.random.now) (g.D.Disk.shown c.open_store.new.disk) (g.W.Sink.written c.args.out.now) left
+    (now.0, now.1, subst (λ k. StandsForJournal k m now.0) same (c.in-Err-open_store.ensures.left m shows.0 now.0 shows.1 now.1 stands stands.valid.1)))
 
 pub returns-in-Ok-open_store-clause-ran : goal.returns-in-Ok-open_store-clause-ran
 returns-in-Ok-open_store-clause-ran g c = λ x was draws left key m hands shows.

@@ -76,12 +76,13 @@ returns-clause-answers g c = λ m is.
       next_bytes = λ x y a b. c.in-Ok-fill.ensures.bytes x y a b ∙ ap (λ (d : List (List ℕ)). joined d ++ y) (sym c.as_slice.ensures);
       disk_stands = c.owners_go_on.ensures.disk m r drawn o new was shows is limit bounded (planned.2 m is) full;
     } in
-    let many = c.in-Ok-fill.ensures.count in
-    let left : IsInterrupted r drawn mid was shows → IsCutShort m r o was shows = λ h. (
-      drawn,
-      ap length c.as_slice.ensures ∙ many ∙ c.in-Ok.ensures ∙ ap length c.as_slice-count.ensures ∙ ap (λ (s : Skeleton). length s.keys.items) c.skeleton.ensures ∙ (planned.3 m is).0,
-      c.interrupted_commands_leave_a_journal.ensures m r drawn o was shows is limit bounded (planned.2 m is) (interrupted_from r drawn o mid was shows c.plan.ensures.room h),
-    ) in
+    let left : IsInterrupted r drawn mid was shows → IsCutShort m r o before after was shows = λ h. record {
+      drawn = drawn;
+      drawn_count = ap length c.as_slice.ensures ∙ c.in-Ok-fill.ensures.count ∙ c.in-Ok.ensures ∙ ap length c.as_slice-count.ensures
+          ∙ ap (λ (s : Skeleton). length s.keys.items) c.skeleton.ensures ∙ (planned.3 m is).0;
+      next_bytes = λ x y a b. c.in-Ok-fill.ensures.bytes x y a b ∙ ap (λ (d : List (List ℕ)). joined d ++ y) (sym c.as_slice.ensures);
+      disk_stands = c.interrupted_commands_leave_a_journal.ensures m r drawn o was shows is limit bounded (planned.2 m is) (interrupted_from r drawn o mid was shows c.plan.ensures.room h);
+    } in
     carried_answer c.carry_out.result note drawn m r o new before after was shows (IsCarriedOut r drawn mid new was shows) (planned.2 m is) c.carry_out.ensures.fault c.carry_out.ensures.closed
     (on_err_weaker c.carry_out.result left c.carry_out.ensures.interrupted) c.carry_out.ensures.reply c.carry_out.ensures.done done
 

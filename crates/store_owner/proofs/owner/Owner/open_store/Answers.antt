@@ -1,4 +1,4 @@
-use Rattle.std.proofs.Common.{◌≡◌, Err, Ok, sym, ap, subst, ◌∙◌}
+use Rattle.std.proofs.Common.{◌≡◌, Ok, ap, subst}
 use Rattle.std.proofs.lemmas.Result.{err_from_is_err_and}
 use Rattle.chacha_seal.specs.Keys.{KeyParts}
 use Rattle.cry_io.specs.Told.{WhereTold, WhereBothTold}
@@ -6,8 +6,8 @@ use Rattle.commit_journal.specs.Answering.{IsFault}
 use Rattle.commit_journal.specs.Opening.{IsOpened, opening_verdict, plain_opened, slots_filled}
 use Rattle.commit_journal.specs.Placed.{plain_log}
 use Rattle.commit_journal.specs.WholeLogs.{StillStand}
-use Rattle.commit_journal.specs.declared.fault.OpenFault.TheVariants as faults
-use Rattle.store_owner.proofs.OpenedBehind.{journal_left, journal_never, journal_settled, journal_stands, largest_verdict, same_verdict}
+use Rattle.commit_journal.proofs.CommitLemmas.{on_err}
+use Rattle.store_owner.proofs.OpenedBehind.{journal_filled, journal_left, journal_never, journal_settled, journal_stands, largest_verdict, same_verdict}
 use Rattle.store_owner.proofs.OpenedContents.{log_fails}
 use Rattle.store_owner.proofs.owner.Owner.open_store.Goals as goal
 
@@ -67,14 +67,22 @@ returns-clause-settled g c =
     c.in_ok-opened.ensures.told c.in_ok-opened.ensures.durable
 
 pub returns-in_err-opened-clause-left : goal.returns-in_err-opened-clause-left
-returns-in_err-opened-clause-left g c = λ is.
+returns-in_err-opened-clause-left g c =
     let limit = c.args.limits.store_bytes in
     let was = g.D.Disk.shown c.args.disk.now in
     let shows = g.D.Disk.shown c.open_owner.new.disk in
     let bytes = ap (λ (k : KeyParts). k.bytes) c.owner-owner.ensures in
-    let p = err_from_is_err_and c.from_residual.result c.from_residual.ensures.1 in
-    let both = sym p.1 ∙ is in
-    let told : p.0 ≡ faults.DiskFault = cc in
-    let fault : c.in_err-opened.field-0.0 ≡ faults.DiskFault = sym p.2 ∙ told in
-    journal_left limit c.args.key was shows
-    (subst (λ b. WhereBothTold was shows (StillStand limit b)) bytes (c.in_err-opened.ensures.left (ap Err fault)))
+    on_err c.from_residual.result
+    (journal_left limit c.args.key was shows (subst (λ b. WhereBothTold was shows (StillStand limit b)) bytes c.in_err-opened.ensures.left))
+
+pub returns-clause-left : goal.returns-clause-left
+returns-clause-left g c =
+    let limit = c.args.limits.store_bytes in
+    let o = c.in_ok-opened.opened in
+    let was = g.D.Disk.shown c.args.disk.now in
+    let shows = g.D.Disk.shown c.open_owner.new.disk in
+    let bytes = ap (λ (k : KeyParts). k.bytes) c.owner-owner.ensures in
+    on_err c.owner_behind.result
+    (journal_filled limit c.args.key o was shows c.requires.known
+    (subst (λ b. WhereTold was (λ s. opening_verdict limit b s ≡ Ok (plain_opened o))) bytes c.in_ok-opened.ensures.verdict)
+    (subst (λ b. WhereBothTold was shows (λ x y. y ≡ slots_filled b (plain_log o.placed) x)) bytes c.in_ok-opened.ensures.filled))
