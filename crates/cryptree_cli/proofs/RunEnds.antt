@@ -242,7 +242,7 @@ module _ (X : Type 0) (scene : X → Scene) (Step : X → Request → Reply → 
           bytes.0,
           bytes.1,
           subst (λ k. IsBetween (StandsForJournal k) g.journal (journal_then g.journal g.begun s.next cut.drawn) bytes.0) s.there.has_key
-          (subst (λ h. IsBetween (StandsForJournal owner.key) g.journal (journal_then g.journal h s.next cut.drawn) bytes.0) s.there.has_begun between),
+              (subst (λ h. IsBetween (StandsForJournal owner.key) g.journal (journal_then g.journal h s.next cut.drawn) bytes.0) s.there.has_begun between),
         );
         prints = s.prints;
       }

@@ -112,7 +112,7 @@ pub record RanUnwritten (limits : Limits) (key : List ℕ) (m : Journal) (draws 
   pub asks : Asks (asked ++ next ∷ []) lines rest
   pub is_accepted : IsAccepted limits (going_asked limits m draws asked) next
   pub drawn_count : length drawn ≡ draws_of (going_asked limits m draws asked).journal next
-  pub draws_left : (more : List ℕ) × (left ≡ Some more) × ((going_asked limits m draws asked).draws ≡ flat_map (λ (k : List ℕ). k) drawn ++ more)
+  pub draws_left : (more : List ℕ) × (left ≡ Some more) × ((going_asked limits m draws asked).draws ≡ joined drawn ++ more)
   pub shows_between : (s : List ℕ) × (shown ≡ Some s) × IsBetween (StandsForJournal key) (going_asked limits m draws asked).journal
       (journal_then (going_asked limits m draws asked).journal (going_asked limits m draws asked).begun next drawn) s
   pub prints : WhereBothTold before after (PrintsScript limits m draws asked)
