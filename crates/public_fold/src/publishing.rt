@@ -15,13 +15,13 @@ pub(crate) fn published(
     added: &[Edge],
     keyed: &[Role],
 ) -> Mem<List<Edge>>
-    ensures { IfOk result (λ l. l.items ≡ filter (λ e. has same_edge added.now e || has same_role keyed.now e.from || has same_role keyed.now e.to) (in_order edge_before (left.now ++ added.now))) }
+    ensures { IfOk result (λ l. l.items ≡ in_order edge_before (filter (λ e. has same_edge added.now e || has same_role keyed.now e.from || has same_role keyed.now e.to) (left.now ++ added.now))) }
 {
-    let mut all = Vec::new(alloc);
-    all.extend_from_slice(left)?;
-    all.extend_from_slice(added)?;
-    sort(&mut all)?;
-    those_keyed(alloc, &all, added, keyed)
+    let mut found = Vec::new(alloc);
+    push_keyed(&mut found, left, added, keyed)?;
+    push_keyed(&mut found, added, added, keyed)?;
+    sort(&mut found)?;
+    to_list(alloc, &found)
 }
 
 /// Puts the edges in their order.
@@ -45,15 +45,24 @@ pub(crate) fn number_of(role: Role) -> u32
     }
 }
 
-/// Those of the edges that come, or that have a keyed role at an end.
-fn those_keyed(alloc: Global, edges: &[Edge], added: &[Edge], keyed: &[Role]) -> Mem<List<Edge>>
-    ensures { IfOk result (λ l. l.items ≡ filter (λ e. has same_edge added.now e || has same_role keyed.now e.from || has same_role keyed.now e.to) edges.now) }
+/// Adds those of the edges that come, or that have a keyed role at an end.
+fn push_keyed(found: &mut Vec<Edge>, edges: &[Edge], added: &[Edge], keyed: &[Role]) -> Mem<()>
+    ensures { OnOk result (found.new.items ≡ found.old.items ++ filter (λ e. has same_edge added.now e || has same_role keyed.now e.from || has same_role keyed.now e.to) edges.now) }
 {
-    let mut found = List::new(alloc);
     for edge in edges {
         if has_edge(added, edge) || has_role(keyed, edge.from) || has_role(keyed, edge.to) {
             found.push(*edge)?;
         }
     }
-    Ok(found)
+    Ok(())
+}
+
+fn to_list(alloc: Global, edges: &[Edge]) -> Mem<List<Edge>>
+    ensures { IfOk result (λ l. l.items ≡ edges.now) }
+{
+    let mut list = List::new(alloc);
+    for edge in edges {
+        list.push(*edge)?;
+    }
+    Ok(list)
 }

@@ -3,6 +3,7 @@ ghost use Rattle.std.specs.Prelude.{◌≡◌, ◌≤◌, true, false, IfErr, If
 ghost use Rattle.move_plan.specs.Fitting.{fits as fits_store};
 ghost use Rattle.move_plan.specs.Seen.{plain_change};
 ghost use Rattle.record_format.specs.Told.{told_note};
+ghost use Rattle.role_graph.specs.Edges.{edge_before, in_order};
 ghost use Rattle.public_fold.specs.Fitted.{told_step};
 ghost use Rattle.public_fold.specs.StandFits.{note_fits};
 ghost use Rattle.public_fold.specs.Standing.{public_store_of, stand_of};
@@ -20,7 +21,7 @@ use cry_base::{Edge, List, Mem, Role};
 use move_plan::{Change, change_of};
 use record_format::Note;
 use rekey_walk::{Dirty, plan};
-use role_graph::edges;
+use role_graph::unordered_edges;
 use std::alloc::Global;
 
 /// A step before its serials are counted.
@@ -61,14 +62,14 @@ pub(crate) fn step_of(alloc: Global, state: &PublicState, note: &Note) -> Result
         return Err(FoldFault::Unfit);
     }
     let change = change_of(alloc, &state.shape, &state.grants, note)?;
-    let before = edges(alloc, &state.shape, &state.grants)?;
-    let due = due_step(alloc, state, before.as_slice(), &change)?;
+    let before = unordered_edges(alloc, &state.shape, &state.grants)?;
+    let due = due_step(alloc, state, &before, &change)?;
     numbered_step(alloc, state, note, due)
 }
 
-/// The step of a change, before its serials are counted.
+/// The step of a change, before its serials are counted. The edges before it come in any order.
 fn due_step(alloc: Global, state: &PublicState, before: &[Edge], change: &Change) -> Mem<Due>
-    ensures { IfOk result (λ d. IsDue state.now.keys before.now (plain_change change.now) d) }
+    ensures { IfOk result (λ d. IsDue state.now.keys (in_order edge_before before.now) (plain_change change.now) d) }
 {
     let mut dirty = dirty_left(alloc, &state.dirty, before, change)?;
     let left = edges_left(alloc, before, change.removed.as_slice())?;

@@ -1,2 +1,3 @@
 pub mod Marking
 pub mod Planning
+pub mod Reordered

@@ -14,11 +14,11 @@ use Rattle.role_graph.proofs.Rising.{ascending_ascends, same_list}
 use Rattle.rekey_walk.specs.Dirty.{mark, plan}
 use Rattle.rekey_walk.proofs.Marking.{mark_told, plan_told}
 
-mark_ascends : (dirty : List Role) (es : List Edge) (target : Role) → IsAscending (mark dirty es target)
+pub mark_ascends : (dirty : List Role) (es : List Edge) (target : Role) → IsAscending (mark dirty es target)
 unfolding mark
 mark_ascends dirty es target = ascending_ascends _
 
-plan_ascends : (dirty : List Role) (es : List Edge) (wanted : List Role) → IsAscending (plan dirty es wanted)
+pub plan_ascends : (dirty : List Role) (es : List Edge) (wanted : List Role) → IsAscending (plan dirty es wanted)
 unfolding plan
 plan_ascends dirty es wanted = ascending_ascends _
 

@@ -83,6 +83,9 @@ pub fn mark_from(alloc: Global, dirty: &mut Dirty, edges: &[Edge], target: Role)
 pub fn plan(alloc: Global, dirty: &Dirty, edges: &[Edge], wanted: &[Role]) -> Mem<List<Role>>
     ensures { IfOk result (λ l. l.items ≡ plan_of dirty.now edges.now wanted.now) }
 {
+    if dirty.as_slice().is_empty() {
+        return Ok(List::new(alloc));
+    }
     let leading = leading_to(alloc, edges, wanted)?;
     common(alloc, dirty.as_slice(), &leading)
 }
