@@ -1,5 +1,6 @@
 -- What the code lists for a step is what the definitions say of it.
-use Rattle.std.proofs.Common.{◌≡◌, ◌||◌, Bool, not, List, ◌++◌, map, filter, sym, ap, ◌∙◌}
+use Rattle.std.proofs.Common.{◌≡◌, ◌==◌, ◌||◌, Bool, true, not, List, [], ◌∷◌, ◌++◌, length, map, filter, refl, sym, ap, ◌∙◌, arith}
+use Rattle.std.proofs.lemmas.Bool.{eqb-true}
 use Rattle.cry_base.specs.Sets.{has}
 use Rattle.cry_base.specs.declared.roles.Edge.{Edge}
 use Rattle.cry_base.specs.declared.roles.Role.{Role}
@@ -14,7 +15,7 @@ use Rattle.public_fold.specs.KeyStep.{KeyState, dirty_left, edges_left, edges_th
 use Rattle.public_fold.specs.Stepping.{IsDue}
 use Rattle.public_fold.specs.declared.step.Due.{Due}
 
-pub due_is : (k : KeyState) (before : List Edge) (c : Change) (marked : List Role) (left : List Edge) (again : List Role) (d : Due)
+due_is : (k : KeyState) (before : List Edge) (c : Change) (marked : List Role) (left : List Edge) (again : List Role) (d : Due)
     → marked ≡ without same_role c.gone (mark_all k.dirty before (map (λ (e : Edge). e.to) c.removed))
     → left ≡ without same_edge c.removed before
     → again ≡ plan marked left c.wanted
@@ -59,3 +60,10 @@ due_in_order k before c marked left again d m l a keyed gone edges dirty =
     left_in_order
     (a ∙ plan_same marked left (in_order edge_before left) c.wanted (λ e i. (In-order Edge edge_before e left).1 i) (λ e i. (In-order Edge edge_before e left).0 i))
     keyed gone (edges ∙ sym (sifted p left c.added)) dirty
+
+-- without nothing all is left
+pub none_removed : (removed before : List Edge) → (length removed == 0) ≡ true → before ≡ without same_edge removed before
+unfolding without has
+none_removed [] [] none = refl
+none_removed [] (e ∷ es) none = ap (λ (l : List Edge). e ∷ l) (none_removed [] es none)
+none_removed (r ∷ rs) before none = absurd (let empty : length (r ∷ rs) ≡ 0 = eqb-true (length (r ∷ rs)) 0 none in omega (arith, empty))

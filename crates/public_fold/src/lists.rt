@@ -60,13 +60,23 @@ fn push_roles(all: &mut List<Role>, roles: &[Role]) -> Mem<()>
     Ok(())
 }
 
-/// The edges that are left without the removed ones.
-#[tactic(auto, unfolding(crate::specs::KeyStep::without))]
-pub(crate) fn edges_left(alloc: Global, before: &[Edge], removed: &[Edge]) -> Mem<List<Edge>>
-    ensures { IfOk result (λ l. l.items ≡ without same_edge removed.now before.now) }
+/// The edges that are left without the removed ones. Where none is removed, they are handed through.
+pub(crate) fn edges_left(alloc: Global, before: Vec<Edge>, removed: &[Edge]) -> Mem<Vec<Edge>>
+    ensures { IfOk result (λ l. l.items ≡ without same_edge removed.now before.items) }
 {
-    let mut left = List::new(alloc);
-    for edge in before {
+    if removed.is_empty() {
+        return Ok(before);
+    }
+    others(alloc, &before, removed)
+}
+
+/// The edges that aren't among some.
+#[tactic(auto, unfolding(crate::specs::KeyStep::without))]
+fn others(alloc: Global, edges: &[Edge], removed: &[Edge]) -> Mem<Vec<Edge>>
+    ensures { IfOk result (λ l. l.items ≡ without same_edge removed.now edges.now) }
+{
+    let mut left = Vec::new(alloc);
+    for edge in edges {
         if !has_edge(removed, edge) {
             left.push(*edge)?;
         }

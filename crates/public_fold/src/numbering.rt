@@ -56,28 +56,18 @@ pub(crate) fn keys_after(
     given: &[KeyHead],
     gone: &[Role],
     old: &[KeyHead],
-) -> Mem<List<KeyHead>>
+) -> Mem<Vec<KeyHead>>
     ensures { IfOk result (λ l. l.items ≡ given.now ++ keys_without gone.now old.now) }
 {
-    let mut keys = List::new(alloc);
-    push_keys(&mut keys, given)?;
+    let mut keys = Vec::with_capacity(alloc, given.len() + old.len())?;
+    keys.extend_from_slice(given)?;
     push_others(&mut keys, gone, old)?;
     Ok(keys)
 }
 
-/// Adds the keys at the end.
-fn push_keys(all: &mut List<KeyHead>, keys: &[KeyHead]) -> Mem<()>
-    ensures { OnOk result (all.new.items ≡ all.old.items ++ keys.now) }
-{
-    for key in keys {
-        all.push(*key)?;
-    }
-    Ok(())
-}
-
 /// Adds the keys whose role isn't among some.
 #[tactic(auto, unfolding(crate::specs::KeyStep::keys_without))]
-fn push_others(all: &mut List<KeyHead>, gone: &[Role], keys: &[KeyHead]) -> Mem<()>
+fn push_others(all: &mut Vec<KeyHead>, gone: &[Role], keys: &[KeyHead]) -> Mem<()>
     ensures { OnOk result (all.new.items ≡ all.old.items ++ keys_without gone.now keys.now) }
 {
     for key in keys {
@@ -118,13 +108,4 @@ fn link_head(keys: &[KeyHead], edge: &Edge, nonce: u64) -> LinkHead
         to_serial: present_serial(keys, edge.to),
         nonce,
     }
-}
-
-/// The keys once more.
-pub(crate) fn copied_keys(alloc: Global, keys: &[KeyHead]) -> Mem<List<KeyHead>>
-    ensures { IfOk result (λ l. l.items ≡ keys.now) }
-{
-    let mut all = List::new(alloc);
-    push_keys(&mut all, keys)?;
-    Ok(all)
 }

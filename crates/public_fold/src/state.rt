@@ -5,8 +5,8 @@ ghost use Rattle.public_fold.specs.KeyStep.{newest, next_epoch};
 ghost use Rattle.public_fold.specs.Standing.{IsSeenAs, stand_of};
 
 use crate::KeyHead;
-use crate::numbering::{copied_keys, newest_serial};
-use cry_base::{Epoch, List, Mem, Role, Serial};
+use crate::numbering::newest_serial;
+use cry_base::{Epoch, Mem, Role, Serial};
 use folder_nodes::Shape;
 use grant_book::Grants;
 use rekey_walk::Dirty;
@@ -20,7 +20,7 @@ pub struct PublicState {
     pub(crate) shape: Shape,
     pub(crate) grants: Grants,
     /// The newest first.
-    pub(crate) keys: List<KeyHead>,
+    pub(crate) keys: Vec<KeyHead>,
     pub(crate) dirty: Dirty,
     pub(crate) epoch: u32,
     pub(crate) count: u32,
@@ -45,7 +45,7 @@ impl PublicState {
     pub fn new(alloc: Global) -> Mem<PublicState>
         ensures { IfOk result (λ s. IsSeenAs s nothing) }
     {
-        let mut keys = List::new(alloc);
+        let mut keys = Vec::new(alloc);
         keys.push(KeyHead {
             role: Role::Owner,
             serial: Serial(0),
@@ -93,7 +93,7 @@ impl PublicState {
     pub fn present(&self, role: Role) -> Option<Serial>
         ensures { option_map (λ serial. serial.0) result ≡ newest self.now.keys.keys role }
     {
-        newest_serial(self.keys.as_slice(), role)
+        newest_serial(&self.keys, role)
     }
 
     /// The epoch that the counter of serials is in, and 0 before the first.
@@ -119,7 +119,7 @@ impl PublicState {
     {
         let shape = self.shape.copy()?;
         let grants = self.grants.copy()?;
-        let keys = copied_keys(alloc, self.keys.as_slice())?;
+        let keys = Vec::from_slice(alloc, &self.keys)?;
         let dirty = self.dirty.copy()?;
         Ok(PublicState {
             shape,

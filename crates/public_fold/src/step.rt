@@ -47,7 +47,7 @@ pub(crate) struct Step {
 /// The keys, the dirty roles and the epoch's count after a step.
 #[derive(Debug, Drop)]
 pub(crate) struct Left {
-    pub(crate) keys: List<KeyHead>,
+    pub(crate) keys: Vec<KeyHead>,
     pub(crate) dirty: Dirty,
     pub(crate) count: u32,
 }
@@ -63,26 +63,21 @@ pub(crate) fn step_of(alloc: Global, state: &PublicState, note: &Note) -> Result
     }
     let change = change_of(alloc, &state.shape, &state.grants, note)?;
     let before = unordered_edges(alloc, &state.shape, &state.grants)?;
-    let due = due_step(alloc, state, &before, &change)?;
+    let due = due_step(alloc, state, before, &change)?;
     numbered_step(alloc, state, note, due)
 }
 
 /// The step of a change, before its serials are counted. The edges before it come in any order.
-fn due_step(alloc: Global, state: &PublicState, before: &[Edge], change: &Change) -> Mem<Due>
-    ensures { IfOk result (λ d. IsDue state.now.keys (in_order edge_before before.now) (plain_change change.now) d) }
+fn due_step(alloc: Global, state: &PublicState, before: Vec<Edge>, change: &Change) -> Mem<Due>
+    ensures { IfOk result (λ d. IsDue state.now.keys (in_order edge_before before.items) (plain_change change.now) d) }
 {
-    let mut dirty = dirty_left(alloc, &state.dirty, before, change)?;
+    let mut dirty = dirty_left(alloc, &state.dirty, &before, change)?;
     let left = edges_left(alloc, before, change.removed.as_slice())?;
-    let renewed = plan(alloc, &dirty, left.as_slice(), change.wanted.as_slice())?;
+    let renewed = plan(alloc, &dirty, &left, change.wanted.as_slice())?;
     let renewed = renewed.as_slice();
     let keyed = joined(alloc, renewed, change.fresh.as_slice())?;
     let gone = joined(alloc, renewed, change.gone.as_slice())?;
-    let edges = published(
-        alloc,
-        left.as_slice(),
-        change.added.as_slice(),
-        keyed.as_slice(),
-    )?;
+    let edges = published(alloc, &left, change.added.as_slice(), keyed.as_slice())?;
     clean(&mut dirty, renewed);
     Ok(Due {
         keyed,
@@ -115,16 +110,11 @@ fn numbered_step(
     };
     let first = next_serial(state.epoch, state.count);
     let given = given_keys(alloc, keyed, first)?;
-    let keys = keys_after(
-        alloc,
-        given.as_slice(),
-        due.gone.as_slice(),
-        state.keys.as_slice(),
-    )?;
+    let keys = keys_after(alloc, given.as_slice(), due.gone.as_slice(), &state.keys)?;
     let first_link = first + keyed.len() as u64;
-    let links = link_heads(alloc, keys.as_slice(), published, first_link)?;
+    let links = link_heads(alloc, &keys, published, first_link)?;
     let first_content = first_link + published.len() as u64;
-    let contents = content_heads(alloc, keys.as_slice(), note, first_content)?;
+    let contents = content_heads(alloc, &keys, note, first_content)?;
     Ok(Step {
         skeleton: Skeleton {
             keys: given,
