@@ -4,6 +4,7 @@ pub mod CleanLinks
 pub mod Counting
 pub mod EdgesAfter
 pub mod EdgesThen
+pub mod FileStep
 pub mod Growing
 pub mod Keeping
 pub mod KeepingKeys

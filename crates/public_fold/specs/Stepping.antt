@@ -1,7 +1,10 @@
 -- What the code makes of a step on its way. This project's own, docs/FORMAT.md, "The key step".
-use Rattle.std.specs.Prelude.{◌≡◌, ℕ, ◌+◌, ◌<◌, List, ◌++◌, length, map}
+use Rattle.std.specs.Prelude.{◌≡◌, ℕ, ◌+◌, ◌<◌, Bool, ◌&&◌, ◌==◌, List, ◌++◌, length, map}
+use Rattle.std.specs.List.{list_all}
+use Rattle.cry_base.specs.Sets.{has}
 use Rattle.cry_base.specs.declared.roles.Edge.{Edge}
-use Rattle.role_graph.specs.Roles.{same_role}
+use Rattle.cry_base.specs.declared.roles.Role.{Role}
+use Rattle.role_graph.specs.Roles.{same_role, variant_of}
 use Rattle.move_plan.specs.Change.{Change}
 use Rattle.record_format.specs.Noted.{Note}
 use Rattle.grant_book.specs.Granted.{AreOrdered}
@@ -12,6 +15,14 @@ use Rattle.public_fold.specs.KeyStep.{KeyState, Stepped, contents_from, dirty_le
 use Rattle.public_fold.specs.declared.step.Due.{Due}
 use Rattle.public_fold.specs.declared.step.Left.{Left}
 use Rattle.public_fold.specs.declared.step.Step.{Step}
+
+-- whether the role is a file's
+unfoldable pub is_for_file : Role → Bool
+is_for_file r = variant_of r == 7
+
+-- whether the change gives keys to files alone: nothing is dirty, no edge goes, and each edge that comes leads to a new file
+unfoldable pub is_for_files : List Role → Change → Bool
+is_for_files dirty c = length dirty == 0 && length c.removed == 0 && list_all is_for_file c.fresh && list_all (λ e. has same_role c.fresh e.to) c.added
 
 -- the roles that get keys, those whose old keys go, the dirty roles that are left, and the edges that are published
 pub record IsDue (k : KeyState) (before : List Edge) (c : Change) (d : Due) : Type 0 where

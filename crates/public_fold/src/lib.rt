@@ -5,6 +5,7 @@ mod advance;
 mod changing;
 mod counter;
 mod fault;
+mod file_keys;
 mod fitting;
 mod heads;
 pub mod key_laws;

@@ -25,7 +25,7 @@ pub(crate) fn published(
 }
 
 /// Puts the edges in their order.
-fn sort(edges: &mut Vec<Edge>) -> Mem<()>
+pub(crate) fn sort(edges: &mut Vec<Edge>) -> Mem<()>
     ensures { OnOk result (edges.new.items ≡ in_order edge_before edges.old.items) }
 {
     edges.sort_by_key(|edge| (edge.kind, number_of(edge.from), number_of(edge.to)))?;
@@ -57,7 +57,8 @@ fn push_keyed(found: &mut Vec<Edge>, edges: &[Edge], added: &[Edge], keyed: &[Ro
     Ok(())
 }
 
-fn to_list(alloc: Global, edges: &[Edge]) -> Mem<List<Edge>>
+/// The edges as a list.
+pub(crate) fn to_list(alloc: Global, edges: &[Edge]) -> Mem<List<Edge>>
     ensures { IfOk result (λ l. l.items ≡ edges.now) }
 {
     let mut list = List::new(alloc);

@@ -3,14 +3,16 @@ ghost use Rattle.std.specs.Prelude.{◌≡◌, ◌≤◌, true, false, IfErr, If
 ghost use Rattle.move_plan.specs.Fitting.{fits as fits_store};
 ghost use Rattle.move_plan.specs.Seen.{plain_change};
 ghost use Rattle.record_format.specs.Told.{told_note};
-ghost use Rattle.role_graph.specs.Edges.{edge_before, in_order};
+ghost use Rattle.role_graph.specs.Edges.{edge_before, edges as edges_of, in_order};
+ghost use Rattle.role_graph.specs.PublicStore.{public_store};
 ghost use Rattle.public_fold.specs.Fitted.{told_step};
 ghost use Rattle.public_fold.specs.StandFits.{note_fits};
 ghost use Rattle.public_fold.specs.Standing.{public_store_of, stand_of};
-ghost use Rattle.public_fold.specs.Stepping.{IsDue, IsNumbered, IsStateAfter, IsStep, counted};
+ghost use Rattle.public_fold.specs.Stepping.{IsDue, IsNumbered, IsStateAfter, IsStep, counted, is_for_files as changes_files};
 
 use crate::changing::change_store;
 use crate::counter::{count_after, next_serial};
+use crate::file_keys::{is_for_files, published_for_files};
 use crate::lists::{edges_left, joined};
 use crate::marks::{clean, dirty_left};
 use crate::numbering::{given_keys, keys_after, link_heads};
@@ -62,13 +64,44 @@ pub(crate) fn step_of(alloc: Global, state: &PublicState, note: &Note) -> Result
         return Err(FoldFault::Unfit);
     }
     let change = change_of(alloc, &state.shape, &state.grants, note)?;
-    let before = unordered_edges(alloc, &state.shape, &state.grants)?;
-    let due = due_step(alloc, state, before, &change)?;
+    let due = due_step(alloc, state, &change)?;
     numbered_step(alloc, state, note, due)
 }
 
-/// The step of a change, before its serials are counted. The edges before it come in any order.
-fn due_step(alloc: Global, state: &PublicState, before: Vec<Edge>, change: &Change) -> Mem<Due>
+/// The step of a change, before its serials are counted.
+fn due_step(alloc: Global, state: &PublicState, change: &Change) -> Mem<Due>
+    ensures { IfOk result (λ d. IsDue state.now.keys (edges_of (public_store state.now.tree state.now.pairs)) (plain_change change.now) d) }
+{
+    if is_for_files(&state.dirty, change) {
+        return file_step(alloc, state, change);
+    }
+    let before = unordered_edges(alloc, &state.shape, &state.grants)?;
+    whole_step(alloc, state, before, change)
+}
+
+/// The step of a change that gives keys to files alone.
+fn file_step(alloc: Global, state: &PublicState, change: &Change) -> Mem<Due>
+    requires { changes_files state.now.keys.dirty (plain_change change.now) ≡ true }
+    ensures { IfOk result (λ d. IsDue state.now.keys (edges_of (public_store state.now.tree state.now.pairs)) (plain_change change.now) d) }
+{
+    let keyed = joined(alloc, change.fresh.as_slice(), &[])?;
+    let gone = joined(alloc, change.gone.as_slice(), &[])?;
+    let edges = published_for_files(
+        alloc,
+        state.shape.files(),
+        change.fresh.as_slice(),
+        change.added.as_slice(),
+    )?;
+    Ok(Due {
+        keyed,
+        gone,
+        dirty: Dirty::new(alloc),
+        edges,
+    })
+}
+
+/// The step of any change. The edges before it come in any order.
+fn whole_step(alloc: Global, state: &PublicState, before: Vec<Edge>, change: &Change) -> Mem<Due>
     ensures { IfOk result (λ d. IsDue state.now.keys (in_order edge_before before.items) (plain_change change.now) d) }
 {
     let mut dirty = dirty_left(alloc, &state.dirty, &before, change)?;

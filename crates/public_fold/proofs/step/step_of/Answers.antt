@@ -2,9 +2,8 @@ use Rattle.std.proofs.Common.{◌≡◌, true, false, List, Result, Ok, Err, sym
 use Rattle.std.proofs.lemmas.Bool.{true_from_ne_false}
 use Rattle.std.proofs.lemmas.Result.{IfOk-weaker, err_from_is_err_and}
 use Rattle.cry_base.specs.declared.roles.Edge.{Edge}
-use Rattle.role_graph.specs.Edges.{edge_before, edges, in_order, unordered}
+use Rattle.role_graph.specs.Edges.{edges}
 use Rattle.role_graph.specs.PublicStore.{public_store}
-use Rattle.role_graph.proofs.Sifting.{edges_ordered}
 use Rattle.record_format.specs.Told.{told_note}
 use Rattle.move_plan.specs.Change.{change_of}
 use Rattle.move_plan.specs.Fitting.{fits}
@@ -46,7 +45,7 @@ returns-clause-fits c =
     true_from_ne_false (fits (seen_store c.state.inside.shape.tree c.state.inside.grants) note) (λ f. never_both Change c.in_ok-change.change change.Unfit c.change_of.result c.in_ok-change.was (c.change_of.ensures.unfit.1 f)) in
     let fit : fits (public_store_of v) note ≡ true = subst (λ (w : PublicView). fits (public_store_of w) note ≡ true) c.state.view_is fit0 in
     let same : plain_change c.in_ok-change.change ≡ change_of (public_store_of v) note = c.in_ok-change.ensures.change ∙ ap (λ (w : PublicView). change_of (public_store_of w) note) c.state.view_is in
-    let before : in_order edge_before c.in_ok-before.before.items ≡ edges (public_store_of v) = ap (λ (l : List Edge). in_order edge_before l) (c.in_ok-before.ensures ∙ ap (λ (w : PublicView). unordered (public_store w.tree w.pairs)) c.state.view_is) ∙ sym (edges_ordered (public_store v.tree v.pairs)) ∙ edges_seen v in
+    let before : edges (public_store v.tree v.pairs) ≡ edges (public_store_of v) = edges_seen v in
     let is : IsDue v.keys (edges (public_store_of v)) (plain_change c.in_ok-change.change) c.in_ok-due.due = subst (λ (l : List Edge). IsDue v.keys l (plain_change c.in_ok-change.change) c.in_ok-due.due) before c.in_ok-due.ensures in
     IfOk-weaker c.numbered_step.result (λ s. IsNumbered v.keys note c.in_ok-due.due s) (λ s. fits_at v note ≡ true)
     (λ s n. fits_told v note (plain_change c.in_ok-change.change) c.in_ok-due.due fit same is s n (λ e. c.if-state-eq0.false (ap (λ (w : PublicView). w.keys.epoch) c.state.view_is ∙ e))) c.numbered_step.ensures.step
@@ -59,7 +58,7 @@ returns-clause-step c =
     true_from_ne_false (fits (seen_store c.state.inside.shape.tree c.state.inside.grants) note) (λ f. never_both Change c.in_ok-change.change change.Unfit c.change_of.result c.in_ok-change.was (c.change_of.ensures.unfit.1 f)) in
     let fit : fits (public_store_of v) note ≡ true = subst (λ (w : PublicView). fits (public_store_of w) note ≡ true) c.state.view_is fit0 in
     let same : plain_change c.in_ok-change.change ≡ change_of (public_store_of v) note = c.in_ok-change.ensures.change ∙ ap (λ (w : PublicView). change_of (public_store_of w) note) c.state.view_is in
-    let before : in_order edge_before c.in_ok-before.before.items ≡ edges (public_store_of v) = ap (λ (l : List Edge). in_order edge_before l) (c.in_ok-before.ensures ∙ ap (λ (w : PublicView). unordered (public_store w.tree w.pairs)) c.state.view_is) ∙ sym (edges_ordered (public_store v.tree v.pairs)) ∙ edges_seen v in
+    let before : edges (public_store v.tree v.pairs) ≡ edges (public_store_of v) = edges_seen v in
     let is : IsDue v.keys (edges (public_store_of v)) (plain_change c.in_ok-change.change) c.in_ok-due.due = subst (λ (l : List Edge). IsDue v.keys l (plain_change c.in_ok-change.change) c.in_ok-due.due) before c.in_ok-due.ensures in
     IfOk-weaker c.numbered_step.result (λ s. IsNumbered v.keys note c.in_ok-due.due s) (λ s. IsStep (step_at v note) s)
     (λ s n. step_told v note (plain_change c.in_ok-change.change) c.in_ok-due.due fit same is s n) c.numbered_step.ensures.step
@@ -72,6 +71,6 @@ returns-clause-unfit c =
     true_from_ne_false (fits (seen_store c.state.inside.shape.tree c.state.inside.grants) note) (λ f. never_both Change c.in_ok-change.change change.Unfit c.change_of.result c.in_ok-change.was (c.change_of.ensures.unfit.1 f)) in
     let fit : fits (public_store_of v) note ≡ true = subst (λ (w : PublicView). fits (public_store_of w) note ≡ true) c.state.view_is fit0 in
     let same : plain_change c.in_ok-change.change ≡ change_of (public_store_of v) note = c.in_ok-change.ensures.change ∙ ap (λ (w : PublicView). change_of (public_store_of w) note) c.state.view_is in
-    let before : in_order edge_before c.in_ok-before.before.items ≡ edges (public_store_of v) = ap (λ (l : List Edge). in_order edge_before l) (c.in_ok-before.ensures ∙ ap (λ (w : PublicView). unordered (public_store w.tree w.pairs)) c.state.view_is) ∙ sym (edges_ordered (public_store v.tree v.pairs)) ∙ edges_seen v in
+    let before : edges (public_store v.tree v.pairs) ≡ edges (public_store_of v) = edges_seen v in
     let is : IsDue v.keys (edges (public_store_of v)) (plain_change c.in_ok-change.change) c.in_ok-due.due = subst (λ (l : List Edge). IsDue v.keys l (plain_change c.in_ok-change.change) c.in_ok-due.due) before c.in_ok-due.ensures in
     λ e. no_count v note (plain_change c.in_ok-change.change) c.in_ok-due.due fit same is (c.numbered_step.ensures.unfit e)
