@@ -1,15 +1,15 @@
 -- The index of names follows the rows.
-use Rattle.std.proofs.Common.{◌≡◌, ◌≢◌, ℕ, ◌<◌, ◌≤◌, Bool, true, ◌&&◌, List, [], map, filter, Option, Some, None, refl, sym, ap, ◌∙◌, subst, inl, inr, ⊎_elim, arith, nat_le}
+use Rattle.std.proofs.Common.{cond, false, ◌==◌, ◌⊎◌, ◌≡◌, ◌≢◌, ℕ, ◌<◌, ◌≤◌, Bool, true, ◌&&◌, List, [], map, filter, Option, Some, None, refl, sym, ap, ◌∙◌, subst, inl, inr, ⊎_elim, arith, nat_le}
 use Rattle.std.specs.Option.{option_map}
 use Rattle.std.specs.Ordering.{nat_cmp}
 use Rattle.std.specs.declared.cmp.Ordering.{Ordering}
 use Rattle.std.specs.declared.cmp.Ordering.TheVariants.{Equal}
 use Rattle.std.proofs.lemmas.Bool.Decides.{nat_tests}
 use Rattle.std.specs.List.{All}
-use Rattle.std.proofs.lemmas.Bool.{and_parts, and_from, le-leb, leb-true}
+use Rattle.std.proofs.lemmas.Bool.{and_parts, and_from, eqb-true, le-leb, leb-true}
 use Rattle.cry_base.specs.Sets.{In}
 use Rattle.cry_base.proofs.Members.{In-map, In-filter, filter-In}
-use Rattle.sorted_table.specs.Rows.{IsRising, row_at, with_row, without}
+use Rattle.sorted_table.specs.Rows.{IsRising, replaced, row_at, with_row, without}
 use Rattle.sorted_table.proofs.Found.{row_at-Some, row_at-None, row_at-absent, In-with_row, In-without}
 use Rattle.folder_nodes.specs.Digests.{name_digest}
 use Rattle.folder_nodes.specs.Indexing.{IsIndexed, spot_of}
@@ -94,6 +94,34 @@ index_without rows spots id row index rising found =
             ),
             w.2,
           );
+    }
+
+-- a row with other bytes stands in the index as before
+put_in : (rows : List NameRow) (row r : NameRow) → In r (replaced rank rows row) → (r ≡ row) ⊎ In r rows
+put_in rows row r i =
+    let w = (In-map NameRow NameRow (λ (x : NameRow). cond (x.id == row.id) row x) r rows).0 i in
+    (elim (w.0.id == row.id) as (λ b. r ≡ cond b row w.0 → (r ≡ row) ⊎ In r rows) [
+      | true ↦ λ e. inl e
+      | false ↦ λ e. inr (subst (λ (z : NameRow). In z rows) (sym e) w.1)
+    ]) w.2
+
+pub index_replaced : (rows : List NameRow) (spots : List NameSpot) (row was : NameRow) → IsIndexed rows spots → IsRising rank rows → row_at rank rows row.id ≡ Some was → was.name.items ≡ row.name.items → IsIndexed (replaced rank rows row) spots
+index_replaced rows spots row was index rising found same =
+    let there = row_at-Some NameRow rank rows row.id was found in
+    let place : spot_of was ≡ spot_of row = λ i. record { digest = name_digest (same i); id = there.1 i } in
+    let put : NameRow → NameRow = λ x. cond (x.id == row.id) row x in
+    record {
+      named = λ r i. ⊎_elim (λ (e : r ≡ row). subst (λ (z : List ℕ). MayBeNamed z) (same ∙ ap (λ (z : NameRow). z.name.items) (sym e)) (index.named was there.0)) (λ old. index.named r old) (put_in rows row r i);
+      small = λ r i. ⊎_elim (λ (e : r ≡ row). subst (λ (z : ℕ). z < 4294967296) (there.1 ∙ ap (λ (z : NameRow). z.id) (sym e)) (index.small was there.0)) (λ old. index.small r old) (put_in rows row r i);
+      listed = λ r i. ⊎_elim (λ (e : r ≡ row). subst (λ (z : NameSpot). In z spots) (place ∙ ap spot_of (sym e)) (index.listed was there.0)) (λ old. index.listed r old) (put_in rows row r i);
+      only = λ q i.
+          let w = index.only q i in
+          (elim (w.0.id == row.id) as (λ b. w.0.id == row.id ≡ b → (r : NameRow) × In r (replaced rank rows row) × (q ≡ spot_of r)) [
+            | true ↦ λ t.
+                let one : w.0 ≡ was = same_ranked NameRow rank rows rising w.0 was w.1 there.0 (eqb-true w.0.id row.id t ∙ sym there.1) in
+                (row, (In-map NameRow NameRow put row rows).1 (w.0, w.1, ap (λ b. cond b row w.0) (sym t)), w.2 ∙ ap spot_of one ∙ place)
+            | false ↦ λ f. (w.0, (In-map NameRow NameRow put w.0 rows).1 (w.0, w.1, ap (λ b. cond b row w.0) (sym f)), w.2)
+          ]) refl;
     }
 
 -- the places under one digest

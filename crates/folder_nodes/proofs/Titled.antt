@@ -1,17 +1,18 @@
 -- What is done to rows of names is done to the titles that contracts see.
 use Rattle.std.proofs.Common.{◌≡◌, ℕ, Bool, true, false, cond, ◌==◌, List, map, Option, Some, None, refl, sym, ap, ◌∙◌}
 use Rattle.std.specs.Option.{option_map}
+use Rattle.std.specs.Prelude.{is_some}
 use Rattle.cry_base.specs.declared.ids.FolderId.{FolderId}
 use Rattle.cry_base.specs.declared.ids.FileId.{FileId}
 use Rattle.cry_base.specs.declared.roles.Node.{Node}
 use Rattle.cry_base.specs.declared.roles.Node.TheVariants.{Folder, File}
-use Rattle.sorted_table.specs.Rows.{row_at, with_row, without}
+use Rattle.sorted_table.specs.Rows.{row_at, with_row, without, replaced}
 use Rattle.folder_nodes.specs.Titles.{Title, Titles, title_at, title_of, is_node}
 use Rattle.folder_nodes.specs.Titling.{title_of_row}
 use Rattle.folder_nodes.specs.declared.titles.NameRow.{NameRow}
 use Rattle.std.proofs.lemmas.Bool.{eqb-true}
 use Rattle.folder_nodes.proofs.Lookups.{find-map}
-use Rattle.folder_nodes.proofs.Placing.{found_with, found_without}
+use Rattle.folder_nodes.proofs.Placing.{found_replaced, found_with, found_without}
 
 abbrev pub rank : NameRow → ℕ
 rank r = r.id
@@ -38,6 +39,15 @@ titles_then : (old new : List NameRow) (id : ℕ) (o : Option NameRow) → ((k :
 titles_then old new id o h k =
     title_row new k ∙ ap (option_map title_of_row) (h k) ∙ map_cond NameRow Title title_of_row (id == k) o (row_at rank old k)
     ∙ ap (cond (id == k) (option_map title_of_row o)) (sym (title_row old k))
+
+-- another title in the place of one
+pub titles_replaced : (old new : List NameRow) (row : NameRow) → is_some (row_at rank old row.id) ≡ true → new ≡ replaced rank old row → (k : ℕ) → title_at (map title_of_row new) k ≡ cond (row.id == k) (Some (title_of_row row)) (title_at (map title_of_row old) k)
+titles_replaced old new row there e = titles_then old new row.id (Some row) (λ k. ap (λ l. row_at rank l k) e ∙ found_replaced NameRow rank old row k there)
+
+-- the row of what has a name
+pub row_named : (rows : List NameRow) (id : ℕ) (name : List ℕ) (o : Option NameRow) → row_at rank rows id ≡ o → option_map (λ (r : NameRow). r.name.items) o ≡ Some name → (was : NameRow) × (row_at rank rows id ≡ Some was) × (was.name.items ≡ name)
+row_named rows id name None is e = absurd (cc)
+row_named rows id name (Some r) is e = (r, is, cc)
 
 -- a title more, a title less, and one less where there is none
 pub titles_with : (old new : List NameRow) (row : NameRow) → new ≡ with_row rank old row → (k : ℕ) → title_at (map title_of_row new) k ≡ cond (row.id == k) (Some (title_of_row row)) (title_at (map title_of_row old) k)

@@ -1,12 +1,12 @@
 //! Names by the numbers of folders or files, and the numbers by name.
-ghost use Rattle.std.specs.Prelude.{◌≡◌, ◌≤◌, ◌+◌, ◌==◌, ℕ, [], cond, map, Some, None, IsOk, OnOk};
+ghost use Rattle.std.specs.Prelude.{true, ◌≡◌, ◌≤◌, ◌+◌, ◌==◌, ℕ, [], cond, map, Some, None, IsOk, OnOk};
 ghost use Rattle.std.specs.Option.{option_copied, option_map};
 ghost use Rattle.cry_base.specs.Sets.{In};
 ghost use Rattle.folder_nodes.specs.Indexing as index;
 ghost use Rattle.folder_nodes.specs.Titles.{Title, MayBeNamed, title_at};
 ghost use Rattle.folder_nodes.specs.declared.spots.NameSpot.{NameSpot as TheSpot};
 ghost use Rattle.folder_nodes.specs.declared.titles.NameRow.{NameRow as TheRow};
-ghost use Rattle.sorted_table.specs.Rows.{IsRising, without};
+ghost use Rattle.sorted_table.specs.Rows.{IsRising, row_at, without};
 
 use crate::spots::{NameSpot, digest_of};
 use crate::titles::{NameKey, NameRow};
@@ -57,13 +57,17 @@ impl Book {
         self.spots.reserve(1)
     }
 
-    /// Puts a name and bytes under the number, in the place of those that it had.
+    /// Puts a name and bytes under the number, in the place of those that it had. Where the name stays, no row moves.
     pub(crate) fn put(&mut self, id: u32, name: Text, bytes: Text)
         requires room { 1 ≤ self.old.spare }
         requires name { MayBeNamed name.items }
         ensures titles { (k : ℕ) → title_at self.new.titles k ≡ cond (id == k) (Some (record { id = id; name = name.items; bytes = bytes.items })) (title_at self.old.titles k) }
         ensures spare { self.old.spare ≤ self.new.spare + 1 }
     {
+        if has_name(&self.rows, id, name.as_slice()) {
+            self.rows.replace(NameRow { id, name, bytes });
+            return;
+        }
         self.take(id);
         self.add(id, name, bytes);
     }
@@ -134,6 +138,17 @@ impl Book {
         ensures { (t : Title) → In t self.now.titles → MayBeNamed t.name }
     {
         let _ = &self.rows;
+    }
+}
+
+/// Whether the row with the number has this name.
+fn has_name(rows: &Table<NameRow>, id: u32, name: &[u8]) -> bool
+    ensures rising { IsRising (λ (r : TheRow). r.id) rows.now.rows }
+    ensures name { result ≡ true → option_map (λ (r : TheRow). r.name.items) (row_at (λ (r : TheRow). r.id) rows.now.rows id) ≡ Some name.now }
+{
+    match rows.find(&NameKey(id)) {
+        Some(row) => row.name.as_slice() == name,
+        None => false,
     }
 }
 
