@@ -1,5 +1,5 @@
 -- What the code lists for a step is what the definitions say of it.
-use Rattle.std.proofs.Common.{◌≡◌, ◌==◌, ◌||◌, Bool, true, not, List, [], ◌∷◌, ◌++◌, length, map, filter, refl, sym, ap, ◌∙◌, arith}
+use Rattle.std.proofs.Common.{ℕ, ◌≡◌, ◌==◌, ◌||◌, Bool, true, not, List, [], ◌∷◌, ◌++◌, length, map, filter, refl, sym, ap, ◌∙◌, arith}
 use Rattle.std.proofs.lemmas.Bool.{eqb-true}
 use Rattle.cry_base.specs.Sets.{has}
 use Rattle.cry_base.specs.declared.roles.Edge.{Edge}
@@ -11,7 +11,7 @@ use Rattle.role_graph.proofs.Sifting.{joined_in_order, kept_in_order}
 use Rattle.rekey_walk.specs.Dirty.{mark_all, plan}
 use Rattle.rekey_walk.proofs.Reordered.{mark_all_same, plan_same}
 use Rattle.move_plan.specs.Change.{Change}
-use Rattle.public_fold.specs.KeyStep.{KeyState, dirty_left, edges_left, edges_then, is_published, published_edges, renewed, without}
+use Rattle.public_fold.specs.KeyStep.{KeyState, dirty_left, edges_left, edges_then, is_published, published_edges, renewed, without, keys_without}
 use Rattle.public_fold.specs.Stepping.{IsDue}
 use Rattle.public_fold.specs.declared.step.Due.{Due}
 
@@ -67,3 +67,10 @@ unfolding without has
 none_removed [] [] none = refl
 none_removed [] (e ∷ es) none = ap (λ (l : List Edge). e ∷ l) (none_removed [] es none)
 none_removed (r ∷ rs) before none = absurd (let empty : length (r ∷ rs) ≡ 0 = eqb-true (length (r ∷ rs)) 0 none in omega (arith, empty))
+
+-- with no role gone all keys stay
+pub none_gone : (gone : List Role) (keys : List (Role × ℕ)) → (length gone == 0) ≡ true → keys_without gone keys ≡ keys
+unfolding keys_without has
+none_gone [] [] none = refl
+none_gone [] (k ∷ ks) none = ap (λ (l : List (Role × ℕ)). k ∷ l) (none_gone [] ks none)
+none_gone (r ∷ rs) keys none = absurd (let empty : length (r ∷ rs) ≡ 0 = eqb-true (length (r ∷ rs)) 0 none in omega (arith, empty))

@@ -61,6 +61,10 @@ pub(crate) fn keys_after(
 {
     let mut keys = Vec::with_capacity(alloc, given.len() + old.len())?;
     keys.extend_from_slice(given)?;
+    if gone.is_empty() {
+        keys.extend_from_slice(old)?;
+        return Ok(keys);
+    }
     push_others(&mut keys, gone, old)?;
     Ok(keys)
 }
