@@ -62,7 +62,7 @@ pub(crate) fn make<R: Source, D: Disk, W: Sink>(
     }
 }
 
-/// Room for the owner's line: once the store stands there is no want of memory to tell.
+/// Room for the owner's line, taken before the store is made: one that stands is told without more memory.
 fn line_room(alloc: Global) -> Mem<Text>
     ensures empty { IfOk result (λ line. line.items ≡ []) }
     ensures room { IfOk result (λ line. 71 ≤ line.spare) }
