@@ -1,18 +1,14 @@
 -- The last record of a log for an edge or a text, as it is looked for.
-use Rattle.std.specs.Prelude.{◌≡◌, ℕ, Bool, ◌&&◌, ◌==◌, List, get_or, Option, None, Some}
+use Rattle.std.specs.Prelude.{ℕ, Bool, ◌&&◌, ◌==◌, Option, None, Some}
 use Rattle.record_format.specs.Plain.{PlainContent, plain_content}
 use Rattle.record_format.specs.declared.link.LinkRecord.{LinkRecord}
 use Rattle.holder_client.specs.declared.last_contents.FoundContent.{FoundContent}
 use Rattle.holder_client.specs.declared.last_links.FoundLink.{FoundLink}
-use Rattle.holder_client.specs.declared.last_links.LinkSought.{LinkSought}
+use Rattle.holder_client.specs.declared.last_links.LinkHead.{LinkHead}
 use Rattle.holder_client.specs.Placing.{PlacedLink, PlacedContent}
 
--- the item stands at this index of a list
-abbrev pub IsAt : {X : Type 0} → List X → ℕ → X → Type 0
-IsAt xs i x = x ≡ get_or xs i x
-
 -- the link's head has what is sought
-abbrev pub is_sought : LinkSought → PlacedLink → Bool
+abbrev pub is_sought : LinkHead → PlacedLink → Bool
 is_sought s l =
     (l.link.kind == s.kind)
     && ((l.link.from_id == s.from_id)

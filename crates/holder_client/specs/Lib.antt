@@ -3,6 +3,7 @@ pub mod Asking
 pub mod Folding
 pub mod Found
 pub mod Holding
+pub mod Indexed
 pub mod Judging
 pub mod Lines
 pub mod Opening

@@ -1,17 +1,29 @@
-//! The last content of a log for a folder, file or holder (docs/FORMAT.md, "Reading").
-ghost use Rattle.std.specs.Prelude.{◌≡◌, ◌+◌, ◌<◌, ℕ, All, IfSome, MatchOption, None, Some, length, map, take};
+//! The last content of each head in a log (docs/FORMAT.md, "Reading").
+ghost use Rattle.std.specs.Prelude.{◌≡◌, ◌+◌, ◌<◌, ◌^◌, ◌++◌, [], ◌∷◌, All, List, OnOk, map};
 ghost use Rattle.std.specs.List.{sum_by};
-ghost use Rattle.commit_journal.specs.Placed.{plain_body, plain_placed};
+ghost use Rattle.commit_journal.specs.Placed.{plain_body};
 ghost use Rattle.commit_journal.specs.Places.{IsStanding};
-ghost use Rattle.holder_client.specs.Found.{IsAt, content_here, is_of, plain_found};
+ghost use Rattle.holder_client.specs.Found.{content_here};
+ghost use Rattle.holder_client.specs.Indexed.{HasLastContents, head_of_content};
 ghost use Rattle.holder_client.specs.Placing as spec;
 ghost use Rattle.record_format.specs.Plain.{plain_content};
 ghost use Rattle.record_format.specs.Sizes.{content_size};
 ghost use Rattle.record_format.specs.Spellable.{IsContent};
-ghost use Rattle.record_format.specs.declared.content.ContentRecord.{ContentRecord as TheContent};
 
 use commit_journal::{Body, Placed, content_place};
+use cry_base::Mem;
 use record_format::ContentRecord;
+use std::collections::HashMap;
+
+/// The bytes of a content beside its text.
+const HEAD_AND_TAG: u64 = 58;
+
+/// What a content is looked for by.
+#[derive(Clone, Copy, PartialEq, Eq, Hash)]
+pub(crate) struct ContentHead {
+    pub(crate) kind: u8,
+    pub(crate) object: u32,
+}
 
 /// A content, and where it stands.
 #[derive(Clone, Copy)]
@@ -23,61 +35,61 @@ pub(crate) struct FoundContent<'a> {
     pub(crate) content: &'a ContentRecord,
 }
 
-fn is_for(content: &ContentRecord, kind: u8, object: u32) -> bool
-    ensures { (batch at : ℕ) → result ≡ is_of kind object (content_here batch at (plain_content content.now)) }
-{
-    content.kind == kind && content.object == object
-}
+/// The last content of each head.
+pub(crate) type LastContents<'a> = HashMap<ContentHead, FoundContent<'a>>;
 
-/// The index of the last content of the kind for the object.
-fn last_index(contents: &[ContentRecord], kind: u8, object: u32) -> Option<usize>
-    ensures { MatchOption result
-        ((batch at : ℕ) → spec.last_one (is_of kind object) (spec.contents_at batch at (map plain_content contents.now)) ≡ None)
-        (λ i. (i < length contents.now) × ((batch at : ℕ) (content : TheContent) → IsAt contents.now i content →
-        spec.last_one (is_of kind object) (spec.contents_at batch at (map plain_content contents.now))
-        ≡ Some (content_here batch (at + sum_by content_size (take i (map plain_content contents.now))) (plain_content content)))) }
+fn head_of(content: &ContentRecord) -> ContentHead
+    ensures { result ≡ head_of_content content.now }
 {
-    let mut i = contents.len();
-    while i > 0 {
-        i -= 1;
-        if is_for(&contents[i], kind, object) {
-            return Some(i);
-        }
+    ContentHead {
+        kind: content.kind,
+        object: content.object,
     }
-    None
 }
 
-/// The last content of a batch of the kind for the object.
-fn last_in(placed: &Placed, kind: u8, object: u32) -> Option<FoundContent<'_>>
+/// Notes a content under its head, in the place of an earlier one.
+#[tactic(auto, using(crate::proofs::Lasts::content_noted))]
+fn note_content<'a>(last: &mut LastContents<'a>, found: FoundContent<'a>) -> Mem<()>
+    requires { IsContent (plain_content found.content.now) }
+    ensures { OnOk result ((so_far : List spec.PlacedContent) → HasLastContents last.old so_far →
+        HasLastContents last.new (so_far ++ content_here found.entry.batch found.entry.at (plain_content found.entry.content.now) ∷ [])) }
+{
+    last.insert(head_of(found.content), found)?;
+    Ok(())
+}
+
+/// Notes the contents of a batch, of which the first stands at the place.
+fn note_contents<'a>(
+    last: &mut LastContents<'a>,
+    batch: u32,
+    first: u64,
+    contents: &'a [ContentRecord],
+) -> Mem<()>
+    requires form { All IsContent (map plain_content contents.now) }
+    requires end { first + sum_by content_size (map plain_content contents.now) < 2 ^ 64 }
+    ensures { OnOk result ((so_far : List spec.PlacedContent) → HasLastContents last.old so_far →
+        HasLastContents last.new (so_far ++ spec.contents_at batch first (map plain_content contents.now))) }
+{
+    let mut at = first;
+    for content in contents {
+        note_content(last, FoundContent { batch, at, content })?;
+        at += HEAD_AND_TAG + content.cipher.as_slice().len() as u64;
+    }
+    Ok(())
+}
+
+/// Notes the contents that a batch of a log carries, behind those of the batches before it.
+pub(crate) fn note_contents_of<'a>(last: &mut LastContents<'a>, placed: &'a Placed) -> Mem<()>
     requires { IsStanding placed.now }
-    ensures last { plain_found result ≡ spec.last_one (is_of kind object) (spec.body_contents placed.now.batch placed.now.place (plain_body placed.now.body)) }
-    ensures form { IfSome result (λ c. IsContent (plain_content c.content.now)) }
+    ensures { OnOk result ((so_far : List spec.PlacedContent) → HasLastContents last.old so_far →
+        HasLastContents last.new (so_far ++ spec.body_contents placed.now.batch placed.now.place (plain_body placed.now.body))) }
 {
     let Body::Commands(payload) = &placed.body else {
-        return None;
+        return Ok(());
     };
     let contents = payload.contents.as_slice();
-    let index = last_index(contents, kind, object)?;
-    Some(FoundContent {
-        batch: placed.batch,
-        at: content_place(placed, index),
-        content: &contents[index],
-    })
-}
-
-/// The last content of the kind that was published for the folder, file or holder. It looks at the batches in turn, from the
-/// last one.
-pub(crate) fn content_for(log: &[Placed], kind: u8, object: u32) -> Option<FoundContent<'_>>
-    requires { All IsStanding log.now }
-    ensures last { plain_found result ≡ spec.content_for (map plain_placed log.now) kind object }
-    ensures form { IfSome result (λ c. IsContent (plain_content c.content.now)) }
-{
-    let mut i = log.len();
-    while i > 0 {
-        i -= 1;
-        if let Some(found) = last_in(&log[i], kind, object) {
-            return Some(found);
-        }
+    if contents.is_empty() {
+        return Ok(());
     }
-    None
+    note_contents(last, placed.batch, content_place(placed, 0), contents)
 }

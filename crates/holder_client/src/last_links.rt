@@ -1,21 +1,24 @@
-//! The last link of a log for an edge (docs/FORMAT.md, "Reading").
-ghost use Rattle.std.specs.Prelude.{◌≡◌, ◌+◌, ◌*◌, ◌<◌, ℕ, All, MatchOption, None, Some, length, map};
-ghost use Rattle.commit_journal.specs.Placed.{plain_body, plain_placed};
+//! The last link of each head in a log (docs/FORMAT.md, "Reading").
+ghost use Rattle.std.specs.Prelude.{◌≡◌, ◌+◌, ◌*◌, ◌<◌, ◌^◌, ◌++◌, [], ◌∷◌, List, OnOk, length};
+ghost use Rattle.commit_journal.specs.Placed.{plain_body};
 ghost use Rattle.commit_journal.specs.Places.{IsStanding};
-ghost use Rattle.holder_client.specs.Found.{IsAt, is_sought, link_here, plain_link};
+ghost use Rattle.holder_client.specs.Found.{is_sought, link_here};
+ghost use Rattle.holder_client.specs.Indexed.{HasLastLinks, head_of_link};
 ghost use Rattle.holder_client.specs.Placing as spec;
 ghost use Rattle.public_fold.specs.KeyStep.{present};
-ghost use Rattle.record_format.specs.declared.link.LinkRecord.{LinkRecord as TheLink};
 ghost use Rattle.role_graph.specs.Roles.{role_id};
 
 use commit_journal::{Body, Placed, link_place};
-use cry_base::{Edge, Role, Serial};
+use cry_base::{Edge, Mem, Role, Serial};
 use public_fold::PublicState;
 use record_format::LinkRecord;
+use std::collections::HashMap;
 
-/// What the head of an edge's link has.
-#[derive(Clone, Copy)]
-pub(crate) struct LinkSought {
+const LINK_LEN: u64 = 98;
+
+/// What a link is looked for by.
+#[derive(Clone, Copy, PartialEq, Eq, Hash)]
+pub(crate) struct LinkHead {
     pub(crate) kind: u8,
     pub(crate) from_id: u32,
     pub(crate) to_id: u32,
@@ -32,6 +35,9 @@ pub(crate) struct FoundLink<'a> {
     pub(crate) at: u64,
     pub(crate) link: &'a LinkRecord,
 }
+
+/// The last link of each head.
+pub(crate) type LastLinks<'a> = HashMap<LinkHead, FoundLink<'a>>;
 
 #[tactic(auto, unfolding(role_graph::specs::Roles::role_id))]
 fn id_of(role: Role) -> u32
@@ -55,10 +61,11 @@ fn serial_of(state: &PublicState, role: Role) -> Serial
     }
 }
 
-fn sought(state: &PublicState, edge: &Edge) -> LinkSought
+/// The head of the edge's links from the present key of its source to that of its target.
+pub(crate) fn head_sought(state: &PublicState, edge: &Edge) -> LinkHead
     ensures { is_sought result ≡ spec.is_for_edge state.now.keys edge.now }
 {
-    LinkSought {
+    LinkHead {
         kind: edge.kind,
         from_id: id_of(edge.from),
         to_id: id_of(edge.to),
@@ -67,67 +74,58 @@ fn sought(state: &PublicState, edge: &Edge) -> LinkSought
     }
 }
 
-fn is_for(link: &LinkRecord, sought: &LinkSought) -> bool
-    ensures { (batch at : ℕ) → result ≡ is_sought sought.now (link_here batch at link.now) }
+fn head_of(link: &LinkRecord) -> LinkHead
+    ensures { result ≡ head_of_link link.now }
 {
-    link.kind == sought.kind
-        && link.from_id == sought.from_id
-        && link.to_id == sought.to_id
-        && link.from_serial == sought.from_serial
-        && link.to_serial == sought.to_serial
-}
-
-/// The index of the last link that has the head.
-fn last_index(links: &[LinkRecord], sought: &LinkSought) -> Option<usize>
-    ensures { MatchOption result
-        ((batch at : ℕ) → spec.last_one (is_sought sought.now) (spec.links_at batch at links.now) ≡ None)
-        (λ i. (i < length links.now) × ((batch at : ℕ) (link : TheLink) → IsAt links.now i link →
-        spec.last_one (is_sought sought.now) (spec.links_at batch at links.now) ≡ Some (link_here batch (at + 98 * i) link))) }
-{
-    let mut i = links.len();
-    while i > 0 {
-        i -= 1;
-        if is_for(&links[i], sought) {
-            return Some(i);
-        }
+    LinkHead {
+        kind: link.kind,
+        from_id: link.from_id,
+        to_id: link.to_id,
+        from_serial: link.from_serial,
+        to_serial: link.to_serial,
     }
-    None
 }
 
-/// The last link of a batch that has the head.
-fn last_in<'a>(placed: &'a Placed, sought: &LinkSought) -> Option<FoundLink<'a>>
+/// Notes a link under its head, in the place of an earlier one.
+#[tactic(auto, using(crate::proofs::Lasts::link_noted))]
+fn note_link<'a>(last: &mut LastLinks<'a>, found: FoundLink<'a>) -> Mem<()>
+    ensures { OnOk result ((so_far : List spec.PlacedLink) → HasLastLinks last.old so_far →
+        HasLastLinks last.new (so_far ++ link_here found.entry.batch found.entry.at found.entry.link.now ∷ [])) }
+{
+    last.insert(head_of(found.link), found)?;
+    Ok(())
+}
+
+/// Notes the links of a batch, of which the first stands at the place.
+fn note_links<'a>(
+    last: &mut LastLinks<'a>,
+    batch: u32,
+    first: u64,
+    links: &'a [LinkRecord],
+) -> Mem<()>
+    requires { first + 98 * length links.now < 2 ^ 64 }
+    ensures { OnOk result ((so_far : List spec.PlacedLink) → HasLastLinks last.old so_far → HasLastLinks last.new (so_far ++ spec.links_at batch first links.now)) }
+{
+    let mut at = first;
+    for link in links {
+        note_link(last, FoundLink { batch, at, link })?;
+        at += LINK_LEN;
+    }
+    Ok(())
+}
+
+/// Notes the links that a batch of a log carries, behind those of the batches before it.
+pub(crate) fn note_links_of<'a>(last: &mut LastLinks<'a>, placed: &'a Placed) -> Mem<()>
     requires { IsStanding placed.now }
-    ensures { plain_link result ≡ spec.last_one (is_sought sought.now) (spec.body_links placed.now.batch placed.now.place (plain_body placed.now.body)) }
+    ensures { OnOk result ((so_far : List spec.PlacedLink) → HasLastLinks last.old so_far →
+        HasLastLinks last.new (so_far ++ spec.body_links placed.now.batch placed.now.place (plain_body placed.now.body))) }
 {
     let Body::Commands(payload) = &placed.body else {
-        return None;
+        return Ok(());
     };
     let links = payload.links.as_slice();
-    let index = last_index(links, sought)?;
-    Some(FoundLink {
-        batch: placed.batch,
-        at: link_place(placed, index),
-        link: &links[index],
-    })
-}
-
-/// The last link that was published for the edge from the present key of its source to that of its target. It looks at the
-/// batches in turn, from the last one.
-pub(crate) fn link_for<'a>(
-    state: &PublicState,
-    log: &'a [Placed],
-    edge: &Edge,
-) -> Option<FoundLink<'a>>
-    requires { All IsStanding log.now }
-    ensures { plain_link result ≡ spec.link_for state.now.keys (map plain_placed log.now) edge.now }
-{
-    let sought = sought(state, edge);
-    let mut i = log.len();
-    while i > 0 {
-        i -= 1;
-        if let Some(found) = last_in(&log[i], &sought) {
-            return Some(found);
-        }
+    if links.is_empty() {
+        return Ok(());
     }
-    None
+    note_links(last, placed.batch, link_place(placed, 0), links)
 }

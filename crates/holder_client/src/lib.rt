@@ -4,6 +4,7 @@
 mod fault;
 pub mod fold_laws;
 mod folding;
+mod indexed_log;
 mod last_contents;
 mod last_links;
 pub mod laws;

@@ -15,6 +15,7 @@ ghost use Rattle.key_links.specs.Ringed.{key_of};
 ghost use Rattle.role_graph.specs.Rights.Who.{TheOwner};
 
 use crate::ClientFault;
+use crate::indexed_log::IndexedLog;
 use crate::texts::{visit_file, visit_holder, visit_name};
 use crate::visit_list::{Visit, owner_visits};
 use crate::visiting::visit_edge;
@@ -38,11 +39,10 @@ pub struct OwnersView {
 /// Makes room for the edge's key, and visits it.
 fn visit_link(
     state: &PublicState,
-    log: &[Placed],
+    log: &IndexedLog<'_>,
     ring: &mut KeyRing,
     edge: &Edge,
 ) -> Result<(), ClientFault>
-    requires stands { All IsStanding log.now }
     requires owners { IsOwners (ToKey edge.now) }
     requires keys { ArePresent state.now.keys.keys ring.old }
     ensures answer { (r : Reading) (o : Opened) → IsReadingOf state.now log.now r → HoldsKeys is_no_holders ring.old o.keys →
@@ -61,11 +61,10 @@ fn visit_link(
 fn visit_one(
     alloc: Global,
     state: &PublicState,
-    log: &[Placed],
+    log: &IndexedLog<'_>,
     view: &mut OwnersView,
     visit: &Visit,
 ) -> Result<(), ClientFault>
-    requires stands { All IsStanding log.now }
     requires owners { IsOwners (plain_visit visit.now) }
     requires keys { ArePresent state.now.keys.keys view.old.ring }
     ensures answer { (r : Reading) (o : Opened) (left : List PlainVisit) → IsReadingOf state.now log.now r → IsOpenedTo r.stand.store (plain_visit visit.now ∷ left) view.old o →
@@ -86,11 +85,10 @@ fn visit_one(
 fn visit_each(
     alloc: Global,
     state: &PublicState,
-    log: &[Placed],
+    log: &IndexedLog<'_>,
     visits: &[Visit],
     before: OwnersView,
 ) -> Result<OwnersView, ClientFault>
-    requires stands { All IsStanding log.now }
     requires owners { AllByRecursion IsOwners (map plain_visit visits.now) }
     requires keys { ArePresent state.now.keys.keys before.ring }
     requires sized { AreSized before.names }
@@ -126,10 +124,11 @@ pub fn open_all(
     ensures sized { IfOk result (λ view. AreSized view.names) }
     ensures no_disk { result ≢ Err ClientFault.DiskFault }
 {
+    let indexed = IndexedLog::of(alloc, log)?;
     let visits = owner_visits(alloc, state)?;
     let view = OwnersView {
         ring: KeyRing::new(alloc, owner),
         names: Names::new(alloc),
     };
-    visit_each(alloc, state, log, visits.as_slice(), view)
+    visit_each(alloc, state, &indexed, visits.as_slice(), view)
 }

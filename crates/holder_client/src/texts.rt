@@ -1,8 +1,7 @@
 //! Names, bytes and holders' keys that are opened, each with the key of its folder, its file or the owner (docs/FORMAT.md,
 //! "Reading").
-ghost use Rattle.std.specs.Prelude.{◌≡◌, ◌≢◌, All, Bool, Err, IfOk, IsTrue, MatchOption, OnErr, OnOk, false, length, map};
+ghost use Rattle.std.specs.Prelude.{◌≡◌, ◌≢◌, Bool, Err, IfOk, IsTrue, MatchOption, OnErr, OnOk, false, length, map};
 ghost use Rattle.commit_journal.specs.Placed.{plain_placed};
-ghost use Rattle.commit_journal.specs.Places.{IsStanding};
 ghost use Rattle.cry_base.specs.Store.{Store};
 ghost use Rattle.cry_base.specs.declared.roles.Role.{Role as TheRole};
 ghost use Rattle.cry_base.specs.declared.roles.Role.TheVariants.{Owner};
@@ -14,9 +13,9 @@ ghost use Rattle.public_fold.specs.KeyStep.{present};
 ghost use Rattle.role_graph.specs.Roles.{data_of, file_role};
 
 use crate::ClientFault;
+use crate::indexed_log::IndexedLog;
 use crate::visiting::{OpenedText, open_text};
 use chacha_seal::Key;
-use commit_journal::Placed;
 use cry_base::{FileId, FolderId, HolderId, Mem, Node, Role, Serial, Text};
 use folder_nodes::{Names, name_ok};
 use key_links::KeyRing;
@@ -73,12 +72,11 @@ fn text_of(alloc: Global, bytes: &[u8]) -> Mem<Text>
 /// with the content's place exactly where the text is no name, and for the root where it isn't empty.
 pub(crate) fn visit_name(
     alloc: Global,
-    log: &[Placed],
+    log: &IndexedLog<'_>,
     ring: &KeyRing,
     names: &mut Names,
     folder: FolderId,
 ) -> Result<(), ClientFault>
-    requires stands { All IsStanding log.now }
     ensures answer { (told : TheRole → Bool) (r : spec.Reading) (o : spec.Opened) (s : Store) → r.log ≡ map plain_placed log.now → IsTrue (told (data_of folder.0)) →
         HoldsKeys told ring.now o.keys → HasNames s names.old o.store →
         AnswersBy (λ _ behind. IsTitledBy s names.new o behind) result (spec.visit r (ToName folder.0) o) }
@@ -99,12 +97,11 @@ pub(crate) fn visit_name(
 /// then `Damaged` with the content's place exactly where the text isn't a length, a name of that length and the bytes of a file.
 pub(crate) fn visit_file(
     alloc: Global,
-    log: &[Placed],
+    log: &IndexedLog<'_>,
     ring: &KeyRing,
     names: &mut Names,
     file: FileId,
 ) -> Result<(), ClientFault>
-    requires stands { All IsStanding log.now }
     ensures answer { (told : TheRole → Bool) (r : spec.Reading) (o : spec.Opened) (s : Store) → r.log ≡ map plain_placed log.now → IsTrue (told (file_role file.0)) →
         HoldsKeys told ring.now o.keys → HasNames s names.old o.store →
         AnswersBy (λ _ behind. IsTitledBy s names.new o behind) result (spec.visit r (ToFile file.0) o) }
@@ -148,11 +145,10 @@ fn present_serial(state: &PublicState, role: Role) -> Serial
 pub(crate) fn visit_holder(
     alloc: Global,
     state: &PublicState,
-    log: &[Placed],
+    log: &IndexedLog<'_>,
     ring: &mut KeyRing,
     holder: HolderId,
 ) -> Result<(), ClientFault>
-    requires stands { All IsStanding log.now }
     requires keys { ArePresent state.now.keys.keys ring.old }
     ensures answer { (told : TheRole → Bool) (r : spec.Reading) (o : spec.Opened) → r.log ≡ map plain_placed log.now → IsTrue (told Owner) → HoldsKeys told ring.old o.keys →
         AnswersBy (λ _ behind. IsHeldBy ring.new ring.old holder.0 o behind) result (spec.visit r (ToHolder holder.0) o) }

@@ -1,8 +1,7 @@
 //! Opens the records of a log, each with a key that those before led to (docs/FORMAT.md, "Reading").
-ghost use Rattle.std.specs.Prelude.{◌≡◌, ◌≢◌, ◌+◌, ◌≤◌, ℕ, All, Bool, Err, IfOk, IsTrue, List, OnErr, Result, length, map};
+ghost use Rattle.std.specs.Prelude.{◌≡◌, ◌≢◌, ◌+◌, ◌≤◌, ℕ, Bool, Err, IfOk, IsTrue, List, OnErr, Result, length, map};
 ghost use Rattle.commit_journal.specs.Answering.{Fault};
 ghost use Rattle.commit_journal.specs.Placed.{plain_placed};
-ghost use Rattle.commit_journal.specs.Places.{IsStanding};
 ghost use Rattle.cry_base.specs.declared.roles.Role.{Role as TheRole};
 ghost use Rattle.holder_client.specs.Answering.{AnswersBy};
 ghost use Rattle.holder_client.specs.Holding.{ArePresent, GoesOn, HasKind, HoldsKeys, IsReadingOf};
@@ -13,10 +12,8 @@ ghost use Rattle.record_format.specs.Plain.{plain_content};
 ghost use Rattle.record_format.specs.Spellable.{longest_text, shortest_text};
 
 use crate::ClientFault;
-use crate::last_contents::content_for;
-use crate::last_links::link_for;
+use crate::indexed_log::IndexedLog;
 use chacha_seal::BadTag;
-use commit_journal::Placed;
 use cry_base::{Edge, FileId, FolderId, Mem, Role, Text};
 use key_links::KeyRing;
 use public_fold::PublicState;
@@ -31,11 +28,10 @@ const BEHIND_HEADER: u64 = 42;
 /// wrong. At `Err` the keys are as they were.
 pub(crate) fn visit_edge(
     state: &PublicState,
-    log: &[Placed],
+    log: &IndexedLog<'_>,
     ring: &mut KeyRing,
     edge: &Edge,
 ) -> Result<(), ClientFault>
-    requires stands { All IsStanding log.now }
     requires kind { HasKind edge.now }
     requires keys { ArePresent state.now.keys.keys ring.old }
     requires room { 1 ≤ ring.old.spare }
@@ -47,7 +43,7 @@ pub(crate) fn visit_edge(
     ensures err { OnErr result (ring.new ≡ ring.old) }
     ensures no_disk { result ≢ Err ClientFault.DiskFault }
 {
-    let Some(found) = link_for(state, log, edge) else {
+    let Some(found) = log.link_for(state, edge) else {
         return Err(ClientFault::Damaged { at: BEHIND_HEADER });
     };
     if ring.present(edge.from).is_none() {
@@ -102,12 +98,11 @@ fn copied(alloc: Global, content: &ContentRecord) -> Mem<ContentRecord>
 /// is wrong.
 pub(crate) fn open_text(
     alloc: Global,
-    log: &[Placed],
+    log: &IndexedLog<'_>,
     ring: &KeyRing,
     kind: u8,
     object: u32,
 ) -> Result<OpenedText, ClientFault>
-    requires stands { All IsStanding log.now }
     requires from_one { 1 ≤ kind }
     requires to_three { kind ≤ 3 }
     ensures answer { (told : TheRole → Bool) (r : spec.Reading) (o : spec.Opened) (go_on : ℕ → List ℕ → Result spec.Opened Fault) →
@@ -116,7 +111,7 @@ pub(crate) fn open_text(
     ensures form { IfOk result (λ t. (shortest_text kind ≤ length t.text.items) × (length t.text.items ≤ longest_text kind)) }
     ensures no_disk { result ≢ Err ClientFault.DiskFault }
 {
-    let Some(found) = content_for(log, kind, object) else {
+    let Some(found) = log.content_for(kind, object) else {
         return Err(ClientFault::Damaged { at: BEHIND_HEADER });
     };
     if ring.present(sealing_role(kind, object)).is_none() {

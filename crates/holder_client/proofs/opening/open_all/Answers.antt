@@ -1,7 +1,9 @@
 use Rattle.std.proofs.Common.{◌≡◌, ◌++◌, List, [], ◌∷◌, map, sym, ap, subst, ◌∙◌}
+use Rattle.commit_journal.specs.declared.placed.Placed.{Placed}
 use Rattle.cry_base.specs.declared.roles.Role.TheVariants.{Owner}
 use Rattle.holder_client.specs.declared.opening.OwnersView.{OwnersView}
 use Rattle.holder_client.specs.Answering.{AnswersBy}
+use Rattle.holder_client.specs.Holding.{IsReadingOf}
 use Rattle.holder_client.specs.Opening.{IsOpenedBy, IsOpenedTo, plain_visit}
 use Rattle.holder_client.specs.Visiting.{Opened, visit_all}
 use Rattle.holder_client.specs.Visits.{Visit, all_visits, holder_visits}
@@ -26,8 +28,9 @@ returns-clause-answer c = λ r of_log.
     (opening_begins bare (map plain_visit c.in_ok-visits.visits.items) view c.args.owner (seen_nameless state r.stand of_log.1 c.in_ok-visits.ensures.nameless) c.new.ensures
     c.new-2.ensures.folders c.new-2.ensures.files (λ e i. c.in_ok-visits.ensures.holders r.stand e of_log.1 i))
     in
+    let reading : IsReadingOf state c.in_ok-indexed.indexed r = subst (λ (log : List Placed). IsReadingOf state log r) (sym c.in_ok-indexed.ensures) of_log in
     subst (λ (l : List Visit). AnswersBy (λ (x : OwnersView) behind. IsOpenedBy bare x behind) c.visit_each.result (visit_all r l begun)) is
-    (answered bare c.visit_each.result (visit_all r visits begun) (c.visit_each.ensures.answer r begun of_log opening))
+    (answered bare c.visit_each.result (visit_all r visits begun) (c.visit_each.ensures.answer r begun reading opening))
 
 pub visit_each-requires-clause-sized : goal.visit_each-requires-clause-sized
 visit_each-requires-clause-sized c = unnamed_sized c.new-2.result c.new-2.ensures.files

@@ -1,6 +1,6 @@
 use Rattle.std.proofs.Common.{refl}
 use Rattle.holder_client.specs.Placing.{is_for_edge}
-use Rattle.holder_client.proofs.last_links.sought.Goals as goal
+use Rattle.holder_client.proofs.last_links.head_sought.Goals as goal
 
 pub returns : goal.returns
 unfolding is_for_edge
