@@ -8,6 +8,7 @@ pub mod FileStep
 pub mod Growing
 pub mod Keeping
 pub mod KeepingKeys
+pub mod KeyTabled
 pub mod KeyMoves
 pub mod Levels
 pub mod NotesFit

@@ -82,7 +82,7 @@ grants_after t checks pairs gs (Give h f) fit order are =
 grants_after t checks pairs gs (Take h f) fit order are = less_same pairs gs (λ e. not (is_grant h f e)) are
 
 -- the keys after a step, whatever is sealed
-keys_after : (k : KeyState) (at : Stand) (note : Note) (s : Step) → at.keys ≡ k → IsStep (told_step at note) s → (told_step at note).after ≡ record { keys = s.left.keys.items; dirty = s.left.dirty; epoch = k.epoch; count = s.left.count }
+keys_after : (k : KeyState) (at : Stand) (note : Note) (s : Step) → at.keys ≡ k → IsStep (told_step at note) s → (told_step at note).after ≡ record { keys = s.left.keys.keys; dirty = s.left.dirty; epoch = k.epoch; count = s.left.count }
 unfolding told_step note_step key_step step_with published
 keys_after k at note s same is = λ i. record { keys = sym is.keys i; dirty = sym is.dirty i; epoch = (same i).epoch; count = sym is.count i }
 

@@ -94,7 +94,7 @@ module _ (k : KeyState) (before : List Edge) (c : Change) (note : Note) (pieces 
   step_count = λ i. k.count + sym keyed_len i + length (sym is.edges i) + (sym (as_many pieces) ∙ ap length due) i
 
   module _ (s : Step) (n : IsNumbered k note d s) where
-    new_keys : s.left.keys.items ≡ keys_then k c (renewed k before c)
+    new_keys : s.left.keys.keys ≡ keys_then k c (renewed k before c)
     unfolding keys_then given
     new_keys = n.keys ∙ (λ i. numbered (next_serial k) (is.keyed i) ++ keys_without (is.gone i) k.keys)
 

@@ -1,5 +1,7 @@
 pub mod Records
 pub mod KeyStep
+pub mod KeyTables
+pub mod KeysAfter
 pub mod Journal
 pub mod Lengths
 pub mod Valid

@@ -38,9 +38,9 @@ counted k note d = k.count + length d.keyed.items + length d.edges.items + lengt
 -- the same with their serials
 pub record IsNumbered (k : KeyState) (note : Note) (d : Due) (s : Step) : Type 0 where
   pub given : s.skeleton.keys.items ≡ numbered (next_serial k) d.keyed.items
-  pub keys : s.left.keys.items ≡ numbered (next_serial k) d.keyed.items ++ keys_without d.gone.items k.keys
-  pub links : s.skeleton.links.items ≡ links_from s.left.keys.items (next_serial k + length d.keyed.items) d.edges.items
-  pub contents : s.skeleton.contents.items ≡ map content_head (contents_from s.left.keys.items (next_serial k + length d.keyed.items + length d.edges.items) (due_of note))
+  pub keys : s.left.keys.keys ≡ numbered (next_serial k) d.keyed.items ++ keys_without d.gone.items k.keys
+  pub links : s.skeleton.links.items ≡ links_from s.left.keys.keys (next_serial k + length d.keyed.items) d.edges.items
+  pub contents : s.skeleton.contents.items ≡ map content_head (contents_from s.left.keys.keys (next_serial k + length d.keyed.items + length d.edges.items) (due_of note))
   pub dirty : s.left.dirty ≡ d.dirty
   pub count : s.left.count ≡ counted k note d
   pub below : s.left.count < 4294967295
@@ -48,7 +48,7 @@ pub record IsNumbered (k : KeyState) (note : Note) (d : Due) (s : Step) : Type 0
 -- what the step gives, publishes and leaves
 pub record IsStep (step : Stepped) (s : Step) : Type 0 where
   pub skeleton : IsSkeleton step s.skeleton
-  pub keys : s.left.keys.items ≡ step.after.keys
+  pub keys : s.left.keys.keys ≡ step.after.keys
   pub dirty : s.left.dirty ≡ step.after.dirty
   pub count : s.left.count ≡ step.after.count
 
@@ -57,5 +57,5 @@ pub record IsStateAfter (old : PublicView) (note : Note) (l : Left) (new : Publi
   pub tree : new.tree ≡ tree_then old.tree note
   pub pairs : new.pairs ≡ pairs_then old.pairs note
   pub checks : new.checks ≡ checks_then old.checks note
-  pub keys : new.keys ≡ record { keys = l.keys.items; dirty = l.dirty; epoch = old.keys.epoch; count = l.count }
+  pub keys : new.keys ≡ record { keys = l.keys.keys; dirty = l.dirty; epoch = old.keys.epoch; count = l.count }
   pub ordered : AreOrdered new.pairs

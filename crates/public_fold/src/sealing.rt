@@ -3,10 +3,11 @@ ghost use Rattle.std.specs.Prelude.{◌≡◌, [], ◌∷◌, length, map, IfOk}
 ghost use Rattle.record_format.specs.Told.{told_note};
 ghost use Rattle.public_fold.specs.Heads.{content_head, due_of, textless};
 ghost use Rattle.public_fold.specs.KeyStep.{contents_from};
+ghost use Rattle.public_fold.specs.KeysAfter.{keys_then_of};
 ghost use Rattle.public_fold.specs.Records.{sealing_role as role_of_piece};
 
-use crate::numbering::present_serial;
-use crate::{ContentHead, KeyHead};
+use crate::ContentHead;
+use crate::keys::KeysThen;
 use cry_base::{FileId, FolderId, List, Mem, Role};
 use record_format::Note;
 use std::alloc::Global;
@@ -32,11 +33,11 @@ pub(crate) fn content_count(note: &Note) -> usize
 #[tactic(auto, unfolding(crate::specs::Heads::due_of, record_format::specs::Told::told_note, crate::specs::KeyStep::contents_from, crate::specs::KeyStep::numbered))]
 pub(crate) fn content_heads(
     alloc: Global,
-    keys: &[KeyHead],
+    keys: &KeysThen<'_>,
     note: &Note,
     nonce: u64,
 ) -> Mem<List<ContentHead>>
-    ensures { IfOk result (λ l. l.items ≡ map content_head (contents_from keys.now nonce (due_of (told_note note.now)))) }
+    ensures { IfOk result (λ l. l.items ≡ map content_head (contents_from (keys_then_of keys.now) nonce (due_of (told_note note.now)))) }
 {
     match *note {
         Note::Root => one_head(alloc, keys, 1, 1, nonce),
@@ -59,18 +60,18 @@ pub(crate) fn content_heads(
 #[tactic(auto, unfolding(crate::specs::KeyStep::contents_from, crate::specs::KeyStep::numbered, crate::specs::KeyStep::content_of))]
 fn one_head(
     alloc: Global,
-    keys: &[KeyHead],
+    keys: &KeysThen<'_>,
     kind: u8,
     object: u32,
     nonce: u64,
 ) -> Mem<List<ContentHead>>
-    ensures { IfOk result (λ l. l.items ≡ map content_head (contents_from keys.now nonce (textless kind object ∷ []))) }
+    ensures { IfOk result (λ l. l.items ≡ map content_head (contents_from (keys_then_of keys.now) nonce (textless kind object ∷ []))) }
 {
     let mut contents = List::new(alloc);
     contents.push(ContentHead {
         kind,
         object,
-        key_serial: present_serial(keys, sealing_role(kind, object)),
+        key_serial: keys.present(sealing_role(kind, object)),
         nonce,
     })?;
     Ok(contents)

@@ -5,7 +5,7 @@ ghost use Rattle.public_fold.specs.KeyStep.{newest, next_epoch};
 ghost use Rattle.public_fold.specs.Standing.{IsSeenAs, stand_of};
 
 use crate::KeyHead;
-use crate::numbering::newest_serial;
+use crate::keys::KeyTable;
 use cry_base::{Epoch, Mem, Role, Serial};
 use folder_nodes::Shape;
 use grant_book::Grants;
@@ -19,8 +19,7 @@ use std::marker::Model;
 pub struct PublicState {
     pub(crate) shape: Shape,
     pub(crate) grants: Grants,
-    /// The newest first.
-    pub(crate) keys: Vec<KeyHead>,
+    pub(crate) keys: KeyTable,
     pub(crate) dirty: Dirty,
     pub(crate) epoch: u32,
     pub(crate) count: u32,
@@ -35,21 +34,23 @@ impl Model for PublicState {
       tree = s.shape.tree;
       checks = s.grants.checks;
       pairs = s.grants.pairs;
-      keys = record { keys = s.keys.items; dirty = s.dirty; epoch = s.epoch; count = s.count };
+      keys = record { keys = s.keys.keys; dirty = s.dirty; epoch = s.epoch; count = s.count };
     } };
 }
 
 impl PublicState {
     /// Before the first payload: the owner's key alone, of serial 0.
-    #[tactic(auto, unfolding(crate::specs::Journal::nothing, crate::specs::KeyStep::no_keys, cry_base::specs::Store::no_store))]
+    #[tactic(auto, unfolding(crate::specs::Journal::nothing, crate::specs::KeyStep::no_keys, crate::specs::KeyStep::keys_without, cry_base::specs::Store::no_store))]
     pub fn new(alloc: Global) -> Mem<PublicState>
         ensures { IfOk result (λ s. IsSeenAs s nothing) }
     {
-        let mut keys = Vec::new(alloc);
-        keys.push(KeyHead {
+        let owner = KeyHead {
             role: Role::Owner,
             serial: Serial(0),
-        })?;
+        };
+        let mut keys = KeyTable::new(alloc);
+        keys.reserve(1)?;
+        keys.take(&[owner], &[]);
         Ok(PublicState {
             shape: Shape::new(alloc),
             grants: Grants::new(alloc),
@@ -89,11 +90,11 @@ impl PublicState {
         &self.dirty
     }
 
-    /// The serial of the role's newest key, where it has one. It looks at the keys in turn.
+    /// The serial of the role's newest key, where it has one.
     pub fn present(&self, role: Role) -> Option<Serial>
         ensures { option_map (λ serial. serial.0) result ≡ newest self.now.keys.keys role }
     {
-        newest_serial(&self.keys, role)
+        self.keys.newest(role)
     }
 
     /// The epoch that the counter of serials is in, and 0 before the first.
@@ -119,7 +120,7 @@ impl PublicState {
     {
         let shape = self.shape.copy()?;
         let grants = self.grants.copy()?;
-        let keys = Vec::from_slice(alloc, &self.keys)?;
+        let keys = self.keys.copy()?;
         let dirty = self.dirty.copy()?;
         Ok(PublicState {
             shape,

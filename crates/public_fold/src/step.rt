@@ -1,11 +1,12 @@
 //! The key step of a note on a public state (docs/FORMAT.md, "The key step").
-ghost use Rattle.std.specs.Prelude.{◌≡◌, ◌≤◌, true, false, IfErr, IfOk, OnErr, OnOk};
+ghost use Rattle.std.specs.Prelude.{◌≡◌, ◌≤◌, ◌++◌, true, false, IfErr, IfOk, OnErr, OnOk};
 ghost use Rattle.move_plan.specs.Fitting.{fits as fits_store};
 ghost use Rattle.move_plan.specs.Seen.{plain_change};
 ghost use Rattle.record_format.specs.Told.{told_note};
 ghost use Rattle.role_graph.specs.Edges.{edge_before, edges as edges_of, in_order};
 ghost use Rattle.role_graph.specs.PublicStore.{public_store};
 ghost use Rattle.public_fold.specs.Fitted.{told_step};
+ghost use Rattle.public_fold.specs.KeyStep.{keys_without};
 ghost use Rattle.public_fold.specs.StandFits.{note_fits};
 ghost use Rattle.public_fold.specs.Standing.{public_store_of, stand_of};
 ghost use Rattle.public_fold.specs.Stepping.{IsDue, IsNumbered, IsStateAfter, IsStep, counted, is_for_files as changes_files};
@@ -13,9 +14,10 @@ ghost use Rattle.public_fold.specs.Stepping.{IsDue, IsNumbered, IsStateAfter, Is
 use crate::changing::change_store;
 use crate::counter::{count_after, next_serial};
 use crate::file_keys::{is_for_files, published_for_files};
+use crate::keys::{KeyTable, KeysThen};
 use crate::lists::{edges_left, joined};
 use crate::marks::{clean, dirty_left};
-use crate::numbering::{given_keys, keys_after, link_heads};
+use crate::numbering::{given_keys, link_heads};
 use crate::publishing::published;
 use crate::sealing::{content_count, content_heads};
 use crate::{FoldFault, KeyHead, PublicState, Skeleton};
@@ -40,16 +42,16 @@ struct Due {
 }
 
 /// What a note's step gives and publishes, and what it leaves.
-#[derive(Debug, Drop)]
+#[derive(Drop)]
 pub(crate) struct Step {
     pub(crate) skeleton: Skeleton,
     pub(crate) left: Left,
 }
 
 /// The keys, the dirty roles and the epoch's count after a step.
-#[derive(Debug, Drop)]
+#[derive(Drop)]
 pub(crate) struct Left {
-    pub(crate) keys: Vec<KeyHead>,
+    pub(crate) keys: KeyTable,
     pub(crate) dirty: Dirty,
     pub(crate) count: u32,
 }
@@ -143,11 +145,16 @@ fn numbered_step(
     };
     let first = next_serial(state.epoch, state.count);
     let given = given_keys(alloc, keyed, first)?;
-    let keys = keys_after(alloc, given.as_slice(), due.gone.as_slice(), &state.keys)?;
+    let then = KeysThen {
+        given: given.as_slice(),
+        gone: due.gone.as_slice(),
+        old: &state.keys,
+    };
     let first_link = first + keyed.len() as u64;
-    let links = link_heads(alloc, &keys, published, first_link)?;
+    let links = link_heads(alloc, &then, published, first_link)?;
     let first_content = first_link + published.len() as u64;
-    let contents = content_heads(alloc, &keys, note, first_content)?;
+    let contents = content_heads(alloc, &then, note, first_content)?;
+    let keys = taken(&state.keys, given.as_slice(), due.gone.as_slice())?;
     Ok(Step {
         skeleton: Skeleton {
             keys: given,
@@ -160,6 +167,16 @@ fn numbered_step(
             count,
         },
     })
+}
+
+/// A copy of the keys, in which some are given and those of some roles are gone.
+fn taken(old: &KeyTable, given: &[KeyHead], gone: &[Role]) -> Mem<KeyTable>
+    ensures { IfOk result (λ t. t.keys ≡ given.now ++ keys_without gone.now old.now.keys) }
+{
+    let mut keys = old.copy()?;
+    keys.reserve(given.len())?;
+    keys.take(given, gone);
+    Ok(keys)
 }
 
 impl PublicState {

@@ -1,6 +1,6 @@
 use Rattle.std.proofs.Common.{sym, ◌∙◌}
 use Rattle.public_fold.proofs.StepLists.{newest_none, newest_past, newest_read}
-use Rattle.public_fold.proofs.numbering.newest_serial.Goals as goal
+use Rattle.public_fold.proofs.keys.first_serial.Goals as goal
 
 pub returns-then-is_same_role : goal.returns-then-is_same_role
 returns-then-is_same_role c =

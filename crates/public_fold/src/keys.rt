@@ -1,0 +1,120 @@
+//! The newest key of each role, found by the role.
+ghost use Rattle.std.specs.Prelude.{◌≡◌, ◌+◌, ◌≤◌, [], ◌++◌, length, option_map, IfOk, IsOk, OnOk};
+ghost use Rattle.public_fold.specs.KeyStep.{keys_without, newest, present};
+ghost use Rattle.public_fold.specs.KeysAfter.{keys_then_of};
+
+use crate::KeyHead;
+use crate::key_order::KeyOrder;
+use crate::key_rows::{RolePlace, remove_keys, set_keys};
+use crate::lists::{has_role, is_same_role};
+use cry_base::{Mem, Role, Serial};
+use sorted_table::Table;
+use std::alloc::Global;
+use std::marker::Model;
+
+/// The newest key of each role. Contracts see the keys as a list, the newest first; there is one row a role, so that a
+/// look-up among n roles compares about log2(n) times. `spare` is how many more fit without memory; it may be more than
+/// was asked for.
+#[derive(Drop)]
+pub(crate) struct KeyTable {
+    rows: Table<KeyHead>,
+    order: KeyOrder,
+}
+
+impl Model for KeyTable {
+    ghost use Rattle.public_fold.specs.KeyTables.{IsTableOf, KeyList};
+
+    ghost Value = { KeyList };
+
+    ghost view = { λ t. record { keys = t.order.keys; spare = t.rows.spare } };
+
+    ghost invariant = { λ t. IsTableOf t.order.keys t.rows.rows };
+}
+
+impl KeyTable {
+    /// A table without keys. It takes no memory.
+    pub(crate) fn new(alloc: Global) -> KeyTable
+        ensures { result.keys ≡ [] }
+    {
+        KeyTable {
+            rows: Table::new(alloc),
+            order: KeyOrder::new(),
+        }
+    }
+
+    /// The serial of the role's newest key, where it has one.
+    pub(crate) fn newest(&self, role: Role) -> Option<Serial>
+        ensures { option_map (λ serial. serial.0) result ≡ newest self.now.keys role }
+    {
+        match self.rows.find(&RolePlace::of(role)) {
+            Some(key) => Some(key.serial),
+            None => None,
+        }
+    }
+
+    /// Makes room for at least so many keys beside those that are there.
+    pub(crate) fn reserve(&mut self, more: usize) -> Mem<()>
+        ensures keys { self.new.keys ≡ self.old.keys }
+        ensures room { OnOk result (more ≤ self.new.spare) }
+        ensures kept { self.old.spare ≤ self.new.spare }
+        ensures has_room { more ≤ self.old.spare → IsOk result }
+    {
+        self.rows.reserve(more)
+    }
+
+    /// Puts the keys that are given before the old ones, of which those of some roles go. It takes no memory.
+    pub(crate) fn take(&mut self, given: &[KeyHead], gone: &[Role])
+        requires { length given.now ≤ self.old.spare }
+        ensures keys { self.new.keys ≡ given.now ++ keys_without gone.now self.old.keys }
+        ensures spare { self.old.spare ≤ self.new.spare + length given.now }
+    {
+        self.order = self.order.giving(given, gone);
+        remove_keys(&mut self.rows, gone);
+        set_keys(&mut self.rows, given);
+    }
+
+    /// An equal table, with memory of its own.
+    pub(crate) fn copy(&self) -> Mem<KeyTable>
+        ensures { IfOk result (λ copy. copy.keys ≡ self.now.keys) }
+    {
+        Ok(KeyTable {
+            rows: self.rows.copy()?,
+            order: self.order.giving(&[], &[]),
+        })
+    }
+}
+
+/// The keys as they are after a step: those given, and behind them the old ones whose role isn't gone.
+#[derive(Clone, Copy)]
+pub(crate) struct KeysThen<'a> {
+    pub(crate) given: &'a [KeyHead],
+    pub(crate) gone: &'a [Role],
+    pub(crate) old: &'a KeyTable,
+}
+
+impl KeysThen<'_> {
+    /// The serial of the role's key then, and 0 where it has none.
+    pub(crate) fn present(&self, role: Role) -> Serial
+        ensures { result.0 ≡ present (keys_then_of self.now) role }
+    {
+        if let Some(serial) = first_serial(self.given, role) {
+            return serial;
+        }
+        if has_role(self.gone, role) {
+            return Serial(0);
+        }
+        self.old.newest(role).unwrap_or(Serial(0))
+    }
+}
+
+/// The serial of the role's first key among these.
+fn first_serial(keys: &[KeyHead], role: Role) -> Option<Serial>
+    ensures { option_map (λ serial. serial.0) result ≡ newest keys.now role }
+{
+    for key in keys {
+        if is_same_role(key.role, role) {
+            return Some(key.serial);
+        }
+    }
+    None
+}
