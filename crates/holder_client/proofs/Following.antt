@@ -20,7 +20,7 @@ use Rattle.holder_client.specs.Verdict.{open_link, open_content}
 use Rattle.holder_client.specs.Visiting.{Reading, Opened, needed, with_key, visit_edge, visit_text}
 use Rattle.holder_client.specs.Visiting as opened
 use Rattle.key_links.specs.Ended.{kind_from, kind_to, role_with, source_role, target_role, HasSource}
-use Rattle.key_links.specs.Opened.{IsAuthenticLink, IsAuthenticContent, target_of, text_of}
+use Rattle.key_links.specs.Opened.{IsAuthenticLink, IsAuthenticContent, text_of}
 use Rattle.key_links.specs.Ringed.{Ringed, key_of, IsWithKey}
 use Rattle.public_fold.specs.KeyStep.{KeyState, present}
 use Rattle.record_format.specs.Plain.{PlainContent}

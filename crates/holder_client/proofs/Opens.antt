@@ -1,8 +1,7 @@
 -- What an owner's view has once a visit is made, and once all are.
-use Rattle.std.proofs.Common.{◌≡◌, ◌≢◌, ◌⊎◌, ℕ, ◌+◌, ◌<◌, ◌≤◌, length, drop, get_or, Bool, true, false, ◌==◌, cond, List, [], ◌∷◌, map, Option, None, Some, option_map, Result, Ok, Err, inl, inr, ⊎_elim, refl, sym, ap, subst, ◌∙◌}
+use Rattle.std.proofs.Common.{◌≡◌, ◌≢◌, ◌⊎◌, ℕ, ◌+◌, ◌<◌, ◌≤◌, length, drop, get_or, Bool, true, false, ◌==◌, cond, List, [], ◌∷◌, map, None, Some, option_map, Result, Ok, Err, inl, inr, ⊎_elim, refl, sym, ap, subst, ◌∙◌}
 use Rattle.std.specs.Prelude.{IsTrue, OnOk}
-use Rattle.std.specs.List.{AllByRecursion}
-use Rattle.std.proofs.lemmas.Bool.{eqb-true, eqb-false, eq-eqb, false≢true}
+use Rattle.std.proofs.lemmas.Bool.{eqb-true, eqb-false, false≢true}
 use Rattle.std.proofs.Math.ListN.{drop_of_length-le}
 use Rattle.std.proofs.lemmas.List.{drop_more}
 use Rattle.chacha_seal.specs.Keys.{KeyParts}
@@ -27,7 +26,6 @@ use Rattle.holder_client.specs.Visits.Visit.{ToKey, ToName, ToFile, ToHolder}
 use Rattle.holder_client.proofs.Naming.{holders_named, nothing_named}
 use Rattle.holder_client.proofs.Viewed.{fault_first}
 use Rattle.key_links.specs.Ringed.{Ringed, IsAlone, found, key_of, parts_of}
-use Rattle.public_fold.specs.KeyStep.{present}
 use Rattle.public_fold.specs.Standing.{PublicView}
 use Rattle.role_graph.specs.Roles.{role_id, same_role}
 use Rattle.role_graph.proofs.Comparing.{same_role_tells}

@@ -9,7 +9,7 @@ use Rattle.std.proofs.lemmas.List.FromFn.{map-range_with_len_more}
 use Rattle.cry_base.specs.Sets.{In}
 use Rattle.cry_base.specs.Store.{Store, FolderEntry, FileEntry, HolderEntry, file_entry}
 use Rattle.cry_base.proofs.Finding.{find-found, found-find}
-use Rattle.cry_base.proofs.Members.{In-append, In-map}
+use Rattle.cry_base.proofs.Members.{In-append}
 use Rattle.folder_nodes.specs.Bare.{folder_of_row, file_of_row}
 use Rattle.folder_nodes.specs.declared.rows.FolderRow.{FolderRow}
 use Rattle.folder_nodes.specs.declared.rows.FileRow.{FileRow}
@@ -19,7 +19,6 @@ use Rattle.holder_client.specs.declared.visit_list.Part.{Part}
 use Rattle.holder_client.specs.declared.visit_list.Part.TheVariants.{Entry, Ways, Title}
 use Rattle.holder_client.specs.declared.visit_list.Visit.{Visit as Listed}
 use Rattle.holder_client.specs.declared.visit_list.Visit.TheVariants as listed
-use Rattle.holder_client.specs.Holding.{HasKind}
 use Rattle.holder_client.specs.Opening.{IsNameless, IsOwners, file_part, folder_part, plain_visit}
 use Rattle.holder_client.specs.Visits.{Visit, folders_that, is_entry, entry_edge, entry_visits, lower_visits, allowed_visits, upper_visit, upper_visits, name_visits, files_that, file_visits, visits_to_names, all_visits, holder_visits, is_higher, is_deeper}
 use Rattle.holder_client.specs.Visits.Visit.{ToKey, ToName, ToFile, ToHolder}
@@ -32,7 +31,7 @@ use Rattle.role_graph.specs.Edges.{edge, file_edge, in_order, put_in_order}
 use Rattle.role_graph.specs.Rights.Who.{TheOwner}
 use Rattle.role_graph.specs.Rights.{allowed_to, named_to}
 use Rattle.role_graph.specs.Roles.{clear_of, sub_of, back_of, files_of, data_of, file_role, role_id}
-use Rattle.role_graph.proofs.Adding.{flat_map_map, map_map}
+use Rattle.role_graph.proofs.Adding.{flat_map_map}
 
 -- ---- what ascends is in order
 

@@ -1,5 +1,5 @@
 -- A store's bytes that are opened for writing, step by step.
-use Rattle.std.proofs.Common.{◌≡◌, ℕ, Bool, true, false, List, [], ◌∷◌, ◌++◌, Result, Ok, Err, refl, ◌∙◌}
+use Rattle.std.proofs.Common.{◌≡◌, ℕ, true, false, List, [], ◌∷◌, ◌++◌, Result, Ok, Err, refl}
 use Rattle.commit_journal.specs.Answering.{Fault, Damaged, and_then}
 use Rattle.commit_journal.specs.Logs.{writer_log}
 use Rattle.commit_journal.specs.Placed.{PlainPlaced}

@@ -5,7 +5,7 @@ ghost use Rattle.commit_journal.specs.Placed.{plain_body, plain_placed};
 ghost use Rattle.cry_base.specs.declared.roles.Role.TheVariants.{Owner};
 ghost use Rattle.public_fold.specs.Journal.{Stand, nothing};
 ghost use Rattle.public_fold.specs.KeyStep.{next_epoch, present};
-ghost use Rattle.public_fold.specs.Standing.{IsSeenAs};
+ghost use Rattle.public_fold.specs.Standing.{IsSeenAs, with_room_of};
 ghost use Rattle.holder_client.specs.Answering.{AnswersBy};
 ghost use Rattle.holder_client.specs.Folding.{folded, stand_behind};
 
@@ -24,12 +24,12 @@ fn begin(state: &mut PublicState, epoch: Epoch)
     state.next_epoch();
 }
 
-/// Takes a batch's change. At `Err` nothing has changed.
+/// Takes a batch's change. At `Err` the state is as it was, but for room.
 fn take_batch(alloc: Global, state: &mut PublicState, placed: &Placed) -> Result<(), ClientFault>
     requires next { IsInEpoch state.old.keys.epoch placed.now.epoch.0 (plain_body placed.now.body) }
     ensures answer { (at : Stand) → IsSeenAs state.old at → AnswersBy (λ _ behind. IsSeenAs state.new behind) result (stand_behind at placed.now.place (plain_body placed.now.body)) }
     ensures no_disk { result ≢ Err ClientFault.DiskFault }
-    ensures err { OnErr result (state.new ≡ state.old) }
+    ensures err { OnErr result (state.new ≡ with_room_of state.old state.new) }
 {
     match &placed.body {
         Body::NewEpoch => {

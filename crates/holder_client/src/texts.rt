@@ -1,6 +1,6 @@
 //! Names, bytes and holders' keys that are opened, each with the key of its folder, its file or the owner (docs/FORMAT.md,
 //! "Reading").
-ghost use Rattle.std.specs.Prelude.{◌≡◌, ◌≢◌, Bool, Err, IfOk, IsTrue, MatchOption, OnErr, OnOk, false, length, map};
+ghost use Rattle.std.specs.Prelude.{◌≡◌, ◌≢◌, Bool, Err, IfOk, IsTrue, MatchOption, OnOk, false, length, map};
 ghost use Rattle.commit_journal.specs.Placed.{plain_placed};
 ghost use Rattle.cry_base.specs.Store.{Store};
 ghost use Rattle.cry_base.specs.declared.roles.Role.{Role as TheRole};

@@ -77,7 +77,7 @@ order_counts X lt p (x ∷ xs) = put_counts X lt p x (in_order lt xs) ∙ more (
     more true e = ap suc e
     more false e = e
 
-no_one : (X : Type 0) (p : X → Bool) (xs : List X) → ((x : X) → In x xs → p x ≡ true → ⊥) → filter p xs ≡ []
+pub no_one : (X : Type 0) (p : X → Bool) (xs : List X) → ((x : X) → In x xs → p x ≡ true → ⊥) → filter p xs ≡ []
 no_one X p [] never = refl
 no_one X p (x ∷ xs) never = elim (p x) as (λ b. p x ≡ b → cond b (x ∷ filter p xs) (filter p xs) ≡ []) [
   | true ↦ λ t. absurd (never x (inl refl) t)
@@ -85,7 +85,7 @@ no_one X p (x ∷ xs) never = elim (p x) as (λ b. p x ≡ b → cond b (x ∷ f
 ] refl
 
 -- the edge of a grant that doesn't stand is none of the store's
-not_granted : (s : Store) (h f : ℕ) → has_grant s h f ≡ false → In (grant_edge h f) (edges s) → ⊥
+pub not_granted : (s : Store) (h f : ℕ) → has_grant s h f ≡ false → In (grant_edge h f) (edges s) → ⊥
 unfolding has_grant
 not_granted s h f none i =
     let kind = grant_kind h f (grant_edge h f) refl in
@@ -127,7 +127,7 @@ none_renewed : (k : KeyState) (s : Store) (h f : ℕ) → renewed k (edges s) (c
 unfolding renewed change_of no_change
 none_renewed k s h f = none_lead _ _
 
-not_given_yet : (s : Store) (h f : ℕ) → fits s (Give h f) ≡ true → has_grant s h f ≡ false
+pub not_given_yet : (s : Store) (h f : ℕ) → fits s (Give h f) ≡ true → has_grant s h f ≡ false
 unfolding fits row_fits
 not_given_yet s h f t = not-true (has_grant s h f) (and_parts _ (not (has_grant s h f)) (and_parts _ (not (needs_root (Give h f)) || folder_stands s 1) t).0).1
 

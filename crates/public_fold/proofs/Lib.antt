@@ -4,11 +4,9 @@ pub mod CleanLinks
 pub mod Counting
 pub mod EdgesAfter
 pub mod EdgesThen
-pub mod FileStep
 pub mod Growing
 pub mod Keeping
 pub mod KeepingKeys
-pub mod KeyTabled
 pub mod KeyMoves
 pub mod Levels
 pub mod NotesFit
@@ -29,6 +27,7 @@ pub mod MayChange
 pub mod SeenAfter
 pub mod DueLists
 pub mod StepTold
+pub mod StepBegun
 pub mod DueMade
 pub mod PreparedTold
 pub mod GrantLaws
@@ -37,3 +36,7 @@ pub mod Rooting
 pub mod NoteMoves
 pub mod TurnsHold
 pub mod TextsWritten
+pub mod RootAlone
+pub mod KeyTabled
+pub mod QuietNotes
+pub mod StaysRooted

@@ -1,124 +1,64 @@
--- What is prepared is the state after the note, and takes its place.
-use Rattle.std.proofs.Common.{◌≡◌, ℕ, suc, Bool, true, List, [], ◌∷◌, ◌++◌, map, length, refl, sym, ap, ◌∙◌}
+-- What is prepared hangs on no check: a new holder's may come later.
+use Rattle.std.proofs.Common.{◌≡◌, ℕ, Bool, List, [], ◌∷◌, ◌++◌, map, length, refl, sym, ap, ◌∙◌}
 use Rattle.std.specs.List.{range_with_len}
-use Rattle.std.proofs.lemmas.Bool.{false≢true}
-use Rattle.cry_base.specs.Store.{Store}
-use Rattle.grant_book.specs.Granted.{Granted}
-use Rattle.record_format.specs.Noted.{Note}
-use Rattle.record_format.specs.Noted.Note.{Root, NewHolder, NewFolder, NewFile, Rewrite, NameFile, NameFolder, DropFile, DropFolder, ShiftFile, ShiftFolder, Give, Take}
+use Rattle.std.proofs.lemmas.List.{length_push}
+use Rattle.cry_base.specs.Store.{Store, GrantEntry}
 use Rattle.record_format.specs.Told.{told_note}
 use Rattle.record_format.specs.declared.note.Note.{Note as Declared}
 use Rattle.record_format.specs.declared.note.Note.TheVariants as declared
 use Rattle.move_plan.specs.Change.{change_of}
-use Rattle.move_plan.specs.Fitting.{fits, needs_root}
+use Rattle.move_plan.specs.Fitting.{fits, needs_root, row_fits}
 use Rattle.move_plan.specs.Seen.{keyless, seen_store}
-use Rattle.public_fold.specs.Changing.{checks_then, pairs_then}
+use Rattle.public_fold.specs.Changing.{checks_then, pairs_then, tree_then}
 use Rattle.public_fold.specs.Fitted.{told_stand, told_step}
 use Rattle.public_fold.specs.Journal.{Stand, note_step}
-use Rattle.public_fold.specs.Preparing.{CanSettle, IsNextHolder, IsRoomFor, begun, begun_keys, begun_view, is_new_holder, settled_checks, with_check, with_last}
+use Rattle.public_fold.specs.KeyStep.{KeyState}
+use Rattle.public_fold.specs.Preparing.{IsRootFor, begun, begun_keys, begun_view, with_check}
 use Rattle.public_fold.specs.Records.{pieces_of}
-use Rattle.public_fold.specs.Standing.{IsSeenAs, PublicView, public_store_of}
+use Rattle.public_fold.specs.Standing.{IsPublicOf, IsSeenAs, PublicView}
 use Rattle.public_fold.specs.Told.{told_store}
-use Rattle.public_fold.proofs.MayChange.{may_change_grants}
 
 pub begun_seen : (new : Bool) (v : PublicView) (at : Stand) → IsSeenAs v at → IsSeenAs (begun_view new v) (begun new at)
 begun_seen new v at sees = record { store = sees.store; grants = sees.grants; keys = ap (begun_keys new) sees.keys }
 
-one_needs_root : (h : ℕ) (check : List ℕ) → needs_root (NewHolder h check) ≡ true
-unfolding needs_root
-one_needs_root h check = refl
+-- whether the note fits hangs on no check
+pub check_fits : (s : Store) (n : Declared) (check : List ℕ) → fits s (told_note (with_check n check)) ≡ fits s (told_note n)
+unfolding told_note fits row_fits needs_root
+check_fits s (declared.NewHolder holder old) check = refl
+check_fits s declared.Root check = refl
+check_fits s (declared.NewFolder folder parent) check = refl
+check_fits s (declared.NewFile file folder) check = refl
+check_fits s (declared.Rewrite file) check = refl
+check_fits s (declared.NameFile file) check = refl
+check_fits s (declared.NameFolder folder) check = refl
+check_fits s (declared.DropFile file) check = refl
+check_fits s (declared.DropFolder folder) check = refl
+check_fits s (declared.ShiftFile file into) check = refl
+check_fits s (declared.ShiftFolder folder into) check = refl
+check_fits s (declared.Give holder folder) check = refl
+check_fits s (declared.Take holder folder) check = refl
 
-pub next_holder : (t : Store) (g : Granted) (note : Note) → fits (seen_store t g) note ≡ true → IsNextHolder g.checks note
-next_holder t g Root fit = tt
-next_holder t g (NewHolder h check) fit = may_change_grants t g (NewHolder h check) fit (one_needs_root h check)
-next_holder t g (NewFolder f p) fit = tt
-next_holder t g (NewFile x f) fit = tt
-next_holder t g (Rewrite x) fit = tt
-next_holder t g (NameFile x) fit = tt
-next_holder t g (NameFolder f) fit = tt
-next_holder t g (DropFile x) fit = tt
-next_holder t g (DropFolder f) fit = tt
-next_holder t g (ShiftFile x q) fit = tt
-next_holder t g (ShiftFolder f q) fit = tt
-next_holder t g (Give h f) fit = tt
-next_holder t g (Take h f) fit = tt
-
-pub settled_same : (note : Note) (g room : Granted) (after : List (List ℕ)) → IsRoomFor note g room → after ≡ checks_then g.checks note → settled_checks note room.checks after ≡ after
-unfolding checks_then
-settled_same Root g room after is e = refl
-settled_same (NewHolder h check) g room after is e = ap (λ l. l ++ check ∷ []) is.0 ∙ sym e
-settled_same (NewFolder f p) g room after is e = refl
-settled_same (NewFile x f) g room after is e = refl
-settled_same (Rewrite x) g room after is e = refl
-settled_same (NameFile x) g room after is e = refl
-settled_same (NameFolder f) g room after is e = refl
-settled_same (DropFile x) g room after is e = refl
-settled_same (DropFolder f) g room after is e = refl
-settled_same (ShiftFile x q) g room after is e = refl
-settled_same (ShiftFolder f q) g room after is e = refl
-settled_same (Give h f) g room after is e = refl
-settled_same (Take h f) g room after is e = refl
-
-pub can_settle : (note : Note) (g room : Granted) (after : PublicView) → IsRoomFor note g room → after.pairs ≡ pairs_then g.pairs note → CanSettle note room after
-unfolding pairs_then
-can_settle Root g room after is e = tt
-can_settle (NewHolder h check) g room after is e = (is.1 ∙ sym e, is.2, is.3)
-can_settle (NewFolder f p) g room after is e = tt
-can_settle (NewFile x f) g room after is e = tt
-can_settle (Rewrite x) g room after is e = tt
-can_settle (NameFile x) g room after is e = tt
-can_settle (NameFolder f) g room after is e = tt
-can_settle (DropFile x) g room after is e = tt
-can_settle (DropFolder f) g room after is e = tt
-can_settle (ShiftFile x q) g room after is e = tt
-can_settle (ShiftFolder f q) g room after is e = tt
-can_settle (Give h f) g room after is e = tt
-can_settle (Take h f) g room after is e = tt
-
--- ---- another check
-
-last_is : (l : List (List ℕ)) (a b : List ℕ) → with_last (l ++ a ∷ []) b ≡ l ++ b ∷ []
-last_is [] a b = refl
-last_is (x ∷ []) a b = refl
-last_is (x ∷ y ∷ ys) a b = ap (λ l. x ∷ l) (last_is (y ∷ ys) a b)
-
-pub check_settled : (n : Declared) (check : List ℕ) (room after : List (List ℕ)) → is_new_holder n ≡ true → settled_checks (told_note (with_check n check)) room after ≡ with_last (settled_checks (told_note n) room after) check
+pub check_root : (n : Declared) (check : List ℕ) (tree : Store) → IsRootFor (told_note n) tree → IsRootFor (told_note (with_check n check)) tree
 unfolding told_note
-check_settled declared.Root check room after t = absurd (false≢true t)
-check_settled (declared.NewHolder holder old) check room after t = sym (last_is room old check)
-check_settled (declared.NewFolder folder parent) check room after t = absurd (false≢true t)
-check_settled (declared.NewFile file folder) check room after t = absurd (false≢true t)
-check_settled (declared.Rewrite file) check room after t = absurd (false≢true t)
-check_settled (declared.NameFile file) check room after t = absurd (false≢true t)
-check_settled (declared.NameFolder folder) check room after t = absurd (false≢true t)
-check_settled (declared.DropFile file) check room after t = absurd (false≢true t)
-check_settled (declared.DropFolder folder) check room after t = absurd (false≢true t)
-check_settled (declared.ShiftFile file into) check room after t = absurd (false≢true t)
-check_settled (declared.ShiftFolder folder into) check room after t = absurd (false≢true t)
-check_settled (declared.Give holder folder) check room after t = absurd (false≢true t)
-check_settled (declared.Take holder folder) check room after t = absurd (false≢true t)
+check_root (declared.NewHolder holder old) check tree is = is
+check_root declared.Root check tree is = is
+check_root (declared.NewFolder folder parent) check tree is = is
+check_root (declared.NewFile file folder) check tree is = is
+check_root (declared.Rewrite file) check tree is = is
+check_root (declared.NameFile file) check tree is = is
+check_root (declared.NameFolder folder) check tree is = is
+check_root (declared.DropFile file) check tree is = is
+check_root (declared.DropFolder folder) check tree is = is
+check_root (declared.ShiftFile file into) check tree is = is
+check_root (declared.ShiftFolder folder into) check tree is = is
+check_root (declared.Give holder folder) check tree is = is
+check_root (declared.Take holder folder) check tree is = is
 
-pub check_can : (n : Declared) (check : List ℕ) (room : Granted) (after : PublicView) → CanSettle (told_note n) room after → CanSettle (told_note (with_check n check)) room after
-unfolding told_note
-check_can declared.Root check room after can = can
-check_can (declared.NewHolder holder old) check room after can = can
-check_can (declared.NewFolder folder parent) check room after can = can
-check_can (declared.NewFile file folder) check room after can = can
-check_can (declared.Rewrite file) check room after can = can
-check_can (declared.NameFile file) check room after can = can
-check_can (declared.NameFolder folder) check room after can = can
-check_can (declared.DropFile file) check room after can = can
-check_can (declared.DropFolder folder) check room after can = can
-check_can (declared.ShiftFile file into) check room after can = can
-check_can (declared.ShiftFolder folder into) check room after can = can
-check_can (declared.Give holder folder) check room after can = can
-check_can (declared.Take holder folder) check room after can = can
-
--- what stands after a note hangs on no check
+-- nor does what stands after it
 pub check_told : (n : Declared) (check : List ℕ) (at : Stand) → told_stand at (told_note (with_check n check)) ≡ told_stand at (told_note n)
 unfolding told_note told_stand told_step note_step told_store change_of pieces_of
-check_told declared.Root check at = refl
 check_told (declared.NewHolder holder old) check at = refl
+check_told declared.Root check at = refl
 check_told (declared.NewFolder folder parent) check at = refl
 check_told (declared.NewFile file folder) check at = refl
 check_told (declared.Rewrite file) check at = refl
@@ -131,15 +71,31 @@ check_told (declared.ShiftFolder folder into) check at = refl
 check_told (declared.Give holder folder) check at = refl
 check_told (declared.Take holder folder) check at = refl
 
-last_length : (l : List (List ℕ)) (check : List ℕ) → length (with_last l check) ≡ length l
-last_length [] check = refl
-last_length (x ∷ []) check = refl
-last_length (x ∷ y ∷ ys) check = ap suc (last_length (y ∷ ys) check)
+-- the store as everyone may see it after a note
+abbrev pub seen_then : PublicView → Declared → Store
+seen_then v n = seen_store (tree_then v.tree (told_note n)) (record { checks = checks_then v.checks (told_note n); pairs = pairs_then v.pairs (told_note n); spare = 0 })
 
--- nor does what everyone may see
-pub check_seen : (v : PublicView) (check : List ℕ) (at : Stand) → IsSeenAs v at → IsSeenAs (record v { checks = with_last v.checks check }) at
-check_seen v check at sees = record {
-  store = sees.store ∙ (λ i. record (public_store_of v) { grants = at.store.grants; holders = map keyless (range_with_len 1 (sym (last_length v.checks check) i)); holders_made = sym (last_length v.checks check) i });
+holders_seen : (t : Store) (gs : List GrantEntry) (a b : List (List ℕ)) (k : KeyState) (at : Stand) → length b ≡ length a
+    → IsPublicOf (seen_store t (record { checks = a; pairs = gs; spare = 0 })) k at → IsPublicOf (seen_store t (record { checks = b; pairs = gs; spare = 0 })) k at
+holders_seen t gs a b k at e sees = record {
+  store = sees.store ∙ (λ i. record (seen_store t (record { checks = a; pairs = gs; spare = 0 })) { grants = at.store.grants; holders = map keyless (range_with_len 1 (sym e i)); holders_made = sym e i });
   grants = sees.grants;
   keys = sees.keys;
 }
+
+-- nor what everyone may see of it
+pub check_seen : (v : PublicView) (n : Declared) (check : List ℕ) (k : KeyState) (at : Stand) → IsPublicOf (seen_then v n) k at → IsPublicOf (seen_then v (with_check n check)) k at
+unfolding told_note tree_then checks_then pairs_then
+check_seen v (declared.NewHolder holder old) check k at sees = holders_seen v.tree v.pairs (v.checks ++ old ∷ []) (v.checks ++ check ∷ []) k at (length_push v.checks check ∙ sym (length_push v.checks old)) sees
+check_seen v declared.Root check k at sees = sees
+check_seen v (declared.NewFolder folder parent) check k at sees = sees
+check_seen v (declared.NewFile file folder) check k at sees = sees
+check_seen v (declared.Rewrite file) check k at sees = sees
+check_seen v (declared.NameFile file) check k at sees = sees
+check_seen v (declared.NameFolder folder) check k at sees = sees
+check_seen v (declared.DropFile file) check k at sees = sees
+check_seen v (declared.DropFolder folder) check k at sees = sees
+check_seen v (declared.ShiftFile file into) check k at sees = sees
+check_seen v (declared.ShiftFolder folder into) check k at sees = sees
+check_seen v (declared.Give holder folder) check k at sees = sees
+check_seen v (declared.Take holder folder) check k at sees = sees

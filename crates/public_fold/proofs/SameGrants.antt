@@ -54,10 +54,30 @@ less_same gs hs p are = record {
   other_once = filter_once p hs are.other_once;
 }
 
+both_once : (gs hs : List GrantEntry) → AreOnce gs → AreOnce hs → ((e : GrantEntry) → In e gs → In e hs → ⊥) → AreOnce (gs ++ hs)
+both_once [] hs once more apart = more
+both_once (g ∷ gs) hs once more apart = (
+  λ i. ⊎_elim (λ u. once.0 u) (λ u. apart g (inl refl) u) ((In-append GrantEntry g gs hs).0 i),
+  both_once gs hs once.1 more (λ e i. apart e (inr i)),
+)
+
+not_before_and_behind : (e g : GrantEntry) → is_before e g ≡ true → is_before g e ≡ true → ⊥
+not_before_and_behind e g t u = grind (arith, nat_tests)
+
+with_once : (gs : List GrantEntry) (g : GrantEntry) → AreOnce gs → (In g gs → ⊥) → AreOnce (with_pair gs g)
+with_once gs g once new = both_once
+    (filter (λ e. is_before e g) gs) (g ∷ filter (λ e. is_before g e) gs)
+    (filter_once (λ e. is_before e g) gs once)
+    (λ i. new (In-filter GrantEntry (λ e. is_before g e) g gs i).0, filter_once (λ e. is_before g e) gs once)
+    (λ e i j.
+    let w = In-filter GrantEntry (λ x. is_before x g) e gs i in ⊎_elim
+    (λ (same : e ≡ g). new (subst (λ z. In z gs) same w.0))
+    (λ u. not_before_and_behind e g w.1 (In-filter GrantEntry (λ x. is_before g x) e gs u).1) j)
+
 -- a new grant in its place in the one, and at the end of the other
-pub more_same : (gs hs : List GrantEntry) (g : GrantEntry) → AreSameGrants gs hs → AreOrdered (with_pair gs g) → (In g gs → ⊥) → AreSameGrants (with_pair gs g) (hs ++ g ∷ [])
-more_same gs hs g are order new = record {
+pub more_same : (gs hs : List GrantEntry) (g : GrantEntry) → AreSameGrants gs hs → (In g gs → ⊥) → AreSameGrants (with_pair gs g) (hs ++ g ∷ [])
+more_same gs hs g are new = record {
   same = granted_more gs hs g are.same;
-  once = ordered_once (with_pair gs g) order;
+  once = with_once gs g are.once new;
   other_once = more_once hs g are.other_once (λ i. new ((are.same g).1 i));
 }

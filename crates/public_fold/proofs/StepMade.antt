@@ -15,7 +15,7 @@ use Rattle.move_plan.specs.Fitting.{file_stands, fits, folder_stands, has_depth_
 use Rattle.public_fold.specs.Heads.{content_head, due_of, textless}
 use Rattle.public_fold.specs.KeyStep.{KeyState, content_of, contents_from, given, key_step, keys_then, keys_without, links_from, next_serial, numbered, published, published_edges, renewed, step_with}
 use Rattle.public_fold.specs.Records.{Piece, file_piece, folder_piece, holder_piece, pieces_of, sealing_role}
-use Rattle.public_fold.specs.Stepping.{IsDue, IsNumbered, IsStep, counted}
+use Rattle.public_fold.specs.Stepping.{IsDue, IsNumbered, IsStep, counted, keys_left}
 use Rattle.public_fold.specs.Told.{told_store}
 use Rattle.public_fold.specs.declared.step.Due.{Due}
 use Rattle.public_fold.specs.declared.step.Step.{Step}
@@ -94,9 +94,9 @@ module _ (k : KeyState) (before : List Edge) (c : Change) (note : Note) (pieces 
   step_count = λ i. k.count + sym keyed_len i + length (sym is.edges i) + (sym (as_many pieces) ∙ ap length due) i
 
   module _ (s : Step) (n : IsNumbered k note d s) where
-    new_keys : s.left.keys.keys ≡ keys_then k c (renewed k before c)
+    new_keys : keys_left k.keys s ≡ keys_then k c (renewed k before c)
     unfolding keys_then given
-    new_keys = n.keys ∙ (λ i. numbered (next_serial k) (is.keyed i) ++ keys_without (is.gone i) k.keys)
+    new_keys = λ i. (n.given ∙ ap (numbered (next_serial k)) is.keyed) i ++ keys_without ((n.gone ∙ is.gone) i) k.keys
 
     new_contents : s.skeleton.contents.items ≡ map content_head (contents_from (keys_then k c (renewed k before c)) (next_serial k + length (given k c (renewed k before c)) + length (published_edges before c (renewed k before c))) pieces)
     new_contents =
@@ -104,7 +104,7 @@ module _ (k : KeyState) (before : List Edge) (c : Change) (note : Note) (pieces 
         ∙ (λ i. map content_head (contents_from (new_keys i) (next_serial k + keyed_len i + length (is.edges i)) (sym due i)))
         ∙ sym (heads_bare (keys_then k c (renewed k before c)) (next_serial k + length (given k c (renewed k before c)) + length (published_edges before c (renewed k before c))) pieces)
 
-    pub is_step : IsStep (key_step k before c pieces) s
+    pub is_step : IsStep k.keys (key_step k before c pieces) s
     unfolding key_step step_with published given
     is_step = record {
       skeleton = record {
@@ -114,5 +114,6 @@ module _ (k : KeyState) (before : List Edge) (c : Change) (note : Note) (pieces 
       };
       keys = new_keys;
       dirty = n.dirty ∙ is.dirty;
+      epoch = n.epoch;
       count = n.count ∙ sym step_count;
     }

@@ -13,7 +13,7 @@ use Rattle.record_format.specs.Told.{told_note}
 use Rattle.public_fold.specs.Faults.{fault_of}
 use Rattle.public_fold.specs.Fitted.{fits_step, has_heads, payload_fits, told_step}
 use Rattle.public_fold.specs.declared.fault.FoldFault.TheVariants as fold
-use Rattle.public_fold.specs.Journal.{note_step}
+use Rattle.public_fold.specs.Journal.{Stand, note_step}
 use Rattle.public_fold.specs.KeyStep.{Stepped}
 use Rattle.public_fold.specs.Records.{pieces_of}
 use Rattle.public_fold.specs.StandFits.{has_count, note_fits}
@@ -55,17 +55,17 @@ pub unfit_cause : (fault : ChangeFault) → fault_of fault ≡ fold.Unfit → fa
 unfit_cause change.Unfit e = refl
 unfit_cause change.OutOfMemory e = cc
 
-pub misfit : (v : PublicView) (p : PlainPayload) → fits_at v (told_note p.note) ≡ false → payload_fits (stand_of v) p ≡ false
+pub misfit : (at : Stand) (p : PlainPayload) → note_fits at (told_note p.note) (told_step at (told_note p.note)) ≡ false → payload_fits at p ≡ false
 unfolding payload_fits fits_step
-misfit v p e = and_left (fits_at v (told_note p.note)) (has_heads (step_at v (told_note p.note)) p) e
+misfit at p e = and_left (note_fits at (told_note p.note) (told_step at (told_note p.note))) (has_heads (told_step at (told_note p.note)) p) e
 
-pub no_heads : (v : PublicView) (p : PlainPayload) → has_heads (step_at v (told_note p.note)) p ≡ false → payload_fits (stand_of v) p ≡ false
+pub no_heads : (at : Stand) (p : PlainPayload) → has_heads (told_step at (told_note p.note)) p ≡ false → payload_fits at p ≡ false
 unfolding payload_fits fits_step
-no_heads v p e = and_right (fits_at v (told_note p.note)) (has_heads (step_at v (told_note p.note)) p) e
+no_heads at p e = and_right (note_fits at (told_note p.note) (told_step at (told_note p.note))) (has_heads (told_step at (told_note p.note)) p) e
 
-pub payload_fit : (v : PublicView) (p : PlainPayload) → fits_at v (told_note p.note) ≡ true → has_heads (step_at v (told_note p.note)) p ≡ true → payload_fits (stand_of v) p ≡ true
+pub payload_fit : (at : Stand) (p : PlainPayload) → note_fits at (told_note p.note) (told_step at (told_note p.note)) ≡ true → has_heads (told_step at (told_note p.note)) p ≡ true → payload_fits at p ≡ true
 unfolding payload_fits fits_step
-payload_fit v p f h = and_from (fits_at v (told_note p.note)) (has_heads (step_at v (told_note p.note)) p) f h
+payload_fit at p f h = and_from (note_fits at (told_note p.note) (told_step at (told_note p.note))) (has_heads (told_step at (told_note p.note)) p) f h
 
 module _ (v : PublicView) (note : Note) (c : Change) (d : Due) (fit : fits (public_store_of v) note ≡ true) (same : c ≡ change_of (public_store_of v) note) (is : IsDue v.keys (edges (public_store_of v)) c d) where
   due : IsDue v.keys (edges (public_store_of v)) (change_of (public_store_of v) note) d
@@ -82,7 +82,7 @@ module _ (v : PublicView) (note : Note) (c : Change) (d : Due) (fit : fits (publ
       (and_right (fits (public_store_of v) note) (nat_lt (step_at v note).after.count 4294967295) (le-ltb (step_at v note).after.count 4294967295 (subst (λ n. 4294967295 ≤ n) (sym count_told) h)))
 
   module _ (s : Step) (n : IsNumbered v.keys note d s) where
-    pub step_told : IsStep (step_at v note) s
+    pub step_told : IsStep v.keys.keys (step_at v note) s
     unfolding told_step note_step
     step_told = is_step v.keys (edges (public_store_of v)) (change_of (public_store_of v) note) note (pieces_of note (told_store (public_store_of v) note)) d (pieces_due (public_store_of v) note fit) due s n
 

@@ -1,20 +1,50 @@
--- A change that is made beside a state, and takes its place later.
-use Rattle.std.specs.Prelude.{◌≡◌, ℕ, ◌+◌, ◌<◌, ◌≤◌, Bool, true, false, List, [], ◌∷◌, ◌++◌, length}
-use Rattle.grant_book.specs.Granted.{Granted}
+-- A change that is prepared on a state, and made later.
+use Rattle.std.specs.Prelude.{◌≡◌, ℕ, ◌≤◌, Bool, true, false, List, ◌++◌, length}
+use Rattle.cry_base.specs.Store.{Store, root_store}
+use Rattle.cry_base.specs.declared.roles.Role.{Role}
 use Rattle.record_format.specs.Noted.{Note}
-use Rattle.record_format.specs.Noted.Note.{NewHolder}
+use Rattle.record_format.specs.Noted.Note.{Root}
+use Rattle.record_format.specs.Told.{told_note}
 use Rattle.record_format.specs.declared.note.Note.{Note as Declared}
 use Rattle.record_format.specs.declared.note.Note.TheVariants as declared
+use Rattle.move_plan.specs.Fitting.{fits}
+use Rattle.public_fold.specs.Changing.{checks_then, pairs_then, tree_then}
 use Rattle.public_fold.specs.Journal.{Stand}
-use Rattle.public_fold.specs.KeyStep.{KeyState, next_epoch}
-use Rattle.public_fold.specs.Standing.{PublicView}
+use Rattle.public_fold.specs.KeyStep.{KeyState, keys_without, next_epoch}
+use Rattle.public_fold.specs.Standing.{PublicView, public_store_of}
 use Rattle.public_fold.specs.declared.heads.Skeleton.{Skeleton}
 
--- the note, its skeleton, and the state after it
+-- the note and its skeleton; the roles whose old keys go; the dirty roles then; the epoch then, and how many serials were given in it
 pub record PreparedView : Type 0 where
   pub note : Declared
   pub skeleton : Skeleton
-  pub after : PublicView
+  pub gone : List Role
+  pub dirty : List Role
+  pub epoch : ℕ
+  pub count : ℕ
+
+-- the keys once the change is made: those given, and behind them the old ones whose role isn't gone
+abbrev pub keys_settled : KeyState → PreparedView → KeyState
+keys_settled k p = record { keys = p.skeleton.keys.items ++ keys_without p.gone k.keys; dirty = p.dirty; epoch = p.epoch; count = p.count }
+
+-- the state once the change is made
+abbrev pub settled : PublicView → PreparedView → PublicView
+settled v p = record {
+  tree = tree_then v.tree (told_note p.note);
+  checks = checks_then v.checks (told_note p.note);
+  pairs = pairs_then v.pairs (told_note p.note);
+  keys = keys_settled v.keys p;
+  spare = v.spare;
+  key_spare = v.key_spare;
+}
+
+-- the change may be made on the state: its note fits
+abbrev pub CanSettle : PublicView → PreparedView → Type 0
+CanSettle v p = fits (public_store_of v) (told_note p.note) ≡ true
+
+-- the state has the memory for it
+abbrev pub HasRoomFor : PublicView → PreparedView → Type 0
+HasRoomFor v p = (1 ≤ v.spare) × (length p.skeleton.keys.items ≤ v.key_spare)
 
 -- once the next epoch was begun, where one is wanted: the keys, a state, a stand
 unfoldable pub begun_keys : Bool → KeyState → KeyState
@@ -27,25 +57,10 @@ begun_view new v = record v { keys = begun_keys new v.keys }
 abbrev pub begun : Bool → Stand → Stand
 begun new at = record at { keys = begun_keys new at.keys }
 
--- a new holder is the next one
-abbrev pub IsNextHolder : List (List ℕ) → Note → Type 0
-IsNextHolder checks (NewHolder h check) = h ≡ length checks + 1
-IsNextHolder checks note = Unit {0}
-
--- where the note makes a holder: the holders and grants as they stand, with room for one more
-abbrev pub IsRoomFor : Note → Granted → Granted → Type 0
-IsRoomFor (NewHolder h check) granted room = (room.checks ≡ granted.checks) × (room.pairs ≡ granted.pairs) × (1 ≤ room.spare) × (length room.checks + 1 < 4294967296)
-IsRoomFor note granted room = Unit {0}
-
--- the holder that the note makes can be added to the room, which has the state's grants
-abbrev pub CanSettle : Note → Granted → PublicView → Type 0
-CanSettle (NewHolder h check) room after = (room.pairs ≡ after.pairs) × (1 ≤ room.spare) × (length room.checks + 1 < 4294967296)
-CanSettle note room after = Unit {0}
-
--- the checks once the holder is added
-abbrev pub settled_checks : Note → List (List ℕ) → List (List ℕ) → List (List ℕ)
-settled_checks (NewHolder h check) room after = room ++ check ∷ []
-settled_checks note room after = after
+-- where the note makes the root, the tree is that of the root alone
+abbrev pub IsRootFor : Note → Store → Type 0
+IsRootFor Root tree = tree ≡ root_store
+IsRootFor note tree = Unit {0}
 
 -- whether the note makes a holder, and the same note with another check
 abbrev pub is_new_holder : Declared → Bool
@@ -55,9 +70,3 @@ is_new_holder note = false
 abbrev pub with_check : Declared → List ℕ → Declared
 with_check (declared.NewHolder holder old) check = declared.NewHolder holder check
 with_check note check = note
-
--- the list with another last item
-abbrev pub with_last : List (List ℕ) → List ℕ → List (List ℕ)
-with_last [] check = []
-with_last (x ∷ []) check = check ∷ []
-with_last (x ∷ y ∷ ys) check = x ∷ with_last (y ∷ ys) check

@@ -6,12 +6,19 @@ use Rattle.move_plan.specs.Seen.{seen_store}
 use Rattle.public_fold.specs.Journal.{Stand}
 use Rattle.public_fold.specs.KeyStep.{KeyState}
 
--- the tree without names, each holder's check, the grants by holder and then by folder, and the keys by their serials
+-- the tree without names, each holder's check, the grants by holder and then by folder, and the keys by their serials; and how many
+-- changes of tree, holders and grants have their memory, and how many keys more
 pub record PublicView : Type 0 where
   pub tree : Store
   pub checks : List (List ℕ)
   pub pairs : List GrantEntry
   pub keys : KeyState
+  pub spare : ℕ
+  pub key_spare : ℕ
+
+-- the one state with the room of the other
+abbrev pub with_room_of : PublicView → PublicView → PublicView
+with_room_of v other = record v { spare = other.spare; key_spare = other.key_spare }
 
 -- the store and the keys as everyone may see them
 abbrev pub public_store_of : PublicView → Store
@@ -31,8 +38,12 @@ pub record AreSameGrants (gs hs : List GrantEntry) : Type 0 where
   pub once : AreOnce gs
   pub other_once : AreOnce hs
 
--- the state is what everyone may see of the stand: the order of the grants alone may differ
-pub record IsSeenAs (v : PublicView) (at : Stand) : Type 0 where
-  pub store : at.store ≡ record (public_store_of v) { grants = at.store.grants }
-  pub grants : AreSameGrants v.pairs at.store.grants
-  pub keys : at.keys ≡ v.keys
+-- a store and keys are what everyone may see of the stand: the order of the grants alone may differ
+pub record IsPublicOf (s : Store) (k : KeyState) (at : Stand) : Type 0 where
+  pub store : at.store ≡ record s { grants = at.store.grants }
+  pub grants : AreSameGrants s.grants at.store.grants
+  pub keys : at.keys ≡ k
+
+-- so is what the state keeps, whatever room it has
+abbrev pub IsSeenAs : PublicView → Stand → Type 0
+IsSeenAs v at = IsPublicOf (public_store_of v) v.keys at

@@ -7,9 +7,8 @@ ghost use Rattle.public_fold.specs.Fitted.{payload_fits, told_stand, told_step};
 ghost use Rattle.public_fold.specs.Heads.{IsSkeleton};
 ghost use Rattle.public_fold.specs.Journal.{Stand};
 ghost use Rattle.public_fold.specs.StandFits.{note_fits};
-ghost use Rattle.public_fold.specs.Standing.{IsSeenAs};
+ghost use Rattle.public_fold.specs.Standing.{IsSeenAs, with_room_of};
 
-use crate::changing::change_store;
 use crate::fitting::has_records;
 use crate::step::step_of;
 use crate::{FoldFault, PublicState, Skeleton};
@@ -25,23 +24,26 @@ impl PublicState {
         ensures fits { IfOk result (λ k. (at : Stand) → IsSeenAs self.now at → note_fits at (told_note note.now) (told_step at (told_note note.now)) ≡ true) }
         ensures unfit { result ≡ Err FoldFault.Unfit → (at : Stand) → IsSeenAs self.now at → note_fits at (told_note note.now) (told_step at (told_note note.now)) ≡ false }
     {
-        let step = step_of(alloc, self, note)?;
+        let step = step_of(alloc, self, false, note)?;
         Ok(step.skeleton)
     }
 
     /// Makes the payload's change. `Unfit` comes only where the payload doesn't fit: its note doesn't, or its records
-    /// aren't those of the note's skeleton, in order, each with a text of a right length. At `Err` nothing has changed.
+    /// aren't those of the note's skeleton, in order, each with a text of a right length. At `Err` the state is as it was, but
+    /// for room.
     pub fn advance(&mut self, alloc: Global, payload: &Payload) -> Result<(), FoldFault>
         ensures seen { OnOk result ((at : Stand) → IsSeenAs self.old at → IsSeenAs self.new (told_stand at (told_note payload.now.note))) }
         ensures checks { OnOk result (self.new.checks ≡ checks_then self.old.checks (told_note payload.now.note)) }
         ensures fits { OnOk result ((at : Stand) → IsSeenAs self.old at → payload_fits at (plain_payload payload.now) ≡ true) }
         ensures unfit { result ≡ Err FoldFault.Unfit → (at : Stand) → IsSeenAs self.old at → payload_fits at (plain_payload payload.now) ≡ false }
-        ensures err { OnErr result (self.new ≡ self.old) }
+        ensures err { OnErr result (self.new ≡ with_room_of self.old self.new) }
     {
-        let step = step_of(alloc, self, &payload.note)?;
-        if !has_records(&step.skeleton, payload) {
+        let ready = self.prepare(alloc, &payload.note, false)?;
+        if !has_records(ready.skeleton(), payload) {
             return Err(FoldFault::Unfit);
         }
-        self.take_step(alloc, &payload.note, step.left)
+        self.reserve(&ready)?;
+        self.settle(ready);
+        Ok(())
     }
 }

@@ -1,10 +1,12 @@
 //! What a note changes in the tree, the holders and the grants.
-ghost use Rattle.std.specs.Prelude.{◌≡◌, ◌<◌, ◌≤◌, [], not, true, IfOk, OnOk, OnErr};
+ghost use Rattle.std.specs.Prelude.{◌≡◌, ◌<◌, ◌≤◌, not, true, IfOk};
 ghost use Rattle.cry_base.specs.Store.{root_store};
 ghost use Rattle.move_plan.specs.Fitting.{fits as fits_store, needs_root};
 ghost use Rattle.move_plan.specs.Seen.{seen_store};
 ghost use Rattle.record_format.specs.Told.{told_note};
 ghost use Rattle.public_fold.specs.Changing.{CanChangeGrants, CanChangeTree, checks_then, pairs_then, tree_then};
+ghost use Rattle.public_fold.specs.Preparing.{IsRootFor};
+ghost use Rattle.public_fold.specs.Rooted.{MayStand};
 
 use cry_base::{Mem, Node};
 use folder_nodes::Shape;
@@ -12,29 +14,23 @@ use grant_book::Grants;
 use record_format::Note;
 use std::alloc::Global;
 
-/// Makes the change of a note that fits. At `Err` nothing has changed.
-pub(crate) fn change_store(
-    alloc: Global,
-    shape: &mut Shape,
-    grants: &mut Grants,
-    note: &Note,
-) -> Mem<()>
-    requires { fits_store (seen_store shape.old.tree grants.old) (told_note note.now) ≡ true }
-    ensures tree { OnOk result (shape.new.tree ≡ tree_then shape.old.tree (told_note note.now)) }
-    ensures pairs { OnOk result (grants.new.pairs ≡ pairs_then grants.old.pairs (told_note note.now)) }
-    ensures checks { OnOk result (grants.new.checks ≡ checks_then grants.old.checks (told_note note.now)) }
-    ensures same_tree { OnErr result (shape.new.tree ≡ shape.old.tree) }
-    ensures same_pairs { OnErr result (grants.new.pairs ≡ grants.old.pairs) }
-    ensures same_checks { OnErr result (grants.new.checks ≡ grants.old.checks) }
+/// Makes the change of a note that fits; the root's is the tree at hand, since nothing stands before it. It takes no memory.
+pub(crate) fn change_store(shape: &mut Shape, grants: &mut Grants, note: &Note, root: Shape)
+    requires fits { fits_store (seen_store shape.old.tree grants.old) (told_note note.now) ≡ true }
+    requires may_stand { MayStand (seen_store shape.old.tree grants.old) }
+    requires root { IsRootFor (told_note note.now) root.tree }
+    requires shape_room { 1 ≤ shape.old.spare }
+    requires grants_room { 1 ≤ grants.old.spare }
+    ensures tree { shape.new.tree ≡ tree_then shape.old.tree (told_note note.now) }
+    ensures pairs { grants.new.pairs ≡ pairs_then grants.old.pairs (told_note note.now) }
+    ensures checks { grants.new.checks ≡ checks_then grants.old.checks (told_note note.now) }
 {
     if is_root(note) {
-        return start_over(alloc, shape, grants);
+        *shape = root;
+        return;
     }
-    shape.reserve()?;
-    grants.reserve()?;
     change_shape(shape, note);
     change_grants(grants, note);
-    Ok(())
 }
 
 /// Whether the note is the one that makes the root.
@@ -45,23 +41,9 @@ fn is_root(note: &Note) -> bool
     matches!(note, Note::Root)
 }
 
-/// Makes the root alone, with no holder and no grant. At `Err` nothing has changed.
-fn start_over(alloc: Global, shape: &mut Shape, grants: &mut Grants) -> Mem<()>
-    ensures tree { OnOk result (shape.new.tree ≡ root_store) }
-    ensures pairs { OnOk result (grants.new.pairs ≡ []) }
-    ensures checks { OnOk result (grants.new.checks ≡ []) }
-    ensures same_tree { OnErr result (shape.new.tree ≡ shape.old.tree) }
-    ensures same_pairs { OnErr result (grants.new.pairs ≡ grants.old.pairs) }
-    ensures same_checks { OnErr result (grants.new.checks ≡ grants.old.checks) }
-{
-    *shape = root_shape(alloc)?;
-    *grants = Grants::new(alloc);
-    Ok(())
-}
-
-/// The root alone.
+/// The tree with the root alone.
 #[tactic(auto, unfolding(cry_base::specs::Store::no_store, cry_base::specs::Store::root_store, cry_base::specs::Stepping::with_new_folder))]
-fn root_shape(alloc: Global) -> Mem<Shape>
+pub(crate) fn root_shape(alloc: Global) -> Mem<Shape>
     ensures { IfOk result (λ s. s.tree ≡ root_store) }
 {
     let mut shape = Shape::new(alloc);

@@ -1,6 +1,15 @@
 //! The count of serials that an epoch gave out.
 ghost use Rattle.std.specs.Prelude.{◌≡◌, ◌+◌, ◌*◌, ◌<◌, ◌≤◌, ◌^◌, MatchOption};
 
+/// Where the counter of serials stands.
+#[derive(Clone, Copy, Debug, PartialEq, Eq)]
+pub(crate) struct SerialCount {
+    /// The epoch, and 0 before the first.
+    pub(crate) epoch: u32,
+    /// How many serials were given in it.
+    pub(crate) count: u32,
+}
+
 /// The count once a step took its serials, where it stays below 2^32 - 1.
 pub(crate) fn count_after(count: u32, keys: usize, links: usize, contents: usize) -> Option<u32>
     ensures { MatchOption result (4294967295 ≤ count + keys + links + contents) (λ n. (n ≡ count + keys + links + contents) × (n < 4294967295)) }

@@ -1,10 +1,12 @@
 //! The public state: what everyone who has read the payloads so far knows of the tree, the grants and the keys.
-ghost use Rattle.std.specs.Prelude.{◌≡◌, ◌<◌, IfOk, option_map};
+ghost use Rattle.std.specs.Prelude.{◌≡◌, ◌<◌, true, IfOk, option_map};
 ghost use Rattle.public_fold.specs.Journal.{nothing};
 ghost use Rattle.public_fold.specs.KeyStep.{newest, next_epoch};
-ghost use Rattle.public_fold.specs.Standing.{IsSeenAs, stand_of};
+ghost use Rattle.public_fold.specs.Preparing.{begun_keys};
+ghost use Rattle.public_fold.specs.Standing.{IsSeenAs, stand_of, with_room_of};
 
 use crate::KeyHead;
+use crate::counter::SerialCount;
 use crate::keys::KeyTable;
 use cry_base::{Epoch, Mem, Role, Serial};
 use folder_nodes::Shape;
@@ -14,7 +16,8 @@ use std::alloc::Global;
 use std::marker::Model;
 
 /// The tree without names, the holders and the grants, each role's newest serial, the dirty roles, and where the counter
-/// of serials stands. No secret is in it.
+/// of serials stands. No secret is in it. `spare` is how many changes of tree, holders and grants have their memory, and
+/// `key_spare` how many keys more; either may be more than was asked for.
 #[derive(Drop)]
 pub struct PublicState {
     pub(crate) shape: Shape,
@@ -26,6 +29,9 @@ pub struct PublicState {
 }
 
 impl Model for PublicState {
+    ghost use Rattle.std.specs.Prelude.{min};
+    ghost use Rattle.move_plan.specs.Seen.{seen_store};
+    ghost use Rattle.public_fold.specs.Rooted.{MayStand};
     ghost use Rattle.public_fold.specs.Standing.{PublicView};
 
     ghost Value = { PublicView };
@@ -35,7 +41,11 @@ impl Model for PublicState {
       checks = s.grants.checks;
       pairs = s.grants.pairs;
       keys = record { keys = s.keys.keys; dirty = s.dirty; epoch = s.epoch; count = s.count };
+      spare = min s.shape.spare s.grants.spare;
+      key_spare = s.keys.spare;
     } };
+
+    ghost invariant = { λ s. MayStand (seen_store s.shape.tree s.grants) };
 }
 
 impl PublicState {
@@ -90,7 +100,7 @@ impl PublicState {
         &self.dirty
     }
 
-    /// The serial of the role's newest key, where it has one.
+    /// The serial of the role's newest key, where it has one. It takes about log2 of all keys steps.
     pub fn present(&self, role: Role) -> Option<Serial>
         ensures { option_map (λ serial. serial.0) result ≡ newest self.now.keys.keys role }
     {
@@ -114,9 +124,27 @@ impl PublicState {
         self.count = 0;
     }
 
-    /// An equal state, with memory of its own.
-    pub fn copy(&self, alloc: Global) -> Mem<PublicState>
-        ensures { IfOk result (λ s. s ≡ self.now) }
+    /// Where the counter of serials stands, once the next epoch is begun where one is wanted.
+    #[tactic(auto, unfolding(crate::specs::Preparing::begun_keys, crate::specs::KeyStep::next_epoch))]
+    pub(crate) fn counts_from(&self, new_epoch: bool) -> SerialCount
+        requires { new_epoch ≡ true → self.now.keys.epoch < 4294967295 }
+        ensures { record self.now.keys { epoch = result.epoch; count = result.count } ≡ begun_keys new_epoch self.now.keys }
+    {
+        if new_epoch {
+            return SerialCount {
+                epoch: self.epoch + 1,
+                count: 0,
+            };
+        }
+        SerialCount {
+            epoch: self.epoch,
+            count: self.count,
+        }
+    }
+
+    /// An equal state, with memory of its own. It copies all that stands.
+    pub fn copy(&self) -> Mem<PublicState>
+        ensures { IfOk result (λ s. s ≡ with_room_of self.now s) }
     {
         let shape = self.shape.copy()?;
         let grants = self.grants.copy()?;

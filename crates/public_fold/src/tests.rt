@@ -361,7 +361,7 @@ fn no_note_fits_before_the_first_epoch(rt: HostRuntime) -> Result<(), Fail> {
 fn a_holder_is_prepared_before_its_key_is_drawn(rt: HostRuntime) -> Result<(), Fail> {
     let alloc = rt.alloc();
     let mut state = fresh(alloc)?;
-    let before = state.copy(alloc)?;
+    let before = state.copy()?;
     let wants_epoch = state.epoch().0 < 1000;
     let note = Note::NewHolder {
         holder: HolderId(1),
@@ -371,6 +371,7 @@ fn a_holder_is_prepared_before_its_key_is_drawn(rt: HostRuntime) -> Result<(), F
     assert!(rt; gives(ready.skeleton(), &[(3, 0)]));
     assert!(rt; seals(ready.skeleton(), 3, 1, (0, 0), (3, 1)));
     ready.set_check([9; 32]);
+    state.reserve(&ready)?;
     state.settle(ready);
     assert_eq!(rt; state.grants().check_of(HolderId(1)), Some([9; 32]));
     assert!(rt; state.present(Role::Holder(HolderId(1))).is_some());

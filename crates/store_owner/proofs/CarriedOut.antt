@@ -16,9 +16,9 @@ use Rattle.record_format.specs.Told.{told_note}
 use Rattle.public_fold.specs.Fitted.{told_stand, told_step}
 use Rattle.public_fold.specs.Heads.{IsSkeleton}
 use Rattle.public_fold.specs.Journal.{Stand, first_key, note_step}
-use Rattle.public_fold.specs.Preparing.{begun}
+use Rattle.public_fold.specs.Preparing.{begun, settled}
 use Rattle.public_fold.specs.StandFits.{note_fits}
-use Rattle.public_fold.specs.Standing.{IsSeenAs}
+use Rattle.public_fold.specs.Standing.{IsSeenAs, with_room_of}
 use Rattle.public_fold.specs.declared.heads.Skeleton.{Skeleton}
 use Rattle.store_owner.specs.Applying.{IsCarriedOut, IsSealed, sealed_text, skeleton_size}
 use Rattle.store_owner.specs.Bytes.{step_payload}
@@ -111,7 +111,7 @@ module _ (r : Request) (drawn : List (List ℕ)) (old : OwnerView) (before after
   }
 
   pub carried : (new : OwnerView) (was showed shows : Option (List ℕ)) (between : JournalState) (starts ends : Counting) (sealed : Skeleton) (payload : PlainPayload)
-      → HasBegun old.journal between old.counter starts was showed → is_some showed ≡ is_some was → new.key ≡ old.key → new.file_bytes ≡ old.file_bytes → new.state ≡ after.ready.after → sealed ≡ after.ready.skeleton
+      → HasBegun old.journal between old.counter starts was showed → is_some showed ≡ is_some was → new.key ≡ old.key → new.file_bytes ≡ old.file_bytes → new.state ≡ with_room_of (settled old.state after.ready) new.state → sealed ≡ after.ready.skeleton
       → ((keys : List KeyParts) (x : Stand) (other : Note) (later : Store) → HoldsKeys keys x.keys old.ring starts → IsTold (note_step x other later) sealed after.text.items
       → payload ≡ step_payload (keys_with keys (note_step x other later) drawn) after.note (note_step x other later))
       → ((keys : List KeyParts) (x : Stand) (other : Note) (later : Store) → HoldsKeys keys x.keys old.ring starts → IsSealable (note_step x other later) → IsSkeleton (note_step x other later) sealed
@@ -126,7 +126,7 @@ module _ (r : Request) (drawn : List (List ℕ)) (old : OwnerView) (before after
     same_bound = same_bound;
     seen_then = λ x s saw is.
         subst (λ (v : _). IsSeenAs v (told_stand (begun (not old.journal.has_epoch) x) (note_of s r (replicate 32 0)))) (sym state_is)
-        (subst (λ (n : Note). IsSeenAs after.ready.after (told_stand (begun (not old.journal.has_epoch) x) n)) (drafted.told s is) (keyed.seen _ (drafted.seen_then x saw)));
+        (subst (λ (n : Note). IsSeenAs (settled old.state after.ready) (told_stand (begun (not old.journal.has_epoch) x) n)) (drafted.told s is) (keyed.seen old.state _ (drafted.seen_then x saw)));
     keys_then = λ keys x other later held can is. holds keys x other later held can (subst (λ (s : Skeleton). IsSkeleton (note_step x other later) s) (sym (sealed_is ∙ keyed.skeleton)) is);
     ends_as = counter_is;
     commits = joins;

@@ -27,7 +27,7 @@ use Rattle.public_fold.specs.Journal.{Journal, Stand, first_key, note_step}
 use Rattle.public_fold.specs.Journal.Entry.{Session, Did}
 use Rattle.public_fold.specs.Lengths.{note_len}
 use Rattle.public_fold.specs.Preparing.{begun}
-use Rattle.public_fold.specs.Standing.{IsSeenAs}
+use Rattle.public_fold.specs.Standing.{IsSeenAs, with_room_of}
 use Rattle.public_fold.specs.declared.heads.Skeleton.{Skeleton}
 use Rattle.store_owner.specs.declared.apply_fault.ApplyFault.{ApplyFault}
 use Rattle.store_owner.specs.declared.apply_fault.ApplyFault.TheVariants as faults
@@ -57,7 +57,7 @@ skeleton_size note s text = note_len note + 8 + 98 * length s.links.items + (58 
 pub record HasOtherRoom (old new : OwnerView) : Type 0 where
   pub key : new.key ≡ old.key
   pub journal : new.journal ≡ record old.journal { spare = new.journal.spare; room = new.journal.room }
-  pub state : new.state ≡ old.state
+  pub state : new.state ≡ with_room_of old.state new.state
   pub folder_names : new.names.folders ≡ old.names.folders
   pub file_names : new.names.files ≡ old.names.files
   pub ring_keys : new.ring.keys ≡ old.ring.keys

@@ -19,9 +19,9 @@ use Rattle.record_format.specs.declared.note.Note.TheVariants as notes
 use Rattle.public_fold.specs.Fitted.{told_stand, told_step}
 use Rattle.public_fold.specs.Heads.{IsSkeleton}
 use Rattle.public_fold.specs.Journal.{Journal, Stand, first_key}
-use Rattle.public_fold.specs.Preparing.{begun, with_check}
+use Rattle.public_fold.specs.Preparing.{CanSettle, HasRoomFor, begun, settled, with_check}
 use Rattle.public_fold.specs.StandFits.{note_fits}
-use Rattle.public_fold.specs.Standing.{IsSeenAs}
+use Rattle.public_fold.specs.Standing.{IsSeenAs, PublicView}
 use Rattle.store_owner.specs.Applying.{skeleton_size}
 use Rattle.store_owner.specs.Owned.{IsOwnerOf, OwnerView, limits_in}
 use Rattle.store_owner.specs.Owning.{IsStoreOf}
@@ -48,7 +48,8 @@ reply_for note drawn = replies.Done
 pub record IsKeyed (drawn : List (List ℕ)) (old new : Change) : Type 0 where
   pub note : new.note ≡ with_check old.note (check_of (first_key drawn))
   pub skeleton : new.ready.skeleton ≡ old.ready.skeleton
-  pub seen : (at : Stand) → IsSeenAs old.ready.after at → IsSeenAs new.ready.after at
+  pub can : (v : PublicView) → CanSettle v old.ready → CanSettle v new.ready
+  pub seen : (v : PublicView) (at : Stand) → IsSeenAs (settled v old.ready) at → IsSeenAs (settled v new.ready) at
   pub text : new.text.items ≡ old.text.items ++ holder_key old.note drawn
   pub titles : new.titles ≡ old.titles
 
@@ -62,7 +63,8 @@ pub record IsDrafted (r : Request) (o : OwnerView) (p : Change) : Type 0 where
   pub told : (s : Store) → IsStoreOf o.state.tree o.names (granted_in o) s → told_note p.note ≡ note_of s r (replicate 32 0)
   pub same_note : p.ready.note ≡ p.note
   pub is_skeleton : (at : Stand) → IsSeenAs o.state at → IsSkeleton (told_step (begun (not o.journal.has_epoch) at) (told_note p.note)) p.ready.skeleton
-  pub seen_then : (at : Stand) → IsSeenAs o.state at → IsSeenAs p.ready.after (told_stand (begun (not o.journal.has_epoch) at) (told_note p.note))
+  pub can_settle : CanSettle o.state p.ready
+  pub seen_then : (at : Stand) → IsSeenAs o.state at → IsSeenAs (settled o.state p.ready) (told_stand (begun (not o.journal.has_epoch) at) (told_note p.note))
   pub fits : (at : Stand) → IsSeenAs o.state at
       → note_fits (begun (not o.journal.has_epoch) at) (told_note p.note) (told_step (begun (not o.journal.has_epoch) at) (told_note p.note)) ≡ true
   pub text_is : p.text.items ≡ due_text (tree_store o.state.tree o.names) r
@@ -72,6 +74,7 @@ pub record IsDrafted (r : Request) (o : OwnerView) (p : Change) : Type 0 where
 -- there is room for the change, and its batches end within the store limit
 pub record IsFurnished (r : Request) (o : OwnerView) (p : Change) (space : Space) : Type 0 where
   pub records_room : IsSpaceFor space p.ready.skeleton
+  pub state_room : HasRoomFor o.state p.ready
   pub ring_room : length p.ready.skeleton.keys.items ≤ o.ring.spare
   pub names_room : 1 ≤ o.names.spare
   pub journal_spare : 2 ≤ o.journal.spare

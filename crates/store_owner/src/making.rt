@@ -17,7 +17,8 @@ ghost use Rattle.record_format.specs.Noted.Note.{Root};
 ghost use Rattle.public_fold.specs.Fitted.{told_stand, told_step};
 ghost use Rattle.public_fold.specs.Heads.{IsSkeleton};
 ghost use Rattle.public_fold.specs.Journal.{keys_of, nothing};
-ghost use Rattle.public_fold.specs.Standing.{IsSeenAs};
+ghost use Rattle.public_fold.specs.Preparing.{CanSettle, HasRoomFor, settled};
+ghost use Rattle.public_fold.specs.Standing.{IsSeenAs, with_room_of};
 ghost use Rattle.store_owner.specs.Drawing.{AreKeys, FillsByCount, joined};
 ghost use Rattle.store_owner.specs.Keys.{all_keys};
 ghost use Rattle.store_owner.specs.Making.{IsMade, IsMadeJournal, Makes, first_stand, made_batches, made_with, root_payload};
@@ -84,20 +85,23 @@ impl Blank {
     }
 
     /// Takes the memory for the root's batch behind the first epoch's, its records, its keys and its name.
-    fn furnish(&mut self, alloc: Global, skeleton: &Skeleton) -> Mem<StepRoom>
+    fn furnish(&mut self, alloc: Global, ready: &Prepared) -> Mem<StepRoom>
         requires no_key { (role : AnyRole) → role ≢ OwnerRole → key_of self.old.ring role ≡ None }
         ensures no_key { OnOk result ((role : AnyRole) → role ≢ OwnerRole → key_of self.new.ring role ≡ None) }
         ensures limit { OnOk result (self.new.journal.limit ≡ self.old.journal.limit) }
-        ensures records_room { IfOk result (λ room. IsSpaceFor room skeleton.now) }
+        ensures state { OnOk result (self.new.state ≡ with_room_of self.old.state self.new.state) }
+        ensures state_room { OnOk result (HasRoomFor self.new.state ready.now) }
+        ensures records_room { IfOk result (λ room. IsSpaceFor room ready.now.skeleton) }
         ensures ring_room { OnOk result (6 ≤ self.new.ring.spare) }
         ensures names_room { OnOk result (1 ≤ self.new.names.spare) }
         ensures journal_spare { OnOk result (2 ≤ self.new.journal.spare) }
         ensures journal_room { OnOk result (557 ≤ self.new.journal.room) }
     {
         self.journal.prepare(ROOT_PAYLOAD_LEN)?;
+        self.state.reserve(ready)?;
         self.names.reserve()?;
         self.ring.reserve(KEYS)?;
-        StepRoom::reserve(alloc, &mut self.ring, skeleton)
+        StepRoom::reserve(alloc, &mut self.ring, ready.skeleton())
     }
 
     /// Seals the root under these keys, writes the store onto an empty disk, and keeps what it is then. It takes no memory.
@@ -114,7 +118,9 @@ impl Blank {
     ) -> Result<(), ApplyFault>
         requires blank { D.size_of disk.old ≡ 0 }
         requires skeleton { IsSkeleton (told_step first_stand Root) ready.skeleton }
-        requires seen { IsSeenAs ready.after (told_stand first_stand Root) }
+        requires can { CanSettle self.old.state ready }
+        requires seen { IsSeenAs (settled self.old.state ready) (told_stand first_stand Root) }
+        requires state_room { HasRoomFor self.old.state ready }
         requires no_key { (role : AnyRole) → role ≢ OwnerRole → key_of self.old.ring role ≡ None }
         requires ring_room { 6 ≤ self.old.ring.spare }
         requires records_room { IsSpaceFor room ready.skeleton }
@@ -164,7 +170,9 @@ impl Making {
     fn prepare(alloc: Global, limits: Limits) -> Mem<Making>
         requires known { limits.store_bytes ≤ 268435456 }
         ensures skeleton { IfOk result (λ making. IsSkeleton (told_step first_stand Root) making.ready.skeleton) }
-        ensures seen { IfOk result (λ making. IsSeenAs making.ready.after (told_stand first_stand Root)) }
+        ensures can { IfOk result (λ making. CanSettle making.blank.state making.ready) }
+        ensures seen { IfOk result (λ making. IsSeenAs (settled making.blank.state making.ready) (told_stand first_stand Root)) }
+        ensures state_room { IfOk result (λ making. HasRoomFor making.blank.state making.ready) }
         ensures no_key { IfOk result (λ making. (role : AnyRole) → role ≢ OwnerRole → key_of making.blank.ring role ≡ None) }
         ensures ring_room { IfOk result (λ making. 6 ≤ making.blank.ring.spare) }
         ensures records_room { IfOk result (λ making. IsSpaceFor making.room making.ready.skeleton) }
@@ -182,10 +190,13 @@ impl Making {
 /// Takes the memory for a change that is prepared.
 fn with_room(alloc: Global, mut blank: Blank, ready: Prepared) -> Mem<Making>
     requires skeleton { IsSkeleton (told_step first_stand Root) ready.skeleton }
-    requires seen { IsSeenAs ready.after (told_stand first_stand Root) }
+    requires can { CanSettle blank.state ready }
+    requires seen { IsSeenAs (settled blank.state ready) (told_stand first_stand Root) }
     requires no_key { (role : AnyRole) → role ≢ OwnerRole → key_of blank.ring role ≡ None }
     ensures skeleton { IfOk result (λ making. IsSkeleton (told_step first_stand Root) making.ready.skeleton) }
-    ensures seen { IfOk result (λ making. IsSeenAs making.ready.after (told_stand first_stand Root)) }
+    ensures can { IfOk result (λ making. CanSettle making.blank.state making.ready) }
+    ensures seen { IfOk result (λ making. IsSeenAs (settled making.blank.state making.ready) (told_stand first_stand Root)) }
+    ensures state_room { IfOk result (λ making. HasRoomFor making.blank.state making.ready) }
     ensures no_key { IfOk result (λ making. (role : AnyRole) → role ≢ OwnerRole → key_of making.blank.ring role ≡ None) }
     ensures ring_room { IfOk result (λ making. 6 ≤ making.blank.ring.spare) }
     ensures records_room { IfOk result (λ making. IsSpaceFor making.room making.ready.skeleton) }
@@ -194,7 +205,7 @@ fn with_room(alloc: Global, mut blank: Blank, ready: Prepared) -> Mem<Making>
     ensures journal_room { IfOk result (λ making. 557 ≤ making.blank.journal.room) }
     ensures limit { IfOk result (λ making. making.blank.journal.limit ≡ blank.journal.limit) }
 {
-    let room = blank.furnish(alloc, ready.skeleton())?;
+    let room = blank.furnish(alloc, &ready)?;
     Ok(Making { blank, ready, room })
 }
 
@@ -210,7 +221,9 @@ fn made<D: Disk>(
 ) -> Result<Owner, ApplyFault>
     requires blank { D.size_of disk.old ≡ 0 }
     requires skeleton { IsSkeleton (told_step first_stand Root) making.ready.skeleton }
-    requires seen { IsSeenAs making.ready.after (told_stand first_stand Root) }
+    requires can { CanSettle making.blank.state making.ready }
+    requires seen { IsSeenAs (settled making.blank.state making.ready) (told_stand first_stand Root) }
+    requires state_room { HasRoomFor making.blank.state making.ready }
     requires no_key { (role : AnyRole) → role ≢ OwnerRole → key_of making.blank.ring role ≡ None }
     requires ring_room { 6 ≤ making.blank.ring.spare }
     requires records_room { IsSpaceFor making.room making.ready.skeleton }
@@ -296,7 +309,8 @@ impl Owner {
 fn prepared(alloc: Global, state: &PublicState) -> Mem<Prepared>
     requires { IsSeenAs state.now nothing }
     ensures skeleton { IfOk result (λ ready. IsSkeleton (told_step first_stand Root) ready.skeleton) }
-    ensures after { IfOk result (λ ready. IsSeenAs ready.after (told_stand first_stand Root)) }
+    ensures can { IfOk result (CanSettle state.now) }
+    ensures after { IfOk result (λ ready. IsSeenAs (settled state.now ready) (told_stand first_stand Root)) }
 {
     let Ok(ready) = state.prepare(alloc, &Note::Root, true) else {
         return Err(OutOfMemory);

@@ -1,5 +1,5 @@
 //! The owner of a store, and what the owner's commands do to it.
-ghost use Rattle.std.specs.Prelude.{◌≡◌, ◌*◌, ◌<◌, ◌≤◌, ◌+◌, ◌↔◌, ℕ, None, Some, Err, IfErr, IfOk, IsTrue, OnErr, OnOk, cond, false, is_some, length, true};
+ghost use Rattle.std.specs.Prelude.{◌≡◌, ◌<◌, ◌≤◌, ◌+◌, ◌↔◌, ℕ, None, Some, Err, IfErr, IfOk, IsTrue, OnErr, OnOk, false, is_some, length};
 ghost use Rattle.commit_journal.specs.Journals.{IsBehind, Joins, next_command, MayJoin, next_epoch};
 ghost use Rattle.cry_base.specs.Refusing.{has_bad_name, refusal_of};
 ghost use Rattle.cry_base.specs.Requests.{request_of};
@@ -11,11 +11,12 @@ ghost use Rattle.record_format.specs.Sizes.{payload_size};
 ghost use Rattle.record_format.specs.Spellable.{IsSpellable};
 ghost use Rattle.record_format.specs.Spelling.{spell_payload};
 ghost use Rattle.public_fold.specs.Journal.{Journal as AnyJournal};
+ghost use Rattle.public_fold.specs.Preparing.{HasRoomFor};
 ghost use Rattle.store_owner.specs.Applying.{Answers, DiskCounts, HasOtherRoom, IsCarriedOut, IsDoneThen, IsInterrupted, IsKeptBy, UnlessDiskFault};
 ghost use Rattle.store_owner.specs.Drawing.{AreKeys, FillsByCount};
 ghost use Rattle.store_owner.specs.Owned.{IsOwnerOf, owner_at};
 ghost use Rattle.store_owner.specs.Owning.{IsStoreOf};
-ghost use Rattle.store_owner.specs.Planning.{AnswersPlan, HasBegun, IsDrafted, IsFurnished, IsUnfit, planned_size, reply_for};
+ghost use Rattle.store_owner.specs.Planning.{AnswersPlan, HasBegun, IsDrafted, IsFurnished, IsUnfit, reply_for};
 ghost use Rattle.store_owner.specs.Sealing.{IsSpaceFor};
 ghost use Rattle.store_owner.specs.Sound.{IsSound, granted_in, own_store};
 ghost use Rattle.store_owner.specs.Taking.{FallsShort, TakesKeys};
@@ -261,12 +262,14 @@ impl Owner {
     fn furnish(&mut self, alloc: Global, size: u64, change: &Change) -> Mem<StepRoom>
         ensures room { HasOtherRoom self.old self.new }
         ensures records { IfOk result (λ space. IsSpaceFor space change.now.ready.skeleton) }
+        ensures state { OnOk result (HasRoomFor self.new.state change.now.ready) }
         ensures ring { OnOk result (length change.now.ready.skeleton.keys.items ≤ self.new.ring.spare) }
         ensures names { OnOk result (1 ≤ self.new.names.spare) }
         ensures spare { OnOk result (2 ≤ self.new.journal.spare) }
         ensures payload { OnOk result (size ≤ self.new.journal.room) }
     {
         self.journal.prepare(size)?;
+        self.state.reserve(&change.ready)?;
         self.names.reserve()?;
         StepRoom::reserve(alloc, &mut self.ring, change.ready.skeleton())
     }

@@ -1,24 +1,24 @@
-use Rattle.std.proofs.Common.{◌≡◌, true, List, ℕ, sym, ap, ◌∙◌, subst}
+use Rattle.std.proofs.Common.{sym, ap, ◌∙◌, subst}
 use Rattle.record_format.specs.Told.{told_note}
 use Rattle.record_format.specs.declared.note.Note.{Note}
+use Rattle.move_plan.specs.Fitting.{fits}
 use Rattle.public_fold.specs.Fitted.{told_stand}
-use Rattle.public_fold.specs.Preparing.{CanSettle, PreparedView, is_new_holder, settled_checks, with_last}
-use Rattle.public_fold.specs.Standing.{IsSeenAs, PublicView}
-use Rattle.public_fold.proofs.PreparedTold.{check_can, check_seen, check_settled, check_told}
+use Rattle.public_fold.specs.Preparing.{IsRootFor, PreparedView, keys_settled, settled}
+use Rattle.public_fold.specs.Standing.{IsPublicOf, IsSeenAs, public_store_of}
+use Rattle.public_fold.proofs.PreparedTold.{check_fits, check_root, check_seen, check_told, seen_then}
 use Rattle.public_fold.proofs.prepared.Prepared.set_check.Goals as goal
 
 pub invariant_of-self : goal.invariant_of-self
 invariant_of-self c =
-    subst (λ (n : Note). CanSettle (told_note n) c.self.inside.room c.self.inside.after) (sym c.note_with-self-inside.ensures)
-    (check_can c.self.inside.note c.args.check c.self.inside.room c.self.inside.after c.self.invariant)
+    subst (λ (n : Note). IsRootFor (told_note n) c.self.inside.root.tree) (sym c.note_with-self-inside.ensures)
+    (check_root c.self.inside.note c.args.check c.self.inside.root.tree c.self.invariant)
 
-pub returns-clause-after : goal.returns-clause-after
-returns-clause-after c =
-    let new : is_new_holder c.self.inside.note ≡ true = subst (λ (p : PreparedView). is_new_holder p.note ≡ true) (sym c.self.view_is) c.requires in
-    let checks = ap (λ (n : Note). settled_checks (told_note n) c.self.inside.room.checks c.self.inside.after.checks) c.note_with-self-inside.ensures
-    ∙ check_settled c.self.inside.note c.args.check c.self.inside.room.checks c.self.inside.after.checks new in
-    ap (λ (l : List (List ℕ)). record c.self.inside.after { checks = l }) checks
-    ∙ ap (λ (p : PreparedView). record p.after { checks = with_last p.after.checks c.args.check }) c.self.view_is
+pub returns-clause-can : goal.returns-clause-can
+returns-clause-can c = λ v can.
+    ap (λ (n : Note). fits (public_store_of v) (told_note n)) c.note_with-self-inside.ensures
+    ∙ check_fits (public_store_of v) c.self.inside.note c.args.check
+    ∙ ap (λ (p : PreparedView). fits (public_store_of v) (told_note p.note)) c.self.view_is
+    ∙ can
 
 pub returns-clause-told : goal.returns-clause-told
 returns-clause-told c = λ at.
@@ -27,5 +27,14 @@ returns-clause-told c = λ at.
     ∙ ap (λ (p : PreparedView). told_stand at (told_note p.note)) c.self.view_is
 
 pub returns-clause-seen : goal.returns-clause-seen
-returns-clause-seen c = λ at sees.
-    subst (λ (v : PublicView). IsSeenAs v at) (sym (returns-clause-after c)) (check_seen c.args.self.now.after c.args.check at sees)
+returns-clause-seen c = λ v at sees.
+    let old : PreparedView = record {
+      note = c.self.inside.note;
+      skeleton = c.self.inside.skeleton;
+      gone = c.self.inside.left.gone.items;
+      dirty = c.self.inside.left.dirty;
+      epoch = c.self.inside.left.epoch;
+      count = c.self.inside.left.count;
+    } in
+    subst (λ (n : Note). IsPublicOf (seen_then v n) (keys_settled v.keys old) at) (sym c.note_with-self-inside.ensures)
+    (check_seen v c.self.inside.note c.args.check (keys_settled v.keys old) at (subst (λ (p : PreparedView). IsSeenAs (settled v p) at) (sym c.self.view_is) sees))

@@ -8,5 +8,5 @@ always (Ok _) p = p
 always (Err _) p = tt
 
 pub returns-clause-no_key : goal.returns-clause-no_key
-returns-clause-no_key c = always c.reserve-3.result (λ role other.
-    same_keys c.args.self.now.ring c.reserve-3.new.ring role (c.reserve-3.ensures.keys ∙ c.reserve-2.ensures.keys) ∙ c.requires.no_key role other)
+returns-clause-no_key c = always c.reserve-4.result (λ role other.
+    same_keys c.args.self.now.ring c.reserve-4.new.ring role (c.reserve-4.ensures.keys ∙ c.reserve-3.ensures.keys) ∙ c.requires.no_key role other)

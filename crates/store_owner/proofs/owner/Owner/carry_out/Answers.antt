@@ -1,4 +1,4 @@
-use Rattle.std.proofs.Common.{inl, inr, ◌≡◌, ◌∙◌, List, None, Option, Some, ap, arith, refl, subst, sym, ℕ}
+use Rattle.std.proofs.Common.{inl, inr, ◌≡◌, ◌≤◌, ◌∙◌, List, None, Option, Some, ap, arith, length, refl, subst, sym, ℕ}
 use Rattle.chacha_seal.specs.Serials.{Counting}
 use Rattle.cry_base.specs.Refusing.{refusal_of}
 use Rattle.cry_base.specs.Requests.{request_of}
@@ -92,6 +92,22 @@ commit_within-requires-clause-ends g c =
     let size : payload_size (plain_payload c.seal_step-payload.result) ≡ planned_size r before =
     c.seal_step-payload.ensures.skeleton_size ∙ size_for r drawn old before after at drafted keyed c.requires.count c.requires.sizes own c.is_seen.ensures c.skeleton.result.now c.skeleton.ensures in
     ends_for i.journal.has_epoch i.journal.end c.begin.new.journal.end i.journal.limit c.begin.new.journal.limit (planned_size r before) (payload_size (plain_payload c.seal_step-payload.result)) has.end has.limit size furnished.ends_within
+
+pub settle-requires-clause-can : goal.settle-requires-clause-can
+settle-requires-clause-can g c =
+    let i = c.self.inside in
+    let old : OwnerView = record { key = i.key.bytes; journal = i.journal; state = i.state; names = i.names; ring = i.ring; counter = i.counter; file_bytes = i.limits.file_bytes } in
+    let r = request_of c.args.command.now in
+    let drafted : IsDrafted r old c.args.change = subst (λ (o : OwnerView). IsDrafted r o c.args.change) (sym c.self.view_is) c.requires.drafted in
+    c.take_key-reply.ensures.keyed.can i.state drafted.can_settle
+
+pub settle-requires-clause-room : goal.settle-requires-clause-room
+settle-requires-clause-room g c =
+    let i = c.self.inside in
+    let old : OwnerView = record { key = i.key.bytes; journal = i.journal; state = i.state; names = i.names; ring = i.ring; counter = i.counter; file_bytes = i.limits.file_bytes } in
+    let r = request_of c.args.command.now in
+    let furnished : IsFurnished r old c.args.change c.args.room = subst (λ (o : OwnerView). IsFurnished r o c.args.change c.args.room) (sym c.self.view_is) c.requires.furnished in
+    subst (λ (s : Skeleton). (1 ≤ i.state.spare) × (length s.keys.items ≤ i.state.key_spare)) (sym c.take_key-reply.ensures.keyed.skeleton) furnished.state_room
 
 pub invariant_of-self-2 : goal.invariant_of-self-2
 invariant_of-self-2 g c = λ still.

@@ -11,9 +11,24 @@ invariant_of-self-in_err-reserve c = λ still.
     sound_still old _ (record {
       key = refl;
       journal = c.prepare.ensures.state;
-      state = refl;
-      folder_names = c.reserve.ensures.folders;
-      file_names = c.reserve.ensures.files;
+      state = c.reserve.ensures.content;
+      folder_names = refl;
+      file_names = refl;
+      ring_keys = refl;
+      counter = refl;
+      file_bytes = refl;
+    }) (c.self.invariant (sym (ap (λ (j : JournalState). j.is_closed) c.prepare.ensures.state) ∙ still))
+
+pub invariant_of-self-in_err-reserve-2 : goal.invariant_of-self-in_err-reserve-2
+invariant_of-self-in_err-reserve-2 c = λ still.
+    let i = c.self.inside in
+    let old : OwnerView = record { key = i.key.bytes; journal = i.journal; state = i.state; names = i.names; ring = i.ring; counter = i.counter; file_bytes = i.limits.file_bytes } in
+    sound_still old _ (record {
+      key = refl;
+      journal = c.prepare.ensures.state;
+      state = c.reserve.ensures.content;
+      folder_names = c.reserve-2.ensures.folders;
+      file_names = c.reserve-2.ensures.files;
       ring_keys = refl;
       counter = refl;
       file_bytes = refl;
@@ -26,10 +41,10 @@ invariant_of-self-2 c = λ still.
     sound_still old _ (record {
       key = refl;
       journal = c.prepare.ensures.state;
-      state = refl;
-      folder_names = c.reserve.ensures.folders;
-      file_names = c.reserve.ensures.files;
-      ring_keys = c.reserve-2.ensures.keys;
+      state = c.reserve.ensures.content;
+      folder_names = c.reserve-2.ensures.folders;
+      file_names = c.reserve-2.ensures.files;
+      ring_keys = c.reserve-3.ensures.keys;
       counter = refl;
       file_bytes = refl;
     }) (c.self.invariant (sym (ap (λ (j : JournalState). j.is_closed) c.prepare.ensures.state) ∙ still))

@@ -88,6 +88,7 @@ returns-clause-answers c =
       drafted_still r o c.furnish.new.self change c.furnish.ensures.room c.in-Ok.ensures.drafted,
       record {
         records_room = c.in_ok-room.ensures.records;
+        state_room = c.in_ok-room.ensures.state;
         ring_room = c.in_ok-room.ensures.ring;
         names_room = c.in_ok-room.ensures.names;
         journal_spare = c.in_ok-room.ensures.spare;

@@ -1,0 +1,21 @@
+-- The root is made where nothing was ever made.
+use Rattle.std.proofs.Common.{◌≡◌, ℕ, true, List, [], ◌∷◌, length, ⊎_elim, refl, sym, ap, ◌∙◌}
+use Rattle.std.proofs.lemmas.Bool.{false≢true}
+use Rattle.cry_base.specs.Store.{Store, no_store}
+use Rattle.grant_book.specs.Granted.{Granted}
+use Rattle.record_format.specs.Noted.Note.{Root}
+use Rattle.move_plan.specs.Fitting.{fits}
+use Rattle.move_plan.specs.Seen.{seen_store}
+use Rattle.public_fold.specs.Rooted.{MayStand}
+use Rattle.public_fold.proofs.NoteMoves.{root_once}
+
+no_checks : (checks : List (List ℕ)) → length checks ≡ 0 → checks ≡ []
+no_checks [] e = refl
+no_checks (c ∷ cs) e = cc
+
+pub nothing_granted : (t : Store) (g : Granted) → MayStand (seen_store t g) → fits (seen_store t g) Root ≡ true → (g.pairs ≡ []) × (g.checks ≡ [])
+unfolding no_store
+nothing_granted t g may fit = ⊎_elim
+    (λ none. (ap (λ (s : Store). s.grants) none, no_checks g.checks (ap (λ (s : Store). s.holders_made) none)))
+    (λ rooted. absurd (false≢true (sym (root_once (seen_store t g) rooted) ∙ fit)))
+    may
