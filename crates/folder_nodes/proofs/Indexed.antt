@@ -6,7 +6,7 @@ use Rattle.std.specs.declared.cmp.Ordering.{Ordering}
 use Rattle.std.specs.declared.cmp.Ordering.TheVariants.{Equal}
 use Rattle.std.proofs.lemmas.Bool.Decides.{nat_tests}
 use Rattle.std.specs.List.{All}
-use Rattle.std.proofs.lemmas.Bool.{and_parts, and_from, eqb-true, le-leb, leb-true}
+use Rattle.std.proofs.lemmas.Bool.{and_parts, and_from, eq-eqb, eqb-false, eqb-true, le-leb, leb-true, ne_eqb}
 use Rattle.cry_base.specs.Sets.{In}
 use Rattle.cry_base.proofs.Members.{In-map, In-filter, filter-In}
 use Rattle.sorted_table.specs.Rows.{IsRising, replaced, row_at, with_row, without}
@@ -123,6 +123,50 @@ index_replaced rows spots row was index rising found same =
             | false ↦ λ f. (w.0, (In-map NameRow NameRow put w.0 rows).1 (w.0, w.1, ap (λ b. cond b row w.0) (sym f)), w.2)
           ]) refl;
     }
+
+-- a row with another name leaves the place of the old one
+module _ (rows : List NameRow) (row was : NameRow) (found : row_at rank rows row.id ≡ Some was) where
+  pub none_left : row_at rank (without rank rows row.id) row.id ≡ None
+  none_left = row_at-absent NameRow rank (without rank rows row.id) row.id (λ r i same. ((In-without NameRow rank rows row.id r).0 i).1 same)
+
+  pub none_titled : title_at (map title_of_row (without rank rows row.id)) row.id ≡ None
+  none_titled = title_row (without rank rows row.id) row.id ∙ ap (option_map title_of_row) none_left
+
+  beside : (r : NameRow) → In r (replaced rank rows row) → In r (with_row rank (without rank rows row.id) row)
+  beside r i =
+      let w = (In-map NameRow NameRow (λ (x : NameRow). cond (x.id == row.id) row x) r rows).0 i in
+      let in_with = In-with_row NameRow rank (without rank rows row.id) row r none_left in
+      (elim (w.0.id == row.id) as (λ b. w.0.id == row.id ≡ b → r ≡ cond b row w.0 → In r (with_row rank (without rank rows row.id) row)) [
+        | true ↦ λ t e. in_with.1 (inl e)
+        | false ↦ λ t e. in_with.1 (inr (subst (λ (z : NameRow). In z (without rank rows row.id)) (sym e) ((In-without NameRow rank rows row.id w.0).1 (w.1, eqb-false w.0.id row.id t))))
+      ]) refl w.2
+
+  in_place : (r : NameRow) → In r (with_row rank (without rank rows row.id) row) → In r (replaced rank rows row)
+  in_place r i =
+      let there = row_at-Some NameRow rank rows row.id was found in
+      let put : NameRow → NameRow = λ x. cond (x.id == row.id) row x in ⊎_elim
+      (λ (e : r ≡ row). (In-map NameRow NameRow put r rows).1 (was, there.0, e ∙ ap (λ b. cond b row was) (sym (eq-eqb was.id row.id there.1))))
+      (λ old.
+      let o = (In-without NameRow rank rows row.id r).0 old in
+      (In-map NameRow NameRow put r rows).1 (r, o.0, ap (λ b. cond b row r) (sym (ne_eqb r.id row.id o.1))))
+      ((In-with_row NameRow rank (without rank rows row.id) row r none_left).0 i)
+
+  pub index_renamed : (spots : List NameSpot) → IsIndexed rows spots → IsRising rank rows → row.id < 4294967296 → MayBeNamed row.name.items
+      → IsIndexed (replaced rank rows row) (with_row by_spot (without by_spot spots (by_spot (spot_of was))) (spot_of row))
+  index_renamed spots index rising small name =
+      let less = index_without rows spots row.id was index rising found in
+      let more = index_with (without rank rows row.id) (without by_spot spots (by_spot (spot_of was))) row less small none_titled name in record {
+        named = λ r i. more.named r (beside r i);
+        small = λ r i. more.small r (beside r i);
+        listed = λ r i. more.listed r (beside r i);
+        only = λ q i. let w = more.only q i in (w.0, in_place w.0 w.1, w.2);
+      }
+
+  -- and its place is free once the old one is
+  pub spot_freed : (spots : List NameSpot) → IsIndexed rows spots → IsRising rank rows → row.id < 4294967296
+      → row_at by_spot (without by_spot spots (by_spot (spot_of was))) (by_spot (spot_of row)) ≡ None
+  spot_freed spots index rising small =
+      spot_absent (without rank rows row.id) (without by_spot spots (by_spot (spot_of was))) row (index_without rows spots row.id was index rising found) small none_titled
 
 -- the places under one digest
 abbrev pub is_under : ℕ → NameSpot → Bool

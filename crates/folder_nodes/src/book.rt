@@ -57,7 +57,8 @@ impl Book {
         self.spots.reserve(1)
     }
 
-    /// Puts a name and bytes under the number, in the place of those that it had. Where the name stays, no row moves.
+    /// Puts a name and bytes under the number, in the place of those that it had. Only the index moves, and only under
+    /// another name.
     pub(crate) fn put(&mut self, id: u32, name: Text, bytes: Text)
         requires room { 1 ≤ self.old.spare }
         requires name { MayBeNamed name.items }
@@ -68,8 +69,15 @@ impl Book {
             self.rows.replace(NameRow { id, name, bytes });
             return;
         }
-        self.take(id);
-        self.add(id, name, bytes);
+        let Some(was) = self.rows.find(&NameKey(id)) else {
+            self.add(id, name, bytes);
+            return;
+        };
+        let old = spot_of(was);
+        let row = NameRow { id, name, bytes };
+        let _ = self.spots.remove(&old);
+        self.spots.insert(spot_of(&row));
+        self.rows.replace(row);
     }
 
     /// Puts a name and bytes under a number that has none.
