@@ -4,11 +4,11 @@ use Rattle.std.specs.Prelude.{is_some}
 use Rattle.cry_base.specs.Requests.{Request}
 use Rattle.cry_base.specs.declared.commands.Reply.{Reply}
 use Rattle.cry_base.specs.declared.limits.Limits.{Limits}
+use Rattle.journal_bytes.specs.Script.{Going, answer, line_going, line_reply, script_going, script_replies}
 use Rattle.cryptree_cli.specs.OwnerSteps.{AnswersIn, Scene}
 use Rattle.cryptree_cli.specs.Script.{Answered}
 use Rattle.cryptree_cli.specs.Script.Answered.{Begun, Then}
 use Rattle.store_owner.specs.Applying.{StandsAt}
-use Rattle.store_owner.specs.Script.{Going, answer, line_going, line_reply, script_going, script_replies}
 use Rattle.store_owner.specs.Taking.{TakesKeys}
 use Rattle.store_owner.proofs.Scripted.{answered}
 use Rattle.store_owner.proofs.Taken.{takes_more, takes_none}

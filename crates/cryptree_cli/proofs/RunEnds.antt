@@ -9,6 +9,9 @@ use Rattle.cry_base.specs.Requests.{Request}
 use Rattle.cry_base.specs.declared.commands.Reply.{Reply}
 use Rattle.cry_base.specs.declared.limits.Limits.{Limits}
 use Rattle.cry_io.specs.Told.{WhereBothTold}
+use Rattle.journal_bytes.specs.Bytes.{batches_of}
+use Rattle.journal_bytes.specs.Journals.{StandsForJournal}
+use Rattle.journal_bytes.specs.Script.{Going, answer, journal_then, opened, script_replies}
 use Rattle.cryptree_cli.specs.CommandLines.{asked_in}
 use Rattle.cryptree_cli.specs.Lines.{InputLine, LineState, lines_ahead}
 use Rattle.cryptree_cli.specs.Lines.InputLine.{Whole}
@@ -20,11 +23,7 @@ use Rattle.cryptree_cli.specs.declared.script.ScriptFault.TheVariants.{BadLine, 
 use Rattle.cryptree_cli.proofs.AnsweredScripts.{IsScene, answered_script}
 use Rattle.cryptree_cli.proofs.ScriptLemmas.{whole_is_cut}
 use Rattle.public_fold.specs.Journal.{Journal}
-use Rattle.store_owner.specs.Applying.{journal_then}
-use Rattle.store_owner.specs.Bytes.{batches_of}
-use Rattle.store_owner.specs.Journals.{StandsForJournal}
 use Rattle.store_owner.specs.Owned.{limits_in}
-use Rattle.store_owner.specs.Script.{Going, answer, opened, script_replies}
 use Rattle.store_owner.specs.declared.apply_fault.ApplyFault.{ApplyFault}
 use Rattle.store_owner.specs.declared.apply_fault.ApplyFault.TheVariants as faults
 

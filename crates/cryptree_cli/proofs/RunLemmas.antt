@@ -4,6 +4,7 @@ use Rattle.std.specs.Prelude.{is_some}
 use Rattle.cry_base.specs.Requests.{Request}
 use Rattle.cry_base.specs.declared.commands.Reply.{Reply}
 use Rattle.cry_io.specs.Stops.{IsDurable}
+use Rattle.journal_bytes.specs.Script.{opened}
 use Rattle.cryptree_cli.specs.Lines.{LineState, lines_ahead}
 use Rattle.cryptree_cli.specs.OwnerSteps.{AnswersIn, FailsIn, Scene}
 use Rattle.cryptree_cli.specs.Running.{Ends, RanDry, ended_status, script_status, version_limits}
@@ -16,7 +17,6 @@ use Rattle.cryptree_cli.proofs.RunEnds.{ends_as, still_told}
 use Rattle.public_fold.specs.Journal.{Journal}
 use Rattle.store_owner.specs.Applying.{StandsAt}
 use Rattle.store_owner.specs.Owned.{OwnerView}
-use Rattle.store_owner.specs.Script.{opened}
 use Rattle.store_owner.specs.Taking.{TakesKeys}
 use Rattle.store_owner.specs.declared.apply_fault.ApplyFault.{ApplyFault}
 use Rattle.store_owner.specs.declared.apply_fault.ApplyFault.TheVariants as faults

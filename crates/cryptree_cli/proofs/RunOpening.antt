@@ -4,6 +4,8 @@ use Rattle.std.proofs.lemmas.Bool.{false≢true}
 use Rattle.commit_journal.specs.declared.fault.OpenFault.{OpenFault}
 use Rattle.commit_journal.specs.declared.fault.OpenFault.TheVariants as opening
 use Rattle.cry_base.specs.declared.limits.Limits.{Limits}
+use Rattle.journal_bytes.specs.Journals.{IsSettled, ShowsJournal}
+use Rattle.journal_bytes.specs.Script.{opened}
 use Rattle.cryptree_cli.specs.Input.{input_limit}
 use Rattle.cryptree_cli.specs.Lines.{InputLine, LineState, lines_ahead}
 use Rattle.cryptree_cli.specs.Running.{CountsOwner, Ends, FirstIsBad, GivesOwner, Judges, is_after_opening, is_before_opening, key_in_lines, lines_in, open_status, script_status, version_limits}
@@ -17,10 +19,8 @@ use Rattle.holder_client.specs.Asking.Asking.{ToWrite}
 use Rattle.holder_client.specs.Judging.{Failure}
 use Rattle.public_fold.specs.Journal.{Journal}
 use Rattle.store_owner.specs.Applying.{StandsAt}
-use Rattle.store_owner.specs.Journals.{IsSettled, ShowsJournal}
 use Rattle.store_owner.specs.Opened.{IsFresh, IsOpenFault}
 use Rattle.store_owner.specs.Owned.{IsOwnerOf, OwnerView}
-use Rattle.store_owner.specs.Script.{opened}
 
 -- a reader that has read nothing yet
 abbrev pub fresh_reader : LineState

@@ -12,11 +12,10 @@ use Rattle.holder_client.specs.Asking.Asking.{ToWrite}
 use Rattle.holder_client.specs.Judging.{Failure, OfBytes}
 use Rattle.public_fold.specs.Journal.{Journal}
 use Rattle.script_text.specs.Reading.{bundle_of}
-use Rattle.store_owner.specs.Bytes.{batches_of}
+use Rattle.journal_bytes.specs.Bytes.{batches_of}
+use Rattle.journal_bytes.specs.Journals.{ShowsJournal, StandsForJournal}
+use Rattle.journal_bytes.specs.Script.{Going, answer, draws_of, journal_then, opened, script_going, script_replies}
 use Rattle.store_owner.specs.Drawing.{AreKeys, joined}
-use Rattle.store_owner.specs.Applying.{journal_then}
-use Rattle.store_owner.specs.Journals.{ShowsJournal, StandsForJournal}
-use Rattle.store_owner.specs.Script.{Going, answer, draws_of, opened, script_going, script_replies}
 use Rattle.cryptree_cli.specs.CommandLines.{owner_key}
 use Rattle.cryptree_cli.specs.Input.{input_limit}
 use Rattle.cryptree_cli.specs.Lines.{InputLine, lines_of}

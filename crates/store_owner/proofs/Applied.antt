@@ -17,11 +17,11 @@ use Rattle.record_format.specs.Told.{told_note}
 use Rattle.record_format.specs.declared.note.Note.{Note as Declared}
 use Rattle.record_format.specs.declared.note.Note.TheVariants as declared
 use Rattle.public_fold.specs.Journal.{Journal, first_key, store_of}
+use Rattle.journal_bytes.specs.Script.{answer, done_reply, draws_of}
 use Rattle.store_owner.specs.Applying.{Answers, HasOtherRoom, IsCutShort, IsDone}
 use Rattle.store_owner.specs.Drawing.{DrawsKeys, IsFillFault}
 use Rattle.store_owner.specs.Owned.{OwnerView, limits_in}
 use Rattle.store_owner.specs.Planning.{reply_for}
-use Rattle.store_owner.specs.Script.{answer, done_reply, draws_of}
 use Rattle.store_owner.specs.declared.apply_fault.ApplyFault.{ApplyFault}
 use Rattle.store_owner.specs.declared.apply_fault.ApplyFault.TheVariants as faults
 use Rattle.store_owner.proofs.NotesKeyed.{is_holder, move_no_holder, remove_no_holder, rename_no_holder, write_no_holder}

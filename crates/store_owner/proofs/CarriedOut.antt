@@ -20,15 +20,15 @@ use Rattle.public_fold.specs.Preparing.{begun, settled}
 use Rattle.public_fold.specs.StandFits.{note_fits}
 use Rattle.public_fold.specs.Standing.{IsSeenAs, with_room_of}
 use Rattle.public_fold.specs.declared.heads.Skeleton.{Skeleton}
-use Rattle.store_owner.specs.Applying.{IsCarriedOut, IsSealed, sealed_text, skeleton_size}
-use Rattle.store_owner.specs.Bytes.{step_payload}
+use Rattle.journal_bytes.specs.Bytes.{step_payload}
+use Rattle.journal_bytes.specs.Owning.{IsStoreOf, IsTreeOf}
+use Rattle.journal_bytes.specs.Sealing.{HoldsKeys, IsSealable, IsTold, keys_with, skeleton_size}
+use Rattle.journal_bytes.specs.Texting.{AreTitlesAfter, due_key, due_text}
+use Rattle.store_owner.specs.Applying.{IsCarriedOut, IsSealed, sealed_text}
 use Rattle.store_owner.specs.Drawing.{AreKeys}
 use Rattle.store_owner.specs.Owned.{OwnerView}
-use Rattle.store_owner.specs.Owning.{IsStoreOf, IsTreeOf}
 use Rattle.store_owner.specs.Planning.{HasBegun, IsDrafted, IsKeyed, holder_key, planned_size}
-use Rattle.store_owner.specs.Sealing.{HoldsKeys, IsSealable, IsTold, keys_with}
 use Rattle.store_owner.specs.Sound.{granted_in, own_store}
-use Rattle.store_owner.specs.Texting.{AreTitlesAfter, due_key, due_text}
 use Rattle.store_owner.specs.declared.change.Change.{Change}
 use Rattle.store_owner.proofs.NotesKeyed.{holder_key_due, key_long, keyed_note, keyed_size}
 

@@ -10,14 +10,14 @@ use Rattle.commit_journal.specs.Standing.{StandsFor, StandsWhole}
 use Rattle.record_format.specs.Spelling.{spell_payload}
 use Rattle.public_fold.specs.Journal.{Journal}
 use Rattle.public_fold.specs.Journal.Entry.{Did, Session}
-use Rattle.store_owner.specs.Applying.{IsInterrupted, IsSealed, journal_then}
-use Rattle.store_owner.specs.Bytes.{batches_of, entry_body}
-use Rattle.store_owner.specs.Journals.{StandsForJournal}
+use Rattle.journal_bytes.specs.Bytes.{batches_of, entry_body}
+use Rattle.journal_bytes.specs.Journals.{StandsForJournal}
+use Rattle.journal_bytes.specs.Script.{answer, journal_then}
+use Rattle.journal_bytes.proofs.NextBatches.{batches_then}
+use Rattle.journal_bytes.proofs.NextEntry.{between}
+use Rattle.journal_bytes.proofs.NextValid.{next_whole, session_valid, session_whole}
+use Rattle.store_owner.specs.Applying.{IsInterrupted, IsSealed}
 use Rattle.store_owner.specs.Owned.{IsOwnerOf, OwnerView, limits_in}
-use Rattle.store_owner.specs.Script.{answer}
-use Rattle.store_owner.proofs.NextBatches.{batches_then}
-use Rattle.store_owner.proofs.NextEntry.{between}
-use Rattle.store_owner.proofs.NextValid.{next_whole, session_valid, session_whole}
 use Rattle.store_owner.proofs.OwnerGoesOn.{batches_are, between_owner, between_shown, between_stands, ends_low_is, told_some, valid_then}
 
 module _ (m : Journal) (r : Request) (drawn : List (List ℕ)) (old : OwnerView) (was shows : Option (List ℕ)) (is : IsOwnerOf m old) (low : old.journal.limit ≤ 268435456) (bound : old.file_bytes ≤ 1048576)

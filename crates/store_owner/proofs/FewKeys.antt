@@ -20,12 +20,12 @@ use Rattle.public_fold.specs.declared.heads.Skeleton.{Skeleton}
 use Rattle.public_fold.proofs.NoteMoves.{note_moves}
 use Rattle.public_fold.proofs.SerialsKept.{few_fresh}
 use Rattle.public_fold.proofs.TurnsHold.{fit_told}
-use Rattle.store_owner.specs.Applying.{skeleton_size}
+use Rattle.journal_bytes.specs.Sealing.{skeleton_size}
+use Rattle.journal_bytes.proofs.FewDraws.{plan_short}
+use Rattle.journal_bytes.proofs.NextEntry.{given_many, links_many}
+use Rattle.journal_bytes.proofs.SoundSteps.{begun_holds}
 use Rattle.store_owner.specs.Owned.{OwnerView}
 use Rattle.store_owner.specs.Sound.{IsSound}
-use Rattle.store_owner.proofs.FewDraws.{plan_short}
-use Rattle.store_owner.proofs.NextEntry.{given_many, links_many}
-use Rattle.store_owner.proofs.SoundSteps.{begun_holds}
 
 -- no more keys than links, but for those of what the note makes
 few_given : (at : Stand) (links : List Link) (note : Note) (s : Skeleton) → StandHolds at links → note_fits at note (told_step at note) ≡ true → IsSkeleton (told_step at note) s

@@ -19,16 +19,16 @@ use Rattle.public_fold.specs.Told.{told_store}
 use Rattle.public_fold.specs.Turns.{turn_fits, turn_stand, turns_fit, turns_stand}
 use Rattle.public_fold.specs.Turns.Turn.{Began, Noted}
 use Rattle.public_fold.specs.Valid.{IsValid}
-use Rattle.store_owner.specs.Bytes.{batches_of, bodies_from, bodies_of, entry_body, keys_then, step_payload}
+use Rattle.journal_bytes.specs.Bytes.{batches_of, bodies_from, bodies_of, entry_body, keys_then, step_payload}
+use Rattle.journal_bytes.specs.Folds.{public_stand}
+use Rattle.journal_bytes.specs.Keys.{AreWhole, all_keys, drawn_by, entry_keys, with_bytes}
+use Rattle.journal_bytes.specs.Owning.{IsTreeOf}
+use Rattle.journal_bytes.specs.Sealing.{HoldsKeys}
+use Rattle.journal_bytes.specs.WorkedBytes.{journal_bytes}
 use Rattle.store_owner.specs.Drawing.{AreKeys}
-use Rattle.store_owner.specs.Folds.{public_stand}
-use Rattle.store_owner.specs.Keys.{AreWhole, all_keys, drawn_by, entry_keys, with_bytes}
 use Rattle.store_owner.specs.Making.{IsMadeJournal, first_stand, made_batches, made_with, root_payload, root_step}
 use Rattle.store_owner.specs.Owned.{IsOwnerOf, OwnerView, counting}
-use Rattle.store_owner.specs.Owning.{IsTreeOf}
-use Rattle.store_owner.specs.Sealing.{HoldsKeys}
 use Rattle.store_owner.specs.Sound.{IsSound, own_store}
-use Rattle.store_owner.specs.WorkedBytes.{journal_bytes}
 use Rattle.store_owner.proofs.RootSealed.{keys_are}
 
 -- ---- the journal

@@ -9,7 +9,7 @@ use Rattle.cry_base.specs.declared.limits.Limits.{Limits}
 use Rattle.cry_io.specs.Told.{WhereBothTold, WhereTold}
 use Rattle.key_links.specs.Fresh.{fresh_image, piece}
 use Rattle.public_fold.specs.Journal.Entry.{Made, Session}
-use Rattle.store_owner.specs.Bytes.{image_of}
+use Rattle.journal_bytes.specs.Bytes.{image_of}
 use Rattle.store_owner.specs.declared.apply_fault.ApplyFault.{ApplyFault}
 use Rattle.store_owner.specs.declared.apply_fault.ApplyFault.TheVariants as answers
 use Rattle.store_owner.specs.Drawing.{AreKeys, DrawsKeys, IsFillFault, joined}

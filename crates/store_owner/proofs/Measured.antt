@@ -15,17 +15,17 @@ use Rattle.public_fold.specs.Lengths.{end_of, note_len}
 use Rattle.public_fold.specs.Preparing.{begun, begun_keys}
 use Rattle.public_fold.specs.Valid.{IsValid}
 use Rattle.public_fold.specs.declared.heads.Skeleton.{Skeleton}
-use Rattle.store_owner.specs.Applying.{skeleton_size}
-use Rattle.store_owner.specs.Bytes.{batches_of, image_of}
-use Rattle.store_owner.specs.Folds.{public_stand}
+use Rattle.journal_bytes.specs.Bytes.{batches_of, image_of}
+use Rattle.journal_bytes.specs.Folds.{public_stand}
+use Rattle.journal_bytes.specs.Owning.{IsTreeOf}
+use Rattle.journal_bytes.specs.Script.{draws_of, due_end, due_payload}
+use Rattle.journal_bytes.specs.Sealing.{skeleton_size}
+use Rattle.journal_bytes.specs.Texting.{due_key, due_text}
+use Rattle.journal_bytes.proofs.DueTexts.{due_same}
+use Rattle.journal_bytes.proofs.NextEntry.{contents_due, due, due_weighs, given_begun, links_begun, payload_due, text_long}
+use Rattle.journal_bytes.proofs.ToldSkeleton.{told_at}
+use Rattle.journal_bytes.proofs.Weighed.{note_of_weighs, valid_weighs}
 use Rattle.store_owner.specs.Owned.{IsOwnerOf, OwnerView}
-use Rattle.store_owner.specs.Owning.{IsTreeOf}
-use Rattle.store_owner.specs.Script.{draws_of, due_end, due_payload}
-use Rattle.store_owner.specs.Texting.{due_key, due_text}
-use Rattle.store_owner.proofs.DueTexts.{due_same}
-use Rattle.store_owner.proofs.NextEntry.{contents_due, due, due_weighs, given_begun, links_begun, payload_due, text_long}
-use Rattle.store_owner.proofs.ToldSkeleton.{told_at}
-use Rattle.store_owner.proofs.Weighed.{note_of_weighs, valid_weighs}
 
 pub skeleton_is : (m : Journal) (new : Bool) (r : Request) (check : List ℕ) (drawn : List (List ℕ)) (file_bytes : ℕ) → refusal_of (store_of m) r file_bytes ≡ None
     → (s : Skeleton) → IsSkeleton (told_step (begun new (public_stand m)) (note_of (store_of m) r check)) s → IsSkeleton (entry_step (begun new (stand_after nothing m)) (Did r drawn)) s

@@ -24,10 +24,10 @@ use Rattle.public_fold.specs.Preparing.{is_new_holder, with_check}
 use Rattle.public_fold.specs.declared.heads.Skeleton.{Skeleton}
 use Rattle.public_fold.proofs.Serials.{numbered-length}
 use Rattle.role_graph.specs.Edges.{edges}
-use Rattle.store_owner.specs.Applying.{skeleton_size}
+use Rattle.journal_bytes.specs.Sealing.{skeleton_size}
+use Rattle.journal_bytes.specs.Texting.{due_key}
 use Rattle.store_owner.specs.Drawing.{AreKeys}
 use Rattle.store_owner.specs.Planning.{holder_key}
-use Rattle.store_owner.specs.Texting.{due_key}
 
 -- ---- whether a holder is made
 

@@ -12,8 +12,8 @@ use Rattle.grant_book.specs.Granted.{Granted}
 use Rattle.record_format.specs.Noted.{Note}
 use Rattle.record_format.specs.Noted.Note.{NewHolder, NewFolder, NewFile, Give, Take}
 use Rattle.move_plan.specs.Noting.{move_note, note_of, remove_note, rename_note, write_note}
-use Rattle.store_owner.specs.Owning.{IsStoreOf}
-use Rattle.store_owner.proofs.Refused.{found_same}
+use Rattle.journal_bytes.specs.Owning.{IsStoreOf}
+use Rattle.journal_bytes.proofs.Refused.{found_same}
 
 write_same : (a b : Store) (o : Option Node) (f : ℕ) → a.files_made ≡ b.files_made → write_note a o f ≡ write_note b o f
 unfolding write_note

@@ -37,25 +37,25 @@ use Rattle.public_fold.specs.KeyStep.{KeyState}
 use Rattle.public_fold.specs.Lengths.{end_of}
 use Rattle.public_fold.specs.Standing.{IsSeenAs, public_store_of}
 use Rattle.public_fold.specs.Valid.{IsValid}
-use Rattle.store_owner.specs.Bytes.{batches_of, bodies_of, image_of}
-use Rattle.store_owner.specs.Folds.{fold_of, log_of, public_stand}
-use Rattle.store_owner.specs.Journals.{IsSettled, StandsForJournal}
-use Rattle.store_owner.specs.Keys.{AreWhole}
+use Rattle.journal_bytes.specs.Bytes.{batches_of, bodies_of, image_of}
+use Rattle.journal_bytes.specs.Folds.{fold_of, log_of, public_stand}
+use Rattle.journal_bytes.specs.Journals.{IsSettled, StandsForJournal}
+use Rattle.journal_bytes.specs.Keys.{AreWhole}
+use Rattle.journal_bytes.specs.Opening.{owner_starts, owner_visits, reading_of}
+use Rattle.journal_bytes.proofs.Followed.{journal_followed}
+use Rattle.journal_bytes.proofs.NeverFails.{journal_opened}
+use Rattle.journal_bytes.proofs.OpenedKeys.{same_ok}
+use Rattle.journal_bytes.proofs.Sealable.{begun_sound}
+use Rattle.journal_bytes.proofs.Spelled.{journal_spelled}
+use Rattle.journal_bytes.proofs.Weighed.{valid_weighs}
 use Rattle.store_owner.specs.Opened.{AreContents, IsFresh, IsKept, IsOpenFault, Keeps, OpensAs, opened_of, placed_in, reading_with, starts_with, visits_of}
-use Rattle.store_owner.specs.Opening.{owner_starts, owner_visits, reading_of}
 use Rattle.store_owner.specs.Owned.{IsOwnerOf, OwnerView, owner_at}
 use Rattle.store_owner.specs.Sound.{IsSound}
 use Rattle.store_owner.specs.declared.opening.Contents.{Contents}
-use Rattle.store_owner.proofs.Followed.{journal_followed}
-use Rattle.store_owner.proofs.NeverFails.{journal_opened}
 use Rattle.store_owner.proofs.OpenedContents.{contents_told, fault_opens, log_opens, opens_with}
-use Rattle.store_owner.proofs.OpenedKeys.{same_ok}
 use Rattle.store_owner.proofs.OpenedOwners.{opened_owner}
 use Rattle.store_owner.proofs.OpenedRings.{ring_keyed}
-use Rattle.store_owner.proofs.Sealable.{begun_sound}
 use Rattle.store_owner.proofs.SoundOpened.{opened_sound}
-use Rattle.store_owner.proofs.Spelled.{journal_spelled}
-use Rattle.store_owner.proofs.Weighed.{valid_weighs}
 
 -- ---- what was opened is kept
 

@@ -22,9 +22,9 @@ use Rattle.move_plan.specs.Fitting.{folder_stands}
 use Rattle.public_fold.specs.Journal.{Stand, nothing}
 use Rattle.public_fold.specs.Standing.{IsSeenAs, PublicView}
 use Rattle.role_graph.specs.Rights.Who.{TheOwner}
+use Rattle.journal_bytes.proofs.OpenedKeys.{same_ok, then_told}
 use Rattle.store_owner.specs.Opened.{AreContents, IsOpenFault, opened_at, opened_of, placed_in, reading_with, rooted, starts_with, visits_of}
 use Rattle.store_owner.specs.declared.opening.Contents.{Contents}
-use Rattle.store_owner.proofs.OpenedKeys.{same_ok, then_told}
 
 -- ---- the root
 

@@ -19,19 +19,19 @@ use Rattle.public_fold.specs.Standing.{IsSeenAs, PublicView}
 use Rattle.public_fold.specs.Valid.{IsValid}
 use Rattle.public_fold.proofs.KeyMoves.{journal_holds}
 use Rattle.public_fold.proofs.SerialsKept.{journal_serials}
-use Rattle.store_owner.specs.Bytes.{batches_of}
-use Rattle.store_owner.specs.Folds.{public_stand}
-use Rattle.store_owner.specs.Keys as keyed
-use Rattle.store_owner.specs.Keys.{AreWhole, all_keys}
+use Rattle.journal_bytes.specs.Bytes.{batches_of}
+use Rattle.journal_bytes.specs.Folds.{public_stand}
+use Rattle.journal_bytes.specs.Keys as keyed
+use Rattle.journal_bytes.specs.Keys.{AreWhole, all_keys}
+use Rattle.journal_bytes.specs.Opening.{owner_starts, owner_visits, reading_of}
+use Rattle.journal_bytes.specs.Owning.{IsTreeOf}
+use Rattle.journal_bytes.specs.Sealing.{HoldsKeys}
+use Rattle.journal_bytes.proofs.Ascending.{all_below}
+use Rattle.journal_bytes.proofs.LogsWalked.{journal_holder}
+use Rattle.journal_bytes.proofs.OwnerVisits.{owner_keys, owner_seen}
 use Rattle.store_owner.specs.Opened.{IsKept}
-use Rattle.store_owner.specs.Opening.{owner_starts, owner_visits, reading_of}
 use Rattle.store_owner.specs.Owned.{IsOwnerOf, OwnerView, counting}
-use Rattle.store_owner.specs.Owning.{IsTreeOf}
-use Rattle.store_owner.specs.Sealing.{HoldsKeys}
-use Rattle.store_owner.proofs.Ascending.{all_below}
-use Rattle.store_owner.proofs.LogsWalked.{journal_holder}
 use Rattle.store_owner.proofs.OpenedRings.{is_other, present_serial, with_these}
-use Rattle.store_owner.proofs.OwnerVisits.{owner_keys, owner_seen}
 
 module _ (owner : List ℕ) (m : Journal) (valid : IsValid m) (whole : AreWhole owner m) (after : Opened) (ring : Ringed) (names : Titles)
     (done : visit_all (reading_of owner m) (owner_visits m) (owner_starts owner m) ≡ Ok after) (kept : IsKept (public_stand m) after ring names) where

@@ -16,8 +16,8 @@ use Rattle.move_plan.specs.Fitting.{folder_stands}
 use Rattle.role_graph.specs.Roles.{holder_role, role_id}
 use Rattle.public_fold.specs.Journal.{Stand, nothing}
 use Rattle.public_fold.specs.KeyStep.{newest, present}
+use Rattle.journal_bytes.proofs.OwnerVisits.{new_open}
 use Rattle.store_owner.specs.Opened.{IsKept, reading_with, starts_with, visits_of}
-use Rattle.store_owner.proofs.OwnerVisits.{new_open}
 use Rattle.store_owner.proofs.SoundVisits.{holders_there, keys_open}
 
 -- ---- a key by its bytes

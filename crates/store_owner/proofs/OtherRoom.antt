@@ -16,14 +16,14 @@ use Rattle.key_links.specs.Ringed.{Ringed, key_of}
 use Rattle.key_links.specs.declared.any_key.AnyKey.{AnyKey}
 use Rattle.public_fold.specs.KeyStep.{KeyState}
 use Rattle.public_fold.specs.Standing.{PublicView, with_room_of}
+use Rattle.journal_bytes.specs.Owning.{IsStoreOf}
+use Rattle.journal_bytes.specs.Sealing.{HoldsKeys}
+use Rattle.journal_bytes.specs.Texting.{AreKept, AreTitlesAfter, IsRemoved, IsRenamed, IsWritten, name_at}
 use Rattle.store_owner.specs.Applying.{HasOtherRoom, IsCarriedOut, IsInterrupted, IsSealed}
 use Rattle.store_owner.specs.Owned.{OwnerView}
-use Rattle.store_owner.specs.Owning.{IsStoreOf}
 use Rattle.store_owner.specs.Planning.{IsDrafted}
 use Rattle.store_owner.specs.Retitled.{IsRenaming, IsRetitlingOf}
-use Rattle.store_owner.specs.Sealing.{HoldsKeys}
 use Rattle.store_owner.specs.Sound.{IsSound, granted_in, own_store}
-use Rattle.store_owner.specs.Texting.{AreKept, AreTitlesAfter, IsRemoved, IsRenamed, IsWritten, name_at}
 use Rattle.store_owner.specs.declared.change.Change.{Change}
 use Rattle.store_owner.specs.declared.retitling.Retitling.{Retitling}
 

@@ -42,28 +42,28 @@ use Rattle.public_fold.proofs.Counting.{journal_counted}
 use Rattle.public_fold.proofs.Keeping.{journal_tree}
 use Rattle.public_fold.proofs.Prefixes.{stand_after-append}
 use Rattle.public_fold.proofs.SerialsKept.{journal_count}
-use Rattle.store_owner.specs.Applying.{IsCarriedOut, IsSealed, journal_then, sealed_text}
-use Rattle.store_owner.specs.Bytes.{batches_of, entry_body, step_payload}
-use Rattle.store_owner.specs.Folds.{public_stand}
-use Rattle.store_owner.specs.Keys.{AreWhole, all_keys}
-use Rattle.store_owner.specs.Notes.{declared_note}
+use Rattle.journal_bytes.specs.Bytes.{batches_of, entry_body, step_payload}
+use Rattle.journal_bytes.specs.Folds.{public_stand}
+use Rattle.journal_bytes.specs.Keys.{AreWhole, all_keys}
+use Rattle.journal_bytes.specs.Notes.{declared_note}
+use Rattle.journal_bytes.specs.Owning.{IsTreeOf}
+use Rattle.journal_bytes.specs.Script.{answer, answer_with, draws_of, due_end, journal_then}
+use Rattle.journal_bytes.specs.Sealing.{HoldsKeys, IsSealable, IsTold}
+use Rattle.journal_bytes.specs.Texting.{due_key}
+use Rattle.journal_bytes.proofs.DueTexts.{due_same, sealed}
+use Rattle.journal_bytes.proofs.NewTitles.{AreBelow}
+use Rattle.journal_bytes.proofs.NextBatches.{batches_then, epoch_of, keys_drawn}
+use Rattle.journal_bytes.proofs.NextEntry.{between, stand_between}
+use Rattle.journal_bytes.proofs.NextValid.{between_valid, next_valid, next_whole}
+use Rattle.journal_bytes.proofs.NotesDeclared.{told_back}
+use Rattle.journal_bytes.proofs.Ready.{next_holds}
+use Rattle.journal_bytes.proofs.Sealable.{command_sealable, content_from}
+use Rattle.journal_bytes.proofs.TitlesAfter.{joined, titled_tree, told_tree, tree_back, tree_on}
+use Rattle.journal_bytes.proofs.ToldSkeleton.{told_keys}
+use Rattle.store_owner.specs.Applying.{IsCarriedOut, IsSealed, sealed_text}
 use Rattle.store_owner.specs.Owned.{IsOwnerOf, OwnerView, counting, limits_in}
-use Rattle.store_owner.specs.Owning.{IsTreeOf}
-use Rattle.store_owner.specs.Script.{answer, answer_with, draws_of, due_end}
-use Rattle.store_owner.specs.Sealing.{HoldsKeys, IsSealable, IsTold}
-use Rattle.store_owner.specs.Texting.{due_key}
-use Rattle.store_owner.proofs.DueTexts.{due_same, sealed}
 use Rattle.store_owner.proofs.Measured.{draws_told, skeleton_is}
-use Rattle.store_owner.proofs.NewTitles.{AreBelow}
-use Rattle.store_owner.proofs.NextBatches.{batches_then, epoch_of, keys_drawn}
-use Rattle.store_owner.proofs.NextEntry.{between, stand_between}
-use Rattle.store_owner.proofs.NextValid.{between_valid, next_valid, next_whole}
-use Rattle.store_owner.proofs.NotesDeclared.{told_back}
 use Rattle.store_owner.proofs.OwnerKeeps.{store_kept}
-use Rattle.store_owner.proofs.Ready.{next_holds}
-use Rattle.store_owner.proofs.Sealable.{command_sealable, content_from}
-use Rattle.store_owner.proofs.TitlesAfter.{joined, titled_tree, told_tree, tree_back, tree_on}
-use Rattle.store_owner.proofs.ToldSkeleton.{told_keys}
 
 -- ---- an accepted command
 

@@ -7,9 +7,9 @@ use Rattle.move_plan.specs.Fitting.{public_of}
 use Rattle.move_plan.specs.Seen.{keyless}
 use Rattle.public_fold.specs.Journal.{Journal, store_of}
 use Rattle.public_fold.specs.Standing.{IsSeenAs, PublicView}
-use Rattle.store_owner.specs.Folds.{public_stand}
+use Rattle.journal_bytes.specs.Folds.{public_stand}
+use Rattle.journal_bytes.specs.Owning.{IsStoreOf}
 use Rattle.store_owner.specs.Owned.{IsOwnerOf, OwnerView}
-use Rattle.store_owner.specs.Owning.{IsStoreOf}
 
 pub number_keyless : (numbers : List ℕ) → map (λ (e : HolderEntry). e.number) (map keyless numbers) ≡ numbers
 number_keyless [] = refl

@@ -13,14 +13,14 @@ use Rattle.public_fold.specs.Fitted.{told_step}
 use Rattle.public_fold.specs.Heads.{IsSkeleton}
 use Rattle.public_fold.specs.Journal.{Journal, store_of}
 use Rattle.public_fold.specs.Preparing.{begun}
-use Rattle.store_owner.specs.Applying.{skeleton_size}
-use Rattle.store_owner.specs.Folds.{public_stand}
+use Rattle.journal_bytes.specs.Folds.{public_stand}
+use Rattle.journal_bytes.specs.Owning.{IsStoreOf}
+use Rattle.journal_bytes.specs.Script.{answer, answer_with, due_end, due_payload}
+use Rattle.journal_bytes.specs.Sealing.{skeleton_size}
+use Rattle.journal_bytes.specs.Texting.{due_key, due_text}
 use Rattle.store_owner.specs.Owned.{IsOwnerOf, OwnerView, limits_in}
-use Rattle.store_owner.specs.Owning.{IsStoreOf}
 use Rattle.store_owner.specs.Planning.{IsDrafted, planned_size}
-use Rattle.store_owner.specs.Script.{answer, answer_with, due_end, due_payload}
 use Rattle.store_owner.specs.Sound.{granted_in}
-use Rattle.store_owner.specs.Texting.{due_key, due_text}
 use Rattle.store_owner.specs.declared.change.Change.{Change}
 
 -- an accepted command, but for a full store

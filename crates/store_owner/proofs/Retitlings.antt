@@ -8,13 +8,13 @@ use Rattle.cry_base.specs.declared.roles.Node.{Node}
 use Rattle.cry_base.specs.declared.roles.Node.TheVariants.{Folder, File}
 use Rattle.folder_nodes.specs.Joining.{IsSet, IsForgotten}
 use Rattle.folder_nodes.specs.Titles.{MayBeNamed, Titles, bytes_in, title_at}
-use Rattle.store_owner.specs.Owning.{IsTreeOf}
+use Rattle.journal_bytes.specs.Owning.{IsTreeOf}
+use Rattle.journal_bytes.specs.Texting.{AreKept, AreTitlesAfter, IsRemoved, IsRenamed, IsWritten, name_at}
+use Rattle.journal_bytes.proofs.Refused.{found_same}
 use Rattle.store_owner.specs.Retitled.{CanRetitle, IsForgetting, IsKeeping, IsRemoving, IsRenaming, IsRetitled, IsRetitlingOf, IsSetting, IsWriting}
-use Rattle.store_owner.specs.Texting.{AreKept, AreTitlesAfter, IsRemoved, IsRenamed, IsWritten, name_at}
 use Rattle.store_owner.specs.declared.retitling.Retitling.{Retitling}
 use Rattle.store_owner.specs.declared.retitling.Retitling.TheVariants.{Keep, Set, Forget}
 use Rattle.store_owner.proofs.Forms.{bytes_form, folder_form, last_named, name_form}
-use Rattle.store_owner.proofs.Refused.{found_same}
 
 setting : (change : Retitling) (node : Node) (name bytes : List ℕ) (old new : Titles) → IsSetting change node name bytes → IsRetitled change old new → IsSet old new node name bytes
 setting Keep node name bytes old new is made = absurd is

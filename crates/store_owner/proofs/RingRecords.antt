@@ -21,7 +21,7 @@ use Rattle.role_graph.specs.Tabled.{row_of}
 use Rattle.role_graph.proofs.Rising.{get_or-In}
 use Rattle.public_fold.specs.Records.{Link}
 use Rattle.public_fold.specs.declared.heads.ContentHead.{ContentHead}
-use Rattle.store_owner.specs.Ringing.{held_key, key_for, link_by, links_by, content_by, contents_by, IsHeld}
+use Rattle.journal_bytes.specs.Ringing.{held_key, key_for, link_by, links_by, content_by, contents_by, IsHeld}
 
 -- where a ring has a key for a role, it is the one that it holds
 pub held : (ring : Ringed) (role : Role) → IsSome (key_of ring role) → key_of ring role ≡ Some (held_key ring role)

@@ -29,14 +29,14 @@ use Rattle.public_fold.specs.Told.{told_store}
 use Rattle.public_fold.specs.Turns.{turn_fits, turn_stand, turns_fit, turns_stand}
 use Rattle.public_fold.specs.Turns.Turn.{Began}
 use Rattle.public_fold.specs.declared.heads.Skeleton.{Skeleton}
-use Rattle.store_owner.specs.Bytes.{step_payload}
-use Rattle.store_owner.specs.Keys.{all_keys, bytes_in, bytes_of, drawn_by, entry_keys, keys_from, owner_parts, with_bytes}
+use Rattle.journal_bytes.specs.Bytes.{step_payload}
+use Rattle.journal_bytes.specs.Keys.{all_keys, bytes_in, bytes_of, drawn_by, entry_keys, keys_from, owner_parts, with_bytes}
+use Rattle.journal_bytes.specs.Sealing.{CanSeal, HasLength, HoldsKeys, IsSealable, IsTold, keys_with}
+use Rattle.journal_bytes.specs.WorkedBytes.{journal_bytes}
+use Rattle.journal_bytes.proofs.Ready.{can_seal}
+use Rattle.journal_bytes.proofs.SoundSteps.{turns_sealable}
 use Rattle.store_owner.specs.Making.{first_stand, made_with, root_payload, root_step}
 use Rattle.store_owner.specs.Owned.{counting}
-use Rattle.store_owner.specs.Sealing.{CanSeal, HasLength, HoldsKeys, IsSealable, IsTold, keys_with}
-use Rattle.store_owner.specs.WorkedBytes.{journal_bytes}
-use Rattle.store_owner.proofs.Ready.{can_seal}
-use Rattle.store_owner.proofs.SoundSteps.{turns_sealable}
 
 -- ---- the owner's key
 

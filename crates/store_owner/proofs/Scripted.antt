@@ -12,10 +12,10 @@ use Rattle.cry_base.specs.declared.commands.Refusal.{Refusal}
 use Rattle.cry_base.specs.declared.commands.Reply.{Reply}
 use Rattle.cry_base.specs.declared.commands.Reply.TheVariants as replies
 use Rattle.cry_base.specs.declared.limits.Limits.{Limits}
-use Rattle.store_owner.specs.Applying.{Answers, IsDone, StandsAt, journal_then}
-use Rattle.store_owner.specs.Bytes.{batches_of}
+use Rattle.journal_bytes.specs.Bytes.{batches_of}
+use Rattle.journal_bytes.specs.Script.{Going, accepted_going, answer, done_reply, draws_of, journal_then, keys_from, line_going, line_reply}
+use Rattle.store_owner.specs.Applying.{Answers, IsDone, StandsAt}
 use Rattle.store_owner.specs.Owned.{IsOwnerOf, OwnerView, limits_in}
-use Rattle.store_owner.specs.Script.{Going, accepted_going, answer, done_reply, draws_of, keys_from, line_going, line_reply}
 
 abbrev Whole : List ℕ → Type 0
 Whole key = length key ≡ 32

@@ -27,12 +27,12 @@ use Rattle.public_fold.specs.Standing.{IsSeenAs}
 use Rattle.public_fold.specs.Turns.{StandHolds, Turn, turn_fits, turn_stand, turns_fit, turns_links, turns_stand}
 use Rattle.public_fold.specs.Turns.Turn.{Began, Noted}
 use Rattle.public_fold.proofs.TurnsHold.{log_holds}
-use Rattle.store_owner.specs.Keys.{bytes_in, bytes_of}
+use Rattle.journal_bytes.specs.Keys.{bytes_in, bytes_of}
+use Rattle.journal_bytes.specs.Sealing.{HoldsKeys}
+use Rattle.journal_bytes.proofs.Ready.{newest-role}
+use Rattle.journal_bytes.proofs.Sealable.{present_is}
 use Rattle.store_owner.specs.Owned.{OwnerView, counting}
-use Rattle.store_owner.specs.Sealing.{HoldsKeys}
 use Rattle.store_owner.specs.Sound.{IsOpenedWith, IsSound}
-use Rattle.store_owner.proofs.Ready.{newest-role}
-use Rattle.store_owner.proofs.Sealable.{present_is}
 
 -- ---- the turns of a log
 

@@ -30,15 +30,15 @@ use Rattle.public_fold.specs.Turns.{Turn, turns_fit, turns_stand}
 use Rattle.public_fold.specs.declared.heads.Skeleton.{Skeleton}
 use Rattle.public_fold.proofs.Serials.{numbered-length}
 use Rattle.public_fold.proofs.TurnsHold.{fit_told, log_holds}
+use Rattle.journal_bytes.specs.Sealing.{CanSeal, HasLength, HoldsKeys, IsSealable}
+use Rattle.journal_bytes.specs.Texting.{due_key, due_text}
+use Rattle.journal_bytes.proofs.DueTexts.{due_same}
+use Rattle.journal_bytes.proofs.Ready.{can_seal, next_holds}
+use Rattle.journal_bytes.proofs.Sealable.{content_from}
+use Rattle.journal_bytes.proofs.SoundSteps.{begun_sealable}
 use Rattle.store_owner.specs.Applying.{sealed_text}
 use Rattle.store_owner.specs.Owned.{OwnerView, counting}
-use Rattle.store_owner.specs.Sealing.{CanSeal, HasLength, HoldsKeys, IsSealable}
 use Rattle.store_owner.specs.Sound.{IsSound, own_store}
-use Rattle.store_owner.specs.Texting.{due_key, due_text}
-use Rattle.store_owner.proofs.DueTexts.{due_same}
-use Rattle.store_owner.proofs.Ready.{can_seal, next_holds}
-use Rattle.store_owner.proofs.Sealable.{content_from}
-use Rattle.store_owner.proofs.SoundSteps.{begun_sealable}
 use Rattle.store_owner.proofs.SoundStores.{own_kept}
 use Rattle.store_owner.proofs.SoundTexts.{IsKeyFor, IsSized, due_fits, files_sized}
 

@@ -30,13 +30,13 @@ use Rattle.public_fold.specs.Standing.{IsSeenAs}
 use Rattle.public_fold.specs.Told.{told_store}
 use Rattle.public_fold.specs.Turns.{Turn, turn_fits, turn_stand, turns_fit, turns_stand}
 use Rattle.public_fold.specs.Turns.Turn.{Began, Noted}
+use Rattle.journal_bytes.specs.Sealing.{HoldsKeys, IsSealable, keys_with}
+use Rattle.journal_bytes.specs.Texting.{AreKept, AreTitlesAfter, IsRemoved, IsRenamed, IsWritten, name_at}
+use Rattle.journal_bytes.proofs.SoundSteps.{begun_sealable}
 use Rattle.store_owner.specs.Applying.{IsCarriedOut}
 use Rattle.store_owner.specs.Owned.{OwnerView, counting}
-use Rattle.store_owner.specs.Sealing.{HoldsKeys, IsSealable, keys_with}
 use Rattle.store_owner.specs.Sound.{IsSound, own_store}
-use Rattle.store_owner.specs.Texting.{AreKept, AreTitlesAfter, IsRemoved, IsRenamed, IsWritten, name_at}
 use Rattle.store_owner.proofs.SoundSeals.{count_low, held_then}
-use Rattle.store_owner.proofs.SoundSteps.{begun_sealable}
 use Rattle.store_owner.proofs.SoundStores.{own_kept}
 use Rattle.store_owner.proofs.SoundTexts.{few_bytes}
 

@@ -12,8 +12,8 @@ use Rattle.public_fold.specs.KeyStep.{key_step, next_epoch, no_keys, published, 
 use Rattle.public_fold.specs.Told.{told_store}
 use Rattle.public_fold.specs.Turns.{Turn, turn_stand, turns_stand}
 use Rattle.public_fold.specs.Turns.Turn.{Began, Noted}
+use Rattle.journal_bytes.specs.Owning.{IsStoreOf}
 use Rattle.store_owner.specs.Owned.{OwnerView}
-use Rattle.store_owner.specs.Owning.{IsStoreOf}
 use Rattle.store_owner.specs.Sound.{IsSound, granted_in, own_store}
 use Rattle.store_owner.proofs.OwnerKeeps.{number_keyless}
 

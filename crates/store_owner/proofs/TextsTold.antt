@@ -10,7 +10,7 @@ use Rattle.folder_nodes.specs.Titles.{Titles, bytes_in, title_at, tree_store}
 use Rattle.folder_nodes.proofs.Checked.{found_stands}
 use Rattle.folder_nodes.proofs.Downward.{file_id}
 use Rattle.folder_nodes.proofs.Named.{file_named, named_file}
-use Rattle.store_owner.specs.Texting.{bytes_of_file, file_text, renamed_text, titled_text}
+use Rattle.journal_bytes.specs.Texting.{bytes_of_file, file_text, renamed_text, titled_text}
 
 abbrev bytes_then : Option FileEntry → List ℕ
 bytes_then o = elim o [ None ↦ [] | Some e ↦ e.bytes ]

@@ -1,6 +1,6 @@
 -- What a command leaves of an owner and of the disk, and what is answered. This project's own, docs/FORMAT.md, "The key step"
 -- and "Committing".
-use Rattle.std.specs.Prelude.{◌≡◌, ◌⊎◌, ◌<◌, ◌≤◌, ℕ, ◌+◌, ◌*◌, Bool, true, false, not, cond, List, [], ◌∷◌, ◌++◌, length, replicate, Option, Some, None, Result, Ok, Err, IsTrue, All, is_some}
+use Rattle.std.specs.Prelude.{◌≡◌, ◌⊎◌, ◌<◌, ◌≤◌, ℕ, ◌+◌, ◌*◌, true, false, not, cond, List, [], ◌++◌, length, replicate, Option, Some, None, Result, Ok, Err, IsTrue, All, is_some}
 use Rattle.std.specs.List.{flat_map}
 use Rattle.chacha_seal.specs.Keys.{KeyParts}
 use Rattle.chacha_seal.specs.Sealing.{check_of}
@@ -24,34 +24,24 @@ use Rattle.record_format.specs.Told.{told_note}
 use Rattle.public_fold.specs.Fitted.{told_stand, told_step}
 use Rattle.public_fold.specs.Heads.{IsSkeleton}
 use Rattle.public_fold.specs.Journal.{Journal, Stand, first_key, note_step}
-use Rattle.public_fold.specs.Journal.Entry.{Session, Did}
-use Rattle.public_fold.specs.Lengths.{note_len}
 use Rattle.public_fold.specs.Preparing.{begun}
 use Rattle.public_fold.specs.Standing.{IsSeenAs, with_room_of}
 use Rattle.public_fold.specs.declared.heads.Skeleton.{Skeleton}
+use Rattle.journal_bytes.specs.Bytes.{batches_of, step_payload}
+use Rattle.journal_bytes.specs.Journals.{StandsForJournal}
+use Rattle.journal_bytes.specs.Owning.{IsStoreOf, IsTreeOf}
+use Rattle.journal_bytes.specs.Script.{Going, answer, done_reply, draws_of, journal_then}
+use Rattle.journal_bytes.specs.Sealing.{HoldsKeys, IsSealable, IsTold, keys_with}
+use Rattle.journal_bytes.specs.Texting.{AreTitlesAfter, due_key, due_text}
 use Rattle.store_owner.specs.declared.apply_fault.ApplyFault.{ApplyFault}
 use Rattle.store_owner.specs.declared.apply_fault.ApplyFault.TheVariants as faults
-use Rattle.store_owner.specs.Bytes.{batches_of, step_payload}
-use Rattle.store_owner.specs.Journals.{StandsForJournal}
 use Rattle.store_owner.specs.Owned.{IsOwnerOf, OwnerView, limits_in}
-use Rattle.store_owner.specs.Owning.{IsStoreOf, IsTreeOf}
 use Rattle.cry_base.specs.declared.limits.Limits.{Limits}
-use Rattle.store_owner.specs.Script.{Going, answer, done_reply, draws_of}
-use Rattle.store_owner.specs.Sealing.{HoldsKeys, IsSealable, IsTold, keys_with}
 use Rattle.store_owner.specs.Sound.{granted_in}
-use Rattle.store_owner.specs.Texting.{AreTitlesAfter, due_key, due_text}
-
--- the journal after an accepted command: a session is begun before it where none was
-abbrev pub journal_then : Journal → Bool → Request → List (List ℕ) → Journal
-journal_then m has_begun r keys = m ++ cond has_begun [] (Session ∷ []) ++ Did r keys ∷ []
 
 -- the text that a command seals, a new holder's key included
 abbrev pub sealed_text : OwnerView → Request → List (List ℕ) → List ℕ
 sealed_text o r drawn = due_text (tree_store o.state.tree o.names) r ++ due_key r (first_key drawn)
-
--- the bytes of a payload with this note and this skeleton, whose one content has a text of so many bytes
-abbrev pub skeleton_size : Note → Skeleton → ℕ → ℕ
-skeleton_size note s text = note_len note + 8 + 98 * length s.links.items + (58 + text) * length s.contents.items
 
 -- the owner once more, with other room for what is to come
 pub record HasOtherRoom (old new : OwnerView) : Type 0 where

@@ -14,8 +14,8 @@ use Rattle.public_fold.specs.Journal.{Journal, Stand, note_step, nothing}
 use Rattle.public_fold.specs.Journal.Entry.{Made, Session}
 use Rattle.public_fold.specs.KeyStep.{Stepped}
 use Rattle.public_fold.specs.Preparing.{begun}
-use Rattle.store_owner.specs.Bytes.{step_payload}
-use Rattle.store_owner.specs.Keys.{all_keys}
+use Rattle.journal_bytes.specs.Bytes.{step_payload}
+use Rattle.journal_bytes.specs.Keys.{all_keys}
 use Rattle.store_owner.specs.Owned.{IsOwnerOf, OwnerView}
 
 -- the journal that makes a store under five keys

@@ -9,11 +9,11 @@ use Rattle.public_fold.specs.Journal.{Journal, keys_of, store_of}
 use Rattle.public_fold.specs.KeyStep.{KeyState}
 use Rattle.public_fold.specs.Standing.{IsSeenAs, PublicView}
 use Rattle.public_fold.specs.Valid.{IsValid}
-use Rattle.store_owner.specs.Bytes.{batches_of}
-use Rattle.store_owner.specs.Folds.{public_stand}
-use Rattle.store_owner.specs.Keys.{AreWhole, all_keys}
-use Rattle.store_owner.specs.Owning.{IsTreeOf}
-use Rattle.store_owner.specs.Sealing.{HoldsKeys}
+use Rattle.journal_bytes.specs.Bytes.{batches_of}
+use Rattle.journal_bytes.specs.Folds.{public_stand}
+use Rattle.journal_bytes.specs.Keys.{AreWhole, all_keys}
+use Rattle.journal_bytes.specs.Owning.{IsTreeOf}
+use Rattle.journal_bytes.specs.Sealing.{HoldsKeys}
 
 -- the owner's key; the journal; what everyone may see; the names and bytes; the present keys; the counter of this session's
 -- epoch, where it has begun one; the most bytes that a file may have

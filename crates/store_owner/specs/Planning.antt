@@ -22,14 +22,13 @@ use Rattle.public_fold.specs.Journal.{Journal, Stand, first_key}
 use Rattle.public_fold.specs.Preparing.{CanSettle, HasRoomFor, begun, settled, with_check}
 use Rattle.public_fold.specs.StandFits.{note_fits}
 use Rattle.public_fold.specs.Standing.{IsSeenAs, PublicView}
-use Rattle.store_owner.specs.Applying.{skeleton_size}
+use Rattle.journal_bytes.specs.Owning.{IsStoreOf}
+use Rattle.journal_bytes.specs.Script.{answer, draws_of}
+use Rattle.journal_bytes.specs.Sealing.{IsSpaceFor, Space, skeleton_size}
+use Rattle.journal_bytes.specs.Texting.{due_key, due_text}
 use Rattle.store_owner.specs.Owned.{IsOwnerOf, OwnerView, limits_in}
-use Rattle.store_owner.specs.Owning.{IsStoreOf}
 use Rattle.store_owner.specs.Retitled.{IsRetitlingOf}
-use Rattle.store_owner.specs.Script.{answer, draws_of}
-use Rattle.store_owner.specs.Sealing.{IsSpaceFor, Space}
 use Rattle.store_owner.specs.Sound.{granted_in}
-use Rattle.store_owner.specs.Texting.{due_key, due_text}
 use Rattle.store_owner.specs.declared.change.Change.{Change}
 use Rattle.store_owner.specs.declared.owner.Verdict.{Verdict}
 use Rattle.store_owner.specs.declared.owner.Verdict.TheVariants as verdicts

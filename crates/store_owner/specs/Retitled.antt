@@ -7,7 +7,7 @@ use Rattle.cry_base.specs.declared.roles.Node.{Node}
 use Rattle.cry_base.specs.declared.roles.Node.TheVariants.{Folder, File}
 use Rattle.folder_nodes.specs.Joining.{IsSet, IsForgotten}
 use Rattle.folder_nodes.specs.Titles.{MayBeNamed, Titles, bytes_in, title_at}
-use Rattle.store_owner.specs.Texting.{AreKept, name_at}
+use Rattle.journal_bytes.specs.Texting.{AreKept, name_at}
 use Rattle.store_owner.specs.declared.retitling.Retitling.{Retitling}
 use Rattle.store_owner.specs.declared.retitling.Retitling.TheVariants.{Keep, Set, Forget}
 

@@ -16,8 +16,8 @@ use Rattle.public_fold.specs.KeyStep.{newest}
 use Rattle.public_fold.specs.Standing.{IsSeenAs, public_store_of}
 use Rattle.public_fold.specs.Turns.{Turn, turns_fit, turns_stand}
 use Rattle.role_graph.specs.Roles.{role_id}
+use Rattle.journal_bytes.specs.Sealing.{HoldsKeys}
 use Rattle.store_owner.specs.Owned.{OwnerView, counting}
-use Rattle.store_owner.specs.Sealing.{HoldsKeys}
 
 -- the grants that an owner keeps
 abbrev pub granted_in : OwnerView → Granted

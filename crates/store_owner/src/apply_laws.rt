@@ -1,10 +1,14 @@
 //! Laws of an owner who stands for a journal: what a command takes, and how the owner goes on behind it.
-ghost use Rattle.std.specs.Prelude.{◌≡◌, ◌*◌, ◌++◌, ◌<◌, ◌^◌, ◌≤◌, ℕ, List, None, Option, false, length, not, replicate};
+ghost use Rattle.std.specs.Prelude.{◌≡◌, ◌*◌, ◌++◌, ◌<◌, ◌^◌, ◌≤◌, ℕ, List, None, Ok, Option, false, is_some, length, not, replicate};
 ghost use Rattle.commit_journal.specs.Holding.{IsBetween};
 ghost use Rattle.commit_journal.specs.Journals.{end_with};
 ghost use Rattle.commit_journal.specs.Standing.{StandsWhole};
 ghost use Rattle.cry_base.specs.Refusing.{refusal_of};
 ghost use Rattle.cry_base.specs.Requests.{Request};
+ghost use Rattle.cry_base.specs.declared.commands.Refusal.{Refusal};
+ghost use Rattle.cry_base.specs.declared.commands.Reply.{Reply};
+ghost use Rattle.cry_base.specs.declared.commands.Reply.TheVariants.{Refused};
+ghost use Rattle.cry_base.specs.declared.limits.Limits.{Limits};
 ghost use Rattle.cry_io.specs.Told.{WhereBothTold};
 ghost use Rattle.folder_nodes.specs.Titles.{tree_store};
 ghost use Rattle.move_plan.specs.Noting.{note_of};
@@ -14,13 +18,14 @@ ghost use Rattle.public_fold.specs.Journal.{Journal, store_of};
 ghost use Rattle.public_fold.specs.Preparing.{begun};
 ghost use Rattle.public_fold.specs.StandFits.{note_fits};
 ghost use Rattle.public_fold.specs.declared.heads.Skeleton.{Skeleton};
-ghost use Rattle.store_owner.specs.Applying.{IsCarriedOut, IsInterrupted, journal_then, skeleton_size};
-ghost use Rattle.store_owner.specs.Bytes.{batches_of};
-ghost use Rattle.store_owner.specs.Folds.{public_stand};
-ghost use Rattle.store_owner.specs.Journals.{StandsForJournal};
+ghost use Rattle.journal_bytes.specs.Bytes.{batches_of};
+ghost use Rattle.journal_bytes.specs.Folds.{public_stand};
+ghost use Rattle.journal_bytes.specs.Journals.{StandsForJournal};
+ghost use Rattle.journal_bytes.specs.Script.{Going, answer, draws_of, due_end, due_payload, journal_then, line_going, line_reply};
+ghost use Rattle.journal_bytes.specs.Sealing.{skeleton_size};
+ghost use Rattle.journal_bytes.specs.Texting.{due_key, due_text};
+ghost use Rattle.store_owner.specs.Applying.{Answers, IsCarriedOut, IsInterrupted, StandsAt};
 ghost use Rattle.store_owner.specs.Owned.{IsOwnerOf, OwnerView, limits_in};
-ghost use Rattle.store_owner.specs.Script.{answer, draws_of, due_end, due_payload};
-ghost use Rattle.store_owner.specs.Texting.{due_key, due_text};
 
 /// Law: an owner who stands for a journal, and carries out a command that is accepted there, stands for the journal with that
 /// command; and where the disk showed the whole of the journal, it shows the whole of it with the command.
@@ -60,4 +65,14 @@ pub fn commands_are_measured()
         → note_fits (begun (not o.journal.has_epoch) (public_stand m)) (note_of (store_of m) r (replicate 32 0))
         (told_step (begun (not o.journal.has_epoch) (public_stand m)) (note_of (store_of m) r (replicate 32 0))) ≡ false
         → 268435456 < due_end m o.journal.has_epoch r }
+{}
+
+/// Law: an owner who answers a command goes on as the session does, with the session's reply, where the source of random bytes and
+/// the disk tell what they have.
+pub fn answered_sessions_go_on()
+    ensures { (limits : Limits) (key : List ℕ) (g : Going) (r : Request) (reply : Reply) (old new : OwnerView) (left_before left_after was shows : Option (List ℕ))
+        → StandsAt limits key g old left_before was → Answers (Ok reply) g.journal r old new left_before left_after was shows
+        → is_some left_after ≡ is_some left_before → is_some shows ≡ is_some was
+        → ((why : Refusal) → reply ≡ Refused why → (left_after ≡ left_before) × (shows ≡ was))
+        → (reply ≡ line_reply g r (answer limits g.journal g.begun r)) × StandsAt limits key (line_going g r (answer limits g.journal g.begun r)) new left_after shows }
 {}

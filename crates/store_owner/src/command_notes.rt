@@ -8,7 +8,7 @@ ghost use Rattle.folder_nodes.specs.Titles.{tree_store};
 ghost use Rattle.record_format.specs.Noted.Note.{Give, NewFolder, NewHolder, Take};
 ghost use Rattle.record_format.specs.Told.{told_note};
 ghost use Rattle.move_plan.specs.Noting.{note_of, write_note, remove_note, rename_note, move_note};
-ghost use Rattle.store_owner.specs.Owning.{IsStoreOf};
+ghost use Rattle.journal_bytes.specs.Owning.{IsStoreOf};
 
 use crate::path_ends::parent_of;
 use cry_base::{Command, FileId, FolderId, HolderId, Node, Text};

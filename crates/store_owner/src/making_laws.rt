@@ -6,11 +6,11 @@ ghost use Rattle.record_format.specs.Noted.Note.{Root};
 ghost use Rattle.public_fold.specs.Fitted.{told_stand};
 ghost use Rattle.public_fold.specs.Journal.{keys_of};
 ghost use Rattle.public_fold.specs.Standing.{IsSeenAs};
+ghost use Rattle.journal_bytes.specs.Keys.{all_keys};
+ghost use Rattle.journal_bytes.specs.Sealing.{HoldsKeys};
 ghost use Rattle.store_owner.specs.Drawing.{AreKeys};
-ghost use Rattle.store_owner.specs.Keys.{all_keys};
 ghost use Rattle.store_owner.specs.Making.{IsMadeJournal, first_stand, made_batches, made_with, root_payload};
 ghost use Rattle.store_owner.specs.Owned.{IsOwnerOf, OwnerView, counting};
-ghost use Rattle.store_owner.specs.Sealing.{HoldsKeys};
 ghost use Rattle.store_owner.specs.Sound.{IsSound};
 
 /// Law: who has the journal of the root's batch, with its state, name and keys, stands for the journal that makes a store, and is

@@ -14,11 +14,11 @@ ghost use Rattle.public_fold.specs.KeyStep.{newest};
 ghost use Rattle.public_fold.specs.Standing.{IsSeenAs};
 ghost use Rattle.public_fold.specs.Valid.{IsValid};
 ghost use Rattle.role_graph.specs.Roles.{role_id};
-ghost use Rattle.store_owner.specs.Bytes.{batches_of};
-ghost use Rattle.store_owner.specs.Folds.{public_stand};
-ghost use Rattle.store_owner.specs.Keys.{AreWhole};
+ghost use Rattle.journal_bytes.specs.Bytes.{batches_of};
+ghost use Rattle.journal_bytes.specs.Folds.{public_stand};
+ghost use Rattle.journal_bytes.specs.Keys.{AreWhole};
+ghost use Rattle.journal_bytes.specs.Opening.{owner_starts, owner_visits, reading_of};
 ghost use Rattle.store_owner.specs.Opened.{IsKept, reading_with, starts_with, visits_of};
-ghost use Rattle.store_owner.specs.Opening.{owner_starts, owner_visits, reading_of};
 ghost use Rattle.store_owner.specs.Owned.{IsOwnerOf, OwnerView};
 
 /// Law: what the owner's visits opened of a log whose payloads fit, and that made the root, has the present key of every role:

@@ -14,7 +14,7 @@ ghost use Rattle.move_plan.specs.Fitting.{folder_stands};
 ghost use Rattle.public_fold.specs.Journal.{Journal as AnyJournal, Stand};
 ghost use Rattle.public_fold.specs.Lengths.{end_of};
 ghost use Rattle.public_fold.specs.Standing.{IsSeenAs};
-ghost use Rattle.store_owner.specs.Journals.{IsSettled, StandsForJournal};
+ghost use Rattle.journal_bytes.specs.Journals.{IsSettled, StandsForJournal};
 ghost use Rattle.store_owner.specs.Opened.{AreContents, IsFresh, OpensAs, opened_of, placed_in};
 ghost use Rattle.store_owner.specs.Owned.{IsOwnerOf};
 

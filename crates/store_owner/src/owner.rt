@@ -12,15 +12,16 @@ ghost use Rattle.record_format.specs.Spellable.{IsSpellable};
 ghost use Rattle.record_format.specs.Spelling.{spell_payload};
 ghost use Rattle.public_fold.specs.Journal.{Journal as AnyJournal};
 ghost use Rattle.public_fold.specs.Preparing.{HasRoomFor};
+ghost use Rattle.journal_bytes.specs.Owning.{IsStoreOf};
+ghost use Rattle.journal_bytes.specs.Sealing.{IsSpaceFor};
 ghost use Rattle.store_owner.specs.Applying.{Answers, DiskCounts, HasOtherRoom, IsCarriedOut, IsDoneThen, IsInterrupted, IsKeptBy, UnlessDiskFault};
 ghost use Rattle.store_owner.specs.Drawing.{AreKeys, FillsByCount};
 ghost use Rattle.store_owner.specs.Owned.{IsOwnerOf, owner_at};
-ghost use Rattle.store_owner.specs.Owning.{IsStoreOf};
 ghost use Rattle.store_owner.specs.Planning.{AnswersPlan, HasBegun, IsDrafted, IsFurnished, IsUnfit, reply_for};
-ghost use Rattle.store_owner.specs.Sealing.{IsSpaceFor};
 ghost use Rattle.store_owner.specs.Sound.{IsSound, granted_in, own_store};
 ghost use Rattle.store_owner.specs.Taking.{FallsShort, TakesKeys};
 
+use crate::ApplyFault;
 use crate::apply_laws::{
     commands_are_measured, interrupted_commands_leave_a_journal, owners_go_on,
 };
@@ -35,8 +36,9 @@ use crate::sound_laws::{
     carried_out_owners_stay_sound, sound_owners_can_seal, sound_owners_draw_few_keys,
     sound_owners_keep_a_store,
 };
+use crate::step_records::seal_step;
+use crate::step_room::StepRoom;
 use crate::texts::text_for;
-use crate::{ApplyFault, StepRoom, seal_step};
 use chacha_seal::{Counter, Key, OwnerK};
 use commit_journal::{CommitFault, Journal};
 use cry_base::{Command, Limits, Mem, OutOfMemory, Refusal, Reply};

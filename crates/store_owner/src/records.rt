@@ -10,7 +10,7 @@ ghost use Rattle.record_format.specs.Spellable.{IsContent, IsLink, longest_text,
 ghost use Rattle.role_graph.specs.Roles.{same_role};
 ghost use Rattle.public_fold.specs.Records.{Link};
 ghost use Rattle.public_fold.specs.declared.heads.ContentHead.{ContentHead as AnyHead};
-ghost use Rattle.store_owner.specs.Ringing.{IsHeld, IsSealed, content_by, contents_by, key_after, key_for, link_by, links_by};
+ghost use Rattle.journal_bytes.specs.Ringing.{IsHeld, IsSealed, content_by, contents_by, key_after, key_for, link_by, links_by};
 
 use chacha_seal::Counter;
 use cry_base::{List, Role, Text};
@@ -72,7 +72,7 @@ pub(crate) fn put_links(
 }
 
 /// The link of this head.
-#[tactic(auto, unfolding(role_graph::specs::Tabled::row_of, crate::specs::Ringing::held_key))]
+#[tactic(auto, unfolding(role_graph::specs::Tabled::row_of, journal_bytes::specs::Ringing::held_key))]
 fn seal_link(ring: &KeyRing, counter: &mut Counter, head: &LinkHead) -> LinkRecord
     requires held { IsHeld ring.now head.now }
     requires serial { counter.old.count < 4294967295 }

@@ -6,7 +6,7 @@ ghost use Rattle.cry_base.specs.Requests.{request_of};
 ghost use Rattle.cry_base.specs.Store.{Store, node_at};
 ghost use Rattle.folder_nodes.specs.Titles.{tree_store};
 ghost use Rattle.grant_book.specs.Refused.{refusal_of_grant};
-ghost use Rattle.store_owner.specs.Owning.{IsStoreOf, refusal_for_grants};
+ghost use Rattle.journal_bytes.specs.Owning.{IsStoreOf, refusal_for_grants};
 
 use crate::command_notes::folder_at;
 use cry_base::{Command, HolderId, Limits, Refusal, Text};

@@ -6,8 +6,8 @@ ghost use Rattle.cry_base.specs.Requests.{request_of};
 ghost use Rattle.cry_base.specs.Store.{node_at};
 ghost use Rattle.cry_base.specs.declared.roles.Node.TheVariants.{Folder};
 ghost use Rattle.folder_nodes.specs.Titles.{tree_store};
+ghost use Rattle.journal_bytes.specs.Texting.{name_at};
 ghost use Rattle.store_owner.specs.Retitled.{CanRetitle, IsRemoving, IsRenaming, IsRetitled, IsRetitlingOf, IsSetting, IsWriting};
-ghost use Rattle.store_owner.specs.Texting.{name_at};
 
 use crate::command_notes::node_of;
 use crate::path_ends::last_of;

@@ -3,8 +3,8 @@ ghost use Rattle.std.specs.Prelude.{◌≡◌, ◌+◌, ◌<◌, ◌^◌, ◌++�
 ghost use Rattle.cry_base.specs.Requests.{request_of};
 ghost use Rattle.record_format.specs.Told.{told_note};
 ghost use Rattle.public_fold.specs.Lengths.{note_len as the_note_len};
-ghost use Rattle.store_owner.specs.Applying.{skeleton_size};
-ghost use Rattle.store_owner.specs.Texting.{due_key};
+ghost use Rattle.journal_bytes.specs.Sealing.{skeleton_size};
+ghost use Rattle.journal_bytes.specs.Texting.{due_key};
 
 use crate::texts::KEY_LEN;
 use cry_base::{Command, Text};
@@ -12,7 +12,7 @@ use public_fold::Skeleton;
 use record_format::Note;
 
 /// How many bytes the text will have once a new holder's key stands in it.
-#[tactic(auto, unfolding(crate::specs::Texting::due_key))]
+#[tactic(auto, unfolding(journal_bytes::specs::Texting::due_key))]
 pub(crate) fn sealed_len(command: &Command, text: &Text) -> u64
     ensures length { result ≡ length (text.now.items ++ due_key (request_of command.now) (replicate 32 0)) }
     ensures short { result < 2 ^ 63 + 32 }

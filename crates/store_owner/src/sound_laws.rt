@@ -1,5 +1,5 @@
 //! Laws of every owner that is open, on whatever bytes it was opened.
-ghost use Rattle.std.specs.Prelude.{◌≡◌, ◌≢◌, ◌+◌, ◌++◌, ◌*◌, ◌<◌, ◌≤◌, ◌^◌, ℕ, All, IsSome, IsTrue, List, None, Ok, Option, Some, cond, false, length, not, replicate, true};
+ghost use Rattle.std.specs.Prelude.{◌≡◌, ◌≢◌, ◌+◌, ◌++◌, ◌*◌, ◌<◌, ◌≤◌, ◌^◌, ℕ, All, IsSome, List, None, Ok, Option, Some, cond, false, length, not, replicate, true};
 ghost use Rattle.chacha_seal.specs.Serials.{Counting};
 ghost use Rattle.commit_journal.specs.Journals.{end_with};
 ghost use Rattle.commit_journal.specs.Logs.{AreInEpochs, epoch_behind};
@@ -24,21 +24,14 @@ ghost use Rattle.public_fold.specs.KeyStep.{newest};
 ghost use Rattle.public_fold.specs.Preparing.{begun};
 ghost use Rattle.public_fold.specs.Standing.{IsSeenAs};
 ghost use Rattle.public_fold.specs.StandFits.{note_fits};
-ghost use Rattle.public_fold.specs.Turns.{Turn, turns_fit, turns_stand};
 ghost use Rattle.public_fold.specs.declared.heads.Skeleton.{Skeleton};
 ghost use Rattle.role_graph.specs.Rights.Who.{TheOwner};
 ghost use Rattle.role_graph.specs.Roles.{holder_role};
-ghost use Rattle.store_owner.specs.Applying.{IsCarriedOut, sealed_text, skeleton_size};
+ghost use Rattle.journal_bytes.specs.Owning.{IsStoreOf};
+ghost use Rattle.journal_bytes.specs.Sealing.{CanSeal, skeleton_size};
+ghost use Rattle.store_owner.specs.Applying.{IsCarriedOut, sealed_text};
 ghost use Rattle.store_owner.specs.Owned.{OwnerView};
-ghost use Rattle.store_owner.specs.Owning.{IsStoreOf};
-ghost use Rattle.store_owner.specs.Sealing.{CanSeal, IsSealable};
 ghost use Rattle.store_owner.specs.Sound.{IsOpenedWith, IsSound, granted_in, own_store};
-
-/// Law: the step of a note that fits can be sealed, after whatever turns that fit.
-pub fn fitting_steps_can_be_sealed()
-    ensures { (turns : List Turn) (note : Note) → IsTrue (turns_fit nothing turns) → note_fits (turns_stand nothing turns) note (told_step (turns_stand nothing turns) note) ≡ true
-        → IsSealable (told_step (turns_stand nothing turns) note) }
-{}
 
 /// Law: the store that an owner keeps is a store of its tree, names and grants, and numbers are left for one folder, file, holder
 /// and epoch more.

@@ -12,12 +12,11 @@ ghost use Rattle.record_format.specs.Told.{told_note};
 ghost use Rattle.public_fold.specs.Heads.{IsSkeleton};
 ghost use Rattle.public_fold.specs.Journal.{Stand, note_step};
 ghost use Rattle.public_fold.specs.Lengths.{payload_len};
-ghost use Rattle.store_owner.specs.Applying.{skeleton_size};
-ghost use Rattle.store_owner.specs.Bytes.{step_payload};
-ghost use Rattle.store_owner.specs.Sealing.{CanSeal, HoldsKeys, IsSealable, IsSpaceFor, IsTold, WillHave, keys_with};
+ghost use Rattle.journal_bytes.specs.Bytes.{step_payload};
+ghost use Rattle.journal_bytes.specs.Sealing.{CanSeal, HoldsKeys, IsSealable, IsSpaceFor, IsTold, WillHave, keys_with, skeleton_size};
 
-use crate::StepRoom;
 use crate::records::{give_keys, put_contents, put_links};
+use crate::step_room::StepRoom;
 use chacha_seal::Counter;
 use cry_base::Text;
 use key_links::KeyRing;
@@ -27,7 +26,7 @@ use record_format::{Note, Payload};
 /// The payload of a note with this skeleton. It gives each role of the skeleton a key of the bytes that were drawn for it, in
 /// order, and then seals each link, and the text where there is a content: the one text of a step, a folder's name, a
 /// file with its name, or a holder's key. Each key and each record takes the counter's next serial. It takes no memory.
-pub fn seal_step(
+pub(crate) fn seal_step(
     ring: &mut KeyRing,
     counter: &mut Counter,
     note: Note,

@@ -1,6 +1,6 @@
 //! The memory that the records of a step take.
 ghost use Rattle.std.specs.Prelude.{◌≡◌, ◌≤◌, IfOk, OnOk, length};
-ghost use Rattle.store_owner.specs.Sealing.{IsSpaceFor};
+ghost use Rattle.journal_bytes.specs.Sealing.{IsSpaceFor};
 
 use cry_base::{List, Mem};
 use key_links::KeyRing;
@@ -11,14 +11,14 @@ use std::marker::Model;
 
 /// Room for the records of a step, taken before its keys are drawn. Contracts see how many links and contents fit.
 #[derive(Drop)]
-pub struct StepRoom {
+pub(crate) struct StepRoom {
     pub(crate) links: List<LinkRecord>,
     pub(crate) contents: List<ContentRecord>,
 }
 
 impl Model for StepRoom {
     ghost use Rattle.std.specs.Prelude.{◌≡◌, []};
-    ghost use Rattle.store_owner.specs.Sealing.{Space};
+    ghost use Rattle.journal_bytes.specs.Sealing.{Space};
 
     ghost Value = { Space };
 
@@ -29,7 +29,7 @@ impl Model for StepRoom {
 
 impl StepRoom {
     /// Room for the records of the skeleton, and in the ring for its keys. The ring's keys are as they were, at `Err` too.
-    pub fn reserve(alloc: Global, ring: &mut KeyRing, skeleton: &Skeleton) -> Mem<StepRoom>
+    pub(crate) fn reserve(alloc: Global, ring: &mut KeyRing, skeleton: &Skeleton) -> Mem<StepRoom>
         ensures room { IfOk result (λ space. IsSpaceFor space skeleton.now) }
         ensures ring { OnOk result (length skeleton.now.keys.items ≤ ring.new.spare) }
         ensures keys { ring.new.keys ≡ ring.old.keys }

@@ -6,7 +6,7 @@ ghost use Rattle.cry_base.specs.Requests.{request_of};
 ghost use Rattle.cry_base.specs.Requests.Request.{AddHolder};
 ghost use Rattle.cry_base.specs.Store.{node_at};
 ghost use Rattle.folder_nodes.specs.Titles.{bytes_in, title_at, tree_store};
-ghost use Rattle.store_owner.specs.Texting.{due_text, file_text as the_file_text, name_at, renamed_text as the_renamed_text, titled_text};
+ghost use Rattle.journal_bytes.specs.Texting.{due_text, file_text as the_file_text, name_at, renamed_text as the_renamed_text, titled_text};
 
 use crate::command_notes::node_of;
 use crate::path_ends::last_of;
@@ -19,7 +19,7 @@ pub(crate) const KEY_LEN: usize = 32;
 
 /// The text that a command with its paths in form seals, in the store of this tree and these names. A new holder's is to be
 /// the key: the text is empty until it is drawn, with room for it.
-#[tactic(auto, unfolding(crate::specs::Texting::due_text))]
+#[tactic(auto, unfolding(journal_bytes::specs::Texting::due_text))]
 pub(crate) fn text_for(alloc: Global, shape: &Shape, names: &Names, command: &Command) -> Mem<Text>
     requires form { has_bad_name (request_of command.now) ≡ false }
     ensures text { IfOk result (λ text. text.items ≡ due_text (tree_store shape.now.tree names.now) (request_of command.now)) }

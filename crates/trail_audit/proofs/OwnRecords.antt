@@ -12,9 +12,9 @@ use Rattle.commit_journal.specs.Laws.{batches_from, AreBodies}
 use Rattle.commit_journal.specs.Placed.{PlainBody, Commands, NewEpoch}
 use Rattle.commit_journal.proofs.Standings.{whole_unmasked}
 use Rattle.public_fold.specs.Journal.{Journal}
-use Rattle.store_owner.specs.Bytes.{bodies_of, batches_of}
-use Rattle.store_owner.specs.Journals.{StandsWholeForJournal}
-use Rattle.store_owner.proofs.Grown.{batches_fit}
+use Rattle.journal_bytes.specs.Bytes.{bodies_of, batches_of}
+use Rattle.journal_bytes.specs.Journals.{StandsWholeForJournal}
+use Rattle.journal_bytes.proofs.Grown.{batches_fit}
 use Rattle.trail_audit.specs.Forged.{body_records, records_of}
 use Rattle.trail_audit.specs.Records.{payload_records, read_payloads, payloads_in, records_in}
 

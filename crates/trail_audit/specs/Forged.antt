@@ -6,8 +6,8 @@ use Rattle.chacha_seal.specs.Keys.{KeyParts}
 use Rattle.cry_base.specs.Sets.{In}
 use Rattle.commit_journal.specs.Placed.{PlainBody, Commands, NewEpoch}
 use Rattle.public_fold.specs.Journal.{Journal}
-use Rattle.store_owner.specs.Bytes.{bodies_of}
-use Rattle.store_owner.specs.Keys.{all_keys, key_bytes}
+use Rattle.journal_bytes.specs.Bytes.{bodies_of}
+use Rattle.journal_bytes.specs.Keys.{all_keys, key_bytes}
 use Rattle.trail_audit.specs.Records.{PlainRecord, payload_records, records_in, sealing_serial, spell_record, IsTagged}
 
 -- the records of what a batch carries

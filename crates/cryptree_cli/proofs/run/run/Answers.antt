@@ -1,4 +1,5 @@
 use Rattle.std.proofs.Common.{◌≡◌, None, Err, Ok, refl, sym, subst, ◌∙◌}
+use Rattle.journal_bytes.specs.Journals.{StandsForJournal}
 use Rattle.cryptree_cli.specs.Lines.{lines_ahead}
 use Rattle.cryptree_cli.specs.Running.{Ends, FirstIsBad, Judges, RanLines, lines_behind, lines_in, lines_typed, open_status, version_limits}
 use Rattle.cryptree_cli.proofs.LinesRun.{bad_is_never_done, lines_as_typed, unopened_lines, unread_lines}
@@ -6,7 +7,6 @@ use Rattle.cryptree_cli.proofs.RunEnds.{still_told}
 use Rattle.cryptree_cli.proofs.RunOpening.{bad_first_is_unjudged, first_alone, first_ends, first_is_bad, gives_first, key_is_given, not_before, opened_has_no_verdict, opened_stands, reading_draws_none, same_key, unopened_draws_none, unopened_ends, unopened_is_judged, unopened_is_no_line}
 use Rattle.holder_client.specs.Asking.{verdict}
 use Rattle.holder_client.specs.Asking.Asking.{ToWrite}
-use Rattle.store_owner.specs.Journals.{StandsForJournal}
 use Rattle.cryptree_cli.proofs.run.run.Goals as goal
 
 pub returns-in-Err-clause-first_line : goal.returns-in-Err-clause-first_line

@@ -1,9 +1,9 @@
 use Rattle.std.specs.Prelude.{not, replicate}
 use Rattle.std.proofs.Common.{refl}
 use Rattle.folder_nodes.specs.Titles.{tree_store}
-use Rattle.store_owner.proofs.FewDraws.{few_draws}
+use Rattle.journal_bytes.proofs.FewDraws.{few_draws}
+use Rattle.journal_bytes.proofs.NextFits.{fits_or_full}
 use Rattle.store_owner.proofs.Measured.{draws_told, end_told, payload_told}
-use Rattle.store_owner.proofs.NextFits.{fits_or_full}
 use Rattle.store_owner.proofs.apply_laws.commands_are_measured.Goals as goal
 
 pub returns-clause-payload : goal.returns-clause-payload

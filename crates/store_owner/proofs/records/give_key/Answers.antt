@@ -1,4 +1,4 @@
-use Rattle.store_owner.proofs.GivenKeys.{one_more}
+use Rattle.journal_bytes.proofs.GivenKeys.{one_more}
 use Rattle.store_owner.proofs.records.give_key.Goals as goal
 
 pub returns-clause-keys : goal.returns-clause-keys

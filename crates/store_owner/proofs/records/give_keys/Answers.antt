@@ -1,5 +1,5 @@
 use Rattle.std.proofs.Common.{sym, ap, ◌∙◌, arith}
-use Rattle.store_owner.proofs.GivenKeys.{after_all, next_serial, not_the_owner, turn}
+use Rattle.journal_bytes.proofs.GivenKeys.{after_all, next_serial, not_the_owner, turn}
 use Rattle.store_owner.proofs.records.give_keys.Goals as goal
 
 pub give_key-requires-clause-no_owner : goal.give_key-requires-clause-no_owner

@@ -2,7 +2,7 @@ use Rattle.std.proofs.Common.{◌≡◌, ◌+◌, ◌≤◌, drop, length}
 use Rattle.chacha_seal.specs.Serials.{serial_of}
 use Rattle.cry_base.specs.declared.roles.Role.{Role}
 use Rattle.key_links.specs.Ringed.{key_of}
-use Rattle.store_owner.specs.Ringing.{key_after}
+use Rattle.journal_bytes.specs.Ringing.{key_after}
 use Rattle.store_owner.proofs.records.give_keys.Given as goal
 
 abbrev pub invariant-loop-i : goal.invariant-loop-i

@@ -1,5 +1,5 @@
 use Rattle.std.proofs.Common.{sym, ap, ◌∙◌, arith}
-use Rattle.store_owner.proofs.GivenKeys.{next_serial}
+use Rattle.journal_bytes.proofs.GivenKeys.{next_serial}
 use Rattle.store_owner.proofs.RingRecords.{link_turn, links_all, next_held}
 use Rattle.store_owner.proofs.records.put_links.Goals as goal
 

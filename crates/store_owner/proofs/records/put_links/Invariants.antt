@@ -1,7 +1,7 @@
 use Rattle.std.proofs.Common.{◌≡◌, ◌+◌, ◌≤◌, ◌++◌, All, drop, length}
 use Rattle.chacha_seal.specs.Serials.{serial_of}
 use Rattle.record_format.specs.Spellable.{IsLink}
-use Rattle.store_owner.specs.Ringing.{links_by}
+use Rattle.journal_bytes.specs.Ringing.{links_by}
 use Rattle.store_owner.proofs.records.put_links.Given as goal
 
 abbrev pub invariant-loop-head : goal.invariant-loop-head

@@ -1,7 +1,7 @@
 use Rattle.std.proofs.Common.{◌≤◌, ◌∷◌, [], length, map, ◌∙◌, sym, ap, subst, arith}
 use Rattle.record_format.specs.Plain.{plain_content}
 use Rattle.record_format.specs.Spellable.{longest_text, shortest_text}
-use Rattle.store_owner.specs.Ringing.{content_by}
+use Rattle.journal_bytes.specs.Ringing.{content_by}
 use Rattle.store_owner.proofs.RingRecords.{held, text_range}
 use Rattle.store_owner.proofs.records.put_text.Goals as goal
 

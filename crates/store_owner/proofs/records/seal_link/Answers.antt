@@ -1,5 +1,5 @@
 use Rattle.std.proofs.Common.{sym, subst}
-use Rattle.store_owner.specs.Ringing.{IsHeld}
+use Rattle.journal_bytes.specs.Ringing.{IsHeld}
 use Rattle.store_owner.proofs.RingRecords.{held, link_range}
 use Rattle.store_owner.proofs.records.seal_link.Goals as goal
 

@@ -1,7 +1,7 @@
 use Rattle.cry_base.specs.Requests.{request_of}
 use Rattle.folder_nodes.specs.Titles.{tree_store}
-use Rattle.store_owner.proofs.Refused.{refused_by_grants, refused_by_tree, told_form}
 use Rattle.std.proofs.Common.{◌∙◌}
+use Rattle.journal_bytes.proofs.Refused.{refused_by_grants, refused_by_tree, told_form}
 use Rattle.store_owner.proofs.refusing.refusal.Goals as goal
 
 pub refused_for_grants-requires : goal.refused_for_grants-requires

@@ -1,7 +1,7 @@
 use Rattle.std.proofs.Common.{◌∙◌, ap, subst}
 use Rattle.std.specs.Result.{IfOk}
+use Rattle.journal_bytes.specs.Texting.{name_at}
 use Rattle.store_owner.specs.Retitled.{IsWriting}
-use Rattle.store_owner.specs.Texting.{name_at}
 use Rattle.store_owner.proofs.retitling.with_bytes.Goals as goal
 
 pub returns : goal.returns

@@ -1,8 +1,8 @@
 use Rattle.std.proofs.Common.{◌∙◌, ◌+◌, [], ap, subst}
 use Rattle.std.specs.Result.{IfOk}
 use Rattle.cry_base.specs.declared.roles.Node.TheVariants.{Folder}
+use Rattle.journal_bytes.specs.Texting.{name_at}
 use Rattle.store_owner.specs.Retitled.{IsSetting}
-use Rattle.store_owner.specs.Texting.{name_at}
 use Rattle.store_owner.proofs.retitling.with_folder.Goals as goal
 
 pub returns : goal.returns

@@ -8,8 +8,8 @@ use Rattle.record_format.specs.Plain.{plain_content}
 use Rattle.role_graph.specs.Edges.{edges}
 use Rattle.public_fold.specs.Journal.{note_step}
 use Rattle.public_fold.specs.Records.{pieces_of}
-use Rattle.store_owner.specs.Ringing.{key_after}
-use Rattle.store_owner.proofs.StepSealed.{between_told, contents_count, contents_told, gets_key, holds_after, last_told, links_count, links_told, payload_is, payload_weighs, skeleton_weighs}
+use Rattle.journal_bytes.specs.Ringing.{key_after}
+use Rattle.journal_bytes.proofs.StepSealed.{between_told, contents_count, contents_told, gets_key, holds_after, last_told, links_count, links_told, payload_is, payload_weighs, skeleton_weighs}
 use Rattle.store_owner.proofs.step_records.seal_step.Goals as goal
 
 pub give_keys-requires-clause-no_owner : goal.give_keys-requires-clause-no_owner

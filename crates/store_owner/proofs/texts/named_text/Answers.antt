@@ -1,6 +1,6 @@
 use Rattle.std.proofs.Common.{◌∙◌, ap}
 use Rattle.std.proofs.lemmas.Result.{IfOk-weaker}
-use Rattle.store_owner.specs.Texting.{name_at}
+use Rattle.journal_bytes.specs.Texting.{name_at}
 use Rattle.store_owner.proofs.texts.named_text.Goals as goal
 
 pub returns : goal.returns

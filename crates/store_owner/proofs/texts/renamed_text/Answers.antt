@@ -1,6 +1,6 @@
 use Rattle.std.proofs.Common.{◌∙◌, ◌≤◌, length, inr, sym, ap, subst}
 use Rattle.std.proofs.lemmas.Result.{IfOk-weaker}
-use Rattle.store_owner.specs.Texting.{titled_text}
+use Rattle.journal_bytes.specs.Texting.{titled_text}
 use Rattle.store_owner.proofs.Forms.{short}
 use Rattle.store_owner.proofs.TextsTold.{retitled}
 use Rattle.store_owner.proofs.texts.renamed_text.Goals as goal

@@ -3,7 +3,7 @@ use Rattle.std.proofs.lemmas.Result.{IfOk-weaker}
 use Rattle.cry_base.specs.Refusing.{has_bad_name}
 use Rattle.cry_base.specs.Requests.{request_of}
 use Rattle.folder_nodes.specs.Titles.{tree_store}
-use Rattle.store_owner.specs.Texting.{due_text}
+use Rattle.journal_bytes.specs.Texting.{due_text}
 use Rattle.store_owner.proofs.Forms.{bytes_form, name_form}
 use Rattle.store_owner.proofs.texts.text_for.Goals as goal
 

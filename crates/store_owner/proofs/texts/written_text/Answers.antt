@@ -1,6 +1,6 @@
 use Rattle.std.proofs.Common.{◌∙◌, ◌≤◌, length, sym, ap, subst}
 use Rattle.std.proofs.lemmas.Result.{IfOk-weaker}
-use Rattle.store_owner.specs.Texting.{file_text, name_at}
+use Rattle.journal_bytes.specs.Texting.{file_text, name_at}
 use Rattle.store_owner.proofs.Forms.{last_named, short}
 use Rattle.store_owner.proofs.texts.written_text.Goals as goal
 

@@ -4,13 +4,13 @@ use Rattle.cry_base.specs.declared.memory.OutOfMemory.{OutOfMemory}
 use Rattle.record_format.specs.Told.{told_note}
 use Rattle.public_fold.specs.Journal.{store_of}
 use Rattle.public_fold.specs.declared.heads.Skeleton.{Skeleton}
+use Rattle.journal_bytes.specs.Folds.{public_stand}
+use Rattle.journal_bytes.specs.Texting.{due_key}
 use Rattle.store_owner.specs.Applying.{IsCarriedOut, IsCutShort, IsDone, IsInterrupted}
 use Rattle.store_owner.specs.Drawing.{joined}
-use Rattle.store_owner.specs.Folds.{public_stand}
 use Rattle.store_owner.specs.Owned.{OwnerView}
 use Rattle.store_owner.specs.Planning.{AnswersPlan, reply_for}
 use Rattle.store_owner.specs.Sound.{IsSound, own_store}
-use Rattle.store_owner.specs.Texting.{due_key}
 use Rattle.store_owner.specs.declared.apply_fault.ApplyFault.TheVariants as faults
 use Rattle.store_owner.specs.declared.owner.Verdict.{Verdict}
 use Rattle.store_owner.specs.declared.owner.Verdict.TheVariants as verdicts

@@ -8,14 +8,14 @@ use Rattle.record_format.specs.Plain.{plain_payload}
 use Rattle.record_format.specs.Sizes.{payload_size}
 use Rattle.public_fold.specs.Standing.{IsSeenAs, stand_of}
 use Rattle.public_fold.specs.declared.heads.Skeleton.{Skeleton}
+use Rattle.journal_bytes.specs.Owning.{IsTreeOf}
+use Rattle.journal_bytes.specs.Sealing.{CanSeal}
+use Rattle.journal_bytes.specs.Texting.{AreTitlesAfter}
 use Rattle.store_owner.specs.Applying.{IsCarriedOut, IsInterrupted}
 use Rattle.store_owner.specs.Owned.{OwnerView}
-use Rattle.store_owner.specs.Owning.{IsTreeOf}
 use Rattle.store_owner.specs.Planning.{HasBegun, IsDrafted, IsFurnished, planned_size}
 use Rattle.store_owner.specs.Retitled.{IsRetitlingOf}
-use Rattle.store_owner.specs.Sealing.{CanSeal}
 use Rattle.store_owner.specs.Sound.{own_store}
-use Rattle.store_owner.specs.Texting.{AreTitlesAfter}
 use Rattle.store_owner.specs.declared.retitling.Retitling.{Retitling}
 use Rattle.store_owner.proofs.CarriedOut.{batches_for, carried, ends_for, fits_for, sealed_for, size_for, skeleton_for, starts_for, text_for}
 use Rattle.store_owner.proofs.NotesKeyed.{adds_holder, holder_drawn}

@@ -5,11 +5,11 @@ use Rattle.cry_base.specs.Requests.{request_of}
 use Rattle.record_format.specs.Told.{told_note}
 use Rattle.public_fold.specs.Journal.{store_of}
 use Rattle.public_fold.specs.declared.heads.Skeleton.{Skeleton}
-use Rattle.store_owner.specs.Applying.{skeleton_size}
-use Rattle.store_owner.specs.Folds.{public_stand}
+use Rattle.journal_bytes.specs.Folds.{public_stand}
+use Rattle.journal_bytes.specs.Script.{due_end, due_payload}
+use Rattle.journal_bytes.specs.Sealing.{skeleton_size}
 use Rattle.store_owner.specs.Owned.{OwnerView}
 use Rattle.store_owner.specs.Planning.{planned_size}
-use Rattle.store_owner.specs.Script.{due_end, due_payload}
 use Rattle.store_owner.proofs.OtherRoom.{drafted_still}
 use Rattle.store_owner.proofs.Planned.{far_past, is_accepted, is_full, not_within, past_end, size_due, skeleton_due, within_end}
 use Rattle.store_owner.proofs.owner.Owner.plan.Goals as goal

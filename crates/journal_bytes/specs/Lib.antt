@@ -1,0 +1,15 @@
+pub mod Attempts
+pub mod Bytes
+pub mod Folds
+pub mod Journals
+pub mod Keys
+pub mod Notes
+pub mod Opening
+pub mod Owning
+pub mod Ringing
+pub mod Script
+pub mod Sealing
+pub mod Texting
+pub mod WorkedBytes
+pub mod WorkedFolds
+pub mod WorkedScripts

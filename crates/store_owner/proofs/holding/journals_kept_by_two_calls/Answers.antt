@@ -1,7 +1,0 @@
-use Rattle.commit_journal.proofs.KeptLemmas.{kept_then}
-use Rattle.store_owner.specs.Journals.{StandsForJournal}
-use Rattle.store_owner.proofs.holding.journals_kept_by_two_calls.Goals as goal
-
-pub returns : goal.returns
-returns g c owner low high reached a b further first start order goes lower second more kept next =
-    kept_then (StandsForJournal owner) low high reached a b further start first _ _ order goes lower second more kept next

@@ -1,5 +1,0 @@
-use Rattle.store_owner.proofs.Grown.{batches_grow, image_grows, next_body}
-use Rattle.store_owner.proofs.laws.batches_grow.Goals as goal
-
-pub returns : goal.returns
-returns c = record { batches = batches_grow; image = image_grows; next = next_body }

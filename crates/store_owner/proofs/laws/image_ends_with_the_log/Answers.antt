@@ -1,5 +1,0 @@
-use Rattle.store_owner.proofs.Weighed.{valid_weighs}
-use Rattle.store_owner.proofs.laws.image_ends_with_the_log.Goals as goal
-
-pub returns : goal.returns
-returns c = valid_weighs

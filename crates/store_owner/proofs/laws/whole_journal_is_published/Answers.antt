@@ -1,5 +1,0 @@
-use Rattle.store_owner.proofs.Grown.{whole_journal, honest_journal}
-use Rattle.store_owner.proofs.laws.whole_journal_is_published.Goals as goal
-
-pub returns : goal.returns
-returns c = record { published = whole_journal; honest = honest_journal }

@@ -1,5 +1,0 @@
-use Rattle.store_owner.proofs.LogsWalked.{journal_contents}
-use Rattle.store_owner.proofs.opening_laws.last_contents_are_present.Goals as goal
-
-pub returns : goal.returns
-returns c = journal_contents

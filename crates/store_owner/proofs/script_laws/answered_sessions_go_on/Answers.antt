@@ -1,5 +1,0 @@
-use Rattle.store_owner.proofs.Scripted.{answered}
-use Rattle.store_owner.proofs.script_laws.answered_sessions_go_on.Goals as goal
-
-pub returns : goal.returns
-returns c = answered

@@ -1,5 +1,0 @@
-use Rattle.store_owner.proofs.Ready.{next_holds}
-use Rattle.store_owner.proofs.sealing_laws.held_keys_stay_in_the_next_epoch.Goals as goal
-
-pub returns : goal.returns
-returns c = next_holds

@@ -1,5 +1,0 @@
-use Rattle.store_owner.proofs.ToldSkeleton.{told_skeleton}
-use Rattle.store_owner.proofs.sealing_laws.told_skeletons_are_those_of_commands.Goals as goal
-
-pub returns : goal.returns
-returns c = told_skeleton
