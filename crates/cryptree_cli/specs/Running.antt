@@ -17,7 +17,7 @@ use Rattle.store_owner.specs.Drawing.{AreKeys, joined}
 use Rattle.store_owner.specs.Applying.{journal_then}
 use Rattle.store_owner.specs.Journals.{ShowsJournal, StandsForJournal}
 use Rattle.store_owner.specs.Script.{Going, answer, draws_of, opened, script_going, script_replies}
-use Rattle.cryptree_cli.specs.CommandLines.{owner_key}
+use Rattle.cryptree_cli.specs.KeyLine.{owner_key}
 use Rattle.cryptree_cli.specs.Input.{input_limit}
 use Rattle.cryptree_cli.specs.Lines.{InputLine, lines_of}
 use Rattle.cryptree_cli.specs.Lines.InputLine.{Whole, TooLong}
