@@ -8,7 +8,7 @@ use Rattle.cry_base.specs.Requests.{Request}
 use Rattle.cry_base.specs.declared.commands.Reply.{Reply}
 use Rattle.cry_io.specs.Told.{WhereBothTold}
 use Rattle.cry_io.proofs.ToldLemmas.{told_again}
-use Rattle.cryptree_cli.specs.CommandLines.{asked_in}
+use Rattle.script_text.specs.Commands.{request_in}
 use Rattle.cryptree_cli.specs.Lines.{InputLine, LineState, lines_ahead}
 use Rattle.cryptree_cli.specs.Lines.InputLine.{Whole, TooLong}
 use Rattle.cryptree_cli.specs.Running.{AnswersLines, CountsOwner, HasBadLine, PrintsAnswers, RanLines, ended_status, open_status, script_status}
@@ -238,21 +238,21 @@ lines_as_typed status lines behind first later before after told same ran = reco
 
 -- ---- a bad line
 
-none_bad : (lines : List (List ℕ)) (asked : List Request) (front rest : List InputLine) → map asked_in lines ≡ map Some asked → map Whole lines ≡ front ++ rest → IsBadFirst rest → ⊥
+none_bad : (lines : List (List ℕ)) (asked : List Request) (front rest : List InputLine) → map request_in lines ≡ map Some asked → map Whole lines ≡ front ++ rest → IsBadFirst rest → ⊥
 none_bad [] asked [] [] are same bad = bad
 none_bad [] asked [] (line ∷ rest) are same bad = absurd cc
 none_bad (line ∷ lines) asked [] [] are same bad = bad
 none_bad (line ∷ lines) [] [] (Whole other ∷ rest) are same bad = absurd cc
 none_bad (line ∷ lines) (r ∷ asked) [] (Whole other ∷ rest) are same bad =
     let here : line ≡ other = cc in
-    let asks : asked_in line ≡ Some r = cc in
-    let both : None ≡ Some r = sym bad ∙ ap asked_in (sym here) ∙ asks in
+    let asks : request_in line ≡ Some r = cc in
+    let both : None ≡ Some r = sym bad ∙ ap request_in (sym here) ∙ asks in
     absurd cc
 none_bad (line ∷ lines) asked [] (TooLong ∷ rest) are same bad = absurd cc
 none_bad [] asked (one ∷ front) rest are same bad = absurd cc
 none_bad (line ∷ lines) [] (one ∷ front) rest are same bad = absurd cc
 none_bad (line ∷ lines) (r ∷ asked) (one ∷ front) rest are same bad =
-    let others : map asked_in lines ≡ map Some asked = cc in
+    let others : map request_in lines ≡ map Some asked = cc in
     let behind : map Whole lines ≡ front ++ rest = cc in
     none_bad lines asked front rest others behind bad
 

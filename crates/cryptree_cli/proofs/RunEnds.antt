@@ -12,7 +12,7 @@ use Rattle.cry_io.specs.Told.{WhereBothTold}
 use Rattle.journal_bytes.specs.Bytes.{batches_of}
 use Rattle.journal_bytes.specs.Journals.{StandsForJournal}
 use Rattle.journal_bytes.specs.Script.{Going, answer, journal_then, opened, script_replies}
-use Rattle.cryptree_cli.specs.CommandLines.{asked_in}
+use Rattle.script_text.specs.Commands.{request_in}
 use Rattle.cryptree_cli.specs.Lines.{InputLine, LineState, lines_ahead}
 use Rattle.cryptree_cli.specs.Lines.InputLine.{Whole}
 use Rattle.cryptree_cli.specs.OwnerSteps.{AnswersIn, FailsIn, Scene}
@@ -40,17 +40,17 @@ accepted_there limits key g x r stands e =
     subst (λ (l : Limits). answer l g.journal g.begun r ≡ None) stands.has_limits (subst (λ b. answer (limits_in x.owner) g.journal b r ≡ None) stands.has_begun e)
 
 -- without the last of what the lines ask for
-last_asked : (asked : List Request) (next : Request) (lines : List (List ℕ)) → map asked_in lines ≡ map Some (asked ++ next ∷ [])
-    → (front : List (List ℕ)) × (line : List ℕ) × (lines ≡ front ++ line ∷ []) × (map asked_in front ≡ map Some asked)
+last_asked : (asked : List Request) (next : Request) (lines : List (List ℕ)) → map request_in lines ≡ map Some (asked ++ next ∷ [])
+    → (front : List (List ℕ)) × (line : List ℕ) × (lines ≡ front ++ line ∷ []) × (map request_in front ≡ map Some asked)
 last_asked [] next [] e = absurd cc
 last_asked [] next (line ∷ []) e = ([], line, refl, refl)
 last_asked [] next (line ∷ more ∷ lines) e = absurd cc
 last_asked (r ∷ asked) next [] e = absurd cc
 last_asked (r ∷ asked) next (line ∷ lines) e =
-    let first : asked_in line ≡ Some r = cc in
-    let others : map asked_in lines ≡ map Some (asked ++ next ∷ []) = cc in
+    let first : request_in line ≡ Some r = cc in
+    let others : map request_in lines ≡ map Some (asked ++ next ∷ []) = cc in
     let rest = last_asked asked next lines others in
-    (line ∷ rest.0, rest.1, ap (λ ls. line ∷ ls) rest.2, ap (λ o. o ∷ map asked_in rest.0) first ∙ ap (λ os. Some r ∷ os) rest.3)
+    (line ∷ rest.0, rest.1, ap (λ ls. line ∷ ls) rest.2, ap (λ o. o ∷ map request_in rest.0) first ∙ ap (λ os. Some r ∷ os) rest.3)
 
 pub asks_fewer : (asked : List Request) (next : Request) (before after : List InputLine) → Asks (asked ++ next ∷ []) before after
     → (line : List ℕ) × Asks asked before (Whole line ∷ after)

@@ -9,7 +9,7 @@ use Rattle.cry_base.specs.Requests.{Request, request_of}
 use Rattle.cry_io.specs.Told.{WhereBothTold}
 use Rattle.cry_io.proofs.ToldLemmas.{told_again}
 use Rattle.script_text.specs.Printing.{spell_reply}
-use Rattle.cryptree_cli.specs.CommandLines.{asked_in}
+use Rattle.script_text.specs.Commands.{request_in}
 use Rattle.cryptree_cli.specs.Lines.{InputLine, LineState, lines_ahead}
 use Rattle.cryptree_cli.specs.Lines.InputLine.{Whole}
 use Rattle.cryptree_cli.specs.Script.{Answered, AnswersOne, Asks, CountsCommand, GivesCommand, IsReading, PrintsCut, Ran, spell_replies}
@@ -22,7 +22,7 @@ pub asks_none : (before : List InputLine) → Asks [] before before
 asks_none before = record { lines = []; before_is = refl; asked_are = refl }
 
 asks_more : (asked : List Request) (request : Request) (line : List ℕ) (before middle after : List InputLine) → Asks asked before middle
-    → middle ≡ Whole line ∷ after → asked_in line ≡ Some request → Asks (asked ++ request ∷ []) before after
+    → middle ≡ Whole line ∷ after → request_in line ≡ Some request → Asks (asked ++ request ∷ []) before after
 asks_more asked request line before middle after asks middle_is is = record {
   lines = asks.lines ++ line ∷ [];
   before_is =
@@ -30,7 +30,7 @@ asks_more asked request line before middle after asks middle_is is = record {
       ∙ sym (append_assoc (map Whole asks.lines) (Whole line ∷ []) after)
       ∙ ap (λ front. front ++ after) (sym (map-append Whole asks.lines (line ∷ [])));
   asked_are =
-      map-append asked_in asks.lines (line ∷ []) ∙ ap (λ o. map asked_in asks.lines ++ o ∷ []) is
+      map-append request_in asks.lines (line ∷ []) ∙ ap (λ o. map request_in asks.lines ++ o ∷ []) is
       ∙ ap (λ front. front ++ Some request ∷ []) asks.asked_are ∙ sym (map-append Some asked (request ∷ []));
 }
 

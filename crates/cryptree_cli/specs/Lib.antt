@@ -1,6 +1,6 @@
-pub mod CommandLines
 pub mod Heard
 pub mod Input
+pub mod KeyLine
 pub mod Lines
 pub mod Listing
 pub mod Outside

@@ -16,7 +16,7 @@ use Rattle.journal_bytes.specs.Bytes.{batches_of}
 use Rattle.journal_bytes.specs.Journals.{ShowsJournal, StandsForJournal}
 use Rattle.journal_bytes.specs.Script.{Going, answer, draws_of, journal_then, opened, script_going, script_replies}
 use Rattle.store_owner.specs.Drawing.{AreKeys, joined}
-use Rattle.cryptree_cli.specs.CommandLines.{owner_key}
+use Rattle.cryptree_cli.specs.KeyLine.{owner_key}
 use Rattle.cryptree_cli.specs.Input.{input_limit}
 use Rattle.cryptree_cli.specs.Lines.{InputLine, lines_of}
 use Rattle.cryptree_cli.specs.Lines.InputLine.{Whole, TooLong}

@@ -5,23 +5,23 @@ use Rattle.cry_base.specs.declared.commands.Command.{Command}
 use Rattle.cry_base.specs.declared.commands.Reply.{Reply}
 use Rattle.cry_base.specs.Requests.{Request, request_of}
 use Rattle.cry_io.specs.Told.{WhereBothTold}
-use Rattle.cryptree_cli.specs.CommandLines.{asked_in}
 use Rattle.cryptree_cli.specs.Lines.{InputLine, LineState, lines_ahead}
 use Rattle.cryptree_cli.specs.Lines.InputLine.{Whole, TooLong}
 use Rattle.cryptree_cli.specs.declared.script.ScriptFault.{ScriptFault}
 use Rattle.cryptree_cli.specs.declared.script.ScriptFault.TheVariants as script
+use Rattle.script_text.specs.Commands.{request_in}
 use Rattle.script_text.specs.Printing.{spell_reply}
 use Rattle.store_owner.specs.declared.apply_fault.ApplyFault.{ApplyFault}
 
 -- a line is bad that is no command's, or goes past the limit
 abbrev pub IsBadFirst : List InputLine → Type 0
 IsBadFirst [] = ⊥
-IsBadFirst (Whole line ∷ lines) = asked_in line ≡ None
+IsBadFirst (Whole line ∷ lines) = request_in line ≡ None
 IsBadFirst (TooLong ∷ lines) = Unit {0}
 
 -- the next line's command is given, or there is no line more; a bad line has the next number
 abbrev pub GivesCommand : Result (Option Command) ScriptFault → List InputLine → List InputLine → Type 0
-GivesCommand (Ok (Some command)) before after = (line : List ℕ) × (before ≡ Whole line ∷ after) × (asked_in line ≡ Some (request_of command))
+GivesCommand (Ok (Some command)) before after = (line : List ℕ) × (before ≡ Whole line ∷ after) × (request_in line ≡ Some (request_of command))
 GivesCommand (Ok None) before after = (before ≡ []) × (after ≡ [])
 GivesCommand (Err (script.BadLine line)) before after = IsBadFirst before
 GivesCommand (Err script.ReadFault) before after = after ≡ before
@@ -80,7 +80,7 @@ pub data Answered {X : Type 0} (Step : X → Request → Reply → X → Type 0)
 pub record Asks (asked : List Request) (before after : List InputLine) : Type 0 where
   pub lines : List (List ℕ)
   pub before_is : before ≡ map Whole lines ++ after
-  pub asked_are : map asked_in lines ≡ map Some asked
+  pub asked_are : map request_in lines ≡ map Some asked
 
 -- how the state came about: by what was asked and answered, and a fault's last command changed it as the fault says
 abbrev pub Stands : {X : Type 0} → (X → Request → Reply → X → Type 0) → (X → Request → ApplyFault → X → Type 0) →

@@ -1,9 +1,9 @@
 //! What the program does, over any source of input and of random bytes, any disk and any sink.
 #![tactic(auto)]
 
-mod command_lines;
 mod heard;
 mod input;
+mod key_line;
 pub mod laws;
 #[cfg(test)]
 mod line_tests;

@@ -1,11 +1,10 @@
 //! Lines that come in pieces, at the limit, and behind a fault.
 ghost use Rattle.std.specs.Prelude.{◌≡◌, ◌≤◌, IfOk, None};
 
-use crate::command_lines::{read_command, read_owner};
+use crate::key_line::read_owner;
 use crate::lines::{LineReader, Next, NextFault};
-use cry_base::{Command, List, Mem, Text};
+use cry_base::{List, Mem, Text};
 use cry_io::{Failed, MemSource, Source};
-use script_text::LineFault;
 use std::alloc::Global;
 use std::test::Fail;
 
@@ -181,8 +180,7 @@ fn a_line_past_the_limit_is_told_by_its_number(rt: HostRuntime) -> Result<(), Fa
 }
 
 #[test]
-fn the_lines_of_run_are_read(rt: HostRuntime) -> Result<(), Fail> {
-    let alloc = rt.alloc();
+fn only_an_owners_line_hands_in_a_key(rt: HostRuntime) -> Result<(), Fail> {
     let owner = b"owner 000102030405060708090a0b0c0d0e0f101112131415161718191A1B1C1D1E1F";
     let holder = b"holder 1 000102030405060708090a0b0c0d0e0f101112131415161718191a1b1c1d1e1f";
     let Some(key) = read_owner(owner) else {
@@ -190,31 +188,5 @@ fn the_lines_of_run_are_read(rt: HostRuntime) -> Result<(), Fail> {
     };
     assert_eq!(rt; key[31], 31);
     assert!(rt; read_owner(holder).is_none());
-    assert!(rt;
-        matches!(
-            read_command(alloc, b"mkdir /a"),
-            Ok(Command::MakeFolder { .. })
-        )
-    );
-    assert!(rt;
-        matches!(
-            read_command(alloc, b"write /a/x 00ff"),
-            Ok(Command::WriteFile { .. })
-        )
-    );
-    assert!(rt;
-        matches!(
-            read_command(alloc, b"rename /a b"),
-            Ok(Command::Rename { .. })
-        )
-    );
-    assert!(rt; matches!(read_command(alloc, b"rm /a"), Err(LineFault::BadLine)));
-    assert!(rt;
-        matches!(
-            read_command(alloc, b"mkdir /a\r\0 "),
-            Err(LineFault::BadLine)
-        )
-    );
-    assert!(rt; matches!(read_command(alloc, b""), Err(LineFault::BadLine)));
     Ok(())
 }

@@ -12,7 +12,7 @@ ghost use Rattle.cryptree_cli.specs.Running as running;
 ghost use Rattle.cryptree_cli.specs.Running.{CountsOwner, Ends, EndsTyped, FirstIsBad, GivesOwner, HasBadLine, Judges, JudgesTyped, RanDry, RanLines, is_after_opening, is_before_opening, is_run_answer, key_in_lines, lines_in, lines_typed, version_limits};
 ghost use Rattle.cryptree_cli.specs.Script.{IsReading, ReadsByCount};
 
-use crate::command_lines::read_owner;
+use crate::key_line::read_owner;
 use crate::lines::{LineReader, Next, NextFault};
 use crate::script::{ScriptFault, run_lines};
 use crate::status::Status;

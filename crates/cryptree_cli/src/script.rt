@@ -6,12 +6,11 @@ ghost use Rattle.cry_io.specs.Told.{WhereTold, WhereBothTold};
 ghost use Rattle.cryptree_cli.specs.Lines.{lines_ahead};
 ghost use Rattle.cryptree_cli.specs.Script.{GivesCommand, CountsCommand, ReadsByCount, AnswersOne, IsReading, Ran, StaysReady, WritesByCount};
 
-use crate::command_lines::read_command;
 use crate::lines::{LineReader, Next, NextFault};
 use crate::outside::print;
 use cry_base::{Command, List, Reply, Text};
 use cry_io::{Sink, Source};
-use script_text::{LineFault, print_reply};
+use script_text::{LineFault, print_reply, read_line};
 use std::alloc::Global;
 use store_owner::ApplyFault;
 
@@ -110,7 +109,7 @@ fn next_command<S: Source>(
         Err(NextFault::Failed) => return Err(ScriptFault::ReadFault),
         Err(NextFault::OutOfMemory) => return Err(ScriptFault::OutOfMemory),
     };
-    match read_command(alloc, bytes.as_slice()) {
+    match read_line(alloc, bytes.as_slice()) {
         Ok(command) => Ok(Some(command)),
         Err(LineFault::BadLine) => Err(ScriptFault::BadLine { line }),
         Err(LineFault::OutOfMemory) => Err(ScriptFault::OutOfMemory),

@@ -6,7 +6,8 @@ cryptree keeps shared folders in one store file, on a disk that nobody has to tr
 
   cryptree STORE RANDOM make   make a store in STORE, a missing or empty file, and print its owner's key
   cryptree STORE RANDOM run    apply the commands of standard input, one a line behind the owner's line, and answer each:
-                               mkdir PATH, write PATH HEX or rename PATH NAME
+                               holder, mkdir PATH, write PATH HEX, rm PATH, rename PATH NAME, move PATH FOLDER,
+                               grant N PATH or revoke N PATH
   cryptree STORE RANDOM list   print what a key opens; the key's line, as make prints it, is read from standard input
   cryptree --help              print this text
   cryptree --version           print the version

@@ -1,6 +1,6 @@
 use Rattle.std.proofs.Common.{◌≡◌, None, Some, refl, ap, subst, sym, ◌∙◌}
 use Rattle.script_text.specs.Reading.{bundle_of}
-use Rattle.cryptree_cli.specs.CommandLines.{owner_key}
+use Rattle.cryptree_cli.specs.KeyLine.{owner_key}
 use Rattle.cryptree_cli.specs.Lines.{Gives, lines_ahead}
 use Rattle.cryptree_cli.specs.Running.{key_in_lines, lines_behind}
 use Rattle.cryptree_cli.proofs.run.first_owner.Goals as goal

@@ -1,5 +1,5 @@
 use Rattle.std.proofs.Common.{◌≡◌, None, Err, ap, subst, sym, ◌∙◌}
-use Rattle.cryptree_cli.specs.CommandLines.{ReadsCommand, asked_in}
+use Rattle.script_text.specs.Commands.{Reads, request_in}
 use Rattle.cryptree_cli.specs.Lines.{Gives, lines_ahead}
 use Rattle.cryptree_cli.specs.Script.{IsBadFirst}
 use Rattle.cryptree_cli.proofs.script.next_command.Goals as goal
@@ -19,12 +19,12 @@ pub returns-in-Ok-clause-gives : goal.returns-in-Ok-clause-gives
 returns-in-Ok-clause-gives g c = λ x y was now.
     let given = subst (λ next. Gives next (lines_ahead c.args.reader.now x) (lines_ahead c.next_line.new.self y)) c.in-Ok-Line.field-0-is
     (c.in-Ok-Line.ensures.lines x y was now) in
-    (c.in-Ok-Line.bytes.items, given, ap asked_in (sym c.as_slice.ensures) ∙ c.in-Ok.ensures)
+    (c.in-Ok-Line.bytes.items, given, ap request_in (sym c.as_slice.ensures) ∙ c.in-Ok.ensures.reads)
 
 pub returns-in-Err-BadLine-clause-gives : goal.returns-in-Err-BadLine-clause-gives
 returns-in-Err-BadLine-clause-gives g c = λ x y was now.
     let given = subst (λ next. Gives next (lines_ahead c.args.reader.now x) (lines_ahead c.next_line.new.self y)) c.in-Ok-Line.field-0-is
     (c.in-Ok-Line.ensures.lines x y was now) in
-    let bad : asked_in c.as_slice.result.now ≡ None =
-    subst (λ fault. ReadsCommand (Err fault) c.as_slice.result.now) c.in-Err-BadLine.field-0-is c.in-Err-BadLine.ensures in
-    subst IsBadFirst (sym given) (ap asked_in (sym c.as_slice.ensures) ∙ bad)
+    let bad : request_in c.as_slice.result.now ≡ None =
+    subst (λ fault. Reads (Err fault) (request_in c.as_slice.result.now)) c.in-Err-BadLine.field-0-is c.in-Err-BadLine.ensures.reads in
+    subst IsBadFirst (sym given) (ap request_in (sym c.as_slice.ensures) ∙ bad)

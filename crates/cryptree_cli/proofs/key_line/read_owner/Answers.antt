@@ -1,5 +1,5 @@
 use Rattle.cry_base.specs.declared.client.Bundle.TheVariants.{Owner}
-use Rattle.cryptree_cli.proofs.command_lines.read_owner.Goals as goal
+use Rattle.cryptree_cli.proofs.key_line.read_owner.Goals as goal
 
 pub returns-in_default-2-clause-none : goal.returns-in_default-2-clause-none
 returns-in_default-2-clause-none c = λ _ key is.
