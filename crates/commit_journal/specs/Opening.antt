@@ -86,6 +86,11 @@ LeavesSlots owner (p ∷ ps) old new =
     LeavesSlot (p.place - 32) (veil_of owner p.epoch.0 p.batch) old new
     ⊎ LeavesSlots owner ps (written_at (p.place - 32) (veil_of owner p.epoch.0 p.batch) old) new
 
+-- what opening leaves of an image where the disk failed: all of it; or, where every test of its log passes, some slots of that log
+-- with their veil keys, and the next one with any bytes
+abbrev pub LeavesGated : ℕ → List ℕ → List ℕ → List ℕ → Type 0
+LeavesGated limit owner old new = (new ≡ old) ⊎ ((log : OwnedLog) × (opening_verdict limit owner old ≡ Ok log) × LeavesSlots owner log.placed old new)
+
 -- a log that was walked, and a journal that was opened on it, without the room that they have
 abbrev pub plain_walked : Walked → OwnedLog
 plain_walked w = record { placed = plain_log w.placed; batches = w.past.number; epoch = w.past.epoch.0; end = w.past.at; tag = w.past.tag }

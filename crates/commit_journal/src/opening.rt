@@ -10,7 +10,7 @@ ghost use Rattle.commit_journal.specs.Logs.{AreInEpochs, epoch_behind};
 ghost use Rattle.commit_journal.specs.Opening as opening;
 ghost use Rattle.commit_journal.specs.Placed.{plain_log, plain_placed};
 ghost use Rattle.commit_journal.specs.Places.{IsStanding};
-ghost use Rattle.commit_journal.specs.Reading.{IsOnlyRead};
+ghost use Rattle.commit_journal.specs.Reading.{IsOnlyRead, IsUntouched};
 ghost use Rattle.commit_journal.specs.Turns.{plain_turn};
 ghost use Rattle.commit_journal.specs.WholeLogs.{StillStand};
 
@@ -130,7 +130,7 @@ fn fill_slot<D: Disk>(disk: &mut D, owner: &Key<OwnerK>, placed: &Placed) -> Res
         (opening.LeavesSlot (placed.now.place - 32) (veil_of owner.now.bytes placed.now.epoch.0 placed.now.batch))) }
     ensures durable { IsDurable (D.may_leave disk.old) (D.shown disk.old) → OnOk result (IsDurable (D.may_leave disk.new) (D.shown disk.new)) }
     ensures told { is_some (D.shown disk.new) ≡ is_some (D.shown disk.old) }
-    ensures size { OnOk result (D.size_of disk.new ≡ D.size_of disk.old) }
+    ensures size { D.size_of disk.new ≡ D.size_of disk.old }
     ensures counts { CountsFault result (D.faults disk.old) (D.faults disk.new) }
 {
     let _size = disk.size();
@@ -152,7 +152,7 @@ fn fill_slots<D: Disk>(disk: &mut D, owner: &Key<OwnerK>, log: &[Placed]) -> Res
     ensures left { OnErr result (WhereBothTold (D.shown disk.old) (D.shown disk.new) (opening.LeavesSlots owner.now.bytes (map plain_placed log.now))) }
     ensures durable { IsDurable (D.may_leave disk.old) (D.shown disk.old) → OnOk result (IsDurable (D.may_leave disk.new) (D.shown disk.new)) }
     ensures told { is_some (D.shown disk.new) ≡ is_some (D.shown disk.old) }
-    ensures size { OnOk result (D.size_of disk.new ≡ D.size_of disk.old) }
+    ensures size { D.size_of disk.new ≡ D.size_of disk.old }
     ensures counts { CountsFault result (D.faults disk.old) (D.faults disk.new) }
 {
     for placed in log {
@@ -168,8 +168,9 @@ impl Journal {
     /// `NotAStore` and `WrongKey` come of the header. `Damaged` comes behind an open gate where no batch stands that ends
     /// within the store limit, with the place of its first byte, and for a payload that has no form, with the place of its
     /// first bad field. `Tampered` comes for a wrong owner tag, with its place. The first of these ends the call, before a
-    /// slot is written. `DiskFault` comes only where the disk's faults rose in this call. After any fault bytes that stood for
-    /// batches stand for them still.
+    /// slot is written, and leaves the disk as it was but for the sync. `DiskFault` comes only where the disk's faults rose in
+    /// this call, and then slots alone may have been written, of a log that passes every test. After any fault bytes that stood
+    /// for batches stand for them still.
     pub fn open_owner<D: Disk>(
         alloc: Global,
         disk: &mut D,
@@ -189,8 +190,9 @@ impl Journal {
         ensures durable { OnOk result (IsDurable (D.may_leave disk.new) (D.shown disk.new)) }
         ensures inside { IfOk result (λ o. o.journal.end ≤ D.size_of disk.new) }
         ensures told { is_some (D.shown disk.new) ≡ is_some (D.shown disk.old) }
-        ensures size { OnOk result (D.size_of disk.new ≡ D.size_of disk.old) }
-        ensures unwritten { IfErr result (λ fault. (fault ≡ OpenFault.DiskFault) ⊎ (D.shown disk.new ≡ D.shown disk.old)) }
+        ensures size { D.size_of disk.new ≡ D.size_of disk.old }
+        ensures refused { IfErr result (λ fault. (fault ≡ OpenFault.DiskFault) ⊎ IsUntouched D.shown D.size_of D.may_leave disk.old disk.new) }
+        ensures interrupted { OnErr result (WhereBothTold (D.shown disk.old) (D.shown disk.new) (opening.LeavesGated limits.store_bytes owner.now.bytes)) }
         ensures left { OnErr result (WhereBothTold (D.shown disk.old) (D.shown disk.new) (StillStand limits.store_bytes owner.now.bytes)) }
         ensures counts { D.faults disk.old ≤ D.faults disk.new }
         ensures disk_fault { result ≡ Err OpenFault.DiskFault → D.faults disk.old < D.faults disk.new }

@@ -22,6 +22,7 @@ pub(crate) fn write_and_sync<D: Disk>(disk: &mut D, place: u64, bytes: &[u8]) ->
     ensures durable { OnOk result (IsDurable (D.may_leave disk.new) (D.shown disk.new)) }
     ensures size { OnOk result (D.size_of disk.new ≡ max (D.size_of disk.old) (place + length bytes.now)) }
     ensures no_shorter { D.size_of disk.old ≤ D.size_of disk.new }
+    ensures no_longer { D.size_of disk.new ≤ max (D.size_of disk.old) (place + length bytes.now) }
     ensures counts { CountsFault result (D.faults disk.old) (D.faults disk.new) }
 {
     disk.write_at(place, bytes)?;
