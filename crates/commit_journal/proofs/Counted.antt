@@ -1,5 +1,5 @@
 -- A turn of the code's own walk is in its epoch, and so is what it has read so far.
-use Rattle.std.proofs.Common.{◌≡◌, ℕ, ◌+◌, ◌≤◌, Bool, true, false, cond, eqb, eq-eqb, List, [], ◌∷◌, ◌++◌, length, map, refl, sym, subst, ◌∙◌, arith, append_assoc, length-append}
+use Rattle.std.proofs.Common.{◌≡◌, ℕ, ◌+◌, ◌≤◌, Bool, true, false, cond, eqb, eq-eqb, List, [], ◌∷◌, ◌++◌, length, map, refl, sym, subst, ◌∙◌, arith, append_assoc, length-append, Option, None, Some}
 use Rattle.std.specs.Prelude.{nat_le, ◌&&◌}
 use Rattle.std.proofs.lemmas.Bool.{eqb-true, and_parts}
 use Rattle.std.proofs.lemmas.Bool.Decides.{nat_tests}
@@ -12,7 +12,7 @@ use Rattle.commit_journal.specs.declared.placed.Body.{Body}
 use Rattle.commit_journal.specs.declared.placed.Body.TheVariants as bodies
 use Rattle.commit_journal.specs.Log.{PlainTurn, fits_epoch}
 use Rattle.commit_journal.specs.Logs.{IsInEpoch, AreInEpochs, epoch_behind}
-use Rattle.commit_journal.specs.Opening.{HasType, IsTurnIn, IsTurnOf}
+use Rattle.commit_journal.specs.Opening.{GoesOnIn, HasType, IsNextOf, IsTurnIn, IsTurnOf}
 use Rattle.commit_journal.specs.Placed.{PlainPlaced, plain_body, plain_placed}
 use Rattle.commit_journal.specs.Turns.{plain_turn}
 
@@ -44,6 +44,10 @@ turn_counts past head turn fits is =
     fits_in (eqb head.type_byte 2) past.epoch.0 head.epoch.0 head.size head.type_byte turn.placed.body refl fits is.type_of
     in
     (subst (λ epoch. IsInEpoch past.epoch.0 epoch (plain_body turn.placed.body)) (sym is.same_epoch) inside, is.epoch ∙ sym is.same_epoch)
+
+pub next_counts : (past : Past) (head : Head) (next : Option Turn) → fits_epoch past head ≡ true → IsNextOf past head next → GoesOnIn past next
+next_counts past head None fits is = tt
+next_counts past head (Some turn) fits is = turn_counts past head turn fits is
 
 -- ---- the walk
 

@@ -1,6 +1,6 @@
 -- What the owner's key reads of a store that is opened for writing, and the slots that are then filled. This project's own,
 -- docs/FORMAT.md, "Opening for writing".
-use Rattle.std.specs.Prelude.{◌≡◌, ◌≢◌, ◌⊎◌, ◌≤◌, ℕ, zero, suc, ◌+◌, ◌-◌, ◌*◌, true, false, ◌==◌, nat_le, if◌then◌else◌, List, [], ◌∷◌, ◌++◌, length, take, drop, slice_range, Result, Ok, Err}
+use Rattle.std.specs.Prelude.{◌≡◌, ◌≢◌, ◌⊎◌, ◌≤◌, ℕ, zero, suc, ◌+◌, ◌-◌, ◌*◌, true, false, ◌==◌, nat_le, if◌then◌else◌, List, [], ◌∷◌, ◌++◌, length, take, drop, slice_range, Option, None, Some, Result, Ok, Err}
 use Rattle.std.specs.Str.{bytes_eq}
 use Rattle.chacha_seal.specs.Sealing.{veil_of, masked}
 use Rattle.commit_journal.specs.declared.head.Head.{Head}
@@ -15,6 +15,7 @@ use Rattle.commit_journal.specs.Log.{PlainTurn, fits_epoch, tag_due, tag_in, pay
 use Rattle.commit_journal.specs.Journals.{JournalState}
 use Rattle.commit_journal.specs.Logs.{IsInEpoch}
 use Rattle.commit_journal.specs.Placed.{PlainPlaced, plain_log}
+use Rattle.commit_journal.specs.Turns.{plain_turn}
 
 -- the head of the batch behind an open gate, which ends within the store limit
 unfoldable pub owned_head : ℕ → Past → List ℕ → Result Head Fault
@@ -162,3 +163,12 @@ pub record IsNextTurn (past : Past) (size : ℕ) (turn : Turn) : Type 0 where
 -- the turn's batch stands in its epoch, and what follows counts on from there
 abbrev pub IsTurnIn : Past → PlainTurn → Type 0
 IsTurnIn past turn = IsInEpoch past.epoch.0 turn.placed.epoch.0 turn.placed.body × (turn.past.epoch.0 ≡ turn.placed.epoch.0)
+
+-- the same of a turn, where the log goes on
+abbrev pub IsNextOf : Past → Head → Option Turn → Type 0
+IsNextOf past head None = Unit {0}
+IsNextOf past head (Some turn) = IsTurnOf past head turn
+
+abbrev pub GoesOnIn : Past → Option Turn → Type 0
+GoesOnIn past None = Unit {0}
+GoesOnIn past (Some turn) = IsTurnIn past (plain_turn turn)

@@ -105,6 +105,7 @@ fn judge_published(
     requires fits { past.now.at + (110 + head.now.size) ≤ 268435456 }
     ensures answer { Answers plain_option result (log.published_turn past.now head.now batch.old) }
     ensures next { IfOk result (GoesOnAt (past.now.at + (110 + head.now.size))) }
+    ensures turn { IfOk result (opening.IsNextOf past.now head.now) }
     ensures stands { IfOk result TurnStands }
     ensures no_disk { result ≢ Err OpenFault.DiskFault }
 {
@@ -172,6 +173,7 @@ pub(crate) fn judge(
     requires fits { past.now.at + (110 + head.now.size) ≤ 268435456 }
     ensures answer { Answers plain_option result (log.tagged_turn owner.now.bytes past.now head.now batch.old) }
     ensures next { IfOk result (GoesOnAt (past.now.at + (110 + head.now.size))) }
+    ensures turn { IfOk result (opening.IsNextOf past.now head.now) }
     ensures stands { IfOk result TurnStands }
     ensures no_disk { result ≢ Err OpenFault.DiskFault }
 {

@@ -3,7 +3,7 @@ ghost use Rattle.std.specs.Prelude.{◌≡◌, ◌≢◌, ◌<◌, ◌≤◌, �
 ghost use Rattle.cry_io.specs.Told.{WhereTold};
 ghost use Rattle.commit_journal.specs.Answering.{Answers};
 ghost use Rattle.commit_journal.specs.Log as log;
-ghost use Rattle.commit_journal.specs.Logs.{is_last_known as is_last, known_turn, known_log};
+ghost use Rattle.commit_journal.specs.Logs.{AreInEpochs, is_last_known as is_last, known_turn, known_log};
 ghost use Rattle.commit_journal.specs.Opening as opening;
 ghost use Rattle.commit_journal.specs.Placed.{plain_log};
 ghost use Rattle.commit_journal.specs.Places.{IsStanding, TurnStands};
@@ -111,6 +111,7 @@ fn read_turn<D: Disk>(
     ensures answer { WhereTold (D.shown disk.old)
         (λ s. Answers plain_option result (log.turn_at owner.now.bytes past.now (drop past.now.at s))) }
     ensures next { IfOk result (GoesOnWithin past.now.at (D.size_of disk.old)) }
+    ensures in_epoch { IfOk result (opening.GoesOnIn past.now) }
     ensures stands { IfOk result TurnStands }
     ensures read_only { IsOnlyRead D.shown D.size_of D.may_leave disk.old disk.new }
     ensures counts { D.faults disk.old ≤ D.faults disk.new }
@@ -137,6 +138,7 @@ fn read_known_turn<D: Disk>(
     ensures answer { WhereTold (D.shown disk.old)
         (λ s. Answers plain_option result (known_turn most owner.now.bytes past.now (drop past.now.at s))) }
     ensures next { IfOk result (GoesOnWithin past.now.at (D.size_of disk.old)) }
+    ensures in_epoch { IfOk result (opening.GoesOnIn past.now) }
     ensures stands { IfOk result TurnStands }
     ensures read_only { IsOnlyRead D.shown D.size_of D.may_leave disk.old disk.new }
     ensures counts { D.faults disk.old ≤ D.faults disk.new }
@@ -166,6 +168,7 @@ fn read_known<D: Disk>(
 ) -> Result<List<Placed>, OpenFault>
     ensures verdict { WhereTold (D.shown disk.old) (λ s. Answers plain_log result (known_log most owner.now.bytes s)) }
     ensures stands { IfOk result (λ log. All IsStanding log.items) }
+    ensures epochs { IfOk result (λ log. AreInEpochs 0 (plain_log log)) }
     ensures read_only { IsOnlyRead D.shown D.size_of D.may_leave disk.old disk.new }
     ensures counts { D.faults disk.old ≤ D.faults disk.new }
     ensures disk_fault { result ≡ Err OpenFault.DiskFault → D.faults disk.old < D.faults disk.new }
@@ -198,6 +201,7 @@ pub fn read_owner<D: Disk>(
     ensures verdict { WhereTold (D.shown disk.old)
         (λ s. Answers plain_log result (log.log_verdict owner.now.bytes s)) }
     ensures stands { IfOk result (λ log. All IsStanding log.items) }
+    ensures epochs { IfOk result (λ log. AreInEpochs 0 (plain_log log)) }
     ensures read_only { IsOnlyRead D.shown D.size_of D.may_leave disk.old disk.new }
     ensures counts { D.faults disk.old ≤ D.faults disk.new }
     ensures disk_fault { result ≡ Err OpenFault.DiskFault → D.faults disk.old < D.faults disk.new }
@@ -215,6 +219,7 @@ pub fn read_owner_up_to<D: Disk>(
 ) -> Result<List<Placed>, OpenFault>
     ensures verdict { WhereTold (D.shown disk.old) (λ s. Answers plain_log result (known_log (Some most) owner.now.bytes s)) }
     ensures stands { IfOk result (λ log. All IsStanding log.items) }
+    ensures epochs { IfOk result (λ log. AreInEpochs 0 (plain_log log)) }
     ensures read_only { IsOnlyRead D.shown D.size_of D.may_leave disk.old disk.new }
     ensures counts { D.faults disk.old ≤ D.faults disk.new }
     ensures disk_fault { result ≡ Err OpenFault.DiskFault → D.faults disk.old < D.faults disk.new }

@@ -5,9 +5,11 @@ use Rattle.std.proofs.lemmas.List.Elements.{All-nil, All-cons, All-append}
 use Rattle.std.proofs.lemmas.Result.{err_from_is_err_and}
 use Rattle.commit_journal.specs.Log.{start_at, before}
 use Rattle.commit_journal.specs.Logs.{walk_at, known_turn, known_log}
+use Rattle.commit_journal.specs.Opening.{GoesOnIn, IsTurnIn}
 use Rattle.commit_journal.specs.Placed.{plain_placed}
 use Rattle.commit_journal.specs.Places.{IsStanding, TurnStands}
 use Rattle.commit_journal.specs.Turns.{plain_option, plain_turn, GoesOnWithin}
+use Rattle.commit_journal.proofs.Counted.{counts_all, counts_more, counts_start}
 use Rattle.commit_journal.proofs.Judged.{fault_first}
 use Rattle.commit_journal.proofs.Turned.{turns_end, turns_fail, so_far_starts, so_far_more}
 use Rattle.commit_journal.proofs.Walked.{before-fault, before-end, only_read_twice}
@@ -28,6 +30,7 @@ loop-past-init g c = record {
   small = omega (arith, c.in_ok-past.ensures.place);
   inside = omega (arith, c.in_ok-past.ensures.place, c.in_ok-past.ensures.inside, c.in_ok-past.ensures.read_only.same_size);
   read_only = c.in_ok-past.ensures.read_only;
+  counted = rw c.new-log.ensures (counts_start c.in_ok-past.past c.in_ok-past.ensures.fresh.1);
   counts = c.in_ok-past.ensures.counts;
   so_far = λ s is. rw c.new-log.ensures (so_far_starts c.args.most c.args.owner.now.bytes s c.in_ok-past.past (c.in_ok-past.ensures.answer s is) c.in_ok-past.ensures.place);
 }
@@ -69,6 +72,7 @@ loop-past-preserved g c =
     rw c.in_ok-push.ensures.items (map_push plain_placed c.loop-past.log.items turn.placed)
     in
     let standing : IsStanding turn.placed = subst TurnStands c.in-Some.is c.in_ok-turn.ensures.stands in
+    let in_epoch : IsTurnIn past (plain_turn turn) = subst (GoesOnIn past) c.in-Some.is c.in_ok-turn.ensures.in_epoch in
     let gate = eq-eqb past.gate 1 c.loop-past-test.true in
     record {
       behind = omega (arith, next.0, c.loop-past.invariant.behind);
@@ -76,6 +80,7 @@ loop-past-preserved g c =
       small = next.2;
       inside = omega (arith, next.1, read.same_size);
       read_only = only_read_twice g.D.Disk.shown g.D.Disk.size_of g.D.Disk.may_leave c.args.disk.now c.loop-past.disk c.read_known_turn.new.disk c.loop-past.invariant.read_only read;
+      counted = rw pushed (counts_more front past (plain_turn turn) in_epoch c.loop-past.invariant.counted);
       counts = omega (arith, c.loop-past.invariant.counts, c.in_ok-turn.ensures.counts);
       so_far = λ s is.
           let judged : known_turn c.args.most owner past (drop past.at s) ≡ Ok (Some (plain_turn turn)) =
@@ -92,3 +97,9 @@ returns-clause-verdict g c = λ s is.
     let shut = c.loop-past-test.false in
     let gate : eqb past.gate 1 ≡ false = grind (arith, nat_tests) in
     c.loop-past.invariant.so_far s is ∙ ap (before front) (walk_shut (known_turn c.args.most owner) past (drop past.at s) gate) ∙ before-end front
+
+pub returns-clause-epochs : goal.returns-clause-epochs
+returns-clause-epochs g c = counts_all (map plain_placed c.loop-past.log.items) c.loop-past.past c.loop-past.invariant.counted
+
+pub returns-in_default-clause-epochs : goal.returns-in_default-clause-epochs
+returns-in_default-clause-epochs g c = counts_all (map plain_placed c.loop-past.log.items) c.loop-past.past c.loop-past.invariant.counted

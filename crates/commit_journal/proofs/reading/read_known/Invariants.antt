@@ -3,6 +3,7 @@ use Rattle.std.proofs.Common.{◌≡◌, ◌≤◌, ◌-◌, ℕ, List, Some, ma
 use Rattle.commit_journal.specs.Placed.{plain_placed}
 use Rattle.commit_journal.specs.Places.{IsStanding}
 use Rattle.commit_journal.specs.Reading.{IsOnlyRead}
+use Rattle.commit_journal.proofs.Counted.{CountsOn}
 use Rattle.commit_journal.proofs.Turned.{IsSoFar}
 use Rattle.commit_journal.proofs.reading.read_known.Given as goal
 
@@ -13,6 +14,7 @@ invariant-loop-past g l = record {
   inside : l.past.at ≤ g.D.Disk.size_of l.disk;
   stands : All IsStanding l.log.items;
   read_only : IsOnlyRead g.D.Disk.shown g.D.Disk.size_of g.D.Disk.may_leave l.fn.disk l.disk;
+  counted : CountsOn (map plain_placed l.log.items) l.past;
   counts : g.D.Disk.faults l.fn.disk ≤ g.D.Disk.faults l.disk;
   so_far : (s : List ℕ) → g.D.Disk.shown l.fn.disk ≡ Some s → IsSoFar l.most l.owner.bytes s (map plain_placed l.log.items) l.past;
 }

@@ -1,7 +1,8 @@
 use Rattle.std.proofs.Common.{◌≡◌, ◌+◌, length, drop, ◌∙◌, ap, take, arith}
 use Rattle.std.specs.Prelude.{slice_range}
-use Rattle.std.proofs.lemmas.Result.{err_from_is_err_and}
+use Rattle.std.proofs.lemmas.Result.{IfOk-weaker, err_from_is_err_and}
 use Rattle.commit_journal.specs.Log.{turn_at, head_at, tagged_turn}
+use Rattle.commit_journal.proofs.Counted.{next_counts}
 use Rattle.commit_journal.proofs.Judged.{fault_first, turn_is, filled}
 use Rattle.commit_journal.proofs.reading.read_turn.Goals as goal
 
@@ -29,3 +30,7 @@ returns-clause-answer g c = λ s is.
     in
     rw (turn_is c.args.owner.now.bytes past (drop past.at s) head c.deref_mut-2.result.now (c.in_ok-head.ensures.answer s is) whole)
     c.judge.ensures.answer
+
+pub returns-clause-in_epoch : goal.returns-clause-in_epoch
+returns-clause-in_epoch g c =
+    IfOk-weaker c.judge.result _ _ (λ next is. next_counts c.args.past.now c.in_ok-head.head next c.in_ok-head.ensures.next.2 is) c.judge.ensures.turn
