@@ -1,9 +1,11 @@
 -- A journal with one batch more, and why it takes none.
 use Rattle.std.proofs.Common.{◌≡◌, ◌≢◌, ℕ, zero, suc, ◌+◌, ◌-◌, ◌≤◌, ◌<◌, ◌^◌, Bool, true, false, cond, ltb, List, [], ◌∷◌, ◌++◌, length, drop, Option, None, Some, append_assoc, arith, refl, sym, ap, ◌∙◌, subst, length-append}
 use Rattle.std.specs.Prelude.{codes}
+use Rattle.std.proofs.Math.Seq.{drop-append-add, drop-append_seam}
 use Rattle.std.proofs.lemmas.List.{append-nil}
 use Rattle.std.proofs.lemmas.List.Sums.{sum_by-append, sum_by-cons}
 use Rattle.chacha_seal.specs.Sealing.{check_of}
+use Rattle.chacha_seal.proofs.SealingLemmas.{length-veil_of}
 use Rattle.cry_io.specs.Told.{WhereBothTold}
 use Rattle.record_format.specs.Plain.{PlainPayload}
 use Rattle.record_format.specs.Sizes.{payload_size}
@@ -16,7 +18,7 @@ use Rattle.commit_journal.specs.Image.{Batch, batch_veil, empty_slot, owner_tag,
 use Rattle.commit_journal.specs.Journals.{JournalState, IsBehind, IsJournalOf, Joins, last_epoch, refusal}
 use Rattle.commit_journal.specs.Standing.{StandsWhole, tag_behind, last_tag}
 use Rattle.commit_journal.proofs.BatchLemmas.{with_slot-spelled, length-empty_slot}
-use Rattle.commit_journal.proofs.Standings.{image-append, length-image, unveiled}
+use Rattle.commit_journal.proofs.Standings.{image-append, length-batch, length-image, unveiled}
 use borrow.Author.Tests.{ltb-false}
 
 -- a payload with a spelling is small
@@ -107,6 +109,36 @@ ended_more owner batch veil x y bs b end was at batch_is veil_is commits =
     ∙ sym (append_assoc front (1 ∷ (bytes ++ [])) (0 ∷ []))
     ∙ ap (λ r. r ++ 0 ∷ []) (sym (image-append owner bs (b ∷ [])))
 
+-- what stood behind its end stays
+behind_more : (owner batch veil x y : List ℕ) (bs : List Batch) (b : Batch) (end : ℕ) → StandsWhole owner bs x → end ≡ length (image owner bs) + 1 →
+    batch ≡ spell_batch owner (last_tag owner bs) empty_slot b ++ 0 ∷ [] → veil ≡ batch_veil owner b → Commits end batch veil x y →
+    drop (end + (110 + length b.payload)) y ≡ drop (end + (110 + length b.payload)) x
+behind_more owner batch veil x y bs b end whole at batch_is veil_is commits =
+    let front = image owner bs in
+    let bytes = spell_batch owner (last_tag owner bs) (batch_veil owner b) b in
+    let rest = drop (length batch) whole.behind in
+    let n = 110 + length b.payload in
+    let old = front ++ whole.gate ∷ [] in
+    let new = front ++ (1 ∷ (bytes ++ 0 ∷ [])) in
+    let long = length-batch owner (last_tag owner bs) (batch_veil owner b) b (length-veil_of owner b.epoch b.number) in
+    let empty_long = length-batch owner (last_tag owner bs) empty_slot b length-empty_slot in
+    let size : length batch ≡ n = ap length batch_is ∙ (let both = length-append (spell_batch owner (last_tag owner bs) empty_slot b) (0 ∷ []) in omega (arith, both, empty_long)) in
+    let old_size : length old ≡ end = omega (arith, at, length-append front (whole.gate ∷ [])) in
+    let new_size : length new ≡ end + n = omega (arith, at, long, length-append front (1 ∷ (bytes ++ 0 ∷ [])), length-append bytes (0 ∷ [])) in
+    let x_is : x ≡ old ++ whole.behind = whole.bytes_are ∙ sym (append_assoc front (whole.gate ∷ []) whole.behind) in
+    let y_is : y ≡ new ++ rest =
+    more_is owner batch veil x y bs b end whole.gate whole.behind whole.bytes_are at batch_is veil_is commits
+    ∙ ap (λ w. front ++ (1 ∷ w)) (sym (append_assoc bytes (0 ∷ []) rest))
+    ∙ sym (append_assoc front (1 ∷ (bytes ++ 0 ∷ [])) rest)
+    in
+    ap (λ k. drop k y) (sym new_size)
+    ∙ ap (λ w. drop (length new) w) y_is
+    ∙ drop-append_seam new rest
+    ∙ ap (λ k. drop k whole.behind) size
+    ∙ sym (drop-append-add old whole.behind n)
+    ∙ ap (λ k. drop (k + n) (old ++ whole.behind)) old_size
+    ∙ ap (λ w. drop (end + n) w) (sym x_is)
+
 pub joins : (old new : JournalState) (b : Batch) (batch veil : List ℕ) (was shows : Option (List ℕ)) → IsBehind b old new → b.number ≡ old.batches + 1 →
     batch ≡ spell_batch old.owner old.tag empty_slot b ++ 0 ∷ [] → veil ≡ batch_veil old.owner b → WhereBothTold was shows (Commits old.end batch veil) →
     Joins b old new was shows
@@ -118,6 +150,11 @@ joins old new b batch veil was shows behind number batch_is veil_is committed = 
   ended = λ bs of x y x_is y_is whole.
       ended_more old.owner batch veil x y bs b old.end whole of.end
       (batch_is ∙ ap (λ t. spell_batch old.owner t empty_slot b ++ 0 ∷ []) of.tag) veil_is (committed x y x_is y_is);
+  behind = λ bs of x y x_is y_is whole.
+      ap (λ k. drop k y) behind.end
+      ∙ behind_more old.owner batch veil x y bs b old.end whole of.end
+      (batch_is ∙ ap (λ t. spell_batch old.owner t empty_slot b ++ 0 ∷ []) of.tag) veil_is (committed x y x_is y_is)
+      ∙ ap (λ k. drop k x) (sym behind.end);
 }
 
 -- the image of no batches is the header
