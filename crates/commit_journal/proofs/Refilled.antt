@@ -92,21 +92,70 @@ filled_from owner slot (body ∷ other ∷ bodies) before previous behind at num
 
 -- ---- the whole image
 
-pub filled_whole : (owner : List ℕ) (bodies : List PlainBody) (bytes : List ℕ) → StandsFor owner (batches_from 0 0 bodies) bytes →
-    StandsWhole owner (batches_from 0 0 bodies) (slots_filled owner (placed_from 42 0 0 bodies) bytes)
+filled_is : (owner : List ℕ) (bodies : List PlainBody) (bytes : List ℕ) (stands : StandsFor owner (batches_from 0 0 bodies) bytes) →
+    slots_filled owner (placed_from 42 0 0 bodies) bytes ≡ image owner (batches_from 0 0 bodies) ++ stands.gate ∷ stands.behind
 unfolding slotted_image image
-filled_whole owner bodies bytes stands =
+filled_is owner bodies bytes stands =
     let placed = placed_from 42 0 0 bodies in
     let bs = batches_from 0 0 bodies in
     let header = spell_header owner in
     let slotted = spell_slotted owner (check_of owner) stands.slot bs in
     let end = stands.gate ∷ stands.behind in
-    record {
-      gate = stands.gate;
-      behind = stands.behind;
-      closed = stands.closed;
-      bytes_are =
-          ap (slots_filled owner placed) (stands.bytes_are ∙ append_assoc header slotted end)
-          ∙ filled_from owner stands.slot bodies header (check_of owner) end 42 0 0 stands.slot_size (ap (λ n. n + 1) (length-spell_header owner))
-          ∙ sym (append_assoc header (spell_batches owner (check_of owner) bs) end);
-    }
+    ap (slots_filled owner placed) (stands.bytes_are ∙ append_assoc header slotted end)
+    ∙ filled_from owner stands.slot bodies header (check_of owner) end 42 0 0 stands.slot_size (ap (λ n. n + 1) (length-spell_header owner))
+    ∙ sym (append_assoc header (spell_batches owner (check_of owner) bs) end)
+
+pub filled_whole : (owner : List ℕ) (bodies : List PlainBody) (bytes : List ℕ) → StandsFor owner (batches_from 0 0 bodies) bytes →
+    StandsWhole owner (batches_from 0 0 bodies) (slots_filled owner (placed_from 42 0 0 bodies) bytes)
+filled_whole owner bodies bytes stands = record {
+  gate = stands.gate;
+  behind = stands.behind;
+  closed = stands.closed;
+  bytes_are = filled_is owner bodies bytes stands;
+}
+
+-- ---- what stands behind it
+
+length-slotted : (owner previous slot : List ℕ) (bs : List Batch) → length slot ≡ 32 →
+    length (spell_slotted owner previous slot bs) ≡ length (spell_batches owner previous bs)
+unfolding spell_slotted spell_batches
+length-slotted owner previous slot [] size = refl
+length-slotted owner previous slot (b ∷ []) size =
+    let veil = batch_veil owner b in
+    omega (
+      arith,
+      length-append (spell_batch owner previous veil b) [],
+      length-batch owner previous slot b size,
+      length-batch owner previous veil b (length-veil_of owner b.epoch b.number),
+    )
+length-slotted owner previous slot (b ∷ next ∷ bs) size =
+    let bytes = spell_batch owner previous (batch_veil owner b) b in
+    let tag = owner_tag owner previous b in
+    omega (
+      arith,
+      length-append bytes (spell_slotted owner tag slot (next ∷ bs)),
+      length-append bytes (spell_batches owner tag (next ∷ bs)),
+      length-slotted owner tag slot (next ∷ bs) size,
+    )
+
+length-slotted_image : (owner slot : List ℕ) (bs : List Batch) → length slot ≡ 32 → length (slotted_image owner slot bs) ≡ length (image owner bs)
+unfolding slotted_image image
+length-slotted_image owner slot bs size =
+    omega (
+      arith,
+      length-append (spell_header owner) (spell_slotted owner (check_of owner) slot bs),
+      length-append (spell_header owner) (spell_batches owner (check_of owner) bs),
+      length-slotted owner (check_of owner) slot bs size,
+    )
+
+pub filled_behind : (owner : List ℕ) (bodies : List PlainBody) (bytes : List ℕ) → StandsFor owner (batches_from 0 0 bodies) bytes →
+    let end = length (image owner (batches_from 0 0 bodies)) in drop end (slots_filled owner (placed_from 42 0 0 bodies) bytes) ≡ drop end bytes
+filled_behind owner bodies bytes stands =
+    let whole = image owner (batches_from 0 0 bodies) in
+    let slotted = slotted_image owner stands.slot (batches_from 0 0 bodies) in
+    let end = stands.gate ∷ stands.behind in
+    ap (λ b. drop (length whole) b) (filled_is owner bodies bytes stands)
+    ∙ drop-append_seam whole end
+    ∙ sym (drop-append_seam slotted end)
+    ∙ ap (λ n. drop n (slotted ++ end)) (length-slotted_image owner stands.slot (batches_from 0 0 bodies) stands.slot_size)
+    ∙ ap (λ b. drop (length whole) b) (sym stands.bytes_are)

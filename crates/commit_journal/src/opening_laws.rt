@@ -1,5 +1,5 @@
 //! Laws of opening for writing: what is opened, of which bytes.
-ghost use Rattle.std.specs.Prelude.{◌≡◌, ◌≤◌, ◌⊎◌, List, ℕ, Ok, Some, is_some};
+ghost use Rattle.std.specs.Prelude.{◌≡◌, ◌≤◌, ◌⊎◌, List, ℕ, Ok, Some, drop, is_some, length};
 ghost use Rattle.cry_io.specs.Stops.{IsDurable};
 ghost use Rattle.cry_io.specs.Told.{WhereBothTold};
 ghost use Rattle.commit_journal.specs.declared.fault.OpenFault.{OpenFault};
@@ -7,6 +7,7 @@ ghost use Rattle.commit_journal.specs.declared.fault.OpenFault.TheVariants as fa
 ghost use Rattle.commit_journal.specs.declared.opening.Opened.{Opened};
 ghost use Rattle.commit_journal.specs.Answering.{IsFault, and_then};
 ghost use Rattle.commit_journal.specs.Holding.{IsSettled};
+ghost use Rattle.commit_journal.specs.Image.{image};
 ghost use Rattle.commit_journal.specs.Journals.{IsJournalOf};
 ghost use Rattle.commit_journal.specs.Laws.{batches_from, placed_from};
 ghost use Rattle.commit_journal.specs.Logs.{writer_log};
@@ -34,6 +35,12 @@ pub fn standing_bytes_are_opened_as_their_log()
 pub fn filled_bytes_stand_whole()
     ensures { (owner : List ℕ) (bodies : List PlainBody) (bytes : List ℕ) → StandsFor owner (batches_from 0 0 bodies) bytes →
         StandsWhole owner (batches_from 0 0 bodies) (slots_filled owner (placed_from 42 0 0 bodies) bytes) }
+{}
+
+/// Law: filling the slots of bytes that stand for batches leaves the gate behind these, and all that stands behind it.
+pub fn filled_bytes_keep_the_rest()
+    ensures { (owner : List ℕ) (bodies : List PlainBody) (bytes : List ℕ) → StandsFor owner (batches_from 0 0 bodies) bytes →
+        let end = length (image owner (batches_from 0 0 bodies)) in drop end (slots_filled owner (placed_from 42 0 0 bodies) bytes) ≡ drop end bytes }
 {}
 
 /// Law: a log that is opened within any store limit is the one that the owner reads who opens for writing.
