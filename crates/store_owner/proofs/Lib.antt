@@ -23,6 +23,7 @@ pub mod OtherRoom
 pub mod Planned
 pub mod Retitlings
 pub mod RingRecords
+pub mod RefusedStores
 pub mod RootSealed
 pub mod Scripted
 pub mod SoundOpened

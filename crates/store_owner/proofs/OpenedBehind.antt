@@ -133,7 +133,7 @@ of_bytes_ok (Ok x) s is = let same : x ≡ s = cc in ap Ok same
 of_bytes_ok (Err fault) s is = absurd cc
 
 -- the bytes stand for the journal's batches, within the limit
-within : (limit : ℕ) (key : List ℕ) (m : Journal) (s : List ℕ) → StandsForJournal key m s → end_of m ≤ limit → StandsWithin limit key (bodies_of key m) s
+pub within : (limit : ℕ) (key : List ℕ) (m : Journal) (s : List ℕ) → StandsForJournal key m s → end_of m ≤ limit → StandsWithin limit key (bodies_of key m) s
 unfolding batches_of image_of
 within limit key m s stands fits =
     let whole = length-image key (batches_of key m) in

@@ -1,11 +1,14 @@
 -- What an owner keeps of what the owner's key opened of a store. This project's own, docs/FORMAT.md, "Opening for writing".
-use Rattle.std.specs.Prelude.{◌≡◌, ℕ, if◌then◌else◌, false, List, [], ◌∷◌, ◌++◌, None, Result, Ok, Err}
+use Rattle.std.specs.Prelude.{◌≡◌, ◌⊎◌, ℕ, if◌then◌else◌, false, List, [], ◌∷◌, ◌++◌, Option, None, Result, Ok, Err}
 use Rattle.cry_base.specs.Sets.{In}
 use Rattle.cry_base.specs.Store.{HolderEntry}
 use Rattle.cry_base.specs.declared.roles.Role.TheVariants.{Owner}
 use Rattle.commit_journal.specs.Answering.{Fault, NotAStore, WrongKey, Damaged, Tampered, and_then}
-use Rattle.commit_journal.specs.Opening.{OwnedLog}
+use Rattle.commit_journal.specs.Opening.{OwnedLog, opening_verdict, slots_filled}
 use Rattle.commit_journal.specs.Placed.{PlainPlaced}
+use Rattle.commit_journal.specs.Reading.{IsUntouched}
+use Rattle.cry_io.specs.Stops.{IsDurable}
+use Rattle.cry_io.specs.Told.{WhereBothTold}
 use Rattle.commit_journal.specs.declared.fault.OpenFault.{OpenFault}
 use Rattle.commit_journal.specs.declared.fault.OpenFault.TheVariants as faults
 use Rattle.folder_nodes.specs.Titles.{Titles}
@@ -85,6 +88,17 @@ OpensAs (Err fault) wanted = IsOpenFault fault wanted
 -- the batches of a log
 abbrev pub placed_in : Result OwnedLog Fault → Result (List PlainPlaced) Fault
 placed_in log = and_then log (λ (l : OwnedLog). Ok l.placed)
+
+-- the log of an image passes every test, and each of its slots holds its veil key now; nothing else was written
+abbrev pub IsFilled : ℕ → List ℕ → List ℕ → List ℕ → Type 0
+IsFilled limit key old new = (log : OwnedLog) × (opening_verdict limit key old ≡ Ok log) × (new ≡ slots_filled key log.placed old)
+
+-- What a store is left as that isn't opened, but for a fault of the disk: nothing was written; or its slots were filled, since every test
+-- of its log passes and a test of what its payloads make failed, or memory was wanting.
+abbrev pub LeavesRefused : {D : Type 0} → (D → Option (List ℕ)) → (D → ℕ) → (D → List ℕ → Type 0) → ℕ → List ℕ → D → D → Type 0
+LeavesRefused shown size_of may_leave limit key old new =
+    IsUntouched shown size_of may_leave old new
+    ⊎ ((size_of new ≡ size_of old) × WhereBothTold (shown old) (shown new) (IsFilled limit key) × IsDurable (may_leave new) (shown new))
 
 -- the owner has this key, keeps to these sizes, has begun no epoch, and is open
 pub record IsFresh (key : List ℕ) (store_bytes file_bytes : ℕ) (o : OwnerView) : Type 0 where

@@ -1,10 +1,10 @@
 //! Opens a store for writing (docs/FORMAT.md, "Opening for writing").
-ghost use Rattle.std.specs.Prelude.{◌≡◌, ◌≢◌, ◌⊎◌, ◌<◌, ◌≤◌, All, Err, IfErr, IfOk, OnErr, OnOk, Ok, is_some, length, map};
+ghost use Rattle.std.specs.Prelude.{◌≡◌, ◌≢◌, ◌⊎◌, ◌<◌, ◌≤◌, All, Err, IfErr, IfOk, OnErr, OnOk, Ok, drop, is_some, length, map};
 ghost use Rattle.cry_base.specs.declared.roles.Role.TheVariants.{Owner as OwnerRole};
 ghost use Rattle.cry_io.specs.Stops.{IsDurable};
 ghost use Rattle.cry_io.specs.Told.{WhereTold, WhereBothTold};
 ghost use Rattle.commit_journal.specs.Logs.{AreInEpochs, epoch_behind};
-ghost use Rattle.commit_journal.specs.Opening.{IsOpened, opening_verdict};
+ghost use Rattle.commit_journal.specs.Opening.{IsOpened, LeavesGated, opening_verdict};
 ghost use Rattle.commit_journal.specs.Placed.{plain_log, plain_placed};
 ghost use Rattle.commit_journal.specs.Places.{IsStanding};
 ghost use Rattle.holder_client.specs.Answering.{AnswersBy, client_fault};
@@ -14,8 +14,9 @@ ghost use Rattle.move_plan.specs.Fitting.{folder_stands};
 ghost use Rattle.public_fold.specs.Journal.{Journal as AnyJournal, Stand};
 ghost use Rattle.public_fold.specs.Lengths.{end_of};
 ghost use Rattle.public_fold.specs.Standing.{IsSeenAs};
+ghost use Rattle.journal_bytes.specs.Bytes.{image_of};
 ghost use Rattle.journal_bytes.specs.Journals.{IsSettled, StandsForJournal};
-ghost use Rattle.store_owner.specs.Opened.{AreContents, IsFresh, OpensAs, opened_of, placed_in};
+ghost use Rattle.store_owner.specs.Opened.{AreContents, IsFilled, IsFresh, LeavesRefused, OpensAs, opened_of, placed_in};
 ghost use Rattle.store_owner.specs.Owned.{IsOwnerOf};
 
 use crate::owner::Owner;
@@ -115,8 +116,11 @@ impl Owner {
     /// within the store limit, and for a payload that has no form; then for the first payload that doesn't fit what stands
     /// before it, with the place of its first byte; behind the header where no root was made or a record is missing; and for a
     /// text of another form, with the place of its content. `Tampered` comes for a wrong tag, of a batch or of a record, with
-    /// its place. The first of these ends the call. `DiskFault` comes only where the disk's faults rose in this call. After any fault
-    /// a journal for which the disk's bytes stood stands still.
+    /// its place. The first of these ends the call. `DiskFault` comes only where the disk's faults rose in this call.
+    ///
+    /// A store that is refused by its header or its log is left as it was, but for the sync. One that is refused by its payloads or
+    /// records has its slots filled, and nothing else written. After any fault a journal for which the disk's bytes stood stands
+    /// still, and after none is anything else written than slots of batches that passed their tests.
     pub fn open_store<D: Disk>(
         alloc: Global,
         disk: &mut D,
@@ -137,7 +141,13 @@ impl Owner {
         ensures inside { IfOk result (λ o. o.journal.end ≤ D.size_of disk.new) }
         ensures durable { OnOk result (IsDurable (D.may_leave disk.new) (D.shown disk.new)) }
         ensures told { is_some (D.shown disk.new) ≡ is_some (D.shown disk.old) }
-        ensures size { OnOk result (D.size_of disk.new ≡ D.size_of disk.old) }
+        ensures size { D.size_of disk.new ≡ D.size_of disk.old }
+        ensures refused { IfErr result (λ fault. (fault ≡ OpenFault.DiskFault)
+            ⊎ LeavesRefused D.shown D.size_of D.may_leave limits.store_bytes key disk.old disk.new) }
+        ensures interrupted { OnErr result (WhereBothTold (D.shown disk.old) (D.shown disk.new) (LeavesGated limits.store_bytes key)) }
+        ensures filled { OnOk result (WhereBothTold (D.shown disk.old) (D.shown disk.new) (IsFilled limits.store_bytes key)) }
+        ensures behind { OnOk result ((m : AnyJournal) → WhereBothTold (D.shown disk.old) (D.shown disk.new) (λ x y. StandsForJournal key m x →
+            end_of m ≤ limits.store_bytes → let end = length (image_of key m) in drop end y ≡ drop end x)) }
         ensures left { OnErr result ((m : AnyJournal) → WhereBothTold (D.shown disk.old) (D.shown disk.new)
             (λ x y. StandsForJournal key m x → end_of m ≤ limits.store_bytes → StandsForJournal key m y)) }
         ensures counts { D.faults disk.old ≤ D.faults disk.new }

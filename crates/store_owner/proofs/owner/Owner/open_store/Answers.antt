@@ -1,14 +1,15 @@
-use Rattle.std.proofs.Common.{◌≡◌, Ok, ap, subst}
+use Rattle.std.proofs.Common.{◌≡◌, Ok, ap, inr, subst}
 use Rattle.std.proofs.lemmas.Result.{err_from_is_err_and}
 use Rattle.chacha_seal.specs.Keys.{KeyParts}
 use Rattle.cry_io.specs.Told.{WhereTold, WhereBothTold}
 use Rattle.commit_journal.specs.Answering.{IsFault}
-use Rattle.commit_journal.specs.Opening.{IsOpened, opening_verdict, plain_opened, slots_filled}
+use Rattle.commit_journal.specs.Opening.{IsOpened, LeavesGated, opening_verdict, plain_opened, slots_filled}
 use Rattle.commit_journal.specs.Placed.{plain_log}
 use Rattle.commit_journal.specs.WholeLogs.{StillStand}
 use Rattle.commit_journal.proofs.CommitLemmas.{on_err}
 use Rattle.store_owner.proofs.OpenedBehind.{journal_filled, journal_left, journal_never, journal_settled, journal_stands, largest_verdict, same_verdict}
 use Rattle.store_owner.proofs.OpenedContents.{log_fails}
+use Rattle.store_owner.proofs.RefusedStores.{behind_kept, is_filled, is_gated, on_each, on_ok, untouched_refused}
 use Rattle.store_owner.proofs.owner.Owner.open_store.Goals as goal
 
 pub returns-in_err-opened-clause-verdict : goal.returns-in_err-opened-clause-verdict
@@ -86,3 +87,71 @@ returns-clause-left g c =
     (journal_filled limit c.args.key o was shows c.requires.known
     (subst (λ b. WhereTold was (λ s. opening_verdict limit b s ≡ Ok (plain_opened o))) bytes c.in_ok-opened.ensures.verdict)
     (subst (λ b. WhereBothTold was shows (λ x y. y ≡ slots_filled b (plain_log o.placed) x)) bytes c.in_ok-opened.ensures.filled))
+
+-- ---- what is left of the disk
+
+pub returns-in_err-opened-clause-refused : goal.returns-in_err-opened-clause-refused
+returns-in_err-opened-clause-refused g c =
+    let p = err_from_is_err_and c.from_residual.result c.from_residual.ensures.1 in
+    rw (p.1, p.2)
+    (untouched_refused g.D.Disk.shown g.D.Disk.size_of g.D.Disk.may_leave c.args.limits.store_bytes c.args.key c.args.disk.now c.open_owner.new.disk
+    c.in_err-opened.field-0.0 c.in_err-opened.ensures.refused)
+
+pub returns-in_err-opened-clause-interrupted : goal.returns-in_err-opened-clause-interrupted
+returns-in_err-opened-clause-interrupted g c =
+    let limit = c.args.limits.store_bytes in
+    let was = g.D.Disk.shown c.args.disk.now in
+    let shows = g.D.Disk.shown c.open_owner.new.disk in
+    let bytes = ap (λ (k : KeyParts). k.bytes) c.owner-owner.ensures in
+    on_err c.from_residual.result (subst (λ b. WhereBothTold was shows (LeavesGated limit b)) bytes c.in_err-opened.ensures.interrupted)
+
+pub returns-clause-filled : goal.returns-clause-filled
+returns-clause-filled g c =
+    let limit = c.args.limits.store_bytes in
+    let o = c.in_ok-opened.opened in
+    let was = g.D.Disk.shown c.args.disk.now in
+    let shows = g.D.Disk.shown c.open_owner.new.disk in
+    let bytes = ap (λ (k : KeyParts). k.bytes) c.owner-owner.ensures in
+    on_ok _ c.owner_behind.result
+    (is_filled limit c.args.key o was shows
+    (subst (λ b. WhereTold was (λ s. opening_verdict limit b s ≡ Ok (plain_opened o))) bytes c.in_ok-opened.ensures.verdict)
+    (subst (λ b. WhereBothTold was shows (λ x y. y ≡ slots_filled b (plain_log o.placed) x)) bytes c.in_ok-opened.ensures.filled))
+
+pub returns-clause-interrupted : goal.returns-clause-interrupted
+returns-clause-interrupted g c =
+    let limit = c.args.limits.store_bytes in
+    let o = c.in_ok-opened.opened in
+    let was = g.D.Disk.shown c.args.disk.now in
+    let shows = g.D.Disk.shown c.open_owner.new.disk in
+    let bytes = ap (λ (k : KeyParts). k.bytes) c.owner-owner.ensures in
+    on_err c.owner_behind.result
+    (is_gated limit c.args.key o was shows
+    (subst (λ b. WhereTold was (λ s. opening_verdict limit b s ≡ Ok (plain_opened o))) bytes c.in_ok-opened.ensures.verdict)
+    (subst (λ b. WhereBothTold was shows (λ x y. y ≡ slots_filled b (plain_log o.placed) x)) bytes c.in_ok-opened.ensures.filled))
+
+pub returns-clause-refused : goal.returns-clause-refused
+returns-clause-refused g c =
+    let limit = c.args.limits.store_bytes in
+    let o = c.in_ok-opened.opened in
+    let was = g.D.Disk.shown c.args.disk.now in
+    let shows = g.D.Disk.shown c.open_owner.new.disk in
+    let bytes = ap (λ (k : KeyParts). k.bytes) c.owner-owner.ensures in
+    on_each _ c.owner_behind.result (λ fault. inr (inr (
+      c.in_ok-opened.ensures.size,
+      is_filled limit c.args.key o was shows
+          (subst (λ b. WhereTold was (λ s. opening_verdict limit b s ≡ Ok (plain_opened o))) bytes c.in_ok-opened.ensures.verdict)
+          (subst (λ b. WhereBothTold was shows (λ x y. y ≡ slots_filled b (plain_log o.placed) x)) bytes c.in_ok-opened.ensures.filled),
+      c.in_ok-opened.ensures.durable,
+    )))
+
+pub returns-clause-behind : goal.returns-clause-behind
+returns-clause-behind g c =
+    let limit = c.args.limits.store_bytes in
+    let o = c.in_ok-opened.opened in
+    let was = g.D.Disk.shown c.args.disk.now in
+    let shows = g.D.Disk.shown c.open_owner.new.disk in
+    let bytes = ap (λ (k : KeyParts). k.bytes) c.owner-owner.ensures in
+    on_ok _ c.owner_behind.result
+    (behind_kept limit c.args.key o was shows
+    (subst (λ b. WhereTold was (λ s. opening_verdict limit b s ≡ Ok (plain_opened o))) bytes c.in_ok-opened.ensures.verdict)
+    (subst (λ b. WhereBothTold was shows (λ x y. y ≡ slots_filled b (plain_log o.placed) x)) bytes c.in_ok-opened.ensures.filled) c.requires.known)
