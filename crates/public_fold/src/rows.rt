@@ -19,10 +19,13 @@ pub fn fresh_store()
     ensures contents { map (λ s. map (λ c. c.nonce) s.contents) (step_at fresh 2) ≡ (4294967306 ∷ []) ∷ [] }
 {}
 
-/// A folder, a file, and the file's new name: the store's length.
+/// A folder, a file, and the file's new name: the store's length, and the serials of the name's content.
 #[tactic(auto, unfolding(crate::specs::WorkedSteps::journals))]
 pub fn tree_and_rename()
-    ensures { end_of renaming ≡ 2273 }
+    ensures length { end_of renaming ≡ 2273 }
+    ensures keys { map (λ s. map (λ key. key.1) s.given) (step_at renaming 5) ≡ (8589934605 ∷ []) ∷ [] }
+    ensures sealed { map (λ s. map (λ c. c.key_serial) s.contents) (step_at renaming 6) ≡ (8589934605 ∷ []) ∷ [] }
+    ensures nonces { map (λ s. map (λ c. c.nonce) s.contents) (step_at renaming 6) ≡ (8589934608 ∷ []) ∷ [] }
 {}
 
 /// A file written empty in a second session, which draws no key.
@@ -30,6 +33,8 @@ pub fn tree_and_rename()
 pub fn empty_rewrite_in_a_second_session()
     ensures length { end_of rewriting ≡ 2566 }
     ensures renewed { renewals_at rewriting 8 ≡ [] ∷ [] }
+    ensures sealed { map (λ s. map (λ c. c.key_serial) s.contents) (step_at rewriting 8) ≡ (8589934605 ∷ []) ∷ [] }
+    ensures nonces { map (λ s. map (λ c. c.nonce) s.contents) (step_at rewriting 8) ≡ (12884901888 ∷ []) ∷ [] }
 {}
 
 /// A folder, a file, a holder and a grant: the store's length, and the link that the grant publishes.

@@ -63,6 +63,19 @@ note_at bytes = do
   code ← byte_between 1 13 bytes
   note_fields_at code.0 code.1
 
+-- a link of its fields, in their order
+abbrev pub link_of : ℕ → ℕ → ℕ → ℕ → ℕ → ℕ → List ℕ → List ℕ → LinkRecord
+link_of kind from_id to_id from_serial to_serial nonce cipher tag = record {
+  kind = kind;
+  from_id = from_id;
+  to_id = to_id;
+  from_serial = record { 0 = from_serial };
+  to_serial = record { 0 = to_serial };
+  nonce = nonce;
+  cipher = cipher;
+  tag = tag;
+}
+
 unfoldable pub link_at : List ℕ → Read LinkRecord
 link_at bytes = do
   one ← byte_between 1 1 bytes
@@ -74,19 +87,18 @@ link_at bytes = do
   nonce ← number_at w64 to_serial.1
   cipher ← bytes_at 32 nonce.1
   tag ← bytes_at 32 cipher.1
-  Ok (
-    record {
-      kind = kind.0;
-      from_id = from_id.0;
-      to_id = to_id.0;
-      from_serial = record { 0 = from_serial.0 };
-      to_serial = record { 0 = to_serial.0 };
-      nonce = nonce.0;
-      cipher = cipher.0;
-      tag = tag.0;
-    },
-    tag.1,
-  )
+  Ok (link_of kind.0 from_id.0 to_id.0 from_serial.0 to_serial.0 nonce.0 cipher.0 tag.0, tag.1)
+
+-- a content of its fields, in their order
+abbrev pub content_of : ℕ → ℕ → ℕ → ℕ → List ℕ → List ℕ → PlainContent
+content_of kind object key_serial nonce cipher tag = record {
+  kind = kind;
+  object = object;
+  key_serial = record { 0 = key_serial };
+  nonce = nonce;
+  cipher = cipher;
+  tag = tag;
+}
 
 unfoldable pub content_at : List ℕ → Read PlainContent
 content_at bytes = do
@@ -98,17 +110,7 @@ content_at bytes = do
   len ← number_between w32 (shortest_text kind.0) (longest_text kind.0) nonce.1
   cipher ← bytes_at len.0 len.1
   tag ← bytes_at 32 cipher.1
-  Ok (
-    record {
-      kind = kind.0;
-      object = object.0;
-      key_serial = record { 0 = key_serial.0 };
-      nonce = nonce.0;
-      cipher = cipher.0;
-      tag = tag.0;
-    },
-    tag.1,
-  )
+  Ok (content_of kind.0 object.0 key_serial.0 nonce.0 cipher.0 tag.0, tag.1)
 
 -- a payload, and the bytes after it
 unfoldable pub payload_at : List ℕ → Read PlainPayload

@@ -24,7 +24,7 @@ pub trait Roles {
         ensures { IsTrue result ↔ HasEdge self.now from to };
 
     /// A number that is higher at an edge's start than at its end.
-    fn rank(&self, role: Role) -> u32
+    fn rank(&self, role: Role) -> u64
         ensures { result ≡ rank self.now role };
 
     /// The laws of edges.

@@ -38,12 +38,12 @@ impl<'a> Roles for StoreRoles<'a> {
     }
 
     #[tactic(auto, unfolding(crate::specs::Joined::rank_of, crate::specs::Joined::levels, cry_base::specs::Store::way_to_root))]
-    fn rank(&self, role: Role) -> u32 {
+    fn rank(&self, role: Role) -> u64 {
         match role {
             Role::Owner | Role::Holder(_) => 134,
             Role::Clear(_) => 133,
-            Role::Sub(f) => 132 - self.levels(f),
-            Role::Back(f) => 1 + self.levels(f),
+            Role::Sub(f) => 132 - u64::from(self.levels(f)),
+            Role::Back(f) => 1 + u64::from(self.levels(f)),
             Role::Files(_) => 1,
             Role::Data(_) | Role::File(_) => 0,
         }
