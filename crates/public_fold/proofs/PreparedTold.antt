@@ -1,5 +1,5 @@
 -- What is prepared hangs on no check: a new holder's may come later.
-use Rattle.std.proofs.Common.{◌≡◌, ℕ, Bool, List, [], ◌∷◌, ◌++◌, map, length, refl, sym, ap, ◌∙◌}
+use Rattle.std.proofs.Common.{◌≡◌, ℕ, Bool, List, [], ◌∷◌, ◌++◌, map, length, refl, sym, ap, subst, ◌∙◌}
 use Rattle.std.specs.List.{range_with_len}
 use Rattle.std.proofs.lemmas.List.{length_push}
 use Rattle.cry_base.specs.Store.{Store, GrantEntry}
@@ -13,9 +13,9 @@ use Rattle.public_fold.specs.Changing.{checks_then, pairs_then, tree_then}
 use Rattle.public_fold.specs.Fitted.{told_stand, told_step}
 use Rattle.public_fold.specs.Journal.{Stand, note_step}
 use Rattle.public_fold.specs.KeyStep.{KeyState}
-use Rattle.public_fold.specs.Preparing.{IsRootFor, begun, begun_keys, begun_view, with_check}
+use Rattle.public_fold.specs.Preparing.{CanSettle, IsRootFor, PreparedView, begun, begun_keys, begun_view, settled, with_check}
 use Rattle.public_fold.specs.Records.{pieces_of}
-use Rattle.public_fold.specs.Standing.{IsPublicOf, IsSeenAs, PublicView}
+use Rattle.public_fold.specs.Standing.{IsPublicOf, IsSeenAs, PublicView, public_store_of}
 use Rattle.public_fold.specs.Told.{told_store}
 
 pub begun_seen : (new : Bool) (v : PublicView) (at : Stand) → IsSeenAs v at → IsSeenAs (begun_view new v) (begun new at)
@@ -99,3 +99,15 @@ check_seen v (declared.ShiftFile file into) check k at sees = sees
 check_seen v (declared.ShiftFolder folder into) check k at sees = sees
 check_seen v (declared.Give holder folder) check k at sees = sees
 check_seen v (declared.Take holder folder) check k at sees = sees
+
+-- what can be made with one note can be made with another that fits alike, and leaves the same
+pub can_with : (v : PublicView) (old new : PreparedView) → fits (public_store_of v) (told_note new.note) ≡ fits (public_store_of v) (told_note old.note)
+    → ((at : Stand) → told_stand at (told_note new.note) ≡ told_stand at (told_note old.note)) → ((at : Stand) → IsSeenAs (settled v old) at → IsSeenAs (settled v new) at)
+    → CanSettle v old → CanSettle v new
+can_with v old new fit told seen can = record {
+  note_fits = fit ∙ can.note_fits;
+  begins = can.begins;
+  leaves = λ at sees.
+      let then = begun can.begins at in
+      subst (λ a. IsSeenAs (settled v new) a) (sym (told then)) (seen (told_stand then (told_note old.note)) (can.leaves at sees));
+}

@@ -9,9 +9,10 @@ use Rattle.record_format.specs.declared.note.Note.{Note as Declared}
 use Rattle.record_format.specs.declared.note.Note.TheVariants as declared
 use Rattle.move_plan.specs.Fitting.{fits}
 use Rattle.public_fold.specs.Changing.{checks_then, pairs_then, tree_then}
+use Rattle.public_fold.specs.Fitted.{told_stand}
 use Rattle.public_fold.specs.Journal.{Stand}
 use Rattle.public_fold.specs.KeyStep.{KeyState, keys_without, next_epoch}
-use Rattle.public_fold.specs.Standing.{PublicView, public_store_of}
+use Rattle.public_fold.specs.Standing.{IsSeenAs, PublicView, public_store_of}
 use Rattle.public_fold.specs.declared.heads.Skeleton.{Skeleton}
 
 -- the note and its skeleton; the roles whose old keys go; the dirty roles then; the epoch then, and how many serials were given in it
@@ -38,10 +39,6 @@ settled v p = record {
   key_spare = v.key_spare;
 }
 
--- the change may be made on the state: its note fits
-abbrev pub CanSettle : PublicView → PreparedView → Type 0
-CanSettle v p = fits (public_store_of v) (told_note p.note) ≡ true
-
 -- the state has the memory for it
 abbrev pub HasRoomFor : PublicView → PreparedView → Type 0
 HasRoomFor v p = (1 ≤ v.spare) × (length p.skeleton.keys.items ≤ v.key_spare)
@@ -56,6 +53,13 @@ begun_view new v = record v { keys = begun_keys new v.keys }
 
 abbrev pub begun : Bool → Stand → Stand
 begun new at = record at { keys = begun_keys new at.keys }
+
+-- the change may be made on the state: its note fits, and it was prepared on a state that is seen as this one, with an epoch begun before it
+-- or not, so that it leaves what the note makes of it
+pub record CanSettle (v : PublicView) (p : PreparedView) : Type 0 where
+  pub note_fits : fits (public_store_of v) (told_note p.note) ≡ true
+  pub begins : Bool
+  pub leaves : (at : Stand) → IsSeenAs v at → IsSeenAs (settled v p) (told_stand (begun begins at) (told_note p.note))
 
 -- where the note makes the root, the tree is that of the root alone
 abbrev pub IsRootFor : Note → Store → Type 0

@@ -125,8 +125,7 @@ impl PublicState {
         self.keys.reserve(ready.skeleton.keys.as_slice().len())
     }
 
-    /// Makes the prepared change. It takes no memory. The caller prepared it on a state that was seen as this one is, or makes
-    /// another change than it means to.
+    /// Makes the prepared change. It takes no memory.
     pub fn settle(&mut self, ready: Prepared)
         requires can { CanSettle self.old ready }
         requires room { HasRoomFor self.old ready }

@@ -5,20 +5,13 @@ use Rattle.move_plan.specs.Fitting.{fits}
 use Rattle.public_fold.specs.Fitted.{told_stand}
 use Rattle.public_fold.specs.Preparing.{IsRootFor, PreparedView, keys_settled, settled}
 use Rattle.public_fold.specs.Standing.{IsPublicOf, IsSeenAs, public_store_of}
-use Rattle.public_fold.proofs.PreparedTold.{check_fits, check_root, check_seen, check_told, seen_then}
+use Rattle.public_fold.proofs.PreparedTold.{can_with, check_fits, check_root, check_seen, check_told, seen_then}
 use Rattle.public_fold.proofs.prepared.Prepared.set_check.Goals as goal
 
 pub invariant_of-self : goal.invariant_of-self
 invariant_of-self c =
     subst (λ (n : Note). IsRootFor (told_note n) c.self.inside.root.tree) (sym c.note_with-self-inside.ensures)
     (check_root c.self.inside.note c.args.check c.self.inside.root.tree c.self.invariant)
-
-pub returns-clause-can : goal.returns-clause-can
-returns-clause-can c = λ v can.
-    ap (λ (n : Note). fits (public_store_of v) (told_note n)) c.note_with-self-inside.ensures
-    ∙ check_fits (public_store_of v) c.self.inside.note c.args.check
-    ∙ ap (λ (p : PreparedView). fits (public_store_of v) (told_note p.note)) c.self.view_is
-    ∙ can
 
 pub returns-clause-told : goal.returns-clause-told
 returns-clause-told c = λ at.
@@ -38,3 +31,11 @@ returns-clause-seen c = λ v at sees.
     } in
     subst (λ (n : Note). IsPublicOf (seen_then v n) (keys_settled v.keys old) at) (sym c.note_with-self-inside.ensures)
     (check_seen v c.self.inside.note c.args.check (keys_settled v.keys old) at (subst (λ (p : PreparedView). IsSeenAs (settled v p) at) (sym c.self.view_is) sees))
+
+pub returns-clause-can : goal.returns-clause-can
+returns-clause-can c = λ v can.
+    can_with v _ _
+    (ap (λ (n : Note). fits (public_store_of v) (told_note n)) c.note_with-self-inside.ensures
+    ∙ check_fits (public_store_of v) c.self.inside.note c.args.check
+    ∙ ap (λ (p : PreparedView). fits (public_store_of v) (told_note p.note)) c.self.view_is)
+    (returns-clause-told c) (returns-clause-seen c v) can

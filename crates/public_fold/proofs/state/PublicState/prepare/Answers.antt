@@ -30,15 +30,19 @@ returns-clause-skeleton c =
     let note = told_note c.args.note.now in
     λ at sees. subst (λ (s : Stepped). IsSkeleton s c.in_ok-step.step.skeleton) (sym (seen_step v (begun c.args.new_epoch at) note (begun_seen c.args.new_epoch c.args.self.now at sees))) c.in_ok-step.ensures.step.skeleton
 
-pub returns-clause-can : goal.returns-clause-can
-returns-clause-can c = fit_of (begun_view c.args.new_epoch c.args.self.now) (told_note c.args.note.now) c.in_ok-step.ensures.fits
-
 pub returns-clause-after : goal.returns-clause-after
 returns-clause-after c =
     let note = told_note c.args.note.now in
     let v = begun_view c.args.new_epoch c.args.self.now in
     λ at sees. seen_after v c.args.self.now.keys.keys note c.in_ok-step.step (fit_of v note c.in_ok-step.ensures.fits) c.in_ok-step.ensures.step
     (begun c.args.new_epoch at) (begun_seen c.args.new_epoch c.args.self.now at sees)
+
+pub returns-clause-can : goal.returns-clause-can
+returns-clause-can c = record {
+  note_fits = fit_of (begun_view c.args.new_epoch c.args.self.now) (told_note c.args.note.now) c.in_ok-step.ensures.fits;
+  begins = c.args.new_epoch;
+  leaves = returns-clause-after c;
+}
 
 pub returns-clause-fits : goal.returns-clause-fits
 returns-clause-fits c =
