@@ -212,6 +212,13 @@ impl Journal {
         self.closed
     }
 
+    /// The place where the log ends, in bytes: behind the closed gate that follows its last batch.
+    pub fn end(&self) -> u64
+        ensures { result ≡ self.now.end }
+    {
+        self.past.at
+    }
+
     /// Ends the session: what is committed from now on belongs to another one, which begins an epoch of its own. It takes no
     /// memory.
     pub fn end_session(&mut self)

@@ -130,6 +130,21 @@ impl Owner {
         self.key.bytes()
     }
 
+    /// The place where the store's log ends, in bytes: a command asks that the disk has as many at least, unless an earlier
+    /// fault of the disk closed this owner.
+    pub fn end(&self) -> u64
+        ensures { result ≡ self.now.journal.end }
+    {
+        self.journal.end()
+    }
+
+    /// Whether a fault of the disk closed this owner: it does nothing more.
+    pub fn is_closed(&self) -> bool
+        ensures { result ≡ self.now.journal.is_closed }
+    {
+        self.journal.is_closed()
+    }
+
     /// Does a command, or refuses it.
     ///
     /// In this order: a closed owner answers `Closed`; a refused command changes nothing; all memory is taken, or `OutOfMemory`
