@@ -5,6 +5,7 @@ pub mod Lines
 pub mod Listing
 pub mod Outside
 pub mod OwnerSteps
+pub mod Refusing
 pub mod Running
 pub mod Script
 pub mod Status

@@ -5,6 +5,7 @@ ghost use Rattle.cry_io.specs.Told.{WhereTold, WhereBothTold};
 ghost use Rattle.commit_journal.specs.Reading.{IsOnlyRead};
 ghost use Rattle.cryptree_cli.specs.Input.{input_answer};
 ghost use Rattle.cryptree_cli.specs.Listing.{InputDecides, ListsAs, ListsFresh, owner_in, list_answer, is_list_answer, is_before_read};
+ghost use Rattle.cryptree_cli.specs.Refusing.{Refuses, is_refusal};
 ghost use Rattle.cryptree_cli.specs.Running.{EndsTyped, FirstIsBad, HasBadLine, JudgesTyped, RanDry, RanLines, is_after_opening, is_before_opening, is_run_answer, key_in_lines, lines_in, lines_typed};
 ghost use Rattle.cryptree_cli.specs.Status.{is_make_answer, is_before_draw, is_before_write, is_before_print};
 ghost use Rattle.cryptree_cli.specs.Top.{IsMake, IsRun, IsList, Makes, PrintsAll, PrintsFront, IsShort, EndsShort, text_of};
@@ -67,7 +68,8 @@ pub fn top<S: Source, R: Source, D: Disk, W: Sink>(
     // What `run` does: it opens the store with the key that the first line hands in, and answers each command before the next
     // is read. Whatever the disk shows: line 1 is bad where it hands in no key, and there alone; the lines behind it are answered
     // in their order, up to a bad one or a fault, and these answers are what is printed; and the random source is said to end
-    // only where it did, in a command's draw.
+    // only where it did, in a command's draw. A store that it refuses for its bytes is as it was, but for slots that a stop had left
+    // without their keys.
     ensures run_first_line { IsRun words.now.items → WhereTold (S.left input.old) (λ typed. key_in_lines (lines_in typed) ≡ None → FirstIsBad result) }
     ensures run_judged { IsRun words.now.items → WhereTold (S.left input.old) (λ typed. WhereTold (D.shown disk.old) (λ image. JudgesTyped result typed image)) }
     ensures run_key_line { IsRun words.now.items → result ≡ Status.BadScript 1 → WhereTold (S.left input.old) (λ typed. key_in_lines (lines_in typed) ≡ None) }
@@ -80,6 +82,8 @@ pub fn top<S: Source, R: Source, D: Disk, W: Sink>(
         EndsTyped result typed draws (D.shown disk.old) (R.left random.new) (D.shown disk.new) (W.written out.old) (W.written out.new))) }
     ensures run_read_to_end { IsRun words.now.items → result ≡ Status.Done → WhereTold (S.left input.new) (λ rest. rest ≡ []) }
     ensures run_stays { IsRun words.now.items → IsTrue (is_after_opening result) → IsDurable (D.may_leave disk.new) (D.shown disk.new) }
+    ensures run_refused { IsRun words.now.items → IsTrue (is_refusal result) →
+        Refuses D.shown D.size_of D.may_leave (S.left input.old) random.old random.new disk.old disk.new out.old out.new }
     ensures run_unopened { IsRun words.now.items → IsTrue (is_before_opening result) →
         (random.new ≡ random.old) × (disk.new ≡ disk.old) × (out.new ≡ out.old) }
 

@@ -1,8 +1,12 @@
-use Rattle.std.proofs.Common.{◌≡◌, None, Err, Ok, refl, sym, subst, ◌∙◌}
+use Rattle.std.proofs.Common.{◌≡◌, None, Some, Err, Ok, refl, sym, subst, ◌∙◌}
+use Rattle.std.specs.Prelude.{IsTrue}
+use Rattle.cry_io.specs.Told.{WhereTold}
 use Rattle.journal_bytes.specs.Journals.{StandsForJournal}
 use Rattle.cryptree_cli.specs.Lines.{lines_ahead}
-use Rattle.cryptree_cli.specs.Running.{Ends, FirstIsBad, Judges, RanLines, lines_behind, lines_in, lines_typed, open_status, version_limits}
+use Rattle.cryptree_cli.specs.Refusing.{is_refusal}
+use Rattle.cryptree_cli.specs.Running.{Ends, FirstIsBad, Judges, RanLines, key_in_lines, lines_behind, lines_in, lines_typed, open_status, version_limits}
 use Rattle.cryptree_cli.proofs.LinesRun.{bad_is_never_done, lines_as_typed, unopened_lines, unread_lines}
+use Rattle.cryptree_cli.proofs.RefusedRuns.{leaves_refused, opened_refuses_none, reading_refuses_none}
 use Rattle.cryptree_cli.proofs.RunEnds.{still_told}
 use Rattle.cryptree_cli.proofs.RunOpening.{bad_first_is_unjudged, first_alone, first_ends, first_is_bad, gives_first, key_is_given, not_before, opened_has_no_verdict, opened_stands, reading_draws_none, same_key, unopened_draws_none, unopened_ends, unopened_is_judged, unopened_is_no_line}
 use Rattle.holder_client.specs.Asking.{verdict}
@@ -137,3 +141,25 @@ returns-in-Err-clause-short g c = λ left need is. reading_draws_none c.in-Err.f
 
 pub returns-in-Err-open_store-clause-short : goal.returns-in-Err-open_store-clause-short
 returns-in-Err-open_store-clause-short g c = λ left need is. unopened_draws_none c.in-Err-open_store.fault left need (sym c.open_status.ensures ∙ is)
+
+-- ---- a store that is refused
+
+pub returns-in-Err-clause-refused : goal.returns-in-Err-clause-refused
+returns-in-Err-clause-refused g c = λ is.
+    reading_refuses_none c.in-Err.fault c.in-Err.ensures.faults (subst (λ status. IsTrue (is_refusal status)) c.script_status.ensures is)
+
+pub returns-in-Ok-open_store-clause-refused : goal.returns-in-Ok-open_store-clause-refused
+returns-in-Ok-open_store-clause-refused g c = λ is. opened_refuses_none c.apply_lines.result (c.apply_lines.ensures.none_of_bytes None refl) is
+
+pub returns-in-Err-open_store-clause-refused : goal.returns-in-Err-open_store-clause-refused
+returns-in-Err-open_store-clause-refused g c = λ is.
+    let hands : WhereTold (g.S.Source.left c.args.input.now) (λ bytes. key_in_lines (lines_in bytes) ≡ Some c.in-Ok.key) = λ x was.
+    let after = still_told (g.S.Source.left c.first_owner.new.input) (g.S.Source.left c.args.input.now) x c.in-Ok.ensures.told was in
+    (gives_first (Ok c.in-Ok.key) c.new-reader.result x (lines_ahead c.first_owner.new.reader after.0) c.new-reader.ensures (c.in-Ok.ensures.gives x after.0 was after.1)).0
+    in
+    record {
+      undrawn = refl;
+      unprinted = refl;
+      leaves = leaves_refused g.D.Disk.shown g.D.Disk.size_of g.D.Disk.may_leave (g.S.Source.left c.args.input.now) c.in-Ok.key c.args.disk.now c.open_store.new.disk
+          c.in-Err-open_store.fault (subst (λ status. IsTrue (is_refusal status)) c.open_status.ensures is) hands c.in-Err-open_store.ensures.refused;
+    }
