@@ -160,7 +160,7 @@ drafted_with r o p a b c d e f h = record {
   told = λ s is. h.told s (store_before o.state.tree s o.names c (granted_in o) is);
   same_note = h.same_note;
   is_skeleton = h.is_skeleton;
-  can_settle = h.can_settle;
+  can_settle = record { note_fits = h.can_settle.note_fits; begins = h.can_settle.begins; leaves = h.can_settle.leaves };
   seen_then = h.seen_then;
   fits = h.fits;
   text_is = h.text_is;
