@@ -150,6 +150,7 @@ joins old new b batch veil was shows behind number batch_is veil_is committed = 
   ended = λ bs of x y x_is y_is whole.
       ended_more old.owner batch veil x y bs b old.end whole of.end
       (batch_is ∙ ap (λ t. spell_batch old.owner t empty_slot b ++ 0 ∷ []) of.tag) veil_is (committed x y x_is y_is);
+  further = omega (arith, behind.end);
   behind = λ bs of x y x_is y_is whole.
       ap (λ k. drop k y) behind.end
       ∙ behind_more old.owner batch veil x y bs b old.end whole of.end

@@ -1,7 +1,8 @@
 -- An owner of a journal who carries out a command goes on as the owner of the journal with it.
-use Rattle.std.proofs.Common.{◌≡◌, ℕ, ◌+◌, ◌≤◌, Bool, true, false, cond, not, List, [], ◌∷◌, ◌++◌, length, replicate, Option, Some, None, append-nil, arith, refl, sym, ap, subst, ◌∙◌}
+use Rattle.std.proofs.Common.{◌≡◌, ℕ, ◌+◌, ◌-◌, ◌≤◌, Bool, true, false, cond, not, List, [], ◌∷◌, ◌++◌, drop, length, replicate, Option, Some, None, append-nil, arith, refl, sym, ap, subst, ◌∙◌}
 use Rattle.std.specs.Prelude.{is_some, nat_lt}
 use Rattle.std.proofs.lemmas.Bool.{ltb-false}
+use Rattle.std.proofs.lemmas.List.{drop-drop}
 use Rattle.chacha_seal.specs.Keys.{KeyParts}
 use Rattle.chacha_seal.specs.Sealing.{check_of}
 use Rattle.chacha_seal.specs.Serials.{Counting}
@@ -156,6 +157,33 @@ begun_shown true owner m ready then was showed begins stands = λ x y e f whole.
     subst (λ n. StandsWhole ready.owner (batches_of owner n) y) (sym (append-nil m)) (subst (StandsWhole ready.owner (batches_of owner m)) one whole)
 begun_shown false owner m ready then was showed begins stands = λ x y e f whole.
     subst (λ bs. StandsWhole ready.owner bs y) (sym (batches_then owner m Session ready stands)) (begins.0.shown (batches_of owner m) stands x y e f whole)
+
+-- what stands behind the log stays
+drops_more : (a b : ℕ) (x y : List ℕ) → a ≤ b → drop a y ≡ drop a x → drop b y ≡ drop b x
+drops_more a b x y fits same =
+    let n = b - a in
+    let parts : b ≡ a + n = omega (arith, fits) in
+    ap (λ k. drop k y) parts ∙ sym (drop-drop n a y) ∙ ap (λ r. drop n r) same ∙ drop-drop n a x ∙ ap (λ k. drop k x) (sym parts)
+
+begun_further : (has_begun : Bool) (ready then : JournalState) (was showed : Option (List ℕ)) → Begins has_begun ready then was showed → ready.end ≤ then.end
+begun_further true ready then was showed begins = omega (arith, ap (λ (j : JournalState). j.end) begins.0)
+begun_further false ready then was showed begins = begins.0.further
+
+begun_behind : (has_begun : Bool) (owner : List ℕ) (m : Journal) (ready then : JournalState) (was showed : Option (List ℕ)) → Begins has_begun ready then was showed
+    → IsJournalOf (batches_of owner m) ready → WhereBothTold was showed (λ x y. StandsWhole ready.owner (batches_of owner m) x → drop then.end y ≡ drop then.end x)
+begun_behind true owner m ready then was showed begins stands = λ x y e f whole.
+    let same : showed ≡ was = begins.1 in
+    let one : y ≡ x = cc in
+    ap (λ b. drop then.end b) one
+begun_behind false owner m ready then was showed begins stands = begins.0.behind (batches_of owner m) stands
+
+-- the log only grows
+pub further_then : (r : Request) (drawn : List (List ℕ)) (old new : OwnerView) (was shows : Option (List ℕ)) → IsCarriedOut r drawn old new was shows → old.journal.end ≤ new.journal.end
+further_then r drawn old new was shows out =
+    let sealed = out.sealed in
+    let room = ap (λ (j : JournalState). j.end) sealed.has_room in
+    let begun = begun_further old.journal.has_epoch sealed.ready sealed.between was sealed.showed sealed.begins in
+    omega (arith, room, begun, out.commits.further)
 
 pub told_some : (o : Option (List ℕ)) → is_some o ≡ true → (x : List ℕ) × (o ≡ Some x)
 told_some None = λ e. absurd cc
@@ -326,3 +354,14 @@ module _ (m : Journal) (r : Request) (drawn : List (List ℕ)) (old new : OwnerV
       let last = out.commits.shown bs (between_stands m r drawn old was is low bound fine out.sealed) some.0 y some.1 f first in
       subst (λ (bs : List Batch). StandsWhole old.key bs y) (sym (batches_are m r drawn old was is low bound fine out.sealed))
       (subst (λ key. StandsWhole key (bs ++ next_command out.sealed.between (spell_payload out.sealed.payload) ∷ []) y) (between_owner m r drawn old was is low bound fine out.sealed) last)
+
+  pub behind_then : WhereBothTold was shows (λ x y. StandsWhole old.key (batches_of old.key m) x → drop new.journal.end y ≡ drop new.journal.end x)
+  behind_then = λ x y e f whole.
+      let sealed = out.sealed in
+      let some = told_some sealed.showed (sealed.stays_told ∙ ap (λ (o : Option (List ℕ)). is_some o) e) in
+      let between_whole = between_shown m r drawn old was is low bound fine sealed x some.0 e some.1 whole in
+      let ready_whole = subst (λ key. StandsWhole key (batches_of old.key m) x) (sym (ready_owner m r drawn old was is low bound fine sealed)) whole in
+      let first = begun_behind old.journal.has_epoch old.key m sealed.ready sealed.between was sealed.showed sealed.begins (ready_stands m r drawn old was is low bound fine sealed)
+      x some.0 e some.1 ready_whole in
+      let last = out.commits.behind (batches_of old.key (between m old.journal.has_epoch)) (between_stands m r drawn old was is low bound fine sealed) some.0 y some.1 f between_whole in
+      last ∙ drops_more sealed.between.end new.journal.end x some.0 out.commits.further first

@@ -1,6 +1,6 @@
 -- What a command leaves of an owner and of the disk, and what is answered. This project's own, docs/FORMAT.md, "The key step"
 -- and "Committing".
-use Rattle.std.specs.Prelude.{◌≡◌, ◌⊎◌, ◌<◌, ◌≤◌, ℕ, ◌+◌, ◌*◌, true, false, not, cond, List, [], ◌++◌, length, replicate, Option, Some, None, Result, Ok, Err, IsTrue, All, is_some}
+use Rattle.std.specs.Prelude.{◌≡◌, ◌⊎◌, ◌<◌, ◌≤◌, ℕ, ◌+◌, ◌*◌, true, false, not, cond, List, [], ◌++◌, drop, length, replicate, Option, Some, None, Result, Ok, Err, IsTrue, All, is_some}
 use Rattle.std.specs.List.{flat_map}
 use Rattle.chacha_seal.specs.Keys.{KeyParts}
 use Rattle.chacha_seal.specs.Sealing.{check_of}
@@ -103,7 +103,8 @@ IsInterrupted r drawn old was shows =
     ⊎ ((sealed : IsSealed r drawn old was) × MayJoin (next_command sealed.between (spell_payload sealed.payload)) sealed.between sealed.showed shows)
 
 -- An accepted command of an owner who stands for a journal: it drew keys from the next random bytes, its reply has them in their
--- places, the owner stands for the journal with the command, and so does the disk where it showed the journal.
+-- places, the owner stands for the journal with the command, and so does the disk where it showed the journal; behind the log's new end
+-- it shows what it showed there.
 pub record IsDone (m : Journal) (r : Request) (reply : Reply) (old new : OwnerView) (left_before left_after was shows : Option (List ℕ)) : Type 0 where
   pub drawn : List (List ℕ)
   pub drawn_count : length drawn ≡ draws_of m r
@@ -117,6 +118,8 @@ pub record IsDone (m : Journal) (r : Request) (reply : Reply) (old new : OwnerVi
   pub next_bytes : WhereBothTold left_before left_after (λ before after. before ≡ flat_map (λ (key : List ℕ). key) drawn ++ after)
   pub disk_stands : WhereBothTold was shows (λ x y. StandsWhole old.key (batches_of old.key m) x
       → StandsWhole old.key (batches_of old.key (journal_then m old.journal.has_epoch r drawn)) y)
+  pub further : old.journal.end ≤ new.journal.end
+  pub disk_behind : WhereBothTold was shows (λ x y. StandsWhole old.key (batches_of old.key m) x → drop new.journal.end y ≡ drop new.journal.end x)
 
 -- why a reply refuses, where it does
 abbrev pub why_refused : Reply → Option Refusal

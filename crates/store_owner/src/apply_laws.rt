@@ -1,5 +1,5 @@
 //! Laws of an owner who stands for a journal: what a command takes, and how the owner goes on behind it.
-ghost use Rattle.std.specs.Prelude.{◌≡◌, ◌*◌, ◌++◌, ◌<◌, ◌^◌, ◌≤◌, ℕ, List, None, Ok, Option, false, is_some, length, not, replicate};
+ghost use Rattle.std.specs.Prelude.{◌≡◌, ◌*◌, ◌++◌, ◌<◌, ◌^◌, ◌≤◌, ℕ, List, None, Ok, Option, drop, false, is_some, length, not, replicate};
 ghost use Rattle.commit_journal.specs.Holding.{IsBetween};
 ghost use Rattle.commit_journal.specs.Journals.{end_with};
 ghost use Rattle.commit_journal.specs.Standing.{StandsWhole};
@@ -28,7 +28,8 @@ ghost use Rattle.store_owner.specs.Applying.{Answers, IsCarriedOut, IsInterrupte
 ghost use Rattle.store_owner.specs.Owned.{IsOwnerOf, OwnerView, limits_in};
 
 /// Law: an owner who stands for a journal, and carries out a command that is accepted there, stands for the journal with that
-/// command; and where the disk showed the whole of the journal, it shows the whole of it with the command.
+/// command; and where the disk showed the whole of the journal, it shows the whole of it with the command, and behind the new end
+/// of the log what it showed there before.
 pub fn owners_go_on()
     ensures owner { (m : Journal) (r : Request) (drawn : List (List ℕ)) (old new : OwnerView) (was shows : Option (List ℕ)) → IsOwnerOf m old
         → old.journal.limit ≤ 268435456 → old.file_bytes ≤ 1048576 → answer (limits_in old) m old.journal.has_epoch r ≡ None
@@ -37,6 +38,12 @@ pub fn owners_go_on()
         → old.journal.limit ≤ 268435456 → old.file_bytes ≤ 1048576 → answer (limits_in old) m old.journal.has_epoch r ≡ None
         → IsCarriedOut r drawn old new was shows
         → WhereBothTold was shows (λ x y. StandsWhole old.key (batches_of old.key m) x → StandsWhole old.key (batches_of old.key (journal_then m old.journal.has_epoch r drawn)) y) }
+    ensures further { (r : Request) (drawn : List (List ℕ)) (old new : OwnerView) (was shows : Option (List ℕ)) → IsCarriedOut r drawn old new was shows
+        → old.journal.end ≤ new.journal.end }
+    ensures behind { (m : Journal) (r : Request) (drawn : List (List ℕ)) (old new : OwnerView) (was shows : Option (List ℕ)) → IsOwnerOf m old
+        → old.journal.limit ≤ 268435456 → old.file_bytes ≤ 1048576 → answer (limits_in old) m old.journal.has_epoch r ≡ None
+        → IsCarriedOut r drawn old new was shows
+        → WhereBothTold was shows (λ x y. StandsWhole old.key (batches_of old.key m) x → drop new.journal.end y ≡ drop new.journal.end x) }
 {}
 
 /// Law: where an owner who stands for a journal met a fault of the disk in a command that is accepted there, and the disk showed the

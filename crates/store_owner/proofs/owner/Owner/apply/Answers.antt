@@ -75,6 +75,8 @@ returns-clause-answers g c = λ m is.
       same_limits = ap (λ n. record { store_bytes = n; file_bytes = new.file_bytes }) full.same_limit ∙ ap (λ n. record { store_bytes = o.journal.limit; file_bytes = n }) full.same_bound;
       next_bytes = λ x y a b. c.in-Ok-fill.ensures.bytes x y a b ∙ ap (λ (d : List (List ℕ)). joined d ++ y) (sym c.as_slice.ensures);
       disk_stands = c.owners_go_on.ensures.disk m r drawn o new was shows is limit bounded (planned.2 m is) full;
+      further = c.owners_go_on.ensures.further r drawn o new was shows full;
+      disk_behind = c.owners_go_on.ensures.behind m r drawn o new was shows is limit bounded (planned.2 m is) full;
     } in
     let left : IsInterrupted r drawn mid was shows → IsCutShort m r o before after was shows = λ h. record {
       drawn = drawn;
