@@ -1,6 +1,7 @@
 -- What a run leaves of a store that it refuses.
 use Rattle.std.proofs.Common.{◌≡◌, ◌⊎◌, ⊎_elim, inl, inr, ℕ, List, Option, None, Some, Result, Ok, Err}
 use Rattle.std.specs.Prelude.{IsTrue}
+use Rattle.std.proofs.lemmas.Bool.{false≢true}
 use Rattle.commit_journal.specs.Reading.{IsUntouched}
 use Rattle.commit_journal.specs.declared.fault.OpenFault.{OpenFault}
 use Rattle.commit_journal.specs.declared.fault.OpenFault.TheVariants as opening
@@ -18,9 +19,9 @@ use Rattle.store_owner.specs.Opened.{IsFilled, LeavesRefused}
 
 -- no store is refused before its first line was read
 pub reading_refuses_none : {P : Type 0} (fault : ScriptFault) → IsReading fault → IsTrue (is_refusal (script_status fault)) → P
-reading_refuses_none (BadLine line) reading is = absurd is
-reading_refuses_none ReadFault reading is = absurd is
-reading_refuses_none OutOfMemory reading is = absurd is
+reading_refuses_none (BadLine line) reading is = absurd (false≢true is)
+reading_refuses_none ReadFault reading is = absurd (false≢true is)
+reading_refuses_none OutOfMemory reading is = absurd (false≢true is)
 reading_refuses_none WriteFault reading is = absurd reading
 reading_refuses_none (Applying fault) reading is = absurd reading
 
@@ -30,20 +31,20 @@ opened_refuses_none statuses.NotAStore judged is = absurd cc
 opened_refuses_none statuses.WrongKey judged is = absurd cc
 opened_refuses_none (statuses.Damaged at) judged is = absurd cc
 opened_refuses_none (statuses.Tampered batch at) judged is = absurd cc
-opened_refuses_none statuses.Done judged is = absurd is
-opened_refuses_none statuses.Usage judged is = absurd is
-opened_refuses_none (statuses.BadScript line) judged is = absurd is
-opened_refuses_none statuses.ReadFault judged is = absurd is
-opened_refuses_none statuses.WriteFault judged is = absurd is
-opened_refuses_none statuses.DiskFault judged is = absurd is
-opened_refuses_none statuses.RandomFault judged is = absurd is
-opened_refuses_none (statuses.RandomShort left need) judged is = absurd is
-opened_refuses_none statuses.OutOfMemory judged is = absurd is
-opened_refuses_none statuses.NotBlank judged is = absurd is
+opened_refuses_none statuses.Done judged is = absurd (false≢true is)
+opened_refuses_none statuses.Usage judged is = absurd (false≢true is)
+opened_refuses_none (statuses.BadScript line) judged is = absurd (false≢true is)
+opened_refuses_none statuses.ReadFault judged is = absurd (false≢true is)
+opened_refuses_none statuses.WriteFault judged is = absurd (false≢true is)
+opened_refuses_none statuses.DiskFault judged is = absurd (false≢true is)
+opened_refuses_none statuses.RandomFault judged is = absurd (false≢true is)
+opened_refuses_none (statuses.RandomShort left need) judged is = absurd (false≢true is)
+opened_refuses_none statuses.OutOfMemory judged is = absurd (false≢true is)
+opened_refuses_none statuses.NotBlank judged is = absurd (false≢true is)
 
 no_refusal : {P : Type 0} (fault : OpenFault) → fault ≡ opening.DiskFault → IsTrue (is_refusal (open_status fault)) → P
-no_refusal opening.DiskFault is refused = absurd refused
-no_refusal opening.OutOfMemory is refused = absurd refused
+no_refusal opening.DiskFault is refused = absurd (false≢true refused)
+no_refusal opening.OutOfMemory is refused = absurd (false≢true refused)
 no_refusal opening.NotAStore is refused = absurd cc
 no_refusal opening.WrongKey is refused = absurd cc
 no_refusal (opening.Damaged at) is refused = absurd cc
