@@ -24,6 +24,3 @@ pub use names::Names;
 pub use naming::{name_ok, path_ok};
 pub use rows::{FileRow, FolderRow};
 pub use shape::Shape;
-
-#[cfg(test)]
-mod tests;
