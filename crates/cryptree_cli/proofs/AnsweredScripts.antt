@@ -1,5 +1,5 @@
 -- What an owner answers to commands, one after another, is what the session's script replies.
-use Rattle.std.proofs.Common.{◌≡◌, ◌≤◌, ℕ, List, [], ◌∷◌, ◌++◌, arith, refl, sym, ap, subst, ◌∙◌}
+use Rattle.std.proofs.Common.{◌≡◌, ◌≤◌, ⊎_elim, inl, inr, ℕ, List, [], ◌∷◌, ◌++◌, drop, length, arith, refl, sym, ap, subst, ◌∙◌}
 use Rattle.std.specs.Prelude.{is_some}
 use Rattle.cry_base.specs.Requests.{Request}
 use Rattle.cry_base.specs.declared.commands.Reply.{Reply}
@@ -10,7 +10,8 @@ use Rattle.cryptree_cli.specs.Script.{Answered}
 use Rattle.cryptree_cli.specs.Script.Answered.{Begun, Then}
 use Rattle.store_owner.specs.Applying.{StandsAt}
 use Rattle.store_owner.specs.Taking.{TakesKeys}
-use Rattle.store_owner.proofs.Scripted.{answered}
+use Rattle.store_owner.proofs.OwnerGoesOn.{drops_more}
+use Rattle.store_owner.proofs.Scripted.{AnswersBehind, answered, answered_behind}
 use Rattle.store_owner.proofs.Taken.{takes_more, takes_none}
 
 -- one command more at the end of a script
@@ -71,3 +72,24 @@ module _ (X : Type 0) (scene : X → Scene) (Step : X → Request → Reply → 
   keys_taken asked given end Begun = takes_none (scene start).left
   keys_taken asked given end (Then {asked = rs} {replies = told} {x = x} {y = y} {request = r} {reply = reply} before step) =
       takes_more (scene start).left (scene x).left (scene y).left (told_stays rs told x before).0 (keys_taken rs told x before) (is x r reply y step).draws
+
+  -- what stands behind the log stays, and all that is shown where the journal grew no longer
+  pub behind_kept : (limits : Limits) (key : List ℕ) (g : Going) → IsScene limits key g (scene start) → (asked : List Request) (given : List Reply) (end : X)
+      → Answered Step start asked given end → AnswersBehind g (script_going limits g asked) (scene start).owner (scene end).owner (scene start).shown (scene end).shown
+  unfolding script_going
+  behind_kept limits key g stands asked given end Begun = (λ x y e f. let one : y ≡ x = cc in ap (λ b. drop (scene start).owner.journal.end b) one, omega arith, omega arith, inl refl)
+  behind_kept limits key g stands asked given end (Then {asked = rs} {replies = told} {x = x} {y = y} {request = r} {reply = reply} before step) =
+      let so_far = behind_kept limits key g stands rs told x before in
+      let there = (answered_script limits key g stands rs told x before).1 in
+      let one = is x r reply y step in
+      let h = script_going limits g rs in
+      let next = answered_behind limits key h r reply (scene x).owner (scene y).owner (scene x).left (scene y).left (scene x).shown (scene y).shown there
+      (one.answers h.journal there.owner_is) one.kept in
+      let long = ap (λ (k : Going). length k.journal) (going_more limits g rs r) in (
+        λ a c e f. next.0 there.disk_stands.0 c there.disk_stands.1 f ∙ drops_more (scene x).owner.journal.end (scene y).owner.journal.end a there.disk_stands.0 next.1 (so_far.0 a there.disk_stands.0 e there.disk_stands.1),
+        omega (arith, so_far.1, next.1),
+        omega (arith, so_far.2, next.2, long),
+        ⊎_elim
+            (λ (same : (scene y).shown ≡ (scene x).shown). ⊎_elim (λ first. inl (same ∙ first)) (λ longer. inr (omega (arith, longer, next.2, long))) so_far.3)
+            (λ longer. inr (omega (arith, longer, so_far.2, long))) next.3,
+      )

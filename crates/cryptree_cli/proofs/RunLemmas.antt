@@ -1,13 +1,14 @@
 -- What the lines of a run leave of the random source and of the disk, however they end.
-use Rattle.std.proofs.Common.{◌≡◌, ◌≢◌, ◌≤◌, ◌<◌, ℕ, List, Option, Some, Result, Ok, Err, arith, refl, subst, ◌∙◌}
+use Rattle.std.proofs.Common.{◌≡◌, ◌≢◌, ◌≤◌, ◌<◌, ℕ, List, length, Option, Some, Result, Ok, Err, arith, refl, subst, ◌∙◌}
 use Rattle.std.specs.Prelude.{is_some}
 use Rattle.cry_base.specs.Requests.{Request}
 use Rattle.cry_base.specs.declared.commands.Reply.{Reply}
 use Rattle.cry_io.specs.Stops.{IsDurable}
+use Rattle.journal_bytes.specs.Bytes.{image_of}
 use Rattle.journal_bytes.specs.Script.{opened}
 use Rattle.cryptree_cli.specs.Lines.{LineState, lines_ahead}
 use Rattle.cryptree_cli.specs.OwnerSteps.{AnswersIn, FailsIn, Scene}
-use Rattle.cryptree_cli.specs.Running.{Ends, RanDry, ended_status, script_status, version_limits}
+use Rattle.cryptree_cli.specs.Running.{Ends, KeepsFrom, RanDry, ended_status, script_status, version_limits}
 use Rattle.cryptree_cli.specs.Script.{Answered, Ran}
 use Rattle.cryptree_cli.specs.declared.script.ScriptFault.{ScriptFault}
 use Rattle.cryptree_cli.specs.declared.script.ScriptFault.TheVariants.{BadLine, ReadFault, WriteFault, OutOfMemory, Applying}
@@ -148,9 +149,10 @@ module _ (R D : Type 0) (left : R → Option (List ℕ)) (random_faults : R → 
 
     -- on a disk that shows a journal, where the input tells
     pub ends_so : (result : Result (Unit {0}) ScriptFault) → HasRan result → old.given ≡ 1 → is_some left_after ≡ is_some left_before → (b : List ℕ) → left_before ≡ Some b
-        → (draws key : List ℕ) (m : Journal) → StandsAt version_limits key (opened m draws) start.0 (left start.1) (shown start.2)
-        → Ends (ended_status result) version_limits key m draws (lines_ahead old b) (left end.1) (shown end.2) out_before out_after
-    ends_so result ran first told b was draws key m stands =
+        → (draws key : List ℕ) (m : Journal) (first_shown : Option (List ℕ)) → StandsAt version_limits key (opened m draws) start.0 (left start.1) (shown start.2)
+        → KeepsFrom (length (image_of key m)) first_shown (shown start.2)
+        → Ends (ended_status result) version_limits key m draws (lines_ahead old b) first_shown (left end.1) (shown end.2) out_before out_after
+    ends_so result ran first told b was draws key m first_shown stands kept =
         let after = still_told left_after left_before b told was in
-        ends_as (OwnerView × R × D) scene Step Fails (λ x r reply y step. step) (λ x r fault y failed. failed.0) version_limits key m draws start end stands
+        ends_as (OwnerView × R × D) scene Step Fails (λ x r reply y step. step) (λ x r fault y failed. failed.0) version_limits key m draws start end stands first_shown kept
         old new left_before left_after out_before out_after b after.0 was after.1 result ran first

@@ -50,13 +50,13 @@ bad_first_is_unjudged WriteFault reading before after gives key hands v = absurd
 bad_first_is_unjudged (Applying fault) reading before after gives key hands v = absurd reading
 
 pub first_ends : (fault : ScriptFault) → IsReading fault → (before after : List InputLine) → GivesOwner (Err fault) before after
-    → (key : List ℕ) → key_in_lines before ≡ Some key → (limits : Limits) (m : Journal) (draws : List ℕ) (lines : List InputLine) (left shown written : Option (List ℕ)) → left ≡ Some draws → ShowsJournal key m shown
-    → Ends (script_status fault) limits key m draws lines left shown written written
-first_ends (BadLine line) reading before after gives key hands limits m draws lines left shown written undrawn shows = absurd (none_is_none key (key_in_lines before) gives.0 hands)
-first_ends ReadFault reading before after gives key hands limits m draws lines left shown written undrawn shows = inl (record { undrawn = undrawn; shows_still = shows; unprinted = refl })
-first_ends OutOfMemory reading before after gives key hands limits m draws lines left shown written undrawn shows = inl (record { undrawn = undrawn; shows_still = shows; unprinted = refl })
-first_ends WriteFault reading before after gives key hands limits m draws lines left shown written undrawn shows = absurd reading
-first_ends (Applying fault) reading before after gives key hands limits m draws lines left shown written undrawn shows = absurd reading
+    → (key : List ℕ) → key_in_lines before ≡ Some key → (limits : Limits) (m : Journal) (draws : List ℕ) (lines : List InputLine) (was left shown written : Option (List ℕ)) → left ≡ Some draws → ShowsJournal key m shown
+    → Ends (script_status fault) limits key m draws lines was left shown written written
+first_ends (BadLine line) reading before after gives key hands limits m draws lines was left shown written undrawn shows = absurd (none_is_none key (key_in_lines before) gives.0 hands)
+first_ends ReadFault reading before after gives key hands limits m draws lines was left shown written undrawn shows = inl (record { undrawn = undrawn; shows_still = shows; unprinted = refl })
+first_ends OutOfMemory reading before after gives key hands limits m draws lines was left shown written undrawn shows = inl (record { undrawn = undrawn; shows_still = shows; unprinted = refl })
+first_ends WriteFault reading before after gives key hands limits m draws lines was left shown written undrawn shows = absurd reading
+first_ends (Applying fault) reading before after gives key hands limits m draws lines was left shown written undrawn shows = absurd reading
 
 pub first_is_before : (fault : ScriptFault) → IsReading fault → (old new : ℕ) → CountsOwner (Err fault) old new → is_after_opening (script_status fault) ≡ false
 first_is_before (BadLine line) reading old new count = subst (λ n. is_after_opening (script_status (BadLine n)) ≡ false) (sym count) refl
@@ -92,12 +92,12 @@ opened_has_no_verdict key image s is = ap failure_of is
 
 -- a store that shows a journal isn't opened where the disk failed, or memory was wanting
 pub unopened_ends : (fault : OpenFault) → (fault ≡ opening.DiskFault) ⊎ (fault ≡ opening.OutOfMemory)
-    → (limits : Limits) (key : List ℕ) (m : Journal) (draws : List ℕ) (lines : List InputLine) (left shown written : Option (List ℕ)) → left ≡ Some draws → ShowsJournal key m shown
-    → Ends (open_status fault) limits key m draws lines left shown written written
-unopened_ends fault why limits key m draws lines left shown written undrawn shows =
+    → (limits : Limits) (key : List ℕ) (m : Journal) (draws : List ℕ) (lines : List InputLine) (was left shown written : Option (List ℕ)) → left ≡ Some draws → ShowsJournal key m shown
+    → Ends (open_status fault) limits key m draws lines was left shown written written
+unopened_ends fault why limits key m draws lines was left shown written undrawn shows =
     ⊎_elim
-    (λ (e : fault ≡ opening.DiskFault). subst (λ (f : OpenFault). Ends (open_status f) limits key m draws lines left shown written written) (sym e) (inl (record { undrawn = undrawn; shows_still = shows; unprinted = refl })))
-    (λ (e : fault ≡ opening.OutOfMemory). subst (λ (f : OpenFault). Ends (open_status f) limits key m draws lines left shown written written) (sym e) (inl (record { undrawn = undrawn; shows_still = shows; unprinted = refl })))
+    (λ (e : fault ≡ opening.DiskFault). subst (λ (f : OpenFault). Ends (open_status f) limits key m draws lines was left shown written written) (sym e) (inl (record { undrawn = undrawn; shows_still = shows; unprinted = refl })))
+    (λ (e : fault ≡ opening.OutOfMemory). subst (λ (f : OpenFault). Ends (open_status f) limits key m draws lines was left shown written written) (sym e) (inl (record { undrawn = undrawn; shows_still = shows; unprinted = refl })))
     why
 
 -- an owner who opened a journal's store stands where a session begins

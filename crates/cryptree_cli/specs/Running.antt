@@ -1,5 +1,5 @@
 -- What `run` answers, prints and leaves: on every disk, and on one that shows a journal. This project's own, docs/FORMAT.md, "The program".
-use Rattle.std.specs.Prelude.{◌≡◌, ◌<◌, ◌⊎◌, ℕ, ◌+◌, ◌*◌, ◌==◌, nat_lt, Bool, true, false, List, [], ◌∷◌, ◌++◌, length, Option, Some, None, Result, Ok, Err}
+use Rattle.std.specs.Prelude.{◌≡◌, ◌<◌, ◌⊎◌, ℕ, ◌+◌, ◌*◌, ◌==◌, nat_lt, Bool, true, false, List, [], ◌∷◌, ◌++◌, drop, length, Option, Some, None, Result, Ok, Err}
 use Rattle.commit_journal.specs.Answering.{Damaged, NotAStore, Tampered, WrongKey}
 use Rattle.commit_journal.specs.Holding.{IsBetween}
 use Rattle.commit_journal.specs.Standing.{StandsWhole}
@@ -12,7 +12,7 @@ use Rattle.holder_client.specs.Asking.Asking.{ToWrite}
 use Rattle.holder_client.specs.Judging.{Failure, OfBytes}
 use Rattle.public_fold.specs.Journal.{Journal}
 use Rattle.script_text.specs.Reading.{bundle_of}
-use Rattle.journal_bytes.specs.Bytes.{batches_of}
+use Rattle.journal_bytes.specs.Bytes.{batches_of, image_of}
 use Rattle.journal_bytes.specs.Journals.{ShowsJournal, StandsForJournal}
 use Rattle.journal_bytes.specs.Script.{Going, answer, draws_of, journal_then, opened, script_going, script_replies}
 use Rattle.store_owner.specs.Drawing.{AreKeys, joined}
@@ -48,10 +48,21 @@ lines_in typed = lines_of input_limit typed
 abbrev pub going_asked : Limits → Journal → List ℕ → List Request → Going
 going_asked limits m draws asked = script_going limits (opened m draws) asked
 
--- the random bytes that are left, and what the disk shows, are those of a session
-pub record LeavesAt (key : List ℕ) (g : Going) (left shown : Option (List ℕ)) : Type 0 where
+-- from this place on the disk shows what it showed
+abbrev pub KeepsFrom : ℕ → Option (List ℕ) → Option (List ℕ) → Type 0
+KeepsFrom place was shown = WhereBothTold was shown (λ x y. drop place y ≡ drop place x)
+
+-- Behind the gate that ends the log the disk shows what it showed there; and that gate too is as it was, where no command made the
+-- journal longer.
+pub record KeepsBehind (key : List ℕ) (m now : Journal) (was shown : Option (List ℕ)) : Type 0 where
+  pub behind : KeepsFrom (length (image_of key now) + 1) was shown
+  pub unchanged : now ≡ m → KeepsFrom (length (image_of key m)) was shown
+
+-- the random bytes that are left, and what the disk shows, are those of a session over this journal
+pub record LeavesAt (key : List ℕ) (m : Journal) (was : Option (List ℕ)) (g : Going) (left shown : Option (List ℕ)) : Type 0 where
   pub draws_left : left ≡ Some g.draws
   pub shows_whole : (s : List ℕ) × (shown ≡ Some s) × StandsWhole key (batches_of key g.journal) s
+  pub keeps : KeepsBehind key m g.journal was shown
 
 -- all replies were printed
 abbrev pub PrintsScript : Limits → Journal → List ℕ → List Request → List ℕ → List ℕ → Type 0
@@ -62,14 +73,14 @@ abbrev pub IsAccepted : Limits → Going → Request → Type 0
 IsAccepted limits g r = answer limits g.journal g.begun r ≡ None
 
 -- The first lines were asked, and all of them answered: what was replied is printed, and the session stands behind them.
-pub record HasRun (limits : Limits) (key : List ℕ) (m : Journal) (draws : List ℕ) (lines rest : List InputLine) (left shown before after : Option (List ℕ)) : Type 0 where
+pub record HasRun (limits : Limits) (key : List ℕ) (m : Journal) (draws : List ℕ) (lines rest : List InputLine) (was left shown before after : Option (List ℕ)) : Type 0 where
   pub asked : List Request
   pub asks : Asks asked lines rest
-  pub leaves : LeavesAt key (going_asked limits m draws asked) left shown
+  pub leaves : LeavesAt key m was (going_asked limits m draws asked) left shown
   pub prints : WhereBothTold before after (PrintsScript limits m draws asked)
 
 -- So they were, and then one was accepted for which random bytes were wanting: so many were left of those that it draws.
-pub record RanShort (limits : Limits) (key : List ℕ) (m : Journal) (draws : List ℕ) (lines : List InputLine) (given need : ℕ) (left shown before after : Option (List ℕ)) : Type 0 where
+pub record RanShort (limits : Limits) (key : List ℕ) (m : Journal) (draws : List ℕ) (lines : List InputLine) (given need : ℕ) (was left shown before after : Option (List ℕ)) : Type 0 where
   pub asked : List Request
   pub next : Request
   pub rest : List InputLine
@@ -80,25 +91,27 @@ pub record RanShort (limits : Limits) (key : List ℕ) (m : Journal) (draws : Li
   pub is_short : given < need
   pub nothing_left : left ≡ Some []
   pub shows_whole : (s : List ℕ) × (shown ≡ Some s) × StandsWhole key (batches_of key (going_asked limits m draws asked).journal) s
+  pub keeps : KeepsBehind key m (going_asked limits m draws asked).journal was shown
   pub prints : WhereBothTold before after (PrintsScript limits m draws asked)
 
 -- The first lines were asked and answered, and what was replied is printed but for some of the last reply.
-pub record RanCut (limits : Limits) (key : List ℕ) (m : Journal) (draws : List ℕ) (lines : List InputLine) (left shown before after : Option (List ℕ)) : Type 0 where
+pub record RanCut (limits : Limits) (key : List ℕ) (m : Journal) (draws : List ℕ) (lines : List InputLine) (was left shown before after : Option (List ℕ)) : Type 0 where
   pub asked : List Request
   pub rest : List InputLine
   pub asks : Asks asked lines rest
-  pub leaves : LeavesAt key (going_asked limits m draws asked) left shown
+  pub leaves : LeavesAt key m was (going_asked limits m draws asked) left shown
   pub prints : WhereBothTold before after (PrintsCut (script_replies limits (opened m draws) asked))
 
 -- The first lines were asked and answered, and then one was accepted that met a fault of the random source, which leaves the
 -- disk as it was.
-pub record RanUndrawn (limits : Limits) (key : List ℕ) (m : Journal) (draws : List ℕ) (lines : List InputLine) (shown before after : Option (List ℕ)) : Type 0 where
+pub record RanUndrawn (limits : Limits) (key : List ℕ) (m : Journal) (draws : List ℕ) (lines : List InputLine) (was shown before after : Option (List ℕ)) : Type 0 where
   pub asked : List Request
   pub next : Request
   pub rest : List InputLine
   pub asks : Asks (asked ++ next ∷ []) lines rest
   pub is_accepted : IsAccepted limits (going_asked limits m draws asked) next
   pub shows_whole : (s : List ℕ) × (shown ≡ Some s) × StandsWhole key (batches_of key (going_asked limits m draws asked).journal) s
+  pub keeps : KeepsBehind key m (going_asked limits m draws asked).journal was shown
   pub prints : WhereBothTold before after (PrintsScript limits m draws asked)
 
 -- Or it drew its keys and met a fault of the disk: that shows the journal as it was before, or with the session begun, or with the
@@ -124,20 +137,20 @@ pub record IsUnopened (key : List ℕ) (m : Journal) (draws : List ℕ) (left sh
 
 -- How `run` ends on a disk that shows a journal, where the input and the random source tell: at Done all lines were asked, before
 -- a bad line those before it. What the bytes of a store answer comes on no such disk.
-abbrev pub Ends : Status → Limits → List ℕ → Journal → List ℕ → List InputLine → Option (List ℕ) → Option (List ℕ) → Option (List ℕ) → Option (List ℕ) → Type 0
-Ends statuses.Done limits key m draws lines left shown before after = HasRun limits key m draws lines [] left shown before after
-Ends (statuses.BadScript line) limits key m draws lines left shown before after =
-    (rest : List InputLine) × IsBadFirst rest × (run : HasRun limits key m draws lines rest left shown before after) × (line ≡ length run.asked + 2)
-Ends statuses.ReadFault limits key m draws lines left shown before after =
-    IsUnopened key m draws left shown before after ⊎ ((rest : List InputLine) × HasRun limits key m draws lines rest left shown before after)
-Ends (statuses.RandomShort given need) limits key m draws lines left shown before after = RanShort limits key m draws lines given need left shown before after
-Ends statuses.RandomFault limits key m draws lines left shown before after = RanUndrawn limits key m draws lines shown before after
-Ends statuses.WriteFault limits key m draws lines left shown before after = RanCut limits key m draws lines left shown before after
-Ends statuses.DiskFault limits key m draws lines left shown before after =
+abbrev pub Ends : Status → Limits → List ℕ → Journal → List ℕ → List InputLine → Option (List ℕ) → Option (List ℕ) → Option (List ℕ) → Option (List ℕ) → Option (List ℕ) → Type 0
+Ends statuses.Done limits key m draws lines was left shown before after = HasRun limits key m draws lines [] was left shown before after
+Ends (statuses.BadScript line) limits key m draws lines was left shown before after =
+    (rest : List InputLine) × IsBadFirst rest × (run : HasRun limits key m draws lines rest was left shown before after) × (line ≡ length run.asked + 2)
+Ends statuses.ReadFault limits key m draws lines was left shown before after =
+    IsUnopened key m draws left shown before after ⊎ ((rest : List InputLine) × HasRun limits key m draws lines rest was left shown before after)
+Ends (statuses.RandomShort given need) limits key m draws lines was left shown before after = RanShort limits key m draws lines given need was left shown before after
+Ends statuses.RandomFault limits key m draws lines was left shown before after = RanUndrawn limits key m draws lines was shown before after
+Ends statuses.WriteFault limits key m draws lines was left shown before after = RanCut limits key m draws lines was left shown before after
+Ends statuses.DiskFault limits key m draws lines was left shown before after =
     IsUnopened key m draws left shown before after ⊎ RanUnwritten limits key m draws lines left shown before after
-Ends statuses.OutOfMemory limits key m draws lines left shown before after =
-    IsUnopened key m draws left shown before after ⊎ RanCut limits key m draws lines left shown before after
-Ends _ limits key m draws lines left shown before after = ⊥
+Ends statuses.OutOfMemory limits key m draws lines was left shown before after =
+    IsUnopened key m draws left shown before after ⊎ RanCut limits key m draws lines was left shown before after
+Ends _ limits key m draws lines was left shown before after = ⊥
 
 -- how `run` may end
 abbrev pub is_run_answer : Status → Bool
@@ -231,7 +244,7 @@ JudgesTyped status typed image = (key : List ℕ) → key_in_lines (lines_in typ
 -- how it ends for each journal with that key that the disk showed
 abbrev pub EndsTyped : Status → List ℕ → List ℕ → Option (List ℕ) → Option (List ℕ) → Option (List ℕ) → Option (List ℕ) → Option (List ℕ) → Type 0
 EndsTyped status typed draws was left shown before after = (key : List ℕ) (m : Journal) → key_in_lines (lines_in typed) ≡ Some key → ShowsJournal key m was
-    → Ends status version_limits key m draws (lines_behind (lines_in typed)) left shown before after
+    → Ends status version_limits key m draws (lines_behind (lines_in typed)) was left shown before after
 
 -- ---- on every disk
 

@@ -1,16 +1,17 @@
 //! The command `run`: the owner's line, then the store opened for writing, then each command's line answered before the next is
 //! read, in this order.
-ghost use Rattle.std.specs.Prelude.{◌≡◌, ◌≢◌, ◌<◌, ◌≤◌, ℕ, [], List, Err, IfErr, OnOk, None, Option, Some, false, is_some, IsTrue};
+ghost use Rattle.std.specs.Prelude.{◌≡◌, ◌≢◌, ◌+◌, ◌<◌, ◌≤◌, ℕ, [], List, Err, IfErr, OnOk, None, Option, Some, false, is_some, length, IsTrue};
 ghost use Rattle.cry_io.specs.Stops.{IsDurable};
 ghost use Rattle.cry_io.specs.Told.{WhereTold, WhereBothTold};
 ghost use Rattle.holder_client.specs.Judging.{Failure};
 ghost use Rattle.public_fold.specs.Journal.{Journal};
+ghost use Rattle.journal_bytes.specs.Bytes.{image_of};
 ghost use Rattle.journal_bytes.specs.Script.{opened};
 ghost use Rattle.store_owner.specs.Applying.{StandsAt};
 ghost use Rattle.cryptree_cli.specs.Lines.{lines_ahead};
 ghost use Rattle.cryptree_cli.specs.Refusing.{Refuses, is_refusal};
 ghost use Rattle.cryptree_cli.specs.Running as running;
-ghost use Rattle.cryptree_cli.specs.Running.{CountsOwner, Ends, EndsTyped, FirstIsBad, GivesOwner, HasBadLine, Judges, JudgesTyped, RanDry, RanLines, is_after_opening, is_before_opening, is_run_answer, key_in_lines, lines_in, lines_typed, version_limits};
+ghost use Rattle.cryptree_cli.specs.Running.{CountsOwner, Ends, EndsTyped, KeepsFrom, FirstIsBad, GivesOwner, HasBadLine, Judges, JudgesTyped, RanDry, RanLines, is_after_opening, is_before_opening, is_run_answer, key_in_lines, lines_in, lines_typed, version_limits};
 ghost use Rattle.cryptree_cli.specs.Script.{IsReading, ReadsByCount};
 
 use crate::key_line::read_owner;
@@ -113,8 +114,9 @@ fn apply_lines<S: Source, R: Source, D: Disk, W: Sink>(
     requires durable { IsDurable (D.may_leave disk.old) (D.shown disk.old) }
     requires second { reader.given ≡ 1 }
     ensures answers { IsTrue (is_run_answer result) }
-    ensures ran { WhereTold (S.left input.old) (λ left. (draws key : List ℕ) (m : Journal) → StandsAt version_limits key (opened m draws) owner (R.left random.old) (D.shown disk.old) →
-        Ends result version_limits key m draws (lines_ahead reader left) (R.left random.new) (D.shown disk.new) (W.written out.old) (W.written out.new)) }
+    ensures ran { WhereTold (S.left input.old) (λ left. (draws key : List ℕ) (m : Journal) (was : Option (List ℕ)) →
+        StandsAt version_limits key (opened m draws) owner (R.left random.old) (D.shown disk.old) → KeepsFrom (length (image_of key m)) was (D.shown disk.old) →
+        Ends result version_limits key m draws (lines_ahead reader left) was (R.left random.new) (D.shown disk.new) (W.written out.old) (W.written out.new)) }
     ensures lines { RanLines result (lines_ahead reader) (S.left input.old) (W.written out.old) (W.written out.new) }
     ensures short { (left need : ℕ) → result ≡ Status.RandomShort left need → RanDry left need (R.left random.old) (R.left random.new) }
     ensures none_of_bytes { (verdict : Option Failure) → verdict ≡ None → Judges result verdict }

@@ -159,7 +159,7 @@ begun_shown false owner m ready then was showed begins stands = λ x y e f whole
     subst (λ bs. StandsWhole ready.owner bs y) (sym (batches_then owner m Session ready stands)) (begins.0.shown (batches_of owner m) stands x y e f whole)
 
 -- what stands behind the log stays
-drops_more : (a b : ℕ) (x y : List ℕ) → a ≤ b → drop a y ≡ drop a x → drop b y ≡ drop b x
+pub drops_more : (a b : ℕ) (x y : List ℕ) → a ≤ b → drop a y ≡ drop a x → drop b y ≡ drop b x
 drops_more a b x y fits same =
     let n = b - a in
     let parts : b ≡ a + n = omega (arith, fits) in

@@ -1,5 +1,5 @@
 -- An owner who answers a command goes on as the session does.
-use Rattle.std.proofs.Common.{◌≡◌, ℕ, ◌*◌, ◌+◌, suc, List, [], ◌∷◌, ◌++◌, length, take, drop, Option, Some, None, Ok, arith, refl, sym, ap, subst, ◌∙◌}
+use Rattle.std.proofs.Common.{◌≡◌, ◌⊎◌, ◌≤◌, ◌<◌, inl, inr, ℕ, ◌*◌, ◌+◌, suc, cond, List, [], ◌∷◌, ◌++◌, length, take, drop, Option, Some, None, Ok, arith, refl, sym, ap, subst, ◌∙◌, length-append}
 use Rattle.std.specs.Prelude.{All, is_some}
 use Rattle.std.specs.List.{flat_map}
 use Rattle.std.proofs.Math.Seq.{take-append_seam, drop-append_seam}
@@ -8,6 +8,8 @@ use Rattle.std.proofs.lemmas.List.{drop-drop}
 use Rattle.std.proofs.lemmas.List.Elements.{All-head, All-tail}
 use Rattle.commit_journal.specs.Standing.{StandsWhole}
 use Rattle.cry_base.specs.Requests.{Request}
+use Rattle.cry_io.specs.Told.{WhereBothTold}
+use Rattle.public_fold.specs.Journal.Entry.{Session, Did}
 use Rattle.cry_base.specs.declared.commands.Refusal.{Refusal}
 use Rattle.cry_base.specs.declared.commands.Reply.{Reply}
 use Rattle.cry_base.specs.declared.commands.Reply.TheVariants as replies
@@ -111,3 +113,56 @@ answered limits key g r (replies.Made holder drawn) old new left_before left_aft
     done limits key g r old new left_before left_after was shows stands (replies.Made holder drawn) is left_told disk_told
 answered limits key g r (replies.Refused why) old new left_before left_after was shows stands is left_told disk_told kept =
     refused limits key g r old new left_before left_after was shows stands why is.0 is.1 (kept why refl).0 (kept why refl).1
+
+-- ---- what stands behind the log
+
+abbrev pub KeepsFrom : ℕ → Option (List ℕ) → Option (List ℕ) → Type 0
+KeepsFrom place was shows = WhereBothTold was shows (λ x y. drop place y ≡ drop place x)
+
+same_keeps : (place : ℕ) (was shows : Option (List ℕ)) → shows ≡ was → KeepsFrom place was shows
+same_keeps place was shows same = λ x y e f. let one : y ≡ x = cc in ap (λ b. drop place b) one
+
+-- a command that is answered leaves what stands behind the log's new end; it makes the journal longer, or leaves all that is shown
+abbrev pub AnswersBehind : Going → Going → OwnerView → OwnerView → Option (List ℕ) → Option (List ℕ) → Type 0
+AnswersBehind g h old new was shows =
+    KeepsFrom new.journal.end was shows × (old.journal.end ≤ new.journal.end) × (length g.journal ≤ length h.journal) × ((shows ≡ was) ⊎ (length g.journal < length h.journal))
+
+module _ (limits : Limits) (key : List ℕ) (g : Going) (r : Request) (old new : OwnerView) (left_before left_after was shows : Option (List ℕ))
+    (stands : StandsAt limits key g old left_before was) where
+  refused_behind : (why : Refusal) → answer (limits_in old) g.journal old.journal.has_epoch r ≡ Some why → new ≡ old → shows ≡ was
+      → AnswersBehind g (line_going g r (answer limits g.journal g.begun r)) old new was shows
+  unfolding line_going
+  refused_behind why is same shown =
+      let e = limited limits key g r old new left_before left_after was shows stands (Some why) is in
+      let end = ap (λ (o : OwnerView). o.journal.end) same in
+      let going : line_going g r (answer limits g.journal g.begun r) ≡ g = ap (line_going g r) e in
+      let long = ap (λ (h : Going). length h.journal) going in
+      (same_keeps new.journal.end was shows shown, omega (arith, end), omega (arith, long), inl shown)
+
+  done_behind : (reply : Reply) → IsDone g.journal r reply old new left_before left_after was shows
+      → AnswersBehind g (line_going g r (answer limits g.journal g.begun r)) old new was shows
+  unfolding line_going accepted_going
+  done_behind reply is =
+      let e = limited limits key g r old new left_before left_after was shows stands None is.accepted in
+      let next = Did r (keys_from (draws_of g.journal r) g.draws) in
+      let session = cond g.begun [] (Session ∷ []) in
+      let going : line_going g r (answer limits g.journal g.begun r) ≡ accepted_going g r (draws_of g.journal r) = ap (line_going g r) e in
+      let long = ap (λ (h : Going). length h.journal) going in
+      let longer : length g.journal < length (line_going g r (answer limits g.journal g.begun r)).journal =
+      omega (arith, long, length-append (g.journal ++ session) (next ∷ []), length-append g.journal session) in
+      let whole : (x : List ℕ) → was ≡ Some x → StandsWhole old.key (batches_of old.key g.journal) x = λ x a.
+      let one : stands.disk_stands.0 ≡ x = let both = sym stands.disk_stands.1 ∙ a in cc in
+      subst (StandsWhole old.key (batches_of old.key g.journal)) one
+      (subst (λ k. StandsWhole k (batches_of k g.journal) stands.disk_stands.0) (sym stands.has_key) stands.disk_stands.2) in
+      (λ x y a b. is.disk_behind x y a b (whole x a), is.further, omega (arith, longer), inr longer)
+
+pub answered_behind : (limits : Limits) (key : List ℕ) (g : Going) (r : Request) (reply : Reply) (old new : OwnerView) (left_before left_after was shows : Option (List ℕ))
+    → StandsAt limits key g old left_before was → Answers (Ok reply) g.journal r old new left_before left_after was shows
+    → ((why : Refusal) → reply ≡ replies.Refused why → (left_after ≡ left_before) × (shows ≡ was))
+    → AnswersBehind g (line_going g r (answer limits g.journal g.begun r)) old new was shows
+answered_behind limits key g r replies.Done old new left_before left_after was shows stands is kept =
+    done_behind limits key g r old new left_before left_after was shows stands replies.Done is
+answered_behind limits key g r (replies.Made holder drawn) old new left_before left_after was shows stands is kept =
+    done_behind limits key g r old new left_before left_after was shows stands (replies.Made holder drawn) is
+answered_behind limits key g r (replies.Refused why) old new left_before left_after was shows stands is kept =
+    refused_behind limits key g r old new left_before left_after was shows stands why is.0 is.1 (kept why refl).1

@@ -7,12 +7,12 @@ use Rattle.store_owner.specs.Owned.{OwnerView}
 use Rattle.cryptree_cli.proofs.run.apply_lines.Goals as goal
 
 pub returns-in-Ok-clause-ran : goal.returns-in-Ok-clause-ran
-returns-in-Ok-clause-ran g c = λ x was draws key m stands.
+returns-in-Ok-clause-ran g c = λ x was draws key m first_shown stands kept.
     ends_so g.row.R.Denot g.row.D.Denot g.R.Source.left g.R.Source.faults g.D.Disk.shown g.D.Disk.faults g.D.Disk.may_leave
     (c.args.owner, c.args.random.now, c.args.disk.now) (c.run_lines.new.owner, c.run_lines.new.random, c.run_lines.new.disk)
     c.args.reader c.run_lines.new.reader (g.S.Source.left c.args.input.now) (g.S.Source.left c.run_lines.new.input)
     (g.W.Sink.written c.args.out.now) (g.W.Sink.written c.run_lines.new.out)
-    (Ok tt) c.in-Ok.ensures.ran c.requires.second c.in-Ok.ensures.input_told x was draws key m stands
+    (Ok tt) c.in-Ok.ensures.ran c.requires.second c.in-Ok.ensures.input_told x was draws key m first_shown stands kept
 
 pub returns-in-Ok-clause-random_told : goal.returns-in-Ok-clause-random_told
 returns-in-Ok-clause-random_told g c =
@@ -47,14 +47,14 @@ returns-in-Ok-clause-disk_counts g c =
     (Ok tt) c.in-Ok.ensures.ran).3
 
 pub returns-clause-ran : goal.returns-clause-ran
-returns-clause-ran g c = λ x was draws key m stands.
-    subst (λ status. Ends status version_limits key m draws (lines_ahead c.args.reader x) (g.R.Source.left c.run_lines.new.random) (g.D.Disk.shown c.run_lines.new.disk)
+returns-clause-ran g c = λ x was draws key m first_shown stands kept.
+    subst (λ status. Ends status version_limits key m draws (lines_ahead c.args.reader x) first_shown (g.R.Source.left c.run_lines.new.random) (g.D.Disk.shown c.run_lines.new.disk)
     (g.W.Sink.written c.args.out.now) (g.W.Sink.written c.run_lines.new.out)) (sym c.script_status.ensures)
     (ends_so g.row.R.Denot g.row.D.Denot g.R.Source.left g.R.Source.faults g.D.Disk.shown g.D.Disk.faults g.D.Disk.may_leave
     (c.args.owner, c.args.random.now, c.args.disk.now) (c.run_lines.new.owner, c.run_lines.new.random, c.run_lines.new.disk)
     c.args.reader c.run_lines.new.reader (g.S.Source.left c.args.input.now) (g.S.Source.left c.run_lines.new.input)
     (g.W.Sink.written c.args.out.now) (g.W.Sink.written c.run_lines.new.out)
-    (Err c.in-Err.fault) c.in-Err.ensures.ran c.requires.second c.in-Err.ensures.input_told x was draws key m stands)
+    (Err c.in-Err.fault) c.in-Err.ensures.ran c.requires.second c.in-Err.ensures.input_told x was draws key m first_shown stands kept)
 
 pub returns-clause-random_told : goal.returns-clause-random_told
 returns-clause-random_told g c =

@@ -1,10 +1,11 @@
-use Rattle.std.proofs.Common.{◌≡◌, None, Some, Err, Ok, refl, sym, subst, ◌∙◌}
+use Rattle.std.proofs.Common.{◌≡◌, length, None, Some, Err, Ok, refl, sym, subst, ◌∙◌}
 use Rattle.std.specs.Prelude.{IsTrue}
 use Rattle.cry_io.specs.Told.{WhereTold}
+use Rattle.journal_bytes.specs.Bytes.{image_of}
 use Rattle.journal_bytes.specs.Journals.{StandsForJournal}
 use Rattle.cryptree_cli.specs.Lines.{lines_ahead}
 use Rattle.cryptree_cli.specs.Refusing.{is_refusal}
-use Rattle.cryptree_cli.specs.Running.{Ends, FirstIsBad, Judges, RanLines, key_in_lines, lines_behind, lines_in, lines_typed, open_status, version_limits}
+use Rattle.cryptree_cli.specs.Running.{Ends, FirstIsBad, Judges, KeepsFrom, RanLines, key_in_lines, lines_behind, lines_in, lines_typed, open_status, version_limits}
 use Rattle.cryptree_cli.proofs.LinesRun.{bad_is_never_done, lines_as_typed, unopened_lines, unread_lines}
 use Rattle.cryptree_cli.proofs.RefusedRuns.{leaves_refused, opened_refuses_none, reading_refuses_none}
 use Rattle.cryptree_cli.proofs.RunEnds.{still_told}
@@ -31,11 +32,11 @@ returns-in-Err-clause-judged g c = λ x was image shown key hands.
 pub returns-in-Err-clause-ran : goal.returns-in-Err-clause-ran
 returns-in-Err-clause-ran g c = λ x was draws left key m hands shows.
     let after = still_told (g.S.Source.left c.first_owner.new.input) (g.S.Source.left c.args.input.now) x c.in-Err.ensures.told was in
-    subst (λ status. Ends status version_limits key m draws (lines_behind (lines_in x)) (g.R.Source.left c.args.random.now) (g.D.Disk.shown c.args.disk.now)
+    subst (λ status. Ends status version_limits key m draws (lines_behind (lines_in x)) (g.D.Disk.shown c.args.disk.now) (g.R.Source.left c.args.random.now) (g.D.Disk.shown c.args.disk.now)
     (g.W.Sink.written c.args.out.now) (g.W.Sink.written c.args.out.now)) (sym c.script_status.ensures)
     (first_ends c.in-Err.fault c.in-Err.ensures.faults (lines_in x) (lines_ahead c.first_owner.new.reader after.0)
     (gives_first (Err c.in-Err.fault) c.new-reader.result x (lines_ahead c.first_owner.new.reader after.0) c.new-reader.ensures (c.in-Err.ensures.gives x after.0 was after.1))
-    key hands version_limits m draws (lines_behind (lines_in x)) (g.R.Source.left c.args.random.now) (g.D.Disk.shown c.args.disk.now) (g.W.Sink.written c.args.out.now) left shows)
+    key hands version_limits m draws (lines_behind (lines_in x)) (g.D.Disk.shown c.args.disk.now) (g.R.Source.left c.args.random.now) (g.D.Disk.shown c.args.disk.now) (g.W.Sink.written c.args.out.now) left shows)
 
 pub returns-in-Ok-open_store-clause-first_line : goal.returns-in-Ok-open_store-clause-first_line
 returns-in-Ok-open_store-clause-first_line g c = λ x was none.
@@ -74,10 +75,10 @@ returns-in-Err-open_store-clause-ran g c = λ x was draws left key m hands shows
     (gives_first (Ok c.in-Ok.key) c.new-reader.result x (lines_ahead c.first_owner.new.reader after.0) c.new-reader.ensures (c.in-Ok.ensures.gives x after.0 was after.1)) hands in
     let stands = subst (λ k. StandsForJournal k m shows.0) (sym same) shows.2 in
     let now = still_told (g.D.Disk.shown c.open_store.new.disk) (g.D.Disk.shown c.args.disk.now) shows.0 c.in-Err-open_store.ensures.told shows.1 in
-    subst (λ status. Ends status version_limits key m draws (lines_behind (lines_in x)) (g.R.Source.left c.args.random.now) (g.D.Disk.shown c.open_store.new.disk)
+    subst (λ status. Ends status version_limits key m draws (lines_behind (lines_in x)) (g.D.Disk.shown c.args.disk.now) (g.R.Source.left c.args.random.now) (g.D.Disk.shown c.open_store.new.disk)
     (g.W.Sink.written c.args.out.now) (g.W.Sink.written c.args.out.now)) (sym c.open_status.ensures)
     (unopened_ends c.in-Err-open_store.fault (c.in-Err-open_store.ensures.never m shows.0 shows.1 stands stands.valid.1)
-    version_limits key m draws (lines_behind (lines_in x)) (g.R.Source.left c.args.random.now) (g.D.Disk.shown c.open_store.new.disk) (g.W.Sink.written c.args.out.now) left
+    version_limits key m draws (lines_behind (lines_in x)) (g.D.Disk.shown c.args.disk.now) (g.R.Source.left c.args.random.now) (g.D.Disk.shown c.open_store.new.disk) (g.W.Sink.written c.args.out.now) left
     (now.0, now.1, subst (λ k. StandsForJournal k m now.0) same (c.in-Err-open_store.ensures.left m shows.0 now.0 shows.1 now.1 stands stands.valid.1)))
 
 pub returns-in-Ok-open_store-clause-ran : goal.returns-in-Ok-open_store-clause-ran
@@ -89,11 +90,14 @@ returns-in-Ok-open_store-clause-ran g c = λ x was draws left key m hands shows.
     let begins = opened_stands c.in-Ok.key m draws c.in-Ok-open_store.owner (g.R.Source.left c.args.random.now) (g.D.Disk.shown c.open_store.new.disk) (g.D.Disk.may_leave c.open_store.new.disk)
     (c.in-Ok-open_store.ensures.stands m shows.0 shows.1 stands stands.valid.1) c.in-Ok-open_store.ensures.fresh
     (c.in-Ok-open_store.ensures.settled m shows.0 shows.1 stands stands.valid.1) left in
-    subst (λ lines. Ends c.apply_lines.result version_limits key m draws lines (g.R.Source.left c.apply_lines.new.random) (g.D.Disk.shown c.apply_lines.new.disk)
+    let keeps : KeepsFrom (length (image_of c.in-Ok.key m)) (g.D.Disk.shown c.args.disk.now) (g.D.Disk.shown c.open_store.new.disk) = λ a y e f.
+    let one : shows.0 ≡ a = let both = sym shows.1 ∙ e in cc in
+    c.in-Ok-open_store.ensures.behind m a y e f (subst (λ b. StandsForJournal c.in-Ok.key m b) one stands) stands.valid.1 in
+    subst (λ lines. Ends c.apply_lines.result version_limits key m draws lines (g.D.Disk.shown c.args.disk.now) (g.R.Source.left c.apply_lines.new.random) (g.D.Disk.shown c.apply_lines.new.disk)
     (g.W.Sink.written c.args.out.now) (g.W.Sink.written c.apply_lines.new.out)) gives.1
-    (subst (λ k. Ends c.apply_lines.result version_limits k m draws (lines_ahead c.first_owner.new.reader after.0) (g.R.Source.left c.apply_lines.new.random) (g.D.Disk.shown c.apply_lines.new.disk)
+    (subst (λ k. Ends c.apply_lines.result version_limits k m draws (lines_ahead c.first_owner.new.reader after.0) (g.D.Disk.shown c.args.disk.now) (g.R.Source.left c.apply_lines.new.random) (g.D.Disk.shown c.apply_lines.new.disk)
     (g.W.Sink.written c.args.out.now) (g.W.Sink.written c.apply_lines.new.out)) same
-    (c.apply_lines.ensures.ran after.0 after.1 draws c.in-Ok.key m begins))
+    (c.apply_lines.ensures.ran after.0 after.1 draws c.in-Ok.key m (g.D.Disk.shown c.args.disk.now) begins keeps))
 
 -- ---- the lines, whatever the disk shows
 
