@@ -30,6 +30,3 @@ pub use fault::FoldFault;
 pub use heads::{ContentHead, KeyHead, LinkHead, Skeleton};
 pub use prepared::Prepared;
 pub use state::PublicState;
-
-#[cfg(test)]
-mod tests;
