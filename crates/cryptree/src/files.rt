@@ -1,4 +1,5 @@
 //! The files that the words name.
+use cryptree_cli::words::Form;
 use std::fs::{File, OpenOptions};
 use std::io::{self, Read};
 use std::os::fd::AsRawFd;
@@ -16,13 +17,13 @@ pub(crate) enum Access {
 }
 
 impl Access {
-    pub(crate) fn of(command: &[u8]) -> Access {
-        if command == b"make".as_slice() {
-            Access::Make
-        } else if command == b"run".as_slice() {
-            Access::Write
-        } else {
-            Access::Read
+    /// `None` where the words name no store.
+    pub(crate) fn of(form: Form) -> Option<Access> {
+        match form {
+            Form::Make => Some(Access::Make),
+            Form::Run => Some(Access::Write),
+            Form::List => Some(Access::Read),
+            Form::Help | Form::Version => None,
         }
     }
 }

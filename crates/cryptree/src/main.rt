@@ -8,6 +8,7 @@ use cry_base::{List, Mem, Text};
 use cry_io::{FileDisk, StdSink, StdSource};
 use cryptree_cli::status::{Status, fault_line};
 use cryptree_cli::top::top;
+use cryptree_cli::words::form_of;
 use std::process::ExitCode;
 use std::{env, io};
 
@@ -40,9 +41,10 @@ fn words_given(rt: &HostRuntime) -> Mem<List<Text>> {
 }
 
 fn run(rt: &HostRuntime, words: &List<Text>) -> Status {
-    let (store, random) = match words.as_slice() {
-        [store, random, command, ..] => (
-            open_store(rt, store.as_slice(), Access::of(command.as_slice())),
+    // No file is touched where the words are of no form.
+    let (store, random) = match (form_of(words).and_then(Access::of), words.as_slice()) {
+        (Some(access), [store, random, _]) => (
+            open_store(rt, store.as_slice(), access),
             Random::open(rt, random.as_slice()),
         ),
         _ => (None, Random::Nothing),

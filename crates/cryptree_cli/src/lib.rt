@@ -18,4 +18,4 @@ mod script;
 pub mod status;
 mod texts;
 pub mod top;
-mod words;
+pub mod words;

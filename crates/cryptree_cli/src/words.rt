@@ -19,8 +19,8 @@ pub enum Form {
     Version,
 }
 
-/// The form of the words, and `None` where they are of no form that is built.
-pub(crate) fn form_of(words: &List<Text>) -> Option<Form>
+/// The form of the words, which are those after the program's name, and `None` where they are of no form that is built.
+pub fn form_of(words: &List<Text>) -> Option<Form>
     ensures { result ≡ form_of_words words.now.items }
 {
     match words.as_slice() {
