@@ -5,8 +5,6 @@ mod heard;
 mod input;
 mod key_line;
 pub mod laws;
-#[cfg(test)]
-mod line_tests;
 mod lines;
 mod list;
 mod make;

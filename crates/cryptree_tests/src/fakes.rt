@@ -1,89 +1,123 @@
-//! Fakes of the outside for the tests, and the calls over them.
-ghost use Rattle.std.specs.Prelude.{◌≡◌, ◌≤◌, IfOk};
+//! The outside of a call as fakes, told by plain values.
+ghost use Rattle.std.specs.Prelude.{◌≡◌, ◌≤◌, length, IfOk};
 
 use cry_base::{List, Mem, Text};
-use cry_io::{MemDisk, MemSource, Sink};
+use cry_io::{MemDisk, MemSink, MemSource};
 use cryptree_cli::status::Status;
 use cryptree_cli::top::top;
 use std::alloc::Global;
 
-pub(crate) const OWNER_LINE: &[u8] =
-    b"owner 000102030405060708090a0b0c0d0e0f101112131415161718191a1b1c1d1e1f\n";
+/// What the program is called with: its command, its input, and how many bytes of that come at once.
+#[derive(Clone, Copy)]
+pub(crate) struct Call {
+    pub(crate) command: &'static [u8],
+    pub(crate) input: &'static [u8],
+    pub(crate) step: usize,
+}
 
-pub(crate) const MAKE: [&[u8]; 3] = [b"store", b"random", b"make"];
+/// What fails: a call of one of the objects, by its number from 0, or the output, which has room for so many bytes alone.
+#[derive(Clone, Copy)]
+pub(crate) enum Fault {
+    Nothing,
+    Input(u64),
+    Random(u64),
+    Disk(u64),
+    Room(usize),
+}
 
-pub(crate) const RUN: [&[u8]; 3] = [b"store", b"random", b"run"];
+/// What came of a call.
+#[derive(Drop)]
+pub(crate) struct Came {
+    pub(crate) status: Status,
+    pub(crate) printed: Text,
+    pub(crate) image: Text,
+}
 
-pub(crate) const LIST: [&[u8]; 3] = [b"store", b"-", b"list"];
+/// Calls the program over a disk with this image, where one thing fails.
+pub(crate) fn called(alloc: Global, call: Call, fault: Fault, image: &[u8]) -> Mem<Came> {
+    let words = words(alloc, call.command)?;
+    let mut input = input(alloc, call, fault)?;
+    let mut random = random(alloc, fault)?;
+    let mut disk = disk(alloc, fault, image)?;
+    let mut out = sink(alloc, fault)?;
+    let status = answered(alloc, &words, &mut input, &mut random, &mut disk, &mut out);
+    ended(alloc, status, &disk, &out)
+}
 
-pub(crate) fn words(alloc: Global, given: &[&[u8]]) -> Mem<List<Text>> {
+/// The call, without its contract: a test looks at what came, and needs none of it for its proof.
+fn answered(
+    alloc: Global,
+    words: &List<Text>,
+    input: &mut MemSource,
+    random: &mut MemSource,
+    disk: &mut MemDisk,
+    out: &mut MemSink,
+) -> Status {
+    top(alloc, words, input, random, disk, out)
+}
+
+fn ended(alloc: Global, status: Status, disk: &MemDisk, out: &MemSink) -> Mem<Came> {
+    Ok(Came {
+        status,
+        printed: copied(alloc, out.written())?,
+        image: copied(alloc, disk.bytes())?,
+    })
+}
+
+fn words(alloc: Global, command: &[u8]) -> Mem<List<Text>> {
     let mut words = List::new(alloc);
-    for word in given {
-        let mut text = List::new(alloc);
-        text.append(word)?;
-        words.push(text)?;
+    for word in [b"store".as_slice(), b"random", command] {
+        words.push(copied(alloc, word)?)?;
     }
     Ok(words)
 }
 
-pub(crate) fn numbers(alloc: Global, given: &[u64]) -> Mem<List<u64>> {
-    let mut numbers = List::new(alloc);
-    for number in given {
-        numbers.push(*number)?;
+fn input(alloc: Global, call: Call, fault: Fault) -> Mem<MemSource> {
+    let fails = match fault {
+        Fault::Input(number) => only(alloc, number)?,
+        _ => List::new(alloc),
+    };
+    let bytes = copied(alloc, call.input)?;
+    Ok(MemSource::make(bytes, call.step.max(1), fails))
+}
+
+/// The bytes 0, 1, 2 and so on up to 255, of which 64 come at once.
+fn random(alloc: Global, fault: Fault) -> Mem<MemSource> {
+    let fails = match fault {
+        Fault::Random(number) => only(alloc, number)?,
+        _ => List::new(alloc),
+    };
+    let mut bytes = List::new(alloc);
+    for byte in 0..=255u8 {
+        bytes.push(byte)?;
     }
+    Ok(MemSource::make(bytes, 64, fails))
+}
+
+fn disk(alloc: Global, fault: Fault, image: &[u8]) -> Mem<MemDisk> {
+    let fails = match fault {
+        Fault::Disk(number) => only(alloc, number)?,
+        _ => List::new(alloc),
+    };
+    let room = image.len().max(4096);
+    MemDisk::make(alloc, copied(alloc, image)?, room, 16_384, fails, None)
+}
+
+fn sink(alloc: Global, fault: Fault) -> Mem<MemSink> {
+    let room = match fault {
+        Fault::Room(room) => room,
+        _ => 100,
+    };
+    MemSink::make(alloc, room, List::new(alloc))
+}
+
+fn only(alloc: Global, number: u64) -> Mem<List<u64>> {
+    let mut numbers = List::new(alloc);
+    numbers.push(number)?;
     Ok(numbers)
 }
 
-/// A source of the bytes 0, 1, 2 and so on, which gives so many at a time.
-pub(crate) fn counting(alloc: Global, len: usize, step: usize, fails: &[u64]) -> Mem<MemSource>
-    requires { 1 ≤ step }
-{
-    let mut bytes = List::new(alloc);
-    for i in 0..len {
-        bytes.push((i % 256) as u8)?;
-    }
-    Ok(MemSource::make(bytes, step, numbers(alloc, fails)?))
-}
-
-pub(crate) fn blank(alloc: Global, fails: &[u64]) -> Mem<MemDisk> {
-    MemDisk::make(
-        alloc,
-        List::new(alloc),
-        1024,
-        4096,
-        numbers(alloc, fails)?,
-        None,
-    )
-}
-
-/// The call, without its contract: a test looks at what came, and needs none of it for its proof.
-pub(crate) fn run_top<W: Sink>(
-    alloc: Global,
-    given: &[&[u8]],
-    random: &mut MemSource,
-    disk: &mut MemDisk,
-    out: &mut W,
-) -> Mem<Status> {
-    run_with(alloc, given, &mut nothing(alloc), random, disk, out)
-}
-
-pub(crate) fn run_with<W: Sink>(
-    alloc: Global,
-    given: &[&[u8]],
-    input: &mut MemSource,
-    random: &mut MemSource,
-    disk: &mut MemDisk,
-    out: &mut W,
-) -> Mem<Status> {
-    let words = words(alloc, given)?;
-    Ok(top(alloc, &words, input, random, disk, out))
-}
-
-pub(crate) fn nothing(alloc: Global) -> MemSource {
-    MemSource::make(List::new(alloc), 1, List::new(alloc))
-}
-
-pub(crate) fn copied(alloc: Global, bytes: &[u8]) -> Mem<Text>
+fn copied(alloc: Global, bytes: &[u8]) -> Mem<Text>
     ensures { IfOk result (λ text. text.items ≡ bytes.now) }
 {
     let mut text = List::new(alloc);

@@ -5,10 +5,4 @@
 #[cfg(test)]
 mod fakes;
 #[cfg(test)]
-mod list;
-#[cfg(test)]
-mod make;
-#[cfg(test)]
-mod run;
-#[cfg(test)]
-mod said;
+mod faults;

@@ -1,0 +1,144 @@
+//! What no real file or stream can show: a fault in the middle of things, and lines in pieces of any size.
+use crate::fakes::{Call, Fault, called};
+use cry_base::Mem;
+use cryptree_cli::status::Status;
+use std::alloc::Global;
+use std::test::Fail;
+
+/// A call, what fails in it, and what is due: the status, what is printed, and how many bytes the store has then.
+type Row = (Call, Fault, Status, &'static [u8], usize);
+
+const OWNER_LINE: &[u8] =
+    b"owner 000102030405060708090a0b0c0d0e0f101112131415161718191a1b1c1d1e1f\n";
+
+const MAKE: Call = Call {
+    command: b"make",
+    input: b"",
+    step: 1,
+};
+
+/// The owner's line, in two reads.
+const LIST: Call = Call {
+    command: b"list",
+    input: OWNER_LINE,
+    step: 45,
+};
+
+/// The owner's line and two commands, of which the second read ends in the last.
+const RUN: Call = Call {
+    command: b"run",
+    input: b"owner 000102030405060708090a0b0c0d0e0f101112131415161718191a1b1c1d1e1f
+mkdir /a
+write /a/x 00ff
+",
+    step: 45,
+};
+
+/// One command alone.
+const FOLDER: Call = Call {
+    command: b"run",
+    input: b"owner 000102030405060708090a0b0c0d0e0f101112131415161718191a1b1c1d1e1f
+mkdir /a",
+    step: 100,
+};
+
+/// Lines with a carriage return, with a NUL, and without a newline at the end.
+const LINES: Call = Call {
+    command: b"run",
+    input: b"owner 000102030405060708090a0b0c0d0e0f101112131415161718191a1b1c1d1e1f
+mkdir /a\r
+mkdir /a\0
+mkdir /a
+mkdir /a",
+    step: 1,
+};
+
+const REPLIES: &[u8] = b"refused bad-name\nrefused bad-name\nok\nrefused exists\n";
+
+/// Calls over a blank disk. The keys are drawn by 64 bytes.
+const MADE: [Row; 5] = [
+    (MAKE, Fault::Nothing, Status::Done, OWNER_LINE, 819),
+    (MAKE, Fault::Random(0), Status::RandomFault, b"", 0),
+    (MAKE, Fault::Random(2), Status::RandomFault, b"", 0),
+    (MAKE, Fault::Room(0), Status::WriteFault, b"", 819),
+    (MAKE, Fault::Room(9), Status::WriteFault, b"owner 000", 819),
+];
+
+/// Calls over a fresh store, which has 1,801 bytes with the folder and 2,088 with the file in it.
+const OVER_FRESH: [Row; 11] = [
+    (LIST, Fault::Nothing, Status::Done, b"folder /\n", 819),
+    (LIST, Fault::Input(1), Status::ReadFault, b"", 819),
+    (LIST, Fault::Room(4), Status::WriteFault, b"fold", 819),
+    (RUN, Fault::Nothing, Status::Done, b"ok\nok\n", 2088),
+    (RUN, Fault::Input(1), Status::ReadFault, b"", 819),
+    (RUN, Fault::Input(2), Status::ReadFault, b"ok\n", 1801),
+    (RUN, Fault::Random(2), Status::RandomFault, b"", 819),
+    (RUN, Fault::Random(3), Status::RandomFault, b"ok\n", 1801),
+    (RUN, Fault::Disk(20), Status::DiskFault, b"ok\n", 1801),
+    (RUN, Fault::Disk(25), Status::DiskFault, b"ok\n", 2088),
+    (RUN, Fault::Room(4), Status::WriteFault, b"ok\no", 2088),
+];
+
+/// The first row, by its number from 0, whose call doesn't end as is due.
+fn first_wrong(alloc: Global, rows: &[Row], image: &[u8]) -> Mem<Option<usize>> {
+    for (number, (call, fault, status, printed, size)) in rows.iter().enumerate() {
+        let came = called(alloc, *call, *fault, image)?;
+        let is_due = came.status == *status
+            && came.printed.as_slice() == *printed
+            && came.image.as_slice().len() == *size;
+        if !is_due {
+            return Ok(Some(number));
+        }
+    }
+    Ok(None)
+}
+
+/// How many calls of the disk end the program, failing in turn, before it prints; and its status where a later one fails.
+fn disk_calls(alloc: Global, call: Call, image: &[u8]) -> Mem<(u64, Status)> {
+    for number in 0..100 {
+        let came = called(alloc, call, Fault::Disk(number), image)?;
+        if came.status != Status::DiskFault || !came.printed.as_slice().is_empty() {
+            return Ok((number, came.status));
+        }
+    }
+    Ok((100, Status::DiskFault))
+}
+
+#[test]
+fn faults_end_a_call_and_leave_what_was_done(rt: HostRuntime) -> Result<(), Fail> {
+    let alloc = rt.alloc();
+    let fresh = called(alloc, MAKE, Fault::Nothing, &[])?;
+    assert_eq!(rt; first_wrong(alloc, &MADE, &[])?, None);
+    assert_eq!(rt;
+        first_wrong(alloc, &OVER_FRESH, fresh.image.as_slice())?,
+        None
+    );
+    Ok(())
+}
+
+#[test]
+fn each_call_of_the_disk_may_fail(rt: HostRuntime) -> Result<(), Fail> {
+    let alloc = rt.alloc();
+    let fresh = called(alloc, MAKE, Fault::Nothing, &[])?;
+    let image = fresh.image.as_slice();
+    assert_eq!(rt; disk_calls(alloc, MAKE, &[])?, (14, Status::Done));
+    assert_eq!(rt; disk_calls(alloc, LIST, image)?, (5, Status::Done));
+    assert_eq!(rt; disk_calls(alloc, FOLDER, image)?, (20, Status::Done));
+    Ok(())
+}
+
+#[test]
+fn lines_are_the_same_in_pieces_of_any_size(rt: HostRuntime) -> Result<(), Fail> {
+    let alloc = rt.alloc();
+    let fresh = called(alloc, MAKE, Fault::Nothing, &[])?;
+    for step in [1, 2, 7, 100] {
+        let came = called(
+            alloc,
+            Call { step, ..LINES },
+            Fault::Nothing,
+            fresh.image.as_slice(),
+        )?;
+        assert_eq!(rt; came.printed.as_slice(), REPLIES, "by {step}");
+    }
+    Ok(())
+}
