@@ -6,6 +6,7 @@ pub mod LinesRun
 pub mod ListingLemmas
 pub mod MakeLemmas
 pub mod OutsideLemmas
+pub mod ReadFaults
 pub mod RefusedRuns
 pub mod RunEnds
 pub mod RunLemmas

@@ -1,5 +1,5 @@
 -- What `run` answers, prints and leaves: on every disk, and on one that shows a journal. This project's own, docs/FORMAT.md, "The program".
-use Rattle.std.specs.Prelude.{◌≡◌, ◌<◌, ◌⊎◌, ℕ, ◌+◌, ◌*◌, ◌==◌, nat_lt, Bool, true, false, List, [], ◌∷◌, ◌++◌, drop, length, Option, Some, None, Result, Ok, Err}
+use Rattle.std.specs.Prelude.{◌≡◌, ◌≤◌, ◌<◌, ◌⊎◌, ℕ, ◌+◌, ◌*◌, ◌==◌, nat_lt, Bool, true, false, List, [], ◌∷◌, ◌++◌, drop, length, Option, Some, None, Result, Ok, Err}
 use Rattle.commit_journal.specs.Answering.{Damaged, NotAStore, Tampered, WrongKey}
 use Rattle.commit_journal.specs.Holding.{IsBetween}
 use Rattle.commit_journal.specs.Standing.{StandsWhole}
@@ -17,6 +17,7 @@ use Rattle.journal_bytes.specs.Journals.{ShowsJournal, StandsForJournal}
 use Rattle.journal_bytes.specs.Script.{Going, answer, draws_of, journal_then, opened, script_going, script_replies}
 use Rattle.store_owner.specs.Drawing.{AreKeys, joined}
 use Rattle.cryptree_cli.specs.KeyLine.{owner_key}
+use Rattle.cryptree_cli.specs.Heard.{IsOneLine}
 use Rattle.cryptree_cli.specs.Input.{input_limit}
 use Rattle.cryptree_cli.specs.Lines.{InputLine, lines_of}
 use Rattle.cryptree_cli.specs.Lines.InputLine.{Whole, TooLong}
@@ -179,7 +180,7 @@ Judges _ verdict = verdict ≡ None
 abbrev pub GivesOwner : Result (List ℕ) ScriptFault → List InputLine → List InputLine → Type 0
 GivesOwner (Ok key) before after = (key_in_lines before ≡ Some key) × (after ≡ lines_behind before)
 GivesOwner (Err (script.BadLine line)) before after = (key_in_lines before ≡ None) × (line ≡ 1)
-GivesOwner (Err script.ReadFault) before after = Unit {0}
+GivesOwner (Err script.ReadFault) before after = after ≡ before
 GivesOwner (Err script.OutOfMemory) before after = Unit {0}
 GivesOwner (Err _) before after = ⊥
 
@@ -305,3 +306,21 @@ pub record RanDry (left need : ℕ) (left_before left_after : Option (List ℕ))
   pub is_short : left < need
   pub were_left : WhereTold left_before (λ before. (last : List ℕ) × (before ≡ joined drawn ++ last) × (length last ≡ left))
   pub nothing_left : WhereTold left_after (λ after. after ≡ [])
+
+-- ---- where the input failed
+
+-- The first of these lines were asked, and of what was taken of the input behind them, before the bytes that are left, no line had ended: a
+-- line that is bad was told before more was read.
+pub record ReadsWhole (lines : List InputLine) (left : List ℕ) : Type 0 where
+  pub asked : List Request
+  pub front : List ℕ
+  pub room : ℕ
+  pub one : IsOneLine front
+  pub within : length front ≤ room
+  pub asks : Asks asked lines (lines_of room (front ++ left))
+
+-- so it is with the lines behind the first, or the first itself had not ended
+abbrev pub ReadsWholeTyped : List ℕ → List ℕ → Type 0
+ReadsWholeTyped typed left =
+    ((front : List ℕ) × (room : ℕ) × IsOneLine front × (lines_in typed ≡ lines_of room (front ++ left)))
+    ⊎ ReadsWhole (lines_typed typed) left

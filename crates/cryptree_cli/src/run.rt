@@ -8,10 +8,10 @@ ghost use Rattle.public_fold.specs.Journal.{Journal};
 ghost use Rattle.journal_bytes.specs.Bytes.{image_of};
 ghost use Rattle.journal_bytes.specs.Script.{opened};
 ghost use Rattle.store_owner.specs.Applying.{StandsAt};
-ghost use Rattle.cryptree_cli.specs.Lines.{lines_ahead};
+ghost use Rattle.cryptree_cli.specs.Lines.{IsUnended, lines_ahead};
 ghost use Rattle.cryptree_cli.specs.Refusing.{Refuses, is_refusal};
 ghost use Rattle.cryptree_cli.specs.Running as running;
-ghost use Rattle.cryptree_cli.specs.Running.{CountsOwner, Ends, EndsTyped, KeepsFrom, FirstIsBad, GivesOwner, HasBadLine, Judges, JudgesTyped, RanDry, RanLines, is_after_opening, is_before_opening, is_run_answer, key_in_lines, lines_in, lines_typed, version_limits};
+ghost use Rattle.cryptree_cli.specs.Running.{CountsOwner, Ends, EndsTyped, KeepsFrom, FirstIsBad, GivesOwner, HasBadLine, Judges, JudgesTyped, RanDry, RanLines, ReadsWhole, ReadsWholeTyped, is_after_opening, is_before_opening, is_run_answer, key_in_lines, lines_in, lines_typed, version_limits};
 ghost use Rattle.cryptree_cli.specs.Script.{IsReading, ReadsByCount};
 
 use crate::key_line::read_owner;
@@ -48,6 +48,7 @@ pub(crate) fn run<S: Source, R: Source, D: Disk, W: Sink>(
     ensures key_line { result ≡ Status.BadScript 1 → WhereTold (S.left input.old) (λ typed. key_in_lines (lines_in typed) ≡ None) }
     ensures short { (left need : ℕ) → result ≡ Status.RandomShort left need → RanDry left need (R.left random.old) (R.left random.new) }
     ensures read_to_end { result ≡ Status.Done → WhereTold (S.left input.new) (λ rest. rest ≡ []) }
+    ensures read_whole_lines { result ≡ Status.ReadFault → WhereBothTold (S.left input.old) (S.left input.new) ReadsWholeTyped }
     ensures stays { IsTrue (is_after_opening result) → IsDurable (D.may_leave disk.new) (D.shown disk.new) }
     ensures refused { IsTrue (is_refusal result) → Refuses D.shown D.size_of D.may_leave (S.left input.old) random.old random.new disk.old disk.new out.old out.new }
     ensures unopened { IsTrue (is_before_opening result) → (random.new ≡ random.old) × (disk.new ≡ disk.old) × (out.new ≡ out.old) }
@@ -85,6 +86,7 @@ fn first_owner<S: Source>(
     ensures gives { WhereBothTold (S.left input.old) (S.left input.new) (λ before after. GivesOwner result (lines_ahead reader.old before) (lines_ahead reader.new after)) }
     ensures count { CountsOwner result reader.old.given reader.new.given }
     ensures faults { IfErr result IsReading }
+    ensures unended { result ≡ Err ScriptFault.ReadFault → IsUnended reader.new }
     ensures counts { ReadsByCount result (S.faults input.old) (S.faults input.new) }
 {
     match reader.next_line(alloc, input) {
@@ -121,6 +123,7 @@ fn apply_lines<S: Source, R: Source, D: Disk, W: Sink>(
     ensures short { (left need : ℕ) → result ≡ Status.RandomShort left need → RanDry left need (R.left random.old) (R.left random.new) }
     ensures none_of_bytes { (verdict : Option Failure) → verdict ≡ None → Judges result verdict }
     ensures read_to_end { result ≡ Status.Done → WhereTold (S.left input.new) (λ rest. rest ≡ []) }
+    ensures read_whole_lines { result ≡ Status.ReadFault → WhereBothTold (S.left input.old) (S.left input.new) (λ before after. ReadsWhole (lines_ahead reader before) after) }
     ensures stays { IsTrue (is_after_opening result) → IsDurable (D.may_leave disk.new) (D.shown disk.new) }
     ensures not_first { is_before_opening result ≡ false }
     ensures read_fault { result ≡ Status.ReadFault → S.faults input.old < S.faults input.new }

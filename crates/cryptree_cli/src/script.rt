@@ -1,9 +1,9 @@
 //! The lines of `run` behind the first: each is read, applied and answered before the next is read.
-ghost use Rattle.std.specs.Prelude.{◌≡◌, [], Ok, None, IfErr, MatchResult, OnOk, is_some};
+ghost use Rattle.std.specs.Prelude.{◌≡◌, [], Err, Ok, None, IfErr, MatchResult, OnOk, is_some};
 ghost use Rattle.cry_base.specs.Requests.{Request, request_of};
 ghost use Rattle.cry_base.specs.declared.commands.Reply.{Reply};
 ghost use Rattle.cry_io.specs.Told.{WhereTold, WhereBothTold};
-ghost use Rattle.cryptree_cli.specs.Lines.{lines_ahead};
+ghost use Rattle.cryptree_cli.specs.Lines.{IsUnended, lines_ahead};
 ghost use Rattle.cryptree_cli.specs.Script.{GivesCommand, CountsCommand, ReadsByCount, AnswersOne, IsReading, Ran, StaysReady, WritesByCount};
 
 use crate::lines::{LineReader, Next, NextFault};
@@ -72,6 +72,7 @@ pub(crate) fn run_lines<S: Source, O: Applies<R, D>, R, D, W: Sink>(
     ensures ran { Ran O.answers O.fails result (owner.old, random.old, disk.old) (owner.new, random.new, disk.new) reader.old reader.new
         (S.left input.old) (S.left input.new) (W.written out.old) (W.written out.new) }
     ensures to_end { OnOk result (WhereTold (S.left input.new) (λ after. after ≡ [])) }
+    ensures unended { result ≡ Err ScriptFault.ReadFault → IsUnended reader.new }
     ensures input_told { is_some (S.left input.new) ≡ is_some (S.left input.old) }
     ensures out_told { is_some (W.written out.new) ≡ is_some (W.written out.old) }
     ensures input_counts { ReadsByCount result (S.faults input.old) (S.faults input.new) }
@@ -98,6 +99,7 @@ fn next_command<S: Source>(
     ensures told { is_some (S.left input.new) ≡ is_some (S.left input.old) }
     ensures gives { WhereBothTold (S.left input.old) (S.left input.new) (λ before after. GivesCommand result (lines_ahead reader.old before) (lines_ahead reader.new after)) }
     ensures to_end { result ≡ Ok None → WhereTold (S.left input.new) (λ after. after ≡ []) }
+    ensures unended { result ≡ Err ScriptFault.ReadFault → IsUnended reader.new }
     ensures count { CountsCommand result reader.old reader.new }
     ensures faults { IfErr result IsReading }
     ensures counts { ReadsByCount result (S.faults input.old) (S.faults input.new) }

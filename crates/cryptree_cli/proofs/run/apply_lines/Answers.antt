@@ -1,7 +1,8 @@
-use Rattle.std.proofs.Common.{Ok, Err, sym, subst, ◌∙◌}
+use Rattle.std.proofs.Common.{Ok, Err, sym, ap, subst, ◌∙◌}
 use Rattle.cryptree_cli.specs.Lines.{lines_ahead}
 use Rattle.cryptree_cli.specs.Running.{Ends, RanLines, version_limits}
 use Rattle.cryptree_cli.proofs.LinesRun.{ran_lines}
+use Rattle.cryptree_cli.proofs.ReadFaults.{cut_lines}
 use Rattle.cryptree_cli.proofs.RunLemmas.{Fails, Step, disk_fault, ends_so, goes_on, random_fault, random_short}
 use Rattle.store_owner.specs.Owned.{OwnerView}
 use Rattle.cryptree_cli.proofs.run.apply_lines.Goals as goal
@@ -132,3 +133,12 @@ returns-clause-short g c = λ given wanted is.
     c.args.reader c.run_lines.new.reader (g.S.Source.left c.args.input.now) (g.S.Source.left c.run_lines.new.input)
     (g.W.Sink.written c.args.out.now) (g.W.Sink.written c.run_lines.new.out)
     c.in-Err.fault c.in-Err.ensures.ran given wanted (sym c.script_status.ensures ∙ is)
+
+pub returns-clause-read_whole_lines : goal.returns-clause-read_whole_lines
+returns-clause-read_whole_lines g c = λ is.
+    cut_lines (Step g.row.R.Denot g.row.D.Denot g.R.Source.left g.R.Source.faults g.D.Disk.shown g.D.Disk.faults g.D.Disk.may_leave)
+    (Fails g.row.R.Denot g.row.D.Denot g.R.Source.left g.R.Source.faults g.D.Disk.shown g.D.Disk.faults g.D.Disk.may_leave) c.in-Err.fault
+    (c.args.owner, c.args.random.now, c.args.disk.now) (c.run_lines.new.owner, c.run_lines.new.random, c.run_lines.new.disk)
+    c.args.reader c.run_lines.new.reader (g.S.Source.left c.args.input.now) (g.S.Source.left c.run_lines.new.input)
+    (g.W.Sink.written c.args.out.now) (g.W.Sink.written c.run_lines.new.out) c.in-Err.ensures.ran
+    (λ e. c.in-Err.ensures.unended (ap Err e)) (sym c.script_status.ensures ∙ is)

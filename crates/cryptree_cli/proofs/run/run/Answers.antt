@@ -1,12 +1,13 @@
-use Rattle.std.proofs.Common.{◌≡◌, length, None, Some, Err, Ok, refl, sym, subst, ◌∙◌}
+use Rattle.std.proofs.Common.{◌≡◌, inr, length, None, Some, Err, Ok, refl, sym, ap, subst, ◌∙◌}
 use Rattle.std.specs.Prelude.{IsTrue}
 use Rattle.cry_io.specs.Told.{WhereTold}
 use Rattle.journal_bytes.specs.Bytes.{image_of}
 use Rattle.journal_bytes.specs.Journals.{StandsForJournal}
 use Rattle.cryptree_cli.specs.Lines.{lines_ahead}
 use Rattle.cryptree_cli.specs.Refusing.{is_refusal}
-use Rattle.cryptree_cli.specs.Running.{Ends, FirstIsBad, Judges, KeepsFrom, RanLines, key_in_lines, lines_behind, lines_in, lines_typed, open_status, version_limits}
+use Rattle.cryptree_cli.specs.Running.{Ends, FirstIsBad, Judges, KeepsFrom, RanLines, ReadsWhole, key_in_lines, lines_behind, lines_in, lines_typed, open_status, version_limits}
 use Rattle.cryptree_cli.proofs.LinesRun.{bad_is_never_done, lines_as_typed, unopened_lines, unread_lines}
+use Rattle.cryptree_cli.proofs.ReadFaults.{cut_first, unopened_reads_none}
 use Rattle.cryptree_cli.proofs.RefusedRuns.{leaves_refused, opened_refuses_none, reading_refuses_none}
 use Rattle.cryptree_cli.proofs.RunEnds.{still_told}
 use Rattle.cryptree_cli.proofs.RunOpening.{bad_first_is_unjudged, first_alone, first_ends, first_is_bad, gives_first, key_is_given, not_before, opened_has_no_verdict, opened_stands, reading_draws_none, same_key, unopened_draws_none, unopened_ends, unopened_is_judged, unopened_is_no_line}
@@ -167,3 +168,19 @@ returns-in-Err-open_store-clause-refused g c = λ is.
       leaves = leaves_refused g.D.Disk.shown g.D.Disk.size_of g.D.Disk.may_leave (g.S.Source.left c.args.input.now) c.in-Ok.key c.args.disk.now c.open_store.new.disk
           c.in-Err-open_store.fault (subst (λ status. IsTrue (is_refusal status)) c.open_status.ensures is) hands c.in-Err-open_store.ensures.refused;
     }
+
+-- ---- an input that failed
+
+pub returns-in-Err-clause-read_whole_lines : goal.returns-in-Err-clause-read_whole_lines
+returns-in-Err-clause-read_whole_lines g c = λ is x y was now.
+    cut_first c.in-Err.fault c.new-reader.result c.first_owner.new.reader x y c.new-reader.ensures (c.in-Err.ensures.gives x y was now)
+    (λ e. c.in-Err.ensures.unended (ap Err e)) (sym c.script_status.ensures ∙ is)
+
+pub returns-in-Err-open_store-clause-read_whole_lines : goal.returns-in-Err-open_store-clause-read_whole_lines
+returns-in-Err-open_store-clause-read_whole_lines g c = λ is. unopened_reads_none c.in-Err-open_store.fault (sym c.open_status.ensures ∙ is)
+
+pub returns-in-Ok-open_store-clause-read_whole_lines : goal.returns-in-Ok-open_store-clause-read_whole_lines
+returns-in-Ok-open_store-clause-read_whole_lines g c = λ is x y was now.
+    let after = still_told (g.S.Source.left c.first_owner.new.input) (g.S.Source.left c.args.input.now) x c.in-Ok.ensures.told was in
+    let behind = (gives_first (Ok c.in-Ok.key) c.new-reader.result x (lines_ahead c.first_owner.new.reader after.0) c.new-reader.ensures (c.in-Ok.ensures.gives x after.0 was after.1)).1 in
+    inr (subst (λ lines. ReadsWhole lines y) behind (c.apply_lines.ensures.read_whole_lines is after.0 y after.1 now))
