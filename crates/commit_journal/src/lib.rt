@@ -47,6 +47,3 @@ pub use standing::{
     standing_bytes_tell_their_batches, steps_of_a_commit, whole_image_is_published,
     whole_image_stands_for_its_batches,
 };
-
-#[cfg(test)]
-mod tests;

@@ -25,6 +25,3 @@ pub use fault::ClientFault;
 pub use folding::fold;
 pub use opening::{OwnersView, open_all};
 pub use showing::view;
-
-#[cfg(test)]
-mod tests;

@@ -16,6 +16,3 @@ pub use any_fresh::AnyFresh;
 pub use contents::{open_content, seal_content};
 pub use links::{follow, link};
 pub use ring::KeyRing;
-
-#[cfg(test)]
-mod tests;
