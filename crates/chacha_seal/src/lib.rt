@@ -16,6 +16,3 @@ pub use kind_table::{BackK, ClearK, DataK, FileK, FilesK, HolderK, OwnerK, SubK}
 pub use nonce::Nonce;
 pub use opening::{BadTag, open_in_place, open_key};
 pub use sealing::{mask_in_place, seal_in_place};
-
-#[cfg(test)]
-mod tests;

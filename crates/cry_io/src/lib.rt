@@ -23,6 +23,3 @@ pub use mem_sink::MemSink;
 pub use mem_source::MemSource;
 pub use std_streams::{StdSink, StdSource};
 pub use streams::{Sink, Source};
-
-#[cfg(test)]
-mod tests;

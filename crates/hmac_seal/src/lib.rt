@@ -9,6 +9,3 @@ mod whole;
 pub use state::Hmac;
 pub use tags::tags_equal;
 pub use whole::hmac;
-
-#[cfg(test)]
-mod tests;

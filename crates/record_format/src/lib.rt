@@ -19,6 +19,3 @@ pub use note::Note;
 pub use payload::{Payload, payload_len};
 pub use reading::read_payload;
 pub use writing::{put_payload, write_payload};
-
-#[cfg(test)]
-mod tests;

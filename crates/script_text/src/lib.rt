@@ -12,8 +12,3 @@ pub use commands::read_line;
 pub use fault::LineFault;
 pub use printing::{print_line, print_owner, print_reply};
 pub use reading::read_bundle;
-
-#[cfg(test)]
-mod command_tests;
-#[cfg(test)]
-mod tests;
