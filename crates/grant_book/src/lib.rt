@@ -9,6 +9,3 @@ pub mod laws;
 pub use check::check_grant;
 pub use grant::Grant;
 pub use grants::Grants;
-
-#[cfg(test)]
-mod tests;

@@ -6,6 +6,3 @@ pub mod laws;
 pub mod rows;
 
 pub use dirty::{Dirty, mark_from, plan};
-
-#[cfg(test)]
-mod tests;

@@ -18,8 +18,3 @@ pub use rights::{allowed, named};
 pub use role_set::RoleSet;
 pub use roles::Roles;
 pub use store_roles::StoreRoles;
-
-#[cfg(test)]
-mod store_tests;
-#[cfg(test)]
-mod tests;
