@@ -18,6 +18,3 @@ pub use limits::{Limits, limits_of};
 pub use list::{List, Text};
 pub use memory::{Mem, OutOfMemory};
 pub use roles::{Edge, Node, Role};
-
-#[cfg(test)]
-mod tests;

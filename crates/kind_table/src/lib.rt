@@ -14,6 +14,3 @@ pub use markers::{BackK, ClearK, DataK, FileK, FilesK, HolderK, OwnerK, SubK};
 pub use nine::NINE;
 pub use pairs::{KeyKind, LinksTo, Seals};
 pub use table::{Row, Table};
-
-#[cfg(test)]
-mod tests;

@@ -13,6 +13,3 @@ pub mod rows;
 pub use change::{Change, change_of};
 pub use fault::ChangeFault;
 pub use fitting::fits;
-
-#[cfg(test)]
-mod tests;

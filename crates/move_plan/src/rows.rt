@@ -2,10 +2,10 @@
 ghost use Rattle.std.specs.Prelude.{◌≡◌, [], ◌∷◌, codes, map, true, false};
 ghost use Rattle.cry_base.specs.Requests.Request.{AddHolder, MakeFolder, WriteFile, Remove, Rename, Relocate, Grant, Revoke};
 ghost use Rattle.cry_base.specs.Store.{no_store};
-ghost use Rattle.cry_base.specs.WorkedRows.{granted};
+ghost use Rattle.cry_base.specs.WorkedRows.{granted, store_after};
 ghost use Rattle.move_plan.specs.Fitting.{fits};
 ghost use Rattle.role_graph.specs.Edges.{edge};
-ghost use Rattle.role_graph.specs.Roles.{sub_of, back_of, clear_of};
+ghost use Rattle.role_graph.specs.Roles.{files_of, file_role};
 ghost use Rattle.move_plan.specs.Change.{change_of};
 ghost use Rattle.record_format.specs.Noted.Note.{Root, NewHolder, NewFolder, NewFile, Rewrite, NameFile, NameFolder, DropFile, DropFolder, ShiftFile, ShiftFolder, Give, Take};
 ghost use Rattle.move_plan.specs.Noting.{note_of};
@@ -34,4 +34,13 @@ pub fn notes_that_fit()
     ensures misfit { map (fits granted) (Root ∷ NewHolder 1 [] ∷ NewFolder 4 2 ∷ NewFile 2 3 ∷ Rewrite 2 ∷ NameFolder 1 ∷ DropFolder 2 ∷ ShiftFile 1 2 ∷ ShiftFolder 2 1 ∷ ShiftFolder 2 2 ∷ ShiftFolder 1 2 ∷ Give 1 2 ∷ Give 2 1 ∷ Take 1 1 ∷ [])
         ≡ false ∷ false ∷ false ∷ false ∷ false ∷ false ∷ false ∷ false ∷ false ∷ false ∷ false ∷ false ∷ false ∷ false ∷ [] }
     ensures no_root { map (fits no_store) (Root ∷ NewHolder 1 [] ∷ []) ≡ true ∷ false ∷ [] }
+{}
+
+/// A file that is removed leaves the edge that led to it, and a folder all edges at its roles: those from the owner and its holder, its own, and
+/// those between it and its parent.
+#[tactic(auto, unfolding(crate::specs::WorkedChanges::changes))]
+pub fn edges_that_are_left()
+    ensures file { (change_of granted (DropFile 1)).removed ≡ edge 9 (files_of 2) (file_role 1) ∷ [] }
+    ensures folder { map (λ e. e.kind) (change_of (store_after granted (Remove (codes "/a/x") ∷ [])) (DropFolder 2)).removed
+        ≡ 1 ∷ 2 ∷ 3 ∷ 4 ∷ 5 ∷ 6 ∷ 7 ∷ 8 ∷ [] }
 {}

@@ -6,6 +6,3 @@ mod table;
 
 pub use ranked::{Key, Ranked};
 pub use table::Table;
-
-#[cfg(test)]
-mod tests;
