@@ -5,6 +5,8 @@ import subprocess
 import sys
 import tempfile
 
+from store_reader import bundle_line
+
 
 class Check:
     """The program, a folder for files, and what was asked so far."""
@@ -25,6 +27,15 @@ class Check:
         """How the program ends with these words and this input: its status, what it prints and what it says."""
         done = subprocess.run([self.program, *words], input=typed, capture_output=True)
         return done.returncode, done.stdout, done.stderr
+
+    def show(self, store, bundle, path=None):
+        """What `list` answers to this key, or `open` of this path, over the store's file."""
+        return self.call([store, "-", "list"] if path is None else [store, "-", "open", path], bundle_line(bundle))
+
+    def run(self, image, typed, random):
+        """The answer of `run` to this input over a store of these bytes, with these random ones, and what it leaves."""
+        store = self.put("store", image)
+        return self.call([store, self.put("random", random), "run"], typed), read(store)
 
     def expect(self, what, came, due):
         self.count += 1

@@ -430,6 +430,11 @@ def read_bundle(typed):
     return Bundle(int(form[1] or 0), bytes.fromhex(form[2].decode()))
 
 
+def bundle_line(bundle):
+    """The line that `make` or a `holder` line printed for this key."""
+    return (b"holder %d " % bundle.holder if bundle.holder else b"owner ") + bundle.key.hex().encode() + b"\n"
+
+
 def main(store, command, path=None):
     try:
         bundle = read_bundle(sys.stdin.buffer.read())
