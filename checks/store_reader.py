@@ -361,7 +361,7 @@ def is_path(path):
 
 def is_file(text):
     length = text[0]
-    return 1 <= length <= 64 and NAME.fullmatch(text[1:1 + length]) and len(text) - 1 - length <= FILE_LIMIT
+    return 1 <= length < len(text) and NAME.fullmatch(text[1:1 + length]) and len(text) - 1 - length <= FILE_LIMIT
 
 
 # the answers
@@ -440,7 +440,7 @@ def main(store, command, path=None):
         bundle = read_bundle(sys.stdin.buffer.read())
         with open(store, "rb") as file:
             image = file.read()
-        status, printed, said = answers(image, bundle, [path and os.fsencode(path)])[0]
+        status, printed, said = answers(image, bundle, [None if path is None else os.fsencode(path)])[0]
     except FileNotFoundError:
         status, printed, said = not_a_store().answer
     except Fault as fault:
