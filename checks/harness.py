@@ -1,0 +1,68 @@
+"""What checks of the real program share: calls of it, many at a time, and what came otherwise than it was due."""
+import concurrent.futures
+import os
+import subprocess
+import sys
+import tempfile
+
+from store_reader import bundle_line
+
+
+class Check:
+    """The program, a folder for files, and what was asked so far."""
+
+    def __init__(self, program, folder):
+        self.program, self.folder = os.path.abspath(program), folder
+        self.pool = concurrent.futures.ThreadPoolExecutor(os.cpu_count())
+        self.count, self.wrong = 0, []
+
+    def put(self, name, data):
+        """The path of a file of this name with these bytes."""
+        path = os.path.join(self.folder, name)
+        with open(path, "wb") as file:
+            file.write(data)
+        return path
+
+    def call(self, words, typed=b""):
+        """How the program ends with these words and this input: its status, what it prints and what it says."""
+        done = subprocess.run([self.program, *words], input=typed, capture_output=True)
+        return done.returncode, done.stdout, done.stderr
+
+    def show(self, store, bundle, path=None):
+        """What `list` answers to this key, or `open` of this path, over the store's file."""
+        return self.call([store, "-", "list"] if path is None else [store, "-", "open", path], bundle_line(bundle))
+
+    def run(self, image, typed, random):
+        """The answer of `run` to this input over a store of these bytes, with these random ones, and what it leaves."""
+        store = self.put("store", image)
+        return self.call([store, self.put("random", random), "run"], typed), read(store)
+
+    def expect(self, what, came, due):
+        self.count += 1
+        if came != due:
+            self.wrong.append(f"{what}: due {due!r}, came {came!r}")
+
+    def expect_all(self, cases):
+        """Cases of what is asked, a function that asks it, and the answer due; they are asked beside one another."""
+        cases = list(cases)
+        for (what, _, due), came in zip(cases, self.pool.map(lambda case: case[1](), cases)):
+            self.expect(what, came, due)
+
+
+def read(path):
+    with open(path, "rb") as file:
+        return file.read()
+
+
+def main(doc, part):
+    """Runs a check of the program that the one word names, tells what was wrong, and ends with 0 where nothing was."""
+    if len(sys.argv) != 2:
+        sys.exit(doc)
+    name = os.path.basename(sys.argv[0])
+    with tempfile.TemporaryDirectory() as folder:
+        check = Check(sys.argv[1], folder)
+        part(check)
+    for text in check.wrong:
+        print(f"{name}: {text[:400]}")
+    print(f"{name}: {check.count - len(check.wrong)} of {check.count} answers are those due")
+    sys.exit(1 if check.wrong else 0)
