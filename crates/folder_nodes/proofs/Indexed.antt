@@ -1,212 +1,217 @@
--- The index of names follows the rows.
-use Rattle.std.proofs.Common.{cond, false, ◌==◌, ◌⊎◌, ◌≡◌, ◌≢◌, ℕ, ◌<◌, ◌≤◌, Bool, true, ◌&&◌, List, [], map, filter, Option, Some, None, refl, sym, ap, ◌∙◌, subst, inl, inr, ⊎_elim, arith, nat_le}
-use Rattle.std.specs.Option.{option_map}
+-- The index by groups follows the rows.
+use Rattle.std.proofs.Common.{cond, not, false, ◌==◌, ◌⊎◌, ◌↔◌, ◌≡◌, ◌≢◌, ℕ, ◌+◌, ◌<◌, ◌≤◌, Bool, true, ◌&&◌, List, [], ◌∷◌, ◌++◌, map, filter, take, length, get_or, Some, None, refl, sym, ap, ◌∙◌, subst, inl, inr, ⊎_elim, arith, nat_le}
+use Rattle.std.specs.Prelude.{IsSome}
 use Rattle.std.specs.Ordering.{nat_cmp}
 use Rattle.std.specs.declared.cmp.Ordering.{Ordering}
 use Rattle.std.specs.declared.cmp.Ordering.TheVariants.{Equal}
 use Rattle.std.proofs.lemmas.Bool.Decides.{nat_tests}
 use Rattle.std.specs.List.{All}
 use Rattle.std.proofs.lemmas.Bool.{and_parts, and_from, eq-eqb, eqb-false, eqb-true, le-leb, leb-true, ne_eqb}
+use Rattle.std.proofs.lemmas.List.{take_more, length-take-le, get_or-take, get_or_default}
 use Rattle.cry_base.specs.Sets.{In}
-use Rattle.cry_base.proofs.Members.{In-map, In-filter, filter-In}
+use Rattle.cry_base.proofs.Members.{In-append, In-map, In-filter, filter-In}
 use Rattle.sorted_table.specs.Rows.{IsRising, replaced, row_at, with_row, without}
 use Rattle.sorted_table.proofs.Found.{row_at-Some, row_at-None, row_at-absent, In-with_row, In-without}
-use Rattle.folder_nodes.specs.Digests.{name_digest}
 use Rattle.folder_nodes.specs.Indexing.{IsIndexed, spot_of}
 use Rattle.folder_nodes.specs.Ranking.{spot_rank}
-use Rattle.folder_nodes.specs.Titles.{Title, MayBeNamed, title_at}
-use Rattle.folder_nodes.specs.Titling.{title_of_row}
-use Rattle.folder_nodes.specs.declared.titles.NameRow.{NameRow}
-use Rattle.folder_nodes.specs.declared.spots.NameSpot.{NameSpot}
-use Rattle.folder_nodes.proofs.Ascending.{in-All, same_ranked}
-use Rattle.folder_nodes.proofs.Titled.{rank, title_row}
+use Rattle.folder_nodes.specs.declared.spots.Spot.{Spot}
+use Rattle.folder_nodes.proofs.Ascending.{All-in, in-All, same_ranked}
 
-abbrev pub by_spot : NameSpot → ℕ
-by_spot q = spot_rank q.digest q.id
+abbrev pub by_spot : Spot → ℕ
+by_spot q = spot_rank q.group q.id
 
--- places under one digest or two
+-- places in one group or two
 pub same_place : (d e i j : ℕ) → i < 4294967296 → j < 4294967296 → spot_rank d i ≡ spot_rank e j → (d ≡ e) × (i ≡ j)
 same_place d e i j a b same = (omega (arith, a, b, same), omega (arith, a, b, same))
 
--- under two digests the numbers don't matter
+-- in two groups the numbers don't matter
 pub compared_apart : (d e i j : ℕ) (o : Ordering) → i < 4294967296 → j < 4294967296 → o ≡ nat_cmp d e → o ≢ Equal → o ≡ nat_cmp (spot_rank d i) (spot_rank e j)
 compared_apart d e i j o a b is apart = grind (arith, nat_tests)
 
--- no rows, no index
-pub nothing_indexed : IsIndexed [] []
-nothing_indexed = record { named = λ r i. absurd i; small = λ r i. absurd i; listed = λ r i. absurd i; only = λ q i. absurd i }
+-- the places in one group
+abbrev pub is_under : ℕ → Spot → Bool
+is_under group q = nat_le (spot_rank group 0) (by_spot q) && nat_le (by_spot q) (spot_rank group 4294967295)
 
-no_row : (rows : List NameRow) (k : ℕ) (o : Option NameRow) → row_at rank rows k ≡ o → option_map title_of_row o ≡ None → o ≡ None
-no_row rows k None e n = refl
-no_row rows k (Some r) e n = absurd (cc)
+module _ (T : Type 0) (rank group : T → ℕ) where
+  abbrev place : T → Spot
+  place r = spot_of (group r) (rank r)
 
--- where no title has the number, no row has
-pub row_absent : (rows : List NameRow) (k : ℕ) → title_at (map title_of_row rows) k ≡ None → row_at rank rows k ≡ None
-row_absent rows k none = no_row rows k (row_at rank rows k) refl (sym (title_row rows k) ∙ none)
+  -- no rows, no index
+  pub nothing_indexed : IsIndexed rank group [] []
+  nothing_indexed = record { small = λ r i. absurd i; listed = λ r i. absurd i; only = λ q i. absurd i }
 
--- and no place in the index
-pub spot_absent : (rows : List NameRow) (spots : List NameSpot) (row : NameRow) → IsIndexed rows spots → row.id < 4294967296 → title_at (map title_of_row rows) row.id ≡ None → row_at by_spot spots (by_spot (spot_of row)) ≡ None
-spot_absent rows spots row index small none =
-    row_at-absent NameSpot by_spot spots (by_spot (spot_of row)) (λ q i same.
-    let w = index.only q i in
-    let e : by_spot (spot_of w.0) ≡ by_spot (spot_of row) = ap by_spot (sym w.2) ∙ same in
-    let both = same_place (name_digest w.0.name.items) (name_digest row.name.items) w.0.id row.id (index.small w.0 w.1) small e in
-    row_at-None NameRow rank rows row.id (row_absent rows row.id none) w.0 w.1 both.1)
+  -- where no row has the number, nothing stands in the index under it
+  pub spot_absent : (rows : List T) (spots : List Spot) (row : T) → IsIndexed rank group rows spots → rank row < 4294967296 → row_at rank rows (rank row) ≡ None → row_at by_spot spots (by_spot (place row)) ≡ None
+  spot_absent rows spots row index small none =
+      row_at-absent Spot by_spot spots (by_spot (place row)) (λ q i same.
+      let w = index.only q i in
+      let e : by_spot (place w.0) ≡ by_spot (place row) = ap by_spot (sym w.2) ∙ same in
+      let both = same_place (group w.0) (group row) (rank w.0) (rank row) (index.small w.0 w.1) small e in
+      row_at-None T rank rows (rank row) none w.0 w.1 both.1)
 
--- a new row and its place
-pub index_with : (rows : List NameRow) (spots : List NameSpot) (row : NameRow) → IsIndexed rows spots → row.id < 4294967296 → title_at (map title_of_row rows) row.id ≡ None → MayBeNamed row.name.items → IsIndexed (with_row rank rows row) (with_row by_spot spots (spot_of row))
-index_with rows spots row index small none name =
-    let in_rows = λ (r : NameRow). In-with_row NameRow rank rows row r (row_absent rows row.id none) in
-    let in_spots = λ (q : NameSpot). In-with_row NameSpot by_spot spots (spot_of row) q (spot_absent rows spots row index small none) in
-    record {
-      named = λ r i. ⊎_elim (λ (e : r ≡ row). subst (λ (z : NameRow). MayBeNamed z.name.items) (sym e) name) (λ old. index.named r old) ((in_rows r).0 i);
-      small = λ r i. ⊎_elim (λ (e : r ≡ row). subst (λ (z : NameRow). z.id < 4294967296) (sym e) small) (λ old. index.small r old) ((in_rows r).0 i);
-      listed = λ r i. ⊎_elim (λ (e : r ≡ row). (in_spots (spot_of r)).1 (inl (ap spot_of e))) (λ old. (in_spots (spot_of r)).1 (inr (index.listed r old))) ((in_rows r).0 i);
-      only = λ q i. ⊎_elim (λ (e : q ≡ spot_of row). (row, (in_rows row).1 (inl refl), e)) (λ old. let w = index.only q old in (w.0, (in_rows w.0).1 (inr w.1), w.2)) ((in_spots q).0 i);
-    }
-
--- a row less, and its place
-pub index_without : (rows : List NameRow) (spots : List NameSpot) (id : ℕ) (row : NameRow) → IsIndexed rows spots → IsRising rank rows → row_at rank rows id ≡ Some row → IsIndexed (without rank rows id) (without by_spot spots (by_spot (spot_of row)))
-index_without rows spots id row index rising found =
-    let there = row_at-Some NameRow rank rows id row found in
-    let in_rows = λ (r : NameRow). In-without NameRow rank rows id r in
-    let in_spots = λ (q : NameSpot). In-without NameSpot by_spot spots (by_spot (spot_of row)) q in
-    record {
-      named = λ r i. index.named r ((in_rows r).0 i).0;
-      small = λ r i. index.small r ((in_rows r).0 i).0;
-      listed = λ r i.
-          let old = (in_rows r).0 i in
-          (in_spots (spot_of r)).1 (
-            index.listed r old.0,
-            λ same.
-                let both = same_place (name_digest r.name.items) (name_digest row.name.items) r.id row.id (index.small r old.0) (index.small row there.0) same in
-                old.1 (both.1 ∙ there.1),
-          );
-      only = λ q i.
-          let old = (in_spots q).0 i in
-          let w = index.only q old.0 in (
-            w.0,
-            (in_rows w.0).1 (
-              w.1,
-              λ same.
-                  let one : w.0 ≡ row = same_ranked NameRow rank rows rising w.0 row w.1 there.0 (same ∙ sym there.1) in
-                  old.1 (ap by_spot (w.2 ∙ ap spot_of one)),
-            ),
-            w.2,
-          );
-    }
-
--- a row with other bytes stands in the index as before
-put_in : (rows : List NameRow) (row r : NameRow) → In r (replaced rank rows row) → (r ≡ row) ⊎ In r rows
-put_in rows row r i =
-    let w = (In-map NameRow NameRow (λ (x : NameRow). cond (x.id == row.id) row x) r rows).0 i in
-    (elim (w.0.id == row.id) as (λ b. r ≡ cond b row w.0 → (r ≡ row) ⊎ In r rows) [
-      | true ↦ λ e. inl e
-      | false ↦ λ e. inr (subst (λ (z : NameRow). In z rows) (sym e) w.1)
-    ]) w.2
-
-pub index_replaced : (rows : List NameRow) (spots : List NameSpot) (row was : NameRow) → IsIndexed rows spots → IsRising rank rows → row_at rank rows row.id ≡ Some was → was.name.items ≡ row.name.items → IsIndexed (replaced rank rows row) spots
-index_replaced rows spots row was index rising found same =
-    let there = row_at-Some NameRow rank rows row.id was found in
-    let place : spot_of was ≡ spot_of row = λ i. record { digest = name_digest (same i); id = there.1 i } in
-    let put : NameRow → NameRow = λ x. cond (x.id == row.id) row x in
-    record {
-      named = λ r i. ⊎_elim (λ (e : r ≡ row). subst (λ (z : List ℕ). MayBeNamed z) (same ∙ ap (λ (z : NameRow). z.name.items) (sym e)) (index.named was there.0)) (λ old. index.named r old) (put_in rows row r i);
-      small = λ r i. ⊎_elim (λ (e : r ≡ row). subst (λ (z : ℕ). z < 4294967296) (there.1 ∙ ap (λ (z : NameRow). z.id) (sym e)) (index.small was there.0)) (λ old. index.small r old) (put_in rows row r i);
-      listed = λ r i. ⊎_elim (λ (e : r ≡ row). subst (λ (z : NameSpot). In z spots) (place ∙ ap spot_of (sym e)) (index.listed was there.0)) (λ old. index.listed r old) (put_in rows row r i);
-      only = λ q i.
-          let w = index.only q i in
-          (elim (w.0.id == row.id) as (λ b. w.0.id == row.id ≡ b → (r : NameRow) × In r (replaced rank rows row) × (q ≡ spot_of r)) [
-            | true ↦ λ t.
-                let one : w.0 ≡ was = same_ranked NameRow rank rows rising w.0 was w.1 there.0 (eqb-true w.0.id row.id t ∙ sym there.1) in
-                (row, (In-map NameRow NameRow put row rows).1 (w.0, w.1, ap (λ b. cond b row w.0) (sym t)), w.2 ∙ ap spot_of one ∙ place)
-            | false ↦ λ f. (w.0, (In-map NameRow NameRow put w.0 rows).1 (w.0, w.1, ap (λ b. cond b row w.0) (sym f)), w.2)
-          ]) refl;
-    }
-
--- a row with another name leaves the place of the old one
-module _ (rows : List NameRow) (row was : NameRow) (found : row_at rank rows row.id ≡ Some was) where
-  pub none_left : row_at rank (without rank rows row.id) row.id ≡ None
-  none_left = row_at-absent NameRow rank (without rank rows row.id) row.id (λ r i same. ((In-without NameRow rank rows row.id r).0 i).1 same)
-
-  pub none_titled : title_at (map title_of_row (without rank rows row.id)) row.id ≡ None
-  none_titled = title_row (without rank rows row.id) row.id ∙ ap (option_map title_of_row) none_left
-
-  beside : (r : NameRow) → In r (replaced rank rows row) → In r (with_row rank (without rank rows row.id) row)
-  beside r i =
-      let w = (In-map NameRow NameRow (λ (x : NameRow). cond (x.id == row.id) row x) r rows).0 i in
-      let in_with = In-with_row NameRow rank (without rank rows row.id) row r none_left in
-      (elim (w.0.id == row.id) as (λ b. w.0.id == row.id ≡ b → r ≡ cond b row w.0 → In r (with_row rank (without rank rows row.id) row)) [
-        | true ↦ λ t e. in_with.1 (inl e)
-        | false ↦ λ t e. in_with.1 (inr (subst (λ (z : NameRow). In z (without rank rows row.id)) (sym e) ((In-without NameRow rank rows row.id w.0).1 (w.1, eqb-false w.0.id row.id t))))
-      ]) refl w.2
-
-  in_place : (r : NameRow) → In r (with_row rank (without rank rows row.id) row) → In r (replaced rank rows row)
-  in_place r i =
-      let there = row_at-Some NameRow rank rows row.id was found in
-      let put : NameRow → NameRow = λ x. cond (x.id == row.id) row x in ⊎_elim
-      (λ (e : r ≡ row). (In-map NameRow NameRow put r rows).1 (was, there.0, e ∙ ap (λ b. cond b row was) (sym (eq-eqb was.id row.id there.1))))
-      (λ old.
-      let o = (In-without NameRow rank rows row.id r).0 old in
-      (In-map NameRow NameRow put r rows).1 (r, o.0, ap (λ b. cond b row r) (sym (ne_eqb r.id row.id o.1))))
-      ((In-with_row NameRow rank (without rank rows row.id) row r none_left).0 i)
-
-  pub index_renamed : (spots : List NameSpot) → IsIndexed rows spots → IsRising rank rows → row.id < 4294967296 → MayBeNamed row.name.items
-      → IsIndexed (replaced rank rows row) (with_row by_spot (without by_spot spots (by_spot (spot_of was))) (spot_of row))
-  index_renamed spots index rising small name =
-      let less = index_without rows spots row.id was index rising found in
-      let more = index_with (without rank rows row.id) (without by_spot spots (by_spot (spot_of was))) row less small none_titled name in record {
-        named = λ r i. more.named r (beside r i);
-        small = λ r i. more.small r (beside r i);
-        listed = λ r i. more.listed r (beside r i);
-        only = λ q i. let w = more.only q i in (w.0, in_place w.0 w.1, w.2);
+  -- a row more, and its place
+  pub index_more : (rows more : List T) (spots : List Spot) (row : T) → IsIndexed rank group rows spots → rank row < 4294967296 → row_at rank rows (rank row) ≡ None → ((r : T) → In r more ↔ ((r ≡ row) ⊎ In r rows)) → IsIndexed rank group more (with_row by_spot spots (place row))
+  index_more rows more spots row index small none in_rows =
+      let in_spots = λ (q : Spot). In-with_row Spot by_spot spots (place row) q (spot_absent rows spots row index small none) in
+      record {
+        small = λ r i. ⊎_elim (λ (e : r ≡ row). subst (λ (z : T). rank z < 4294967296) (sym e) small) (λ old. index.small r old) ((in_rows r).0 i);
+        listed = λ r i. ⊎_elim (λ (e : r ≡ row). (in_spots (place r)).1 (inl (ap place e))) (λ old. (in_spots (place r)).1 (inr (index.listed r old))) ((in_rows r).0 i);
+        only = λ q i. ⊎_elim (λ (e : q ≡ place row). (row, (in_rows row).1 (inl refl), e)) (λ old. let w = index.only q old in (w.0, (in_rows w.0).1 (inr w.1), w.2)) ((in_spots q).0 i);
       }
 
-  -- and its place is free once the old one is
-  pub spot_freed : (spots : List NameSpot) → IsIndexed rows spots → IsRising rank rows → row.id < 4294967296
-      → row_at by_spot (without by_spot spots (by_spot (spot_of was))) (by_spot (spot_of row)) ≡ None
-  spot_freed spots index rising small =
-      spot_absent (without rank rows row.id) (without by_spot spots (by_spot (spot_of was))) row (index_without rows spots row.id was index rising found) small none_titled
+  pub index_with : (rows : List T) (spots : List Spot) (row : T) → IsIndexed rank group rows spots → rank row < 4294967296 → row_at rank rows (rank row) ≡ None → IsIndexed rank group (with_row rank rows row) (with_row by_spot spots (place row))
+  index_with rows spots row index small none = index_more rows (with_row rank rows row) spots row index small none (λ r. In-with_row T rank rows row r none)
 
--- the places under one digest
-abbrev pub is_under : ℕ → NameSpot → Bool
-is_under digest q = nat_le (spot_rank digest 0) (by_spot q) && nat_le (by_spot q) (spot_rank digest 4294967295)
+  -- a row less, and its place
+  pub index_without : (rows : List T) (spots : List Spot) (k : ℕ) (row : T) → IsIndexed rank group rows spots → IsRising rank rows → row_at rank rows k ≡ Some row → IsIndexed rank group (without rank rows k) (without by_spot spots (by_spot (place row)))
+  index_without rows spots k row index rising found =
+      let there = row_at-Some T rank rows k row found in
+      let in_rows = λ (r : T). In-without T rank rows k r in
+      let in_spots = λ (q : Spot). In-without Spot by_spot spots (by_spot (place row)) q in
+      record {
+        small = λ r i. index.small r ((in_rows r).0 i).0;
+        listed = λ r i.
+            let old = (in_rows r).0 i in
+            (in_spots (place r)).1 (
+              index.listed r old.0,
+              λ same.
+                  let both = same_place (group r) (group row) (rank r) (rank row) (index.small r old.0) (index.small row there.0) same in
+                  old.1 (both.1 ∙ there.1),
+            );
+        only = λ q i.
+            let old = (in_spots q).0 i in
+            let w = index.only q old.0 in (
+              w.0,
+              (in_rows w.0).1 (
+                w.1,
+                λ same.
+                    let one : w.0 ≡ row = same_ranked T rank rows rising w.0 row w.1 there.0 (same ∙ sym there.1) in
+                    old.1 (ap by_spot (w.2 ∙ ap place one)),
+              ),
+              w.2,
+            );
+      }
 
-under_told : (rows : List NameRow) (spots : List NameSpot) → IsIndexed rows spots → (digest : ℕ) (q : NameSpot) → In q (filter (is_under digest) spots) → (q.digest ≡ digest) × (q.id < 4294967296)
-under_told rows spots index digest q i =
-    let told = In-filter NameSpot (is_under digest) q spots i in
-    let both = and_parts (nat_le (spot_rank digest 0) (by_spot q)) (nat_le (by_spot q) (spot_rank digest 4294967295)) told.1 in
-    let low : spot_rank digest 0 ≤ by_spot q = leb-true _ _ both.0 in
-    let high : by_spot q ≤ spot_rank digest 4294967295 = leb-true _ _ both.1 in
-    let w = index.only q told.0 in
-    let small : w.0.id < 4294967296 = index.small w.0 w.1 in
-    let id : q.id ≡ w.0.id = ap (λ (z : NameSpot). z.id) w.2 in
-    (omega (arith, low, high, small, id), omega (arith, small, id))
+  -- nothing goes where nothing is
+  pub none_less : (rows : List T) (k : ℕ) → row_at rank rows k ≡ None → without rank rows k ≡ rows
+  none_less [] k e = refl
+  none_less (x ∷ xs) k e =
+      (elim (rank x == k) as (λ b. cond b (Some x) (row_at rank xs k) ≡ None → cond (not b) (x ∷ without rank xs k) (without rank xs k) ≡ x ∷ xs) [
+        | true ↦ λ q. absurd (cc)
+        | false ↦ λ q. ap (λ l. x ∷ l) (none_less xs k q)
+      ]) e
 
--- their numbers ascend
-pub under_rising : (rows : List NameRow) (spots found : List NameSpot) → IsIndexed rows spots → (digest : ℕ) → found ≡ filter (is_under digest) spots → IsRising by_spot found → IsRising (λ q. q.id) found
-under_rising rows spots found index digest e rising =
-    let all : All (λ (q : NameSpot). (q.digest ≡ digest) × (q.id < 4294967296)) found = in-All NameSpot (λ q. (q.digest ≡ digest) × (q.id < 4294967296)) found (λ q i. under_told rows spots index digest q (subst (λ l. In q l) e i)) in
-    λ i j d lt within.
-    let a = all i d (omega arith) in
-    let b = all j d within in
-    let up = rising i j d lt within in
-    omega (arith, a.0, b.0, up)
+  -- a row in the place of another
+  module _ (rows : List T) (row was : T) (found : row_at rank rows (rank row) ≡ Some was) where
+    abbrev put : T → T
+    put x = cond (rank x == rank row) row x
 
--- and all with the name are among them
-pub under_all : (rows : List NameRow) (spots found : List NameSpot) (name : List ℕ) → IsIndexed rows spots → found ≡ filter (is_under (name_digest name)) spots → (t : Title) → In t (map title_of_row rows) → t.name ≡ name → In t.id (map (λ (q : NameSpot). q.id) found)
-under_all rows spots found name index e t i same =
-    let w = (In-map NameRow Title title_of_row t rows).0 i in
-    let here : w.0.name.items ≡ name = ap (λ (z : Title). z.name) (sym w.2) ∙ same in
-    let digest : name_digest w.0.name.items ≡ name_digest name = ap name_digest here in
-    let small : w.0.id < 4294967296 = index.small w.0 w.1 in
-    let passes : is_under (name_digest name) (spot_of w.0) ≡ true =
-    and_from (nat_le (spot_rank (name_digest name) 0) (by_spot (spot_of w.0))) (nat_le (by_spot (spot_of w.0)) (spot_rank (name_digest name) 4294967295))
-    (le-leb _ _ (omega (arith, digest))) (le-leb _ _ (omega (arith, digest, small))) in
-    (In-map NameSpot ℕ (λ q. q.id) t.id found).1 (spot_of w.0, subst (λ l. In (spot_of w.0) l) (sym e) (filter-In NameSpot (is_under (name_digest name)) (spot_of w.0) spots (index.listed w.0 w.1) passes), ap (λ (z : Title). z.id) w.2)
+    put_or : (r : T) → In r (replaced rank rows row) ↔ ((r ≡ row) ⊎ In r (without rank rows (rank row)))
+    put_or r =
+        let there = row_at-Some T rank rows (rank row) was found in (
+          λ i.
+              let w = (In-map T T put r rows).0 i in
+              (elim (rank w.0 == rank row) as (λ b. rank w.0 == rank row ≡ b → r ≡ cond b row w.0 → (r ≡ row) ⊎ In r (without rank rows (rank row))) [
+                | true ↦ λ t e. inl e
+                | false ↦ λ t e. inr (subst (λ (z : T). In z (without rank rows (rank row))) (sym e) ((In-without T rank rows (rank row) w.0).1 (w.1, eqb-false (rank w.0) (rank row) t)))
+              ]) refl w.2,
+          λ u. ⊎_elim
+              (λ (e : r ≡ row). (In-map T T put r rows).1 (was, there.0, e ∙ ap (λ b. cond b row was) (sym (eq-eqb (rank was) (rank row) there.1))))
+              (λ old.
+              let o = (In-without T rank rows (rank row) r).0 old in
+              (In-map T T put r rows).1 (r, o.0, ap (λ b. cond b row r) (sym (ne_eqb (rank r) (rank row) o.1)))) u,
+        )
 
--- what is titled has a name, or the root's
-pub titles_named : (rows : List NameRow) (spots : List NameSpot) → IsIndexed rows spots → (t : Title) → In t (map title_of_row rows) → MayBeNamed t.name
-titles_named rows spots index t i =
-    let w = (In-map NameRow Title title_of_row t rows).0 i in
-    subst (λ (z : Title). MayBeNamed z.name) (sym w.2) (index.named w.0 w.1)
+    none_left : row_at rank (without rank rows (rank row)) (rank row) ≡ None
+    none_left = row_at-absent T rank (without rank rows (rank row)) (rank row) (λ r i same. ((In-without T rank rows (rank row) r).0 i).1 same)
+
+    -- in another group: it leaves the place of the old one
+    pub index_moved : (spots : List Spot) → IsIndexed rank group rows spots → IsRising rank rows → rank row < 4294967296
+        → IsIndexed rank group (replaced rank rows row) (with_row by_spot (without by_spot spots (by_spot (place was))) (place row))
+    index_moved spots index rising small =
+        index_more (without rank rows (rank row)) (replaced rank rows row) (without by_spot spots (by_spot (place was))) row (index_without rows spots (rank row) was index rising found) small none_left put_or
+
+    pub spot_freed : (spots : List Spot) → IsIndexed rank group rows spots → IsRising rank rows → rank row < 4294967296
+        → row_at by_spot (without by_spot spots (by_spot (place was))) (by_spot (place row)) ≡ None
+    spot_freed spots index rising small =
+        spot_absent (without rank rows (rank row)) (without by_spot spots (by_spot (place was))) row (index_without rows spots (rank row) was index rising found) small none_left
+
+    -- and the old one's place is there
+    pub spot_there : (spots : List Spot) → IsIndexed rank group rows spots → IsSome (row_at by_spot spots (by_spot (place was)))
+    spot_there spots index =
+        (elim (row_at by_spot spots (by_spot (place was))) as (λ o. row_at by_spot spots (by_spot (place was)) ≡ o → IsSome o) [
+          | Some q ↦ λ e. refl
+          | None ↦ λ e. absurd (row_at-None Spot by_spot spots (by_spot (place was)) e (place was) (index.listed was (row_at-Some T rank rows (rank row) was found).0) refl)
+        ]) refl
+
+    -- in the same group: it has the place of the old one
+    pub index_kept : (spots : List Spot) → IsIndexed rank group rows spots → IsRising rank rows → group was ≡ group row → IsIndexed rank group (replaced rank rows row) spots
+    index_kept spots index rising same =
+        let there = row_at-Some T rank rows (rank row) was found in
+        let one : place was ≡ place row = λ i. record { group = same i; id = there.1 i } in
+        let left = index_without rows spots (rank row) was index rising found in record {
+          small = λ r i. ⊎_elim (λ (e : r ≡ row). subst (λ (z : ℕ). z < 4294967296) (there.1 ∙ ap rank (sym e)) (index.small was there.0)) (λ old. left.small r old) ((put_or r).0 i);
+          listed = λ r i. ⊎_elim (λ (e : r ≡ row). subst (λ (z : Spot). In z spots) (one ∙ ap place (sym e)) (index.listed was there.0)) (λ old. index.listed r ((In-without T rank rows (rank row) r).0 old).0) ((put_or r).0 i);
+          only = λ q i.
+              let w = index.only q i in
+              (elim (rank w.0 == rank row) as (λ b. rank w.0 == rank row ≡ b → (r : T) × In r (replaced rank rows row) × (q ≡ place r)) [
+                | true ↦ λ t.
+                    let old : w.0 ≡ was = same_ranked T rank rows rising w.0 was w.1 there.0 (eqb-true (rank w.0) (rank row) t ∙ sym there.1) in
+                    (row, (put_or row).1 (inl refl), w.2 ∙ ap place old ∙ one)
+                | false ↦ λ f. (w.0, (put_or w.0).1 (inr ((In-without T rank rows (rank row) w.0).1 (w.1, eqb-false (rank w.0) (rank row) f))), w.2)
+              ]) refl;
+        }
+
+  under_told : (rows : List T) (spots : List Spot) → IsIndexed rank group rows spots → (g : ℕ) (q : Spot) → In q (filter (is_under g) spots) → (q.group ≡ g) × (q.id < 4294967296)
+  under_told rows spots index g q i =
+      let told = In-filter Spot (is_under g) q spots i in
+      let both = and_parts (nat_le (spot_rank g 0) (by_spot q)) (nat_le (by_spot q) (spot_rank g 4294967295)) told.1 in
+      let low : spot_rank g 0 ≤ by_spot q = leb-true _ _ both.0 in
+      let high : by_spot q ≤ spot_rank g 4294967295 = leb-true _ _ both.1 in
+      let w = index.only q told.0 in
+      let small : rank w.0 < 4294967296 = index.small w.0 w.1 in
+      let id : q.id ≡ rank w.0 = ap (λ (z : Spot). z.id) w.2 in
+      (omega (arith, low, high, small, id), omega (arith, small, id))
+
+  -- the numbers of a group ascend
+  pub under_rising : (rows : List T) (spots found : List Spot) → IsIndexed rank group rows spots → (g : ℕ) → found ≡ filter (is_under g) spots → IsRising by_spot found → IsRising (λ q. q.id) found
+  under_rising rows spots found index g e rising =
+      let all : All (λ (q : Spot). (q.group ≡ g) × (q.id < 4294967296)) found = in-All Spot (λ q. (q.group ≡ g) × (q.id < 4294967296)) found (λ q i. under_told rows spots index g q (subst (λ l. In q l) e i)) in
+      λ i j d lt within.
+      let a = all i d (omega arith) in
+      let b = all j d within in
+      let up = rising i j d lt within in
+      omega (arith, a.0, b.0, up)
+
+  -- and all of the group are among them
+  pub under_all : (rows : List T) (spots found : List Spot) (g : ℕ) → IsIndexed rank group rows spots → found ≡ filter (is_under g) spots → (r : T) → In r rows → group r ≡ g → In (rank r) (map (λ (q : Spot). q.id) found)
+  under_all rows spots found g index e r i same =
+      let small : rank r < 4294967296 = index.small r i in
+      let passes : is_under g (place r) ≡ true =
+      and_from (nat_le (spot_rank g 0) (by_spot (place r))) (nat_le (by_spot (place r)) (spot_rank g 4294967295))
+      (le-leb _ _ (omega (arith, same))) (le-leb _ _ (omega (arith, same, small))) in
+      (In-map Spot ℕ (λ q. q.id) (rank r) found).1 (place r, subst (λ l. In (place r) l) (sym e) (filter-In Spot (is_under g) (place r) spots (index.listed r i) passes), refl)
+
+  -- an index that is made row by row
+  module _ (rows : List T) (k : ℕ) (row : T) (at : row ≡ get_or rows k row) (rising : IsRising rank rows) (within : k < length rows) where
+    none_before : row_at rank (take k rows) (rank row) ≡ None
+    none_before =
+        let short : length (take k rows) ≡ k = length-take-le k rows (omega (arith, within)) in
+        let low : All (λ (r : T). rank r < rank row) (take k rows) = λ j e lt.
+        let up : rank (get_or rows j e) < rank (get_or rows k e) = rising j k e (omega (arith, lt, short)) within in
+        let one : rank (get_or rows k e) ≡ rank row = ap rank (get_or_default rows k e row within ∙ sym at) in
+        let old : rank (get_or (take k rows) j e) ≡ rank (get_or rows j e) = ap rank (get_or-take k rows j e (omega (arith, lt, short))) in
+        omega (arith, up, one, old) in
+        row_at-absent T rank (take k rows) (rank row) (λ r i same. let up : rank r < rank row = All-in T (λ (r : T). rank r < rank row) (take k rows) r low i in absurd (omega (arith, up, same)))
+
+    pub place_free : (spots : List Spot) → IsIndexed rank group (take k rows) spots → rank row < 4294967296 → row_at by_spot spots (by_spot (place row)) ≡ None
+    place_free spots index small = spot_absent (take k rows) spots row index small none_before
+
+    pub index_on : (spots : List Spot) → IsIndexed rank group (take k rows) spots → rank row < 4294967296 → IsIndexed rank group (take (k + 1) rows) (with_row by_spot spots (place row))
+    index_on spots index small =
+        index_more (take k rows) (take (k + 1) rows) spots row index small none_before
+        (λ r.
+        let e : take (k + 1) rows ≡ take k rows ++ row ∷ [] = take_more rows k row within ∙ ap (λ z. take k rows ++ z ∷ []) (sym at) in (
+          λ i. ⊎_elim (λ old. inr old) (λ (new : (r ≡ row) ⊎ In r []). ⊎_elim (λ same. inl same) (λ none. absurd none) new) ((In-append T r (take k rows) (row ∷ [])).0 (subst (λ l. In r l) e i)),
+          λ u. subst (λ l. In r l) (sym e) ((In-append T r (take k rows) (row ∷ [])).1 (⊎_elim (λ same. inr (inl same)) (λ old. inl old) u)),
+        ))

@@ -67,7 +67,7 @@ no_file_leads s n x bytes p =
     sym (ap (λ (o : Option FileEntry). is_some o && bytes_eq (joined (node_names (tree_store s n) (file_node x))) bytes) (file_named s n x ∙ ap (option_map (named_file n)) p))
 
 -- one step: into the parent, without the name
-lead_step : (s : Store) (n : Titles) → IsTree s → (f : ℕ) (e q : FolderEntry) (left front : List ℕ) → folder_entry s f ≡ Some e → folder_entry s e.parent ≡ Some q → left ≡ front ++ 47 ∷ name_in (title_at n.folders f) → leads_to_folder (tree_store s n) f left ≡ leads_to_folder (tree_store s n) e.parent front
+pub lead_step : (s : Store) (n : Titles) → IsTree s → (f : ℕ) (e q : FolderEntry) (left front : List ℕ) → folder_entry s f ≡ Some e → folder_entry s e.parent ≡ Some q → left ≡ front ++ 47 ∷ name_in (title_at n.folders f) → leads_to_folder (tree_store s n) f left ≡ leads_to_folder (tree_store s n) e.parent front
 lead_step s n tree f e q left front p up cut =
     let t = tree_store s n in
     leads_told t f (named_folder n e) left (entry_named s n f e p)
@@ -75,7 +75,7 @@ lead_step s n tree f e q left front p up cut =
     ∙ same_front (joined (folder_names t e.parent)) left front (47 ∷ name_in (title_at n.folders f)) cut
     ∙ sym (leads_told t e.parent (named_folder n q) front (entry_named s n e.parent q up))
 
-lead_none : (s : Store) (n : Titles) → IsTree s → (f : ℕ) (e q : FolderEntry) (left : List ℕ) → folder_entry s f ≡ Some e → folder_entry s e.parent ≡ Some q → ((front : List ℕ) → left ≢ front ++ 47 ∷ name_in (title_at n.folders f)) → leads_to_folder (tree_store s n) f left ≡ false
+pub lead_none : (s : Store) (n : Titles) → IsTree s → (f : ℕ) (e q : FolderEntry) (left : List ℕ) → folder_entry s f ≡ Some e → folder_entry s e.parent ≡ Some q → ((front : List ℕ) → left ≢ front ++ 47 ∷ name_in (title_at n.folders f)) → leads_to_folder (tree_store s n) f left ≡ false
 lead_none s n tree f e q left p up apart =
     let t = tree_store s n in
     leads_told t f (named_folder n e) left (entry_named s n f e p)

@@ -3,6 +3,7 @@ pub mod Ascending
 pub mod Causes
 pub mod Checked
 pub mod Climbing
+pub mod Digested
 pub mod Downward
 pub mod Heights
 pub mod Indexed
@@ -22,4 +23,6 @@ pub mod Splitting
 pub mod Taken
 pub mod Titled
 pub mod Treed
+pub mod Tried
 pub mod Upward
+pub mod Walked

@@ -15,7 +15,7 @@ use Rattle.sorted_table.specs.Rows.{IsRising}
 use Rattle.folder_nodes.specs.Spelling.{joined, leads_to_folder, leads_to_file, root_in, as_file}
 use Rattle.folder_nodes.specs.Titles.{Titles, Title, MayBeNamed, title_at, name_in, tree_store}
 use Rattle.folder_nodes.specs.Trees.{IsTree}
-use Rattle.folder_nodes.specs.declared.spots.NameSpot.{NameSpot}
+use Rattle.folder_nodes.specs.declared.spots.Spot.{Spot}
 use Rattle.folder_nodes.proofs.Added.{parent_cases, stands_made}
 use Rattle.folder_nodes.proofs.Ascending.{All-in, same_first, least, map_rising}
 use Rattle.folder_nodes.proofs.Checked.{found_stands}
@@ -35,6 +35,10 @@ AreNames titles = (t : Title) → In t titles → MayBeNamed t.name
 -- all titles with the name are among those with the numbers
 abbrev pub HasAll : List Title → List ℕ → List ℕ → Type 0
 HasAll titles name ids = (t : Title) → In t titles → t.name ≡ name → In t.id ids
+
+-- all numbers that pass are among these
+abbrev pub HasPassing : (ℕ → Bool) → List ℕ → Type 0
+HasPassing test ids = (k : ℕ) → test k ≡ true → In k ids
 
 -- a title's name has no slash
 pub title_free : (titles : List Title) → AreNames titles → (k : ℕ) → free (name_in (title_at titles k)) ≡ true
@@ -129,9 +133,9 @@ module _ (s : Store) (n : Titles) (tree : IsTree s) (path : List ℕ) (form : is
       last_is (folder_names (tree_store s n) e.folder) (name_in (title_at n.files x)) (title_free n.files names x) (ap joined (sym (file_names_here s n x e p)) ∙ spelled)
 
   -- the first folder, and the first file, that has the path
-  folder_first : AreNames n.folders → (ids : List ℕ) → IsRising (λ k. k) ids → HasAll n.folders last ids → find (λ k. bytes_eq (path_of (tree_store s n) (folder_node k)) path) (map (λ (e : FolderEntry). e.id) s.folders) ≡ find (λ k. leads_to_folder (tree_store s n) k path) ids
+  folder_first : (ids : List ℕ) → IsRising (λ k. k) ids → HasPassing (λ k. leads_to_folder (tree_store s n) k path) ids → find (λ k. bytes_eq (path_of (tree_store s n) (folder_node k)) path) (map (λ (e : FolderEntry). e.id) s.folders) ≡ find (λ k. leads_to_folder (tree_store s n) k path) ids
   unfolding path_of node_names folder_node leads_to_folder
-  folder_first names ids rising all =
+  folder_first ids rising all =
       let t = tree_store s n in
       same_first (λ k. bytes_eq (path_of t (folder_node k)) path) (λ k. leads_to_folder t k path) (map (λ (e : FolderEntry). e.id) s.folders) ids
       (map_rising FolderEntry (λ e. e.id) s.folders tree.folders_ascend) rising
@@ -139,16 +143,16 @@ module _ (s : Store) (n : Titles) (tree : IsTree s) (path : List ℕ) (form : is
       let w = (In-map FolderEntry ℕ (λ e. e.id) k s.folders).0 i in
       let p : folder_entry s k ≡ Some w.0 = ap (folder_entry s) w.2 ∙ entry_there s tree w.0 w.1 in
       let spelled : joined (folder_names t k) ≡ path = spelled_as (folder_names t k) (bytes_told (spell_path (folder_names t k)) path pass) in
-      let is : is_name last ≡ true = (path_parts path form other).1 in
-      (title_listed n.folders last ids all is k (folder_own names k w.0 p spelled), leads_told t k (named_folder n w.0) path (entry_named s n k w.0 p) ∙ told_bytes (joined (folder_names t k)) path spelled))
+      let leads : leads_to_folder t k path ≡ true = leads_told t k (named_folder n w.0) path (entry_named s n k w.0 p) ∙ told_bytes (joined (folder_names t k)) path spelled in
+      (all k leads, leads))
       (λ k i pass.
       let both = and_parts (is_some (folder_entry t k)) (bytes_eq (joined (folder_names t k)) path) pass in
       let w = some_of FolderEntry (folder_entry s k) (sym (folder_named_stands s n k) ∙ both.0) in
       ((In-map FolderEntry ℕ (λ e. e.id) k s.folders).1 (w.0, entry_in s k w.0 w.1, sym (entry_id s k w.0 w.1)), told_bytes (spell_path (folder_names t k)) path (joined_as (folder_names t k) (bytes_told (joined (folder_names t k)) path both.1))))
 
-  file_first : AreNames n.files → (ids : List ℕ) → IsRising (λ k. k) ids → HasAll n.files last ids → find (λ k. bytes_eq (path_of (tree_store s n) (file_node k)) path) (map (λ (e : FileEntry). e.id) s.files) ≡ find (λ k. leads_to_file (tree_store s n) k path) ids
+  file_first : (ids : List ℕ) → IsRising (λ k. k) ids → HasPassing (λ k. leads_to_file (tree_store s n) k path) ids → find (λ k. bytes_eq (path_of (tree_store s n) (file_node k)) path) (map (λ (e : FileEntry). e.id) s.files) ≡ find (λ k. leads_to_file (tree_store s n) k path) ids
   unfolding path_of leads_to_file
-  file_first names ids rising all =
+  file_first ids rising all =
       let t = tree_store s n in
       same_first (λ k. bytes_eq (path_of t (file_node k)) path) (λ k. leads_to_file t k path) (map (λ (e : FileEntry). e.id) s.files) ids
       (map_rising FileEntry (λ e. e.id) s.files tree.files_ascend) rising
@@ -156,43 +160,60 @@ module _ (s : Store) (n : Titles) (tree : IsTree s) (path : List ℕ) (form : is
       let w = (In-map FileEntry ℕ (λ e. e.id) k s.files).0 i in
       let p : file_entry s k ≡ Some w.0 = ap (file_entry s) w.2 ∙ file_there s tree w.0 w.1 in
       let spelled : joined (node_names t (file_node k)) ≡ path = spelled_as (node_names t (file_node k)) (bytes_told (spell_path (node_names t (file_node k))) path pass) in
-      let is : is_name last ≡ true = (path_parts path form other).1 in
-      (title_listed n.files last ids all is k (file_own names k w.0 p spelled), leads_file_told t k (named_file n w.0) path (file_entry_named s n k w.0 p) ∙ told_bytes (joined (node_names t (file_node k))) path spelled))
+      let leads : leads_to_file t k path ≡ true = leads_file_told t k (named_file n w.0) path (file_entry_named s n k w.0 p) ∙ told_bytes (joined (node_names t (file_node k))) path spelled in
+      (all k leads, leads))
       (λ k i pass.
       let both = and_parts (is_some (file_entry t k)) (bytes_eq (joined (node_names t (file_node k))) path) pass in
       let w = some_of FileEntry (file_entry s k) (sym (file_named_stands s n k) ∙ both.0) in
       ((In-map FileEntry ℕ (λ e. e.id) k s.files).1 (w.0, file_in s k w.0 w.1, sym (file_id s k w.0 w.1)), told_bytes (spell_path (node_names t (file_node k))) path (joined_as (node_names t (file_node k)) (bytes_told (joined (node_names t (file_node k))) path both.1))))
 
+  -- all with the path's last name are all that have the path, and more
+  pub folder_led : AreNames n.folders → (ids : List ℕ) → HasAll n.folders (last_name (names_of path)) ids → HasPassing (λ k. leads_to_folder (tree_store s n) k path) ids
+  unfolding leads_to_folder
+  folder_led names ids all k leads =
+      let t = tree_store s n in
+      let both = and_parts (is_some (folder_entry t k)) (bytes_eq (joined (folder_names t k)) path) leads in
+      let w = some_of FolderEntry (folder_entry s k) (sym (folder_named_stands s n k) ∙ both.0) in
+      title_listed n.folders last ids all (path_parts path form other).1 k (folder_own names k w.0 w.1 (bytes_told (joined (folder_names t k)) path both.1))
+
+  pub file_led : AreNames n.files → (ids : List ℕ) → HasAll n.files (last_name (names_of path)) ids → HasPassing (λ k. leads_to_file (tree_store s n) k path) ids
+  unfolding leads_to_file
+  file_led names ids all k leads =
+      let t = tree_store s n in
+      let both = and_parts (is_some (file_entry t k)) (bytes_eq (joined (node_names t (file_node k))) path) leads in
+      let w = some_of FileEntry (file_entry s k) (sym (file_named_stands s n k) ∙ both.0) in
+      title_listed n.files last ids all (path_parts path form other).1 k (file_own names k w.0 w.1 (bytes_told (joined (node_names t (file_node k))) path both.1))
+
   -- among nodes
-  pub folder_located : AreNames n.folders → (spots : List NameSpot) → IsRising (λ q. q.id) spots → HasAll n.folders (last_name (names_of path)) (map (λ (q : NameSpot). q.id) spots) → find (λ node. bytes_eq (path_of (tree_store s n) node) path) (map (λ (e : FolderEntry). folder_node e.id) s.folders) ≡ option_map folder_node (option_map (λ (q : NameSpot). q.id) (find (λ q. leads_to_folder (tree_store s n) q.id path) spots))
-  folder_located names spots rising all =
+  pub folder_located : (spots : List Spot) → IsRising (λ q. q.id) spots → HasPassing (λ k. leads_to_folder (tree_store s n) k path) (map (λ (q : Spot). q.id) spots) → find (λ node. bytes_eq (path_of (tree_store s n) node) path) (map (λ (e : FolderEntry). folder_node e.id) s.folders) ≡ option_map folder_node (option_map (λ (q : Spot). q.id) (find (λ q. leads_to_folder (tree_store s n) q.id path) spots))
+  folder_located spots rising all =
       let t = tree_store s n in
       let test : Node → Bool = λ node. bytes_eq (path_of t node) path in
       nodes_by FolderEntry (λ e. e.id) folder_node test s.folders
-      ∙ ap (option_map folder_node) (folder_first names (map (λ (q : NameSpot). q.id) spots) (map_rising NameSpot (λ q. q.id) spots rising) all ∙ find-map NameSpot ℕ (λ q. q.id) (λ k. leads_to_folder t k path) spots)
+      ∙ ap (option_map folder_node) (folder_first (map (λ (q : Spot). q.id) spots) (map_rising Spot (λ q. q.id) spots rising) all ∙ find-map Spot ℕ (λ q. q.id) (λ k. leads_to_folder t k path) spots)
 
-  pub file_located : AreNames n.files → (spots : List NameSpot) → IsRising (λ q. q.id) spots → HasAll n.files (last_name (names_of path)) (map (λ (q : NameSpot). q.id) spots) → find (λ node. bytes_eq (path_of (tree_store s n) node) path) (map (λ (e : FileEntry). file_node e.id) s.files) ≡ option_map file_node (option_map (λ (q : NameSpot). q.id) (find (λ q. leads_to_file (tree_store s n) q.id path) spots))
-  file_located names spots rising all =
+  pub file_located : (spots : List Spot) → IsRising (λ q. q.id) spots → HasPassing (λ k. leads_to_file (tree_store s n) k path) (map (λ (q : Spot). q.id) spots) → find (λ node. bytes_eq (path_of (tree_store s n) node) path) (map (λ (e : FileEntry). file_node e.id) s.files) ≡ option_map file_node (option_map (λ (q : Spot). q.id) (find (λ q. leads_to_file (tree_store s n) q.id path) spots))
+  file_located spots rising all =
       let t = tree_store s n in
       let test : Node → Bool = λ node. bytes_eq (path_of t node) path in
       nodes_by FileEntry (λ e. e.id) file_node test s.files
-      ∙ ap (option_map file_node) (file_first names (map (λ (q : NameSpot). q.id) spots) (map_rising NameSpot (λ q. q.id) spots rising) all ∙ find-map NameSpot ℕ (λ q. q.id) (λ k. leads_to_file t k path) spots)
+      ∙ ap (option_map file_node) (file_first (map (λ (q : Spot). q.id) spots) (map_rising Spot (λ q. q.id) spots rising) all ∙ find-map Spot ℕ (λ q. q.id) (λ k. leads_to_file t k path) spots)
 
   -- what the code found first is what has the path
-  pub folder_told : AreNames n.folders → (spots : List NameSpot) → IsRising (λ q. q.id) spots → HasAll n.folders (last_name (names_of path)) (map (λ (q : NameSpot). q.id) spots) → (f : ℕ) → Some f ≡ option_map (λ (q : NameSpot). q.id) (find (λ q. leads_to_folder (tree_store s n) q.id path) spots) → Some (Folder (record { 0 = f })) ≡ node_at (tree_store s n) path
+  pub folder_told : (spots : List Spot) → IsRising (λ q. q.id) spots → HasPassing (λ k. leads_to_folder (tree_store s n) k path) (map (λ (q : Spot). q.id) spots) → (f : ℕ) → Some f ≡ option_map (λ (q : Spot). q.id) (find (λ q. leads_to_folder (tree_store s n) q.id path) spots) → Some (Folder (record { 0 = f })) ≡ node_at (tree_store s n) path
   unfolding node_at nodes_of folder_node
-  folder_told names spots rising all f found =
+  folder_told spots rising all f found =
       let test : Node → Bool = λ node. bytes_eq (path_of (tree_store s n) node) path in
       sym (ap (find test) (nodes_named s n)
-      ∙ find-front Node test (map (λ (e : FolderEntry). folder_node e.id) s.folders) (map (λ (e : FileEntry). file_node e.id) s.files) (folder_node f) (folder_located names spots rising all ∙ ap (option_map folder_node) (sym found)))
+      ∙ find-front Node test (map (λ (e : FolderEntry). folder_node e.id) s.folders) (map (λ (e : FileEntry). file_node e.id) s.files) (folder_node f) (folder_located spots rising all ∙ ap (option_map folder_node) (sym found)))
 
-  pub file_told : AreNames n.folders → AreNames n.files → (spots others : List NameSpot) → IsRising (λ q. q.id) spots → IsRising (λ q. q.id) others → HasAll n.folders (last_name (names_of path)) (map (λ (q : NameSpot). q.id) spots) → HasAll n.files (last_name (names_of path)) (map (λ (q : NameSpot). q.id) others) → None ≡ option_map (λ (q : NameSpot). q.id) (find (λ q. leads_to_folder (tree_store s n) q.id path) spots) → (o : Option ℕ) → o ≡ option_map (λ (q : NameSpot). q.id) (find (λ q. leads_to_file (tree_store s n) q.id path) others) → option_map as_file o ≡ node_at (tree_store s n) path
+  pub file_told : (spots others : List Spot) → IsRising (λ q. q.id) spots → IsRising (λ q. q.id) others → HasPassing (λ k. leads_to_folder (tree_store s n) k path) (map (λ (q : Spot). q.id) spots) → HasPassing (λ k. leads_to_file (tree_store s n) k path) (map (λ (q : Spot). q.id) others) → None ≡ option_map (λ (q : Spot). q.id) (find (λ q. leads_to_folder (tree_store s n) q.id path) spots) → (o : Option ℕ) → o ≡ option_map (λ (q : Spot). q.id) (find (λ q. leads_to_file (tree_store s n) q.id path) others) → option_map as_file o ≡ node_at (tree_store s n) path
   unfolding node_at nodes_of file_node
-  file_told names file_names spots others rising others_rising all others_all none o found =
+  file_told spots others rising others_rising all others_all none o found =
       let test : Node → Bool = λ node. bytes_eq (path_of (tree_store s n) node) path in
       sym (ap (find test) (nodes_named s n)
-      ∙ find-append Node test (map (λ (e : FolderEntry). folder_node e.id) s.folders) (map (λ (e : FileEntry). file_node e.id) s.files) (folder_located names spots rising all ∙ ap (option_map folder_node) (sym none))
-      ∙ file_located file_names others others_rising others_all ∙ ap (option_map file_node) (sym found))
+      ∙ find-append Node test (map (λ (e : FolderEntry). folder_node e.id) s.folders) (map (λ (e : FileEntry). file_node e.id) s.files) (folder_located spots rising all ∙ ap (option_map folder_node) (sym none))
+      ∙ file_located others others_rising others_all ∙ ap (option_map file_node) (sym found))
 
   -- the name of what has the path
   pub name_at : AreNames n.folders → AreNames n.files → (node : Node) → node_at (tree_store s n) path ≡ Some node → name_of (tree_store s n) (Some node) ≡ last_name (names_of path)
@@ -215,7 +236,7 @@ name_found s n tree path form other names file_names some =
     ap (name_of (tree_store s n)) w.1 ∙ name_at s n tree path form other names file_names w.0 w.1
 
 -- the root's path
-root_stands : (s : Store) → IsTree s → (f : ℕ) (e : FolderEntry) → folder_entry s f ≡ Some e → (r : FolderEntry) × (folder_entry s 1 ≡ Some r)
+pub root_stands : (s : Store) → IsTree s → (f : ℕ) (e : FolderEntry) → folder_entry s f ≡ Some e → (r : FolderEntry) × (folder_entry s 1 ≡ Some r)
 root_stands s tree f e p =
     let made = stands_made s tree f e p in
     let w = tree.root (omega (arith, made.0, made.1)) in

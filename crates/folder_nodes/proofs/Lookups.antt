@@ -1,5 +1,5 @@
 -- Look-ups in lists that grow, shrink or change in one place.
-use Rattle.std.proofs.Common.{◌≡◌, suc, ◌||◌, Bool, true, false, cond, List, [], ◌∷◌, ◌++◌, map, filter, find, Some, None, refl, sym, ap, subst}
+use Rattle.std.proofs.Common.{◌≡◌, suc, ◌||◌, Bool, true, false, cond, List, [], ◌∷◌, ◌++◌, map, filter, find, Some, None, refl, sym, ap, ◌∙◌, subst}
 use Rattle.std.proofs.Common.{arith}
 use Rattle.std.specs.Option.{option_map}
 use Rattle.std.specs.List.{All, AllPairs, list_any}
@@ -25,6 +25,11 @@ filter-map X Y g p (x ∷ xs) =
     ]
 
 -- what is found in front stays found, and else the look-up goes on behind
+-- tests that agree find the same
+pub find_alike : (X : Type 0) (p q : X → Bool) → ((x : X) → p x ≡ q x) → (xs : List X) → find p xs ≡ find q xs
+find_alike X p q same [] = refl
+find_alike X p q same (x ∷ xs) = ap (λ b. cond b (Some x) (find p xs)) (same x) ∙ ap (cond (q x) (Some x)) (find_alike X p q same xs)
+
 pub find-append : (X : Type 0) (p : X → Bool) (xs ys : List X) → find p xs ≡ None → find p (xs ++ ys) ≡ find p ys
 find-append X p [] ys e = refl
 find-append X p (x ∷ xs) ys e =

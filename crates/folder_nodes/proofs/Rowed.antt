@@ -7,8 +7,10 @@ use Rattle.std.proofs.lemmas.Bool.{lt-ltb, le-ltb}
 use Rattle.std.proofs.lemmas.List.{map-append}
 use Rattle.std.proofs.lemmas.List.Elements.{All-nil, All-cons, All-head, All-tail, All-weaker}
 use Rattle.cry_base.specs.Refusing.{has_child}
+use Rattle.cry_base.specs.Sets.{In}
 use Rattle.cry_base.specs.Store.{Store, FolderEntry, FileEntry, and_above, way_up, way_to_root, folder_entry, file_entry}
 use Rattle.cry_base.specs.Stepping.{with_new_folder, with_new_file, with_folder, with_file, without_folder, without_file}
+use Rattle.cry_base.proofs.Members.{In-map}
 use Rattle.sorted_table.specs.Rows.{row_at, with_row, without, replaced}
 use Rattle.folder_nodes.specs.Bare.{folder_of_row, file_of_row, bare_store}
 use Rattle.folder_nodes.specs.Trees.{IsTree}
@@ -187,3 +189,14 @@ file_rows_put rows files m n x q new e = ap (λ l. store_of (map folder_of_row r
 -- equal rows are one store
 pub same_rows : (rows other : List FolderRow) (files others : List FileRow) (m n : ℕ) → rows ≡ other → files ≡ others → bare_store rows files m n ≡ bare_store other others m n
 same_rows rows other files others m n e f = ap (λ l. bare_store l files m n) e ∙ ap (λ l. bare_store other l m n) f
+
+-- all in a folder are among the rows of its group
+pub folder_rows_inside : (rows : List FolderRow) (f g : ℕ) (ids : List ℕ) → g ≡ f → ((r : FolderRow) → In r rows → r.parent ≡ g → In r.id.0 ids) → (e : FolderEntry) → In e (map folder_of_row rows) → e.parent ≡ f → In e.id ids
+folder_rows_inside rows f g ids same all e i p =
+    let w = (In-map FolderRow FolderEntry folder_of_row e rows).0 i in
+    subst (λ (z : FolderEntry). In z.id ids) (sym w.2) (all w.0 w.1 (ap (λ (z : FolderEntry). z.parent) (sym w.2) ∙ p ∙ sym same))
+
+pub file_rows_inside : (rows : List FileRow) (f g : ℕ) (ids : List ℕ) → g ≡ f → ((r : FileRow) → In r rows → r.folder.0 ≡ g → In r.id.0 ids) → (e : FileEntry) → In e (map file_of_row rows) → e.folder ≡ f → In e.id ids
+file_rows_inside rows f g ids same all e i p =
+    let w = (In-map FileRow FileEntry file_of_row e rows).0 i in
+    subst (λ (z : FileEntry). In z.id ids) (sym w.2) (all w.0 w.1 (ap (λ (z : FileEntry). z.folder) (sym w.2) ∙ p ∙ sym same))

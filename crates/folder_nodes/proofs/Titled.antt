@@ -44,11 +44,6 @@ titles_then old new id o h k =
 pub titles_replaced : (old new : List NameRow) (row : NameRow) → is_some (row_at rank old row.id) ≡ true → new ≡ replaced rank old row → (k : ℕ) → title_at (map title_of_row new) k ≡ cond (row.id == k) (Some (title_of_row row)) (title_at (map title_of_row old) k)
 titles_replaced old new row there e = titles_then old new row.id (Some row) (λ k. ap (λ l. row_at rank l k) e ∙ found_replaced NameRow rank old row k there)
 
--- the row of what has a name
-pub row_named : (rows : List NameRow) (id : ℕ) (name : List ℕ) (o : Option NameRow) → row_at rank rows id ≡ o → option_map (λ (r : NameRow). r.name.items) o ≡ Some name → (was : NameRow) × (row_at rank rows id ≡ Some was) × (was.name.items ≡ name)
-row_named rows id name None is e = absurd (cc)
-row_named rows id name (Some r) is e = (r, is, cc)
-
 -- a title more, a title less, and one less where there is none
 pub titles_with : (old new : List NameRow) (row : NameRow) → new ≡ with_row rank old row → (k : ℕ) → title_at (map title_of_row new) k ≡ cond (row.id == k) (Some (title_of_row row)) (title_at (map title_of_row old) k)
 titles_with old new row e = titles_then old new row.id (Some row) (λ k. ap (λ l. row_at rank l k) e ∙ found_with NameRow rank old row k)

@@ -1,6 +1,6 @@
--- The order in which numbers stand under the digests of names.
+-- The order in which rows stand in an index.
 use Rattle.std.specs.Prelude.{ℕ, ◌+◌, ◌*◌}
 
--- by digest, and under one digest by number
+-- by group, and in one group by number
 abbrev pub spot_rank : ℕ → ℕ → ℕ
-spot_rank digest id = digest * 4294967296 + id
+spot_rank group id = group * 4294967296 + id

@@ -1,38 +1,34 @@
 //! Names by the numbers of folders or files, and the numbers by name.
-ghost use Rattle.std.specs.Prelude.{true, ◌≡◌, ◌≤◌, ◌+◌, ◌==◌, ℕ, [], cond, map, Some, None, IsOk, OnOk};
+ghost use Rattle.std.specs.Prelude.{◌≡◌, ◌≤◌, ◌+◌, ◌==◌, ℕ, [], cond, map, Some, None, IsOk, OnOk};
 ghost use Rattle.std.specs.Option.{option_copied, option_map};
 ghost use Rattle.cry_base.specs.Sets.{In};
-ghost use Rattle.folder_nodes.specs.Indexing as index;
 ghost use Rattle.folder_nodes.specs.Titles.{Title, MayBeNamed, title_at};
-ghost use Rattle.folder_nodes.specs.declared.spots.NameSpot.{NameSpot as TheSpot};
-ghost use Rattle.folder_nodes.specs.declared.titles.NameRow.{NameRow as TheRow};
-ghost use Rattle.sorted_table.specs.Rows.{IsRising, row_at, without};
+ghost use Rattle.folder_nodes.specs.declared.spots.Spot.{Spot as TheSpot};
+ghost use Rattle.sorted_table.specs.Rows.{IsRising};
 
-use crate::spots::{NameSpot, digest_of};
-use crate::titles::{NameKey, NameRow};
+use crate::grouped::Grouped;
+use crate::spots::Spot;
+use crate::titles::{NameKey, NameRow, digest_of};
 use cry_base::{Mem, Text};
-use sorted_table::Table;
 use std::alloc::Global;
 use std::marker::Model;
 
-/// The names of folders, or those of files. Each stands in the index under its digest, so that a look-up by name
-/// doesn't look at all of them. `spare` is how many changes have their memory.
+/// The names of folders, or those of files. Each is in the group of its digest, so that a look-up by name doesn't
+/// look at all of them. `spare` is how many changes have their memory.
 #[derive(Drop)]
 pub(crate) struct Book {
-    rows: Table<NameRow>,
-    spots: Table<NameSpot>,
+    rows: Grouped<NameRow>,
 }
 
 impl Model for Book {
-    ghost use Rattle.std.specs.Prelude.{map, min};
-    ghost use Rattle.folder_nodes.specs.Indexing.{Booked, IsIndexed};
-    ghost use Rattle.folder_nodes.specs.Titling.{title_of_row};
+    ghost use Rattle.std.specs.Prelude.{map};
+    ghost use Rattle.folder_nodes.specs.Titling.{Booked, AreNamed, title_of_row};
 
     ghost Value = { Booked };
 
-    ghost view = { λ b. record { titles = map title_of_row b.rows.rows; spare = min b.rows.spare b.spots.spare } };
+    ghost view = { λ b. record { titles = map title_of_row b.rows.rows; spare = b.rows.spare } };
 
-    ghost invariant = { λ b. IsIndexed b.rows.rows b.spots.rows };
+    ghost invariant = { λ b. AreNamed b.rows.rows };
 }
 
 impl Book {
@@ -41,8 +37,7 @@ impl Book {
         ensures { result.titles ≡ [] }
     {
         Book {
-            rows: Table::new(alloc),
-            spots: Table::new(alloc),
+            rows: Grouped::new(alloc),
         }
     }
 
@@ -53,43 +48,27 @@ impl Book {
         ensures kept { self.old.spare ≤ self.new.spare }
         ensures has_room { 1 ≤ self.old.spare → IsOk result }
     {
-        self.rows.reserve(1)?;
-        self.spots.reserve(1)
+        self.rows.reserve()
     }
 
-    /// Puts a name and bytes under the number, in the place of those that it had. Only the index moves, and only under
-    /// another name.
+    /// Puts a name and bytes under the number, in the place of those that it had.
     pub(crate) fn put(&mut self, id: u32, name: Text, bytes: Text)
         requires room { 1 ≤ self.old.spare }
         requires name { MayBeNamed name.items }
         ensures titles { (k : ℕ) → title_at self.new.titles k ≡ cond (id == k) (Some (record { id = id; name = name.items; bytes = bytes.items })) (title_at self.old.titles k) }
         ensures spare { self.old.spare ≤ self.new.spare + 1 }
     {
-        if has_name(&self.rows, id, name.as_slice()) {
-            self.rows.replace(NameRow { id, name, bytes });
+        let digest = digest_of(name.as_slice());
+        let row = NameRow {
+            id,
+            digest,
+            name,
+            bytes,
+        };
+        if self.rows.find(&NameKey(id)).is_some() {
+            self.rows.replace(row);
             return;
         }
-        let Some(was) = self.rows.find(&NameKey(id)) else {
-            self.add(id, name, bytes);
-            return;
-        };
-        let old = spot_of(was);
-        let row = NameRow { id, name, bytes };
-        let _ = self.spots.remove(&old);
-        self.spots.insert(spot_of(&row));
-        self.rows.replace(row);
-    }
-
-    /// Puts a name and bytes under a number that has none.
-    fn add(&mut self, id: u32, name: Text, bytes: Text)
-        requires room { 1 ≤ self.old.spare }
-        requires absent { title_at self.old.titles id ≡ None }
-        requires name { MayBeNamed name.items }
-        ensures titles { (k : ℕ) → title_at self.new.titles k ≡ cond (id == k) (Some (record { id = id; name = name.items; bytes = bytes.items })) (title_at self.old.titles k) }
-        ensures spare { self.old.spare ≤ self.new.spare + 1 }
-    {
-        let row = NameRow { id, name, bytes };
-        self.spots.insert(spot_of(&row));
         self.rows.insert(row);
     }
 
@@ -98,12 +77,7 @@ impl Book {
         ensures titles { (k : ℕ) → title_at self.new.titles k ≡ cond (id == k) None (title_at self.old.titles k) }
         ensures spare { self.old.spare ≤ self.new.spare }
     {
-        let Some(row) = self.rows.find(&NameKey(id)) else {
-            return;
-        };
-        let spot = spot_of(row);
-        let _ = self.spots.remove(&spot);
-        drop_row(&mut self.rows, id);
+        self.rows.remove(&NameKey(id));
     }
 
     /// The name of the folder or file with the number.
@@ -128,17 +102,11 @@ impl Book {
 
     /// The numbers of all that have the name, in ascending order; numbers with other names of its digest may stand
     /// among them.
-    pub(crate) fn named(&self, name: &[u8]) -> &[NameSpot]
+    pub(crate) fn named(&self, name: &[u8]) -> &[Spot]
         ensures rising { IsRising (λ (q : TheSpot). q.id) result.now }
         ensures all { (t : Title) → In t self.now.titles → t.name ≡ name.now → In t.id (map (λ (q : TheSpot). q.id) result.now) }
     {
-        let digest = digest_of(name);
-        let first = NameSpot { digest, id: 0 };
-        let last = NameSpot {
-            digest,
-            id: u32::MAX,
-        };
-        self.spots.rows_between(&first, &last)
+        self.rows.in_group(digest_of(name))
     }
 
     /// A law: what is named has a name, or the root's.
@@ -146,34 +114,5 @@ impl Book {
         ensures { (t : Title) → In t self.now.titles → MayBeNamed t.name }
     {
         let _ = &self.rows;
-    }
-}
-
-/// Whether the row with the number has this name.
-fn has_name(rows: &Table<NameRow>, id: u32, name: &[u8]) -> bool
-    ensures rising { IsRising (λ (r : TheRow). r.id) rows.now.rows }
-    ensures name { result ≡ true → option_map (λ (r : TheRow). r.name.items) (row_at (λ (r : TheRow). r.id) rows.now.rows id) ≡ Some name.now }
-{
-    match rows.find(&NameKey(id)) {
-        Some(row) => row.name.as_slice() == name,
-        None => false,
-    }
-}
-
-/// Takes the row with the number out.
-fn drop_row(rows: &mut Table<NameRow>, id: u32)
-    ensures rows { rows.new.rows ≡ without (λ (r : TheRow). r.id) rows.old.rows id }
-    ensures spare { rows.old.spare ≤ rows.new.spare }
-{
-    let _ = rows.remove(&NameKey(id));
-}
-
-/// Where the row's name is looked up.
-fn spot_of(row: &NameRow) -> NameSpot
-    ensures { result ≡ index.spot_of row.now }
-{
-    NameSpot {
-        digest: digest_of(row.name.as_slice()),
-        id: row.id,
     }
 }

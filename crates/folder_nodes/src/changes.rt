@@ -61,14 +61,14 @@ impl Shape {
         ensures tree { self.new.tree ≡ without_folder self.old.tree f }
         ensures spare { self.old.spare ≤ self.new.spare }
     {
-        let _ = self.folders.remove(&FolderKey(f));
+        self.folders.remove(&FolderKey(f));
     }
 
     fn remove_file(&mut self, x: u32)
         ensures tree { self.new.tree ≡ without_file self.old.tree x }
         ensures spare { self.old.spare ≤ self.new.spare }
     {
-        let _ = self.files.remove(&FileKey(x));
+        self.files.remove(&FileKey(x));
     }
 
     /// Puts a folder, with all below it, or a file into another folder.

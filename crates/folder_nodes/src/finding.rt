@@ -1,21 +1,26 @@
 //! What a path finds.
-ghost use Rattle.std.specs.Prelude.{◌≡◌, true, cond, find, None, option_map};
-ghost use Rattle.cry_base.specs.Naming.{is_path};
+ghost use Rattle.std.specs.Prelude.{◌≡◌, true, false, cond, find, None, option_map};
+ghost use Rattle.cry_base.specs.Naming.{is_path, is_root_path, names_of, front};
 ghost use Rattle.cry_base.specs.Store.{node_at};
 ghost use Rattle.folder_nodes.specs.Spelling as spelling;
 ghost use Rattle.folder_nodes.specs.Titles.{tree_store};
-ghost use Rattle.folder_nodes.specs.declared.spots.NameSpot.{NameSpot as TheSpot};
+ghost use Rattle.folder_nodes.specs.Ways.{IsWay};
+ghost use Rattle.folder_nodes.specs.declared.spots.Spot.{Spot as TheSpot};
+ghost use Rattle.folder_nodes.specs.declared.walking.Way.TheVariants.{At};
 
 use crate::naming::{is_root, last_piece};
 use crate::spelling::{leads_to_file, leads_to_folder};
-use crate::spots::NameSpot;
+use crate::spots::Spot;
+use crate::trying::{files_to_try, first_file, first_folder, folders_to_try};
+use crate::walking::{Way, walk};
 use crate::{Names, Shape, path_ok};
 use cry_base::{FileId, FolderId, Node};
 
 pub(crate) const ROOT: FolderId = FolderId(1);
 
-/// The folder or file with the path: a folder before a file, and a lower number first. It goes up from each that has
-/// the path's last name, and looks at no other.
+/// The folder or file with the path: a folder before a file, and a lower number first. It goes down from the root, and
+/// tries in each folder its children or all that have the name, whichever are fewer. Where two folders have one path, as
+/// on a disk that was changed, it goes up from each node that has the path's last name.
 pub fn find(shape: &Shape, names: &Names, path: &[u8]) -> Option<Node>
     ensures { result ≡ cond (is_path path.now) (node_at (tree_store shape.now.tree names.now) path.now) None }
 {
@@ -35,6 +40,39 @@ pub(crate) fn node_with(shape: &Shape, names: &Names, path: &[u8]) -> Option<Nod
     if is_root(path) {
         return root_of(shape);
     }
+    match walk(shape, names, path) {
+        Way::Nowhere => None,
+        Way::At(folder) => child_with(shape, names, folder, path),
+        Way::Several => namesake_with(shape, names, path),
+    }
+}
+
+/// The folder or file with the path, where the folder alone has all of its names but the last one.
+fn child_with(shape: &Shape, names: &Names, f: u32, path: &[u8]) -> Option<Node>
+    requires form { is_path path.now ≡ true }
+    requires other { is_root_path path.now ≡ false }
+    requires way { IsWay (λ k. spelling.leads_to_folder (tree_store shape.now.tree names.now) k (spelling.joined (front (names_of path.now)))) (At f) }
+    ensures { result ≡ node_at (tree_store shape.now.tree names.now) path.now }
+{
+    shape.is_tree();
+    names.are_names();
+    let name = last_piece(path);
+    let folders = folders_to_try(shape, names, f, name);
+    if let Some(folder) = first_folder(folders, shape, names, f, name) {
+        return Some(Node::Folder(FolderId(folder)));
+    }
+    let files = files_to_try(shape, names, f, name);
+    file_node(first_file(files, shape, names, f, name))
+}
+
+/// The folder or file with the path, of all that have its last name.
+fn namesake_with(shape: &Shape, names: &Names, path: &[u8]) -> Option<Node>
+    requires form { is_path path.now ≡ true }
+    requires other { is_root_path path.now ≡ false }
+    ensures { result ≡ node_at (tree_store shape.now.tree names.now) path.now }
+{
+    shape.is_tree();
+    names.are_names();
     let name = last_piece(path);
     match folder_with(names.folders_named(name), shape, names, path) {
         Some(folder) => Some(Node::Folder(FolderId(folder))),
@@ -63,7 +101,7 @@ fn file_node(file: Option<u32>) -> Option<Node>
 }
 
 /// The first of the folders that has the path.
-fn folder_with(spots: &[NameSpot], shape: &Shape, names: &Names, path: &[u8]) -> Option<u32>
+fn folder_with(spots: &[Spot], shape: &Shape, names: &Names, path: &[u8]) -> Option<u32>
     ensures { result ≡ option_map (λ (q : TheSpot). q.id) (find (λ q. spelling.leads_to_folder (tree_store shape.now.tree names.now) q.id path.now) spots.now) }
 {
     for spot in spots {
@@ -75,7 +113,7 @@ fn folder_with(spots: &[NameSpot], shape: &Shape, names: &Names, path: &[u8]) ->
 }
 
 /// The first of the files that has the path.
-fn file_with(spots: &[NameSpot], shape: &Shape, names: &Names, path: &[u8]) -> Option<u32>
+fn file_with(spots: &[Spot], shape: &Shape, names: &Names, path: &[u8]) -> Option<u32>
     ensures { result ≡ option_map (λ (q : TheSpot). q.id) (find (λ q. spelling.leads_to_file (tree_store shape.now.tree names.now) q.id path.now) spots.now) }
 {
     for spot in spots {

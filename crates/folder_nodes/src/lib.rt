@@ -5,6 +5,7 @@ mod book;
 mod changes;
 mod checking;
 mod finding;
+mod grouped;
 pub mod laws;
 mod listed;
 mod names;
@@ -16,6 +17,8 @@ mod shape;
 mod spelling;
 mod spots;
 mod titles;
+mod trying;
+mod walking;
 mod ways;
 
 pub use checking::check_tree;

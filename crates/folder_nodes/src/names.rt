@@ -4,11 +4,11 @@ ghost use Rattle.std.specs.Option.{option_copied};
 ghost use Rattle.cry_base.specs.Sets.{In};
 ghost use Rattle.cry_base.specs.declared.roles.Node.{Node as TheNode};
 ghost use Rattle.folder_nodes.specs.Titles.{Title, MayBeNamed, title_of, title_at, is_node, new_title};
-ghost use Rattle.folder_nodes.specs.declared.spots.NameSpot.{NameSpot as TheSpot};
+ghost use Rattle.folder_nodes.specs.declared.spots.Spot.{Spot as TheSpot};
 ghost use Rattle.sorted_table.specs.Rows.{IsRising};
 
 use crate::book::Book;
-use crate::spots::NameSpot;
+use crate::spots::Spot;
 use cry_base::{FileId, Mem, Node, Text};
 use std::alloc::Global;
 use std::marker::Model;
@@ -100,7 +100,7 @@ impl Names {
     }
 
     /// The numbers of all folders that have the name, in ascending order, and maybe others among them.
-    pub(crate) fn folders_named(&self, name: &[u8]) -> &[NameSpot]
+    pub(crate) fn folders_named(&self, name: &[u8]) -> &[Spot]
         ensures rising { IsRising (λ (q : TheSpot). q.id) result.now }
         ensures all { (t : Title) → In t self.now.folders → t.name ≡ name.now → In t.id (map (λ (q : TheSpot). q.id) result.now) }
     {
@@ -108,7 +108,7 @@ impl Names {
     }
 
     /// The numbers of all files that have the name, in ascending order, and maybe others among them.
-    pub(crate) fn files_named(&self, name: &[u8]) -> &[NameSpot]
+    pub(crate) fn files_named(&self, name: &[u8]) -> &[Spot]
         ensures rising { IsRising (λ (q : TheSpot). q.id) result.now }
         ensures all { (t : Title) → In t self.now.files → t.name ≡ name.now → In t.id (map (λ (q : TheSpot). q.id) result.now) }
     {

@@ -92,7 +92,7 @@ pub(crate) fn is_root(path: &[u8]) -> bool
 }
 
 /// What is behind the first byte.
-fn behind_slash(path: &[u8]) -> &[u8]
+pub(crate) fn behind_slash(path: &[u8]) -> &[u8]
     ensures { result.now ≡ drop 1 path.now }
 {
     match path.split_first() {

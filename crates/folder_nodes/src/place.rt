@@ -8,14 +8,14 @@ ghost use Rattle.cry_base.specs.declared.roles.Node.TheVariants.{Folder};
 ghost use Rattle.folder_nodes.specs.Checking.{Stands};
 ghost use Rattle.folder_nodes.specs.Spelling as spelling;
 ghost use Rattle.folder_nodes.specs.Titles.{tree_store};
-ghost use Rattle.folder_nodes.specs.declared.spots.NameSpot.{NameSpot as TheSpot};
+ghost use Rattle.folder_nodes.specs.declared.spots.Spot.{Spot as TheSpot};
 
 use crate::finding::node_with;
 use crate::naming::{count_names, front_of, last_piece};
-use crate::spelling::name_of;
-use crate::spots::NameSpot;
+use crate::spots::Spot;
+use crate::trying::{files_to_try, folders_to_try, is_file_in, is_folder_in};
 use crate::{Names, Shape};
-use cry_base::{FileId, FolderId, Node};
+use cry_base::{FolderId, Node};
 
 /// The folder that a node with the path is put into, or the file that stands there.
 pub(crate) fn place_of(shape: &Shape, names: &Names, path: &[u8]) -> Option<Node>
@@ -35,19 +35,19 @@ pub(crate) fn has_no_depth(path: &[u8]) -> bool
     count_names(path) > 64
 }
 
-/// Whether a folder or file in the folder has the name. It looks at those alone that have it.
+/// Whether a folder or file in the folder has the name.
 pub(crate) fn has_named(shape: &Shape, names: &Names, f: u32, name: &[u8]) -> bool
     requires { is_name name.now ≡ true }
     ensures { result ≡ holds_name (tree_store shape.now.tree names.now) f name.now }
 {
     shape.is_tree();
-    if has_folder_in(names.folders_named(name), shape, names, f, name) {
+    if has_folder_in(folders_to_try(shape, names, f, name), shape, names, f, name) {
         return true;
     }
-    has_file_in(names.files_named(name), shape, names, f, name)
+    has_file_in(files_to_try(shape, names, f, name), shape, names, f, name)
 }
 
-fn has_folder_in(spots: &[NameSpot], shape: &Shape, names: &Names, f: u32, name: &[u8]) -> bool
+fn has_folder_in(spots: &[Spot], shape: &Shape, names: &Names, f: u32, name: &[u8]) -> bool
     ensures { result ≡ list_any (λ (q : TheSpot). spelling.is_folder_in f name.now (folder_entry (tree_store shape.now.tree names.now) q.id)) spots.now }
 {
     spots
@@ -55,38 +55,12 @@ fn has_folder_in(spots: &[NameSpot], shape: &Shape, names: &Names, f: u32, name:
         .any(|spot| is_folder_in(shape, names, spot.id, f, name))
 }
 
-fn has_file_in(spots: &[NameSpot], shape: &Shape, names: &Names, f: u32, name: &[u8]) -> bool
+fn has_file_in(spots: &[Spot], shape: &Shape, names: &Names, f: u32, name: &[u8]) -> bool
     ensures { result ≡ list_any (λ (q : TheSpot). spelling.is_file_in f name.now (file_entry (tree_store shape.now.tree names.now) q.id)) spots.now }
 {
     spots
         .iter()
         .any(|spot| is_file_in(shape, names, spot.id, f, name))
-}
-
-/// Whether the folder g is in the folder f and has the name.
-fn is_folder_in(shape: &Shape, names: &Names, g: u32, f: u32, name: &[u8]) -> bool
-    ensures { result ≡ spelling.is_folder_in f name.now (folder_entry (tree_store shape.now.tree names.now) g) }
-{
-    let Some(row) = shape.folder_row(g) else {
-        return false;
-    };
-    if row.parent != f {
-        return false;
-    }
-    name_of(names, Node::Folder(FolderId(g))) == name
-}
-
-/// Whether the file is in the folder f and has the name.
-fn is_file_in(shape: &Shape, names: &Names, x: u32, f: u32, name: &[u8]) -> bool
-    ensures { result ≡ spelling.is_file_in f name.now (file_entry (tree_store shape.now.tree names.now) x) }
-{
-    let Some(row) = shape.file_row(x) else {
-        return false;
-    };
-    if row.folder.0 != f {
-        return false;
-    }
-    name_of(names, Node::File(FileId(x))) == name
 }
 
 /// Whether another name in the folder of the node is this one.

@@ -6,6 +6,7 @@ ghost use Rattle.folder_nodes.specs.Bare.{bare_store, folder_of_row};
 ghost use Rattle.folder_nodes.specs.Restoring as restoring;
 ghost use Rattle.folder_nodes.specs.Trees.{IsTree};
 
+use crate::grouped::Grouped;
 use crate::rows::FolderKey;
 use crate::{FileRow, FolderRow, Shape};
 use cry_base::{List, Mem};
@@ -34,6 +35,8 @@ impl Shape {
         if !are_tree(&folders, &files, folders_made, files_made) {
             return Ok(None);
         }
+        let folders = Grouped::of_table(alloc, folders)?;
+        let files = Grouped::of_table(alloc, files)?;
         Ok(Some(Shape {
             folders,
             files,

@@ -1,4 +1,5 @@
 //! The rows of a shape: who is in which folder.
+use crate::grouped::Member;
 use cry_base::{FileId, FolderId};
 use sorted_table::{Key, Ranked};
 use std::cmp::Ordering;
@@ -34,6 +35,30 @@ impl Ranked for FileRow {
 
     fn compare(&self, other: &Self) -> Ordering {
         self.id.0.cmp(&other.id.0)
+    }
+}
+
+impl Member for FolderRow {
+    ghost group = { λ row. row.parent };
+
+    fn number(&self) -> u32 {
+        self.id.0
+    }
+
+    fn group_number(&self) -> u64 {
+        u64::from(self.parent)
+    }
+}
+
+impl Member for FileRow {
+    ghost group = { λ row. row.folder.0 };
+
+    fn number(&self) -> u32 {
+        self.id.0
+    }
+
+    fn group_number(&self) -> u64 {
+        u64::from(self.folder.0)
     }
 }
 

@@ -1,17 +1,21 @@
 //! The tree without its names, and what is looked up in it.
-ghost use Rattle.std.specs.Prelude.{◌≡◌, ◌≤◌, ◌==◌, ◌||◌, not, is_some, IsSome, IsOk, IfOk, OnOk};
+ghost use Rattle.std.specs.Prelude.{◌≡◌, ◌≤◌, ◌==◌, ◌||◌, not, map, is_some, IsSome, IsOk, IfOk, OnOk};
 ghost use Rattle.std.specs.List.{list_any};
 ghost use Rattle.std.specs.Option.{option_map};
 ghost use Rattle.cry_base.specs.Refusing.{has_child};
-ghost use Rattle.cry_base.specs.Store.{no_store, folder_entry, file_entry};
+ghost use Rattle.cry_base.specs.Sets.{In};
+ghost use Rattle.cry_base.specs.Store.{FolderEntry, FileEntry, no_store, folder_entry, file_entry};
 ghost use Rattle.folder_nodes.specs.Bare.{folder_of_row, file_of_row};
 ghost use Rattle.folder_nodes.specs.Looking.{parent_id, folder_id_of};
 ghost use Rattle.folder_nodes.specs.Trees.{IsTree};
+ghost use Rattle.folder_nodes.specs.declared.spots.Spot.{Spot as TheSpot};
+ghost use Rattle.sorted_table.specs.Rows.{IsRising};
 
+use crate::grouped::Grouped;
 use crate::rows::{FileKey, FolderKey};
+use crate::spots::Spot;
 use crate::{FileRow, FolderRow};
 use cry_base::{FileId, FolderId, Mem};
-use sorted_table::Table;
 use std::alloc::Global;
 use std::marker::Model;
 
@@ -19,8 +23,8 @@ use std::marker::Model;
 /// without names. `spare` is how many changes have their memory.
 #[derive(Drop)]
 pub struct Shape {
-    pub(crate) folders: Table<FolderRow>,
-    pub(crate) files: Table<FileRow>,
+    pub(crate) folders: Grouped<FolderRow>,
+    pub(crate) files: Grouped<FileRow>,
     pub(crate) folders_made: u32,
     pub(crate) files_made: u32,
 }
@@ -47,8 +51,8 @@ impl Shape {
         ensures { result.tree ≡ no_store }
     {
         Shape {
-            folders: Table::new(alloc),
-            files: Table::new(alloc),
+            folders: Grouped::new(alloc),
+            files: Grouped::new(alloc),
             folders_made: 0,
             files_made: 0,
         }
@@ -111,6 +115,22 @@ impl Shape {
         self.file_row(x.0).map(|row| row.folder)
     }
 
+    /// The numbers of all folders in the folder, in ascending order.
+    pub(crate) fn folders_inside(&self, f: u32) -> &[Spot]
+        ensures rising { IsRising (λ (q : TheSpot). q.id) result.now }
+        ensures all { (e : FolderEntry) → In e self.now.tree.folders → e.parent ≡ f → In e.id (map (λ (q : TheSpot). q.id) result.now) }
+    {
+        self.folders.in_group(u64::from(f))
+    }
+
+    /// The numbers of all files in the folder, in ascending order.
+    pub(crate) fn files_inside(&self, f: u32) -> &[Spot]
+        ensures rising { IsRising (λ (q : TheSpot). q.id) result.now }
+        ensures all { (e : FileEntry) → In e self.now.tree.files → e.folder ≡ f → In e.id (map (λ (q : TheSpot). q.id) result.now) }
+    {
+        self.files.in_group(u64::from(f))
+    }
+
     /// Whether the folder has no child. It looks at all folders and files.
     pub fn is_empty_folder(&self, f: FolderId) -> bool
         requires { IsSome (folder_entry self.now.tree f.0) }
@@ -140,8 +160,8 @@ impl Shape {
         ensures kept { self.old.spare ≤ self.new.spare }
         ensures has_room { 1 ≤ self.old.spare → IsOk result }
     {
-        self.folders.reserve(1)?;
-        self.files.reserve(1)
+        self.folders.reserve()?;
+        self.files.reserve()
     }
 }
 

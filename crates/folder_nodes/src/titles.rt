@@ -1,12 +1,18 @@
 //! A name with the number that it belongs to.
+ghost use Rattle.std.specs.Prelude.{◌≡◌};
+ghost use Rattle.folder_nodes.specs.Digests.{name_digest};
+
+use crate::grouped::Member;
 use cry_base::Text;
+use sha2::{Digest, Sha256};
 use sorted_table::{Key, Ranked};
 use std::cmp::Ordering;
 
-/// The name of a folder or file, and a file's bytes.
+/// The name of a folder or file with its digest, and a file's bytes.
 #[derive(Drop)]
 pub(crate) struct NameRow {
     pub(crate) id: u32,
+    pub(crate) digest: u64,
     pub(crate) name: Text,
     pub(crate) bytes: Text,
 }
@@ -16,6 +22,18 @@ impl Ranked for NameRow {
 
     fn compare(&self, other: &Self) -> Ordering {
         self.id.cmp(&other.id)
+    }
+}
+
+impl Member for NameRow {
+    ghost group = { λ row. row.digest };
+
+    fn number(&self) -> u32 {
+        self.id
+    }
+
+    fn group_number(&self) -> u64 {
+        self.digest
     }
 }
 
@@ -29,4 +47,15 @@ impl Key<NameRow> for NameKey {
     fn compare_row(&self, row: &NameRow) -> Ordering {
         row.id.cmp(&self.0)
     }
+}
+
+/// The first eight bytes of the name's SHA-256, as a number.
+#[tactic(auto, unfolding(crate::specs::Digests::name_digest))]
+pub(crate) fn digest_of(name: &[u8]) -> u64
+    ensures { result ≡ name_digest name.now }
+{
+    let digest = Sha256::digest(name);
+    let mut front = [0; 8];
+    front.copy_from_slice(&digest[..8]);
+    u64::from_be_bytes(front)
 }

@@ -108,6 +108,23 @@ impl<T: Ranked + Drop> Table<T> {
         self.rows[at] = row;
     }
 
+    /// Takes the row with the key's rank out, and adds one whose rank no other row has. It takes no memory.
+    pub fn exchange<K: Key<T>>(&mut self, key: &K, row: T)
+        requires there { IsSome (row_at T.rank self.old.rows (K.sought key.now)) }
+        requires absent { row_at T.rank (without T.rank self.old.rows (K.sought key.now)) (T.rank row) ≡ None }
+        ensures rows { self.new.rows ≡ with_row T.rank (without T.rank self.old.rows (K.sought key.now)) row }
+        ensures spare { self.new.spare ≡ self.old.spare }
+    {
+        let Ok(from) = place_of(&self.rows, key) else {
+            unreachable!();
+        };
+        let _ = self.rows.remove(from);
+        let Err(to) = place_of(&self.rows, &SameRank(&row)) else {
+            unreachable!();
+        };
+        let _ = self.rows.insert(to, row);
+    }
+
     /// Takes the row with the key's rank out, where there is one.
     pub fn remove<K: Key<T>>(&mut self, key: &K) -> Option<T>
         ensures row { result ≡ row_at T.rank self.old.rows (K.sought key.now) }

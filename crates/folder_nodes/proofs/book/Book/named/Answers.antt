@@ -1,14 +1,8 @@
-use Rattle.std.proofs.Common.{◌≡◌, ◌∙◌, filter, ap}
-use Rattle.folder_nodes.specs.Digests.{name_digest}
-use Rattle.folder_nodes.proofs.Indexed.{is_under, under_rising, under_all}
+use Rattle.std.proofs.Common.{map}
+use Rattle.folder_nodes.specs.declared.spots.Spot.{Spot}
+use Rattle.folder_nodes.proofs.Digested.{titles_grouped}
 use Rattle.folder_nodes.proofs.book.Book.named.Goals as goal
-
-pub returns-clause-rising : goal.returns-clause-rising
-returns-clause-rising c =
-    under_rising c.self.inside.rows.rows c.self.inside.spots.rows c.rows_between.result.now c.self.invariant c.digest_of-digest.result c.rows_between.ensures.rows c.rows_between.ensures.rising
 
 pub returns-clause-all : goal.returns-clause-all
 returns-clause-all c =
-    let found : c.rows_between.result.now ≡ filter (is_under (name_digest c.args.name.now)) c.self.inside.spots.rows =
-    c.rows_between.ensures.rows ∙ ap (λ d. filter (is_under d) c.self.inside.spots.rows) c.digest_of-digest.ensures in
-    rw (← c.self.view_is) (under_all c.self.inside.rows.rows c.self.inside.spots.rows c.rows_between.result.now c.args.name.now c.self.invariant found)
+    rw (← c.self.view_is) (titles_grouped c.self.inside.rows.rows c.self.invariant (map (λ (q : Spot). q.id) c.in_group.result.now) c.args.name.now c.digest_of.result c.digest_of.ensures c.in_group.ensures.all)

@@ -2,7 +2,7 @@ use Rattle.std.proofs.Common.{◌∙◌, ap}
 use Rattle.std.specs.Prelude.{bytes_eq}
 use Rattle.folder_nodes.specs.Bare.{folder_of_row}
 use Rattle.folder_nodes.proofs.Taken.{no_folder_in, folder_elsewhere, folder_here}
-use Rattle.folder_nodes.proofs.place.is_folder_in.Goals as goal
+use Rattle.folder_nodes.proofs.trying.is_folder_in.Goals as goal
 
 pub returns-in_default : goal.returns-in_default
 returns-in_default c = no_folder_in c.args.shape.now.tree c.args.names.now c.args.g c.args.f c.args.name.now c.in_default.ensures

@@ -1,0 +1,8 @@
+use Rattle.std.proofs.Common.{map}
+use Rattle.folder_nodes.specs.declared.spots.Spot.{Spot}
+use Rattle.folder_nodes.proofs.Rowed.{folder_rows_inside}
+use Rattle.folder_nodes.proofs.shape.Shape.folders_inside.Goals as goal
+
+pub returns-clause-all : goal.returns-clause-all
+returns-clause-all c =
+    rw (← c.self.view_is) (folder_rows_inside c.self.inside.folders.rows c.args.f c.from.result (map (λ (q : Spot). q.id) c.in_group.result.now) c.from.ensures c.in_group.ensures.all)

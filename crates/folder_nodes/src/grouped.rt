@@ -1,0 +1,199 @@
+//! Rows that are found by their numbers, and all those of a group together.
+ghost use Rattle.std.specs.Prelude.{◌≡◌, ℕ, ◌+◌, ◌≤◌, ◌<◌, [], map, None, IsOk, IsSome, OnOk, IfOk};
+ghost use Rattle.std.specs.Option.{option_copied};
+ghost use Rattle.cry_base.specs.Sets.{In};
+ghost use Rattle.folder_nodes.specs.Indexing as index;
+ghost use Rattle.folder_nodes.specs.declared.spots.Spot.{Spot as TheSpot};
+ghost use Rattle.sorted_table.specs.Rows.{IsRising, row_at, with_row, without, replaced};
+
+use crate::spots::Spot;
+use cry_base::Mem;
+use sorted_table::{Key, Ranked, Table};
+use std::alloc::Global;
+use std::cmp::Ordering;
+use std::marker::Model;
+
+/// A row with a number, in one group of rows.
+pub(crate) trait Member: Ranked {
+    ghost group: { Self → ℕ };
+
+    /// The row's number, by which it is ranked.
+    fn number(&self) -> u32
+        ensures { result ≡ Self.rank self.now };
+
+    /// The number of its group.
+    fn group_number(&self) -> u64
+        ensures { result ≡ group self.now };
+}
+
+/// A number that a row is looked up by, whatever the rows are.
+#[derive(Drop)]
+struct Number(u32);
+
+impl<T: Member> Key<T> for Number {
+    ghost sought = { λ key. key.0 };
+
+    fn compare_row(&self, row: &T) -> Ordering {
+        row.number().cmp(&self.0)
+    }
+}
+
+/// Rows by number. Each stands in an index under its group too, so that a look-up of a group doesn't look at all of
+/// them. `spare` is how many changes have their memory.
+#[derive(Drop)]
+pub(crate) struct Grouped<T: Member> {
+    rows: Table<T>,
+    spots: Table<Spot>,
+}
+
+impl<T: Member> Model for Grouped<T> {
+    ghost use Rattle.std.specs.Prelude.{min};
+    ghost use Rattle.folder_nodes.specs.Indexing.{IsIndexed};
+    ghost use Rattle.sorted_table.specs.Tabled.{Tabled};
+
+    ghost Value = { Tabled T };
+
+    ghost view = { λ g. record { rows = g.rows.rows; spare = min g.rows.spare g.spots.spare } };
+
+    ghost invariant = { λ g. IsIndexed T.rank T.group g.rows.rows g.spots.rows };
+}
+
+impl<T: Member> Grouped<T> {
+    /// No rows. It takes no memory.
+    pub(crate) fn new(alloc: Global) -> Self
+        ensures { result.rows ≡ [] }
+    {
+        Grouped {
+            rows: Table::new(alloc),
+            spots: Table::new(alloc),
+        }
+    }
+
+    /// The rows in ascending order.
+    pub(crate) fn as_slice(&self) -> &[T]
+        ensures rows { result.now ≡ self.now.rows }
+        ensures rising { IsRising T.rank self.now.rows }
+    {
+        self.rows.as_slice()
+    }
+
+    /// The row with the key's rank.
+    pub(crate) fn find<K: Key<T>>(&self, key: &K) -> Option<&T>
+        ensures row { option_copied result ≡ row_at T.rank self.now.rows (K.sought key.now) }
+        ensures rising { IsRising T.rank self.now.rows }
+    {
+        self.rows.find(key)
+    }
+
+    /// The numbers of all rows of the group, in ascending order.
+    pub(crate) fn in_group(&self, group: u64) -> &[Spot]
+        ensures rising { IsRising (λ (q : TheSpot). q.id) result.now }
+        ensures all { (r : T) → In r self.now.rows → T.group r ≡ group → In (T.rank r) (map (λ (q : TheSpot). q.id) result.now) }
+    {
+        let first = Spot { group, id: 0 };
+        let last = Spot {
+            group,
+            id: u32::MAX,
+        };
+        self.spots.rows_between(&first, &last)
+    }
+
+    /// Takes the memory of one change.
+    pub(crate) fn reserve(&mut self) -> Mem<()>
+        ensures rows { self.new.rows ≡ self.old.rows }
+        ensures room { OnOk result (1 ≤ self.new.spare) }
+        ensures kept { self.old.spare ≤ self.new.spare }
+        ensures has_room { 1 ≤ self.old.spare → IsOk result }
+    {
+        self.rows.reserve(1)?;
+        self.spots.reserve(1)
+    }
+}
+
+impl<T: Member + Drop> Grouped<T> {
+    /// The rows of a table, with their index.
+    pub(crate) fn of_table(alloc: Global, rows: Table<T>) -> Mem<Self>
+        ensures { IfOk result (λ made. made.rows ≡ rows.rows) }
+    {
+        let spots = spots_of(alloc, rows.as_slice())?;
+        Ok(Grouped { rows, spots })
+    }
+
+    /// Adds a row whose number no row has, where there is room. It takes no memory.
+    pub(crate) fn insert(&mut self, row: T)
+        requires room { 1 ≤ self.old.spare }
+        requires absent { row_at T.rank self.old.rows (T.rank row) ≡ None }
+        ensures rows { self.new.rows ≡ with_row T.rank self.old.rows row }
+        ensures spare { self.old.spare ≤ self.new.spare + 1 }
+    {
+        self.spots.insert(spot_of(&row));
+        self.rows.insert(row);
+    }
+
+    /// Puts a row into the place of the one that has its number. The index changes only where the group does.
+    pub(crate) fn replace(&mut self, row: T)
+        requires { IsSome (row_at T.rank self.old.rows (T.rank row)) }
+        ensures rows { self.new.rows ≡ replaced T.rank self.old.rows row }
+        ensures spare { self.new.spare ≡ self.old.spare }
+    {
+        let to = spot_of(&row);
+        let Some(was) = self.rows.find(&Number(to.id)) else {
+            unreachable!();
+        };
+        let from = spot_of(was);
+        if from.group == to.group {
+            self.rows.replace(row);
+            return;
+        }
+        self.spots.exchange(&from, to);
+        self.rows.replace(row);
+    }
+
+    /// Takes the row with the key's rank out, where there is one.
+    pub(crate) fn remove<K: Key<T>>(&mut self, key: &K)
+        ensures rows { self.new.rows ≡ without T.rank self.old.rows (K.sought key.now) }
+        ensures spare { self.old.spare ≤ self.new.spare }
+    {
+        let Some(row) = self.rows.find(key) else {
+            return;
+        };
+        let spot = spot_of(row);
+        let _ = self.spots.remove(&spot);
+        let _ = self.rows.remove(key);
+    }
+}
+
+impl<T: Member + Copy> Grouped<T> {
+    /// Equal rows, with memory of their own.
+    pub(crate) fn copy(&self) -> Mem<Self>
+        ensures { IfOk result (λ copy. copy.rows ≡ self.now.rows) }
+    {
+        let rows = self.rows.copy()?;
+        let spots = self.spots.copy()?;
+        Ok(Grouped { rows, spots })
+    }
+}
+
+/// Where the row stands in the index.
+fn spot_of<T: Member>(row: &T) -> Spot
+    ensures place { result ≡ index.spot_of (T.group row.now) (T.rank row.now) }
+    ensures small { T.rank row.now < 4294967296 }
+{
+    Spot {
+        group: row.group_number(),
+        id: row.number(),
+    }
+}
+
+/// The index of the rows.
+fn spots_of<T: Member>(alloc: Global, rows: &[T]) -> Mem<Table<Spot>>
+    requires { IsRising T.rank rows.now }
+    ensures { IfOk result (λ spots. index.IsIndexed T.rank T.group rows.now spots.rows) }
+{
+    let mut spots = Table::new(alloc);
+    for row in rows {
+        spots.reserve(1)?;
+        spots.insert(spot_of(row));
+    }
+    Ok(spots)
+}
