@@ -16,6 +16,7 @@ pub mod Refilled
 pub mod Reopened
 pub mod SlotsLeft
 pub mod Standings
+pub mod Stepped
 pub mod Stood
 pub mod Stopped
 pub mod Tails

@@ -6,6 +6,7 @@ pub mod Logs
 pub mod Placed
 pub mod Places
 pub mod Reading
+pub mod Readers
 pub mod Turns
 pub mod Gates
 pub mod Holding

@@ -5,12 +5,13 @@
 //! 13  32  slot                  77+L   32  owner tag
 //! 45   L  masked payload       109+L    1  next gate
 //! ```
-ghost use Rattle.std.specs.Prelude.{◌≡◌, ◌≢◌, ◌+◌, ◌≤◌, ◌^◌, length, slice_range, Err, IfOk};
+ghost use Rattle.std.specs.Prelude.{◌≡◌, ◌≢◌, ◌+◌, ◌≤◌, ◌^◌, length, slice_range, option_copied, Err, IfOk};
 ghost use Rattle.chacha_seal.specs.Sealing.{masked};
 ghost use Rattle.commit_journal.specs.Answering.{Answers};
 ghost use Rattle.commit_journal.specs.Placed.{plain_body};
 ghost use Rattle.commit_journal.specs.Log as log;
 ghost use Rattle.commit_journal.specs.Opening as opening;
+ghost use Rattle.commit_journal.specs.Readers as readers;
 ghost use Rattle.commit_journal.specs.Places.{HasSize, IsStanding, TurnStands};
 ghost use Rattle.commit_journal.specs.Turns.{plain_option, GoesOnAt};
 
@@ -79,6 +80,7 @@ pub(crate) fn body_of(
     ensures type_of { IfOk result (opening.HasType head.now.type_byte) }
     ensures answer { Answers plain_body result (log.placed_body past.now (log.body_of head.now (masked slot.now payload.old))) }
     ensures no_disk { result ≢ Err OpenFault.DiskFault }
+    ensures no_key { result ≢ Err OpenFault.WrongKey }
 {
     if head.type_byte == EPOCH {
         return Ok(Body::NewEpoch);
@@ -108,6 +110,7 @@ fn judge_published(
     ensures turn { IfOk result (opening.IsNextOf past.now head.now) }
     ensures stands { IfOk result TurnStands }
     ensures no_disk { result ≢ Err OpenFault.DiskFault }
+    ensures no_key { result ≢ Err OpenFault.WrongKey }
 {
     let size = head.size as usize;
     let slot = array_at(batch, SLOT);
@@ -183,6 +186,50 @@ pub(crate) fn judge(
         return Err(OpenFault::Tampered {
             batch: head.number,
             at: past.at + (PAYLOAD + size + 32) as u64,
+        });
+    }
+    judge_published(alloc, past, head, batch)
+}
+
+#[tactic(auto, unfolding(crate::specs::Readers::has_tag))]
+fn has_tag(owner: Option<&Key<OwnerK>>, past: &Past, head: &Head, batch: &[u8]) -> bool
+    requires whole { length batch.now ≡ 110 + head.now.size }
+    ensures { result ≡ readers.has_tag (readers.key_bytes (option_copied owner.entry)) past.now head.now batch.now }
+{
+    let size = head.size as usize;
+    match owner {
+        Some(owner) => {
+            let tag = array_at(batch, PAYLOAD + size + 32);
+            tags_equal(&tag_due(owner, &past.tag, size, batch), &tag)
+        }
+        None => true,
+    }
+}
+
+/// Judges the bytes of a batch behind an open gate, and leaves its payload unmasked in them where it is published.
+/// The result is `None` where the batch ends the log, since nobody was given its payload.
+#[tactic(auto, unfolding(crate::specs::Readers::read_turn))]
+pub(crate) fn judge_read(
+    alloc: Global,
+    owner: Option<&Key<OwnerK>>,
+    past: &Past,
+    head: &Head,
+    batch: &mut [u8],
+) -> Result<Option<Turn>, OpenFault>
+    requires whole { length batch.old ≡ 110 + head.now.size }
+    requires behind { 42 ≤ past.now.at }
+    requires fits { past.now.at + (110 + head.now.size) ≤ 268435456 }
+    ensures answer { Answers plain_option result (readers.read_turn (readers.key_bytes (option_copied owner.entry)) past.now head.now batch.old) }
+    ensures next { IfOk result (GoesOnAt (past.now.at + (110 + head.now.size))) }
+    ensures turn { IfOk result (opening.IsNextOf past.now head.now) }
+    ensures stands { IfOk result TurnStands }
+    ensures no_disk { result ≢ Err OpenFault.DiskFault }
+    ensures no_key { result ≢ Err OpenFault.WrongKey }
+{
+    if !has_tag(owner, past, head, batch) {
+        return Err(OpenFault::Tampered {
+            batch: head.number,
+            at: past.at + (PAYLOAD + head.size as usize + 32) as u64,
         });
     }
     judge_published(alloc, past, head, batch)

@@ -17,6 +17,7 @@ mod owned;
 mod past;
 mod placed;
 mod places;
+mod public_log;
 mod reading;
 mod standing;
 mod steps;
@@ -41,6 +42,7 @@ pub use opening_laws::{
 };
 pub use placed::{Body, Placed};
 pub use places::{content_place, link_place};
+pub use public_log::read_public;
 pub use reading::{read_owner, read_owner_up_to};
 pub use standing::{
     image_has_its_length, image_of_a_prefix, standing_bytes_are_read_as_published,

@@ -20,11 +20,11 @@ use cry_io::Disk;
 use hmac_seal::tags_equal;
 use std::alloc::Global;
 
-const HEADER_LEN: usize = 42;
+pub(crate) const HEADER_LEN: usize = 42;
 
-const MAGIC: [u8; 9] = *b"CRYPTREE\x01";
+pub(crate) const MAGIC: [u8; 9] = *b"CRYPTREE\x01";
 
-fn array_at(bytes: &[u8; HEADER_LEN]) -> [u8; 32]
+pub(crate) fn array_at(bytes: &[u8; HEADER_LEN]) -> [u8; 32]
     ensures { result ≡ slice_range bytes.now 9 41 }
 {
     let mut array = [0; 32];
@@ -84,6 +84,7 @@ pub(crate) fn read_head<D: Disk>(disk: &mut D, past: &Past) -> Result<Head, Open
     ensures read_only { IsOnlyRead D.shown D.size_of D.may_leave disk.old disk.new }
     ensures counts { D.faults disk.old ≤ D.faults disk.new }
     ensures disk_fault { result ≡ Err OpenFault.DiskFault → D.faults disk.old < D.faults disk.new }
+    ensures no_key { result ≢ Err OpenFault.WrongKey }
 {
     let left = disk.size() - past.at;
     if left < BATCH_LEN {
