@@ -18,6 +18,7 @@ pub mod SlotsLeft
 pub mod Standings
 pub mod Stepped
 pub mod Stood
+pub mod Streamed
 pub mod Stopped
 pub mod Tails
 pub mod Turned

@@ -1,18 +1,19 @@
 -- The walk from gate to gate, one turn at a time, however a batch is judged.
-use Rattle.std.proofs.Common.{◌≡◌, ℕ, suc, ◌+◌, ◌-◌, ◌<◌, ◌≤◌, true, false, eqb, List, [], ◌∷◌, ◌++◌, take, drop, length, Option, None, Some, Ok, Err, refl, sym, ap, ◌∙◌, arith}
+use Rattle.std.proofs.Common.{◌≡◌, ℕ, suc, ◌+◌, ◌-◌, ◌<◌, ◌≤◌, true, false, eqb, List, [], ◌∷◌, ◌++◌, take, drop, length, Option, None, Some, Result, Ok, Err, refl, sym, ap, ◌∙◌, arith}
 use Rattle.std.specs.Prelude.{nat_le}
 use Rattle.std.proofs.lemmas.Bool.Decides.{nat_tests}
 use Rattle.std.proofs.lemmas.List.{drop-drop}
 use Rattle.commit_journal.specs.declared.fault.OpenFault.{OpenFault}
 use Rattle.commit_journal.specs.declared.head.Head.{Head}
 use Rattle.commit_journal.specs.declared.past.Past.{Past}
-use Rattle.commit_journal.specs.Answering.{NotAStore, Damaged, and_then, IsFault}
-use Rattle.commit_journal.specs.Log.{PlainTurn, before, goes_on, head_at}
+use Rattle.commit_journal.specs.Answering.{Fault, NotAStore, Damaged, and_then, IsFault}
+use Rattle.chacha_seal.specs.Sealing.{masked}
+use Rattle.commit_journal.specs.Log.{PlainTurn, before, goes_on, head_at, slot_in, payload_in, body_of, placed_body, turn_of, published_turn, tagged_turn, turn_at, start_of, start_at, log_verdict}
 use Rattle.commit_journal.specs.Logs.{walk_at, turn_by, holder_log, unowned_start, unowned_start_of}
-use Rattle.commit_journal.specs.Placed.{PlainPlaced}
-use Rattle.commit_journal.specs.Readers.{has_check, has_tag, header_of, header_at, read_turn, read_log}
+use Rattle.commit_journal.specs.Placed.{PlainBody, PlainPlaced}
+use Rattle.commit_journal.specs.Readers.{has_check, has_tag, header_of, header_at, is_published, unmasked_turn, read_turn, read_log}
 use Rattle.commit_journal.proofs.Walked.{before-nil, before-before, goes_on-fault}
-use Rattle.commit_journal.proofs.Walks.{Judges, turn_none, walk-skip}
+use Rattle.commit_journal.proofs.Walks.{Judges, owner_walks, turn_none, walk-skip}
 
 -- ---- the header
 
@@ -84,3 +85,23 @@ read_more who s front past turn gate is ahead so_far =
 pub anybody_reads : (s : List ℕ) → read_log None s ≡ holder_log s
 unfolding read_log holder_log header_at header_of unowned_start unowned_start_of has_check read_turn has_tag
 anybody_reads s = refl
+
+-- ---- the owner reads the owner's log
+
+pub owner_reads : (owner s : List ℕ) → read_log (Some owner) s ≡ log_verdict owner s
+unfolding read_log header_at header_of start_at start_of has_check turn_by turn_at read_turn tagged_turn has_tag
+owner_reads owner s = owner_walks owner s
+
+-- ---- a published batch
+
+some_turn : (read : Result PlainBody Fault) (f : PlainBody → PlainTurn) → and_then read (λ body. Ok (Some (f body))) ≡ and_then (and_then read (λ body. Ok (f body))) (λ turn. Ok (Some turn))
+unfolding and_then
+some_turn (Ok body) f = refl
+some_turn (Err fault) f = refl
+
+-- a published batch is the one that its slot unmasks
+pub published_by : (past : Past) (head : Head) (batch : List ℕ) → is_published head.size batch ≡ true →
+    published_turn past head batch ≡ and_then (unmasked_turn (slot_in batch) past head batch) (λ turn. Ok (Some turn))
+unfolding published_turn is_published unmasked_turn
+published_by past head batch test =
+    rw test (some_turn (placed_body past (body_of head (masked (slot_in batch) (payload_in head.size batch)))) (λ body. turn_of past head batch body))

@@ -8,6 +8,7 @@ pub mod Places
 pub mod Reading
 pub mod Readers
 pub mod Turns
+pub mod Streaming
 pub mod Gates
 pub mod Holding
 pub mod Publishing

@@ -7,6 +7,7 @@ use Rattle.commit_journal.specs.Readers.{key_bytes, read_turn}
 use Rattle.commit_journal.proofs.Counted.{next_counts}
 use Rattle.commit_journal.proofs.Judged.{fault_first, filled}
 use Rattle.commit_journal.proofs.Stepped.{turn_is_by}
+use Rattle.commit_journal.proofs.Streamed.{goes_on_to}
 use Rattle.commit_journal.proofs.public_log.read_turn.Goals as goal
 
 pub returns-in_err-head-clause-answer : goal.returns-in_err-head-clause-answer
@@ -34,6 +35,11 @@ returns-clause-answer g c = λ s is.
     in
     rw (turn_is_by (read_turn (key_bytes (option_copied c.args.owner))) past (drop past.at s) head c.deref_mut-2.result.now (c.in_ok-head.ensures.answer s is) whole)
     c.judge_read.ensures.answer
+
+pub returns-clause-next : goal.returns-clause-next
+returns-clause-next g c =
+    let head = c.in_ok-head.ensures in
+    IfOk-weaker c.judge_read.result _ _ (λ next is. goes_on_to c.args.past.now c.in_ok-head.head (g.D.Disk.size_of c.args.disk.now) next head.next.0 head.next.1 head.inside head.small is) c.judge_read.ensures.turn
 
 pub returns-clause-in_epoch : goal.returns-clause-in_epoch
 returns-clause-in_epoch g c =
