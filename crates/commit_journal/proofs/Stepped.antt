@@ -7,9 +7,10 @@ use Rattle.commit_journal.specs.declared.fault.OpenFault.{OpenFault}
 use Rattle.commit_journal.specs.declared.head.Head.{Head}
 use Rattle.commit_journal.specs.declared.past.Past.{Past}
 use Rattle.commit_journal.specs.Answering.{Fault, NotAStore, Damaged, and_then, IsFault}
-use Rattle.chacha_seal.specs.Sealing.{masked}
+use Rattle.chacha_seal.specs.Sealing.{veil_of, masked}
 use Rattle.commit_journal.specs.Log.{PlainTurn, before, goes_on, head_at, slot_in, payload_in, body_of, placed_body, turn_of, published_turn, tagged_turn, turn_at, start_of, start_at, log_verdict}
 use Rattle.commit_journal.specs.Logs.{walk_at, turn_by, holder_log, unowned_start, unowned_start_of}
+use Rattle.commit_journal.specs.Opening.{owned_turn}
 use Rattle.commit_journal.specs.Placed.{PlainBody, PlainPlaced}
 use Rattle.commit_journal.specs.Readers.{has_check, has_tag, header_of, header_at, is_published, unmasked_turn, read_turn, read_log}
 use Rattle.commit_journal.proofs.Walked.{before-nil, before-before, goes_on-fault}
@@ -105,3 +106,9 @@ pub published_by : (past : Past) (head : Head) (batch : List ℕ) → is_publish
 unfolding published_turn is_published unmasked_turn
 published_by past head batch test =
     rw test (some_turn (placed_body past (body_of head (masked (slot_in batch) (payload_in head.size batch)))) (λ body. turn_of past head batch body))
+
+-- the batch of an owner who opens for writing is the one that the veil key which is due unmasks
+pub owned_by : (owner : List ℕ) (past : Past) (head : Head) (batch : List ℕ) → has_tag (Some owner) past head batch ≡ true →
+    owned_turn owner past head batch ≡ unmasked_turn (veil_of owner head.epoch.0 head.number) past head batch
+unfolding has_tag owned_turn unmasked_turn
+owned_by owner past head batch test = rw test refl
