@@ -76,7 +76,7 @@ pub record EndsAt (front : List PlainPlaced) (past : Past) : Type 0 where
 pub ends_start : (past : Past) → past.number ≡ 0 → past.epoch.0 ≡ 0 → EndsAt [] past
 ends_start past first none = record { number = first; epoch = none }
 
-epoch_more : (before_it : ℕ) (front : List PlainPlaced) (p : PlainPlaced) → epoch_behind before_it (front ++ p ∷ []) ≡ p.epoch.0
+pub epoch_more : (before_it : ℕ) (front : List PlainPlaced) (p : PlainPlaced) → epoch_behind before_it (front ++ p ∷ []) ≡ p.epoch.0
 epoch_more before_it [] p = refl
 epoch_more before_it (q ∷ front) p = epoch_more q.epoch.0 front p
 

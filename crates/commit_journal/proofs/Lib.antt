@@ -16,7 +16,9 @@ pub mod Refilled
 pub mod Reopened
 pub mod SlotsLeft
 pub mod Standings
+pub mod Stepped
 pub mod Stood
+pub mod Streamed
 pub mod Stopped
 pub mod Tails
 pub mod Turned

@@ -1,17 +1,15 @@
 -- The walk of a store that is opened for writing, one turn at a time.
 use Rattle.std.proofs.Common.{◌≡◌, ℕ, zero, suc, ◌+◌, ◌-◌, ◌<◌, ◌≤◌, true, false, cond, eqb, List, [], ◌∷◌, ◌++◌, length, map, get_or, take, drop, drop-cons, Result, Ok, Err, refl, sym, ap, ◌∙◌, arith, append_assoc}
 use Rattle.std.specs.Prelude.{nat_le, slice_range}
-use Rattle.std.specs.Str.{bytes_eq}
 use Rattle.std.proofs.Math.ListN.{drop_of_length-le}
 use Rattle.std.proofs.lemmas.List.{append-nil, drop-drop, take-append-drop}
-use Rattle.std.proofs.lemmas.Slice.Eq.{bytes_eq-Decides}
-use Rattle.chacha_seal.specs.Sealing.{veil_of, masked}
+use Rattle.chacha_seal.specs.Sealing.{veil_of}
 use Rattle.commit_journal.specs.declared.fault.OpenFault.{OpenFault}
 use Rattle.commit_journal.specs.declared.fault.OpenFault.TheVariants as faults
 use Rattle.commit_journal.specs.declared.head.Head.{Head}
 use Rattle.commit_journal.specs.declared.past.Past.{Past}
 use Rattle.commit_journal.specs.Answering.{Fault, Damaged, and_then, IsFault}
-use Rattle.commit_journal.specs.Log.{PlainTurn, tag_due, tag_in, payload_in, body_of, placed_body, turn_of, head_at, start_at}
+use Rattle.commit_journal.specs.Log.{PlainTurn, head_at, start_at}
 use Rattle.commit_journal.specs.Opening.{OwnedLog, ends_here, owned_at, owned_before, owned_head, owned_log, owned_turn, opening_verdict, slots_filled, written_at}
 use Rattle.commit_journal.specs.declared.placed.Placed.{Placed}
 use Rattle.commit_journal.specs.Placed.{PlainPlaced, plain_placed}
@@ -55,26 +53,6 @@ pub owned_turn_is : (limit : ℕ) (owner : List ℕ) (past : Past) (rest : List 
     batch ≡ take (110 + head.size) rest → owned_at limit owner past rest ≡ owned_turn owner past head batch
 unfolding owned_at and_then
 owned_turn_is limit owner past rest head batch head_is batch_is = rw (head_is, batch_is) refl
-
--- a batch with the right owner tag
-pub owned_is : (owner : List ℕ) (past : Past) (head : Head) (batch tag due : List ℕ) → due ≡ tag_due owner past.tag head.size batch →
-    tag ≡ slice_range batch (45 + head.size + 32) (45 + head.size + 32 + 32) → due ≡ tag →
-    owned_turn owner past head batch
-    ≡ and_then (placed_body past (body_of head (masked (veil_of owner head.epoch.0 head.number) (payload_in head.size batch))))
-    (λ body. Ok (turn_of past head batch body))
-unfolding owned_turn
-owned_is owner past head batch tag due due_is tag_is same =
-    let begins : 45 + head.size + 32 ≡ 77 + head.size = omega arith in
-    let ends : 45 + head.size + 32 + 32 ≡ 109 + head.size = omega arith in
-    let made : tag_due owner past.tag head.size batch ≡ tag_in head.size batch =
-    sym due_is ∙ same ∙ tag_is
-    ∙ ap (λ i. slice_range batch i (45 + head.size + 32 + 32)) begins
-    ∙ ap (λ j. slice_range batch (77 + head.size) j) ends
-    in
-    let test : bytes_eq (tag_due owner past.tag head.size batch) (tag_in head.size batch) ≡ true =
-    (bytes_eq-Decides (tag_due owner past.tag head.size batch) (tag_in head.size batch)).1 made
-    in
-    rw test refl
 
 owned_at-nil : (limit : ℕ) (owner : List ℕ) (past : Past) → owned_at limit owner past [] ≡ Err (Damaged past.at)
 unfolding owned_at owned_head and_then

@@ -6,7 +6,9 @@ pub mod Logs
 pub mod Placed
 pub mod Places
 pub mod Reading
+pub mod Readers
 pub mod Turns
+pub mod Streaming
 pub mod Gates
 pub mod Holding
 pub mod Publishing

@@ -144,6 +144,7 @@ HasType byte bodies.NewEpoch = byte ≡ 2
 
 -- the turn of the batch with this head
 pub record IsTurnOf (past : Past) (head : Head) (turn : Turn) : Type 0 where
+  pub batch : turn.placed.batch ≡ head.number
   pub place : turn.placed.place ≡ past.at + 45
   pub next : turn.past.at ≡ past.at + (110 + head.size)
   pub number : turn.past.number ≡ head.number
@@ -153,6 +154,7 @@ pub record IsTurnOf (past : Past) (head : Head) (turn : Turn) : Type 0 where
 
 -- the turn of the next batch, which ends within so many bytes
 pub record IsNextTurn (past : Past) (size : ℕ) (turn : Turn) : Type 0 where
+  pub batch : turn.placed.batch ≡ past.number + 1
   pub place : turn.placed.place ≡ past.at + 45
   pub ahead : past.at + 110 ≤ turn.past.at
   pub inside : turn.past.at ≤ size
@@ -168,6 +170,10 @@ IsTurnIn past turn = IsInEpoch past.epoch.0 turn.placed.epoch.0 turn.placed.body
 abbrev pub IsNextOf : Past → Head → Option Turn → Type 0
 IsNextOf past head None = Unit {0}
 IsNextOf past head (Some turn) = IsTurnOf past head turn
+
+abbrev pub GoesOnTo : Past → ℕ → Option Turn → Type 0
+GoesOnTo past size None = Unit {0}
+GoesOnTo past size (Some turn) = IsNextTurn past size turn
 
 abbrev pub GoesOnIn : Past → Option Turn → Type 0
 GoesOnIn past None = Unit {0}

@@ -5,14 +5,15 @@
 //! 13  32  slot                  77+L   32  owner tag
 //! 45   L  masked payload       109+L    1  next gate
 //! ```
-ghost use Rattle.std.specs.Prelude.{◌≡◌, ◌≢◌, ◌+◌, ◌≤◌, ◌^◌, length, slice_range, Err, IfOk};
+ghost use Rattle.std.specs.Prelude.{◌≡◌, ◌≢◌, ◌+◌, ◌≤◌, ◌^◌, length, slice_range, option_copied, Err, IfOk};
 ghost use Rattle.chacha_seal.specs.Sealing.{masked};
 ghost use Rattle.commit_journal.specs.Answering.{Answers};
 ghost use Rattle.commit_journal.specs.Placed.{plain_body};
 ghost use Rattle.commit_journal.specs.Log as log;
 ghost use Rattle.commit_journal.specs.Opening as opening;
+ghost use Rattle.commit_journal.specs.Readers as readers;
 ghost use Rattle.commit_journal.specs.Places.{HasSize, IsStanding, TurnStands};
-ghost use Rattle.commit_journal.specs.Turns.{plain_option, GoesOnAt};
+ghost use Rattle.commit_journal.specs.Turns.{plain_option, plain_turn, GoesOnAt};
 
 use crate::head::{BATCH_LEN, HEAD_LEN, Head};
 use crate::past::Past;
@@ -79,6 +80,7 @@ pub(crate) fn body_of(
     ensures type_of { IfOk result (opening.HasType head.now.type_byte) }
     ensures answer { Answers plain_body result (log.placed_body past.now (log.body_of head.now (masked slot.now payload.old))) }
     ensures no_disk { result ≢ Err OpenFault.DiskFault }
+    ensures no_key { result ≢ Err OpenFault.WrongKey }
 {
     if head.type_byte == EPOCH {
         return Ok(Body::NewEpoch);
@@ -93,7 +95,54 @@ pub(crate) fn body_of(
     }
 }
 
-#[tactic(auto, unfolding(crate::specs::Log::published_turn, crate::specs::Answering::and_then))]
+/// Whether the slot of a batch is its veil key.
+#[tactic(auto, unfolding(crate::specs::Readers::is_published))]
+fn is_published(size: usize, batch: &[u8]) -> bool
+    requires whole { length batch.now ≡ 110 + size }
+    ensures { result ≡ readers.is_published size batch.now }
+{
+    let slot = array_at(batch, SLOT);
+    let check = array_at(batch, PAYLOAD + size);
+    tags_equal(&hmac(&slot, &batch[PAYLOAD..PAYLOAD + size], &[]), &check)
+}
+
+fn unpublished(past: &Past, head: &Head) -> OpenFault
+    requires behind { past.now.at ≤ 268435456 }
+    ensures { result ≡ OpenFault.Tampered head.now.number (past.now.at + 13) }
+{
+    OpenFault::Tampered {
+        batch: head.number,
+        at: past.at + SLOT as u64,
+    }
+}
+
+/// A batch whose payload is unmasked in it with this veil key, and what is known behind it.
+#[tactic(auto, unfolding(crate::specs::Readers::unmasked_turn, crate::specs::Answering::and_then))]
+pub(crate) fn unmask(
+    alloc: Global,
+    past: &Past,
+    head: &Head,
+    veil: &[u8; 32],
+    batch: &mut [u8],
+) -> Result<Turn, OpenFault>
+    requires whole { length batch.old ≡ 110 + head.now.size }
+    requires behind { 42 ≤ past.now.at }
+    requires fits { past.now.at + (110 + head.now.size) ≤ 268435456 }
+    ensures answer { Answers plain_turn result (readers.unmasked_turn veil.now past.now head.now batch.old) }
+    ensures turn { IfOk result (opening.IsTurnOf past.now head.now) }
+    ensures stands { IfOk result (λ turn. IsStanding turn.placed) }
+    ensures no_disk { result ≢ Err OpenFault.DiskFault }
+    ensures no_key { result ≢ Err OpenFault.WrongKey }
+{
+    let size = head.size as usize;
+    let tag = array_at(batch, PAYLOAD + size + 32);
+    let gate = batch[PAYLOAD + size + 64];
+    let payload = &mut batch[PAYLOAD..PAYLOAD + size];
+    let body = body_of(alloc, past, head, veil, payload)?;
+    Ok(turn_of(past, head, body, tag, gate))
+}
+
+#[tactic(auto, unfolding(crate::specs::Log::published_turn, crate::specs::Readers::is_published))]
 fn judge_published(
     alloc: Global,
     past: &Past,
@@ -108,29 +157,18 @@ fn judge_published(
     ensures turn { IfOk result (opening.IsNextOf past.now head.now) }
     ensures stands { IfOk result TurnStands }
     ensures no_disk { result ≢ Err OpenFault.DiskFault }
+    ensures no_key { result ≢ Err OpenFault.WrongKey }
 {
     let size = head.size as usize;
-    let slot = array_at(batch, SLOT);
-    let check = array_at(batch, PAYLOAD + size);
-    let tag = array_at(batch, PAYLOAD + size + 32);
-    let gate = batch[PAYLOAD + size + 64];
-    if !tags_equal(&hmac(&slot, &batch[PAYLOAD..PAYLOAD + size], &[]), &check) {
-        if gate == OPEN {
-            return Err(OpenFault::Tampered {
-                batch: head.number,
-                at: past.at + SLOT as u64,
-            });
+    if !is_published(size, batch) {
+        if batch[PAYLOAD + size + 64] == OPEN {
+            return Err(unpublished(past, head));
         }
         return Ok(None);
     }
-    let body = body_of(
-        alloc,
-        past,
-        head,
-        &slot,
-        &mut batch[PAYLOAD..PAYLOAD + size],
-    )?;
-    Ok(Some(turn_of(past, head, body, tag, gate)))
+    let slot = array_at(batch, SLOT);
+    let turn = unmask(alloc, past, head, &slot, batch)?;
+    Ok(Some(turn))
 }
 
 pub(crate) fn turn_of(past: &Past, head: &Head, body: Body, tag: [u8; 32], gate: u8) -> Turn
@@ -186,4 +224,84 @@ pub(crate) fn judge(
         });
     }
     judge_published(alloc, past, head, batch)
+}
+
+#[tactic(auto, unfolding(crate::specs::Readers::has_tag))]
+pub(crate) fn has_tag(owner: Option<&Key<OwnerK>>, past: &Past, head: &Head, batch: &[u8]) -> bool
+    requires whole { length batch.now ≡ 110 + head.now.size }
+    ensures { result ≡ readers.has_tag (readers.key_bytes (option_copied owner.entry)) past.now head.now batch.now }
+{
+    let size = head.size as usize;
+    match owner {
+        Some(owner) => {
+            let tag = array_at(batch, PAYLOAD + size + 32);
+            tags_equal(&tag_due(owner, &past.tag, size, batch), &tag)
+        }
+        None => true,
+    }
+}
+
+/// The fault of a wrong owner tag.
+pub(crate) fn wrong_tag(past: &Past, head: &Head) -> OpenFault
+    requires behind { past.now.at ≤ 268435456 }
+    ensures { result ≡ OpenFault.Tampered head.now.number (past.now.at + 77 + head.now.size) }
+{
+    OpenFault::Tampered {
+        batch: head.number,
+        at: past.at + (PAYLOAD + head.size as usize + 32) as u64,
+    }
+}
+
+/// Judges the bytes of a batch behind an open gate, and leaves its payload unmasked in them where it is published.
+/// The result is `None` where the batch ends the log, since nobody was given its payload.
+#[tactic(auto, unfolding(crate::specs::Readers::read_turn))]
+pub(crate) fn judge_read(
+    alloc: Global,
+    owner: Option<&Key<OwnerK>>,
+    past: &Past,
+    head: &Head,
+    batch: &mut [u8],
+) -> Result<Option<Turn>, OpenFault>
+    requires whole { length batch.old ≡ 110 + head.now.size }
+    requires behind { 42 ≤ past.now.at }
+    requires fits { past.now.at + (110 + head.now.size) ≤ 268435456 }
+    ensures answer { Answers plain_option result (readers.read_turn (readers.key_bytes (option_copied owner.entry)) past.now head.now batch.old) }
+    ensures next { IfOk result (GoesOnAt (past.now.at + (110 + head.now.size))) }
+    ensures turn { IfOk result (opening.IsNextOf past.now head.now) }
+    ensures stands { IfOk result TurnStands }
+    ensures no_disk { result ≢ Err OpenFault.DiskFault }
+    ensures no_key { result ≢ Err OpenFault.WrongKey }
+{
+    if !has_tag(owner, past, head, batch) {
+        return Err(wrong_tag(past, head));
+    }
+    judge_published(alloc, past, head, batch)
+}
+
+/// Judges a batch that was read before: it is published, so that one which isn't was changed, whatever gate follows.
+#[tactic(auto, unfolding(crate::specs::Readers::again_turn))]
+pub(crate) fn judge_again(
+    alloc: Global,
+    owner: Option<&Key<OwnerK>>,
+    past: &Past,
+    head: &Head,
+    batch: &mut [u8],
+) -> Result<Turn, OpenFault>
+    requires whole { length batch.old ≡ 110 + head.now.size }
+    requires behind { 42 ≤ past.now.at }
+    requires fits { past.now.at + (110 + head.now.size) ≤ 268435456 }
+    ensures answer { Answers plain_turn result (readers.again_turn (readers.key_bytes (option_copied owner.entry)) past.now head.now batch.old) }
+    ensures turn { IfOk result (opening.IsTurnOf past.now head.now) }
+    ensures stands { IfOk result (λ turn. IsStanding turn.placed) }
+    ensures no_disk { result ≢ Err OpenFault.DiskFault }
+    ensures no_key { result ≢ Err OpenFault.WrongKey }
+{
+    if !has_tag(owner, past, head, batch) {
+        return Err(wrong_tag(past, head));
+    }
+    if !is_published(head.size as usize, batch) {
+        return Err(unpublished(past, head));
+    }
+    let slot = array_at(batch, SLOT);
+    unmask(alloc, past, head, &slot, batch)
 }

@@ -5,6 +5,7 @@ mod batch;
 mod batch_type;
 mod commit_fault;
 mod fault;
+mod given;
 mod head;
 mod journal;
 mod judge;
@@ -17,6 +18,7 @@ mod owned;
 mod past;
 mod placed;
 mod places;
+mod public_log;
 mod reading;
 mod standing;
 mod steps;
@@ -41,7 +43,8 @@ pub use opening_laws::{
 };
 pub use placed::{Body, Placed};
 pub use places::{content_place, link_place};
-pub use reading::{read_owner, read_owner_up_to};
+pub use public_log::{PublicLog, read_owner, read_public};
+pub use reading::read_owner_up_to;
 pub use standing::{
     image_has_its_length, image_of_a_prefix, standing_bytes_are_read_as_published,
     standing_bytes_tell_their_batches, steps_of_a_commit, whole_image_is_published,

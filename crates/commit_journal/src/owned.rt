@@ -7,14 +7,13 @@ ghost use Rattle.commit_journal.specs.Turns.{plain_turn};
 
 use crate::OpenFault;
 use crate::head::Head;
-use crate::judge::{PAYLOAD, Turn, array_at, body_of, tag_due, turn_of};
+use crate::judge::{Turn, has_tag, unmask, wrong_tag};
 use crate::past::Past;
 use chacha_seal::{Key, OwnerK, veil_key};
-use hmac_seal::tags_equal;
 use std::alloc::Global;
 
 /// Judges the bytes of a batch behind an open gate, and leaves its payload unmasked in them.
-#[tactic(auto, unfolding(crate::specs::Opening::owned_turn, crate::specs::Answering::and_then))]
+#[tactic(auto, unfolding(crate::specs::Opening::owned_turn, crate::specs::Readers::has_tag))]
 pub(crate) fn judge_owned(
     alloc: Global,
     owner: &Key<OwnerK>,
@@ -30,22 +29,9 @@ pub(crate) fn judge_owned(
     ensures stands { IfOk result (λ turn. IsStanding turn.placed) }
     ensures no_disk { result ≢ Err OpenFault.DiskFault }
 {
-    let size = head.size as usize;
-    let tag = array_at(batch, PAYLOAD + size + 32);
-    if !tags_equal(&tag_due(owner, &past.tag, size, batch), &tag) {
-        return Err(OpenFault::Tampered {
-            batch: head.number,
-            at: past.at + (PAYLOAD + size + 32) as u64,
-        });
+    if !has_tag(Some(owner), past, head, batch) {
+        return Err(wrong_tag(past, head));
     }
-    let gate = batch[PAYLOAD + size + 64];
     let veil = veil_key(owner, head.epoch, head.number);
-    let body = body_of(
-        alloc,
-        past,
-        head,
-        &veil,
-        &mut batch[PAYLOAD..PAYLOAD + size],
-    )?;
-    Ok(turn_of(past, head, body, tag, gate))
+    unmask(alloc, past, head, &veil, batch)
 }

@@ -20,11 +20,11 @@ use cry_io::Disk;
 use hmac_seal::tags_equal;
 use std::alloc::Global;
 
-const HEADER_LEN: usize = 42;
+pub(crate) const HEADER_LEN: usize = 42;
 
-const MAGIC: [u8; 9] = *b"CRYPTREE\x01";
+pub(crate) const MAGIC: [u8; 9] = *b"CRYPTREE\x01";
 
-fn array_at(bytes: &[u8; HEADER_LEN]) -> [u8; 32]
+pub(crate) fn array_at(bytes: &[u8; HEADER_LEN]) -> [u8; 32]
     ensures { result ≡ slice_range bytes.now 9 41 }
 {
     let mut array = [0; 32];
@@ -76,7 +76,6 @@ pub(crate) fn read_start<D: Disk>(disk: &mut D, owner: &Key<OwnerK>) -> Result<P
 /// The head of the batch that stands behind an open gate.
 pub(crate) fn read_head<D: Disk>(disk: &mut D, past: &Past) -> Result<Head, OpenFault>
     requires small { past.now.at ≤ 2 ^ 32 }
-    requires inside { past.now.at ≤ D.size_of disk.old }
     ensures answer { WhereTold (D.shown disk.old) (λ s. Answers (λ head. head) result (log.head_at past.now (drop past.now.at s))) }
     ensures inside { IfOk result (λ head. past.now.at + (110 + head.size) ≤ D.size_of disk.old) }
     ensures small { IfOk result (λ head. past.now.at + (110 + head.size) ≤ 268435456) }
@@ -84,15 +83,16 @@ pub(crate) fn read_head<D: Disk>(disk: &mut D, past: &Past) -> Result<Head, Open
     ensures read_only { IsOnlyRead D.shown D.size_of D.may_leave disk.old disk.new }
     ensures counts { D.faults disk.old ≤ D.faults disk.new }
     ensures disk_fault { result ≡ Err OpenFault.DiskFault → D.faults disk.old < D.faults disk.new }
+    ensures no_key { result ≢ Err OpenFault.WrongKey }
 {
-    let left = disk.size() - past.at;
-    if left < BATCH_LEN {
+    let size = disk.size();
+    if size < past.at + BATCH_LEN {
         return Err(OpenFault::Damaged { at: past.at });
     }
     let mut bytes = [0; HEAD_LEN];
     disk.read_at(past.at, &mut bytes)?;
     let head = head_of(&bytes);
-    if !is_batch(past, &head, left) {
+    if !is_batch(past, &head, size - past.at) {
         return Err(OpenFault::Damaged { at: past.at });
     }
     Ok(head)
@@ -184,29 +184,6 @@ fn read_known<D: Disk>(
         past = next;
     }
     Ok(log)
-}
-
-/// The batches of the log, in order, as the owner's key reads them: each is published and has the owner tag that
-/// follows from the batches before it (docs/FORMAT.md, "Reading"). The disk is never written.
-///
-/// `NotAStore` and `WrongKey` come of the header. `Damaged` comes behind an open gate where no batch stands, with the
-/// place of its first byte, and for a payload that has no form, with the place of its first bad field. `Tampered`
-/// comes for a wrong owner tag, with its place, and for an unpublished batch before an open gate, with the place of
-/// its slot. The first of these ends the call; an unpublished batch before a closed gate ends the log.
-pub fn read_owner<D: Disk>(
-    alloc: Global,
-    disk: &mut D,
-    owner: &Key<OwnerK>,
-) -> Result<List<Placed>, OpenFault>
-    ensures verdict { WhereTold (D.shown disk.old)
-        (λ s. Answers plain_log result (log.log_verdict owner.now.bytes s)) }
-    ensures stands { IfOk result (λ log. All IsStanding log.items) }
-    ensures epochs { IfOk result (λ log. AreInEpochs 0 (plain_log log)) }
-    ensures read_only { IsOnlyRead D.shown D.size_of D.may_leave disk.old disk.new }
-    ensures counts { D.faults disk.old ≤ D.faults disk.new }
-    ensures disk_fault { result ≡ Err OpenFault.DiskFault → D.faults disk.old < D.faults disk.new }
-{
-    read_known(alloc, disk, owner, None)
 }
 
 /// The batches of the log, as `read_owner` reads them, for a reader who knows no more than the first `most`: a batch behind

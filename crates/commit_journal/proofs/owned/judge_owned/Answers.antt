@@ -1,25 +1,16 @@
-use Rattle.std.proofs.Common.{ℕ, List, Ok, subst}
-use Rattle.std.proofs.lemmas.Result.{err_from_is_err_and}
-use Rattle.chacha_seal.specs.Sealing.{veil_of, masked}
-use Rattle.commit_journal.specs.Answering.{IsFault}
-use Rattle.commit_journal.specs.Log.{payload_in, body_of, placed_body, turn_of}
-use Rattle.commit_journal.proofs.Judged.{fault_first}
-use Rattle.commit_journal.proofs.OwnedLemmas.{owned_is}
+use Rattle.std.proofs.Common.{◌≡◌, ℕ, List, Some, true, sym, subst, ◌∙◌}
+use Rattle.commit_journal.specs.Answering.{Answers}
+use Rattle.commit_journal.specs.Readers.{has_tag, unmasked_turn}
+use Rattle.commit_journal.specs.Turns.{plain_turn}
+use Rattle.commit_journal.proofs.Stepped.{owned_by}
 use Rattle.commit_journal.proofs.owned.judge_owned.Goals as goal
 
-pub returns-in_err-body-clause-answer : goal.returns-in_err-body-clause-answer
-returns-in_err-body-clause-answer c =
-    let p = err_from_is_err_and c.from_residual.result c.from_residual.ensures.1 in
-    let owner = c.args.owner.now.bytes in
+pub returns-clause-answer : goal.returns-clause-answer
+returns-clause-answer c =
     let past = c.args.past.now in
     let head = c.args.head.now in
     let batch = c.args.batch.now in
-    let fault = c.in_err-body.field-0.0 in
-    let same = c.tags_equal.ensures.0 c.if-not-tags_equal.false in
-    let known : IsFault fault (placed_body past (body_of head (masked (veil_of owner head.epoch.0 head.number) (payload_in head.size batch)))) =
-    subst (λ (veil : List ℕ). IsFault fault (placed_body past (body_of head (masked veil (payload_in head.size batch)))))
-    c.veil_key-veil.ensures c.in_err-body.ensures.answer
-    in
-    let whole = owned_is owner past head batch c.array_at-tag.result c.tag_due.result c.tag_due.ensures c.array_at-tag.ensures same in
-    rw (p.1, p.2, whole) (fault_first fault (placed_body past (body_of head (masked (veil_of owner head.epoch.0 head.number) (payload_in head.size batch))))
-    (λ body. Ok (turn_of past head batch body)) known)
+    let owner = c.args.owner.now.bytes in
+    let test : has_tag (Some owner) past head batch ≡ true = sym c.has_tag.ensures ∙ c.if-not-has_tag.false in
+    rw (owned_by owner past head batch test)
+    (subst (λ (veil : List ℕ). Answers plain_turn c.unmask.result (unmasked_turn veil past head batch)) c.veil_key-veil.ensures c.unmask.ensures.answer)

@@ -1,0 +1,19 @@
+use Rattle.std.proofs.Common.{◌≡◌, take, arith}
+use Rattle.std.specs.Prelude.{option_copied}
+use Rattle.commit_journal.specs.Readers.{key_bytes}
+use Rattle.commit_journal.proofs.Stepped.{header_short, header_long}
+use Rattle.commit_journal.proofs.public_log.read_header.Goals as goal
+
+pub returns-then-size-clause-answer : goal.returns-then-size-clause-answer
+returns-then-size-clause-answer g c = λ s is.
+    let sized = g.met.D.Disk.size_is_shown c.args.disk.now s is in
+    header_short (key_bytes (option_copied c.args.owner)) s (omega (arith, sized, c.size.ensures))
+
+pub returns-clause-answer : goal.returns-clause-answer
+returns-clause-answer g c = λ s is.
+    let sized = g.met.D.Disk.size_is_shown c.args.disk.now s is in
+    let header : c.read_at.new.buf ≡ take 42 s = c.in_ok-read_at.ensures.bytes s is in
+    rw (header_long (key_bytes (option_copied c.args.owner)) s (omega (arith, sized, c.size.ensures)), ← header) c.header_of.ensures.answer
+
+pub returns-clause-disk_fault : goal.returns-clause-disk_fault
+returns-clause-disk_fault g c = λ is. absurd (c.header_of.ensures.no_disk is)
