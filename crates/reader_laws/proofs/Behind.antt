@@ -115,7 +115,7 @@ module _ (turn : Turns) (moves : MovesOn turn) where
 -- ---- logs begin behind the header
 
 -- what is known behind a header, as a turn has it
-begun_turn : List ℕ → PlainTurn
+unfoldable pub begun_turn : List ℕ → PlainTurn
 begun_turn header = record {
   placed = record { batch = 0; epoch = record { 0 = 0 }; place = 0; body = NewEpoch };
   past = record { at = 42; number = 0; epoch = record { 0 = 0 }; tag = slice_range header 9 41; gate = slice_index header 41 };

@@ -13,3 +13,4 @@ pub mod Seen
 pub mod Shown
 pub mod ValidReaders
 pub mod Written
+pub mod WrongKeys

@@ -26,7 +26,7 @@ use Rattle.reader_laws.proofs.Readers.{all_pass, view_is}
 
 -- ---- the log is read
 
-read_on : (owner : List ℕ) (m : Journal) → fold_of owner m ≡ Ok (public_stand m) → of_bytes (read_through (Ok (log_of owner m))) ≡ Ok (reading_of owner m)
+pub read_on : (owner : List ℕ) (m : Journal) → fold_of owner m ≡ Ok (public_stand m) → of_bytes (read_through (Ok (log_of owner m))) ≡ Ok (reading_of owner m)
 unfolding read_through fold_of and_then of_bytes
 read_on owner m followed = ap (λ z. of_bytes (and_then z (λ stand. Ok (let r : Reading = record { log = log_of owner m; stand = stand } in r)))) followed
 

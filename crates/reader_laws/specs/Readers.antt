@@ -21,4 +21,5 @@ all_visited bundle r = visit_all r (all_visits r.stand.store (who_of bundle)) (o
 -- all visits of the owner who opens for writing, with this key
 abbrev pub visited_to_write : List ℕ → Reading → Result Opened Fault
 visited_to_write key r =
-    visit_all r (all_visits r.stand.store TheOwner ++ holder_visits r.stand.store) (record { keys = (Owner, key) ∷ []; store = r.stand.store })
+    visit_all r (all_visits r.stand.store TheOwner ++ holder_visits r.stand.store)
+    (record { keys = (Owner, key) ∷ []; store = r.stand.store })

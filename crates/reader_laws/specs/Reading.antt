@@ -1,5 +1,6 @@
 -- What whoever reads the bytes of a journal is shown. This project's own, docs/FORMAT.md, "Reading".
-use Rattle.std.specs.Prelude.{◌≡◌, ℕ, List, None, Some, Result, Ok, Err}
+use Rattle.std.specs.Prelude.{◌≡◌, ◌≢◌, ℕ, List, None, Some, Result, Ok, Err}
+use Rattle.chacha_seal.specs.Sealing.{check_of}
 use Rattle.cry_base.specs.Sets.{In}
 use Rattle.cry_base.specs.Store.{FileEntry, HolderEntry, Store, holder_entry}
 use Rattle.cry_base.specs.declared.client.Bundle.{Bundle}
@@ -19,6 +20,11 @@ IsReaderOf owner m (bundles.Holder h key) = (e : HolderEntry) × (holder_entry (
 abbrev pub IsRightFor : List ℕ → Journal → Bundle → Type 0
 IsRightFor owner m (bundles.Owner key) = key ≡ owner
 IsRightFor owner m (bundles.Holder h key) = (e : HolderEntry) → holder_entry (store_of m) h.0 ≡ Some e → key ≡ e.key
+
+-- the bundle's key has another check than the one that is published for its reader
+abbrev pub IsWrongFor : List ℕ → Journal → Bundle → Type 0
+IsWrongFor owner m (bundles.Owner key) = check_of owner ≢ check_of key
+IsWrongFor owner m (bundles.Holder h key) = (e : HolderEntry) × (holder_entry (store_of m) h.0 ≡ Some e) × (check_of e.key ≢ check_of key)
 
 -- each of these is a file that stands in a folder that is allowed
 abbrev pub AreAllowed : Store → Who → List ℕ → Type 0

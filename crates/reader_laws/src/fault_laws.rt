@@ -19,7 +19,8 @@ pub fn visits_fail_at_records_alone()
     ensures names { (bundle : Bundle) (log : List PlainPlaced) (stand : Stand) (fault : Fault) → folded nothing log ≡ Ok stand
         → names_visited bundle (record { log = log; stand = stand }) ≡ Err fault → IsOfRecord log fault }
     ensures files { (bundle : Bundle) (log : List PlainPlaced) (stand : Stand) (xs : List ℕ) (named : Opened) (fault : Fault)
-        → folded nothing log ≡ Ok stand → AreAllowed stand.store (who_of bundle) xs → let r : Reading = record { log = log; stand = stand } in
+        → folded nothing log ≡ Ok stand → AreAllowed stand.store (who_of bundle) xs
+        → let r : Reading = record { log = log; stand = stand } in
         names_visited bundle r ≡ Ok named → files_visited r xs named ≡ Err fault → IsOfRecord log fault }
     ensures all { (bundle : Bundle) (log : List PlainPlaced) (stand : Stand) (fault : Fault) → folded nothing log ≡ Ok stand
         → all_visited bundle (record { log = log; stand = stand }) ≡ Err fault → IsOfRecord log fault }
@@ -35,10 +36,12 @@ pub fn nothing_wants_at_visits()
         → names_visited bundle (record { log = log; stand = stand }) ≡ Err (Damaged 42) → ⊥ }
     ensures files { (bundle : Bundle) (bytes : List ℕ) (log : List PlainPlaced) (stand : Stand) (xs : List ℕ) (named : Opened)
         → bundle_log bundle bytes ≡ Ok log → folded nothing log ≡ Ok stand → AreAllowed stand.store (who_of bundle) xs
-        → let r : Reading = record { log = log; stand = stand } in names_visited bundle r ≡ Ok named → files_visited r xs named ≡ Err (Damaged 42) → ⊥ }
+        → let r : Reading = record { log = log; stand = stand } in
+        names_visited bundle r ≡ Ok named → files_visited r xs named ≡ Err (Damaged 42) → ⊥ }
     ensures all { (bundle : Bundle) (bytes : List ℕ) (log : List PlainPlaced) (stand : Stand)
         → bundle_log bundle bytes ≡ Ok log → folded nothing log ≡ Ok stand
         → all_visited bundle (record { log = log; stand = stand }) ≡ Err (Damaged 42) → ⊥ }
-    ensures writing { (key bytes : List ℕ) (log : List PlainPlaced) (stand : Stand) → writer_log key bytes ≡ Ok log → folded nothing log ≡ Ok stand
+    ensures writing { (key bytes : List ℕ) (log : List PlainPlaced) (stand : Stand)
+        → writer_log key bytes ≡ Ok log → folded nothing log ≡ Ok stand
         → visited_to_write key (record { log = log; stand = stand }) ≡ Err (Damaged 42) → ⊥ }
 {}
