@@ -14,3 +14,6 @@ pub mod Shown
 pub mod ValidReaders
 pub mod Written
 pub mod WrongKeys
+pub mod SpanTurns
+pub mod SpanWalks
+pub mod SpanLogs

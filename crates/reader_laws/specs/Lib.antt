@@ -1,3 +1,4 @@
 pub mod Failing
 pub mod Readers
 pub mod Reading
+pub mod Spans

@@ -3,3 +3,4 @@
 
 pub mod fault_laws;
 pub mod laws;
+pub mod log_laws;

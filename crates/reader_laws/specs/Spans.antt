@@ -1,0 +1,170 @@
+-- What the log of a store's bytes answers, said of where its batches stand and of the tests in their order, without a walk. This
+-- project's own, docs/FORMAT.md, "The file", "Reading" and "Opening for writing".
+use Rattle.std.specs.Prelude.{◌≡◌, ◌≢◌, ◌≤◌, ℕ, ◌+◌, true, List, [], ◌∷◌, ◌++◌, length, take, drop, codes, slice_index, slice_range, Option, None, Some, Result, Ok, Err}
+use Rattle.hmac_seal.specs.Hmac.{hmac}
+use Rattle.chacha_seal.specs.Sealing.{check_of, masked, veil_of}
+use Rattle.cry_base.specs.declared.ids.Epoch.{Epoch}
+use Rattle.commit_journal.specs.Answering.{Fault, NotAStore, WrongKey, Damaged, Tampered}
+use Rattle.commit_journal.specs.Log.{body_of, check_in, gate_in, head_of, is_batch, payload_in, slot_in, tag_due, tag_in}
+use Rattle.commit_journal.specs.Placed.{PlainBody, PlainPlaced}
+
+-- who reads a log: the owner with a key, a holder, or the owner who opens for writing
+pub data LogReader : Type 0 where
+  OwnerReads : (owner : List ℕ) → LogReader
+  HolderReads : LogReader
+  OwnerWrites : (owner : List ℕ) → LogReader
+
+-- ---- the header
+
+abbrev pub header_in : List ℕ → List ℕ
+header_in bytes = take 42 bytes
+
+abbrev pub IsStore : List ℕ → Type 0
+IsStore bytes = (42 ≤ length bytes) × (take 9 (header_in bytes) ≡ codes "CRYPTREE" ++ 1 ∷ [])
+
+-- the owner check is the key's, where the reader has the owner's key
+abbrev pub HasOwnerCheck : LogReader → List ℕ → Type 0
+HasOwnerCheck (OwnerReads owner) bytes = slice_range (header_in bytes) 9 41 ≡ check_of owner
+HasOwnerCheck HolderReads bytes = Unit {0}
+HasOwnerCheck (OwnerWrites owner) bytes = slice_range (header_in bytes) 9 41 ≡ check_of owner
+
+-- ---- a batch
+
+-- where a batch stands: its first byte, and how many bytes its payload has
+pub record Span : Type 0 where
+  pub start : ℕ
+  pub size : ℕ
+
+-- the bytes of the batch in a span, and what its first 13 say: its number, its epoch, and how many bytes its payload has
+abbrev pub batch_in : List ℕ → Span → List ℕ
+batch_in bytes s = take (110 + s.size) (drop s.start bytes)
+
+abbrev pub number_in : List ℕ → Span → ℕ
+number_in bytes s = (head_of (take 13 (drop s.start bytes))).number
+
+abbrev pub epoch_in : List ℕ → Span → Epoch
+epoch_in bytes s = (head_of (take 13 (drop s.start bytes))).epoch
+
+abbrev pub size_in : List ℕ → Span → ℕ
+size_in bytes s = (head_of (take 13 (drop s.start bytes))).size
+
+-- what is known at a place: the number and the epoch of the batch before it, its tag, and the gate
+pub record Known : Type 0 where
+  pub at : ℕ
+  pub number : ℕ
+  pub epoch : Epoch
+  pub tag : List ℕ
+  pub gate : ℕ
+
+-- that is read from the bytes of the batch; and the header has 0, 0, the owner check and its gate
+abbrev pub behind : List ℕ → Option Span → Known
+behind bytes None = record {
+  at = 42;
+  number = 0;
+  epoch = record { 0 = 0 };
+  tag = slice_range (header_in bytes) 9 41;
+  gate = slice_index (header_in bytes) 41;
+}
+behind bytes (Some s) = record {
+  at = s.start + (110 + s.size);
+  number = number_in bytes s;
+  epoch = epoch_in bytes s;
+  tag = tag_in s.size (batch_in bytes s);
+  gate = gate_in s.size (batch_in bytes s);
+}
+
+-- the span that follows another one, or the header: the gate before it is open, it begins where that one ends, and it is as long as
+-- its head says
+pub record Follows (bytes : List ℕ) (before : Option Span) (s : Span) : Type 0 where
+  pub opened : (behind bytes before).gate ≡ 1
+  pub start : s.start ≡ (behind bytes before).at
+  pub size : s.size ≡ size_in bytes s
+
+-- the four tests of it, in this order. A batch stands there
+abbrev pub IsBatch : List ℕ → Option Span → Span → Type 0
+IsBatch bytes before s = let k = behind bytes before in
+    is_batch (record { at = k.at; number = k.number; epoch = k.epoch; tag = k.tag; gate = k.gate }) (head_of (take 13 (drop s.start bytes)))
+    (length (drop s.start bytes)) ≡ true
+
+-- it has the owner tag, where the reader has the owner's key
+abbrev pub HasOwnerTag : LogReader → List ℕ → Option Span → Span → Type 0
+HasOwnerTag (OwnerReads owner) bytes before s = tag_due owner (behind bytes before).tag s.size (batch_in bytes s) ≡ tag_in s.size (batch_in bytes s)
+HasOwnerTag HolderReads bytes before s = Unit {0}
+HasOwnerTag (OwnerWrites owner) bytes before s = tag_due owner (behind bytes before).tag s.size (batch_in bytes s) ≡ tag_in s.size (batch_in bytes s)
+
+-- it is published: its slot makes its check. The owner who opens for writing doesn't ask
+abbrev pub MakesCheck : List ℕ → Span → Type 0
+MakesCheck bytes s = hmac (slot_in (batch_in bytes s)) (payload_in s.size (batch_in bytes s)) ≡ check_in s.size (batch_in bytes s)
+
+abbrev pub IsShown : LogReader → List ℕ → Span → Type 0
+IsShown (OwnerReads owner) bytes s = MakesCheck bytes s
+IsShown HolderReads bytes s = MakesCheck bytes s
+IsShown (OwnerWrites owner) bytes s = Unit {0}
+
+-- its payload has a form, unmasked with its slot, or with the veil key that the owner computes who opens for writing
+abbrev pub veil_in : LogReader → List ℕ → Span → List ℕ
+veil_in (OwnerReads owner) bytes s = slot_in (batch_in bytes s)
+veil_in HolderReads bytes s = slot_in (batch_in bytes s)
+veil_in (OwnerWrites owner) bytes s = veil_of owner (epoch_in bytes s).0 (number_in bytes s)
+
+abbrev pub body_in : LogReader → List ℕ → Span → Result PlainBody ℕ
+body_in who bytes s = body_of (head_of (take 13 (drop s.start bytes))) (masked (veil_in who bytes s) (payload_in s.size (batch_in bytes s)))
+
+-- a batch that passes all four, and what is read of it
+pub record Passes (who : LogReader) (bytes : List ℕ) (before : Option Span) (s : Span) (p : PlainPlaced) : Type 0 where
+  pub follows : Follows bytes before s
+  pub stands : IsBatch bytes before s
+  pub tagged : HasOwnerTag who bytes before s
+  pub shown : IsShown who bytes s
+  pub body : PlainBody
+  pub has_form : body_in who bytes s ≡ Ok body
+  pub is_read : p ≡ record { batch = number_in bytes s; epoch = epoch_in bytes s; place = s.start + 45; body = body }
+
+-- a batch at which a test fails, all before it having passed, and the fault
+pub data Fails (who : LogReader) (bytes : List ℕ) (before : Option Span) (s : Span) (fault : Fault) : Type 0 where
+  NoBatch : (IsBatch bytes before s → ⊥) → fault ≡ Damaged s.start → Fails who bytes before s fault
+  WrongTag : IsBatch bytes before s → (HasOwnerTag who bytes before s → ⊥)
+      → fault ≡ Tampered (number_in bytes s) (s.start + 77 + s.size) → Fails who bytes before s fault
+  WrongSlot : IsBatch bytes before s → HasOwnerTag who bytes before s → (IsShown who bytes s → ⊥) → (behind bytes (Some s)).gate ≡ 1
+      → fault ≡ Tampered (number_in bytes s) (s.start + 13) → Fails who bytes before s fault
+  NoForm : IsBatch bytes before s → HasOwnerTag who bytes before s → IsShown who bytes s → (place : ℕ) → body_in who bytes s ≡ Err place
+      → fault ≡ Damaged (s.start + 45 + place) → Fails who bytes before s fault
+
+-- a batch that ends the log: it isn't published, and the gate behind it is closed
+pub record IsHidden (who : LogReader) (bytes : List ℕ) (before : Option Span) (s : Span) : Type 0 where
+  pub follows : Follows bytes before s
+  pub stands : IsBatch bytes before s
+  pub tagged : HasOwnerTag who bytes before s
+  pub hidden : IsShown who bytes s → ⊥
+  pub closed : (behind bytes (Some s)).gate ≢ 1
+
+-- ---- the log
+
+-- these spans tile the bytes, one behind the other, and these batches are read in them, each passing every test
+abbrev pub AreRead : LogReader → List ℕ → Option Span → List Span → List PlainPlaced → Type 0
+AreRead who bytes before [] [] = Unit {0}
+AreRead who bytes before [] (p ∷ log) = ⊥
+AreRead who bytes before (s ∷ spans) [] = ⊥
+AreRead who bytes before (s ∷ spans) (p ∷ log) = Passes who bytes before s p × AreRead who bytes (Some s) spans log
+
+-- the last of them, if there is one
+abbrev pub last_of : Option Span → List Span → Option Span
+last_of before [] = before
+last_of before (s ∷ spans) = last_of (Some s) spans
+
+-- the log goes on behind a batch, or behind the header, with these spans and batches, and ends before a closed gate, or before a batch
+-- that is hidden; or the test of a batch behind them fails
+pub data AnswersBehind (who : LogReader) (bytes : List ℕ) (before : Option Span) (answer : Result (List PlainPlaced) Fault) : Type 0 where
+  Closed : (spans : List Span) (log : List PlainPlaced) → AreRead who bytes before spans log
+      → (behind bytes (last_of before spans)).gate ≢ 1 → answer ≡ Ok log → AnswersBehind who bytes before answer
+  Hidden : (spans : List Span) (log : List PlainPlaced) → AreRead who bytes before spans log
+      → (s : Span) → IsHidden who bytes (last_of before spans) s → answer ≡ Ok log → AnswersBehind who bytes before answer
+  Failed : (spans : List Span) (log : List PlainPlaced) → AreRead who bytes before spans log
+      → (s : Span) → Follows bytes (last_of before spans) s → (fault : Fault) → Fails who bytes (last_of before spans) s fault
+      → answer ≡ Err fault → AnswersBehind who bytes before answer
+
+-- what a store's bytes answer to who reads their log
+pub data IsAnswer (who : LogReader) (bytes : List ℕ) (answer : Result (List PlainPlaced) Fault) : Type 0 where
+  NoStore : (IsStore bytes → ⊥) → answer ≡ Err NotAStore → IsAnswer who bytes answer
+  OtherKey : IsStore bytes → (HasOwnerCheck who bytes → ⊥) → answer ≡ Err WrongKey → IsAnswer who bytes answer
+  FromHeader : IsStore bytes → HasOwnerCheck who bytes → AnswersBehind who bytes None answer → IsAnswer who bytes answer
