@@ -1,5 +1,5 @@
 -- An owner who answers a command goes on as the session does.
-use Rattle.std.proofs.Common.{◌≡◌, ◌⊎◌, ◌≤◌, ◌<◌, inl, inr, ℕ, ◌*◌, ◌+◌, suc, cond, List, [], ◌∷◌, ◌++◌, true, length, take, drop, Option, Some, None, Ok, arith, refl, sym, ap, subst, ◌∙◌, length-append}
+use Rattle.std.proofs.Common.{◌≡◌, ◌<◌, inl, inr, ℕ, ◌*◌, ◌+◌, suc, cond, List, [], ◌∷◌, ◌++◌, true, length, take, drop, Option, Some, None, Ok, arith, refl, sym, ap, subst, ◌∙◌, length-append}
 use Rattle.std.specs.Prelude.{All, is_some}
 use Rattle.std.proofs.Math.Seq.{take-append_seam, drop-append_seam}
 use Rattle.std.proofs.lemmas.Bool.{false≢true}
@@ -7,7 +7,6 @@ use Rattle.std.proofs.lemmas.List.{drop-drop}
 use Rattle.std.proofs.lemmas.List.Elements.{All-head, All-nil, All-tail}
 use Rattle.commit_journal.specs.Standing.{StandsWhole}
 use Rattle.cry_base.specs.Requests.{Request}
-use Rattle.cry_io.specs.Told.{WhereBothTold}
 use Rattle.public_fold.specs.Journal.Entry.{Session, Did}
 use Rattle.cry_base.specs.declared.commands.Refusal.{Refusal}
 use Rattle.cry_base.specs.declared.commands.Reply.{Reply}

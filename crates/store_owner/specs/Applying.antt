@@ -1,6 +1,6 @@
 -- What a command leaves of an owner and of the disk, and what is answered. This project's own, docs/FORMAT.md, "The key step"
 -- and "Committing".
-use Rattle.std.specs.Prelude.{◌≡◌, ◌⊎◌, ◌<◌, ◌≤◌, ℕ, ◌+◌, ◌*◌, true, false, not, cond, List, [], ◌++◌, drop, length, replicate, Option, Some, None, Result, Ok, Err, IsTrue, All, is_some}
+use Rattle.std.specs.Prelude.{◌≡◌, ◌⊎◌, ◌<◌, ◌≤◌, ℕ, ◌*◌, true, false, not, cond, List, [], ◌++◌, drop, length, replicate, Option, Some, None, Result, Ok, Err, IsTrue, All, is_some}
 use Rattle.std.specs.List.{flat_map}
 use Rattle.chacha_seal.specs.Keys.{KeyParts}
 use Rattle.chacha_seal.specs.Sealing.{check_of}
