@@ -1,21 +1,19 @@
 -- What a run leaves of a store that it refuses.
-use Rattle.std.proofs.Common.{◌≡◌, ◌≢◌, ◌⊎◌, ⊎_elim, inl, inr, ℕ, List, Option, None, Some, Result, Ok, Err, refl, sym, ap, ◌∙◌}
+use Rattle.std.proofs.Common.{◌≡◌, ◌≢◌, ◌⊎◌, ⊎_elim, inl, inr, ℕ, List, Option, None, Some, refl, sym, ap, ◌∙◌}
 use Rattle.std.specs.Prelude.{IsTrue}
 use Rattle.std.proofs.lemmas.Bool.{false≢true}
 use Rattle.commit_journal.specs.Reading.{IsUntouched}
 use Rattle.commit_journal.specs.declared.fault.OpenFault.{OpenFault}
 use Rattle.commit_journal.specs.declared.fault.OpenFault.TheVariants as opening
-use Rattle.cry_io.specs.Stops.{IsDurable}
-use Rattle.cry_io.specs.Told.{WhereTold, WhereBothTold}
-use Rattle.cryptree_cli.specs.Refusing.{LeavesTyped, Refuses, is_refusal}
+use Rattle.cry_io.specs.Told.{WhereTold}
+use Rattle.cryptree_cli.specs.Refusing.{LeavesTyped, is_refusal}
 use Rattle.cryptree_cli.specs.Running.{Judges, key_in_lines, lines_in, open_status, script_status}
 use Rattle.cryptree_cli.specs.Script.{IsReading}
 use Rattle.cryptree_cli.specs.declared.script.ScriptFault.{ScriptFault}
 use Rattle.cryptree_cli.specs.declared.script.ScriptFault.TheVariants.{BadLine, ReadFault, WriteFault, OutOfMemory, Applying}
 use Rattle.cryptree_cli.specs.declared.status.Status.{Status}
 use Rattle.cryptree_cli.specs.declared.status.Status.TheVariants as statuses
-use Rattle.holder_client.specs.Judging.{Failure}
-use Rattle.store_owner.specs.Opened.{IsFilled, LeavesRefused}
+use Rattle.store_owner.specs.Opened.{LeavesRefused}
 
 -- no store is refused before its first line was read
 pub reading_refuses_none : {P : Type 0} (fault : ScriptFault) → IsReading fault → IsTrue (is_refusal (script_status fault)) → P

@@ -1,10 +1,10 @@
-use Rattle.std.proofs.Common.{◌≡◌, inl, inr, length, None, Some, Err, Ok, refl, sym, ap, subst, ◌∙◌}
+use Rattle.std.proofs.Common.{◌≡◌, inl, inr, length, None, Err, Ok, refl, sym, ap, subst, ◌∙◌}
 use Rattle.std.specs.Prelude.{IsTrue}
 use Rattle.journal_bytes.specs.Bytes.{image_of}
 use Rattle.journal_bytes.specs.Journals.{StandsForJournal}
 use Rattle.cryptree_cli.specs.Lines.{lines_ahead}
 use Rattle.cryptree_cli.specs.Refusing.{is_refusal}
-use Rattle.cryptree_cli.specs.Running.{Ends, FirstIsBad, Judges, KeepsFrom, RanLines, ReadsWhole, Seen, key_in_lines, lines_behind, lines_in, lines_typed, open_status, version_limits}
+use Rattle.cryptree_cli.specs.Running.{Ends, FirstIsBad, Judges, KeepsFrom, RanLines, ReadsWhole, Seen, lines_behind, lines_in, lines_typed, open_status, version_limits}
 use Rattle.cryptree_cli.proofs.LinesRun.{bad_is_never_done, lines_as_typed, unopened_lines, unread_lines}
 use Rattle.cryptree_cli.proofs.ReadFaults.{cut_first, unopened_reads_none}
 use Rattle.cryptree_cli.proofs.RefusedRuns.{leaves_unopened, opened_refuses_none, reading_refuses_none, refusal_is_other, untouched}
