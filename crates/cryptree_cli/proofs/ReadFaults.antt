@@ -1,10 +1,10 @@
 -- What was taken of an input that failed: whole lines that were asked, and the front of one that had not ended.
-use Rattle.std.proofs.Common.{◌≡◌, inl, ℕ, List, ◌++◌, Option, Result, Ok, Err, refl, sym, ap, subst, ◌∙◌}
+use Rattle.std.proofs.Common.{◌≡◌, inl, ℕ, List, ◌++◌, Option, Err, refl, sym, ap, subst, ◌∙◌}
 use Rattle.cry_base.specs.Requests.{Request}
 use Rattle.cry_base.specs.declared.commands.Reply.{Reply}
 use Rattle.cry_io.specs.Told.{WhereBothTold}
 use Rattle.cryptree_cli.specs.Lines.{InputLine, IsUnended, LineState, lines_ahead, lines_of}
-use Rattle.cryptree_cli.specs.Running.{GivesOwner, ReadsWhole, ReadsWholeTyped, lines_in, open_status, script_status}
+use Rattle.cryptree_cli.specs.Running.{GivesOwner, ReadsWhole, ReadsWholeTyped, open_status, script_status}
 use Rattle.cryptree_cli.specs.Script.{Asks, Ran}
 use Rattle.cryptree_cli.specs.declared.script.ScriptFault.{ScriptFault}
 use Rattle.cryptree_cli.specs.declared.script.ScriptFault.TheVariants.{BadLine, ReadFault, WriteFault, OutOfMemory, Applying}

@@ -1,5 +1,5 @@
 -- How the lines of a run end, on a disk that shows a journal.
-use Rattle.std.proofs.Common.{◌≡◌, ◌≢◌, ⊎_elim, ℕ, drop, List, [], ◌∷◌, ◌++◌, length, map, ◌+◌, Option, Some, None, Result, Ok, Err, inr, append_assoc, arith, refl, sym, ap, subst, ◌∙◌}
+use Rattle.std.proofs.Common.{◌≡◌, ◌≢◌, ⊎_elim, ℕ, drop, List, [], ◌∷◌, ◌++◌, length, map, ◌+◌, ◌*◌, Option, Some, None, Result, Ok, Err, inr, append_assoc, arith, refl, sym, ap, subst, ◌∙◌}
 use Rattle.std.specs.Prelude.{is_some}
 use Rattle.std.proofs.lemmas.Bool.{false≢true}
 use Rattle.std.proofs.lemmas.List.{map-append}
@@ -9,22 +9,26 @@ use Rattle.commit_journal.specs.Standing.{StandsWhole}
 use Rattle.cry_base.specs.Requests.{Request}
 use Rattle.cry_base.specs.declared.commands.Reply.{Reply}
 use Rattle.cry_base.specs.declared.limits.Limits.{Limits}
+use Rattle.cry_io.specs.Stops.{IsDurable}
 use Rattle.cry_io.specs.Told.{WhereBothTold}
+use Rattle.cry_io.proofs.ToldLemmas.{both_told_through}
 use Rattle.journal_bytes.specs.Bytes.{batches_of, image_of}
 use Rattle.journal_bytes.specs.Journals.{StandsForJournal}
-use Rattle.journal_bytes.specs.Script.{Going, answer, journal_then, opened, script_replies}
+use Rattle.journal_bytes.specs.Script.{Going, answer, draws_of, journal_then, opened}
 use Rattle.script_text.specs.Commands.{request_in}
 use Rattle.cryptree_cli.specs.Lines.{InputLine, LineState, lines_ahead}
 use Rattle.cryptree_cli.specs.Lines.InputLine.{Whole}
 use Rattle.cryptree_cli.specs.OwnerSteps.{AnswersIn, FailsIn, Scene}
-use Rattle.cryptree_cli.specs.Running.{Ends, HasRun, IsAccepted, KeepsBehind, KeepsFrom, LeavesAt, PrintsScript, RanCut, RanShort, RanUndrawn, RanUnwritten, ended_status, going_asked}
+use Rattle.cryptree_cli.specs.Running.{Ends, HasRun, KeepsBehind, KeepsFrom, LeavesAt, PrintsThese, RanCut, RanShort, RanTo, RanUndrawn, RanUnwritten, Seen, SessionOver, ended_status}
 use Rattle.cryptree_cli.specs.Script.{Answered, Asks, IsBadFirst, PrintsCut, Ran, spell_replies}
 use Rattle.cryptree_cli.specs.declared.script.ScriptFault.{ScriptFault}
 use Rattle.cryptree_cli.specs.declared.script.ScriptFault.TheVariants.{BadLine, ReadFault, WriteFault, OutOfMemory, Applying}
-use Rattle.cryptree_cli.proofs.AnsweredScripts.{IsScene, answered_script, behind_kept}
+use Rattle.cryptree_cli.proofs.AnsweredScripts.{IsScene, answered_script, joined_more, told_stays}
 use Rattle.cryptree_cli.proofs.ScriptLemmas.{whole_is_cut}
 use Rattle.public_fold.specs.Journal.{Journal}
 use Rattle.store_owner.proofs.OwnerGoesOn.{drops_more}
+use Rattle.store_owner.specs.Applying.{Answers}
+use Rattle.store_owner.specs.Drawing.{joined}
 use Rattle.store_owner.specs.Owned.{limits_in}
 use Rattle.store_owner.specs.declared.apply_fault.ApplyFault.{ApplyFault}
 use Rattle.store_owner.specs.declared.apply_fault.ApplyFault.TheVariants as faults
@@ -32,10 +36,6 @@ use Rattle.store_owner.specs.declared.apply_fault.ApplyFault.TheVariants as faul
 pub still_told : (after before : Option (List ℕ)) (x : List ℕ) → is_some after ≡ is_some before → before ≡ Some x → (y : List ℕ) × (after ≡ Some y)
 still_told (Some y) before x same e = (y, refl)
 still_told None before x same e = absurd (false≢true (same ∙ ap is_some e))
-
-leaves_at : (limits : Limits) (key : List ℕ) (m : Journal) (was : Option (List ℕ)) (g : Going) (x : Scene) → IsScene limits key g x → KeepsBehind key m g.journal was x.shown
-    → LeavesAt key m was g x.left x.shown
-leaves_at limits key m was g x stands keeps = record { draws_left = stands.has_draws; shows_whole = stands.disk_stands; keeps = keeps }
 
 -- where the log of an owner ends
 end_at : (limits : Limits) (key : List ℕ) (g : Going) (x : Scene) → IsScene limits key g x → x.owner.journal.end ≡ length (image_of key g.journal) + 1
@@ -46,7 +46,7 @@ end_at limits key g x stands =
     ∙ ap (λ k. length (image key (batches_of k g.journal)) + 1) stands.has_key
 
 accepted_there : (limits : Limits) (key : List ℕ) (g : Going) (x : Scene) (r : Request) → IsScene limits key g x
-    → answer (limits_in x.owner) g.journal x.owner.journal.has_epoch r ≡ None → IsAccepted limits g r
+    → answer (limits_in x.owner) g.journal x.owner.journal.has_epoch r ≡ None → answer limits g.journal g.begun r ≡ None
 accepted_there limits key g x r stands e =
     subst (λ (l : Limits). answer l g.journal g.begun r ≡ None) stands.has_limits (subst (λ b. answer (limits_in x.owner) g.journal b r ≡ None) stands.has_begun e)
 
@@ -77,242 +77,314 @@ asks_fewer asked next before after asks =
       },
     )
 
+-- a stop leaves what is shown, unless the last command met a fault of the disk
+abbrev pub IsCalm : (List ℕ → Type 0) → Option (List ℕ) → Result (Unit {0}) ScriptFault → Type 0
+IsCalm may_leave shown (Err (Applying faults.DiskFault)) = Unit {0}
+IsCalm may_leave shown result = IsDurable may_leave shown
+
 module _ (X : Type 0) (scene : X → Scene) (Step : X → Request → Reply → X → Type 0) (Fails : X → Request → ApplyFault → X → Type 0)
     (is : (x : X) (r : Request) (reply : Reply) (y : X) → Step x r reply y → AnswersIn (scene x) r reply (scene y))
     (fails : (x : X) (r : Request) (fault : ApplyFault) (y : X) → Fails x r fault y → FailsIn (scene x) r fault (scene y))
-    (limits : Limits) (key : List ℕ) (m : Journal) (draws : List ℕ) (start end : X) (stands : IsScene limits key (opened m draws) (scene start))
-    (first_shown : Option (List ℕ)) (first_kept : KeepsFrom (length (image_of key m)) first_shown (scene start).shown)
+    (limits : Limits) (key : List ℕ) (m : Journal) (start end : X) (stands : IsScene limits key (opened m []) (scene start))
+    (first_shown : Option (List ℕ)) (first_kept : KeepsFrom (length (image_of key m)) first_shown (scene start).shown) (may_leave : List ℕ → Type 0)
     (old new : LineState) (left_before left_after out_before out_after : Option (List ℕ)) (b a : List ℕ) (was : left_before ≡ Some b) (now : left_after ≡ Some a) where
-  at : (asked : List Request) (given : List Reply) (x : X) → Answered Step start asked given x
-      → (given ≡ script_replies limits (opened m draws) asked) × IsScene limits key (going_asked limits m draws asked) (scene x)
-  at = answered_script X scene Step is start limits key (opened m draws) stands
+  abbrev HasRan : Result (Unit {0}) ScriptFault → Type 0
+  HasRan result = Ran Step Fails result start end old new left_before left_after out_before out_after
 
-  keeps : (asked : List Request) (given : List Reply) (x : X) → Answered Step start asked given x → KeepsBehind key m (going_asked limits m draws asked).journal first_shown (scene x).shown
+  abbrev ended : Seen
+  ended = record {
+    left_before = (scene start).left;
+    left_after = (scene end).left;
+    was = first_shown;
+    shown = (scene end).shown;
+    written_before = out_before;
+    written_after = out_after;
+  }
+
+  abbrev Calm : Type 0
+  Calm = IsDurable may_leave (scene end).shown
+
+  -- where the session stands once this was answered
+  pub record StandsThere (asked : List Request) (given : List Reply) (x : X) : Type 0 where
+    pub at : Going
+    pub session : SessionOver limits m asked
+    pub same_now : session.now ≡ at.journal
+    pub same_begun : session.begun ≡ at.begun
+    pub same_replies : session.replies ≡ given
+    pub drew : WhereBothTold (scene start).left (scene x).left (λ y z. y ≡ joined session.drawn ++ z)
+    pub there : IsScene limits key at (scene x)
+    pub keeps : KeepsBehind key m session.now first_shown (scene x).shown
+    pub left_told : is_some (scene x).left ≡ is_some (scene start).left
+
+  stands_there : (asked : List Request) (given : List Reply) (x : X) → Answered Step start asked given x → StandsThere asked given x
   unfolding opened
-  keeps asked given x answered =
-      let g = going_asked limits m draws asked in
-      let there = (at asked given x answered).1 in
-      let tail = behind_kept X scene Step is start limits key (opened m draws) stands asked given x answered in
+  stands_there asked given x answered =
+      let went = answered_script X scene Step is start limits key (opened m []) stands asked given x answered in
+      let g : Going = went.0 in
+      let there = went.2 in
+      let tail = went.3 in
       let n = length (image_of key m) in
-      let ended = end_at limits key g (scene x) there in
-      let began = end_at limits key (opened m draws) (scene start) stands in
-      let opened_end = (scene start).owner.journal.end in
+      let log_end = end_at limits key g (scene x) there in
+      let began = end_at limits key (opened m []) (scene start) stands in
       record {
-        behind = λ a y e f.
-            let s = stands.disk_stands.0 in
-            subst (λ k. drop k y ≡ drop k a) ended
-            (tail.0 s y stands.disk_stands.1 f ∙ drops_more n (scene x).owner.journal.end a s (omega (arith, began, tail.1)) (first_kept a s e stands.disk_stands.1));
-        unchanged = λ same.
-            let long = ap (λ (j : Journal). length j) same in
-            ⊎_elim
-            (λ (shown : (scene x).shown ≡ (scene start).shown). subst (λ o. KeepsFrom n first_shown o) (sym shown) first_kept)
-            (λ longer. absurd (let none : ⊥ = omega (arith, longer, long) in none)) tail.3;
+        at = g;
+        session = record {
+          drawn = went.1.drawn;
+          drawn_sizes = went.1.drawn_sizes;
+          replies = given;
+          now = g.journal;
+          begun = g.begun;
+          goes = went.1.goes;
+          replied = went.1.replied;
+        };
+        same_now = refl;
+        same_begun = refl;
+        same_replies = refl;
+        drew = went.1.next_bytes;
+        there = there;
+        keeps = record {
+          behind = λ c y e f.
+              let s = stands.disk_stands.0 in
+              subst (λ k. drop k y ≡ drop k c) log_end
+              (tail.behind s y stands.disk_stands.1 f ∙ drops_more n (scene x).owner.journal.end c s (omega (arith, began, tail.further)) (first_kept c s e stands.disk_stands.1));
+          unchanged = λ same.
+              let long = ap (λ (j : Journal). length j) same in
+              ⊎_elim
+              (λ (shown : (scene x).shown ≡ (scene start).shown). subst (λ o. KeepsFrom n first_shown o) (sym shown) first_kept)
+              (λ longer. absurd (let none : ⊥ = omega (arith, longer, long) in none)) tail.unchanged;
+        };
+        left_told = (told_stays X scene Step is start asked given x answered).0;
       }
 
-  whole : (asked : List Request) (given : List Reply) → given ≡ script_replies limits (opened m draws) asked
-      → WhereBothTold out_before out_after (λ x y. y ≡ x ++ spell_replies given) → WhereBothTold out_before out_after (PrintsScript limits m draws asked)
-  whole asked given same printed = λ x y before after. printed x y before after ∙ ap (λ rs. x ++ spell_replies rs) same
+  leaves : (asked : List Request) (given : List Reply) (s : StandsThere asked given end) → Calm → LeavesAt key m s.session.now ended may_leave
+  leaves asked given s calm = record {
+    shows_whole = (s.there.disk_stands.0, s.there.disk_stands.1, subst (λ (j : Journal). StandsWhole key (batches_of key j) s.there.disk_stands.0) (sym s.same_now) s.there.disk_stands.2);
+    none_pending = calm;
+    keeps = s.keeps;
+  }
 
-  cut : (asked : List Request) (given : List Reply) → given ≡ script_replies limits (opened m draws) asked
-      → WhereBothTold out_before out_after (PrintsCut given) → WhereBothTold out_before out_after (PrintsCut (script_replies limits (opened m draws) asked))
-  cut asked given same printed = λ x y before after. subst (λ rs. PrintsCut rs x y) same (printed x y before after)
+  printed : (asked : List Request) (given : List Reply) (x : X) (s : StandsThere asked given x) → WhereBothTold out_before out_after (λ y z. z ≡ y ++ spell_replies given)
+      → PrintsThese s.session.replies ended
+  printed asked given x s prints = subst (λ (rs : List Reply). PrintsThese rs ended) (sym s.same_replies) prints
 
-  pub ran_all : Ran Step Fails (Ok tt) start end old new left_before left_after out_before out_after → HasRun limits key m draws (lines_ahead old b) [] first_shown (scene end).left (scene end).shown out_before out_after
-  ran_all ran =
-      let there = at ran.asked ran.replies end ran.stands in
+  pub ran_all : HasRan (Ok tt) → Calm → HasRun limits key m (lines_ahead old b) [] ended may_leave
+  ran_all ran calm =
+      let s = stands_there ran.asked ran.replies end ran.stands in
       record {
         asked = ran.asked;
         asks = (ran.lines b a was now).0;
-        leaves = leaves_at limits key m first_shown _ (scene end) there.1 (keeps ran.asked ran.replies end ran.stands);
-        prints = whole ran.asked ran.replies there.0 ran.printed;
+        session = s.session;
+        draws = s.drew;
+        leaves = leaves ran.asked ran.replies s calm;
+        prints = printed ran.asked ran.replies end s ran.printed;
       }
 
-  pub ran_to_bad : (line : ℕ) → Ran Step Fails (Err (BadLine line)) start end old new left_before left_after out_before out_after → old.given ≡ 1
-      → (rest : List InputLine) × IsBadFirst rest × (run : HasRun limits key m draws (lines_ahead old b) rest first_shown (scene end).left (scene end).shown out_before out_after) × (line ≡ length run.asked + 2)
-  ran_to_bad line ran first =
-      let there = at ran.asked ran.replies end ran.stands in
+  pub ran_to_bad : (line : ℕ) → HasRan (Err (BadLine line)) → old.given ≡ 1 → Calm
+      → (rest : List InputLine) × IsBadFirst rest × (run : HasRun limits key m (lines_ahead old b) rest ended may_leave) × (line ≡ length run.asked + 2)
+  ran_to_bad line ran first calm =
+      let s = stands_there ran.asked ran.replies end ran.stands in
       let taken = ran.lines b a was now in (
         taken.0,
         taken.2,
         record {
           asked = ran.asked;
           asks = taken.1;
-          leaves = leaves_at limits key m first_shown _ (scene end) there.1 (keeps ran.asked ran.replies end ran.stands);
-          prints = whole ran.asked ran.replies there.0 ran.printed;
+          session = s.session;
+          draws = s.drew;
+          leaves = leaves ran.asked ran.replies s calm;
+          prints = printed ran.asked ran.replies end s ran.printed;
         },
         omega (arith, ran.number, first),
       )
 
-  pub ran_to_fault : Ran Step Fails (Err ReadFault) start end old new left_before left_after out_before out_after
-      → (rest : List InputLine) × HasRun limits key m draws (lines_ahead old b) rest first_shown (scene end).left (scene end).shown out_before out_after
-  ran_to_fault ran =
-      let there = at ran.asked ran.replies end ran.stands in (
+  pub ran_to_fault : HasRan (Err ReadFault) → Calm → (rest : List InputLine) × HasRun limits key m (lines_ahead old b) rest ended may_leave
+  ran_to_fault ran calm =
+      let s = stands_there ran.asked ran.replies end ran.stands in (
         lines_ahead new a,
         record {
           asked = ran.asked;
           asks = ran.lines b a was now;
-          leaves = leaves_at limits key m first_shown _ (scene end) there.1 (keeps ran.asked ran.replies end ran.stands);
-          prints = whole ran.asked ran.replies there.0 ran.printed;
+          session = s.session;
+          draws = s.drew;
+          leaves = leaves ran.asked ran.replies s calm;
+          prints = printed ran.asked ran.replies end s ran.printed;
         },
       )
 
-  pub ran_cut : Ran Step Fails (Err WriteFault) start end old new left_before left_after out_before out_after
-      → RanCut limits key m draws (lines_ahead old b) first_shown (scene end).left (scene end).shown out_before out_after
-  ran_cut ran =
-      let there = at ran.asked ran.replies end ran.stands in
+  cut : (asked : List Request) (given : List Reply) (x : X) (s : StandsThere asked given x) → WhereBothTold out_before out_after (PrintsCut given)
+      → WhereBothTold out_before out_after (PrintsCut s.session.replies)
+  cut asked given x s prints = λ y z before after. subst (λ rs. PrintsCut rs y z) (sym s.same_replies) (prints y z before after)
+
+  pub ran_cut : HasRan (Err WriteFault) → Calm → RanCut limits key m (lines_ahead old b) ended may_leave
+  ran_cut ran calm =
+      let s = stands_there ran.asked ran.replies end ran.stands in
       record {
         asked = ran.asked;
         rest = lines_ahead new a;
         asks = ran.lines b a was now;
-        leaves = leaves_at limits key m first_shown _ (scene end) there.1 (keeps ran.asked ran.replies end ran.stands);
-        prints = cut ran.asked ran.replies there.0 ran.printed;
+        session = s.session;
+        draws = s.drew;
+        leaves = leaves ran.asked ran.replies s calm;
+        prints = cut ran.asked ran.replies end s ran.printed;
       }
 
-  pub ran_out : Ran Step Fails (Err OutOfMemory) start end old new left_before left_after out_before out_after
-      → RanCut limits key m draws (lines_ahead old b) first_shown (scene end).left (scene end).shown out_before out_after
-  ran_out ran =
-      let there = at ran.asked ran.replies end ran.stands in
+  pub ran_out : HasRan (Err OutOfMemory) → Calm → RanCut limits key m (lines_ahead old b) ended may_leave
+  ran_out ran calm =
+      let s = stands_there ran.asked ran.replies end ran.stands in
       let taken = ran.lines b a was now in
       record {
         asked = ran.asked;
         rest = taken.0;
         asks = taken.1;
-        leaves = leaves_at limits key m first_shown _ (scene end) there.1 (keeps ran.asked ran.replies end ran.stands);
-        prints = cut ran.asked ran.replies there.0 ran.printed;
+        session = s.session;
+        draws = s.drew;
+        leaves = leaves ran.asked ran.replies s calm;
+        prints = cut ran.asked ran.replies end s ran.printed;
       }
 
   -- where the last command met a fault: the session that it met, and what was replied before it
   pub record Stopped (fault : ApplyFault) : Type 0 where
     pub asked : List Request
+    pub given : List Reply
     pub next : Request
     pub x : X
-    pub there : IsScene limits key (going_asked limits m draws asked) (scene x)
-    pub kept_there : KeepsBehind key m (going_asked limits m draws asked).journal first_shown (scene x).shown
+    pub s : StandsThere asked given x
     pub failed : FailsIn (scene x) next fault (scene end)
     pub asks : Asks (asked ++ next ∷ []) (lines_ahead old b) (lines_ahead new a)
-    pub prints : WhereBothTold out_before out_after (PrintsScript limits m draws asked)
+    pub prints : PrintsThese s.session.replies ended
 
-  stopped : (fault : ApplyFault) → Ran Step Fails (Err (Applying fault)) start end old new left_before left_after out_before out_after → Stopped fault
+  stopped : (fault : ApplyFault) → HasRan (Err (Applying fault)) → Stopped fault
   stopped fault ran =
       let x : X = ran.stands.0 in
       let asked : List Request = ran.stands.1 in
       let next : Request = ran.stands.2 in
-      let there = at asked ran.replies x ran.stands.4 in
+      let s = stands_there asked ran.replies x ran.stands.4 in
       record {
         asked = asked;
+        given = ran.replies;
         next = next;
         x = x;
-        there = there.1;
-        kept_there = keeps asked ran.replies x ran.stands.4;
+        s = s;
         failed = fails x next fault end ran.stands.5;
         asks = subst (λ rs. Asks rs (lines_ahead old b) (lines_ahead new a)) ran.stands.3 (ran.lines b a was now);
-        prints = whole asked ran.replies there.0 ran.printed;
+        prints = printed asked ran.replies x s ran.printed;
       }
 
-  accepted : (fault : ApplyFault) (s : Stopped fault) → answer (limits_in (scene s.x).owner) (going_asked limits m draws s.asked).journal (scene s.x).owner.journal.has_epoch s.next ≡ None
-      → IsAccepted limits (going_asked limits m draws s.asked) s.next
-  accepted fault s e = accepted_there limits key (going_asked limits m draws s.asked) (scene s.x) s.next s.there e
+  -- the command is accepted where the owner stands, and so where the session does
+  abbrev AcceptedThere : (fault : ApplyFault) → Stopped fault → Type 0
+  AcceptedThere fault t = answer (limits_in (scene t.x).owner) t.s.at.journal (scene t.x).owner.journal.has_epoch t.next ≡ None
 
-  unchanged : (fault : ApplyFault) (s : Stopped fault) → fault ≢ faults.DiskFault
-      → (bytes : List ℕ) × ((scene end).shown ≡ Some bytes) × StandsWhole key (batches_of key (going_asked limits m draws s.asked).journal) bytes
-  unchanged fault s other = (s.there.disk_stands.0, s.failed.unwritten other ∙ s.there.disk_stands.1, s.there.disk_stands.2)
+  accepted : (fault : ApplyFault) (t : Stopped fault) → AcceptedThere fault t → answer limits t.s.session.now t.s.session.begun t.next ≡ None
+  accepted fault t e =
+      subst (λ (j : Journal). answer limits j t.s.session.begun t.next ≡ None) (sym t.s.same_now)
+      (subst (λ h. answer limits t.s.at.journal h t.next ≡ None) (sym t.s.same_begun) (accepted_there limits key t.s.at (scene t.x) t.next t.s.there e))
 
-  kept_on : (fault : ApplyFault) (s : Stopped fault) → fault ≢ faults.DiskFault → KeepsBehind key m (going_asked limits m draws s.asked).journal first_shown (scene end).shown
-  kept_on fault s other = subst (λ o. KeepsBehind key m (going_asked limits m draws s.asked).journal first_shown o) (sym (s.failed.unwritten other)) s.kept_there
+  abbrev ran_to : (fault : ApplyFault) (t : Stopped fault) → AcceptedThere fault t → RanTo limits m (lines_ahead old b) ended
+  ran_to fault t e = record {
+    asked = t.asked;
+    next = t.next;
+    rest = lines_ahead new a;
+    asks = t.asks;
+    session = t.s.session;
+    is_accepted = accepted fault t e;
+    prints = t.prints;
+  }
 
-  pub ran_short : (given need : ℕ) → Ran Step Fails (Err (Applying (faults.RandomShort given need))) start end old new left_before left_after out_before out_after
-      → RanShort limits key m draws (lines_ahead old b) given need first_shown (scene end).left (scene end).shown out_before out_after
-  ran_short given need ran =
-      let s = stopped (faults.RandomShort given need) ran in
-      let told = s.failed.answers (going_asked limits m draws s.asked).journal s.there.owner_is in
-      let left = still_told (scene end).left (scene s.x).left (going_asked limits m draws s.asked).draws s.failed.left_told s.there.has_draws in
+  -- a fault that isn't the disk's leaves what is shown
+  leaves_still : (fault : ApplyFault) (t : Stopped fault) → fault ≢ faults.DiskFault → Calm → LeavesAt key m t.s.session.now ended may_leave
+  leaves_still fault t other calm =
+      let same = t.failed.unwritten other in
+      let stood = t.s.there.disk_stands in
       record {
-        asked = s.asked;
-        next = s.next;
-        rest = lines_ahead new a;
-        asks = s.asks;
-        is_accepted = accepted _ s told.0;
-        is_need = told.2;
-        is_given = sym (told.4 (going_asked limits m draws s.asked).draws s.there.has_draws);
+        shows_whole = (stood.0, same ∙ stood.1, subst (λ (j : Journal). StandsWhole key (batches_of key j) stood.0) (sym t.s.same_now) stood.2);
+        none_pending = calm;
+        keeps = subst (λ o. KeepsBehind key m t.s.session.now first_shown o) (sym same) t.s.keeps;
+      }
+
+  answers_there : (fault : ApplyFault) (t : Stopped fault)
+      → Answers (Err fault) t.s.at.journal t.next (scene t.x).owner (scene end).owner (scene t.x).left (scene end).left (scene t.x).shown (scene end).shown
+  answers_there fault t = t.failed.answers t.s.at.journal t.s.there.owner_is
+
+  pub ran_short : (given need : ℕ) → HasRan (Err (Applying (faults.RandomShort given need))) → Calm → RanShort limits key m (lines_ahead old b) given need ended may_leave
+  ran_short given need ran calm =
+      let t = stopped (faults.RandomShort given need) ran in
+      let told = answers_there (faults.RandomShort given need) t in
+      record {
+        ran = ran_to (faults.RandomShort given need) t told.0;
+        is_need = told.2 ∙ ap (λ (j : Journal). 32 * draws_of j t.next) (sym t.s.same_now);
         is_short = told.3;
-        nothing_left = left.1 ∙ ap Some (told.5 left.0 left.1);
-        shows_whole = unchanged _ s (λ e. absurd cc);
-        keeps = kept_on _ s (λ e. absurd cc);
-        prints = s.prints;
+        were_left = λ x first.
+            let middle = still_told (scene t.x).left (scene start).left x t.s.left_told first in
+            (middle.0, t.s.drew x middle.0 first middle.1, told.4 middle.0 middle.1);
+        nothing_left = told.5;
+        leaves = leaves_still (faults.RandomShort given need) t (λ e. absurd cc) calm;
       }
 
-  pub ran_undrawn : Ran Step Fails (Err (Applying faults.RandomFault)) start end old new left_before left_after out_before out_after
-      → RanUndrawn limits key m draws (lines_ahead old b) first_shown (scene end).shown out_before out_after
-  ran_undrawn ran =
-      let s = stopped faults.RandomFault ran in
+  pub ran_undrawn : HasRan (Err (Applying faults.RandomFault)) → Calm → RanUndrawn limits key m (lines_ahead old b) ended may_leave
+  ran_undrawn ran calm =
+      let t = stopped faults.RandomFault ran in
       record {
-        asked = s.asked;
-        next = s.next;
-        rest = lines_ahead new a;
-        asks = s.asks;
-        is_accepted = accepted _ s (s.failed.answers (going_asked limits m draws s.asked).journal s.there.owner_is).0;
-        shows_whole = unchanged _ s (λ e. absurd cc);
-        keeps = kept_on _ s (λ e. absurd cc);
-        prints = s.prints;
+        ran = ran_to faults.RandomFault t (answers_there faults.RandomFault t).0;
+        drew = λ x first.
+            let middle = still_told (scene t.x).left (scene start).left x t.s.left_told first in
+            (middle.0, t.s.drew x middle.0 first middle.1);
+        leaves = leaves_still faults.RandomFault t (λ e. absurd cc) calm;
       }
 
-  pub ran_unwritten : Ran Step Fails (Err (Applying faults.DiskFault)) start end old new left_before left_after out_before out_after
-      → RanUnwritten limits key m draws (lines_ahead old b) (scene end).left (scene end).shown out_before out_after
+  pub ran_unwritten : HasRan (Err (Applying faults.DiskFault)) → RanUnwritten limits key m (lines_ahead old b) ended
   ran_unwritten ran =
-      let s = stopped faults.DiskFault ran in
-      let g = going_asked limits m draws s.asked in
-      let met = s.failed.answers g.journal s.there.owner_is in
-      let cut = met.2 in
-      let left = still_told (scene end).left (scene s.x).left g.draws s.failed.left_told s.there.has_draws in
-      let bytes = still_told (scene end).shown (scene s.x).shown s.there.disk_stands.0 s.failed.shown_told s.there.disk_stands.1 in
-      let owner = (scene s.x).owner in
-      let stands : StandsWhole owner.key (batches_of owner.key g.journal) s.there.disk_stands.0 =
-      subst (λ k. StandsWhole k (batches_of k g.journal) s.there.disk_stands.0) (sym s.there.has_key) s.there.disk_stands.2 in
-      let between = cut.disk_stands s.there.disk_stands.0 bytes.0 s.there.disk_stands.1 bytes.1 stands in
+      let t = stopped faults.DiskFault ran in
+      let met = answers_there faults.DiskFault t in
+      let cut_short = met.2 in
+      let bytes = still_told (scene end).shown (scene t.x).shown t.s.there.disk_stands.0 t.failed.shown_told t.s.there.disk_stands.1 in
+      let owner = (scene t.x).owner in
+      let whole : StandsWhole owner.key (batches_of owner.key t.s.at.journal) t.s.there.disk_stands.0 =
+      subst (λ k. StandsWhole k (batches_of k t.s.at.journal) t.s.there.disk_stands.0) (sym t.s.there.has_key) t.s.there.disk_stands.2 in
+      let between = cut_short.disk_stands t.s.there.disk_stands.0 bytes.0 t.s.there.disk_stands.1 bytes.1 whole in
+      let keyed = subst (λ k. IsBetween (StandsForJournal k) t.s.at.journal (journal_then t.s.at.journal owner.journal.has_epoch t.next cut_short.drawn) bytes.0) t.s.there.has_key between in
+      let went = subst (λ h. IsBetween (StandsForJournal key) t.s.at.journal (journal_then t.s.at.journal h t.next cut_short.drawn) bytes.0) (t.s.there.has_begun ∙ sym t.s.same_begun) keyed in
       record {
-        asked = s.asked;
-        next = s.next;
-        rest = lines_ahead new a;
-        drawn = cut.drawn;
-        asks = s.asks;
-        is_accepted = accepted _ s met.0;
-        drawn_count = cut.drawn_count;
-        draws_left = (left.0, left.1, cut.next_bytes g.draws left.0 s.there.has_draws left.1);
+        ran = ran_to faults.DiskFault t met.0;
+        last = cut_short.drawn;
+        last_count = cut_short.drawn_count ∙ ap (λ (j : Journal). draws_of j t.next) (sym t.s.same_now);
+        last_sizes = cut_short.drawn_sizes;
+        draws = both_told_through (scene start).left (scene t.x).left (scene end).left (λ x y. x ≡ joined t.s.session.drawn ++ y) (λ y z. y ≡ joined cut_short.drawn ++ z)
+            (λ x z. x ≡ joined (t.s.session.drawn ++ cut_short.drawn) ++ z) t.s.left_told t.s.drew cut_short.next_bytes
+            (λ x y z here then. here ∙ ap (λ rest. joined t.s.session.drawn ++ rest) then ∙ sym (joined_more t.s.session.drawn cut_short.drawn z));
         shows_between = (
           bytes.0,
           bytes.1,
-          subst (λ k. IsBetween (StandsForJournal k) g.journal (journal_then g.journal g.begun s.next cut.drawn) bytes.0) s.there.has_key
-              (subst (λ h. IsBetween (StandsForJournal owner.key) g.journal (journal_then g.journal h s.next cut.drawn) bytes.0) s.there.has_begun between),
+          subst (λ (j : Journal). IsBetween (StandsForJournal key) j (journal_then j t.s.session.begun t.next cut_short.drawn) bytes.0) (sym t.s.same_now) went,
         );
-        prints = s.prints;
       }
 
-  pub ran_without : Ran Step Fails (Err (Applying faults.OutOfMemory)) start end old new left_before left_after out_before out_after
-      → RanCut limits key m draws (lines_ahead old b) first_shown (scene end).left (scene end).shown out_before out_after
-  ran_without ran =
-      let s = stopped faults.OutOfMemory ran in
-      let fewer = asks_fewer s.asked s.next (lines_ahead old b) (lines_ahead new a) s.asks in
+  pub ran_without : HasRan (Err (Applying faults.OutOfMemory)) → Calm → RanCut limits key m (lines_ahead old b) ended may_leave
+  ran_without ran calm =
+      let t = stopped faults.OutOfMemory ran in
+      let fewer = asks_fewer t.asked t.next (lines_ahead old b) (lines_ahead new a) t.asks in
       record {
-        asked = s.asked;
+        asked = t.asked;
         rest = Whole fewer.0 ∷ lines_ahead new a;
         asks = fewer.1;
-        leaves = record { draws_left = s.failed.undrawn refl ∙ s.there.has_draws; shows_whole = unchanged _ s (λ e. absurd cc); keeps = kept_on _ s (λ e. absurd cc) };
-        prints = λ x y before after. whole_is_cut (script_replies limits (opened m draws) s.asked) x y (s.prints x y before after);
+        session = t.s.session;
+        draws = subst (λ left. WhereBothTold (scene start).left left (λ y z. y ≡ joined t.s.session.drawn ++ z)) (sym (t.failed.undrawn refl)) t.s.drew;
+        leaves = leaves_still faults.OutOfMemory t (λ e. absurd cc) calm;
+        prints = λ x y before after. whole_is_cut t.s.session.replies x y (t.prints x y before after);
       }
 
-  pub never_closed : Ran Step Fails (Err (Applying faults.Closed)) start end old new left_before left_after out_before out_after → ⊥
+  pub never_closed : HasRan (Err (Applying faults.Closed)) → ⊥
   never_closed ran = (stopped faults.Closed ran).failed.never_closed refl
 
   -- all of it by the status
-  pub ends_as : (result : Result (Unit {0}) ScriptFault) → Ran Step Fails result start end old new left_before left_after out_before out_after → old.given ≡ 1
-      → Ends (ended_status result) limits key m draws (lines_ahead old b) first_shown (scene end).left (scene end).shown out_before out_after
-  ends_as (Ok tt) ran first = ran_all ran
-  ends_as (Err (BadLine line)) ran first = ran_to_bad line ran first
-  ends_as (Err ReadFault) ran first = inr (ran_to_fault ran)
-  ends_as (Err WriteFault) ran first = ran_cut ran
-  ends_as (Err OutOfMemory) ran first = inr (ran_out ran)
-  ends_as (Err (Applying faults.RandomFault)) ran first = ran_undrawn ran
-  ends_as (Err (Applying (faults.RandomShort given need))) ran first = ran_short given need ran
-  ends_as (Err (Applying faults.DiskFault)) ran first = inr (ran_unwritten ran)
-  ends_as (Err (Applying faults.Closed)) ran first = absurd (never_closed ran)
-  ends_as (Err (Applying faults.OutOfMemory)) ran first = inr (ran_without ran)
+  pub ends_as : (result : Result (Unit {0}) ScriptFault) → HasRan result → old.given ≡ 1 → IsCalm may_leave (scene end).shown result
+      → Ends (ended_status result) limits key m (lines_ahead old b) ended may_leave
+  ends_as (Ok tt) ran first calm = ran_all ran calm
+  ends_as (Err (BadLine line)) ran first calm = ran_to_bad line ran first calm
+  ends_as (Err ReadFault) ran first calm = inr (ran_to_fault ran calm)
+  ends_as (Err WriteFault) ran first calm = ran_cut ran calm
+  ends_as (Err OutOfMemory) ran first calm = inr (ran_out ran calm)
+  ends_as (Err (Applying faults.RandomFault)) ran first calm = ran_undrawn ran calm
+  ends_as (Err (Applying (faults.RandomShort given need))) ran first calm = ran_short given need ran calm
+  ends_as (Err (Applying faults.DiskFault)) ran first calm = inr (ran_unwritten ran)
+  ends_as (Err (Applying faults.Closed)) ran first calm = absurd (never_closed ran)
+  ends_as (Err (Applying faults.OutOfMemory)) ran first calm = inr (ran_without ran calm)

@@ -1,5 +1,5 @@
 -- What the lines of a run leave of the random source and of the disk, however they end.
-use Rattle.std.proofs.Common.{◌≡◌, ◌≢◌, ◌≤◌, ◌<◌, ℕ, List, length, Option, Some, Result, Ok, Err, arith, refl, subst, ◌∙◌}
+use Rattle.std.proofs.Common.{◌≡◌, ◌≢◌, ◌≤◌, ◌<◌, ℕ, List, [], length, Option, Some, Result, Ok, Err, arith, refl, subst, ◌∙◌}
 use Rattle.std.specs.Prelude.{is_some}
 use Rattle.cry_base.specs.Requests.{Request}
 use Rattle.cry_base.specs.declared.commands.Reply.{Reply}
@@ -9,16 +9,16 @@ use Rattle.journal_bytes.specs.Script.{opened}
 use Rattle.cryptree_cli.specs.Lines.{LineState, lines_ahead}
 use Rattle.cryptree_cli.specs.OwnerSteps.{AnswersIn, FailsIn, Scene}
 use Rattle.cryptree_cli.specs.Running.{Ends, KeepsFrom, RanDry, ended_status, script_status, version_limits}
-use Rattle.cryptree_cli.specs.Script.{Answered, Ran}
+use Rattle.cryptree_cli.specs.Script.{Answered, Ran, StaysReady}
 use Rattle.cryptree_cli.specs.declared.script.ScriptFault.{ScriptFault}
 use Rattle.cryptree_cli.specs.declared.script.ScriptFault.TheVariants.{BadLine, ReadFault, WriteFault, OutOfMemory, Applying}
 use Rattle.cryptree_cli.specs.declared.status.Status.TheVariants as statuses
 use Rattle.cryptree_cli.proofs.AnsweredScripts.{counts_rise, keys_taken, told_stays}
-use Rattle.cryptree_cli.proofs.RunEnds.{ends_as, still_told}
+use Rattle.cryptree_cli.proofs.RunEnds.{IsCalm, ends_as, still_told}
 use Rattle.public_fold.specs.Journal.{Journal}
-use Rattle.store_owner.specs.Applying.{StandsAt}
 use Rattle.store_owner.specs.Owned.{OwnerView}
-use Rattle.store_owner.specs.Taking.{TakesKeys}
+use Rattle.store_owner.specs.Sessions.{StandsAt}
+use Rattle.store_owner.specs.Taking.{TakesKeys, keys_planned}
 use Rattle.store_owner.specs.declared.apply_fault.ApplyFault.{ApplyFault}
 use Rattle.store_owner.specs.declared.apply_fault.ApplyFault.TheVariants as faults
 
@@ -102,8 +102,8 @@ module _ (R D : Type 0) (left : R → Option (List ℕ)) (random_faults : R → 
         record {
           drawn = s.taken.drawn;
           drawn_sizes = s.taken.drawn_sizes;
-          keys = short.keys;
-          is_need = short.is_need;
+          keys = keys_planned s.x.0 short.at s.request;
+          is_need = short.is_need short.at short.seen;
           is_short = short.is_short;
           were_left = λ b was.
               let middle = still_told (left s.x.1) (left start.1) b s.left_told was in
@@ -147,12 +147,41 @@ module _ (R D : Type 0) (left : R → Option (List ℕ)) (random_faults : R → 
     disk_fault (Applying faults.Closed) ran e = absurd ((stops faults.Closed ran).failed.never_closed refl)
     disk_fault (Applying faults.OutOfMemory) ran e = absurd cc
 
+    abbrev Calm : Type 0
+    Calm = IsDurable (may_leave end.2) (shown end.2)
+
+    -- a stop leaves what is shown, unless the last command met a fault of the disk
+    pub calm_is : (A B : Type 0) (result : Result (Unit {0}) ScriptFault) → HasRan result → StaysReady (A × B × Calm) result → IsCalm (may_leave end.2) (shown end.2) result
+    calm_is A B (Ok tt) ran ready = ready.2
+    calm_is A B (Err (BadLine line)) ran ready = ready.2
+    calm_is A B (Err ReadFault) ran ready = ready.2
+    calm_is A B (Err WriteFault) ran ready = ready.2
+    calm_is A B (Err OutOfMemory) ran ready = ready.2
+    calm_is A B (Err (Applying faults.RandomFault)) ran ready = ran.stands.5.1 (λ e. absurd cc)
+    calm_is A B (Err (Applying (faults.RandomShort given need))) ran ready = ran.stands.5.1 (λ e. absurd cc)
+    calm_is A B (Err (Applying faults.DiskFault)) ran ready = tt
+    calm_is A B (Err (Applying faults.Closed)) ran ready = ran.stands.5.1 (λ e. absurd cc)
+    calm_is A B (Err (Applying faults.OutOfMemory)) ran ready = ran.stands.5.1 (λ e. absurd cc)
+
+    pub calm_but : (fault : ScriptFault) → IsCalm (may_leave end.2) (shown end.2) (Err fault) → script_status fault ≢ statuses.DiskFault → Calm
+    calm_but (BadLine line) calm other = calm
+    calm_but ReadFault calm other = calm
+    calm_but WriteFault calm other = calm
+    calm_but OutOfMemory calm other = calm
+    calm_but (Applying faults.RandomFault) calm other = calm
+    calm_but (Applying (faults.RandomShort given need)) calm other = calm
+    calm_but (Applying faults.DiskFault) calm other = absurd (other refl)
+    calm_but (Applying faults.Closed) calm other = calm
+    calm_but (Applying faults.OutOfMemory) calm other = calm
+
     -- on a disk that shows a journal, where the input tells
-    pub ends_so : (result : Result (Unit {0}) ScriptFault) → HasRan result → old.given ≡ 1 → is_some left_after ≡ is_some left_before → (b : List ℕ) → left_before ≡ Some b
-        → (draws key : List ℕ) (m : Journal) (first_shown : Option (List ℕ)) → StandsAt version_limits key (opened m draws) start.0 (left start.1) (shown start.2)
+    pub ends_so : (result : Result (Unit {0}) ScriptFault) → HasRan result → IsCalm (may_leave end.2) (shown end.2) result → old.given ≡ 1 → is_some left_after ≡ is_some left_before
+        → (b : List ℕ) → left_before ≡ Some b → (key : List ℕ) (m : Journal) (first_shown : Option (List ℕ)) → StandsAt version_limits key (opened m []) start.0 (shown start.2)
         → KeepsFrom (length (image_of key m)) first_shown (shown start.2)
-        → Ends (ended_status result) version_limits key m draws (lines_ahead old b) first_shown (left end.1) (shown end.2) out_before out_after
-    ends_so result ran first told b was draws key m first_shown stands kept =
+        → Ends (ended_status result) version_limits key m (lines_ahead old b)
+        (record { left_before = left start.1; left_after = left end.1; was = first_shown; shown = shown end.2; written_before = out_before; written_after = out_after })
+        (may_leave end.2)
+    ends_so result ran calm first told b was key m first_shown stands kept =
         let after = still_told left_after left_before b told was in
-        ends_as (OwnerView × R × D) scene Step Fails (λ x r reply y step. step) (λ x r fault y failed. failed.0) version_limits key m draws start end stands first_shown kept
-        old new left_before left_after out_before out_after b after.0 was after.1 result ran first
+        ends_as (OwnerView × R × D) scene Step Fails (λ x r reply y step. step) (λ x r fault y failed. failed.0) version_limits key m start end stands first_shown kept (may_leave end.2)
+        old new left_before left_after out_before out_after b after.0 was after.1 result ran first calm

@@ -8,7 +8,7 @@ use Rattle.journal_bytes.specs.Journals.{IsSettled, ShowsJournal}
 use Rattle.journal_bytes.specs.Script.{opened}
 use Rattle.cryptree_cli.specs.Input.{input_limit}
 use Rattle.cryptree_cli.specs.Lines.{InputLine, LineState, lines_ahead}
-use Rattle.cryptree_cli.specs.Running.{CountsOwner, Ends, FirstIsBad, GivesOwner, Judges, is_after_opening, is_before_opening, key_in_lines, lines_in, open_status, script_status, version_limits}
+use Rattle.cryptree_cli.specs.Running.{CountsOwner, Ends, FirstIsBad, GivesOwner, IsUnopened, Judges, Seen, is_after_opening, is_before_opening, key_in_lines, lines_in, open_status, script_status, version_limits}
 use Rattle.cryptree_cli.specs.Script.{IsReading}
 use Rattle.cryptree_cli.specs.declared.script.ScriptFault.{ScriptFault}
 use Rattle.cryptree_cli.specs.declared.script.ScriptFault.TheVariants.{BadLine, ReadFault, WriteFault, OutOfMemory, Applying}
@@ -18,9 +18,9 @@ use Rattle.holder_client.specs.Asking.{OpenStore, failure_of, opened_store, verd
 use Rattle.holder_client.specs.Asking.Asking.{ToWrite}
 use Rattle.holder_client.specs.Judging.{Failure}
 use Rattle.public_fold.specs.Journal.{Journal}
-use Rattle.store_owner.specs.Applying.{StandsAt}
 use Rattle.store_owner.specs.Opened.{IsFresh, IsOpenFault}
 use Rattle.store_owner.specs.Owned.{IsOwnerOf, OwnerView}
+use Rattle.store_owner.specs.Sessions.{StandsAt}
 
 -- a reader that has read nothing yet
 abbrev pub fresh_reader : LineState
@@ -49,14 +49,21 @@ bad_first_is_unjudged OutOfMemory reading before after gives key hands v = tt
 bad_first_is_unjudged WriteFault reading before after gives key hands v = absurd reading
 bad_first_is_unjudged (Applying fault) reading before after gives key hands v = absurd reading
 
+-- what is told where nothing was drawn or printed
+abbrev pub seen_unopened : Option (List ℕ) → Option (List ℕ) → Option (List ℕ) → Option (List ℕ) → Seen
+seen_unopened left was shown written = record { left_before = left; left_after = left; was = was; shown = shown; written_before = written; written_after = written }
+
+unopened : (key : List ℕ) (m : Journal) (left was shown written : Option (List ℕ)) → ShowsJournal key m shown → IsUnopened key m (seen_unopened left was shown written)
+unopened key m left was shown written shows = record { undrawn = refl; shows_still = shows; unprinted = refl }
+
 pub first_ends : (fault : ScriptFault) → IsReading fault → (before after : List InputLine) → GivesOwner (Err fault) before after
-    → (key : List ℕ) → key_in_lines before ≡ Some key → (limits : Limits) (m : Journal) (draws : List ℕ) (lines : List InputLine) (was left shown written : Option (List ℕ)) → left ≡ Some draws → ShowsJournal key m shown
-    → Ends (script_status fault) limits key m draws lines was left shown written written
-first_ends (BadLine line) reading before after gives key hands limits m draws lines was left shown written undrawn shows = absurd (none_is_none key (key_in_lines before) gives.0 hands)
-first_ends ReadFault reading before after gives key hands limits m draws lines was left shown written undrawn shows = inl (record { undrawn = undrawn; shows_still = shows; unprinted = refl })
-first_ends OutOfMemory reading before after gives key hands limits m draws lines was left shown written undrawn shows = inl (record { undrawn = undrawn; shows_still = shows; unprinted = refl })
-first_ends WriteFault reading before after gives key hands limits m draws lines was left shown written undrawn shows = absurd reading
-first_ends (Applying fault) reading before after gives key hands limits m draws lines was left shown written undrawn shows = absurd reading
+    → (key : List ℕ) → key_in_lines before ≡ Some key → (limits : Limits) (m : Journal) (lines : List InputLine) (left was shown written : Option (List ℕ)) (may_leave : List ℕ → Type 0)
+    → ShowsJournal key m shown → Ends (script_status fault) limits key m lines (seen_unopened left was shown written) may_leave
+first_ends (BadLine line) reading before after gives key hands limits m lines left was shown written may_leave shows = absurd (none_is_none key (key_in_lines before) gives.0 hands)
+first_ends ReadFault reading before after gives key hands limits m lines left was shown written may_leave shows = inl (unopened key m left was shown written shows)
+first_ends OutOfMemory reading before after gives key hands limits m lines left was shown written may_leave shows = inl (unopened key m left was shown written shows)
+first_ends WriteFault reading before after gives key hands limits m lines left was shown written may_leave shows = absurd reading
+first_ends (Applying fault) reading before after gives key hands limits m lines left was shown written may_leave shows = absurd reading
 
 pub first_is_before : (fault : ScriptFault) → IsReading fault → (old new : ℕ) → CountsOwner (Err fault) old new → is_after_opening (script_status fault) ≡ false
 first_is_before (BadLine line) reading old new count = subst (λ n. is_after_opening (script_status (BadLine n)) ≡ false) (sym count) refl
@@ -92,24 +99,23 @@ opened_has_no_verdict key image s is = ap failure_of is
 
 -- a store that shows a journal isn't opened where the disk failed, or memory was wanting
 pub unopened_ends : (fault : OpenFault) → (fault ≡ opening.DiskFault) ⊎ (fault ≡ opening.OutOfMemory)
-    → (limits : Limits) (key : List ℕ) (m : Journal) (draws : List ℕ) (lines : List InputLine) (was left shown written : Option (List ℕ)) → left ≡ Some draws → ShowsJournal key m shown
-    → Ends (open_status fault) limits key m draws lines was left shown written written
-unopened_ends fault why limits key m draws lines was left shown written undrawn shows =
+    → (limits : Limits) (key : List ℕ) (m : Journal) (lines : List InputLine) (left was shown written : Option (List ℕ)) (may_leave : List ℕ → Type 0) → ShowsJournal key m shown
+    → Ends (open_status fault) limits key m lines (seen_unopened left was shown written) may_leave
+unopened_ends fault why limits key m lines left was shown written may_leave shows =
     ⊎_elim
-    (λ (e : fault ≡ opening.DiskFault). subst (λ (f : OpenFault). Ends (open_status f) limits key m draws lines was left shown written written) (sym e) (inl (record { undrawn = undrawn; shows_still = shows; unprinted = refl })))
-    (λ (e : fault ≡ opening.OutOfMemory). subst (λ (f : OpenFault). Ends (open_status f) limits key m draws lines was left shown written written) (sym e) (inl (record { undrawn = undrawn; shows_still = shows; unprinted = refl })))
+    (λ (e : fault ≡ opening.DiskFault). subst (λ (f : OpenFault). Ends (open_status f) limits key m lines (seen_unopened left was shown written) may_leave) (sym e) (inl (unopened key m left was shown written shows)))
+    (λ (e : fault ≡ opening.OutOfMemory). subst (λ (f : OpenFault). Ends (open_status f) limits key m lines (seen_unopened left was shown written) may_leave) (sym e) (inl (unopened key m left was shown written shows)))
     why
 
 -- an owner who opened a journal's store stands where a session begins
-pub opened_stands : (key : List ℕ) (m : Journal) (draws : List ℕ) (o : OwnerView) (left shown : Option (List ℕ)) (may_leave : List ℕ → Type 0) → IsOwnerOf m o
-    → IsFresh key 268435456 1048576 o → IsSettled key m shown may_leave → left ≡ Some draws → StandsAt version_limits key (opened m draws) o left shown
+pub opened_stands : (key : List ℕ) (m : Journal) (o : OwnerView) (shown : Option (List ℕ)) (may_leave : List ℕ → Type 0) → IsOwnerOf m o
+    → IsFresh key 268435456 1048576 o → IsSettled key m shown may_leave → StandsAt version_limits key (opened m []) o shown
 unfolding opened
-opened_stands key m draws o left shown may_leave is fresh settled undrawn = record {
+opened_stands key m o shown may_leave is fresh settled = record {
   owner_is = is;
   has_key = fresh.same_key;
   has_limits = ap (λ n. let l : Limits = record { store_bytes = n; file_bytes = o.file_bytes } in l) fresh.limit ∙ ap (λ n. let l : Limits = record { store_bytes = 268435456; file_bytes = n } in l) fresh.bound;
   has_begun = fresh.not_begun;
-  has_draws = undrawn;
   disk_stands = (settled.shows.0, settled.shows.1, settled.shows.2.stands);
 }
 

@@ -36,7 +36,7 @@ pub record FailsIn (before : Scene) (request : Request) (fault : ApplyFault) (af
   pub answers : (m : Journal) → IsOwnerOf m before.owner → Answers (Err fault) m request before.owner after.owner before.left after.left before.shown after.shown
   pub left_told : is_some after.left ≡ is_some before.left
   pub shown_told : is_some after.shown ≡ is_some before.shown
-  pub short : (left need : ℕ) → fault ≡ faults.RandomShort left need → FallsShort left need before.left after.left
+  pub short : (left need : ℕ) → fault ≡ faults.RandomShort left need → FallsShort before.owner request left need before.left after.left
   pub undrawn : fault ≡ faults.OutOfMemory → after.left ≡ before.left
   pub unwritten : fault ≢ faults.DiskFault → after.shown ≡ before.shown
   pub never_closed : fault ≢ faults.Closed

@@ -6,6 +6,7 @@ use Rattle.commit_journal.specs.Standing.{StandsWhole}
 use Rattle.cry_base.specs.Requests.{Request}
 use Rattle.cry_base.specs.declared.commands.Reply.{Reply}
 use Rattle.cry_base.specs.declared.limits.Limits.{Limits}
+use Rattle.cry_io.specs.Stops.{IsDurable}
 use Rattle.cry_io.specs.Told.{WhereTold, WhereBothTold}
 use Rattle.holder_client.specs.Asking.{verdict}
 use Rattle.holder_client.specs.Asking.Asking.{ToWrite}
@@ -14,7 +15,7 @@ use Rattle.public_fold.specs.Journal.{Journal}
 use Rattle.script_text.specs.Reading.{bundle_of}
 use Rattle.journal_bytes.specs.Bytes.{batches_of, image_of}
 use Rattle.journal_bytes.specs.Journals.{ShowsJournal, StandsForJournal}
-use Rattle.journal_bytes.specs.Script.{Going, answer, draws_of, journal_then, opened, script_going, script_replies}
+use Rattle.journal_bytes.specs.Script.{answer, draws_of, journal_then, opened, script_going, script_replies}
 use Rattle.store_owner.specs.Drawing.{AreKeys, joined}
 use Rattle.cryptree_cli.specs.KeyLine.{owner_key}
 use Rattle.cryptree_cli.specs.Heard.{IsOneLine}
@@ -45,10 +46,6 @@ lines_behind (line ∷ lines) = lines
 abbrev pub lines_in : List ℕ → List InputLine
 lines_in typed = lines_of input_limit typed
 
--- where a session over a journal stands once it was asked this, and what it replied
-abbrev pub going_asked : Limits → Journal → List ℕ → List Request → Going
-going_asked limits m draws asked = script_going limits (opened m draws) asked
-
 -- from this place on the disk shows what it showed
 abbrev pub KeepsFrom : ℕ → Option (List ℕ) → Option (List ℕ) → Type 0
 KeepsFrom place was shown = WhereBothTold was shown (λ x y. drop place y ≡ drop place x)
@@ -59,99 +56,126 @@ pub record KeepsBehind (key : List ℕ) (m now : Journal) (was shown : Option (L
   pub behind : KeepsFrom (length (image_of key now) + 1) was shown
   pub unchanged : now ≡ m → KeepsFrom (length (image_of key m)) was shown
 
--- the random bytes that are left, and what the disk shows, are those of a session over this journal
-pub record LeavesAt (key : List ℕ) (m : Journal) (was : Option (List ℕ)) (g : Going) (left shown : Option (List ℕ)) : Type 0 where
-  pub draws_left : left ≡ Some g.draws
-  pub shows_whole : (s : List ℕ) × (shown ≡ Some s) × StandsWhole key (batches_of key g.journal) s
-  pub keeps : KeepsBehind key m g.journal was shown
+-- What is told of the objects of a call, before and after: the random bytes that are left, what the disk shows, what was written.
+pub record Seen : Type 0 where
+  pub left_before : Option (List ℕ)
+  pub left_after : Option (List ℕ)
+  pub was : Option (List ℕ)
+  pub shown : Option (List ℕ)
+  pub written_before : Option (List ℕ)
+  pub written_after : Option (List ℕ)
 
--- all replies were printed
-abbrev pub PrintsScript : Limits → Journal → List ℕ → List Request → List ℕ → List ℕ → Type 0
-PrintsScript limits m draws asked before after = after ≡ before ++ spell_replies (script_replies limits (opened m draws) asked)
+abbrev pub seen_from : Option (List ℕ) → Option (List ℕ) → Option (List ℕ) → Option (List ℕ) → Option (List ℕ) → Option (List ℕ) → Seen
+seen_from left_before left_after was shown written_before written_after = record {
+  left_before = left_before;
+  left_after = left_after;
+  was = was;
+  shown = shown;
+  written_before = written_before;
+  written_after = written_after;
+}
 
--- the command is accepted where the session stands
-abbrev pub IsAccepted : Limits → Going → Request → Type 0
-IsAccepted limits g r = answer limits g.journal g.begun r ≡ None
+-- A session over a journal that was asked this: the keys that were drawn for its accepted commands, 32 bytes each; its replies; the
+-- journal where it stands now, and whether it has begun an epoch. With these keys before whatever other bytes it replies so, and goes so
+-- far, and these others are left.
+pub record SessionOver (limits : Limits) (m : Journal) (asked : List Request) : Type 0 where
+  pub drawn : List (List ℕ)
+  pub drawn_sizes : AreKeys drawn
+  pub replies : List Reply
+  pub now : Journal
+  pub begun : Bool
+  pub goes : (rest : List ℕ) → script_going limits (opened m (joined drawn ++ rest)) asked ≡ record { journal = now; begun = begun; draws = rest }
+  pub replied : (rest : List ℕ) → script_replies limits (opened m (joined drawn ++ rest)) asked ≡ replies
 
--- The first lines were asked, and all of them answered: what was replied is printed, and the session stands behind them.
-pub record HasRun (limits : Limits) (key : List ℕ) (m : Journal) (draws : List ℕ) (lines rest : List InputLine) (was left shown before after : Option (List ℕ)) : Type 0 where
+-- these keys were the next random bytes, where the source tells
+abbrev pub DrawsNext : List (List ℕ) → Seen → Type 0
+DrawsNext drawn seen = WhereBothTold seen.left_before seen.left_after (λ x y. x ≡ joined drawn ++ y)
+
+-- The disk shows the whole of the journal that a session made of m, with each batch published, and a stop leaves that and nothing else.
+pub record LeavesAt (key : List ℕ) (m now : Journal) (seen : Seen) (may_leave : List ℕ → Type 0) : Type 0 where
+  pub shows_whole : (s : List ℕ) × (seen.shown ≡ Some s) × StandsWhole key (batches_of key now) s
+  pub none_pending : IsDurable may_leave seen.shown
+  pub keeps : KeepsBehind key m now seen.was seen.shown
+
+-- all these replies were printed, each a line
+abbrev pub PrintsThese : List Reply → Seen → Type 0
+PrintsThese replies seen = WhereBothTold seen.written_before seen.written_after (λ b a. a ≡ b ++ spell_replies replies)
+
+-- The first lines were asked, and all of them answered: what was replied is printed, and the disk is where the session stands.
+pub record HasRun (limits : Limits) (key : List ℕ) (m : Journal) (lines rest : List InputLine) (seen : Seen) (may_leave : List ℕ → Type 0) : Type 0 where
   pub asked : List Request
   pub asks : Asks asked lines rest
-  pub leaves : LeavesAt key m was (going_asked limits m draws asked) left shown
-  pub prints : WhereBothTold before after (PrintsScript limits m draws asked)
-
--- So they were, and then one was accepted for which random bytes were wanting: so many were left of those that it draws.
-pub record RanShort (limits : Limits) (key : List ℕ) (m : Journal) (draws : List ℕ) (lines : List InputLine) (given need : ℕ) (was left shown before after : Option (List ℕ)) : Type 0 where
-  pub asked : List Request
-  pub next : Request
-  pub rest : List InputLine
-  pub asks : Asks (asked ++ next ∷ []) lines rest
-  pub is_accepted : IsAccepted limits (going_asked limits m draws asked) next
-  pub is_need : need ≡ 32 * draws_of (going_asked limits m draws asked).journal next
-  pub is_given : given ≡ length (going_asked limits m draws asked).draws
-  pub is_short : given < need
-  pub nothing_left : left ≡ Some []
-  pub shows_whole : (s : List ℕ) × (shown ≡ Some s) × StandsWhole key (batches_of key (going_asked limits m draws asked).journal) s
-  pub keeps : KeepsBehind key m (going_asked limits m draws asked).journal was shown
-  pub prints : WhereBothTold before after (PrintsScript limits m draws asked)
+  pub session : SessionOver limits m asked
+  pub draws : DrawsNext session.drawn seen
+  pub leaves : LeavesAt key m session.now seen may_leave
+  pub prints : PrintsThese session.replies seen
 
 -- The first lines were asked and answered, and what was replied is printed but for some of the last reply.
-pub record RanCut (limits : Limits) (key : List ℕ) (m : Journal) (draws : List ℕ) (lines : List InputLine) (was left shown before after : Option (List ℕ)) : Type 0 where
+pub record RanCut (limits : Limits) (key : List ℕ) (m : Journal) (lines : List InputLine) (seen : Seen) (may_leave : List ℕ → Type 0) : Type 0 where
   pub asked : List Request
   pub rest : List InputLine
   pub asks : Asks asked lines rest
-  pub leaves : LeavesAt key m was (going_asked limits m draws asked) left shown
-  pub prints : WhereBothTold before after (PrintsCut (script_replies limits (opened m draws) asked))
+  pub session : SessionOver limits m asked
+  pub draws : DrawsNext session.drawn seen
+  pub leaves : LeavesAt key m session.now seen may_leave
+  pub prints : WhereBothTold seen.written_before seen.written_after (PrintsCut session.replies)
 
--- The first lines were asked and answered, and then one was accepted that met a fault of the random source, which leaves the
--- disk as it was.
-pub record RanUndrawn (limits : Limits) (key : List ℕ) (m : Journal) (draws : List ℕ) (lines : List InputLine) (was shown before after : Option (List ℕ)) : Type 0 where
+-- The first lines were asked and answered, and what was replied is printed; and then one was asked that is accepted where the session
+-- stands.
+pub record RanTo (limits : Limits) (m : Journal) (lines : List InputLine) (seen : Seen) : Type 0 where
   pub asked : List Request
   pub next : Request
   pub rest : List InputLine
   pub asks : Asks (asked ++ next ∷ []) lines rest
-  pub is_accepted : IsAccepted limits (going_asked limits m draws asked) next
-  pub shows_whole : (s : List ℕ) × (shown ≡ Some s) × StandsWhole key (batches_of key (going_asked limits m draws asked).journal) s
-  pub keeps : KeepsBehind key m (going_asked limits m draws asked).journal was shown
-  pub prints : WhereBothTold before after (PrintsScript limits m draws asked)
+  pub session : SessionOver limits m asked
+  pub is_accepted : answer limits session.now session.begun next ≡ None
+  pub prints : PrintsThese session.replies seen
+
+-- For that one random bytes were wanting: so many were left of those that it draws. The disk is where the session stood before it.
+pub record RanShort (limits : Limits) (key : List ℕ) (m : Journal) (lines : List InputLine) (left need : ℕ) (seen : Seen) (may_leave : List ℕ → Type 0) : Type 0 where
+  pub ran : RanTo limits m lines seen
+  pub is_need : need ≡ 32 * draws_of ran.session.now ran.next
+  pub is_short : left < need
+  pub were_left : WhereTold seen.left_before (λ x. (last : List ℕ) × (x ≡ joined ran.session.drawn ++ last) × (length last ≡ left))
+  pub nothing_left : WhereTold seen.left_after (λ y. y ≡ [])
+  pub leaves : LeavesAt key m ran.session.now seen may_leave
+
+-- Or the random source failed in it. The disk is where the session stood before it.
+pub record RanUndrawn (limits : Limits) (key : List ℕ) (m : Journal) (lines : List InputLine) (seen : Seen) (may_leave : List ℕ → Type 0) : Type 0 where
+  pub ran : RanTo limits m lines seen
+  pub drew : WhereTold seen.left_before (λ x. (more : List ℕ) × (x ≡ joined ran.session.drawn ++ more))
+  pub leaves : LeavesAt key m ran.session.now seen may_leave
 
 -- Or it drew its keys and met a fault of the disk: that shows the journal as it was before, or with the session begun, or with the
 -- command too.
-pub record RanUnwritten (limits : Limits) (key : List ℕ) (m : Journal) (draws : List ℕ) (lines : List InputLine) (left shown before after : Option (List ℕ)) : Type 0 where
-  pub asked : List Request
-  pub next : Request
-  pub rest : List InputLine
-  pub drawn : List (List ℕ)
-  pub asks : Asks (asked ++ next ∷ []) lines rest
-  pub is_accepted : IsAccepted limits (going_asked limits m draws asked) next
-  pub drawn_count : length drawn ≡ draws_of (going_asked limits m draws asked).journal next
-  pub draws_left : (more : List ℕ) × (left ≡ Some more) × ((going_asked limits m draws asked).draws ≡ joined drawn ++ more)
-  pub shows_between : (s : List ℕ) × (shown ≡ Some s) × IsBetween (StandsForJournal key) (going_asked limits m draws asked).journal
-      (journal_then (going_asked limits m draws asked).journal (going_asked limits m draws asked).begun next drawn) s
-  pub prints : WhereBothTold before after (PrintsScript limits m draws asked)
+pub record RanUnwritten (limits : Limits) (key : List ℕ) (m : Journal) (lines : List InputLine) (seen : Seen) : Type 0 where
+  pub ran : RanTo limits m lines seen
+  pub last : List (List ℕ)
+  pub last_count : length last ≡ draws_of ran.session.now ran.next
+  pub last_sizes : AreKeys last
+  pub draws : DrawsNext (ran.session.drawn ++ last) seen
+  pub shows_between : (s : List ℕ) × (seen.shown ≡ Some s)
+      × IsBetween (StandsForJournal key) ran.session.now (journal_then ran.session.now ran.session.begun ran.next last) s
 
 -- The store wasn't opened: nothing was drawn or printed, and the disk shows the journal still.
-pub record IsUnopened (key : List ℕ) (m : Journal) (draws : List ℕ) (left shown before after : Option (List ℕ)) : Type 0 where
-  pub undrawn : left ≡ Some draws
-  pub shows_still : ShowsJournal key m shown
-  pub unprinted : after ≡ before
+pub record IsUnopened (key : List ℕ) (m : Journal) (seen : Seen) : Type 0 where
+  pub undrawn : seen.left_after ≡ seen.left_before
+  pub shows_still : ShowsJournal key m seen.shown
+  pub unprinted : seen.written_after ≡ seen.written_before
 
--- How `run` ends on a disk that shows a journal, where the input and the random source tell: at Done all lines were asked, before
--- a bad line those before it. What the bytes of a store answer comes on no such disk.
-abbrev pub Ends : Status → Limits → List ℕ → Journal → List ℕ → List InputLine → Option (List ℕ) → Option (List ℕ) → Option (List ℕ) → Option (List ℕ) → Option (List ℕ) → Type 0
-Ends statuses.Done limits key m draws lines was left shown before after = HasRun limits key m draws lines [] was left shown before after
-Ends (statuses.BadScript line) limits key m draws lines was left shown before after =
-    (rest : List InputLine) × IsBadFirst rest × (run : HasRun limits key m draws lines rest was left shown before after) × (line ≡ length run.asked + 2)
-Ends statuses.ReadFault limits key m draws lines was left shown before after =
-    IsUnopened key m draws left shown before after ⊎ ((rest : List InputLine) × HasRun limits key m draws lines rest was left shown before after)
-Ends (statuses.RandomShort given need) limits key m draws lines was left shown before after = RanShort limits key m draws lines given need was left shown before after
-Ends statuses.RandomFault limits key m draws lines was left shown before after = RanUndrawn limits key m draws lines was shown before after
-Ends statuses.WriteFault limits key m draws lines was left shown before after = RanCut limits key m draws lines was left shown before after
-Ends statuses.DiskFault limits key m draws lines was left shown before after =
-    IsUnopened key m draws left shown before after ⊎ RanUnwritten limits key m draws lines left shown before after
-Ends statuses.OutOfMemory limits key m draws lines was left shown before after =
-    IsUnopened key m draws left shown before after ⊎ RanCut limits key m draws lines was left shown before after
-Ends _ limits key m draws lines was left shown before after = ⊥
+-- How `run` ends on a disk that shows a journal, where the input tells: at Done all lines were asked, before a bad line those before it.
+-- What the bytes of a store answer comes on no such disk.
+abbrev pub Ends : Status → Limits → List ℕ → Journal → List InputLine → Seen → (List ℕ → Type 0) → Type 0
+Ends statuses.Done limits key m lines seen may_leave = HasRun limits key m lines [] seen may_leave
+Ends (statuses.BadScript line) limits key m lines seen may_leave =
+    (rest : List InputLine) × IsBadFirst rest × (run : HasRun limits key m lines rest seen may_leave) × (line ≡ length run.asked + 2)
+Ends statuses.ReadFault limits key m lines seen may_leave = IsUnopened key m seen ⊎ ((rest : List InputLine) × HasRun limits key m lines rest seen may_leave)
+Ends (statuses.RandomShort left need) limits key m lines seen may_leave = RanShort limits key m lines left need seen may_leave
+Ends statuses.RandomFault limits key m lines seen may_leave = RanUndrawn limits key m lines seen may_leave
+Ends statuses.WriteFault limits key m lines seen may_leave = RanCut limits key m lines seen may_leave
+Ends statuses.DiskFault limits key m lines seen may_leave = IsUnopened key m seen ⊎ RanUnwritten limits key m lines seen
+Ends statuses.OutOfMemory limits key m lines seen may_leave = IsUnopened key m seen ⊎ RanCut limits key m lines seen may_leave
+Ends _ limits key m lines seen may_leave = ⊥
 
 -- how `run` may end
 abbrev pub is_run_answer : Status → Bool
@@ -243,9 +267,9 @@ abbrev pub JudgesTyped : Status → List ℕ → List ℕ → Type 0
 JudgesTyped status typed image = (key : List ℕ) → key_in_lines (lines_in typed) ≡ Some key → Judges status (verdict (ToWrite key) image)
 
 -- how it ends for each journal with that key that the disk showed
-abbrev pub EndsTyped : Status → List ℕ → List ℕ → Option (List ℕ) → Option (List ℕ) → Option (List ℕ) → Option (List ℕ) → Option (List ℕ) → Type 0
-EndsTyped status typed draws was left shown before after = (key : List ℕ) (m : Journal) → key_in_lines (lines_in typed) ≡ Some key → ShowsJournal key m was
-    → Ends status version_limits key m draws (lines_behind (lines_in typed)) was left shown before after
+abbrev pub EndsTyped : Status → List ℕ → Seen → (List ℕ → Type 0) → Type 0
+EndsTyped status typed seen may_leave = (key : List ℕ) (m : Journal) → key_in_lines (lines_in typed) ≡ Some key → ShowsJournal key m seen.was
+    → Ends status version_limits key m (lines_behind (lines_in typed)) seen may_leave
 
 -- ---- on every disk
 

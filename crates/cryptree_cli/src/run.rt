@@ -1,17 +1,17 @@
 //! The command `run`: the owner's line, then the store opened for writing, then each command's line answered before the next is
 //! read, in this order.
-ghost use Rattle.std.specs.Prelude.{◌≡◌, ◌≢◌, ◌+◌, ◌<◌, ◌≤◌, ℕ, [], List, Err, IfErr, OnOk, None, Option, Some, false, is_some, length, IsTrue};
+ghost use Rattle.std.specs.Prelude.{◌≡◌, ◌≢◌, ◌⊎◌, ◌+◌, ◌<◌, ◌≤◌, ℕ, [], List, Err, IfErr, OnOk, None, Option, Some, false, is_some, length, IsTrue};
 ghost use Rattle.cry_io.specs.Stops.{IsDurable};
 ghost use Rattle.cry_io.specs.Told.{WhereTold, WhereBothTold};
 ghost use Rattle.holder_client.specs.Judging.{Failure};
 ghost use Rattle.public_fold.specs.Journal.{Journal};
 ghost use Rattle.journal_bytes.specs.Bytes.{image_of};
 ghost use Rattle.journal_bytes.specs.Script.{opened};
-ghost use Rattle.store_owner.specs.Applying.{StandsAt};
+ghost use Rattle.store_owner.specs.Sessions.{StandsAt};
 ghost use Rattle.cryptree_cli.specs.Lines.{IsUnended, lines_ahead};
 ghost use Rattle.cryptree_cli.specs.Refusing.{Refuses, is_refusal};
 ghost use Rattle.cryptree_cli.specs.Running as running;
-ghost use Rattle.cryptree_cli.specs.Running.{CountsOwner, Ends, EndsTyped, KeepsFrom, FirstIsBad, GivesOwner, HasBadLine, Judges, JudgesTyped, RanDry, RanLines, ReadsWhole, ReadsWholeTyped, is_after_opening, is_before_opening, is_run_answer, key_in_lines, lines_in, lines_typed, version_limits};
+ghost use Rattle.cryptree_cli.specs.Running.{CountsOwner, Ends, EndsTyped, KeepsFrom, FirstIsBad, GivesOwner, HasBadLine, Judges, JudgesTyped, RanDry, RanLines, ReadsWhole, ReadsWholeTyped, is_after_opening, is_before_opening, is_run_answer, key_in_lines, lines_in, lines_typed, seen_from, version_limits};
 ghost use Rattle.cryptree_cli.specs.Script.{IsReading, ReadsByCount};
 
 use crate::key_line::read_owner;
@@ -41,8 +41,8 @@ pub(crate) fn run<S: Source, R: Source, D: Disk, W: Sink>(
     ensures answers { IsTrue (is_run_answer result) }
     ensures first_line { WhereTold (S.left input.old) (λ typed. key_in_lines (lines_in typed) ≡ None → FirstIsBad result) }
     ensures judged { WhereTold (S.left input.old) (λ typed. WhereTold (D.shown disk.old) (λ image. JudgesTyped result typed image)) }
-    ensures ran { WhereTold (S.left input.old) (λ typed. WhereTold (R.left random.old) (λ draws.
-        EndsTyped result typed draws (D.shown disk.old) (R.left random.new) (D.shown disk.new) (W.written out.old) (W.written out.new))) }
+    ensures ran { WhereTold (S.left input.old) (λ typed. EndsTyped result typed
+        (seen_from (R.left random.old) (R.left random.new) (D.shown disk.old) (D.shown disk.new) (W.written out.old) (W.written out.new)) (D.may_leave disk.new)) }
     ensures lines { RanLines result lines_typed (S.left input.old) (W.written out.old) (W.written out.new) }
     ensures bad_line { WhereTold (S.left input.old) (λ typed. HasBadLine (lines_typed typed) → result ≢ Status.Done) }
     ensures key_line { result ≡ Status.BadScript 1 → WhereTold (S.left input.old) (λ typed. key_in_lines (lines_in typed) ≡ None) }
@@ -50,6 +50,9 @@ pub(crate) fn run<S: Source, R: Source, D: Disk, W: Sink>(
     ensures read_to_end { result ≡ Status.Done → WhereTold (S.left input.new) (λ rest. rest ≡ []) }
     ensures read_whole_lines { result ≡ Status.ReadFault → WhereBothTold (S.left input.old) (S.left input.new) ReadsWholeTyped }
     ensures stays { IsTrue (is_after_opening result) → IsDurable (D.may_leave disk.new) (D.shown disk.new) }
+    ensures settled { result ≢ Status.DiskFault →
+        Refuses D.shown D.size_of D.may_leave (S.left input.old) random.old random.new disk.old disk.new out.old out.new
+        ⊎ IsDurable (D.may_leave disk.new) (D.shown disk.new) }
     ensures refused { IsTrue (is_refusal result) → Refuses D.shown D.size_of D.may_leave (S.left input.old) random.old random.new disk.old disk.new out.old out.new }
     ensures unopened { IsTrue (is_before_opening result) → (random.new ≡ random.old) × (disk.new ≡ disk.old) × (out.new ≡ out.old) }
     ensures read_fault { result ≡ Status.ReadFault → S.faults input.old < S.faults input.new }
@@ -116,15 +119,17 @@ fn apply_lines<S: Source, R: Source, D: Disk, W: Sink>(
     requires durable { IsDurable (D.may_leave disk.old) (D.shown disk.old) }
     requires second { reader.given ≡ 1 }
     ensures answers { IsTrue (is_run_answer result) }
-    ensures ran { WhereTold (S.left input.old) (λ left. (draws key : List ℕ) (m : Journal) (was : Option (List ℕ)) →
-        StandsAt version_limits key (opened m draws) owner (R.left random.old) (D.shown disk.old) → KeepsFrom (length (image_of key m)) was (D.shown disk.old) →
-        Ends result version_limits key m draws (lines_ahead reader left) was (R.left random.new) (D.shown disk.new) (W.written out.old) (W.written out.new)) }
+    ensures ran { WhereTold (S.left input.old) (λ left. (key : List ℕ) (m : Journal) (was : Option (List ℕ)) →
+        StandsAt version_limits key (opened m []) owner (D.shown disk.old) → KeepsFrom (length (image_of key m)) was (D.shown disk.old) →
+        Ends result version_limits key m (lines_ahead reader left)
+        (seen_from (R.left random.old) (R.left random.new) was (D.shown disk.new) (W.written out.old) (W.written out.new)) (D.may_leave disk.new)) }
     ensures lines { RanLines result (lines_ahead reader) (S.left input.old) (W.written out.old) (W.written out.new) }
     ensures short { (left need : ℕ) → result ≡ Status.RandomShort left need → RanDry left need (R.left random.old) (R.left random.new) }
     ensures none_of_bytes { (verdict : Option Failure) → verdict ≡ None → Judges result verdict }
     ensures read_to_end { result ≡ Status.Done → WhereTold (S.left input.new) (λ rest. rest ≡ []) }
     ensures read_whole_lines { result ≡ Status.ReadFault → WhereBothTold (S.left input.old) (S.left input.new) (λ before after. ReadsWhole (lines_ahead reader before) after) }
     ensures stays { IsTrue (is_after_opening result) → IsDurable (D.may_leave disk.new) (D.shown disk.new) }
+    ensures calm { result ≢ Status.DiskFault → IsDurable (D.may_leave disk.new) (D.shown disk.new) }
     ensures not_first { is_before_opening result ≡ false }
     ensures read_fault { result ≡ Status.ReadFault → S.faults input.old < S.faults input.new }
     ensures random_fault { result ≡ Status.RandomFault → R.faults random.old < R.faults random.new }

@@ -6,7 +6,7 @@ ghost use Rattle.commit_journal.specs.Reading.{IsOnlyRead};
 ghost use Rattle.cryptree_cli.specs.Input.{input_answer};
 ghost use Rattle.cryptree_cli.specs.Listing.{InputDecides, ListsAs, ListsFresh, owner_in, list_answer, is_list_answer, is_before_read};
 ghost use Rattle.cryptree_cli.specs.Refusing.{Refuses, is_refusal};
-ghost use Rattle.cryptree_cli.specs.Running.{EndsTyped, FirstIsBad, HasBadLine, JudgesTyped, RanDry, RanLines, ReadsWholeTyped, is_after_opening, is_before_opening, is_run_answer, key_in_lines, lines_in, lines_typed};
+ghost use Rattle.cryptree_cli.specs.Running.{EndsTyped, FirstIsBad, HasBadLine, JudgesTyped, RanDry, RanLines, ReadsWholeTyped, is_after_opening, is_before_opening, is_run_answer, key_in_lines, lines_in, lines_typed, seen_from};
 ghost use Rattle.cryptree_cli.specs.Status.{is_make_answer, is_before_draw, is_before_write, is_before_print};
 ghost use Rattle.cryptree_cli.specs.Top.{IsMake, IsRun, IsList, Makes, PrintsAll, PrintsFront, IsShort, EndsShort, text_of};
 ghost use Rattle.cryptree_cli.specs.Words.{form_of_words};
@@ -77,12 +77,16 @@ pub fn top<S: Source, R: Source, D: Disk, W: Sink>(
     ensures run_bad_line { IsRun words.now.items → WhereTold (S.left input.old) (λ typed. HasBadLine (lines_typed typed) → result ≢ Status.Done) }
     ensures run_short { IsRun words.now.items → (left need : ℕ) → result ≡ Status.RandomShort left need → RanDry left need (R.left random.old) (R.left random.new) }
 
-    // On a disk that shows a journal it ends as that journal's session does, whatever it ends with.
-    ensures ran { IsRun words.now.items → WhereTold (S.left input.old) (λ typed. WhereTold (R.left random.old) (λ draws.
-        EndsTyped result typed draws (D.shown disk.old) (R.left random.new) (D.shown disk.new) (W.written out.old) (W.written out.new))) }
+    // On a disk that shows a journal it ends as that journal's session does, whatever it ends with, and whether or not the random
+    // source tells what it has: there are keys for the accepted commands with which the session goes so.
+    ensures ran { IsRun words.now.items → WhereTold (S.left input.old) (λ typed. EndsTyped result typed
+        (seen_from (R.left random.old) (R.left random.new) (D.shown disk.old) (D.shown disk.new) (W.written out.old) (W.written out.new)) (D.may_leave disk.new)) }
     ensures run_read_to_end { IsRun words.now.items → result ≡ Status.Done → WhereTold (S.left input.new) (λ rest. rest ≡ []) }
     ensures run_read_whole_lines { IsRun words.now.items → result ≡ Status.ReadFault → WhereBothTold (S.left input.old) (S.left input.new) ReadsWholeTyped }
     ensures run_stays { IsRun words.now.items → IsTrue (is_after_opening result) → IsDurable (D.may_leave disk.new) (D.shown disk.new) }
+    ensures run_settled { IsRun words.now.items → result ≢ Status.DiskFault →
+        Refuses D.shown D.size_of D.may_leave (S.left input.old) random.old random.new disk.old disk.new out.old out.new
+        ⊎ IsDurable (D.may_leave disk.new) (D.shown disk.new) }
     ensures run_refused { IsRun words.now.items → IsTrue (is_refusal result) →
         Refuses D.shown D.size_of D.may_leave (S.left input.old) random.old random.new disk.old disk.new out.old out.new }
     ensures run_unopened { IsRun words.now.items → IsTrue (is_before_opening result) →

@@ -14,8 +14,9 @@ use Rattle.folder_nodes.specs.Titles.{Title, Titles, bytes_in, is_node, new_titl
 use Rattle.grant_book.specs.Granted.{Granted}
 use Rattle.key_links.specs.Ringed.{Ringed, key_of}
 use Rattle.key_links.specs.declared.any_key.AnyKey.{AnyKey}
+use Rattle.public_fold.specs.Journal.{Stand}
 use Rattle.public_fold.specs.KeyStep.{KeyState}
-use Rattle.public_fold.specs.Standing.{PublicView, with_room_of}
+use Rattle.public_fold.specs.Standing.{IsSeenAs, PublicView, with_room_of}
 use Rattle.journal_bytes.specs.Owning.{IsStoreOf}
 use Rattle.journal_bytes.specs.Sealing.{HoldsKeys}
 use Rattle.journal_bytes.specs.Texting.{AreKept, AreTitlesAfter, IsRemoved, IsRenamed, IsWritten, name_at}
@@ -86,6 +87,9 @@ sound_with o a b c d e f s = record {
 
 pub sound_still : (old new : OwnerView) → HasOtherRoom old new → IsSound old → IsSound new
 sound_still old new h s = subst IsSound (sym (has_room old new h)) (sound_with old _ _ _ _ _ _ s)
+
+pub seen_still : (old new : OwnerView) → HasOtherRoom old new → (at : Stand) → IsSeenAs old.state at → IsSeenAs new.state at
+seen_still old new h at seen = subst (λ (o : OwnerView). IsSeenAs o.state at) (sym (has_room old new h)) seen
 
 pub limit_still : (old new : OwnerView) → HasOtherRoom old new → (most : ℕ) → old.journal.limit ≤ most → new.journal.limit ≤ most
 limit_still old new h most low = subst (λ (o : OwnerView). o.journal.limit ≤ most) (sym (has_room old new h)) low

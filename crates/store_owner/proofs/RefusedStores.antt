@@ -1,10 +1,9 @@
 -- What opening leaves of a store, whether it is refused or not.
-use Rattle.std.proofs.Common.{◌≡◌, ◌≤◌, ◌⊎◌, ⊎_elim, inl, inr, ℕ, ◌+◌, ◌-◌, List, [], ◌∷◌, length, drop, Option, Result, Ok, Err, refl, sym, ap, subst, ◌∙◌}
-use Rattle.std.specs.Prelude.{IfErr, OnErr, OnOk}
+use Rattle.std.proofs.Common.{◌≡◌, ◌≤◌, ◌⊎◌, ⊎_elim, inl, inr, ℕ, ◌-◌, List, [], ◌∷◌, length, drop, Option, Result, Ok, Err, refl, sym, ap, subst, ◌∙◌}
+use Rattle.std.specs.Prelude.{IfErr, OnOk}
 use Rattle.chacha_seal.specs.Sealing.{veil_of}
-use Rattle.cry_io.specs.Stops.{IsDurable}
 use Rattle.cry_io.specs.Told.{WhereTold, WhereBothTold}
-use Rattle.commit_journal.specs.Opening.{LeavesGated, LeavesSlots, OwnedLog, opening_verdict, plain_opened, slots_filled, written_at}
+use Rattle.commit_journal.specs.Opening.{LeavesGated, LeavesSlots, opening_verdict, plain_opened, slots_filled, written_at}
 use Rattle.commit_journal.specs.Placed.{PlainPlaced, plain_log}
 use Rattle.commit_journal.specs.Reading.{IsUntouched}
 use Rattle.commit_journal.specs.declared.fault.OpenFault.{OpenFault}

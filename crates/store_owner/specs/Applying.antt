@@ -1,6 +1,6 @@
 -- What a command leaves of an owner and of the disk, and what is answered. This project's own, docs/FORMAT.md, "The key step"
 -- and "Committing".
-use Rattle.std.specs.Prelude.{◌≡◌, ◌⊎◌, ◌<◌, ◌≤◌, ℕ, ◌+◌, ◌*◌, true, false, not, cond, List, [], ◌++◌, drop, length, replicate, Option, Some, None, Result, Ok, Err, IsTrue, All, is_some}
+use Rattle.std.specs.Prelude.{◌≡◌, ◌⊎◌, ◌<◌, ◌≤◌, ℕ, ◌*◌, true, false, not, cond, List, [], ◌++◌, drop, length, replicate, Option, Some, None, Result, Ok, Err, IsTrue, All, is_some}
 use Rattle.std.specs.List.{flat_map}
 use Rattle.chacha_seal.specs.Keys.{KeyParts}
 use Rattle.chacha_seal.specs.Sealing.{check_of}
@@ -30,13 +30,12 @@ use Rattle.public_fold.specs.declared.heads.Skeleton.{Skeleton}
 use Rattle.journal_bytes.specs.Bytes.{batches_of, step_payload}
 use Rattle.journal_bytes.specs.Journals.{StandsForJournal}
 use Rattle.journal_bytes.specs.Owning.{IsStoreOf, IsTreeOf}
-use Rattle.journal_bytes.specs.Script.{Going, answer, done_reply, draws_of, journal_then}
+use Rattle.journal_bytes.specs.Script.{answer, done_reply, draws_of, journal_then}
 use Rattle.journal_bytes.specs.Sealing.{HoldsKeys, IsSealable, IsTold, keys_with}
 use Rattle.journal_bytes.specs.Texting.{AreTitlesAfter, due_key, due_text}
 use Rattle.store_owner.specs.declared.apply_fault.ApplyFault.{ApplyFault}
 use Rattle.store_owner.specs.declared.apply_fault.ApplyFault.TheVariants as faults
 use Rattle.store_owner.specs.Owned.{IsOwnerOf, OwnerView, limits_in}
-use Rattle.cry_base.specs.declared.limits.Limits.{Limits}
 use Rattle.store_owner.specs.Sound.{granted_in}
 
 -- the text that a command seals, a new holder's key included
@@ -126,11 +125,12 @@ abbrev pub why_refused : Reply → Option Refusal
 why_refused (replies.Refused why) = Some why
 why_refused reply = None
 
--- A command that met a fault of the disk: it drew keys from the next random bytes; and where the disk showed the whole of the journal,
+-- A command that met a fault of the disk: it drew keys of 32 bytes from the next random bytes; and where the disk showed the whole of the journal,
 -- it shows bytes that stand for the journal, or for it with the session begun, or with the command too.
 pub record IsCutShort (m : Journal) (r : Request) (old : OwnerView) (left_before left_after was shows : Option (List ℕ)) : Type 0 where
   pub drawn : List (List ℕ)
   pub drawn_count : length drawn ≡ draws_of m r
+  pub drawn_sizes : All (λ (key : List ℕ). length key ≡ 32) drawn
   pub next_bytes : WhereBothTold left_before left_after (λ before after. before ≡ flat_map (λ (key : List ℕ). key) drawn ++ after)
   pub disk_stands : WhereBothTold was shows (λ x y. StandsWhole old.key (batches_of old.key m) x
       → IsBetween (StandsForJournal old.key) m (journal_then m old.journal.has_epoch r drawn) y)
@@ -148,15 +148,6 @@ Answers (Err faults.DiskFault) m r old new left_before left_after was shows =
     (answer (limits_in old) m old.journal.has_epoch r ≡ None) × IsTrue new.journal.is_closed × IsCutShort m r old left_before left_after was shows
 Answers (Err faults.Closed) m r old new left_before left_after was shows = IsTrue old.journal.is_closed × (new ≡ old)
 Answers (Err faults.OutOfMemory) m r old new left_before left_after was shows = HasOtherRoom old new
-
--- The owner, the random bytes that are left and the disk stand where a session does: all of them at its journal, with its bytes.
-pub record StandsAt (limits : Limits) (key : List ℕ) (g : Going) (o : OwnerView) (left shown : Option (List ℕ)) : Type 0 where
-  pub owner_is : IsOwnerOf g.journal o
-  pub has_key : o.key ≡ key
-  pub has_limits : limits_in o ≡ limits
-  pub has_begun : o.journal.has_epoch ≡ g.begun
-  pub has_draws : left ≡ Some g.draws
-  pub disk_stands : (s : List ℕ) × (shown ≡ Some s) × StandsWhole key (batches_of key g.journal) s
 
 -- What no journal is needed for. A refusal, Closed and want of memory touch neither the source nor the disk, and the first two
 -- not the owner; a source that failed or ended touches no disk

@@ -5,5 +5,6 @@ pub mod Opened
 pub mod Owned
 pub mod Planning
 pub mod Retitled
+pub mod Sessions
 pub mod Sound
 pub mod Taking

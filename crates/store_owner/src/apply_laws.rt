@@ -21,11 +21,12 @@ ghost use Rattle.public_fold.specs.declared.heads.Skeleton.{Skeleton};
 ghost use Rattle.journal_bytes.specs.Bytes.{batches_of};
 ghost use Rattle.journal_bytes.specs.Folds.{public_stand};
 ghost use Rattle.journal_bytes.specs.Journals.{StandsForJournal};
-ghost use Rattle.journal_bytes.specs.Script.{Going, answer, draws_of, due_end, due_payload, journal_then, line_going, line_reply};
+ghost use Rattle.journal_bytes.specs.Script.{Going, answer, draws_of, due_end, due_payload, journal_then};
 ghost use Rattle.journal_bytes.specs.Sealing.{skeleton_size};
 ghost use Rattle.journal_bytes.specs.Texting.{due_key, due_text};
-ghost use Rattle.store_owner.specs.Applying.{Answers, IsCarriedOut, IsInterrupted, StandsAt};
+ghost use Rattle.store_owner.specs.Applying.{Answers, IsCarriedOut, IsInterrupted};
 ghost use Rattle.store_owner.specs.Owned.{IsOwnerOf, OwnerView, limits_in};
+ghost use Rattle.store_owner.specs.Sessions.{AnswersBehind, GoesOn, StandsAt};
 
 /// Law: an owner who stands for a journal, and carries out a command that is accepted there, stands for the journal with that
 /// command; and where the disk showed the whole of the journal, it shows the whole of it with the command, and behind the new end
@@ -74,12 +75,11 @@ pub fn commands_are_measured()
         → 268435456 < due_end m o.journal.has_epoch r }
 {}
 
-/// Law: an owner who answers a command goes on as the session does, with the session's reply, where the source of random bytes and
-/// the disk tell what they have.
+/// Law: an owner who answers a command goes on as the session does, with the session's reply, where the disk tells what it shows. Where the
+/// source of random bytes doesn't tell what it has, there are keys of 32 bytes with which the session goes so.
 pub fn answered_sessions_go_on()
     ensures { (limits : Limits) (key : List ℕ) (g : Going) (r : Request) (reply : Reply) (old new : OwnerView) (left_before left_after was shows : Option (List ℕ))
-        → StandsAt limits key g old left_before was → Answers (Ok reply) g.journal r old new left_before left_after was shows
-        → is_some left_after ≡ is_some left_before → is_some shows ≡ is_some was
-        → ((why : Refusal) → reply ≡ Refused why → (left_after ≡ left_before) × (shows ≡ was))
-        → (reply ≡ line_reply g r (answer limits g.journal g.begun r)) × StandsAt limits key (line_going g r (answer limits g.journal g.begun r)) new left_after shows }
+        → StandsAt limits key g old was → Answers (Ok reply) g.journal r old new left_before left_after was shows
+        → is_some shows ≡ is_some was → ((why : Refusal) → reply ≡ Refused why → (left_after ≡ left_before) × (shows ≡ was))
+        → (h : Going) × GoesOn limits g h r reply left_before left_after × StandsAt limits key h new shows × AnswersBehind g h old new was shows }
 {}

@@ -150,8 +150,9 @@ impl Owner {
     /// In this order: a closed owner answers `Closed`; a refused command changes nothing; all memory is taken, or `OutOfMemory`
     /// comes; the keys are drawn, or `RandomFault` or `RandomShort` comes; and the command is committed, behind the session's
     /// epoch where it has none yet. Until then the owner is as it was, but for room. `DiskFault` closes this owner: the command
-    /// may then stand in the store or not, and all before it stands. `RandomShort` comes only where the source has ended, and its
-    /// numbers are exact.
+    /// may then stand in the store or not, and all before it stands. After any other answer nothing is pending on a disk where
+    /// nothing was before. `RandomShort` comes only where the source has ended, and its numbers are exact: `need` is 32 bytes for
+    /// each key that the command draws.
     pub fn apply<D: Disk, R: Source>(
         &mut self,
         alloc: Global,
@@ -166,6 +167,7 @@ impl Owner {
         ensures open { UnlessDiskFault result (self.new.journal.is_closed ≡ self.old.journal.is_closed) }
         ensures kept { IsKeptBy result self.old self.new random.old random.new disk.old disk.new }
         ensures durable { IsDoneThen result (IsDurable (D.may_leave disk.new) (D.shown disk.new)) }
+        ensures calm { IsDurable (D.may_leave disk.old) (D.shown disk.old) → UnlessDiskFault result (IsDurable (D.may_leave disk.new) (D.shown disk.new)) }
         ensures inside { self.old.journal.end ≤ D.size_of disk.old → UnlessDiskFault result (self.new.journal.end ≤ D.size_of disk.new) }
         ensures key { self.new.key ≡ self.old.key }
         ensures limit { UnlessDiskFault result (self.new.journal.limit ≡ self.old.journal.limit) }
@@ -175,7 +177,8 @@ impl Owner {
         ensures disk_counts { DiskCounts result (D.faults disk.old) (D.faults disk.new) }
         ensures source_counts { FillsByCount result (R.faults random.old) (R.faults random.new) }
         ensures draws { OnOk result (TakesKeys (R.left random.old) (R.left random.new)) }
-        ensures short { (left need : ℕ) → result ≡ Err (ApplyFault.RandomShort left need) → FallsShort left need (R.left random.old) (R.left random.new) }
+        ensures short { (left need : ℕ) → result ≡ Err (ApplyFault.RandomShort left need) →
+            FallsShort self.old (request_of command.now) left need (R.left random.old) (R.left random.new) }
     {
         commands_are_measured();
         interrupted_commands_leave_a_journal();

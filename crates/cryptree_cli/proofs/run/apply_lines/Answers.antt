@@ -1,19 +1,24 @@
-use Rattle.std.proofs.Common.{Ok, Err, sym, ap, subst, ◌∙◌}
+use Rattle.std.proofs.Common.{◌≡◌, ◌≤◌, false, Ok, Err, sym, ap, subst, ◌∙◌}
 use Rattle.cryptree_cli.specs.Lines.{lines_ahead}
 use Rattle.cryptree_cli.specs.Running.{Ends, RanLines, version_limits}
 use Rattle.cryptree_cli.proofs.LinesRun.{ran_lines}
 use Rattle.cryptree_cli.proofs.ReadFaults.{cut_lines}
-use Rattle.cryptree_cli.proofs.RunLemmas.{Fails, Step, disk_fault, ends_so, goes_on, random_fault, random_short}
+use Rattle.cryptree_cli.proofs.RunLemmas.{Fails, Step, calm_but, calm_is, disk_fault, ends_so, goes_on, random_fault, random_short}
 use Rattle.store_owner.specs.Owned.{OwnerView}
 use Rattle.cryptree_cli.proofs.run.apply_lines.Goals as goal
 
 pub returns-in-Ok-clause-ran : goal.returns-in-Ok-clause-ran
-returns-in-Ok-clause-ran g c = λ x was draws key m first_shown stands kept.
+returns-in-Ok-clause-ran g c = λ x was key m first_shown stands kept.
+    let calm = calm_is g.row.R.Denot g.row.D.Denot g.R.Source.left g.R.Source.faults g.D.Disk.shown g.D.Disk.faults g.D.Disk.may_leave
+    (c.args.owner, c.args.random.now, c.args.disk.now) (c.run_lines.new.owner, c.run_lines.new.random, c.run_lines.new.disk)
+    c.args.reader c.run_lines.new.reader (g.S.Source.left c.args.input.now) (g.S.Source.left c.run_lines.new.input)
+    (g.W.Sink.written c.args.out.now) (g.W.Sink.written c.run_lines.new.out)
+    (c.run_lines.new.owner.journal.is_closed ≡ false) (c.run_lines.new.owner.journal.end ≤ g.D.Disk.size_of c.run_lines.new.disk) (Ok tt) c.in-Ok.ensures.ran c.in-Ok.ensures.ready in
     ends_so g.row.R.Denot g.row.D.Denot g.R.Source.left g.R.Source.faults g.D.Disk.shown g.D.Disk.faults g.D.Disk.may_leave
     (c.args.owner, c.args.random.now, c.args.disk.now) (c.run_lines.new.owner, c.run_lines.new.random, c.run_lines.new.disk)
     c.args.reader c.run_lines.new.reader (g.S.Source.left c.args.input.now) (g.S.Source.left c.run_lines.new.input)
     (g.W.Sink.written c.args.out.now) (g.W.Sink.written c.run_lines.new.out)
-    (Ok tt) c.in-Ok.ensures.ran c.requires.second c.in-Ok.ensures.input_told x was draws key m first_shown stands kept
+    (Ok tt) c.in-Ok.ensures.ran calm c.requires.second c.in-Ok.ensures.input_told x was key m first_shown stands kept
 
 pub returns-in-Ok-clause-random_told : goal.returns-in-Ok-clause-random_told
 returns-in-Ok-clause-random_told g c =
@@ -48,14 +53,42 @@ returns-in-Ok-clause-disk_counts g c =
     (Ok tt) c.in-Ok.ensures.ran).3
 
 pub returns-clause-ran : goal.returns-clause-ran
-returns-clause-ran g c = λ x was draws key m first_shown stands kept.
-    subst (λ status. Ends status version_limits key m draws (lines_ahead c.args.reader x) first_shown (g.R.Source.left c.run_lines.new.random) (g.D.Disk.shown c.run_lines.new.disk)
-    (g.W.Sink.written c.args.out.now) (g.W.Sink.written c.run_lines.new.out)) (sym c.script_status.ensures)
+returns-clause-ran g c = λ x was key m first_shown stands kept.
+    let calm = calm_is g.row.R.Denot g.row.D.Denot g.R.Source.left g.R.Source.faults g.D.Disk.shown g.D.Disk.faults g.D.Disk.may_leave
+    (c.args.owner, c.args.random.now, c.args.disk.now) (c.run_lines.new.owner, c.run_lines.new.random, c.run_lines.new.disk)
+    c.args.reader c.run_lines.new.reader (g.S.Source.left c.args.input.now) (g.S.Source.left c.run_lines.new.input)
+    (g.W.Sink.written c.args.out.now) (g.W.Sink.written c.run_lines.new.out)
+    (c.run_lines.new.owner.journal.is_closed ≡ false) (c.run_lines.new.owner.journal.end ≤ g.D.Disk.size_of c.run_lines.new.disk) (Err c.in-Err.fault) c.in-Err.ensures.ran c.in-Err.ensures.ready in
+    subst (λ status. Ends status version_limits key m (lines_ahead c.args.reader x)
+    (record {
+      left_before = g.R.Source.left c.args.random.now;
+      left_after = g.R.Source.left c.run_lines.new.random;
+      was = first_shown;
+      shown = g.D.Disk.shown c.run_lines.new.disk;
+      written_before = g.W.Sink.written c.args.out.now;
+      written_after = g.W.Sink.written c.run_lines.new.out;
+    }) (g.D.Disk.may_leave c.run_lines.new.disk)) (sym c.script_status.ensures)
     (ends_so g.row.R.Denot g.row.D.Denot g.R.Source.left g.R.Source.faults g.D.Disk.shown g.D.Disk.faults g.D.Disk.may_leave
     (c.args.owner, c.args.random.now, c.args.disk.now) (c.run_lines.new.owner, c.run_lines.new.random, c.run_lines.new.disk)
     c.args.reader c.run_lines.new.reader (g.S.Source.left c.args.input.now) (g.S.Source.left c.run_lines.new.input)
     (g.W.Sink.written c.args.out.now) (g.W.Sink.written c.run_lines.new.out)
-    (Err c.in-Err.fault) c.in-Err.ensures.ran c.requires.second c.in-Err.ensures.input_told x was draws key m first_shown stands kept)
+    (Err c.in-Err.fault) c.in-Err.ensures.ran calm c.requires.second c.in-Err.ensures.input_told x was key m first_shown stands kept)
+
+pub returns-in-Ok-clause-calm : goal.returns-in-Ok-clause-calm
+returns-in-Ok-clause-calm g c = λ other. c.in-Ok.ensures.ready.2
+
+pub returns-clause-calm : goal.returns-clause-calm
+returns-clause-calm g c = λ other.
+    let calm = calm_is g.row.R.Denot g.row.D.Denot g.R.Source.left g.R.Source.faults g.D.Disk.shown g.D.Disk.faults g.D.Disk.may_leave
+    (c.args.owner, c.args.random.now, c.args.disk.now) (c.run_lines.new.owner, c.run_lines.new.random, c.run_lines.new.disk)
+    c.args.reader c.run_lines.new.reader (g.S.Source.left c.args.input.now) (g.S.Source.left c.run_lines.new.input)
+    (g.W.Sink.written c.args.out.now) (g.W.Sink.written c.run_lines.new.out)
+    (c.run_lines.new.owner.journal.is_closed ≡ false) (c.run_lines.new.owner.journal.end ≤ g.D.Disk.size_of c.run_lines.new.disk) (Err c.in-Err.fault) c.in-Err.ensures.ran c.in-Err.ensures.ready in
+    calm_but g.row.R.Denot g.row.D.Denot g.R.Source.left g.R.Source.faults g.D.Disk.shown g.D.Disk.faults g.D.Disk.may_leave
+    (c.args.owner, c.args.random.now, c.args.disk.now) (c.run_lines.new.owner, c.run_lines.new.random, c.run_lines.new.disk)
+    c.args.reader c.run_lines.new.reader (g.S.Source.left c.args.input.now) (g.S.Source.left c.run_lines.new.input)
+    (g.W.Sink.written c.args.out.now) (g.W.Sink.written c.run_lines.new.out)
+    c.in-Err.fault calm (λ is. other (c.script_status.ensures ∙ is))
 
 pub returns-clause-random_told : goal.returns-clause-random_told
 returns-clause-random_told g c =

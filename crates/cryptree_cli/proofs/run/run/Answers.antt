@@ -1,16 +1,15 @@
-use Rattle.std.proofs.Common.{◌≡◌, inr, length, None, Some, Err, Ok, refl, sym, ap, subst, ◌∙◌}
+use Rattle.std.proofs.Common.{◌≡◌, inl, inr, length, None, Err, Ok, refl, sym, ap, subst, ◌∙◌}
 use Rattle.std.specs.Prelude.{IsTrue}
-use Rattle.cry_io.specs.Told.{WhereTold}
 use Rattle.journal_bytes.specs.Bytes.{image_of}
 use Rattle.journal_bytes.specs.Journals.{StandsForJournal}
 use Rattle.cryptree_cli.specs.Lines.{lines_ahead}
 use Rattle.cryptree_cli.specs.Refusing.{is_refusal}
-use Rattle.cryptree_cli.specs.Running.{Ends, FirstIsBad, Judges, KeepsFrom, RanLines, ReadsWhole, key_in_lines, lines_behind, lines_in, lines_typed, open_status, version_limits}
+use Rattle.cryptree_cli.specs.Running.{Ends, FirstIsBad, Judges, KeepsFrom, RanLines, ReadsWhole, Seen, lines_behind, lines_in, lines_typed, open_status, version_limits}
 use Rattle.cryptree_cli.proofs.LinesRun.{bad_is_never_done, lines_as_typed, unopened_lines, unread_lines}
 use Rattle.cryptree_cli.proofs.ReadFaults.{cut_first, unopened_reads_none}
-use Rattle.cryptree_cli.proofs.RefusedRuns.{leaves_refused, opened_refuses_none, reading_refuses_none}
+use Rattle.cryptree_cli.proofs.RefusedRuns.{leaves_unopened, opened_refuses_none, reading_refuses_none, refusal_is_other, untouched}
 use Rattle.cryptree_cli.proofs.RunEnds.{still_told}
-use Rattle.cryptree_cli.proofs.RunOpening.{bad_first_is_unjudged, first_alone, first_ends, first_is_bad, gives_first, key_is_given, not_before, opened_has_no_verdict, opened_stands, reading_draws_none, same_key, unopened_draws_none, unopened_ends, unopened_is_judged, unopened_is_no_line}
+use Rattle.cryptree_cli.proofs.RunOpening.{bad_first_is_unjudged, first_alone, first_ends, first_is_bad, gives_first, key_is_given, not_before, opened_has_no_verdict, opened_stands, reading_draws_none, same_key, seen_unopened, unopened_draws_none, unopened_ends, unopened_is_judged, unopened_is_no_line}
 use Rattle.holder_client.specs.Asking.{verdict}
 use Rattle.holder_client.specs.Asking.Asking.{ToWrite}
 use Rattle.cryptree_cli.proofs.run.run.Goals as goal
@@ -31,13 +30,15 @@ returns-in-Err-clause-judged g c = λ x was image shown key hands.
     key hands (verdict (ToWrite key) image))
 
 pub returns-in-Err-clause-ran : goal.returns-in-Err-clause-ran
-returns-in-Err-clause-ran g c = λ x was draws left key m hands shows.
+returns-in-Err-clause-ran g c = λ x was key m hands shows.
     let after = still_told (g.S.Source.left c.first_owner.new.input) (g.S.Source.left c.args.input.now) x c.in-Err.ensures.told was in
-    subst (λ status. Ends status version_limits key m draws (lines_behind (lines_in x)) (g.D.Disk.shown c.args.disk.now) (g.R.Source.left c.args.random.now) (g.D.Disk.shown c.args.disk.now)
-    (g.W.Sink.written c.args.out.now) (g.W.Sink.written c.args.out.now)) (sym c.script_status.ensures)
+    let left = g.R.Source.left c.args.random.now in
+    let shown = g.D.Disk.shown c.args.disk.now in
+    let written = g.W.Sink.written c.args.out.now in
+    subst (λ status. Ends status version_limits key m (lines_behind (lines_in x)) (seen_unopened left shown shown written) (g.D.Disk.may_leave c.args.disk.now)) (sym c.script_status.ensures)
     (first_ends c.in-Err.fault c.in-Err.ensures.faults (lines_in x) (lines_ahead c.first_owner.new.reader after.0)
     (gives_first (Err c.in-Err.fault) c.new-reader.result x (lines_ahead c.first_owner.new.reader after.0) c.new-reader.ensures (c.in-Err.ensures.gives x after.0 was after.1))
-    key hands version_limits m draws (lines_behind (lines_in x)) (g.D.Disk.shown c.args.disk.now) (g.R.Source.left c.args.random.now) (g.D.Disk.shown c.args.disk.now) (g.W.Sink.written c.args.out.now) left shows)
+    key hands version_limits m (lines_behind (lines_in x)) left shown shown written (g.D.Disk.may_leave c.args.disk.now) shows)
 
 pub returns-in-Ok-open_store-clause-first_line : goal.returns-in-Ok-open_store-clause-first_line
 returns-in-Ok-open_store-clause-first_line g c = λ x was none.
@@ -70,35 +71,44 @@ returns-in-Err-open_store-clause-judged g c = λ x was image shown key hands.
     (unopened_is_judged c.in-Err-open_store.fault c.in-Ok.key image (c.in-Err-open_store.ensures.largest refl image shown)))
 
 pub returns-in-Err-open_store-clause-ran : goal.returns-in-Err-open_store-clause-ran
-returns-in-Err-open_store-clause-ran g c = λ x was draws left key m hands shows.
+returns-in-Err-open_store-clause-ran g c = λ x was key m hands shows.
     let after = still_told (g.S.Source.left c.first_owner.new.input) (g.S.Source.left c.args.input.now) x c.in-Ok.ensures.told was in
     let same = same_key c.in-Ok.key key (lines_in x) (lines_ahead c.first_owner.new.reader after.0)
     (gives_first (Ok c.in-Ok.key) c.new-reader.result x (lines_ahead c.first_owner.new.reader after.0) c.new-reader.ensures (c.in-Ok.ensures.gives x after.0 was after.1)) hands in
     let stands = subst (λ k. StandsForJournal k m shows.0) (sym same) shows.2 in
     let now = still_told (g.D.Disk.shown c.open_store.new.disk) (g.D.Disk.shown c.args.disk.now) shows.0 c.in-Err-open_store.ensures.told shows.1 in
-    subst (λ status. Ends status version_limits key m draws (lines_behind (lines_in x)) (g.D.Disk.shown c.args.disk.now) (g.R.Source.left c.args.random.now) (g.D.Disk.shown c.open_store.new.disk)
-    (g.W.Sink.written c.args.out.now) (g.W.Sink.written c.args.out.now)) (sym c.open_status.ensures)
+    let left = g.R.Source.left c.args.random.now in
+    let first = g.D.Disk.shown c.args.disk.now in
+    let shown = g.D.Disk.shown c.open_store.new.disk in
+    let written = g.W.Sink.written c.args.out.now in
+    subst (λ status. Ends status version_limits key m (lines_behind (lines_in x)) (seen_unopened left first shown written) (g.D.Disk.may_leave c.open_store.new.disk)) (sym c.open_status.ensures)
     (unopened_ends c.in-Err-open_store.fault (c.in-Err-open_store.ensures.never m shows.0 shows.1 stands stands.valid.1)
-    version_limits key m draws (lines_behind (lines_in x)) (g.D.Disk.shown c.args.disk.now) (g.R.Source.left c.args.random.now) (g.D.Disk.shown c.open_store.new.disk) (g.W.Sink.written c.args.out.now) left
+    version_limits key m (lines_behind (lines_in x)) left first shown written (g.D.Disk.may_leave c.open_store.new.disk)
     (now.0, now.1, subst (λ k. StandsForJournal k m now.0) same (c.in-Err-open_store.ensures.left m shows.0 now.0 shows.1 now.1 stands stands.valid.1)))
 
 pub returns-in-Ok-open_store-clause-ran : goal.returns-in-Ok-open_store-clause-ran
-returns-in-Ok-open_store-clause-ran g c = λ x was draws left key m hands shows.
+returns-in-Ok-open_store-clause-ran g c = λ x was key m hands shows.
     let after = still_told (g.S.Source.left c.first_owner.new.input) (g.S.Source.left c.args.input.now) x c.in-Ok.ensures.told was in
     let gives = gives_first (Ok c.in-Ok.key) c.new-reader.result x (lines_ahead c.first_owner.new.reader after.0) c.new-reader.ensures (c.in-Ok.ensures.gives x after.0 was after.1) in
     let same = same_key c.in-Ok.key key (lines_in x) (lines_ahead c.first_owner.new.reader after.0) gives hands in
     let stands = subst (λ k. StandsForJournal k m shows.0) (sym same) shows.2 in
-    let begins = opened_stands c.in-Ok.key m draws c.in-Ok-open_store.owner (g.R.Source.left c.args.random.now) (g.D.Disk.shown c.open_store.new.disk) (g.D.Disk.may_leave c.open_store.new.disk)
+    let begins = opened_stands c.in-Ok.key m c.in-Ok-open_store.owner (g.D.Disk.shown c.open_store.new.disk) (g.D.Disk.may_leave c.open_store.new.disk)
     (c.in-Ok-open_store.ensures.stands m shows.0 shows.1 stands stands.valid.1) c.in-Ok-open_store.ensures.fresh
-    (c.in-Ok-open_store.ensures.settled m shows.0 shows.1 stands stands.valid.1) left in
+    (c.in-Ok-open_store.ensures.settled m shows.0 shows.1 stands stands.valid.1) in
     let keeps : KeepsFrom (length (image_of c.in-Ok.key m)) (g.D.Disk.shown c.args.disk.now) (g.D.Disk.shown c.open_store.new.disk) = λ a y e f.
     let one : shows.0 ≡ a = let both = sym shows.1 ∙ e in cc in
     c.in-Ok-open_store.ensures.behind m a y e f (subst (λ b. StandsForJournal c.in-Ok.key m b) one stands) stands.valid.1 in
-    subst (λ lines. Ends c.apply_lines.result version_limits key m draws lines (g.D.Disk.shown c.args.disk.now) (g.R.Source.left c.apply_lines.new.random) (g.D.Disk.shown c.apply_lines.new.disk)
-    (g.W.Sink.written c.args.out.now) (g.W.Sink.written c.apply_lines.new.out)) gives.1
-    (subst (λ k. Ends c.apply_lines.result version_limits k m draws (lines_ahead c.first_owner.new.reader after.0) (g.D.Disk.shown c.args.disk.now) (g.R.Source.left c.apply_lines.new.random) (g.D.Disk.shown c.apply_lines.new.disk)
-    (g.W.Sink.written c.args.out.now) (g.W.Sink.written c.apply_lines.new.out)) same
-    (c.apply_lines.ensures.ran after.0 after.1 draws c.in-Ok.key m (g.D.Disk.shown c.args.disk.now) begins keeps))
+    let ended : Seen = record {
+      left_before = g.R.Source.left c.args.random.now;
+      left_after = g.R.Source.left c.apply_lines.new.random;
+      was = g.D.Disk.shown c.args.disk.now;
+      shown = g.D.Disk.shown c.apply_lines.new.disk;
+      written_before = g.W.Sink.written c.args.out.now;
+      written_after = g.W.Sink.written c.apply_lines.new.out;
+    } in
+    subst (λ lines. Ends c.apply_lines.result version_limits key m lines ended (g.D.Disk.may_leave c.apply_lines.new.disk)) gives.1
+    (subst (λ k. Ends c.apply_lines.result version_limits k m (lines_ahead c.first_owner.new.reader after.0) ended (g.D.Disk.may_leave c.apply_lines.new.disk)) same
+    (c.apply_lines.ensures.ran after.0 after.1 c.in-Ok.key m (g.D.Disk.shown c.args.disk.now) begins keeps))
 
 -- ---- the lines, whatever the disk shows
 
@@ -157,17 +167,38 @@ pub returns-in-Ok-open_store-clause-refused : goal.returns-in-Ok-open_store-clau
 returns-in-Ok-open_store-clause-refused g c = λ is. opened_refuses_none c.apply_lines.result (c.apply_lines.ensures.none_of_bytes None refl) is
 
 pub returns-in-Err-open_store-clause-refused : goal.returns-in-Err-open_store-clause-refused
-returns-in-Err-open_store-clause-refused g c = λ is.
-    let hands : WhereTold (g.S.Source.left c.args.input.now) (λ bytes. key_in_lines (lines_in bytes) ≡ Some c.in-Ok.key) = λ x was.
-    let after = still_told (g.S.Source.left c.first_owner.new.input) (g.S.Source.left c.args.input.now) x c.in-Ok.ensures.told was in
-    (gives_first (Ok c.in-Ok.key) c.new-reader.result x (lines_ahead c.first_owner.new.reader after.0) c.new-reader.ensures (c.in-Ok.ensures.gives x after.0 was after.1)).0
-    in
-    record {
+returns-in-Err-open_store-clause-refused g c = λ is. record {
+  undrawn = refl;
+  unprinted = refl;
+  leaves = leaves_unopened g.D.Disk.shown g.D.Disk.size_of g.D.Disk.may_leave (g.S.Source.left c.args.input.now) c.in-Ok.key c.args.disk.now c.open_store.new.disk
+      c.in-Err-open_store.fault (λ disk. refusal_is_other c.open_status.result is (c.open_status.ensures ∙ disk))
+      (λ x was.
+      let after = still_told (g.S.Source.left c.first_owner.new.input) (g.S.Source.left c.args.input.now) x c.in-Ok.ensures.told was in
+      (gives_first (Ok c.in-Ok.key) c.new-reader.result x (lines_ahead c.first_owner.new.reader after.0) c.new-reader.ensures (c.in-Ok.ensures.gives x after.0 was after.1)).0)
+      c.in-Err-open_store.ensures.refused;
+}
+
+-- ---- nothing pending
+
+pub returns-in-Err-clause-settled : goal.returns-in-Err-clause-settled
+returns-in-Err-clause-settled g c = λ other.
+    inl (record { undrawn = refl; unprinted = refl; leaves = inl (untouched g.D.Disk.shown g.D.Disk.size_of g.D.Disk.may_leave c.args.disk.now) })
+
+pub returns-in-Err-open_store-clause-settled : goal.returns-in-Err-open_store-clause-settled
+returns-in-Err-open_store-clause-settled g c = λ other.
+    inl (record {
       undrawn = refl;
       unprinted = refl;
-      leaves = leaves_refused g.D.Disk.shown g.D.Disk.size_of g.D.Disk.may_leave (g.S.Source.left c.args.input.now) c.in-Ok.key c.args.disk.now c.open_store.new.disk
-          c.in-Err-open_store.fault (subst (λ status. IsTrue (is_refusal status)) c.open_status.ensures is) hands c.in-Err-open_store.ensures.refused;
-    }
+      leaves = leaves_unopened g.D.Disk.shown g.D.Disk.size_of g.D.Disk.may_leave (g.S.Source.left c.args.input.now) c.in-Ok.key c.args.disk.now c.open_store.new.disk
+          c.in-Err-open_store.fault (λ disk. other (c.open_status.ensures ∙ disk))
+          (λ x was.
+          let after = still_told (g.S.Source.left c.first_owner.new.input) (g.S.Source.left c.args.input.now) x c.in-Ok.ensures.told was in
+          (gives_first (Ok c.in-Ok.key) c.new-reader.result x (lines_ahead c.first_owner.new.reader after.0) c.new-reader.ensures (c.in-Ok.ensures.gives x after.0 was after.1)).0)
+          c.in-Err-open_store.ensures.refused;
+    })
+
+pub returns-in-Ok-open_store-clause-settled : goal.returns-in-Ok-open_store-clause-settled
+returns-in-Ok-open_store-clause-settled g c = λ other. inr (c.apply_lines.ensures.calm other)
 
 -- ---- an input that failed
 

@@ -7,7 +7,7 @@ use Rattle.public_fold.specs.declared.heads.Skeleton.{Skeleton}
 use Rattle.journal_bytes.specs.Folds.{public_stand}
 use Rattle.journal_bytes.specs.Texting.{due_key}
 use Rattle.store_owner.specs.Applying.{IsCarriedOut, IsCutShort, IsDone, IsInterrupted}
-use Rattle.store_owner.specs.Drawing.{joined}
+use Rattle.store_owner.specs.Drawing.{AreKeys, joined}
 use Rattle.store_owner.specs.Owned.{OwnerView}
 use Rattle.store_owner.specs.Planning.{AnswersPlan, reply_for}
 use Rattle.store_owner.specs.Sound.{IsSound, own_store}
@@ -18,7 +18,7 @@ use Rattle.store_owner.proofs.Applied.{carried_answer, reply_due, undrawn_answer
 use Rattle.store_owner.proofs.OtherRoom.{accepted_still, carried_from, limit_still, sound_still, store_still, interrupted_from}
 use Rattle.std.proofs.lemmas.Result.{on_err_weaker}
 use Rattle.store_owner.proofs.Planned.{is_refused}
-use Rattle.store_owner.proofs.Taken.{err_is, falls_short, never_short, takes_filled, takes_none}
+use Rattle.store_owner.proofs.Taken.{are_planned, err_is, falls_short, never_short, takes_filled, takes_none}
 use Rattle.store_owner.proofs.owner.Owner.apply.Goals as goal
 
 pub returns-in-Some-clause-answers : goal.returns-in-Some-clause-answers
@@ -82,6 +82,7 @@ returns-clause-answers g c = λ m is.
       drawn = drawn;
       drawn_count = ap length c.as_slice.ensures ∙ c.in-Ok-fill.ensures.count ∙ c.in-Ok.ensures ∙ ap length c.as_slice-count.ensures
           ∙ ap (λ (s : Skeleton). length s.keys.items) c.skeleton.ensures ∙ (planned.3 m is).0;
+      drawn_sizes = subst AreKeys (sym c.as_slice.ensures) c.in-Ok-fill.ensures.sizes;
       next_bytes = λ x y a b. c.in-Ok-fill.ensures.bytes x y a b ∙ ap (λ (d : List (List ℕ)). joined d ++ y) (sym c.as_slice.ensures);
       disk_stands = c.interrupted_commands_leave_a_journal.ensures m r drawn o was shows is limit bounded (planned.2 m is) (interrupted_from r drawn o mid was shows c.plan.ensures.room h);
     } in
@@ -118,6 +119,9 @@ returns-in-Err-fill-clause-short g c = λ left need is.
     let count : c.in-Ok.keys ≡ length p.ready.skeleton.keys.items =
     c.in-Ok.ensures ∙ ap length c.as_slice-count.ensures ∙ ap (λ (s : Skeleton). length s.keys.items) c.skeleton.ensures
     in
-    falls_short c.in-Err-fill.fault c.in-Ok.keys left need (g.R.Source.left c.args.random.now) (g.R.Source.left c.fill.new.random) (subst (λ n. 32 * n < 2 ^ 32) (sym count) few)
-    c.in-Err-fill.ensures.faults c.in-Err-fill.ensures.bytes c.in-Err-fill.ensures.told
-    (err_is c.in-Err-fill.fault (faults.RandomShort left need) is)
+    let store = c.sound_owners_keep_a_store.ensures.store o in
+    let accepted = sym (c.refused.ensures.cause (own_store o) store) ∙ c.in_default.is in
+    let plan = are_planned o mid r p c.plan.ensures.room store planned.0 in
+    falls_short o r c.in-Ok.keys (g.R.Source.left c.args.random.now) (g.R.Source.left c.fill.new.random) sound accepted
+    (λ at seen. count ∙ plan at seen) (subst (λ n. 32 * n < 2 ^ 32) (sym count) few) c.in-Err-fill.ensures.told
+    c.in-Err-fill.fault left need c.in-Err-fill.ensures.faults c.in-Err-fill.ensures.bytes (err_is c.in-Err-fill.fault (faults.RandomShort left need) is)
