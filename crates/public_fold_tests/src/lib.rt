@@ -3,10 +3,4 @@
 #![tactic(auto)]
 
 #[cfg(test)]
-mod fitting;
-#[cfg(test)]
-mod notes;
-#[cfg(test)]
-mod payloads;
-#[cfg(test)]
 mod preparing;

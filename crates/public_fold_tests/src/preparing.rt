@@ -2,7 +2,6 @@
 ghost use Rattle.std.specs.Prelude.{◌≡◌, true, IfOk};
 ghost use Rattle.public_fold.specs.Preparing.{CanSettle, is_new_holder};
 
-use crate::notes::{blank, try_note};
 use cry_base::{HolderId, Mem, Role, Serial};
 use public_fold::{FoldFault, Prepared, PublicState, Skeleton};
 use record_format::Note;
@@ -58,15 +57,23 @@ struct Made {
     check: Option<[u8; 32]>,
 }
 
-/// The first holder of a fresh store.
+fn make_root(alloc: Global, state: &mut PublicState) -> Result<(), FoldFault> {
+    let begins_epoch = state.epoch().0 < 1000;
+    let ready = state.prepare(alloc, &Note::Root, begins_epoch)?;
+    make(state, ready)?;
+    Ok(())
+}
+
+/// The first holder of a fresh store, as a copy of the state knows it.
 fn first_holder(alloc: Global) -> Result<Made, FoldFault> {
-    let mut state = blank(alloc)?;
-    try_note(alloc, &mut state, &Note::Root)?;
+    let mut state = PublicState::new(alloc)?;
+    make_root(alloc, &mut state)?;
     let numbers = make_holder(alloc, &mut state)?;
+    let copy = state.copy()?;
     Ok(Made {
         numbers,
-        serial: state.present(Role::Holder(FIRST)),
-        check: state.grants().check_of(FIRST),
+        serial: copy.present(Role::Holder(FIRST)),
+        check: copy.grants().check_of(FIRST),
     })
 }
 
