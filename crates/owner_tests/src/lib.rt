@@ -6,5 +6,3 @@
 mod fakes;
 #[cfg(test)]
 mod limit;
-#[cfg(test)]
-mod make;

@@ -58,23 +58,30 @@ fn replies(alloc: Global, store: &mut FreshStore) -> Result<List<Reply>, Fail>
     Ok(replies)
 }
 
-#[test]
-fn a_grant_that_would_end_past_the_store_limit_is_refused(rt: HostRuntime) -> Result<(), Fail> {
-    let alloc = rt.alloc();
-    let mut store = make_store(alloc, 2557)?;
+/// What a fresh store with this limit replies, and how many bytes it has then.
+fn outcome(alloc: Global, limit: u64) -> Result<(List<Reply>, usize), Fail>
+    requires least { 819 ≤ limit }
+    requires known { limit ≤ 268435456 }
+{
+    let mut store = make_store(alloc, limit)?;
     let replies = replies(alloc, &mut store)?;
-    let full = Reply::Refused { why: Refusal::Full };
-    assert!(rt; replies.as_slice() == [Reply::Done, Reply::Done, MADE, full].as_slice());
-    assert!(rt; store.disk.bytes().len() < 2557);
-    Ok(())
+    Ok((replies, store.disk.bytes().len()))
 }
 
+const REFUSED: [Reply; 4] = [
+    Reply::Done,
+    Reply::Done,
+    MADE,
+    Reply::Refused { why: Refusal::Full },
+];
+
+const DONE: [Reply; 4] = [Reply::Done, Reply::Done, MADE, Reply::Done];
+
 #[test]
-fn a_grant_that_ends_at_the_store_limit_is_done(rt: HostRuntime) -> Result<(), Fail> {
-    let alloc = rt.alloc();
-    let mut store = make_store(alloc, 2558)?;
-    let replies = replies(alloc, &mut store)?;
-    assert!(rt; replies.as_slice() == [Reply::Done, Reply::Done, MADE, Reply::Done].as_slice());
-    assert_eq!(rt; store.disk.bytes().len(), 2558);
+fn a_grant_is_refused_where_it_would_end_past_the_store_limit(rt: HostRuntime) -> Result<(), Fail> {
+    let (replies, len) = outcome(rt.alloc(), 2557)?;
+    assert!(rt; replies.as_slice() == REFUSED.as_slice() && len == 2333);
+    let (replies, len) = outcome(rt.alloc(), 2558)?;
+    assert!(rt; replies.as_slice() == DONE.as_slice() && len == 2558);
     Ok(())
 }
