@@ -21,7 +21,6 @@ pub mod Stood
 pub mod Streamed
 pub mod Stopped
 pub mod Tails
-pub mod Turned
 pub mod Walked
 pub mod Walks
 pub mod Written

@@ -1,5 +1,5 @@
 -- A spelled batch behind an open gate is read as it was spelled, and so is a whole image.
-use Rattle.std.proofs.Common.{◌≡◌, ◌≢◌, ℕ, ◌+◌, ◌-◌, ◌<◌, ◌≤◌, ◌^◌, true, false, eqb, eq-eqb, List, [], ◌∷◌, ◌++◌, length, take, drop, Option, None, Some, Result, Ok, append_assoc, arith, refl, sym, ap, subst, ◌∙◌, length-append}
+use Rattle.std.proofs.Common.{◌≡◌, ◌≢◌, ℕ, ◌+◌, ◌-◌, ◌<◌, ◌≤◌, ◌^◌, true, false, eqb, eq-eqb, List, [], ◌∷◌, ◌++◌, length, take, drop, Option, Some, Result, Ok, append_assoc, arith, refl, sym, ap, subst, ◌∙◌, length-append}
 use Rattle.std.specs.Prelude.{nat_le, codes, slice_range, slice_index}
 use Rattle.std.specs.Str.{bytes_eq}
 use Rattle.std.proofs.Math.Seq.{drop-append_seam}
@@ -18,13 +18,11 @@ use Rattle.commit_journal.specs.declared.past.Past.{Past}
 use Rattle.commit_journal.specs.Answering.{Fault, and_then}
 use Rattle.commit_journal.specs.Image.{Batch, type_byte, batch_head, batch_veil, masked_payload, batch_check, owner_tag, spell_batch, spell_header, spell_batches, image}
 use Rattle.commit_journal.specs.Laws.{batch_of, batches_from, placed_from, AreBodies}
-use Rattle.commit_journal.specs.Log.{PlainTurn, slot_in, payload_in, check_in, tag_in, gate_in, is_batch, body_of, placed_body, as_commands, turn_of, tag_due, tagged_turn, head_of, head_at, turn_at, before, start_of, start_at, log_verdict}
-use Rattle.commit_journal.specs.Logs.{walk_at, known_turn, known_log}
+use Rattle.commit_journal.specs.Log.{PlainTurn, slot_in, payload_in, check_in, tag_in, gate_in, is_batch, body_of, placed_body, as_commands, turn_of, tag_due, tagged_turn, head_of, head_at, turn_at, before, log_at, start_of, start_at, log_verdict}
 use Rattle.commit_journal.specs.Placed.{PlainBody, Commands, NewEpoch}
 use Rattle.commit_journal.proofs.Judged.{start_long, head_tested, turn_is, published_is}
 use Rattle.commit_journal.proofs.Pieces.{piece, item, front, length-head_bytes, head_is}
-use Rattle.commit_journal.proofs.Turned.{IsKnown, turns_on, known_ahead, known_next, known_from_start, all_known}
-use Rattle.commit_journal.proofs.Walks.{walk_shut}
+use Rattle.commit_journal.proofs.Walked.{walks_on, walk_closed}
 
 -- ---- the parts of a batch in memory
 
@@ -257,17 +255,17 @@ same_heads x y xs ys is = (cc, cc)
 abbrev pub rest_of : List ℕ → Past → List PlainBody → List ℕ
 rest_of owner past bodies = spell_batches owner past.tag (batches_from past.number past.epoch.0 bodies)
 
-pub walk_spelled : (most : Option ℕ) (owner : List ℕ) (bodies : List PlainBody) (past : Past) (rest : List ℕ) (gate : ℕ) (behind : List ℕ) →
-    IsKnown most (past.number + length bodies) → AreBodies past.epoch.0 bodies → past.number ≤ past.at → past.epoch.0 ≤ past.number →
+pub walk_spelled : (owner : List ℕ) (bodies : List PlainBody) (past : Past) (rest : List ℕ) (gate : ℕ) (behind : List ℕ) →
+    AreBodies past.epoch.0 bodies → past.number ≤ past.at → past.epoch.0 ≤ past.number →
     past.at + length (rest_of owner past bodies) ≤ 268435456 → gate ≢ 1 →
     past.gate ∷ rest ≡ rest_of owner past bodies ++ gate ∷ behind →
-    walk_at (known_turn most owner) past 0 rest ≡ Ok (placed_from past.at past.number past.epoch.0 bodies)
+    log_at owner past 0 rest ≡ Ok (placed_from past.at past.number past.epoch.0 bodies)
 unfolding spell_batches before
-walk_spelled most owner [] past rest gate behind known are number_small epoch_small fits shut is =
+walk_spelled owner [] past rest gate behind are number_small epoch_small fits shut is =
     let heads = same_heads past.gate gate rest behind is in
     let closed : eqb past.gate 1 ≡ false = let g = heads.0 in grind (arith, nat_tests) in
-    walk_shut (known_turn most owner) past rest closed
-walk_spelled most owner (body ∷ bodies) past rest gate behind known are number_small epoch_small fits shut is =
+    walk_closed owner past rest closed
+walk_spelled owner (body ∷ bodies) past rest gate behind are number_small epoch_small fits shut is =
     let b = next_batch past body in
     let bytes = spell_batch owner past.tag (batch_veil owner b) b in
     let tag = owner_tag owner past.tag b in
@@ -289,13 +287,12 @@ walk_spelled most owner (body ∷ bodies) past rest gate behind known are number
     ∙ ap (λ r. drop (length (bytes ++ g ∷ [])) r) (rest_is ∙ sym (append_assoc bytes (g ∷ []) more))
     ∙ drop-append_seam (bytes ++ g ∷ []) more
     in
-    let onward = walk_spelled most owner bodies now more gate behind (known_next most past.number now.number (length bodies) (number_rises past body) known) (others_may past.epoch.0 past.number body bodies are)
+    let onward = walk_spelled owner bodies now more gate behind (others_may past.epoch.0 past.number body bodies are)
     (omega (arith, number_rises past body)) (omega (arith, number_rises past body, epoch_bound past body))
     (omega (arith, fits, long, length-append bytes others)) shut (sym next.2)
     in
-    turns_on most owner past rest (next_turn owner past body g) open_gate
-    (known_ahead most owner past rest (length bodies) known ∙ ap (turn_at owner past) rest_is ∙ turn) (omega arith)
-    ∙ ap (λ r. before ((next_turn owner past body g).placed ∷ []) (walk_at (known_turn most owner) now 0 r)) there
+    walks_on owner past rest (next_turn owner past body g) open_gate (ap (turn_at owner past) rest_is ∙ turn) (omega arith)
+    ∙ ap (λ r. before ((next_turn owner past body g).placed ∷ []) (log_at owner now 0 r)) there
     ∙ ap (before ((next_turn owner past body g).placed ∷ [])) onward
 
 -- ---- the whole image
@@ -328,11 +325,11 @@ pub length-header : (owner : List ℕ) → length (spell_header owner) ≡ 41
 unfolding spell_header
 length-header owner = omega (arith, length-check_of owner)
 
-pub image_known : (most : Option ℕ) (owner : List ℕ) (bodies : List PlainBody) (gate : ℕ) (behind : List ℕ) → IsKnown most (length bodies) → AreBodies 0 bodies →
+pub image_read : (owner : List ℕ) (bodies : List PlainBody) (gate : ℕ) (behind : List ℕ) → AreBodies 0 bodies →
     length (image owner (batches_from 0 0 bodies)) + 1 ≤ 268435456 → gate ≢ 1 →
-    known_log most owner (image owner (batches_from 0 0 bodies) ++ gate ∷ behind) ≡ Ok (placed_from 42 0 0 bodies)
-unfolding image known_log and_then
-image_known most owner bodies gate behind known are fits shut =
+    log_verdict owner (image owner (batches_from 0 0 bodies) ++ gate ∷ behind) ≡ Ok (placed_from 42 0 0 bodies)
+unfolding image log_verdict and_then
+image_read owner bodies gate behind are fits shut =
     let header = spell_header owner in
     let batches = spell_batches owner (check_of owner) (batches_from 0 0 bodies) in
     let next = begins batches gate behind in
@@ -349,13 +346,7 @@ image_known most owner bodies gate behind known are fits shut =
     in
     let enough : 42 ≤ length s = omega (arith, ap length is, length-append (header ++ g ∷ []) more, long) in
     let start : start_at owner s ≡ Ok (first_past owner g) = start_long owner s enough ∙ ap (start_of owner) first ∙ start_spelled owner g in
-    ap (λ p. and_then p (λ past. walk_at (known_turn most owner) past 0 (drop 42 s))) start
-    ∙ ap (λ r. walk_at (known_turn most owner) (first_past owner g) 0 r) rest
-    ∙ walk_spelled most owner bodies (first_past owner g) more gate behind (known_from_start most (length bodies) known) are (omega arith) (omega arith)
+    ap (λ p. and_then p (λ past. log_at owner past 0 (drop 42 s))) start
+    ∙ ap (λ r. log_at owner (first_past owner g) 0 r) rest
+    ∙ walk_spelled owner bodies (first_past owner g) more gate behind are (omega arith) (omega arith)
     (omega (arith, fits, length-append header batches, length-header owner)) shut (sym next.2)
-
-pub image_read : (owner : List ℕ) (bodies : List PlainBody) (gate : ℕ) (behind : List ℕ) → AreBodies 0 bodies →
-    length (image owner (batches_from 0 0 bodies)) + 1 ≤ 268435456 → gate ≢ 1 →
-    log_verdict owner (image owner (batches_from 0 0 bodies) ++ gate ∷ behind) ≡ Ok (placed_from 42 0 0 bodies)
-image_read owner bodies gate behind are fits shut =
-    let s = image owner (batches_from 0 0 bodies) ++ gate ∷ behind in sym (all_known owner s) ∙ image_known None owner bodies gate behind tt are fits shut

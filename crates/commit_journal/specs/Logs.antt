@@ -1,12 +1,12 @@
 -- The batches of a log as who reads it may read them: the owner as `log_verdict` says, and a holder, and the owner who
 -- opens it for writing. This project's own, docs/FORMAT.md, "Reading" and "Opening for writing".
-use Rattle.std.specs.Prelude.{◌≡◌, ◌≤◌, ℕ, zero, suc, ◌+◌, ◌-◌, ◌==◌, nat_le, if◌then◌else◌, Bool, false, List, [], ◌∷◌, ◌++◌, length, take, drop, codes, slice_index, slice_range, Option, None, Some, Result, Ok, Err}
+use Rattle.std.specs.Prelude.{◌≡◌, ◌≤◌, ℕ, zero, suc, ◌+◌, ◌-◌, ◌==◌, nat_le, if◌then◌else◌, List, [], ◌∷◌, ◌++◌, length, take, drop, codes, slice_index, slice_range, Option, Some, Result, Ok, Err}
 use Rattle.std.specs.Str.{bytes_eq}
 use Rattle.chacha_seal.specs.Sealing.{veil_of, masked}
 use Rattle.commit_journal.specs.declared.head.Head.{Head}
 use Rattle.commit_journal.specs.declared.past.Past.{Past}
-use Rattle.commit_journal.specs.Answering.{Fault, NotAStore, Damaged, Tampered, and_then}
-use Rattle.commit_journal.specs.Log.{PlainTurn, payload_in, tag_in, tag_due, body_of, placed_body, turn_of, published_turn, head_at, turn_at, goes_on, start_at}
+use Rattle.commit_journal.specs.Answering.{Fault, NotAStore, Tampered, and_then}
+use Rattle.commit_journal.specs.Log.{PlainTurn, payload_in, tag_in, tag_due, body_of, placed_body, turn_of, published_turn, head_at, goes_on, start_at}
 use Rattle.commit_journal.specs.Placed.{PlainBody, Commands, NewEpoch, PlainPlaced}
 
 -- the batches behind a gate, as each turn gives them, by the bytes behind it, of which the first so many belong to the
@@ -18,19 +18,6 @@ walk_at turn past zero (byte ∷ rest) =
     if past.gate == 1
     then goes_on (turn past (byte ∷ rest)) (λ next. walk_at turn next.past (next.past.at - (past.at + 1)) rest)
     else Ok []
-
--- whether no batch behind this number is known, where so many are, or all
-unfoldable pub is_last_known : Option ℕ → ℕ → Bool
-is_last_known None number = false
-is_last_known (Some most) number = number == most
-
--- the owner's turn where so many batches are known: a further one is damaged at its first byte, whatever stands there
-unfoldable pub known_turn : Option ℕ → List ℕ → Past → List ℕ → Result (Option PlainTurn) Fault
-known_turn most owner past rest = if is_last_known most past.number then Err (Damaged past.at) else turn_at owner past rest
-
--- the batches that the owner reads, or the first test that fails, where so many are known, or all
-unfoldable pub known_log : Option ℕ → List ℕ → List ℕ → Result (List PlainPlaced) Fault
-known_log most owner bytes = and_then (start_at owner bytes) (λ past. walk_at (known_turn most owner) past 0 (drop 42 bytes))
 
 -- what stands behind an open gate, where these bytes are left, if the whole of a batch is judged so
 unfoldable pub turn_by : (Past → Head → List ℕ → Result (Option PlainTurn) Fault) → Past → List ℕ → Result (Option PlainTurn) Fault

@@ -1,5 +1,5 @@
 -- A turn of the walk, without the room that its lists have beside their items.
-use Rattle.std.specs.Prelude.{◌≡◌, ◌<◌, ◌≤◌, ℕ, Option, None, Some}
+use Rattle.std.specs.Prelude.{◌≡◌, ℕ, Option, None, Some}
 use Rattle.commit_journal.specs.declared.judge.Turn.{Turn}
 use Rattle.commit_journal.specs.Log.{PlainTurn}
 use Rattle.commit_journal.specs.Placed.{plain_placed}
@@ -16,8 +16,3 @@ plain_option (Some turn) = Some (plain_turn turn)
 abbrev pub GoesOnAt : ℕ → Option Turn → Type 0
 GoesOnAt at None = Unit {0}
 GoesOnAt at (Some turn) = turn.past.at ≡ at
-
--- it goes on behind this place and within so many bytes, where a place fits 32 bits
-abbrev pub GoesOnWithin : ℕ → ℕ → Option Turn → Type 0
-GoesOnWithin at size None = Unit {0}
-GoesOnWithin at size (Some turn) = (at < turn.past.at) × (turn.past.at ≤ size) × (turn.past.at ≤ 268435456)

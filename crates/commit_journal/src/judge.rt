@@ -196,36 +196,7 @@ pub(crate) fn turn_of(past: &Past, head: &Head, body: Body, tag: [u8; 32], gate:
     }
 }
 
-/// Judges the bytes of a batch behind an open gate, and leaves its payload unmasked in them where it is published.
-/// The result is `None` where the batch ends the log, since nobody was given its payload.
-#[tactic(auto, unfolding(crate::specs::Log::tagged_turn))]
-pub(crate) fn judge(
-    alloc: Global,
-    owner: &Key<OwnerK>,
-    past: &Past,
-    head: &Head,
-    batch: &mut [u8],
-) -> Result<Option<Turn>, OpenFault>
-    requires whole { length batch.old ≡ 110 + head.now.size }
-    requires behind { 42 ≤ past.now.at }
-    requires fits { past.now.at + (110 + head.now.size) ≤ 268435456 }
-    ensures answer { Answers plain_option result (log.tagged_turn owner.now.bytes past.now head.now batch.old) }
-    ensures next { IfOk result (GoesOnAt (past.now.at + (110 + head.now.size))) }
-    ensures turn { IfOk result (opening.IsNextOf past.now head.now) }
-    ensures stands { IfOk result TurnStands }
-    ensures no_disk { result ≢ Err OpenFault.DiskFault }
-{
-    let size = head.size as usize;
-    let tag = array_at(batch, PAYLOAD + size + 32);
-    if !tags_equal(&tag_due(owner, &past.tag, size, batch), &tag) {
-        return Err(OpenFault::Tampered {
-            batch: head.number,
-            at: past.at + (PAYLOAD + size + 32) as u64,
-        });
-    }
-    judge_published(alloc, past, head, batch)
-}
-
+/// Whether the owner tag of a batch is the one that is due. Without the owner's key it isn't tested.
 #[tactic(auto, unfolding(crate::specs::Readers::has_tag))]
 pub(crate) fn has_tag(owner: Option<&Key<OwnerK>>, past: &Past, head: &Head, batch: &[u8]) -> bool
     requires whole { length batch.now ≡ 110 + head.now.size }
@@ -252,6 +223,8 @@ pub(crate) fn wrong_tag(past: &Past, head: &Head) -> OpenFault
     }
 }
 
+/// Judges the bytes of a batch behind an open gate, and leaves its payload unmasked in them where it is published.
+/// The result is `None` where the batch ends the log, since nobody was given its payload.
 /// Judges the bytes of a batch behind an open gate, and leaves its payload unmasked in them where it is published.
 /// The result is `None` where the batch ends the log, since nobody was given its payload.
 #[tactic(auto, unfolding(crate::specs::Readers::read_turn))]

@@ -44,7 +44,6 @@ pub use opening_laws::{
 pub use placed::{Body, Placed};
 pub use places::{content_place, link_place};
 pub use public_log::{PublicLog, read_owner, read_public};
-pub use reading::read_owner_up_to;
 pub use standing::{
     image_has_its_length, image_of_a_prefix, standing_bytes_are_read_as_published,
     standing_bytes_tell_their_batches, steps_of_a_commit, whole_image_is_published,

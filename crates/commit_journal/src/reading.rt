@@ -1,24 +1,18 @@
-//! Reads the log of a store file, gate by gate. The file is never written.
-ghost use Rattle.std.specs.Prelude.{◌≡◌, ◌≢◌, ◌<◌, ◌≤◌, ◌+◌, ◌^◌, Err, Some, length, drop, slice_range, IfOk, OnOk, All};
+//! Reads the header of a store file, and the head of a batch. The file is never written.
+ghost use Rattle.std.specs.Prelude.{◌≡◌, ◌≢◌, ◌<◌, ◌≤◌, ◌+◌, ◌^◌, Err, drop, slice_range, IfOk, OnOk};
 ghost use Rattle.cry_io.specs.Told.{WhereTold};
 ghost use Rattle.commit_journal.specs.Answering.{Answers};
 ghost use Rattle.commit_journal.specs.Log as log;
-ghost use Rattle.commit_journal.specs.Logs.{AreInEpochs, is_last_known as is_last, known_turn, known_log};
 ghost use Rattle.commit_journal.specs.Opening as opening;
-ghost use Rattle.commit_journal.specs.Placed.{plain_log};
-ghost use Rattle.commit_journal.specs.Places.{IsStanding, TurnStands};
 ghost use Rattle.commit_journal.specs.Reading.{IsOnlyRead};
-ghost use Rattle.commit_journal.specs.Turns.{plain_option, GoesOnWithin};
 
+use crate::OpenFault;
 use crate::head::{BATCH_LEN, HEAD_LEN, Head, head_of, is_batch};
-use crate::judge::{OPEN, Turn, judge};
 use crate::past::Past;
-use crate::{OpenFault, Placed};
 use chacha_seal::{Key, OwnerK, check_of};
-use cry_base::{Epoch, List};
+use cry_base::Epoch;
 use cry_io::Disk;
 use hmac_seal::tags_equal;
-use std::alloc::Global;
 
 pub(crate) const HEADER_LEN: usize = 42;
 
@@ -96,110 +90,4 @@ pub(crate) fn read_head<D: Disk>(disk: &mut D, past: &Past) -> Result<Head, Open
         return Err(OpenFault::Damaged { at: past.at });
     }
     Ok(head)
-}
-
-/// What stands behind an open gate. The memory that it takes is no more than the disk backs.
-fn read_turn<D: Disk>(
-    alloc: Global,
-    disk: &mut D,
-    owner: &Key<OwnerK>,
-    past: &Past,
-) -> Result<Option<Turn>, OpenFault>
-    requires behind { 42 ≤ past.now.at }
-    requires small { past.now.at ≤ 2 ^ 32 }
-    requires inside { past.now.at ≤ D.size_of disk.old }
-    ensures answer { WhereTold (D.shown disk.old)
-        (λ s. Answers plain_option result (log.turn_at owner.now.bytes past.now (drop past.now.at s))) }
-    ensures next { IfOk result (GoesOnWithin past.now.at (D.size_of disk.old)) }
-    ensures in_epoch { IfOk result (opening.GoesOnIn past.now) }
-    ensures stands { IfOk result TurnStands }
-    ensures read_only { IsOnlyRead D.shown D.size_of D.may_leave disk.old disk.new }
-    ensures counts { D.faults disk.old ≤ D.faults disk.new }
-    ensures disk_fault { result ≡ Err OpenFault.DiskFault → D.faults disk.old < D.faults disk.new }
-{
-    let head = read_head(disk, past)?;
-    let mut batch = Vec::from_elem(alloc, 0, BATCH_LEN as usize + head.size as usize)?;
-    disk.read_at(past.at, &mut batch)?;
-    judge(alloc, owner, past, &head, &mut batch)
-}
-
-/// What stands behind an open gate, where no more than so many batches are known, or all.
-#[tactic(auto, unfolding(crate::specs::Logs::known_turn, crate::specs::Logs::is_last_known))]
-fn read_known_turn<D: Disk>(
-    alloc: Global,
-    disk: &mut D,
-    owner: &Key<OwnerK>,
-    most: Option<u32>,
-    past: &Past,
-) -> Result<Option<Turn>, OpenFault>
-    requires behind { 42 ≤ past.now.at }
-    requires small { past.now.at ≤ 2 ^ 32 }
-    requires inside { past.now.at ≤ D.size_of disk.old }
-    ensures answer { WhereTold (D.shown disk.old)
-        (λ s. Answers plain_option result (known_turn most owner.now.bytes past.now (drop past.now.at s))) }
-    ensures next { IfOk result (GoesOnWithin past.now.at (D.size_of disk.old)) }
-    ensures in_epoch { IfOk result (opening.GoesOnIn past.now) }
-    ensures stands { IfOk result TurnStands }
-    ensures read_only { IsOnlyRead D.shown D.size_of D.may_leave disk.old disk.new }
-    ensures counts { D.faults disk.old ≤ D.faults disk.new }
-    ensures disk_fault { result ≡ Err OpenFault.DiskFault → D.faults disk.old < D.faults disk.new }
-{
-    if is_last_known(most, past.number) {
-        return Err(OpenFault::Damaged { at: past.at });
-    }
-    read_turn(alloc, disk, owner, past)
-}
-
-#[tactic(auto, unfolding(crate::specs::Logs::is_last_known))]
-fn is_last_known(most: Option<u32>, number: u32) -> bool
-    ensures { result ≡ is_last most number }
-{
-    match most {
-        Some(most) => number == most,
-        None => false,
-    }
-}
-
-fn read_known<D: Disk>(
-    alloc: Global,
-    disk: &mut D,
-    owner: &Key<OwnerK>,
-    most: Option<u32>,
-) -> Result<List<Placed>, OpenFault>
-    ensures verdict { WhereTold (D.shown disk.old) (λ s. Answers plain_log result (known_log most owner.now.bytes s)) }
-    ensures stands { IfOk result (λ log. All IsStanding log.items) }
-    ensures epochs { IfOk result (λ log. AreInEpochs 0 (plain_log log)) }
-    ensures read_only { IsOnlyRead D.shown D.size_of D.may_leave disk.old disk.new }
-    ensures counts { D.faults disk.old ≤ D.faults disk.new }
-    ensures disk_fault { result ≡ Err OpenFault.DiskFault → D.faults disk.old < D.faults disk.new }
-{
-    let mut past = read_start(disk, owner)?;
-    let mut log = List::new(alloc);
-    while past.gate == OPEN {
-        let Some(turn) = read_known_turn(alloc, disk, owner, most, &past)? else {
-            return Ok(log);
-        };
-        let Turn { placed, past: next } = turn;
-        log.push(placed)?;
-        past = next;
-    }
-    Ok(log)
-}
-
-/// The batches of the log, as `read_owner` reads them, for a reader who knows no more than the first `most`: a batch behind
-/// an open gate after these is `Damaged` at its first byte, whatever stands there.
-pub fn read_owner_up_to<D: Disk>(
-    alloc: Global,
-    disk: &mut D,
-    owner: &Key<OwnerK>,
-    most: u32,
-) -> Result<List<Placed>, OpenFault>
-    ensures verdict { WhereTold (D.shown disk.old) (λ s. Answers plain_log result (known_log (Some most) owner.now.bytes s)) }
-    ensures stands { IfOk result (λ log. All IsStanding log.items) }
-    ensures epochs { IfOk result (λ log. AreInEpochs 0 (plain_log log)) }
-    ensures read_only { IsOnlyRead D.shown D.size_of D.may_leave disk.old disk.new }
-    ensures counts { D.faults disk.old ≤ D.faults disk.new }
-    ensures disk_fault { result ≡ Err OpenFault.DiskFault → D.faults disk.old < D.faults disk.new }
-{
-    read_known(alloc, disk, owner, Some(most))
 }
