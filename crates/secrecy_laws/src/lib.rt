@@ -1,0 +1,4 @@
+//! What is written out of a holder's sight stays secret.
+#![tactic(auto)]
+
+pub mod any_roles;
