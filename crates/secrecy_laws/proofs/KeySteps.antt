@@ -199,7 +199,7 @@ module _ (s t : Store) (k : KeyState) (c : Change) (p : Past) (pieces : List Pie
   unfolding key_step step_with published
   keyed r h = ((keys_after s t k c p.links mv ok pieces).keyed r).0 h
 
-  keyed_present : (r : Role) → HasRole t r → newest (keys_then k c (renewed k (edges s) c)) r ≡ Some (present (keys_then k c (renewed k (edges s) c)) r)
+  pub keyed_present : (r : Role) → HasRole t r → newest (keys_then k c (renewed k (edges s) c)) r ≡ Some (present (keys_then k c (renewed k (edges s) c)) r)
   unfolding present
   keyed_present r h = let w = keyed r h in w.1 ∙ ap (λ n. Some n) (sym (ap (λ o. unwrap_or o 0) w.1))
 
@@ -332,16 +332,21 @@ module _ (s t : Store) (k : KeyState) (c : Change) (p : Past) (pieces : List Pie
       let w = (planned_told s t k c p.links mv ok q.1).0 rn in
       (planned_told s t k c p.links mv ok q.0).1 ((dirty_told q.0).1 (d, (left_ends q i).0), (w.1.0, w.1.1, Path-on (On Here i) w.1.2))
 
+  -- a root, a wanted role and a new one are clean after the step
+  pub source_clean : (r : Role) → (is_root_role r ≡ true) ⊎ (In r c.wanted ⊎ In r c.fresh) → In r (without same_role (renewed k (edges s) c) (dirty_left k (edges s) c)) → ⊥
+  source_clean r due d =
+      let u = (without_told (renewed k (edges s) c) (dirty_left k (edges s) c) r).0 d in
+      ⊎_elim
+      (λ root. false≢true (sym (marked_no_root s t k c p.links mv ok r u.0) ∙ root))
+      (λ v. ⊎_elim
+      (λ wanted. u.1 ((planned_told s t k c p.links mv ok r).1 (u.0, (r, wanted, Here))))
+      (λ fresh. mv.fresh_is_new r fresh (marked_stands s t k c p.links mv ok r u.0)) v)
+      due
+
   adds_clean : (q : Role × Role) → In q (pairs_of c.added) → In q.0 (without same_role (renewed k (edges s) c) (dirty_left k (edges s) c)) → ⊥
   adds_clean q a d =
       let w = (pair_told c.added q).0 a in
-      let u = (without_told (renewed k (edges s) c) (dirty_left k (edges s) c) w.0.from).0 (subst (λ r. In r (without same_role (renewed k (edges s) c) (dirty_left k (edges s) c))) (source_is q w.0 w.2) d) in
-      ⊎_elim
-      (λ root. false≢true (sym (marked_no_root s t k c p.links mv ok w.0.from u.0) ∙ root))
-      (λ v. ⊎_elim
-      (λ wanted. u.1 ((planned_told s t k c p.links mv ok w.0.from).1 (u.0, (w.0.from, wanted, Here))))
-      (λ fresh. mv.fresh_is_new w.0.from fresh (marked_stands s t k c p.links mv ok w.0.from u.0)) v)
-      (mv.sources w.0 w.1)
+      source_clean w.0.from (mv.sources w.0 w.1) (subst (λ r. In r (without same_role (renewed k (edges s) c) (dirty_left k (edges s) c))) (source_is q w.0 w.2) d)
 
   adds_keyed : (q : Role × Role) → In q (pairs_of c.added) → ((n : ℕ) × (newest (keys_then k c (renewed k (edges s) c)) q.0 ≡ Some n)) × ((n : ℕ) × (newest (keys_then k c (renewed k (edges s) c)) q.1 ≡ Some n))
   adds_keyed q a =

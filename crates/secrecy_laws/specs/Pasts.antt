@@ -15,6 +15,7 @@ use Rattle.public_fold.specs.Journal.Entry.{Session, Made, Did}
 use Rattle.public_fold.specs.KeyStep.{Stepped, newest, edges_left}
 use Rattle.public_fold.specs.Records.{Link}
 use Rattle.secrecy_laws.specs.States.{State, Move}
+use Rattle.secrecy_laws.specs.Runs.{Turn}
 
 -- the roles that a change marks: all that edges lead to from the end of a removed one
 unfoldable pub marks_of : List Edge → Change → List Role
@@ -83,3 +84,14 @@ move_of before c step = record {
   given = step.given;
   shown = map ends_of step.links;
 }
+
+-- the turns of the laws that entries are. A session is none: it changes no key
+unfoldable pub turns_of : Stand → Past → List Entry → List (Turn Role)
+turns_of at p [] = []
+turns_of at p (Session ∷ entries) = turns_of (stand_then at Session) p entries
+turns_of at p (Made keys ∷ entries) = []
+turns_of at p (Did request keys ∷ entries) =
+    record {
+      move = move_of (edges at.store) (change_of at.store (note_of at.store request [])) (entry_step at (Did request keys));
+      after = state_of (stand_then at (Did request keys)) (past_entry at p (Did request keys));
+    } ∷ turns_of (stand_then at (Did request keys)) (past_entry at p (Did request keys)) entries

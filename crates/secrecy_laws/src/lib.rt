@@ -2,3 +2,4 @@
 #![tactic(auto)]
 
 pub mod any_roles;
+pub mod journal_laws;
