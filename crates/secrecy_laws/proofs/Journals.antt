@@ -1,0 +1,268 @@
+-- Whole journals: what holds after each entry, and how a holder comes to derive what was written unseen.
+use Rattle.std.proofs.Common.{◌≡◌, ℕ, ◌+◌, ◌*◌, ◌^◌, ◌-◌, ◌<◌, ◌≤◌, Bool, true, false, cond, ◌&&◌, List, [], ◌∷◌, ◌++◌, map, length, Option, Some, None, inl, inr, ◌⊎◌, ⊎_elim, refl, sym, ap, ◌∙◌, subst, arith, append_assoc}
+use Rattle.std.specs.Prelude.{nat_lt}
+use Rattle.std.proofs.lemmas.Bool.{and_parts, ltb-true}
+use Rattle.std.proofs.lemmas.List.{map-append}
+use Rattle.cry_base.specs.Sets.{In, Path}
+use Rattle.cry_base.specs.Requests.{Request}
+use Rattle.cry_base.specs.Store.{Store, no_store, root_store}
+use Rattle.cry_base.specs.Stepping.{effect}
+use Rattle.cry_base.specs.Refusing.{refusal_of}
+use Rattle.cry_base.specs.declared.roles.Edge.{Edge}
+use Rattle.cry_base.specs.declared.roles.Role.{Role}
+use Rattle.cry_base.specs.declared.roles.Role.TheVariants.{Owner}
+use Rattle.cry_base.proofs.Members.{In-append, In-map}
+use Rattle.role_graph.specs.Edges.{Reaches, edges, pairs_of, IsEdge, IsOwnEdge, IsParentEdge, IsGrantEdge, IsFileEdge}
+use Rattle.role_graph.specs.Rights.Who.{TheHolder}
+use Rattle.role_graph.specs.Roles.{holder_role, is_root_role, same_role}
+use Rattle.role_graph.proofs.Comparing.{same_role_tells}
+use Rattle.role_graph.proofs.Edging.{edges_told}
+use Rattle.move_plan.specs.Change.{Change, change_of}
+use Rattle.move_plan.specs.Fitting.{fits}
+use Rattle.move_plan.specs.Noting.{note_of}
+use Rattle.record_format.specs.Noted.{Note}
+use Rattle.record_format.specs.Noted.Note.{Root}
+use Rattle.public_fold.specs.Journal.{Entry, Journal, Stand, nothing, first_key, note_step, entry_step, entry_store, stand_then, stand_after, steps_from, steps_of, keys_of}
+use Rattle.public_fold.specs.Journal.Entry.{Session, Made, Did}
+use Rattle.public_fold.specs.Keyed.{HasRole, KeysHold, links_of}
+use Rattle.public_fold.specs.KeyStep.{KeyState, Stepped, no_keys, next_epoch, newest, next_serial, numbered, present, contents_from, keys_then, renewed, given, published_edges, published, step_with, key_step}
+use Rattle.public_fold.specs.Records.{Link, Piece, Content, pieces_of, sealing_role}
+use Rattle.public_fold.specs.StandFits.{has_count, note_fits, entry_fits, all_fit}
+use Rattle.public_fold.specs.Valid.{IsNext, FollowOn, BeginsWell, IsValid}
+use Rattle.public_fold.proofs.AllFit.{journal_all_fit}
+use Rattle.public_fold.proofs.KeepingKeys.{IsMove, keys_after}
+use Rattle.public_fold.proofs.KeyMoves.{IsSound, effect_sound, root_sound, command_moves, root_moves, nothing_holds, epoch_holds}
+use Rattle.closure_laws.specs.Gains.{IsWritten, IsGain}
+use Rattle.closure_laws.specs.History.{Published, published_from, history, trails, Derives, own_serial, DerivesFor}
+use Rattle.closure_laws.specs.Secrecy.{IsShownNode, node_of_piece, GainsLater, KeepsSecret}
+use Rattle.secrecy_laws.specs.States.{State, Move, IsStep, Fits}
+use Rattle.secrecy_laws.specs.Holding.{Holds, AreMarked, AreMadeOnce, Opens, Brings}
+use Rattle.secrecy_laws.specs.Runs.{Turn, state_after, AreSteps, IsOpened}
+use Rattle.secrecy_laws.specs.Pasts.{Past, no_past, past_then, past_entry, past_after, past_of, ends_of, state_of, move_of, turns_of}
+use Rattle.secrecy_laws.specs.Revocation.{IsBrought, GainOpens, OpensByGain}
+use Rattle.secrecy_laws.proofs.Steps.{stays_held}
+use Rattle.secrecy_laws.proofs.Whole.{opens_by_gain}
+use Rattle.secrecy_laws.proofs.KeySteps.{is_step, fits_step, below_after, source_clean, keyed_present}
+use Rattle.secrecy_laws.proofs.Bringing.{brings_gain}
+use Rattle.secrecy_laws.proofs.Sealing.{pieces_sealed, sealed_due, sealed_stands, reached_shown, content_told}
+
+-- what holds of a stand with its past
+pub record Kept (at : Stand) (p : Past) : Type 0 where
+  pub sound : IsSound at.store
+  pub keys : KeysHold at.store at.keys p.links
+  pub below : (key : Role × ℕ) → In key p.made → key.1 < next_serial at.keys
+  pub count : at.keys.count < 2 ^ 32
+  pub holds : Holds is_root_role (state_of at p)
+
+-- it holds after a step that leaves a store that is sound
+step_kept : (s t : Store) (k : KeyState) (c : Change) (p : Past) (pieces : List Piece) → IsMove s c t → KeysHold s k p.links → ((key : Role × ℕ) → In key p.made → key.1 < next_serial k)
+    → Holds is_root_role (state_of (record { store = s; keys = k }) p) → IsSound t → (key_step k (edges s) c pieces).after.count < 2 ^ 32
+    → Kept (record { store = t; keys = (key_step k (edges s) c pieces).after }) (past_then p (edges s) c (key_step k (edges s) c pieces))
+unfolding past_then
+step_kept s t k c p pieces mv ok below was sound count = record {
+  sound = sound;
+  keys = keys_after s t k c p.links mv ok pieces;
+  below = unfold past_then in below_after s t k c p pieces mv ok below;
+  count = count;
+  holds = stays_held same_role same_role_tells is_root_role
+      (state_of (record { store = s; keys = k }) p) (move_of (edges s) c (key_step k (edges s) c pieces))
+      (state_of (record { store = t; keys = (key_step k (edges s) c pieces).after }) (past_then p (edges s) c (key_step k (edges s) c pieces)))
+      was (is_step s t k c p pieces mv ok below) (fits_step s t k c p pieces mv ok below);
+}
+
+-- at first
+no_edge : (e : Edge) → In e (edges no_store) → ⊥
+unfolding no_store
+no_edge e i = let w = (edges_told no_store e).0 i in ⊎_elim (λ (o : IsOwnEdge no_store e). o.1) (λ v. ⊎_elim (λ (p : IsParentEdge no_store e). p.1) (λ u. ⊎_elim (λ (g : IsGrantEdge no_store e). g.1) (λ (x : IsFileEdge no_store e). x.1) u) v) w
+
+no_pair : (q : Role × Role) → In q (pairs_of (edges no_store)) → ⊥
+unfolding pairs_of
+no_pair q i = let w = (In-map Edge (Role × Role) (λ e. (e.from, e.to)) q (edges no_store)).0 i in no_edge w.0 w.1
+
+owner_alone : (r : Role) (n : ℕ) → newest ((Owner, 0) ∷ []) r ≡ Some n → (Owner ≡ r) × (n ≡ 0)
+unfolding newest
+owner_alone r n =
+    (elim (same_role Owner r) as (λ b. same_role Owner r ≡ b → cond b (Some 0) None ≡ Some n → (Owner ≡ r) × (n ≡ 0)) [
+      | true ↦ λ t e. let h : n ≡ 0 = cc in ((same_role_tells Owner r).0 t, h)
+      | false ↦ λ t e. absurd cc
+    ]) refl
+
+first_holds : Holds is_root_role (state_of (record { store = no_store; keys = next_epoch no_keys }) no_past)
+unfolding next_epoch no_keys no_past
+first_holds = record {
+  marked = record {
+    none_into_roots = λ q i. absurd (no_pair q i);
+    closed = λ q i d. absurd d;
+    roots_clean = λ r d. absurd d;
+    tainted = λ r k e. (λ i. i, λ i. i);
+  };
+  once = record {
+    own = λ q r k i j. ⊎_elim
+        (λ (a : (q, k) ≡ (Owner, 0)). ⊎_elim (λ (b : (r, k) ≡ (Owner, 0)). ap (λ (z : Role × ℕ). z.0) a ∙ sym (ap (λ (z : Role × ℕ). z.0) b)) (λ n. absurd n) j)
+        (λ n. absurd n) i;
+    present = λ r k e. let w = owner_alone r k e in inl (λ i. (sym w.0 i, w.1 i));
+    tainted = λ k i. absurd i;
+    linked = λ l i. absurd i;
+  };
+  traced = λ l i. absurd i;
+  linked = λ q i. absurd (no_pair q i);
+}
+
+pub first_below : (key : Role × ℕ) → In key no_past.made → key.1 < next_serial (next_epoch no_keys)
+unfolding next_epoch no_keys no_past next_serial
+first_below key i = ⊎_elim (λ (e : key ≡ (Owner, 0)). let z : key.1 ≡ 0 = ap (λ (z : Role × ℕ). z.1) e in omega arith) (λ n. absurd n) i
+
+-- the stand that the first two entries leave
+abbrev pub made_stand : List (List ℕ) → Stand
+made_stand keys = stand_then (stand_then nothing Session) (Made keys)
+
+abbrev pub made_past : List (List ℕ) → Past
+made_past keys = past_entry (stand_then nothing Session) no_past (Made keys)
+
+count_small : (step : Stepped) → has_count step ≡ true → step.after.count < 2 ^ 32
+unfolding has_count
+count_small step t = let low : step.after.count < 2 ^ 32 - 1 = ltb-true step.after.count (2 ^ 32 - 1) t in omega arith
+
+pub fits_count : (at : Stand) (note : Note) (step : Stepped) → note_fits at note step ≡ true → step.after.count < 2 ^ 32
+unfolding note_fits
+fits_count at note step t = count_small step (and_parts (fits at.store note) (has_count step) (and_parts (nat_lt 0 at.keys.epoch) (fits at.store note && has_count step) t).1).1
+
+pub made_kept : (keys : List (List ℕ)) → (entry_step (stand_then nothing Session) (Made keys)).after.count < 2 ^ 32 → Kept (made_stand keys) (made_past keys)
+unfolding stand_then entry_store entry_step note_step nothing past_entry
+made_kept keys count =
+    step_kept no_store root_store (next_epoch no_keys) (change_of no_store Root) no_past (pieces_of Root root_store) root_moves
+    (unfold no_past in nothing_holds) first_below first_holds root_sound count
+
+pub session_kept : (at : Stand) (p : Past) → Kept at p → Kept (stand_then at Session) (past_entry at p Session)
+unfolding stand_then entry_store entry_step next_epoch past_entry next_serial
+session_kept at p ok = record {
+  sound = ok.sound;
+  keys = unfold next_epoch in epoch_holds at.store at.keys p.links ok.keys;
+  below = λ key i. let high : key.1 < at.keys.epoch * 2 ^ 32 + at.keys.count = ok.below key i in let low : at.keys.count < 2 ^ 32 = ok.count in omega arith;
+  count = omega arith;
+  holds = ok.holds;
+}
+
+-- an accepted command moves edges and roles
+pub moves : (at : Stand) (request : Request) (keys : List (List ℕ)) → IsSound at.store → refusal_of at.store request 1048576 ≡ None
+    → IsMove at.store (change_of at.store (note_of at.store request [])) (effect at.store request (first_key keys))
+moves at request keys sound e = command_moves at.store request (first_key keys) [] 1048576 e sound
+
+pub did_kept : (at : Stand) (p : Past) (request : Request) (keys : List (List ℕ)) → Kept at p → refusal_of at.store request 1048576 ≡ None → (entry_step at (Did request keys)).after.count < 2 ^ 32
+    → Kept (stand_then at (Did request keys)) (past_entry at p (Did request keys))
+unfolding stand_then entry_store entry_step note_step past_entry
+did_kept at p request keys ok e count =
+    let s = at.store in
+    let t = effect s request (first_key keys) in
+    let note = note_of s request [] in
+    step_kept s t at.keys (change_of s note) p (pieces_of note t) (moves at request keys ok.sound e) ok.keys ok.below ok.holds (effect_sound s request (first_key keys) 1048576 e ok.sound) count
+
+did_step : (at : Stand) (p : Past) (request : Request) (keys : List (List ℕ)) → Kept at p → refusal_of at.store request 1048576 ≡ None
+    → IsStep (state_of at p) (move_of (edges at.store) (change_of at.store (note_of at.store request [])) (entry_step at (Did request keys))) (state_of (stand_then at (Did request keys)) (past_entry at p (Did request keys)))
+unfolding stand_then entry_store entry_step note_step past_entry
+did_step at p request keys ok e =
+    let s = at.store in
+    let t = effect s request (first_key keys) in
+    let note = note_of s request [] in
+    is_step s t at.keys (change_of s note) p (pieces_of note t) (moves at request keys ok.sound e) ok.keys ok.below
+
+did_fits : (at : Stand) (p : Past) (request : Request) (keys : List (List ℕ)) → Kept at p → refusal_of at.store request 1048576 ≡ None
+    → Fits is_root_role (state_of at p) (move_of (edges at.store) (change_of at.store (note_of at.store request [])) (entry_step at (Did request keys))) (state_of (stand_then at (Did request keys)) (past_entry at p (Did request keys)))
+unfolding stand_then entry_store entry_step note_step past_entry
+did_fits at p request keys ok e =
+    let s = at.store in
+    let t = effect s request (first_key keys) in
+    let note = note_of s request [] in
+    fits_step s t at.keys (change_of s note) p (pieces_of note t) (moves at request keys ok.sound e) ok.keys ok.below
+
+-- the counts of entries that fit
+pub did_count : (at : Stand) (request : Request) (keys : List (List ℕ)) (entries : List Entry) → all_fit at (Did request keys ∷ entries) ≡ true
+    → ((entry_step at (Did request keys)).after.count < 2 ^ 32) × (all_fit (stand_then at (Did request keys)) entries ≡ true)
+unfolding all_fit entry_fits
+did_count at request keys entries t =
+    let step = entry_step at (Did request keys) in
+    let note = note_of at.store request [] in
+    let both = and_parts (note_fits at note step) (all_fit (stand_then at (Did request keys)) entries) t in
+    (fits_count at note step both.0, both.1)
+
+pub session_fit : (at : Stand) (entries : List Entry) → all_fit at (Session ∷ entries) ≡ true → all_fit (stand_then at Session) entries ≡ true
+unfolding all_fit
+session_fit at entries t = (and_parts (entry_fits at Session) (all_fit (stand_then at Session) entries) t).1
+
+-- entries are turns of the laws, and leave the state that they leave
+are_steps : (entries : List Entry) (at : Stand) (p : Past) → Kept at p → FollowOn at entries → all_fit at entries ≡ true → AreSteps is_root_role (state_of at p) (turns_of at p entries)
+unfolding turns_of
+are_steps [] at p ok f t = tt
+are_steps (Session ∷ entries) at p ok f t = session_steps (are_steps entries (stand_then at Session) p (session_is (session_kept at p ok)) f.1 (session_fit at entries t))
+  where
+    session_is : Kept (stand_then at Session) (past_entry at p Session) → Kept (stand_then at Session) p
+    session_is k = unfold past_entry in k
+
+    session_steps : AreSteps is_root_role (state_of (stand_then at Session) p) (turns_of (stand_then at Session) p entries) → AreSteps is_root_role (state_of at p) (turns_of (stand_then at Session) p entries)
+    session_steps k = unfold stand_then entry_store entry_step next_epoch in k
+are_steps (Made keys ∷ entries) at p ok f t = absurd f.0
+are_steps (Did request keys ∷ entries) at p ok f t =
+    let w = did_count at request keys entries t in (
+      did_step at p request keys ok f.0.0,
+      did_fits at p request keys ok f.0.0,
+      are_steps entries (stand_then at (Did request keys)) (past_entry at p (Did request keys)) (did_kept at p request keys ok f.0.0 w.0) f.1 w.1,
+    )
+
+session_state : (at : Stand) (p : Past) → state_of (stand_then at Session) p ≡ state_of at p
+unfolding stand_then entry_store entry_step next_epoch
+session_state at p = refl
+
+states_are : (entries : List Entry) (at : Stand) (p : Past) → FollowOn at entries → state_after (state_of at p) (turns_of at p entries) ≡ state_of (stand_after at entries) (past_after at p entries)
+unfolding turns_of state_after stand_after past_after past_entry
+states_are [] at p f = refl
+states_are (Session ∷ entries) at p f =
+    ap (λ s. state_after s (turns_of (stand_then at Session) p entries)) (sym (session_state at p)) ∙ states_are entries (stand_then at Session) p f.1
+states_are (Made keys ∷ entries) at p f = absurd f.0
+states_are (Did request keys ∷ entries) at p f = states_are entries (stand_then at (Did request keys)) (past_entry at p (Did request keys)) f.1
+
+way_more : {X : Type 0} {some more : List (X × X)} {a c : X} → ((q : X × X) → In q some → In q more) → Path some a c → Path more a c
+way_more stay Path.Here = Path.Here
+way_more stay (Path.On {b = b} {c = c} way i) = Path.On (way_more stay way) (stay (b, c) i)
+
+-- an entry that brings a role into reach is a gain
+did_gains : (at : Stand) (p : Past) (request : Request) (keys : List (List ℕ)) (h : ℕ) (r : Role) → Kept at p → refusal_of at.store request 1048576 ≡ None
+    → Brings (state_of at p) (state_of (stand_then at (Did request keys)) (past_entry at p (Did request keys))) (holder_role h) r → IsGain at (Did request keys) h
+unfolding stand_then entry_store
+did_gains at p request keys h r ok e b =
+    let s = at.store in
+    let t = effect s request (first_key keys) in
+    brings_gain s t h ok.sound.settled (effect_sound s request (first_key keys) 1048576 e ok.sound) (moves at request keys ok.sound e).ends_after request (first_key keys) refl r
+    ((ok.keys.keyed r).1 b.0) b.1 b.2
+
+opened_later : (entries : List Entry) (at : Stand) (p : Past) (links : List (ℕ × ℕ)) (published : List Published) (h k : ℕ) → ((l : ℕ × ℕ) → In l links → In l (trails published))
+    → Kept at p → FollowOn at entries → all_fit at entries ≡ true → IsOpened links (holder_role h) k (state_of at p) (turns_of at p entries) → GainOpens published at entries h k
+unfolding turns_of
+opened_later [] at p links published h k leads ok f t g = g
+opened_later (Session ∷ entries) at p links published h k leads ok f t g =
+    inr (opened_later entries (stand_then at Session) p links published h k leads (unfold past_entry in session_kept at p ok) f.1 (session_fit at entries t)
+    (subst (λ s. IsOpened links (holder_role h) k s (turns_of (stand_then at Session) p entries)) (sym (session_state at p)) g))
+opened_later (Made keys ∷ entries) at p links published h k leads ok f t g = absurd f.0
+opened_later (Did request keys ∷ entries) at p links published h k leads ok f t g =
+    let w = did_count at request keys entries t in ⊎_elim
+    (λ u. inl (
+      did_gains at p request keys h u.0 ok f.0.0 u.1,
+      (u.0, record { stood = u.1.0; was_out = u.1.2; reached = u.1.1; leads = (u.2.0, u.2.1, way_more leads u.2.2) }),
+    ))
+    (λ u. inr (opened_later entries (stand_then at (Did request keys)) (past_entry at p (Did request keys)) links published h k leads (did_kept at p request keys ok f.0.0 w.0) f.1 w.1 u)) g
+
+holder_is_root : (h : ℕ) → is_root_role (holder_role h) ≡ true
+unfolding is_root_role holder_role Rattle.role_graph.specs.Roles.variant_of
+holder_is_root h = refl
+
+-- what is sealed under the present key of a clean role out of reach
+pub later_opens : (later : List Entry) (at : Stand) (p : Past) (published : List Published) (h : ℕ) (r : Role) (k a : ℕ) → Kept at p → FollowOn at later → all_fit at later ≡ true
+    → newest at.keys.keys r ≡ Some k → (In r at.keys.dirty → ⊥) → (Reaches (edges at.store) (holder_role h) r → ⊥)
+    → ((l : ℕ × ℕ) → In l (map ends_of (past_after at p later).links) → In l (trails published))
+    → newest (stand_after at later).keys.keys (holder_role h) ≡ Some a → Path (map ends_of (past_after at p later).links) a k → GainOpens published at later h k
+later_opens later at p published h r k a ok f t e clean out leads own way =
+    let turns = turns_of at p later in
+    let ends : state_after (state_of at p) turns ≡ state_of (stand_after at later) (past_after at p later) = states_are later at p f in
+    let d : Opens (state_after (state_of at p) turns) (holder_role h) k = subst (λ s. Opens s (holder_role h) k) (sym ends) (a, own, way) in
+    opened_later later at p (state_after (state_of at p) turns).links published h k
+    (λ l i. leads l (subst (λ (s : State Role). In l s.links) ends i)) ok f t
+    (opens_by_gain same_role same_role_tells is_root_role (state_of at p) turns ok.holds (are_steps later at p ok f t) (holder_role h) r k (holder_is_root h) e clean out d)

@@ -1,0 +1,186 @@
+-- Revocation secrecy for every valid journal, both sentences.
+use Rattle.std.proofs.Common.{◌≡◌, ℕ, ◌+◌, ◌^◌, ◌<◌, Bool, true, ◌&&◌, List, [], ◌∷◌, ◌++◌, map, length, Option, Some, None, inl, inr, ◌⊎◌, ⊎_elim, refl, sym, ap, ◌∙◌, subst, append_assoc, append-nil}
+use Rattle.std.proofs.lemmas.Bool.{and_parts}
+use Rattle.std.proofs.lemmas.List.{map-append}
+use Rattle.cry_base.specs.Sets.{In, Path}
+use Rattle.cry_base.specs.Requests.{Request}
+use Rattle.cry_base.specs.Store.{Store, no_store, root_store}
+use Rattle.cry_base.specs.Stepping.{effect}
+use Rattle.cry_base.specs.Refusing.{refusal_of}
+use Rattle.cry_base.specs.declared.roles.Role.{Role}
+use Rattle.role_graph.specs.Edges.{Reaches, edges}
+use Rattle.role_graph.specs.Rights.Who.{TheHolder}
+use Rattle.role_graph.specs.Roles.{holder_role, is_root_role}
+use Rattle.move_plan.specs.Change.{Change, change_of}
+use Rattle.move_plan.specs.Noting.{note_of}
+use Rattle.record_format.specs.Noted.{Note}
+use Rattle.record_format.specs.Noted.Note.{Root}
+use Rattle.public_fold.specs.Journal.{Entry, Journal, Stand, nothing, first_key, note_step, entry_step, entry_store, stand_then, stand_after, steps_from, steps_of, keys_of}
+use Rattle.public_fold.specs.Journal.Entry.{Session, Made, Did}
+use Rattle.public_fold.specs.Keyed.{HasRole, KeysHold, links_of}
+use Rattle.public_fold.specs.KeyStep.{KeyState, Stepped, no_keys, next_epoch, newest, next_serial, present, keys_then, renewed, given, published_edges, published, step_with, key_step}
+use Rattle.public_fold.specs.Records.{Link, Content, pieces_of, sealing_role}
+use Rattle.public_fold.specs.StandFits.{note_fits, entry_fits, all_fit}
+use Rattle.public_fold.specs.Valid.{FollowOn, BeginsWell, IsValid}
+use Rattle.public_fold.proofs.AllFit.{journal_all_fit}
+use Rattle.public_fold.proofs.KeepingKeys.{IsMove}
+use Rattle.public_fold.proofs.KeyMoves.{IsSound, effect_sound, root_sound, root_moves, nothing_holds}
+use Rattle.closure_laws.specs.Gains.{IsWritten, IsGain}
+use Rattle.closure_laws.specs.History.{Published, published_from, history, trails, Derives, own_serial, DerivesFor}
+use Rattle.closure_laws.specs.Secrecy.{IsShownNode, node_of_piece, GainsLater, KeepsSecret}
+use Rattle.secrecy_laws.specs.Holding.{Holds}
+use Rattle.secrecy_laws.specs.Pasts.{Past, no_past, past_then, past_entry, past_after, past_of, ends_of, state_of}
+use Rattle.secrecy_laws.specs.Revocation.{GainOpens, OpensByGain}
+use Rattle.secrecy_laws.proofs.KeySteps.{source_clean, keyed_present}
+use Rattle.secrecy_laws.proofs.Sealing.{IsDueRole, pieces_sealed, sealed_due, sealed_stands, reached_shown, content_told}
+use Rattle.secrecy_laws.proofs.Journals.{Kept, moves, made_stand, made_past, made_kept, session_kept, did_kept, did_count, session_fit, fits_count, later_opens, first_below}
+
+-- the serial is of the present key of a clean role out of the holder's reach
+record IsUnseen (at : Stand) (h : ℕ) (r : Role) (k : ℕ) : Type 0 where
+  key : newest at.keys.keys r ≡ Some k
+  clean : In r at.keys.dirty → ⊥
+  out : Reaches (edges at.store) (holder_role h) r → ⊥
+
+due_source : (c : Change) (r : Role) → IsDueRole c r → (is_root_role r ≡ true) ⊎ (In r c.wanted ⊎ In r c.fresh)
+unfolding is_root_role Rattle.role_graph.specs.Roles.variant_of
+due_source c r w = ⊎_elim (λ q. inl (ap is_root_role q)) (λ u. inr u) w
+
+-- so is that of what a step writes while it isn't shown
+written_unseen : (s t : Store) (k : KeyState) (note : Note) (p : Past) → IsMove s (change_of s note) t → KeysHold s k p.links → ((key : Role × ℕ) → In key p.made → key.1 < next_serial k) → IsSound t
+    → (h : ℕ) (c : Content) → In c (key_step k (edges s) (change_of s note) (pieces_of note t)).contents → (IsShownNode t h (node_of_piece c.piece) → ⊥)
+    → IsUnseen (record { store = t; keys = (key_step k (edges s) (change_of s note) (pieces_of note t)).after }) h (sealing_role c.piece) c.key_serial
+unfolding key_step step_with published
+written_unseen s t k note p mv ok below sound h c i hidden =
+    let change = change_of s note in
+    let pieces = pieces_of note t in
+    let new = keys_then k change (renewed k (edges s) change) in
+    let w = content_told new (next_serial k + length (given k change (renewed k (edges s) change)) + length (published_edges (edges s) change (renewed k (edges s) change))) pieces c i in
+    let r = sealing_role c.piece in
+    let sealed = pieces_sealed t note c.piece w.0 in record {
+      key = keyed_present s t k change p pieces mv ok below r (sealed_stands t c.piece sealed) ∙ ap (λ n. Some n) (sym w.1);
+      clean = source_clean s t k change p pieces mv ok below r (due_source change r (sealed_due s t note c.piece w.0));
+      out = λ way. hidden (reached_shown t h c.piece sound sealed way);
+    }
+
+did_unseen : (at : Stand) (p : Past) (request : Request) (keys : List (List ℕ)) → Kept at p → refusal_of at.store request 1048576 ≡ None
+    → (h : ℕ) (c : Content) → In c (entry_step at (Did request keys)).contents → (IsShownNode (stand_then at (Did request keys)).store h (node_of_piece c.piece) → ⊥)
+    → IsUnseen (stand_then at (Did request keys)) h (sealing_role c.piece) c.key_serial
+unfolding stand_then entry_store entry_step note_step
+did_unseen at p request keys ok e h c i hidden =
+    written_unseen at.store (effect at.store request (first_key keys)) at.keys (note_of at.store request []) p (moves at request keys ok.sound e) ok.keys ok.below
+    (effect_sound at.store request (first_key keys) 1048576 e ok.sound) h c i hidden
+
+made_unseen : (keys : List (List ℕ)) (h : ℕ) (c : Content) → In c (entry_step (stand_then nothing Session) (Made keys)).contents → (IsShownNode (made_stand keys).store h (node_of_piece c.piece) → ⊥)
+    → IsUnseen (made_stand keys) h (sealing_role c.piece) c.key_serial
+unfolding stand_then entry_store entry_step note_step nothing
+made_unseen keys h c i hidden =
+    written_unseen no_store root_store (next_epoch no_keys) Root no_past root_moves (unfold no_past in nothing_holds) first_below root_sound h c i hidden
+
+-- from a stand on
+from_stand : (before : List Entry) (at : Stand) (p : Past) (entry : Entry) (later : List Entry) (c : Content) (published : List Published) (h a : ℕ)
+    → Kept at p → FollowOn at (before ++ entry ∷ later) → all_fit at (before ++ entry ∷ later) ≡ true
+    → In c (entry_step (stand_after at before) entry).contents → (IsShownNode (stand_after at (before ++ entry ∷ [])).store h (node_of_piece c.piece) → ⊥)
+    → ((l : ℕ × ℕ) → In l (map ends_of (past_after at p (before ++ entry ∷ later)).links) → In l (trails published))
+    → newest (stand_after at (before ++ entry ∷ later)).keys.keys (holder_role h) ≡ Some a → Path (map ends_of (past_after at p (before ++ entry ∷ later)).links) a c.key_serial
+    → GainOpens published (stand_after at (before ++ entry ∷ [])) later h c.key_serial
+unfolding stand_after past_after
+from_stand [] at p Session later c published h a ok f t i hidden leads own way = absurd (unfold entry_step in i)
+from_stand [] at p (Made keys) later c published h a ok f t i hidden leads own way = absurd f.0
+from_stand [] at p (Did request keys) later c published h a ok f t i hidden leads own way =
+    let w = did_count at request keys later t in
+    let u = did_unseen at p request keys ok f.0.0 h c i hidden in
+    later_opens later (stand_then at (Did request keys)) (past_entry at p (Did request keys)) published h (sealing_role c.piece) c.key_serial a
+    (did_kept at p request keys ok f.0.0 w.0) f.1 w.1 u.key u.clean u.out leads own way
+from_stand (Session ∷ before) at p entry later c published h a ok f t i hidden leads own way =
+    from_stand before (stand_then at Session) (past_entry at p Session) entry later c published h a (session_kept at p ok) f.1 (session_fit at (before ++ entry ∷ later) t) i hidden leads own way
+from_stand (Made keys ∷ before) at p entry later c published h a ok f t i hidden leads own way = absurd f.0
+from_stand (Did request keys ∷ before) at p entry later c published h a ok f t i hidden leads own way =
+    let w = did_count at request keys (before ++ entry ∷ later) t in
+    from_stand before (stand_then at (Did request keys)) (past_entry at p (Did request keys)) entry later c published h a (did_kept at p request keys ok f.0.0 w.0) f.1 w.1 i hidden leads own way
+
+-- what the first two entries leave
+made_fit : (keys : List (List ℕ)) (entries : List Entry) → all_fit nothing (Session ∷ Made keys ∷ entries) ≡ true
+    → ((entry_step (stand_then nothing Session) (Made keys)).after.count < 2 ^ 32) × (all_fit (made_stand keys) entries ≡ true)
+unfolding all_fit entry_fits
+made_fit keys entries t =
+    let at = stand_then nothing Session in
+    let step = entry_step at (Made keys) in
+    let both = and_parts (note_fits at Root step) (all_fit (made_stand keys) entries) (and_parts (entry_fits nothing Session) (all_fit at (Made keys ∷ entries)) t).1 in
+    (fits_count at Root step both.0, both.1)
+
+from_nothing : (before : List Entry) (entry : Entry) (later : List Entry) (c : Content) (published : List Published) (h a : ℕ)
+    → BeginsWell (before ++ entry ∷ later) → all_fit nothing (before ++ entry ∷ later) ≡ true
+    → In c (entry_step (stand_after nothing before) entry).contents → (IsShownNode (stand_after nothing (before ++ entry ∷ [])).store h (node_of_piece c.piece) → ⊥)
+    → ((l : ℕ × ℕ) → In l (map ends_of (past_after nothing no_past (before ++ entry ∷ later)).links) → In l (trails published))
+    → newest (stand_after nothing (before ++ entry ∷ later)).keys.keys (holder_role h) ≡ Some a → Path (map ends_of (past_after nothing no_past (before ++ entry ∷ later)).links) a c.key_serial
+    → GainOpens published (stand_after nothing (before ++ entry ∷ [])) later h c.key_serial
+unfolding stand_after past_after past_entry
+from_nothing [] Session later c published h a b t i hidden leads own way = absurd (unfold entry_step in i)
+from_nothing [] (Made keys) later c published h a b t i hidden leads own way = absurd b
+from_nothing [] (Did request keys) later c published h a b t i hidden leads own way = absurd b
+from_nothing (Session ∷ []) Session later c published h a b t i hidden leads own way = absurd b
+from_nothing (Session ∷ []) (Made keys) later c published h a b t i hidden leads own way =
+    let w = made_fit keys later t in
+    let u = made_unseen keys h c i hidden in
+    later_opens later (made_stand keys) (made_past keys) published h (sealing_role c.piece) c.key_serial a (made_kept keys w.0) b.1 w.1 u.key u.clean u.out leads own way
+from_nothing (Session ∷ []) (Did request keys) later c published h a b t i hidden leads own way = absurd b
+from_nothing (Session ∷ Session ∷ before) entry later c published h a b t i hidden leads own way = absurd b
+from_nothing (Session ∷ Made keys ∷ before) entry later c published h a b t i hidden leads own way =
+    let w = made_fit keys (before ++ entry ∷ later) t in
+    from_stand before (made_stand keys) (made_past keys) entry later c published h a (made_kept keys w.0) b.1 w.1 i hidden leads own way
+from_nothing (Session ∷ Did request keys ∷ before) entry later c published h a b t i hidden leads own way = absurd b
+from_nothing (Made keys ∷ before) entry later c published h a b t i hidden leads own way = absurd b
+from_nothing (Did request keys ∷ before) entry later c published h a b t i hidden leads own way = absurd b
+
+-- the links of the past are the trails of the history
+past_links : (entries : List Entry) (at : Stand) (p : Past) → (past_after at p entries).links ≡ p.links ++ links_of (steps_from at entries)
+unfolding past_after past_entry past_then links_of steps_from
+past_links [] at p = sym (append-nil p.links)
+past_links (Session ∷ entries) at p = past_links entries (stand_then at Session) p ∙ ap (λ l. p.links ++ (l ++ links_of (steps_from (stand_then at Session) entries))) (no_links at)
+  where
+    no_links : (at : Stand) → [] ≡ (entry_step at Session).links
+    no_links at = unfold entry_step in refl
+past_links (Made keys ∷ entries) at p =
+    let step = entry_step at (Made keys) in
+    past_links entries (stand_then at (Made keys)) (past_then p (edges at.store) (change_of at.store Root) step)
+    ∙ append_assoc p.links step.links (links_of (steps_from (stand_then at (Made keys)) entries))
+past_links (Did request keys ∷ entries) at p =
+    let step = entry_step at (Did request keys) in
+    past_links entries (stand_then at (Did request keys)) (past_then p (edges at.store) (change_of at.store (note_of at.store request [])) step)
+    ∙ append_assoc p.links step.links (links_of (steps_from (stand_then at (Did request keys)) entries))
+
+trails_are : (n : ℕ) (steps : List Stepped) → trails (published_from n steps) ≡ map ends_of (links_of steps)
+unfolding trails published_from links_of
+trails_are n [] = refl
+trails_are n (x ∷ xs) = ap (λ l. map ends_of x.links ++ l) (trails_are (n + 1) xs) ∙ sym (map-append ends_of x.links (links_of xs))
+
+pub journal_trails : (m : Journal) → trails (history m) ≡ map ends_of (past_of m).links
+unfolding history past_of steps_of
+journal_trails m = trails_are 1 (steps_of m) ∙ ap (λ l. map ends_of l) (sym (past_links m nothing no_past ∙ first))
+  where
+    first : no_past.links ++ links_of (steps_from nothing m) ≡ links_of (steps_from nothing m)
+    first = unfold no_past in refl
+
+-- the second sentence, and then the first
+parts_open : (before : List Entry) (entry : Entry) (later : List Entry) (c : Content) (h : ℕ) → IsValid (before ++ entry ∷ later) → IsWritten before entry c
+    → (IsShownNode (stand_after nothing (before ++ entry ∷ [])).store h (node_of_piece c.piece) → ⊥) → DerivesFor (before ++ entry ∷ later) (TheHolder h) c
+    → GainOpens (history (before ++ entry ∷ later)) (stand_after nothing (before ++ entry ∷ [])) later h c.key_serial
+unfolding own_serial keys_of past_of
+parts_open before entry later c h v i hidden d =
+    let m = before ++ entry ∷ later in
+    let same : trails (history m) ≡ map ends_of (past_after nothing no_past m).links = journal_trails m in
+    from_nothing before entry later c (history m) h d.0 v.0 (journal_all_fit m v) i hidden
+    (λ l j. subst (In l) (sym same) j) d.1 (subst (λ z. Path z d.0 c.key_serial) same d.2)
+
+pub opens_by_gain : (m : Journal) → IsValid m → (h : ℕ) → OpensByGain m h
+opens_by_gain m v h before entry later c e i hidden d =
+    subst (λ z. GainOpens (history z) (stand_after nothing (before ++ entry ∷ [])) later h c.key_serial) (sym e)
+    (parts_open before entry later c h (subst IsValid e v) i hidden (subst (λ z. DerivesFor z (TheHolder h) c) e d))
+
+gains_later : (published : List Published) (entries : List Entry) (at : Stand) (h k : ℕ) → GainOpens published at entries h k → GainsLater at entries h
+gains_later published [] at h k g = g
+gains_later published (entry ∷ entries) at h k g = ⊎_elim (λ w. inl w.0) (λ u. inr (gains_later published entries (stand_then at entry) h k u)) g
+
+pub keeps_secret : (m : Journal) → IsValid m → (h : ℕ) → KeepsSecret m h
+keeps_secret m v h before entry later c e i hidden none d =
+    none (gains_later (history m) later (stand_after nothing (before ++ entry ∷ [])) h c.key_serial (opens_by_gain m v h before entry later c e i hidden d))

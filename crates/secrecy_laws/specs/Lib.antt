@@ -1,0 +1,5 @@
+pub mod States
+pub mod Holding
+pub mod Runs
+pub mod Pasts
+pub mod Revocation

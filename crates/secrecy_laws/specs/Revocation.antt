@@ -1,0 +1,33 @@
+-- Revocation, in the positive: how a holder came to derive what was written while it wasn't shown.
+use Rattle.std.specs.Prelude.{◌≡◌, ℕ, ◌⊎◌, List, [], ◌∷◌, ◌++◌, Some}
+use Rattle.cry_base.specs.declared.roles.Role.{Role}
+use Rattle.role_graph.specs.Edges.{Reaches, edges}
+use Rattle.role_graph.specs.Rights.Who.{TheHolder}
+use Rattle.role_graph.specs.Roles.{holder_role}
+use Rattle.public_fold.specs.Journal.{Entry, Journal, Stand, nothing, stand_then, stand_after}
+use Rattle.public_fold.specs.KeyStep.{newest}
+use Rattle.public_fold.specs.Records.{Content}
+use Rattle.closure_laws.specs.Gains.{IsWritten, IsGain}
+use Rattle.closure_laws.specs.History.{Published, Derives, DerivesFor, history}
+use Rattle.closure_laws.specs.Secrecy.{IsShownNode, node_of_piece}
+
+-- the role had a key before the entry, and wasn't in the holder's reach; after the entry it is, and its present key then leads to the
+-- key of the serial by what was published
+pub record IsBrought (published : List Published) (at : Stand) (entry : Entry) (h k : ℕ) (r : Role) : Type 0 where
+  pub stood : (j : ℕ) × (newest at.keys.keys r ≡ Some j)
+  pub was_out : Reaches (edges at.store) (holder_role h) r → ⊥
+  pub reached : Reaches (edges (stand_then at entry).store) (holder_role h) r
+  pub leads : (j : ℕ) × (newest (stand_then at entry).keys.keys r ≡ Some j) × Derives published j k
+
+-- some entry of those that follow is a gain for the holder, and brings such a role
+abbrev pub GainOpens : List Published → Stand → List Entry → ℕ → ℕ → Type 0
+GainOpens published at [] h k = ⊥
+GainOpens published at (entry ∷ entries) h k =
+    (IsGain at entry h × ((r : Role) × IsBrought published at entry h k r)) ⊎ GainOpens published (stand_then at entry) entries h k
+
+-- where a holder derives what an entry wrote while its object wasn't shown to the holder, a later entry is a gain that opens it
+abbrev pub OpensByGain : Journal → ℕ → Type 0
+OpensByGain m h = (before : List Entry) (entry : Entry) (later : List Entry) (c : Content) →
+    m ≡ before ++ entry ∷ later → IsWritten before entry c
+    → (IsShownNode (stand_after nothing (before ++ entry ∷ [])).store h (node_of_piece c.piece) → ⊥)
+    → DerivesFor m (TheHolder h) c → GainOpens (history m) (stand_after nothing (before ++ entry ∷ [])) later h c.key_serial

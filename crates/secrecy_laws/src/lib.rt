@@ -1,0 +1,5 @@
+//! What is written out of a holder's sight stays secret.
+#![tactic(auto)]
+
+pub mod any_roles;
+pub mod journal_laws;
