@@ -10,7 +10,7 @@ use Rattle.commit_journal.specs.Answering.{Fault, Damaged, Tampered, and_then}
 use Rattle.commit_journal.specs.Log.{PlainTurn, body_of, check_in, gate_in, head_at, head_of, is_batch, payload_in, placed_body, published_turn, slot_in, start_of, tag_due, tag_in, tagged_turn, turn_of}
 use Rattle.commit_journal.specs.Logs.{recovered_turn, tagged_recovered, turn_by}
 use Rattle.commit_journal.specs.Placed.{PlainBody, PlainPlaced}
-use Rattle.reader_laws.specs.Spans.{Fails, Follows, HasOwnerTag, HolderReads, IsBatch, IsHidden, IsShown, LogReader, NoBatch, NoForm, OwnerReads, OwnerWrites, Passes, Span, WrongSlot, WrongTag, batch_in, behind, body_in, veil_in}
+use Rattle.reader_laws.specs.Spans.{Fails, Follows, HasOwnerTag, HolderReads, IsBatch, IsHidden, PassesSlot, LogReader, NoBatch, NoForm, OwnerReads, OwnerWrites, Passes, Span, WrongSlot, WrongTag, batch_in, behind, body_in, veil_in}
 
 -- what a list of bytes says of a batch, and what a walk knows between two: types that their crate keeps to itself
 abbrev TypeOf : {A : Type 0} → A → Type 0
@@ -111,13 +111,13 @@ told_tag HolderReads bytes before has = refl
 told_tag (OwnerWrites owner) bytes before has = (bytes_eq-Decides _ _).1 has
 
 tells_shown : (who : LogReader) (bytes : List ℕ) (before : Option Span) → let s = next_span bytes before in
-    is_shown who (head_in bytes s) (batch_in bytes s) ≡ true → IsShown who bytes s
+    is_shown who (head_in bytes s) (batch_in bytes s) ≡ true → PassesSlot who bytes s
 tells_shown (OwnerReads owner) bytes before is = (bytes_eq-Decides _ _).0 is
 tells_shown HolderReads bytes before is = (bytes_eq-Decides _ _).0 is
 tells_shown (OwnerWrites owner) bytes before is = tt
 
 told_shown : (who : LogReader) (bytes : List ℕ) (before : Option Span) → let s = next_span bytes before in
-    IsShown who bytes s → is_shown who (head_in bytes s) (batch_in bytes s) ≡ true
+    PassesSlot who bytes s → is_shown who (head_in bytes s) (batch_in bytes s) ≡ true
 told_shown (OwnerReads owner) bytes before is = (bytes_eq-Decides _ _).1 is
 told_shown HolderReads bytes before is = (bytes_eq-Decides _ _).1 is
 told_shown (OwnerWrites owner) bytes before is = refl
@@ -159,17 +159,17 @@ module _ (who : LogReader) (bytes : List ℕ) (before : Option Span) (opened : (
   abbrev past : Past
   past = past_behind bytes before
 
-  turns_body : (body : Result PlainBody ℕ) → body_in who bytes s ≡ body → IsBatch bytes before s → HasOwnerTag who bytes before s → IsShown who bytes s →
+  turns_body : (body : Result PlainBody ℕ) → body_in who bytes s ≡ body → IsBatch bytes before s → HasOwnerTag who bytes before s → PassesSlot who bytes s →
       Turns who bytes before (by_body past (head_in bytes s) (batch_in bytes s) body)
   unfolding and_then
   turns_body (Ok body) is stands tagged shown =
       More s (turn_of past (head_in bytes s) (batch_in bytes s) body).placed
-      (record { follows = next_follows bytes before opened; stands = stands; tagged = tagged; shown = shown; body = body; has_form = is; is_read = refl })
+      (record { follows = next_follows bytes before opened; stands = stands; tagged = tagged; published = shown; body = body; has_form = is; is_read = refl })
       refl
   turns_body (Err place) is stands tagged shown =
       Bad s (Damaged (past.at + 45 + place)) (next_follows bytes before opened) (NoForm stands tagged shown place is refl) refl
 
-  turns_gate : (shut : Bool) → eqb (behind bytes (Some s)).gate 1 ≡ shut → IsBatch bytes before s → HasOwnerTag who bytes before s → (IsShown who bytes s → ⊥) →
+  turns_gate : (shut : Bool) → eqb (behind bytes (Some s)).gate 1 ≡ shut → IsBatch bytes before s → HasOwnerTag who bytes before s → (PassesSlot who bytes s → ⊥) →
       Turns who bytes before (cond shut (Err (Tampered (head_in bytes s).number (past.at + 13))) (Ok None))
   turns_gate true is stands tagged hidden =
       Bad s (Tampered (head_in bytes s).number (past.at + 13)) (next_follows bytes before opened)
@@ -235,7 +235,7 @@ module _ (who : LogReader) (bytes : List ℕ) (before : Option Span) where
       ap (λ (veil : List ℕ). body_of (head_in bytes s) (masked veil (payload_in s.size (batch_in bytes s)))) (sym (same_veil who bytes before)) ∙ passes.has_form
       in
       judges_it passes.stands
-      ∙ rw (told_tag who bytes before passes.tagged, told_shown who bytes before passes.shown, body) refl
+      ∙ rw (told_tag who bytes before passes.tagged, told_shown who bytes before passes.published, body) refl
       ∙ ap (λ (q : PlainPlaced). Ok (Some (record { placed = q; past = past_behind bytes (Some s) }))) (sym passes.is_read)
 
   next_hidden : let s = next_span bytes before in IsHidden who bytes before s →
