@@ -7,10 +7,13 @@ use Rattle.std.proofs.lemmas.Slice.Eq.{bytes_eq-Decides}
 use Rattle.chacha_seal.specs.Sealing.{check_of}
 use Rattle.commit_journal.specs.Answering.{Fault, NotAStore, WrongKey, and_then}
 use Rattle.commit_journal.specs.Log.{log_verdict, start_at, start_of, turn_at}
-use Rattle.commit_journal.specs.Logs.{holder_log, turn_by, unowned_start, unowned_start_of, walk_at, writer_log}
+use Rattle.commit_journal.specs.Logs.{holder_log, turn_by, unowned_start, unowned_start_of, walk_at}
 use Rattle.commit_journal.specs.Placed.{PlainPlaced}
+use Rattle.commit_journal.specs.Opening.{opening_verdict}
 use Rattle.commit_journal.proofs.Walks.{owner_walks}
+use Rattle.commit_journal.proofs.Writers.{batches_alone}
 use Rattle.reader_laws.specs.Spans.{AreRead, Closed, Failed, Fails, Follows, HasOwnerCheck, Hidden, HolderReads, IsAnswer, IsHidden, IsStore, LogReader, NoStore, OtherKey, OwnerReads, OwnerWrites, Passes, Span, behind, header_in, last_span, span_before}
+use Rattle.reader_laws.proofs.SpanOpened.{opened_so}
 use Rattle.reader_laws.proofs.SpanTurns.{Past, judge_of, past_behind, tells_not}
 use Rattle.reader_laws.proofs.SpanWalks.{AnswersBehind, EndsBad, EndsClosed, EndsHidden, Reads, last_of, walk_is, walk_told}
 
@@ -93,12 +96,12 @@ module _ (who : LogReader) (bytes : List ℕ) where
 abbrev start_for : LogReader → List ℕ → Result Past Fault
 start_for (OwnerReads owner) bytes = start_at owner bytes
 start_for HolderReads bytes = unowned_start bytes
-start_for (OwnerWrites owner) bytes = start_at owner bytes
+start_for (OwnerWrites owner limit) bytes = start_at owner bytes
 
 abbrev has_check : LogReader → List ℕ → Bool
 has_check (OwnerReads owner) bytes = bytes_eq (slice_range (header_in bytes) 9 41) (check_of owner)
 has_check HolderReads bytes = true
-has_check (OwnerWrites owner) bytes = bytes_eq (slice_range (header_in bytes) 9 41) (check_of owner)
+has_check (OwnerWrites owner limit) bytes = bytes_eq (slice_range (header_in bytes) 9 41) (check_of owner)
 
 abbrev is_named : List ℕ → Bool
 is_named bytes = bytes_eq (take 9 (header_in bytes)) (codes "CRYPTREE" ++ 1 ∷ [])
@@ -113,17 +116,17 @@ started_so : (who : LogReader) (bytes : List ℕ) → start_for who bytes ≡ st
 unfolding start_at start_of unowned_start unowned_start_of
 started_so (OwnerReads owner) bytes = refl
 started_so HolderReads bytes = refl
-started_so (OwnerWrites owner) bytes = refl
+started_so (OwnerWrites owner limit) bytes = refl
 
 tells_check : (who : LogReader) (bytes : List ℕ) → has_check who bytes ≡ true → HasOwnerCheck who bytes
 tells_check (OwnerReads owner) bytes is = (bytes_eq-Decides _ _).0 is
 tells_check HolderReads bytes is = tt
-tells_check (OwnerWrites owner) bytes is = (bytes_eq-Decides _ _).0 is
+tells_check (OwnerWrites owner limit) bytes is = (bytes_eq-Decides _ _).0 is
 
 told_check : (who : LogReader) (bytes : List ℕ) → HasOwnerCheck who bytes → has_check who bytes ≡ true
 told_check (OwnerReads owner) bytes has = (bytes_eq-Decides _ _).1 has
 told_check HolderReads bytes has = refl
-told_check (OwnerWrites owner) bytes has = (bytes_eq-Decides _ _).1 has
+told_check (OwnerWrites owner limit) bytes has = (bytes_eq-Decides _ _).1 has
 
 -- what the tests of the header tell
 data Starts (who : LogReader) (bytes : List ℕ) (start : Result Past Fault) : Type 0 where
@@ -195,13 +198,13 @@ module _ (who : LogReader) (bytes : List ℕ) where
 abbrev pub log_for : LogReader → List ℕ → Result (List PlainPlaced) Fault
 log_for (OwnerReads owner) bytes = log_verdict owner bytes
 log_for HolderReads bytes = holder_log bytes
-log_for (OwnerWrites owner) bytes = writer_log owner bytes
+log_for (OwnerWrites owner limit) bytes = batches_alone (opening_verdict limit owner bytes)
 
 log_so : (who : LogReader) (bytes : List ℕ) → log_for who bytes ≡ log_behind who bytes (start_for who bytes)
-unfolding holder_log writer_log turn_at turn_by
+unfolding holder_log turn_at turn_by
 log_so (OwnerReads owner) bytes = sym (owner_walks owner bytes)
 log_so HolderReads bytes = refl
-log_so (OwnerWrites owner) bytes = refl
+log_so (OwnerWrites owner limit) bytes = opened_so limit owner bytes
 
 pub answer_told : (who : LogReader) (bytes : List ℕ) → IsAnswer who bytes (log_for who bytes)
 answer_told who bytes = subst (IsAnswer who bytes) (sym (log_so who bytes)) (log_told who bytes (start_for who bytes) (starts who bytes))

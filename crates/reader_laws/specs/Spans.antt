@@ -8,11 +8,11 @@ use Rattle.commit_journal.specs.Answering.{Fault, NotAStore, WrongKey, Damaged, 
 use Rattle.commit_journal.specs.Log.{body_of, check_in, gate_in, head_of, is_batch, payload_in, slot_in, tag_due, tag_in}
 use Rattle.commit_journal.specs.Placed.{PlainBody, PlainPlaced}
 
--- who reads a log: the owner with a key, a holder, or the owner who opens for writing
+-- who reads a log: the owner with a key, a holder, or the owner who opens for writing a store of so many bytes at most
 pub data LogReader : Type 0 where
   OwnerReads : (owner : List ℕ) → LogReader
   HolderReads : LogReader
-  OwnerWrites : (owner : List ℕ) → LogReader
+  OwnerWrites : (owner : List ℕ) → (limit : ℕ) → LogReader
 
 -- ---- the header
 
@@ -26,7 +26,7 @@ IsStore bytes = (42 ≤ length bytes) × (take 9 (header_in bytes) ≡ codes "CR
 abbrev pub HasOwnerCheck : LogReader → List ℕ → Type 0
 HasOwnerCheck (OwnerReads owner) bytes = slice_range (header_in bytes) 9 41 ≡ check_of owner
 HasOwnerCheck HolderReads bytes = Unit {0}
-HasOwnerCheck (OwnerWrites owner) bytes = slice_range (header_in bytes) 9 41 ≡ check_of owner
+HasOwnerCheck (OwnerWrites owner limit) bytes = slice_range (header_in bytes) 9 41 ≡ check_of owner
 
 -- ---- a batch
 
@@ -80,17 +80,23 @@ pub record Follows (bytes : List ℕ) (before : Option Span) (s : Span) : Type 0
   pub start : s.start ≡ (behind bytes before).at
   pub size : s.size ≡ size_in bytes s
 
--- the four tests of it, in this order. A batch stands there
-abbrev pub IsBatch : List ℕ → Option Span → Span → Type 0
-IsBatch bytes before s = let k = behind bytes before in
-    is_batch (record { at = k.at; number = k.number; epoch = k.epoch; tag = k.tag; gate = k.gate }) (head_of (take 13 (drop s.start bytes)))
-    (length (drop s.start bytes)) ≡ true
+-- the four tests of it, in this order. A batch stands there, which ends within the limit of a store that is opened for writing
+abbrev pub EndsWithin : LogReader → Span → Type 0
+EndsWithin (OwnerReads owner) s = Unit {0}
+EndsWithin HolderReads s = Unit {0}
+EndsWithin (OwnerWrites owner limit) s = s.start + (110 + s.size) ≤ limit
+
+abbrev pub IsBatch : LogReader → List ℕ → Option Span → Span → Type 0
+IsBatch who bytes before s = let k = behind bytes before in
+    (is_batch (record { at = k.at; number = k.number; epoch = k.epoch; tag = k.tag; gate = k.gate }) (head_of (take 13 (drop s.start bytes)))
+    (length (drop s.start bytes)) ≡ true)
+    × EndsWithin who s
 
 -- it has the owner tag, where the reader has the owner's key
 abbrev pub HasOwnerTag : LogReader → List ℕ → Option Span → Span → Type 0
 HasOwnerTag (OwnerReads owner) bytes before s = tag_due owner (behind bytes before).tag s.size (batch_in bytes s) ≡ tag_in s.size (batch_in bytes s)
 HasOwnerTag HolderReads bytes before s = Unit {0}
-HasOwnerTag (OwnerWrites owner) bytes before s = tag_due owner (behind bytes before).tag s.size (batch_in bytes s) ≡ tag_in s.size (batch_in bytes s)
+HasOwnerTag (OwnerWrites owner limit) bytes before s = tag_due owner (behind bytes before).tag s.size (batch_in bytes s) ≡ tag_in s.size (batch_in bytes s)
 
 -- it is published: its slot makes its check. The owner who opens for writing doesn't ask
 abbrev pub IsPublished : List ℕ → Span → Type 0
@@ -99,13 +105,13 @@ IsPublished bytes s = hmac (slot_in (batch_in bytes s)) (payload_in s.size (batc
 abbrev pub PassesSlot : LogReader → List ℕ → Span → Type 0
 PassesSlot (OwnerReads owner) bytes s = IsPublished bytes s
 PassesSlot HolderReads bytes s = IsPublished bytes s
-PassesSlot (OwnerWrites owner) bytes s = Unit {0}
+PassesSlot (OwnerWrites owner limit) bytes s = Unit {0}
 
 -- its payload has a form, unmasked with its slot, or with the veil key that the owner computes who opens for writing
 abbrev pub veil_in : LogReader → List ℕ → Span → List ℕ
 veil_in (OwnerReads owner) bytes s = slot_in (batch_in bytes s)
 veil_in HolderReads bytes s = slot_in (batch_in bytes s)
-veil_in (OwnerWrites owner) bytes s = veil_of owner (epoch_in bytes s).0 (number_in bytes s)
+veil_in (OwnerWrites owner limit) bytes s = veil_of owner (epoch_in bytes s).0 (number_in bytes s)
 
 abbrev pub body_in : LogReader → List ℕ → Span → Result PlainBody ℕ
 body_in who bytes s = body_of (head_of (take 13 (drop s.start bytes))) (masked (veil_in who bytes s) (payload_in s.size (batch_in bytes s)))
@@ -113,7 +119,7 @@ body_in who bytes s = body_of (head_of (take 13 (drop s.start bytes))) (masked (
 -- a batch that passes all four, and what is read of it
 pub record Passes (who : LogReader) (bytes : List ℕ) (before : Option Span) (s : Span) (p : PlainPlaced) : Type 0 where
   pub follows : Follows bytes before s
-  pub stands : IsBatch bytes before s
+  pub stands : IsBatch who bytes before s
   pub tagged : HasOwnerTag who bytes before s
   pub published : PassesSlot who bytes s
   pub body : PlainBody
@@ -122,18 +128,18 @@ pub record Passes (who : LogReader) (bytes : List ℕ) (before : Option Span) (s
 
 -- a batch at which a test fails, all before it having passed, and the fault
 pub data Fails (who : LogReader) (bytes : List ℕ) (before : Option Span) (s : Span) (fault : Fault) : Type 0 where
-  NoBatch : (IsBatch bytes before s → ⊥) → fault ≡ Damaged s.start → Fails who bytes before s fault
-  WrongTag : IsBatch bytes before s → (HasOwnerTag who bytes before s → ⊥)
+  NoBatch : (IsBatch who bytes before s → ⊥) → fault ≡ Damaged s.start → Fails who bytes before s fault
+  WrongTag : IsBatch who bytes before s → (HasOwnerTag who bytes before s → ⊥)
       → fault ≡ Tampered (number_in bytes s) (s.start + 77 + s.size) → Fails who bytes before s fault
-  WrongSlot : IsBatch bytes before s → HasOwnerTag who bytes before s → (PassesSlot who bytes s → ⊥) → (behind bytes (Some s)).gate ≡ 1
+  WrongSlot : IsBatch who bytes before s → HasOwnerTag who bytes before s → (PassesSlot who bytes s → ⊥) → (behind bytes (Some s)).gate ≡ 1
       → fault ≡ Tampered (number_in bytes s) (s.start + 13) → Fails who bytes before s fault
-  NoForm : IsBatch bytes before s → HasOwnerTag who bytes before s → PassesSlot who bytes s → (place : ℕ) → body_in who bytes s ≡ Err place
+  NoForm : IsBatch who bytes before s → HasOwnerTag who bytes before s → PassesSlot who bytes s → (place : ℕ) → body_in who bytes s ≡ Err place
       → fault ≡ Damaged (s.start + 45 + place) → Fails who bytes before s fault
 
 -- a batch that ends the log: it isn't published, and the gate behind it is closed
 pub record IsHidden (who : LogReader) (bytes : List ℕ) (before : Option Span) (s : Span) : Type 0 where
   pub follows : Follows bytes before s
-  pub stands : IsBatch bytes before s
+  pub stands : IsBatch who bytes before s
   pub tagged : HasOwnerTag who bytes before s
   pub hidden : PassesSlot who bytes s → ⊥
   pub closed : (behind bytes (Some s)).gate ≢ 1
