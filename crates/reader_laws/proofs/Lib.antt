@@ -12,6 +12,7 @@ pub mod Rights
 pub mod Seen
 pub mod Shown
 pub mod ValidReaders
+pub mod SpanEnds
 pub mod SpanLogs
 pub mod SpanOpened
 pub mod SpanTurns

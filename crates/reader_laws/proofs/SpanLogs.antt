@@ -36,7 +36,7 @@ last_from : (b : Option Span) (spans : List Span) → before_from b spans (lengt
 last_from b [] = refl
 last_from b (s ∷ spans) = one_on b s spans (length spans) ∙ last_from (Some s) spans
 
-last_is : (spans : List Span) → last_span spans ≡ last_of None spans
+pub last_is : (spans : List Span) → last_span spans ≡ last_of None spans
 last_is spans = sym (from_header_on spans (length spans)) ∙ last_from None spans
 
 module _ (who : LogReader) (bytes : List ℕ) where
@@ -69,7 +69,7 @@ module _ (who : LogReader) (bytes : List ℕ) where
     reads_each (Some s) spans log (omega arith) (λ i z q span_is placed_is. subst (λ (x : Option Span). Passes who bytes x z q) (one_on b s spans i) (each (suc i) z q span_is placed_is)),
   )
 
-  reads_all : (spans : List Span) (log : List PlainPlaced) → AreRead who bytes spans log → Reads who bytes None spans log
+  pub reads_all : (spans : List Span) (log : List PlainPlaced) → AreRead who bytes spans log → Reads who bytes None spans log
   reads_all spans log are = reads_each None spans log are.as_many
       (λ i s p span_is placed_is. subst (λ (z : Option Span). Passes who bytes z s p) (sym (from_header_on spans i)) (are.each i s p span_is placed_is))
 
@@ -157,6 +157,14 @@ module _ (who : LogReader) (bytes : List ℕ) where
 
   starts : Starts who bytes (start_for who bytes)
   starts = subst (Starts who bytes) (sym (started_so who bytes)) (starts_long (nat_le 42 (length bytes)) refl)
+
+  started_with : (start : Result Past Fault) → Starts who bytes start → IsStore bytes → HasOwnerCheck who bytes → start ≡ Ok (past_behind bytes None)
+  started_with start (NoStart none is) store checked = absurd (none store)
+  started_with start (OtherStart store_too other is) store checked = absurd (other checked)
+  started_with start (Started store_too check is) store checked = is
+
+  pub starts_with : IsStore bytes → HasOwnerCheck who bytes → start_for who bytes ≡ Ok (past_behind bytes None)
+  starts_with store checked = started_with (start_for who bytes) starts store checked
 
   -- ---- the whole image
 

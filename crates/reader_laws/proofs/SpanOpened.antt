@@ -14,7 +14,7 @@ use Rattle.reader_laws.specs.Spans.{OwnerWrites}
 use Rattle.reader_laws.proofs.SpanTurns.{Head, Past, judge_of}
 
 -- a turn of a walk that may end before a closed gate alone
-abbrev as_turn : Result PlainTurn Fault → Result (Option PlainTurn) Fault
+abbrev pub as_turn : Result PlainTurn Fault → Result (Option PlainTurn) Fault
 as_turn (Ok turn) = Ok (Some turn)
 as_turn (Err fault) = Err fault
 
@@ -58,7 +58,7 @@ module _ (limit : ℕ) (owner : List ℕ) where
   behind_head past rest (Ok head) = if_within (nat_le (past.at + (110 + head.size)) limit) owner past head rest
   behind_head past rest (Err fault) = refl
 
-  same_turn : (past : Past) (rest : List ℕ) → as_turn (owned_at limit owner past rest) ≡ turn_by (judge_of (OwnerWrites owner limit)) past rest
+  pub same_turn : (past : Past) (rest : List ℕ) → as_turn (owned_at limit owner past rest) ≡ turn_by (judge_of (OwnerWrites owner limit)) past rest
   unfolding owned_at owned_head turn_by
   same_turn past rest = behind_head past rest (head_at past rest)
 

@@ -6,6 +6,7 @@ use Rattle.chacha_seal.specs.Sealing.{check_of, masked, veil_of}
 use Rattle.cry_base.specs.declared.ids.Epoch.{Epoch}
 use Rattle.commit_journal.specs.Answering.{Fault, NotAStore, WrongKey, Damaged, Tampered}
 use Rattle.commit_journal.specs.Log.{body_of, check_in, gate_in, head_of, is_batch, payload_in, slot_in, tag_due, tag_in}
+use Rattle.commit_journal.specs.Opening.{OwnedLog}
 use Rattle.commit_journal.specs.Placed.{PlainBody, PlainPlaced}
 
 -- who reads a log: the owner with a key, a holder, or the owner who opens for writing a store of so many bytes at most
@@ -175,3 +176,11 @@ pub data IsAnswer (who : LogReader) (bytes : List ℕ) (answer : Result (List Pl
   Failed : (spans : List Span) (log : List PlainPlaced) → AreRead who bytes spans log
       → (s : Span) → Follows bytes (last_span spans) s → (fault : Fault) → Fails who bytes (last_span spans) s fault
       → answer ≡ Err fault → IsAnswer who bytes answer
+
+-- a log that was opened for writing: it ends before the closed gate behind these spans, and what the next batch follows is known there
+pub record EndsBehind (bytes : List ℕ) (spans : List Span) (log : OwnedLog) : Type 0 where
+  pub closed : (behind bytes (last_span spans)).gate ≢ 1
+  pub batches : log.batches ≡ (behind bytes (last_span spans)).number
+  pub epoch : log.epoch ≡ (behind bytes (last_span spans)).epoch.0
+  pub end : log.end ≡ (behind bytes (last_span spans)).at
+  pub tag : log.tag ≡ (behind bytes (last_span spans)).tag
