@@ -23,7 +23,7 @@ header_in bytes = take 42 bytes
 abbrev pub IsStore : List ℕ → Type 0
 IsStore bytes = (42 ≤ length bytes) × (take 9 (header_in bytes) ≡ codes "CRYPTREE" ++ 1 ∷ [])
 
--- the owner check is the key's, where the reader has the owner's key
+-- where the reader has the owner's key, the owner check is that key's
 abbrev pub HasOwnerCheck : LogReader → List ℕ → Type 0
 HasOwnerCheck (OwnerReads owner) bytes = slice_range (header_in bytes) 9 41 ≡ check_of owner
 HasOwnerCheck HolderReads bytes = Unit {0}
@@ -57,7 +57,7 @@ pub record Known : Type 0 where
   pub tag : List ℕ
   pub gate : ℕ
 
--- that is read from the bytes of the batch; and the header has 0, 0, the owner check and its gate
+-- it is read from the batch in a span; behind the header it is 0 and 0, the owner check, and the header's gate
 abbrev pub behind : List ℕ → Option Span → Known
 behind bytes None = record {
   at = 42;
@@ -81,23 +81,30 @@ pub record Follows (bytes : List ℕ) (before : Option Span) (s : Span) : Type 0
   pub start : s.start ≡ (behind bytes before).at
   pub size : s.size ≡ size_in bytes s
 
--- the four tests of it, in this order. A batch stands there, which ends within the limit of a store that is opened for writing
+-- The four tests of the batch in such a span, in this order.
+
+-- a store that is opened for writing has a limit of its own
 abbrev pub EndsWithin : LogReader → Span → Type 0
 EndsWithin (OwnerReads owner) s = Unit {0}
 EndsWithin HolderReads s = Unit {0}
 EndsWithin (OwnerWrites owner limit) s = s.start + (110 + s.size) ≤ limit
 
+-- a batch stands there
 abbrev pub IsBatch : LogReader → List ℕ → Option Span → Span → Type 0
 IsBatch who bytes before s = let k = behind bytes before in
     (is_batch (record { at = k.at; number = k.number; epoch = k.epoch; tag = k.tag; gate = k.gate }) (head_of (take 13 (drop s.start bytes)))
     (length (drop s.start bytes)) ≡ true)
     × EndsWithin who s
 
--- it has the owner tag, where the reader has the owner's key
+-- where the reader has the owner's key, it has its owner tag, behind the tag of the batch before, or the owner check
+abbrev pub HasTagOf : List ℕ → List ℕ → Option Span → Span → Type 0
+HasTagOf owner bytes before s =
+    tag_due owner (behind bytes before).tag s.size (batch_in bytes s) ≡ tag_in s.size (batch_in bytes s)
+
 abbrev pub HasOwnerTag : LogReader → List ℕ → Option Span → Span → Type 0
-HasOwnerTag (OwnerReads owner) bytes before s = tag_due owner (behind bytes before).tag s.size (batch_in bytes s) ≡ tag_in s.size (batch_in bytes s)
+HasOwnerTag (OwnerReads owner) bytes before s = HasTagOf owner bytes before s
 HasOwnerTag HolderReads bytes before s = Unit {0}
-HasOwnerTag (OwnerWrites owner limit) bytes before s = tag_due owner (behind bytes before).tag s.size (batch_in bytes s) ≡ tag_in s.size (batch_in bytes s)
+HasOwnerTag (OwnerWrites owner limit) bytes before s = HasTagOf owner bytes before s
 
 -- it is published: its slot makes its check. The owner who opens for writing doesn't ask
 abbrev pub IsPublished : List ℕ → Span → Type 0
@@ -115,7 +122,8 @@ veil_in HolderReads bytes s = slot_in (batch_in bytes s)
 veil_in (OwnerWrites owner limit) bytes s = veil_of owner (epoch_in bytes s).0 (number_in bytes s)
 
 abbrev pub body_in : LogReader → List ℕ → Span → Result PlainBody ℕ
-body_in who bytes s = body_of (head_of (take 13 (drop s.start bytes))) (masked (veil_in who bytes s) (payload_in s.size (batch_in bytes s)))
+body_in who bytes s =
+    body_of (head_of (take 13 (drop s.start bytes))) (masked (veil_in who bytes s) (payload_in s.size (batch_in bytes s)))
 
 -- a batch that passes all four, and what is read of it
 pub record Passes (who : LogReader) (bytes : List ℕ) (before : Option Span) (s : Span) (p : PlainPlaced) : Type 0 where
@@ -127,15 +135,15 @@ pub record Passes (who : LogReader) (bytes : List ℕ) (before : Option Span) (s
   pub has_form : body_in who bytes s ≡ Ok body
   pub is_read : p ≡ record { batch = number_in bytes s; epoch = epoch_in bytes s; place = s.start + 45; body = body }
 
--- a batch at which a test fails, all before it having passed, and the fault
+-- a batch at which a test fails where those before it pass, and the fault
 pub data Fails (who : LogReader) (bytes : List ℕ) (before : Option Span) (s : Span) (fault : Fault) : Type 0 where
   NoBatch : (IsBatch who bytes before s → ⊥) → fault ≡ Damaged s.start → Fails who bytes before s fault
   WrongTag : IsBatch who bytes before s → (HasOwnerTag who bytes before s → ⊥)
       → fault ≡ Tampered (number_in bytes s) (s.start + 77 + s.size) → Fails who bytes before s fault
-  WrongSlot : IsBatch who bytes before s → HasOwnerTag who bytes before s → (PassesSlot who bytes s → ⊥) → (behind bytes (Some s)).gate ≡ 1
-      → fault ≡ Tampered (number_in bytes s) (s.start + 13) → Fails who bytes before s fault
-  NoForm : IsBatch who bytes before s → HasOwnerTag who bytes before s → PassesSlot who bytes s → (place : ℕ) → body_in who bytes s ≡ Err place
-      → fault ≡ Damaged (s.start + 45 + place) → Fails who bytes before s fault
+  WrongSlot : IsBatch who bytes before s → HasOwnerTag who bytes before s → (PassesSlot who bytes s → ⊥)
+      → (behind bytes (Some s)).gate ≡ 1 → fault ≡ Tampered (number_in bytes s) (s.start + 13) → Fails who bytes before s fault
+  NoForm : IsBatch who bytes before s → HasOwnerTag who bytes before s → PassesSlot who bytes s
+      → (place : ℕ) → body_in who bytes s ≡ Err place → fault ≡ Damaged (s.start + 45 + place) → Fails who bytes before s fault
 
 -- a batch that ends the log: it isn't published, and the gate behind it is closed
 pub record IsHidden (who : LogReader) (bytes : List ℕ) (before : Option Span) (s : Span) : Type 0 where
@@ -158,7 +166,8 @@ pub record AreRead (who : LogReader) (bytes : List ℕ) (spans : List Span) (log
   pub store : IsStore bytes
   pub checked : HasOwnerCheck who bytes
   pub as_many : length log ≡ length spans
-  pub each : (i : ℕ) (s : Span) (p : PlainPlaced) → slice_get spans i ≡ Some s → slice_get log i ≡ Some p → Passes who bytes (span_before spans i) s p
+  pub each : (i : ℕ) (s : Span) (p : PlainPlaced) → slice_get spans i ≡ Some s → slice_get log i ≡ Some p
+      → Passes who bytes (span_before spans i) s p
 
 -- the last of them, if there is one
 abbrev pub last_span : List Span → Option Span

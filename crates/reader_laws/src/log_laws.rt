@@ -8,7 +8,7 @@ ghost use Rattle.commit_journal.specs.Placed.{PlainPlaced};
 ghost use Rattle.reader_laws.specs.Spans.{AreRead, EndsBehind, HolderReads, IsAnswer, LogReader, OwnerReads, OwnerWrites, Span};
 
 /// Law: the walk from gate to gate of who reads a log answers exactly what its bytes answer by where the batches stand and which
-/// test fails first: for the owner, for a holder, and for the owner who opens for writing.
+/// test fails first: for the owner, for a holder, for the owner who opens a store for writing, and within any limit of that store.
 pub fn walks_answer_by_spans()
     ensures owner { (owner bytes : List ℕ) (answer : Result (List PlainPlaced) Fault)
         → (log_verdict owner bytes ≡ answer) ↔ IsAnswer (OwnerReads owner) bytes answer }
@@ -17,7 +17,8 @@ pub fn walks_answer_by_spans()
     ensures writer { (owner bytes : List ℕ) (answer : Result (List PlainPlaced) Fault)
         → (writer_log owner bytes ≡ answer) ↔ IsAnswer (OwnerWrites owner 268435456) bytes answer }
     ensures opened { (limit : ℕ) (owner bytes : List ℕ) (answer : Result (List PlainPlaced) Fault)
-        → (and_then (opening_verdict limit owner bytes) (λ (log : OwnedLog). Ok log.placed) ≡ answer) ↔ IsAnswer (OwnerWrites owner limit) bytes answer }
+        → (and_then (opening_verdict limit owner bytes) (λ (log : OwnedLog). Ok log.placed) ≡ answer)
+        ↔ IsAnswer (OwnerWrites owner limit) bytes answer }
 {}
 
 /// Law: so bytes answer one thing to each reader, and no other.
