@@ -12,8 +12,10 @@ pub mod Rights
 pub mod Seen
 pub mod Shown
 pub mod ValidReaders
-pub mod Written
-pub mod WrongKeys
+pub mod SpanEnds
+pub mod SpanLogs
+pub mod SpanOpened
 pub mod SpanTurns
 pub mod SpanWalks
-pub mod SpanLogs
+pub mod Written
+pub mod WrongKeys

@@ -1,5 +1,5 @@
 -- A walk from gate to gate answers what the bytes answer by where the batches stand and which test fails first.
-use Rattle.std.proofs.Common.{◌≡◌, ℕ, zero, suc, ◌+◌, ◌-◌, ◌<◌, Bool, true, false, cond, eqb, eq-eqb, List, [], ◌∷◌, drop, Option, None, Some, Result, Ok, Err, refl, sym, ap, subst, ◌∙◌, arith}
+use Rattle.std.proofs.Common.{◌≡◌, ◌≢◌, ℕ, zero, suc, ◌+◌, ◌-◌, ◌<◌, Bool, true, false, cond, eqb, eq-eqb, List, [], ◌∷◌, drop, Option, None, Some, Result, Ok, Err, refl, sym, ap, subst, ◌∙◌, arith}
 use Rattle.std.proofs.lemmas.Bool.{eqb-true}
 use Rattle.std.proofs.lemmas.List.{drop-drop}
 use Rattle.commit_journal.specs.Answering.{Fault, Damaged}
@@ -8,12 +8,33 @@ use Rattle.commit_journal.specs.Logs.{turn_by, walk_at}
 use Rattle.commit_journal.specs.Placed.{PlainPlaced}
 use Rattle.commit_journal.proofs.Walked.{before-before, before-end, before-nil}
 use Rattle.commit_journal.proofs.Walks.{turn_none, walk-skip, walk_shut}
-use Rattle.reader_laws.specs.Spans.{AnswersBehind, AreRead, Closed, Failed, Hidden, LogReader, Passes, Span, behind, last_of}
+use Rattle.reader_laws.specs.Spans.{Fails, Follows, IsHidden, LogReader, Passes, Span, behind}
 use Rattle.reader_laws.proofs.SpanTurns.{Bad, Last, More, Turns, gate_tells, gate_told, judge_of, past_behind, turn_fails, turn_hidden, turn_passes, turns}
 
 before-err : (front : List PlainPlaced) (fault : Fault) → before front (Err fault) ≡ Err fault
 unfolding before
 before-err front fault = refl
+
+-- ---- the relation behind a batch, or the header, by recursion over the spans
+
+abbrev pub Reads : LogReader → List ℕ → Option Span → List Span → List PlainPlaced → Type 0
+Reads who bytes b [] [] = Unit {0}
+Reads who bytes b [] (p ∷ log) = ⊥
+Reads who bytes b (s ∷ spans) [] = ⊥
+Reads who bytes b (s ∷ spans) (p ∷ log) = Passes who bytes b s p × Reads who bytes (Some s) spans log
+
+abbrev pub last_of : Option Span → List Span → Option Span
+last_of b [] = b
+last_of b (s ∷ spans) = last_of (Some s) spans
+
+pub data AnswersBehind (who : LogReader) (bytes : List ℕ) (b : Option Span) (answer : Result (List PlainPlaced) Fault) : Type 0 where
+  EndsClosed : (spans : List Span) (log : List PlainPlaced) → Reads who bytes b spans log
+      → (behind bytes (last_of b spans)).gate ≢ 1 → answer ≡ Ok log → AnswersBehind who bytes b answer
+  EndsHidden : (spans : List Span) (log : List PlainPlaced) → Reads who bytes b spans log
+      → (s : Span) → IsHidden who bytes (last_of b spans) s → answer ≡ Ok log → AnswersBehind who bytes b answer
+  EndsBad : (spans : List Span) (log : List PlainPlaced) → Reads who bytes b spans log
+      → (s : Span) → Follows bytes (last_of b spans) s → (fault : Fault) → Fails who bytes (last_of b spans) s fault
+      → answer ≡ Err fault → AnswersBehind who bytes b answer
 
 -- ---- what a walk answers, the relation holds for
 
@@ -21,10 +42,10 @@ before-err front fault = refl
 read_more : (who : LogReader) (bytes : List ℕ) (b : Option Span) (s : Span) (p : PlainPlaced) (answer : Result (List PlainPlaced) Fault) →
     Passes who bytes b s p → AnswersBehind who bytes (Some s) answer → AnswersBehind who bytes b (before (p ∷ []) answer)
 unfolding before
-read_more who bytes b s p answer passes (Closed spans log are shut is) = Closed (s ∷ spans) (p ∷ log) (passes, are) shut (ap (before (p ∷ [])) is)
-read_more who bytes b s p answer passes (Hidden spans log are last hidden is) = Hidden (s ∷ spans) (p ∷ log) (passes, are) last hidden (ap (before (p ∷ [])) is)
-read_more who bytes b s p answer passes (Failed spans log are last follows fault fails is) =
-    Failed (s ∷ spans) (p ∷ log) (passes, are) last follows fault fails (ap (before (p ∷ [])) is)
+read_more who bytes b s p answer passes (EndsClosed spans log are shut is) = EndsClosed (s ∷ spans) (p ∷ log) (passes, are) shut (ap (before (p ∷ [])) is)
+read_more who bytes b s p answer passes (EndsHidden spans log are last hidden is) = EndsHidden (s ∷ spans) (p ∷ log) (passes, are) last hidden (ap (before (p ∷ [])) is)
+read_more who bytes b s p answer passes (EndsBad spans log are last follows fault fails is) =
+    EndsBad (s ∷ spans) (p ∷ log) (passes, are) last follows fault fails (ap (before (p ∷ [])) is)
 
 module _ (who : LogReader) (bytes : List ℕ) where
   -- the rest of the bytes, of which some belong to the batch before
@@ -44,10 +65,10 @@ module _ (who : LogReader) (bytes : List ℕ) where
       (told (Some s) (at + 1) ((behind bytes (Some s)).at - ((behind bytes b).at + 1)) there (let start = passes.follows.start in omega arith)))
   told_turn b at rest here there told turn (Last s hidden is) =
       subst (λ (t : Result (Option PlainTurn) Fault). AnswersBehind who bytes b (goes_on t (λ t. walk_at (turn_by (judge_of who)) t.past (t.past.at - ((behind bytes b).at + 1)) rest))) (sym is)
-      (Hidden [] [] tt s hidden refl)
+      (EndsHidden [] [] tt s hidden refl)
   told_turn b at rest here there told turn (Bad s fault follows fails is) =
       subst (λ (t : Result (Option PlainTurn) Fault). AnswersBehind who bytes b (goes_on t (λ t. walk_at (turn_by (judge_of who)) t.past (t.past.at - ((behind bytes b).at + 1)) rest))) (sym is)
-      (Failed [] [] tt s follows fault fails refl)
+      (EndsBad [] [] tt s follows fault fails refl)
 
   told_gate : (b : Option Span) (at byte : ℕ) (rest : List ℕ) (test : Bool) → eqb (behind bytes b).gate 1 ≡ test → at ≡ (behind bytes b).at → byte ∷ rest ≡ drop at bytes →
       AreTold rest →
@@ -59,7 +80,7 @@ module _ (who : LogReader) (bytes : List ℕ) where
       (turn_by (judge_of who) (past_behind bytes b) (byte ∷ rest))
       (subst (λ (left : List ℕ). Turns who bytes b (turn_by (judge_of who) (past_behind bytes b) left)) (sym (there ∙ ap (λ n. drop n bytes) here))
       (turns who bytes b (eqb-true (behind bytes b).gate 1 gate)))
-  told_gate b at byte rest false gate here there told = Closed [] [] tt (gate_tells (behind bytes b).gate gate) refl
+  told_gate b at byte rest false gate here there told = EndsClosed [] [] tt (gate_tells (behind bytes b).gate gate) refl
 
   -- the bytes have ended: no batch stands there
   ended : (b : Option Span) (turn : Result (Option PlainTurn) Fault) → turn ≡ Err (Damaged (behind bytes b).at) → Turns who bytes b turn →
@@ -68,14 +89,14 @@ module _ (who : LogReader) (bytes : List ℕ) where
   ended b turn none (More s p passes is) = let wrong = sym is ∙ none in absurd (cc)
   ended b turn none (Last s hidden is) = let wrong = sym is ∙ none in absurd (cc)
   ended b turn none (Bad s fault follows fails is) =
-      subst (λ (t : Result (Option PlainTurn) Fault). AnswersBehind who bytes b (goes_on t (λ _. Ok []))) (sym is) (Failed [] [] tt s follows fault fails refl)
+      subst (λ (t : Result (Option PlainTurn) Fault). AnswersBehind who bytes b (goes_on t (λ _. Ok []))) (sym is) (EndsBad [] [] tt s follows fault fails refl)
 
   ended_gate : (b : Option Span) (test : Bool) → eqb (behind bytes b).gate 1 ≡ test → [] ≡ drop (behind bytes b).at bytes →
       AnswersBehind who bytes b (cond test (goes_on (turn_by (judge_of who) (past_behind bytes b) []) (λ _. Ok [])) (Ok []))
   ended_gate b true gate there =
       ended b (turn_by (judge_of who) (past_behind bytes b) []) (turn_none (judge_of who) (past_behind bytes b))
       (subst (λ (left : List ℕ). Turns who bytes b (turn_by (judge_of who) (past_behind bytes b) left)) (sym there) (turns who bytes b (eqb-true (behind bytes b).gate 1 gate)))
-  ended_gate b false gate there = Closed [] [] tt (gate_tells (behind bytes b).gate gate) refl
+  ended_gate b false gate there = EndsClosed [] [] tt (gate_tells (behind bytes b).gate gate) refl
 
   nothing_behind : (skip at end : ℕ) → [] ≡ drop at bytes → at + skip ≡ end → [] ≡ drop end bytes
   nothing_behind skip at end there is = none_left skip ∙ ap (drop skip) there ∙ drop-drop skip at bytes ∙ ap (λ n. drop n bytes) (omega arith)
@@ -137,7 +158,7 @@ module _ (who : LogReader) (bytes : List ℕ) where
       ∙ ap (λ (left : List ℕ). before (p ∷ []) (walk_at (turn_by (judge_of who)) (past_behind bytes (Some s)) 0 left))
       (drop-drop ((behind bytes (Some s)).at - (behind bytes b).at) (behind bytes b).at bytes ∙ ap (λ n. drop n bytes) (omega arith))
 
-  walk_read : (spans : List Span) (b : Option Span) (log : List PlainPlaced) → AreRead who bytes b spans log → walk_behind b ≡ before log (walk_behind (last_of b spans))
+  walk_read : (spans : List Span) (b : Option Span) (log : List PlainPlaced) → Reads who bytes b spans log → walk_behind b ≡ before log (walk_behind (last_of b spans))
   walk_read [] b [] are = sym (before-nil (walk_behind b))
   walk_read [] b (p ∷ log) are = absurd are
   walk_read (s ∷ spans) b [] are = absurd are
@@ -147,19 +168,19 @@ module _ (who : LogReader) (bytes : List ℕ) where
       ∙ before-before (p ∷ []) log (walk_behind (last_of (Some s) spans))
 
   pub walk_is : (b : Option Span) (answer : Result (List PlainPlaced) Fault) → AnswersBehind who bytes b answer → walk_behind b ≡ answer
-  walk_is b answer (Closed spans log are shut is) =
+  walk_is b answer (EndsClosed spans log are shut is) =
       let last = last_of b spans in
       walk_read spans b log are
       ∙ ap (before log) (walk_shut (turn_by (judge_of who)) (past_behind bytes last) (drop (behind bytes last).at bytes) (gate_told (behind bytes last).gate shut))
       ∙ before-end log
       ∙ sym is
-  walk_is b answer (Hidden spans log are s hidden is) =
+  walk_is b answer (EndsHidden spans log are s hidden is) =
       let last = last_of b spans in
       walk_read spans b log are
       ∙ ap (before log) (walks_end last (drop (behind bytes last).at bytes) (eq-eqb (behind bytes last).gate 1 hidden.follows.opened) (turn_hidden who bytes last s hidden))
       ∙ before-end log
       ∙ sym is
-  walk_is b answer (Failed spans log are s follows fault fails is) =
+  walk_is b answer (EndsBad spans log are s follows fault fails is) =
       let last = last_of b spans in
       walk_read spans b log are
       ∙ ap (before log) (walks_fail last (drop (behind bytes last).at bytes) fault (eq-eqb (behind bytes last).gate 1 follows.opened) (turn_fails who bytes last s fault follows fails))

@@ -1,3 +1,5 @@
+use Rattle.std.proofs.Common.{◌∙◌, sym}
+use Rattle.commit_journal.proofs.Writers.{opened_as_read}
 use Rattle.reader_laws.specs.Spans.{HolderReads, OwnerReads, OwnerWrites}
 use Rattle.reader_laws.proofs.SpanLogs.{answer_both}
 use Rattle.reader_laws.proofs.log_laws.walks_answer_by_spans.Goals as goal
@@ -6,5 +8,8 @@ pub returns : goal.returns
 returns c = record {
   owner = λ owner bytes answer. answer_both (OwnerReads owner) bytes answer;
   holder = λ bytes answer. answer_both HolderReads bytes answer;
-  writer = λ owner bytes answer. answer_both (OwnerWrites owner) bytes answer;
+  writer = λ owner bytes answer.
+      let both = answer_both (OwnerWrites owner 268435456) bytes answer in
+      (λ is. both.0 (opened_as_read owner bytes ∙ is), λ told. sym (opened_as_read owner bytes) ∙ both.1 told);
+  opened = λ limit owner bytes answer. answer_both (OwnerWrites owner limit) bytes answer;
 }
