@@ -40,13 +40,20 @@ class Check:
     def expect(self, what, came, due):
         self.count += 1
         if came != due:
-            self.wrong.append(f"{what}: due {due!r}, came {came!r}")
+            self.wrong.append(f"{str(what)[:200]}: due {str(due)[:200]}, came {str(came)[:200]}")
 
     def expect_all(self, cases):
         """Cases of what is asked, a function that asks it, and the answer due; they are asked beside one another."""
         cases = list(cases)
         for (what, _, due), came in zip(cases, self.pool.map(lambda case: case[1](), cases)):
             self.expect(what, came, due)
+
+
+def is_left(path, due):
+    """Whether these bytes are left in a file, which is taken away."""
+    left = read(path)
+    os.remove(path)
+    return "left as due" if left == due else "left otherwise"
 
 
 def read(path):
@@ -63,6 +70,6 @@ def main(doc, part):
         check = Check(sys.argv[1], folder)
         part(check)
     for text in check.wrong:
-        print(f"{name}: {text[:400]}")
+        print(f"{name}: {text}")
     print(f"{name}: {check.count - len(check.wrong)} of {check.count} answers are those due")
     sys.exit(1 if check.wrong else 0)
