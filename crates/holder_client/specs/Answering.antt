@@ -64,3 +64,8 @@ AnswersAs view (Err fault) wanted = IsFailure fault wanted
 abbrev pub AnswersBy : {X Y : Type 0} → (X → Y → Type 0) → Result X ClientFault → Result Y Fault → Type 0
 AnswersBy {Y = Y} stands_for (Ok x) wanted = (y : Y) × (wanted ≡ Ok y) × stands_for x y
 AnswersBy stands_for (Err fault) wanted = IsFault fault wanted
+
+-- the answer is one that stands for the one that is wanted of whoever reads
+abbrev pub AnswersAsBy : {X Y : Type 0} → (X → Y → Type 0) → Result X ClientFault → Result Y Failure → Type 0
+AnswersAsBy {Y = Y} stands_for (Ok x) wanted = (y : Y) × (wanted ≡ Ok y) × stands_for x y
+AnswersAsBy stands_for (Err fault) wanted = IsFailure fault wanted

@@ -1,0 +1,17 @@
+use Rattle.std.proofs.Common.{◌≡◌, map, sym, ap, subst, ◌∙◌}
+use Rattle.std.proofs.lemmas.Result.{err_from_is_err_and}
+use Rattle.commit_journal.specs.Placed.{plain_placed}
+use Rattle.holder_client.specs.Answering.{AnswersAs}
+use Rattle.holder_client.specs.Judging.{view_with}
+use Rattle.holder_client.specs.Lines.{plain_view}
+use Rattle.holder_client.proofs.Listings.{log_fails_view, log_read_view}
+use Rattle.holder_client.proofs.showing.view.Goals as goal
+
+pub returns-in_err-log-clause-verdict : goal.returns-in_err-log-clause-verdict
+returns-in_err-log-clause-verdict g c = λ s is.
+    let p = err_from_is_err_and c.from_residual.result c.from_residual.ensures.1 in
+    rw (p.1, p.2) (log_fails_view c.args.bundle.now s c.in_err-log.field-0.0 (c.in_err-log.ensures.verdict s is))
+
+pub returns-clause-verdict : goal.returns-clause-verdict
+returns-clause-verdict g c = λ s is.
+    log_read_view c.args.bundle.now s c.in_ok-log.log c.as_slice.result.now c.view_log.result (c.in_ok-log.ensures.verdict s is) c.as_slice.ensures c.view_log.ensures.answer
