@@ -166,7 +166,7 @@ empty_edge : (e : Edge) → In e (edges nothing.store) → ⊥
 unfolding nothing no_store edges in_order
 empty_edge e i = i
 
-first_stand : (stand : Stand) → folded nothing [] ≡ Ok stand → nothing ≡ stand
+pub first_stand : (stand : Stand) → folded nothing [] ≡ Ok stand → nothing ≡ stand
 unfolding folded
 first_stand stand f = cc
 

@@ -1,5 +1,5 @@
 -- A store that gets a name, or bytes, seen by the names that it has then.
-use Rattle.std.proofs.Common.{◌≡◌, ℕ, Bool, true, false, cond, eqb, ◌==◌, List, [], ◌∷◌, ◌++◌, length, drop, map, Some, Result, Ok, Err, inl, inr, refl, sym, ap, ◌∙◌, arith}
+use Rattle.std.proofs.Common.{◌≡◌, ℕ, Bool, true, false, cond, eqb, ◌==◌, List, [], ◌∷◌, ◌++◌, length, drop, map, Some, Result, Ok, Err, inl, inr, refl, sym, ap, subst, ◌∙◌, arith}
 use Rattle.std.specs.Prelude.{if◌then◌else◌}
 use Rattle.std.proofs.Math.Seq.{take-append_seam, drop-append_seam}
 use Rattle.std.proofs.lemmas.Bool.{eqb-true, eq-eqb, false_from_ne_true, false≢true}
@@ -185,11 +185,15 @@ parts_of_it o x text name bytes is =
     ∙ ap (λ n. let y : Opened = record o { store = with_file o.store x (λ e. record e { name = n; bytes = drop (length name) (name ++ bytes) }) } in y) (take-append_seam name bytes)
     ∙ ap (λ b. let y : Opened = record o { store = with_file o.store x (λ e. record e { name = name; bytes = b }) } in y) (drop-append_seam name bytes)
 
-pub file_taken : (bare : Store) (o : Opened) (x at : ℕ) (text name bytes : List ℕ) (new given old : Titles) → HasParts text name bytes → IsNamed (File (record { 0 = x })) name bytes new given →
-    given.folders ≡ old.folders → given.files ≡ old.files → HasNames bare old o.store → (y : Opened) × (with_text_at o x at text ≡ Ok y) × IsTitledBy bare new o y
-unfolding with_text_at with_file
-file_taken bare o x at text name bytes new given old parts named folders files has = (
-  record o { store = with_file o.store x (λ e. record e { name = name; bytes = bytes }) },
-  rw parts.0 (ap (λ y. let z : Result Opened Fault = Ok y in z) (parts_of_it o x text name bytes parts.1)),
-  (refl, refl, file_named bare x name bytes new given o.store named (same_names bare given old o.store folders files has)),
-)
+-- the text is the name and the bytes
+pub file_opened : (o : Opened) (x at : ℕ) (text name bytes : List ℕ) → HasParts text name bytes →
+    with_text_at o x at text ≡ Ok (record o { store = with_file o.store x (λ e. record e { name = name; bytes = bytes }) })
+unfolding with_text_at
+file_opened o x at text name bytes parts = rw parts.0 (ap (λ y. let z : Result Opened Fault = Ok y in z) (parts_of_it o x text name bytes parts.1))
+
+-- the file's entry has this name and these bytes
+pub file_titled : (bare : Store) (o behind : Opened) (x : ℕ) (name bytes : List ℕ) (new given old : Titles) → behind ≡ record o { store = with_file o.store x (λ e. record e { name = name; bytes = bytes }) } →
+    IsNamed (File (record { 0 = x })) name bytes new given → given.folders ≡ old.folders → given.files ≡ old.files → HasNames bare old o.store → IsTitledBy bare new o behind
+unfolding with_file
+file_titled bare o behind x name bytes new given old is named folders files has =
+    subst (IsTitledBy bare new o) (sym is) (refl, refl, file_named bare x name bytes new given o.store named (same_names bare given old o.store folders files has))

@@ -1,13 +1,15 @@
--- The visits of an owner, from the rows of the public state.
+-- The visits of an owner to files and holders, from the rows of the public state.
 use Rattle.std.proofs.Common.{◌≡◌, ℕ, zero, suc, ◌+◌, ◌<◌, Bool, true, false, not, ◌&&◌, ◌==◌, cond, List, [], ◌∷◌, ◌++◌, map, length, filter, Option, None, Some, inl, inr, ⊎_elim, refl, sym, ap, subst, ◌∙◌, arith, append_assoc}
-use Rattle.std.specs.Prelude.{nat_lt}
+use Rattle.std.specs.Prelude.{IsTrue, nat_lt}
 use Rattle.std.specs.List.{AllByRecursion, AllPairs, flat_map, range_with_len}
 use Rattle.std.proofs.lemmas.Bool.{eqb-true, eq-eqb, ltb-true, false_from_ne_true}
 use Rattle.std.proofs.lemmas.List.{map-append}
 use Rattle.std.proofs.lemmas.List.Elements.{All-head}
 use Rattle.std.proofs.lemmas.List.FromFn.{map-range_with_len_more}
 use Rattle.cry_base.specs.Sets.{In}
-use Rattle.cry_base.specs.Store.{Store, FolderEntry, FileEntry, HolderEntry, file_entry}
+use Rattle.cry_base.specs.Store.{Store, FolderEntry, FileEntry, HolderEntry, file_entry, folder_entry, way_to_root}
+use Rattle.cry_base.specs.declared.roles.Role.{Role}
+use Rattle.cry_base.specs.declared.roles.Role.TheVariants.{Files, File}
 use Rattle.cry_base.proofs.Finding.{find-found, found-find}
 use Rattle.cry_base.proofs.Members.{In-append}
 use Rattle.folder_nodes.specs.Bare.{folder_of_row, file_of_row}
@@ -15,11 +17,10 @@ use Rattle.folder_nodes.specs.declared.rows.FolderRow.{FolderRow}
 use Rattle.folder_nodes.specs.declared.rows.FileRow.{FileRow}
 use Rattle.folder_nodes.specs.Trees.{IsTree}
 use Rattle.folder_nodes.proofs.Ascending.{head_below, rest_rising, same_ranked}
-use Rattle.holder_client.specs.declared.visit_list.Part.{Part}
-use Rattle.holder_client.specs.declared.visit_list.Part.TheVariants.{Entry, Ways, Title}
 use Rattle.holder_client.specs.declared.visit_list.Visit.{Visit as Listed}
 use Rattle.holder_client.specs.declared.visit_list.Visit.TheVariants as listed
-use Rattle.holder_client.specs.Opening.{IsNameless, IsOwners, file_part, folder_part, plain_visit}
+use Rattle.holder_client.specs.Opening.{IsFor, IsNameless, is_no_holders, plain_visit}
+use Rattle.holder_client.specs.Listing.{file_part}
 use Rattle.holder_client.specs.Visits.{Visit, folders_that, is_entry, entry_edge, entry_visits, lower_visits, allowed_visits, upper_visit, upper_visits, name_visits, files_that, file_visits, visits_to_names, all_visits, holder_visits, is_higher, is_deeper}
 use Rattle.holder_client.specs.Visits.Visit.{ToKey, ToName, ToFile, ToHolder}
 use Rattle.key_links.specs.Ended.{kind_from, kind_to, role_with, row_numbered}
@@ -48,7 +49,7 @@ put_first X rank x (y ∷ ys) up =
     let lower = not_below (rank x) (rank y) (All-head (λ z. rank x < rank z) y ys (head_below X rank x (y ∷ ys) up)) in
     ap (λ b. cond b (rank y ∷ put_in_order nat_lt (rank x) (map rank ys)) (rank x ∷ rank y ∷ map rank ys)) lower
 
-ordered : (X : Type 0) (rank : X → ℕ) (xs : List X) → IsRising rank xs → in_order nat_lt (map rank xs) ≡ map rank xs
+pub ordered : (X : Type 0) (rank : X → ℕ) (xs : List X) → IsRising rank xs → in_order nat_lt (map rank xs) ≡ map rank xs
 unfolding in_order
 ordered X rank [] up = refl
 ordered X rank (x ∷ xs) up = ap (put_in_order nat_lt (rank x)) (ordered X rank xs (rest_rising X rank x xs up)) ∙ put_first X rank x xs up
@@ -70,19 +71,6 @@ all_pass : (X : Type 0) (p : X → Bool) (xs : List X) → ((x : X) → p x ≡ 
 all_pass X p [] t = refl
 all_pass X p (x ∷ xs) t = ap (λ b. cond b (x ∷ filter p xs) (filter p xs)) (t x) ∙ ap (λ l. x ∷ l) (all_pass X p xs t)
 
-none_pass : (X : Type 0) (p : X → Bool) (xs : List X) → ((x : X) → p x ≡ false) → filter p xs ≡ []
-none_pass X p [] f = refl
-none_pass X p (x ∷ xs) f = ap (λ b. cond b (x ∷ filter p xs) (filter p xs)) (f x) ∙ none_pass X p xs f
-
-all_folders : (s : Store) (test : ℕ → Bool) → ((f : ℕ) → test f ≡ true) → IsRising (λ (e : FolderEntry). e.id) s.folders → folders_that test s ≡ map (λ (e : FolderEntry). e.id) s.folders
-unfolding folders_that
-all_folders s test t up =
-    ap (in_order nat_lt) (all_pass ℕ test (map (λ (e : FolderEntry). e.id) s.folders) t) ∙ ordered FolderEntry (λ e. e.id) s.folders up
-
-no_folders : (s : Store) (test : ℕ → Bool) → ((f : ℕ) → test f ≡ false) → folders_that test s ≡ []
-unfolding folders_that in_order
-no_folders s test f = ap (in_order nat_lt) (none_pass ℕ test (map (λ (e : FolderEntry). e.id) s.folders) f)
-
 all_files : (s : Store) (test : FileEntry → Bool) → ((e : FileEntry) → test e ≡ true) → IsRising (λ (e : FileEntry). e.id) s.files → files_that test s ≡ map (λ (e : FileEntry). e.id) s.files
 unfolding files_that
 all_files s test t up =
@@ -90,54 +78,12 @@ all_files s test t up =
 
 -- ---- the visits of a store, from its rows
 
-of_folder_rows : (g : ℕ → List Visit) (s : Store) (rows : List FolderRow) → s.folders ≡ map folder_of_row rows →
-    flat_map g (map (λ (e : FolderEntry). e.id) s.folders) ≡ flat_map (λ (r : FolderRow). g r.id.0) rows
-of_folder_rows g s rows is =
-    ap (λ (es : List FolderEntry). flat_map g (map (λ (e : FolderEntry). e.id) es)) is
-    ∙ flat_map_map FolderEntry ℕ Visit g (λ (e : FolderEntry). e.id) (map folder_of_row rows)
-    ∙ flat_map_map FolderRow FolderEntry Visit (λ (e : FolderEntry). g e.id) folder_of_row rows
-
-listed_plainly : (X : Type 0) (f : X → List Listed) (xs : List X) → map plain_visit (flat_map f xs) ≡ flat_map (λ x. map plain_visit (f x)) xs
+pub listed_plainly : (X : Type 0) (f : X → List Listed) (xs : List X) → map plain_visit (flat_map f xs) ≡ flat_map (λ x. map plain_visit (f x)) xs
 listed_plainly X f [] = refl
 listed_plainly X f (x ∷ xs) = map-append plain_visit (f x) (flat_map f xs) ∙ ap (λ l. map plain_visit (f x) ++ l) (listed_plainly X f xs)
 
-abbrev pub part_visits : Part → List FolderRow → List Visit
-part_visits part rows = map plain_visit (flat_map (λ (r : FolderRow). folder_part part r.id) rows)
-
-entries_told : (s : Store) (rows : List FolderRow) → s.folders ≡ map folder_of_row rows → IsRising (λ (e : FolderEntry). e.id) s.folders → part_visits Entry rows ≡ entry_visits s TheOwner
-unfolding entry_visits entry_edge is_entry clear_of sub_of
-entries_told s rows is up =
-    listed_plainly FolderRow (λ (r : FolderRow). folder_part Entry r.id) rows
-    ∙ sym (of_folder_rows (λ f. ToKey (entry_edge TheOwner f) ∷ ToKey (edge 3 (clear_of f) (sub_of f)) ∷ []) s rows is)
-    ∙ ap (flat_map (λ f. ToKey (entry_edge TheOwner f) ∷ ToKey (edge 3 (clear_of f) (sub_of f)) ∷ [])) (sym (all_folders s (is_entry s TheOwner) (λ f. refl) up))
-
-ways_told : (s : Store) (rows : List FolderRow) → s.folders ≡ map folder_of_row rows → IsRising (λ (e : FolderEntry). e.id) s.folders → part_visits Ways rows ≡ allowed_visits s TheOwner
-unfolding allowed_visits allowed_to sub_of back_of files_of
-ways_told s rows is up =
-    listed_plainly FolderRow (λ (r : FolderRow). folder_part Ways r.id) rows
-    ∙ sym (of_folder_rows (λ f. ToKey (edge 4 (sub_of f) (back_of f)) ∷ ToKey (edge 5 (sub_of f) (files_of f)) ∷ []) s rows is)
-    ∙ ap (flat_map (λ f. ToKey (edge 4 (sub_of f) (back_of f)) ∷ ToKey (edge 5 (sub_of f) (files_of f)) ∷ [])) (sym (all_folders s (allowed_to s TheOwner) (λ f. refl) up))
-
-titles_told : (s : Store) (rows : List FolderRow) → s.folders ≡ map folder_of_row rows → IsRising (λ (e : FolderEntry). e.id) s.folders → part_visits Title rows ≡ name_visits s TheOwner
-unfolding name_visits named_to back_of data_of
-titles_told s rows is up =
-    listed_plainly FolderRow (λ (r : FolderRow). folder_part Title r.id) rows
-    ∙ sym (of_folder_rows (λ f. ToKey (edge 7 (back_of f) (data_of f)) ∷ ToName f ∷ []) s rows is)
-    ∙ ap (flat_map (λ f. ToKey (edge 7 (back_of f) (data_of f)) ∷ ToName f ∷ [])) (sym (all_folders s (named_to s TheOwner) (λ f. refl) up))
-
--- no folder is come into from another
-no_lower : (s : Store) → lower_visits s TheOwner ≡ []
-unfolding lower_visits in_order allowed_to is_entry
-no_lower s =
-    ap (λ fs. map (λ f. ToKey (edge 6 (sub_of (parent_of_folder s f)) (sub_of f))) (in_order (is_higher s) fs)) (no_folders s (λ f. allowed_to s TheOwner f && not (is_entry s TheOwner f)) (λ f. refl))
-
-no_upper : (s : Store) → upper_visits s TheOwner ≡ []
-unfolding upper_visits in_order allowed_to named_to
-no_upper s =
-    ap (λ fs. flat_map (upper_visit s TheOwner) (in_order (is_deeper s) fs)) (no_folders s (λ f. named_to s TheOwner f && not (allowed_to s TheOwner f)) (λ f. refl))
-
 -- the folder of a file is that of its row
-own_folder : (s : Store) (e : FileEntry) → IsRising (λ (x : FileEntry). x.id) s.files → In e s.files → folder_of_file s e.id ≡ e.folder
+pub own_folder : (s : Store) (e : FileEntry) → IsRising (λ (x : FileEntry). x.id) s.files → In e s.files → folder_of_file s e.id ≡ e.folder
 unfolding folder_of_file file_entry
 own_folder s e up i =
     let test : FileEntry → Bool = λ x. x.id == e.id in
@@ -146,14 +92,14 @@ own_folder s e up i =
     let same : w.0 ≡ e = same_ranked FileEntry (λ (x : FileEntry). x.id) s.files up w.0 e there.0 i (eqb-true w.0.id e.id there.1) in
     ap (λ (o : Option FileEntry). elim o [ None ↦ 0 | Some x ↦ x.folder ]) w.1 ∙ ap (λ (x : FileEntry). x.folder) same
 
-flat_alike : (X Y : Type 0) (g h : X → List Y) (xs : List X) → ((x : X) → In x xs → g x ≡ h x) → flat_map g xs ≡ flat_map h xs
+pub flat_alike : (X Y : Type 0) (g h : X → List Y) (xs : List X) → ((x : X) → In x xs → g x ≡ h x) → flat_map g xs ≡ flat_map h xs
 flat_alike X Y g h [] same = refl
 flat_alike X Y g h (x ∷ xs) same = ap (λ l. l ++ flat_map g xs) (same x (inl refl)) ∙ ap (λ l. h x ++ l) (flat_alike X Y g h xs (λ y i. same y (inr i)))
 
 abbrev pub file_row_visits : List FileRow → List Visit
 file_row_visits rows = map plain_visit (flat_map (λ (r : FileRow). file_part r.folder r.id) rows)
 
-files_told : (s : Store) (rows : List FileRow) → s.files ≡ map file_of_row rows → IsRising (λ (e : FileEntry). e.id) s.files →
+pub files_told : (s : Store) (rows : List FileRow) → s.files ≡ map file_of_row rows → IsRising (λ (e : FileEntry). e.id) s.files →
     file_row_visits rows ≡ file_visits s (files_that (λ (e : FileEntry). allowed_to s TheOwner e.folder) s)
 unfolding file_visits file_edge files_of file_role allowed_to
 files_told s rows is up =
@@ -187,115 +133,65 @@ holders_told s n is =
 
 -- ---- all of them
 
-four_right : (a b c d k : List Visit) → (((a ++ b) ++ c) ++ d) ++ k ≡ a ++ (b ++ (c ++ (d ++ k)))
-four_right a b c d k = append_assoc ((a ++ b) ++ c) d k ∙ append_assoc (a ++ b) c (d ++ k) ∙ append_assoc a b (c ++ (d ++ k))
+-- what was listed: the visits to names, then those of files, then those of holders
+pub record AreListed (names : List Listed) (files : List FileRow) (n : ℕ) (all : List Listed) : Type 0 where
+  pub listed : map plain_visit all ≡ map plain_visit names ++ (file_row_visits files ++ holder_row_visits n)
 
--- what was listed part by part
-pub record IsListed (folders : List FolderRow) (files : List FileRow) (n : ℕ) (all : List Listed) : Type 0 where
-  pub listed : map plain_visit all ≡ part_visits Entry folders ++ (part_visits Ways folders ++ (part_visits Title folders ++ (file_row_visits files ++ holder_row_visits n)))
-
-pub is_listed : (folders : List FolderRow) (files : List FileRow) (n : ℕ) (zeroth one two three four five : List Listed) → zeroth ≡ [] →
-    one ≡ zeroth ++ flat_map (λ (r : FolderRow). folder_part Entry r.id) folders →
-    two ≡ one ++ flat_map (λ (r : FolderRow). folder_part Ways r.id) folders →
-    three ≡ two ++ flat_map (λ (r : FolderRow). folder_part Title r.id) folders →
-    four ≡ three ++ flat_map (λ (r : FileRow). file_part r.folder r.id) files →
-    five ≡ four ++ map (λ h. listed.Key (record { 0 = h })) (range_with_len 1 n) → IsListed folders files n five
-is_listed folders files n zeroth one two three four five e0 e1 e2 e3 e4 e5 =
-    let a = flat_map (λ (r : FolderRow). folder_part Entry r.id) folders in
-    let b = flat_map (λ (r : FolderRow). folder_part Ways r.id) folders in
-    let c = flat_map (λ (r : FolderRow). folder_part Title r.id) folders in
+pub are_listed : (names one two : List Listed) (files : List FileRow) (n : ℕ) → one ≡ names ++ flat_map (λ (r : FileRow). file_part r.folder r.id) files →
+    two ≡ one ++ map (λ h. listed.Key (record { 0 = h })) (range_with_len 1 n) → AreListed names files n two
+are_listed names one two files n e1 e2 =
     let d = flat_map (λ (r : FileRow). file_part r.folder r.id) files in
     let k = map (λ h. listed.Key (record { 0 = h })) (range_with_len 1 n) in
-    let first : one ≡ a = e1 ∙ ap (λ l. l ++ a) e0 in
-    let second : two ≡ a ++ b = e2 ∙ ap (λ l. l ++ b) first in
-    let third : three ≡ (a ++ b) ++ c = e3 ∙ ap (λ l. l ++ c) second in
-    let fourth : four ≡ ((a ++ b) ++ c) ++ d = e4 ∙ ap (λ l. l ++ d) third in
-    let fifth : five ≡ (((a ++ b) ++ c) ++ d) ++ k = e5 ∙ ap (λ l. l ++ k) fourth in
+    let both : two ≡ (names ++ d) ++ k = e2 ∙ ap (λ l. l ++ k) e1 in
     record {
-      listed = ap (map plain_visit) fifth
-          ∙ map-append plain_visit (((a ++ b) ++ c) ++ d) k
-          ∙ ap (λ l. l ++ map plain_visit k) (map-append plain_visit ((a ++ b) ++ c) d ∙ ap (λ l. l ++ map plain_visit d) (map-append plain_visit (a ++ b) c ∙ ap (λ l. l ++ map plain_visit c) (map-append plain_visit a b)))
-          ∙ four_right (map plain_visit a) (map plain_visit b) (map plain_visit c) (map plain_visit d) (map plain_visit k);
+      listed = ap (map plain_visit) both
+          ∙ map-append plain_visit (names ++ d) k
+          ∙ ap (λ l. l ++ map plain_visit k) (map-append plain_visit names d)
+          ∙ append_assoc (map plain_visit names) (map plain_visit d) (map plain_visit k);
     }
 
--- the tree of a stand that the state is seen as, and its holders
-pub record HasRows (folders : List FolderRow) (files : List FileRow) (v : PublicView) : Type 0 where
-  pub folder_rows : v.tree.folders ≡ map folder_of_row folders
-  pub file_rows : v.tree.files ≡ map file_of_row files
-  pub tree : IsTree v.tree
-
-pub visits_told : (v : PublicView) (at : Stand) (folders : List FolderRow) (files : List FileRow) (all : List Listed) → HasRows folders files v → IsSeenAs v at →
-    IsListed folders files (length v.checks) all → map plain_visit all ≡ all_visits at.store TheOwner ++ holder_visits at.store
-unfolding all_visits visits_to_names
-visits_told v at folders files all rows seen is =
+pub visits_told : (v : PublicView) (at : Stand) (names all : List Listed) (files : List FileRow) → v.tree.files ≡ map file_of_row files → IsTree v.tree → IsSeenAs v at →
+    map plain_visit names ≡ visits_to_names at.store TheOwner → AreListed names files (length v.checks) all → map plain_visit all ≡ all_visits at.store TheOwner ++ holder_visits at.store
+unfolding all_visits
+visits_told v at names all files rows tree seen named is =
     let s = at.store in
-    let fs : s.folders ≡ v.tree.folders = ap (λ (x : Store). x.folders) seen.store in
     let xs : s.files ≡ v.tree.files = ap (λ (x : Store). x.files) seen.store in
     let hs : s.holders ≡ map keyless (range_with_len 1 (length v.checks)) = ap (λ (x : Store). x.holders) seen.store in
-    let up = subst (λ es. IsRising (λ (e : FolderEntry). e.id) es) (sym fs) rows.tree.folders_ascend in
-    let up' = subst (λ es. IsRising (λ (e : FileEntry). e.id) es) (sym xs) rows.tree.files_ascend in
-    let entry = entry_visits s TheOwner in
-    let ways = allowed_visits s TheOwner in
-    let names = name_visits s TheOwner in
+    let up = subst (λ es. IsRising (λ (e : FileEntry). e.id) es) (sym xs) tree.files_ascend in
+    let first = visits_to_names s TheOwner in
     let texts = file_visits s (files_that (λ (e : FileEntry). allowed_to s TheOwner e.folder) s) in
-    let holders = holder_visits s in
     is.listed
-    ∙ ap (λ l. l ++ (part_visits Ways folders ++ (part_visits Title folders ++ (file_row_visits files ++ holder_row_visits (length v.checks))))) (entries_told s folders (fs ∙ rows.folder_rows) up)
-    ∙ ap (λ l. entry ++ (l ++ (part_visits Title folders ++ (file_row_visits files ++ holder_row_visits (length v.checks))))) (ways_told s folders (fs ∙ rows.folder_rows) up)
-    ∙ ap (λ l. entry ++ (ways ++ (l ++ (file_row_visits files ++ holder_row_visits (length v.checks))))) (titles_told s folders (fs ∙ rows.folder_rows) up)
-    ∙ ap (λ l. entry ++ (ways ++ (names ++ (l ++ holder_row_visits (length v.checks))))) (files_told s files (xs ∙ rows.file_rows) up')
-    ∙ ap (λ l. entry ++ (ways ++ (names ++ (texts ++ l)))) (holders_told s (length v.checks) hs)
-    ∙ sym (four_right entry ways names texts holders)
-    ∙ ap (λ l. (l ++ texts) ++ holders) (append_assoc entry ways names)
-    ∙ ap (λ l. ((entry ++ (ways ++ (l ++ names))) ++ texts) ++ holders) (sym (no_upper s))
-    ∙ ap (λ l. ((entry ++ (l ++ (ways ++ (upper_visits s TheOwner ++ names)))) ++ texts) ++ holders) (sym (no_lower s))
+    ∙ ap (λ l. l ++ (file_row_visits files ++ holder_row_visits (length v.checks))) named
+    ∙ ap (λ l. first ++ (l ++ holder_row_visits (length v.checks))) (files_told s files (xs ∙ rows) up)
+    ∙ ap (λ l. first ++ (texts ++ l)) (holders_told s (length v.checks) hs)
+    ∙ sym (append_assoc first texts (holder_visits s))
 
 -- ---- what is known of them
 
-both_all : (P : Visit → Type 0) (xs ys : List Visit) → AllByRecursion P xs → AllByRecursion P ys → AllByRecursion P (xs ++ ys)
+pub both_all : (P : Visit → Type 0) (xs ys : List Visit) → AllByRecursion P xs → AllByRecursion P ys → AllByRecursion P (xs ++ ys)
 both_all P [] ys a b = b
 both_all P (x ∷ xs) ys a b = (a.0, both_all P xs ys a.1 b)
 
-each_all : (P : Visit → Type 0) (X : Type 0) (g : X → List Visit) (xs : List X) → ((x : X) → AllByRecursion P (g x)) → AllByRecursion P (flat_map g xs)
+pub each_all : (P : Visit → Type 0) (X : Type 0) (g : X → List Visit) (xs : List X) → ((x : X) → AllByRecursion P (g x)) → AllByRecursion P (flat_map g xs)
 each_all P X g [] all = tt
 each_all P X g (x ∷ xs) all = both_all P (g x) (flat_map g xs) (all x) (each_all P X g xs all)
 
-holders_all : (ns : List ℕ) → AllByRecursion IsOwners (map ToHolder ns)
+holders_all : (ns : List ℕ) → AllByRecursion (IsFor is_no_holders) (map ToHolder ns)
 holders_all [] = tt
-holders_all (n ∷ ns) = (tt, holders_all ns)
+holders_all (n ∷ ns) = ((refl, refl), holders_all ns)
 
-part_owners : (part : Part) (r : FolderRow) → AllByRecursion IsOwners (map plain_visit (folder_part part r.id))
-unfolding edge role_with kind_from kind_to row_numbered role_id
-part_owners Entry r = (
-  (record { from_one = omega arith; to_nine = omega arith; source = refl; target = refl }, refl, refl),
-  ((record { from_one = omega arith; to_nine = omega arith; source = refl; target = refl }, refl, refl), tt),
-)
-part_owners Ways r = (
-  (record { from_one = omega arith; to_nine = omega arith; source = refl; target = refl }, refl, refl),
-  ((record { from_one = omega arith; to_nine = omega arith; source = refl; target = refl }, refl, refl), tt),
-)
-part_owners Title r = ((record { from_one = omega arith; to_nine = omega arith; source = refl; target = refl }, refl, refl), (tt, tt))
+pub file_fit : (told : Role → Bool) (r : FileRow) → IsTrue (told (Files r.folder)) → IsTrue (told (File r.id)) → AllByRecursion (IsFor told) (map plain_visit (file_part r.folder r.id))
+unfolding edge role_with kind_from kind_to row_numbered role_id file_role
+file_fit told r from to = ((record { from_one = omega arith; to_nine = omega arith; source = refl; target = refl }, from, to), (to, tt))
 
-file_owners : (r : FileRow) → AllByRecursion IsOwners (map plain_visit (file_part r.folder r.id))
-unfolding edge role_with kind_from kind_to row_numbered role_id
-file_owners r = ((record { from_one = omega arith; to_nine = omega arith; source = refl; target = refl }, refl, refl), (tt, tt))
-
-folders_owners : (part : Part) (rows : List FolderRow) → AllByRecursion IsOwners (part_visits part rows)
-folders_owners part rows =
-    subst (AllByRecursion IsOwners) (sym (listed_plainly FolderRow (λ (r : FolderRow). folder_part part r.id) rows))
-    (each_all IsOwners FolderRow (λ (r : FolderRow). map plain_visit (folder_part part r.id)) rows (part_owners part))
-
-pub all_owners : (folders : List FolderRow) (files : List FileRow) (n : ℕ) (all : List Listed) → IsListed folders files n all → AllByRecursion IsOwners (map plain_visit all)
-all_owners folders files n all is =
-    let texts = subst (AllByRecursion IsOwners) (sym (listed_plainly FileRow (λ (r : FileRow). file_part r.folder r.id) files))
-    (each_all IsOwners FileRow (λ (r : FileRow). map plain_visit (file_part r.folder r.id)) files file_owners)
+pub all_fit : (names all : List Listed) (files : List FileRow) (n : ℕ) → AllByRecursion (IsFor is_no_holders) (map plain_visit names) → AreListed names files n all → AllByRecursion (IsFor is_no_holders) (map plain_visit all)
+all_fit names all files n first is =
+    let texts = subst (AllByRecursion (IsFor is_no_holders)) (sym (listed_plainly FileRow (λ (r : FileRow). file_part r.folder r.id) files))
+    (each_all (IsFor is_no_holders) FileRow (λ (r : FileRow). map plain_visit (file_part r.folder r.id)) files (λ r. file_fit is_no_holders r refl refl))
     in
-    let keys = subst (AllByRecursion IsOwners) (sym (plain_holders (range_with_len 1 n))) (holders_all (range_with_len 1 n)) in
-    let back = both_all IsOwners (file_row_visits files) (holder_row_visits n) texts keys in
-    let titles = both_all IsOwners (part_visits Title folders) (file_row_visits files ++ holder_row_visits n) (folders_owners Title folders) back in
-    let ways = both_all IsOwners (part_visits Ways folders) (part_visits Title folders ++ (file_row_visits files ++ holder_row_visits n)) (folders_owners Ways folders) titles in
-    subst (AllByRecursion IsOwners) (sym is.listed)
-    (both_all IsOwners (part_visits Entry folders) (part_visits Ways folders ++ (part_visits Title folders ++ (file_row_visits files ++ holder_row_visits n))) (folders_owners Entry folders) ways)
+    let keys = subst (AllByRecursion (IsFor is_no_holders)) (sym (plain_holders (range_with_len 1 n))) (holders_all (range_with_len 1 n)) in
+    subst (AllByRecursion (IsFor is_no_holders)) (sym is.listed)
+    (both_all (IsFor is_no_holders) (map plain_visit names) (file_row_visits files ++ holder_row_visits n) first (both_all (IsFor is_no_holders) (file_row_visits files) (holder_row_visits n) texts keys))
 
 -- each holder has a visit
 holder_listed : (ns : List ℕ) (e : HolderEntry) → In e (map keyless ns) → In (ToHolder e.number) (map ToHolder ns)
@@ -305,17 +201,14 @@ holder_listed (n ∷ ns) e i = ⊎_elim (λ (q : e ≡ keyless n). inl (ap (λ (
 behind_it : (v : Visit) (a b : List Visit) → In v b → In v (a ++ b)
 behind_it v a b i = (In-append Visit v a b).1 (inr i)
 
-pub holders_visited : (v : PublicView) (at : Stand) (folders : List FolderRow) (files : List FileRow) (all : List Listed) (e : HolderEntry) → IsSeenAs v at →
-    IsListed folders files (length v.checks) all → In e at.store.holders → In (ToHolder e.number) (map plain_visit all)
-holders_visited v at folders files all e seen is i =
+pub holders_visited : (v : PublicView) (at : Stand) (names all : List Listed) (files : List FileRow) (e : HolderEntry) → IsSeenAs v at →
+    AreListed names files (length v.checks) all → In e at.store.holders → In (ToHolder e.number) (map plain_visit all)
+holders_visited v at names all files e seen is i =
     let n = length v.checks in
     let visit = ToHolder e.number in
     let hs : at.store.holders ≡ map keyless (range_with_len 1 n) = ap (λ (x : Store). x.holders) seen.store in
     let here : In visit (holder_row_visits n) = subst (In visit) (sym (plain_holders (range_with_len 1 n))) (holder_listed (range_with_len 1 n) e (subst (In e) hs i)) in
-    let back = behind_it visit (file_row_visits files) (holder_row_visits n) here in
-    let titles = behind_it visit (part_visits Title folders) (file_row_visits files ++ holder_row_visits n) back in
-    let ways = behind_it visit (part_visits Ways folders) (part_visits Title folders ++ (file_row_visits files ++ holder_row_visits n)) titles in
-    subst (In visit) (sym is.listed) (behind_it visit (part_visits Entry folders) (part_visits Ways folders ++ (part_visits Title folders ++ (file_row_visits files ++ holder_row_visits n))) ways)
+    subst (In visit) (sym is.listed) (behind_it visit (map plain_visit names) (file_row_visits files ++ holder_row_visits n) (behind_it visit (file_row_visits files) (holder_row_visits n) here))
 
 -- rows have no names
 bare_folders : (rows : List FolderRow) (e : FolderEntry) → In e (map folder_of_row rows) → e.name ≡ []
@@ -342,3 +235,17 @@ seen_nameless v at seen less =
     let fs : at.store.folders ≡ v.tree.folders = ap (λ (x : Store). x.folders) seen.store in
     let xs : at.store.files ≡ v.tree.files = ap (λ (x : Store). x.files) seen.store in
     record { folders = λ e i. less.folders e (subst (In e) fs i); files = λ e i. less.files e (subst (In e) xs i) }
+
+-- the tree of what the state is seen as is the state's
+pub seen_tree : (v : PublicView) (at : Stand) → IsSeenAs v at → IsTree v.tree → IsTree at.store
+unfolding folder_entry file_entry way_to_root
+seen_tree v at seen tree = subst IsTree (sym seen.store) (record {
+  folders_ascend = tree.folders_ascend;
+  files_ascend = tree.files_ascend;
+  folders_made = tree.folders_made;
+  files_made = tree.files_made;
+  root = tree.root;
+  parents_stand = tree.parents_stand;
+  ways_end = tree.ways_end;
+  files_stand = tree.files_stand;
+})

@@ -22,9 +22,9 @@ low_of : (size : ℕ) → nat_le size 1048576 ≡ true → size ≤ 1048576
 low_of size t = grind (arith, nat_tests)
 
 -- the bytes that a file's text has
-bytes_low : (text name bytes : List ℕ) → HasParts text name bytes → length bytes ≤ 1048576
+pub parts_sized : (text name bytes : List ℕ) → HasParts text name bytes → length bytes ≤ 1048576
 unfolding is_file_text
-bytes_low text name bytes parts =
+parts_sized text name bytes parts =
     let n = length name in
     let rest = name ++ bytes in
     let fits : (nat_le n (length rest) && (is_name (take n rest) && nat_le (length (drop n rest)) 1048576)) ≡ true = ap is_file_text (sym parts.1) ∙ parts.0 in
@@ -36,9 +36,9 @@ one_sized : (b : Bool) (t : Title) (o : Option Title) → length t.bytes ≤ 104
 one_sized true t o new old = new
 one_sized false t o new old = old
 
-pub file_sized : (f : ℕ) (text name bytes : List ℕ) (new given old : Titles) → HasParts text name bytes → IsNamed (File (record { 0 = f })) name bytes new given → given.files ≡ old.files →
+pub file_sized : (f : ℕ) (name bytes : List ℕ) (new given old : Titles) → length bytes ≤ 1048576 → IsNamed (File (record { 0 = f })) name bytes new given → given.files ≡ old.files →
     AreSized old → AreSized new
-file_sized f text name bytes new given old parts named files sized x =
+file_sized f name bytes new given old low named files sized x =
     subst (λ (o : Option Title). length (bytes_in o) ≤ 1048576) (sym (named (File (record { 0 = x }))))
-    (one_sized (f == x) (record { id = f; name = name; bytes = bytes }) (title_at given.files x) (bytes_low text name bytes parts)
+    (one_sized (f == x) (record { id = f; name = name; bytes = bytes }) (title_at given.files x) low
     (subst (λ (ts : List Title). length (bytes_in (title_at ts x)) ≤ 1048576) (sym files) (sized x)))

@@ -7,7 +7,7 @@ use Rattle.commit_journal.specs.Logs.{known_log}
 use Rattle.commit_journal.specs.Placed.{PlainPlaced}
 use Rattle.holder_client.specs.declared.fault.ClientFault.{ClientFault}
 use Rattle.holder_client.specs.declared.fault.ClientFault.TheVariants as faults
-use Rattle.holder_client.specs.Answering.{client_fault, IsFault}
+use Rattle.holder_client.specs.Answering.{client_fault, IsFault, IsOfBytes}
 use Rattle.holder_client.specs.Root.{PlainRoot, fold_log}
 use Rattle.holder_client.specs.Verdict.{visit_root, visit, view_verdict}
 use Rattle.commit_journal.specs.Answering.{Fault, and_then}
@@ -19,8 +19,21 @@ fault_first faults.NotAStore read f is = rw is refl
 fault_first faults.WrongKey read f is = rw is refl
 fault_first (faults.Damaged at) read f is = rw is refl
 fault_first (faults.Tampered batch at) read f is = rw is refl
+fault_first (faults.NoHolder known) read f is = absurd is
+fault_first faults.Unseen read f is = absurd is
 fault_first faults.DiskFault read f is = tt
 fault_first faults.OutOfMemory read f is = tt
+
+-- what is wanted of bytes is no fault of a holder or a path
+pub of_bytes_alone : {A : Type 0} (fault : ClientFault) (wanted : Result A Fault) → IsFault fault wanted → IsOfBytes fault
+of_bytes_alone faults.NotAStore wanted is = tt
+of_bytes_alone faults.WrongKey wanted is = tt
+of_bytes_alone (faults.Damaged at) wanted is = tt
+of_bytes_alone (faults.Tampered batch at) wanted is = tt
+of_bytes_alone (faults.NoHolder known) wanted is = is
+of_bytes_alone faults.Unseen wanted is = is
+of_bytes_alone faults.DiskFault wanted is = tt
+of_bytes_alone faults.OutOfMemory wanted is = tt
 
 -- a fault of the log is the client's
 pub log_fault : {A : Type 0} (fault : OpenFault) (read : Result A Fault) → journal.IsFault fault read → IsFault (client_fault fault) read

@@ -4,6 +4,7 @@ use Rattle.chacha_seal.specs.Keys.{KeyParts}
 use Rattle.commit_journal.specs.Placed.{plain_placed}
 use Rattle.commit_journal.specs.declared.placed.Placed.{Placed}
 use Rattle.cry_base.specs.Naming.{is_name}
+use Rattle.cry_base.specs.Stepping.{with_file}
 use Rattle.cry_base.specs.Store.{Store, HolderEntry}
 use Rattle.cry_base.specs.declared.roles.Edge.{Edge}
 use Rattle.cry_base.specs.declared.roles.Role.{Role}
@@ -12,6 +13,7 @@ use Rattle.commit_journal.specs.Answering.{Fault}
 use Rattle.folder_nodes.specs.Titles.{Titles, bytes_in, title_at, tree_store}
 use Rattle.holder_client.specs.Answering.{IsFault}
 use Rattle.holder_client.specs.declared.fault.ClientFault.{ClientFault}
+use Rattle.holder_client.specs.declared.texts.NamedBytes.{NamedBytes}
 use Rattle.holder_client.specs.declared.visiting.OpenedText.{OpenedText}
 use Rattle.holder_client.specs.Visiting.{Reading}
 use Rattle.holder_client.specs.Visiting as opened
@@ -56,6 +58,14 @@ HasNames bare names s = s ≡ record (tree_store bare names) { holders = s.holde
 -- a visit of a name or of bytes left the keys and the holders as they were, and these names and bytes
 abbrev pub IsTitledBy : Store → Titles → opened.Opened → opened.Opened → Type 0
 IsTitledBy bare names o behind = (behind.keys ≡ o.keys) × (behind.store.holders ≡ o.store.holders) × HasNames bare names behind.store
+
+-- a visit of a file's text left the keys as they were, and the file's entry with this name and these bytes
+abbrev pub IsFiledBy : ℕ → NamedBytes → opened.Opened → opened.Opened → Type 0
+IsFiledBy x parts o behind = behind ≡ record o { store = with_file o.store x (λ e. record e { name = parts.name.items; bytes = parts.bytes.items }) }
+
+-- visits left the store with this name and these bytes for the file, whatever keys they opened
+abbrev pub IsFiled : ℕ → List ℕ → List ℕ → opened.Opened → opened.Opened → Type 0
+IsFiled x name bytes o behind = behind.store ≡ with_file o.store x (λ e. record e { name = name; bytes = bytes })
 
 -- a visit of a holder's key left the store with that key, and the ring has it for the holder
 pub record IsHeldBy (new old : Ringed) (h : ℕ) (o behind : opened.Opened) : Type 0 where

@@ -3,13 +3,11 @@ use Rattle.std.specs.Prelude.{◌≡◌, ◌⊎◌, Bool, true, false, IsTrue, L
 use Rattle.commit_journal.specs.Answering.{Fault}
 use Rattle.cry_base.specs.Sets.{In}
 use Rattle.cry_base.specs.Store.{Store, FolderEntry, FileEntry, HolderEntry}
-use Rattle.cry_base.specs.declared.ids.FileId.{FileId}
-use Rattle.cry_base.specs.declared.ids.FolderId.{FolderId}
 use Rattle.cry_base.specs.declared.roles.Role.{Role}
 use Rattle.cry_base.specs.declared.roles.Role.TheVariants.{Owner, Holder, Clear, Sub, Back, Files, Data, File}
 use Rattle.holder_client.specs.declared.opening.OwnersView.{OwnersView}
-use Rattle.holder_client.specs.declared.visit_list.Part.{Part}
-use Rattle.holder_client.specs.declared.visit_list.Part.TheVariants.{Entry, Ways, Title}
+use Rattle.holder_client.specs.declared.sights.Viewer.{Viewer}
+use Rattle.holder_client.specs.declared.sights.Viewer.TheVariants as viewers
 use Rattle.holder_client.specs.declared.visit_list.Visit.{Visit as Listed}
 use Rattle.holder_client.specs.declared.visit_list.Visit.TheVariants as listed
 use Rattle.holder_client.specs.Asking.{OpenStore}
@@ -19,7 +17,7 @@ use Rattle.holder_client.specs.Visiting.{Reading, Opened}
 use Rattle.holder_client.specs.Visits.{Visit}
 use Rattle.holder_client.specs.Visits.Visit.{ToKey, ToName, ToFile, ToHolder}
 use Rattle.key_links.specs.Ringed.{Ringed, key_of}
-use Rattle.role_graph.specs.Edges.{edge}
+use Rattle.role_graph.specs.Roles.{data_of, file_role}
 
 -- a visit that code lists
 abbrev pub plain_visit : Listed → Visit
@@ -27,15 +25,6 @@ plain_visit (listed.Link e) = ToKey e
 plain_visit (listed.Name f) = ToName f.0
 plain_visit (listed.Bytes x) = ToFile x.0
 plain_visit (listed.Key h) = ToHolder h.0
-
--- the two visits of a part of a folder: into it, on to what is beside it, and the name; and those of a file
-abbrev pub folder_part : Part → FolderId → List Listed
-folder_part Entry f = listed.Link (edge 1 Owner (Clear f)) ∷ listed.Link (edge 3 (Clear f) (Sub f)) ∷ []
-folder_part Ways f = listed.Link (edge 4 (Sub f) (Back f)) ∷ listed.Link (edge 5 (Sub f) (Files f)) ∷ []
-folder_part Title f = listed.Link (edge 7 (Back f) (Data f)) ∷ listed.Name f ∷ []
-
-abbrev pub file_part : FolderId → FileId → List Listed
-file_part f x = listed.Link (edge 9 (Files f) (File x)) ∷ listed.Bytes x ∷ []
 
 -- the role isn't a holder's
 abbrev pub is_no_holders : Role → Bool
@@ -48,22 +37,36 @@ is_no_holders (Files f) = true
 is_no_holders (Data f) = true
 is_no_holders (File x) = true
 
--- the visit is no link, or one of the nine kinds that has no holder's key at an end
-abbrev pub IsOwners : Visit → Type 0
-IsOwners (ToKey e) = HasKind e × IsTrue (is_no_holders e.from) × IsTrue (is_no_holders e.to)
-IsOwners (ToName f) = Unit {0}
-IsOwners (ToFile x) = Unit {0}
-IsOwners (ToHolder h) = Unit {0}
+-- every role is told that isn't a holder's, and that of a holder who reads
+abbrev pub Tells : (Role → Bool) → Viewer → Type 0
+Tells told viewers.Owner = (role : Role) → IsTrue (is_no_holders role) → IsTrue (told role)
+Tells told (viewers.Holder h) = ((role : Role) → IsTrue (is_no_holders role) → IsTrue (told role)) × IsTrue (told (Holder h))
+
+-- a link is one of the nine kinds
+abbrev pub HasItsKind : Visit → Type 0
+HasItsKind (ToKey e) = HasKind e
+HasItsKind (ToName f) = Unit {0}
+HasItsKind (ToFile x) = Unit {0}
+HasItsKind (ToHolder h) = Unit {0}
+
+-- the visit is a link of one of the nine kinds between roles that are told, or a text under such a role; a holder's key that is
+-- visited isn't told
+abbrev pub IsFor : (Role → Bool) → Visit → Type 0
+IsFor told (ToKey e) = HasKind e × IsTrue (told e.from) × IsTrue (told e.to)
+IsFor told (ToName f) = IsTrue (told (data_of f))
+IsFor told (ToFile x) = IsTrue (told (file_role x))
+IsFor told (ToHolder h) = IsTrue (told Owner) × (told (Holder (record { 0 = h })) ≡ false)
 
 -- the ring has the holder's key
 abbrev pub HasHolder : Ringed → HolderEntry → Type 0
 HasHolder ring e = option_map (λ k. k.bytes) (key_of ring (Holder (record { 0 = e.number }))) ≡ Some e.key
 
--- the ring has the keys that were opened, but for those of holders to whom a visit is left; the names are those opened
-pub record IsOpenedTo (bare : Store) (left : List Visit) (view : OwnersView) (o : Opened) : Type 0 where
-  pub keys : HoldsKeys is_no_holders view.ring o.keys
+-- the ring has the keys that were opened of the roles that are told; the names are those opened; of the other holders the ring has the
+-- key, or a visit is left
+pub record IsOpenedTo (told : Role → Bool) (bare : Store) (left : List Visit) (view : OwnersView) (o : Opened) : Type 0 where
+  pub keys : HoldsKeys told view.ring o.keys
   pub names : HasNames bare view.names o.store
-  pub holders : (e : HolderEntry) → In e o.store.holders → HasHolder view.ring e ⊎ In (ToHolder e.number) left
+  pub holders : (e : HolderEntry) → In e o.store.holders → told (Holder (record { 0 = e.number })) ≡ false → HasHolder view.ring e ⊎ In (ToHolder e.number) left
 
 -- the ring has exactly the keys that were opened, and the key of each holder; the names and bytes are those opened
 pub record IsOpenedBy (bare : Store) (view : OwnersView) (o : Opened) : Type 0 where

@@ -1,15 +1,14 @@
 -- What the command that makes the root publishes, as far as everybody can tell. This project's own, docs/FORMAT.md,
 -- "Kinds of links", "Serials" and "The bytes of a fresh store".
-use Rattle.std.specs.Prelude.{ℕ, ◌+◌, ◌^◌, ◌<◌, ◌≤◌, ◌==◌, ◌&&◌, Bool, true, false, if◌then◌else◌, List, [], ◌∷◌, length, Option, None, Some, Result, Ok, Err}
+use Rattle.std.specs.Prelude.{ℕ, ◌+◌, ◌^◌, ◌==◌, ◌&&◌, Bool, true, false, if◌then◌else◌, List, [], ◌∷◌, length, Option, None, Some, Result, Ok, Err}
 use Rattle.chacha_seal.specs.Serials.{serial_of}
 use Rattle.record_format.specs.declared.link.LinkRecord.{LinkRecord}
 use Rattle.record_format.specs.declared.note.Note.{Note}
 use Rattle.record_format.specs.declared.note.Note.TheVariants.{Root}
-use Rattle.record_format.specs.Plain.{PlainContent, plain_content}
+use Rattle.record_format.specs.Plain.{PlainContent}
 use Rattle.commit_journal.specs.Answering.{Fault, Damaged}
 use Rattle.commit_journal.specs.Places.{link_offset, content_offset}
 use Rattle.commit_journal.specs.Placed.{PlainBody, Commands, NewEpoch, PlainPlaced}
-use Rattle.holder_client.specs.declared.records.RootRecords.{RootRecords}
 
 -- the root's records, the batch that they stand in, and the places of its first link and its first content
 pub record PlainRoot : Type 0 where
@@ -22,24 +21,6 @@ pub record PlainRoot : Type 0 where
   pub to_files : LinkRecord
   pub to_data : LinkRecord
   pub name : PlainContent
-
-abbrev pub plain_root : RootRecords → PlainRoot
-plain_root r = record {
-  batch = r.batch;
-  links_at = r.links_at;
-  name_at = r.name_at;
-  to_clear = r.to_clear.now;
-  to_sub = r.to_sub.now;
-  to_back = r.to_back.now;
-  to_files = r.to_files.now;
-  to_data = r.to_data.now;
-  name = plain_content r.name.now;
-}
-
--- or none, where the root was not made
-abbrev pub plain_option : Option RootRecords → Option PlainRoot
-plain_option None = None
-plain_option (Some r) = Some (plain_root r)
 
 -- a link of this kind from the role with this id to a role of the root, with these serials and this nonce
 unfoldable pub leads : ℕ → ℕ → ℕ → ℕ → ℕ → LinkRecord → Bool
@@ -103,11 +84,3 @@ unfoldable pub fold_log : List PlainPlaced → Result (Option PlainRoot) Fault
 fold_log [] = Ok None
 fold_log (first ∷ []) = Ok None
 fold_log (first ∷ second ∷ others) = root_in second second.body
-
--- records that can be opened: their places fit, and so does the length of the name
-abbrev pub CanBeOpened : RootRecords → Type 0
-CanBeOpened r = (r.links_at ≤ 268435456) × (length r.name.now.cipher.items < 2 ^ 32)
-
-abbrev pub RootCanBeOpened : Option RootRecords → Type 0
-RootCanBeOpened None = Unit {0}
-RootCanBeOpened (Some r) = CanBeOpened r

@@ -5,11 +5,15 @@ use Rattle.chacha_seal.specs.Sealing.{sealed, seal_tag}
 use Rattle.record_format.specs.declared.link.LinkRecord.{LinkRecord}
 use Rattle.record_format.specs.Plain.{PlainContent}
 use Rattle.record_format.specs.Spelling.{link_head, content_head}
-use Rattle.commit_journal.specs.Answering.{Fault, Tampered}
+use Rattle.commit_journal.specs.Answering.{Fault, Tampered, and_then}
 use Rattle.commit_journal.specs.Logs.{known_log}
-use Rattle.holder_client.specs.Answering.{◌>>=◌}
 use Rattle.holder_client.specs.Root.{PlainRoot, fold_log}
 use Rattle.holder_client.specs.View.{Line, FolderLine}
+
+-- goes on where nothing was wrong
+infixl 10 ◌>>=◌
+abbrev pub ◌>>=◌ : {A B : Type 0} → Result A Fault → (A → Result B Fault) → Result B Fault
+read >>= f = and_then read f
 
 -- the key that a link leads to under the key of its source, if its tag is right
 unfoldable pub open_link : ℕ → ℕ → List ℕ → LinkRecord → Result (List ℕ) Fault

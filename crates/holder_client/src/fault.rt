@@ -9,7 +9,7 @@ pub enum ClientFault {
     /// There are fewer than 42 bytes, or the first 9 are not those of a store of version 1.
     #[error("not a store")]
     NotAStore,
-    /// The check of the key is not the one that the store has.
+    /// The check of the key is not the one that the store has, for the owner or for the holder.
     #[error("wrong key")]
     WrongKey,
     /// What stands at this place has no form that it may have there, or does not fit what stands before it.
@@ -18,6 +18,12 @@ pub enum ClientFault {
     /// What stands at this place in the batch of this number has a wrong tag.
     #[error("batch {batch} tampered with at byte {at}")]
     Tampered { batch: u32, at: u64 },
+    /// No batch of the store made this holder. So many holders were made.
+    #[error("no such holder, {known} known")]
+    NoHolder { known: u32 },
+    /// Nothing that is shown has this path.
+    #[error("nothing shown has this path")]
+    Unseen,
     /// The disk failed.
     #[error("disk fault")]
     DiskFault,

@@ -1,25 +1,28 @@
 //! What a holder's client shows.
 #![tactic(auto)]
 
+mod admission;
 mod fault;
+mod file_rows;
 pub mod fold_laws;
 mod folding;
 mod indexed_log;
 mod last_contents;
 mod last_links;
 pub mod laws;
+mod lines;
 mod opening;
 pub mod opening_laws;
-mod records;
-mod root;
+mod reading;
 pub mod rows;
 mod showing;
+mod sights;
 mod texts;
 pub mod verdict_laws;
 pub mod verdict_rows;
 mod visit_list;
 mod visiting;
-mod visits;
+mod ways;
 
 pub use fault::ClientFault;
 pub use folding::fold;

@@ -1,12 +1,12 @@
 //! Opens all that an owner's key opens (docs/FORMAT.md, "Opening for writing").
-ghost use Rattle.std.specs.Prelude.{◌≡◌, ◌≢◌, ◌++◌, ◌∷◌, [], All, Err, IfOk, List, OnOk, map};
+ghost use Rattle.std.specs.Prelude.{◌≡◌, ◌≢◌, ◌++◌, ◌∷◌, [], All, Bool, Err, IfOk, IsTrue, List, OnOk, map};
 ghost use Rattle.std.specs.List.{AllByRecursion};
 ghost use Rattle.commit_journal.specs.Places.{IsStanding};
 ghost use Rattle.cry_base.specs.declared.roles.Role.{Role as TheRole};
 ghost use Rattle.cry_base.specs.declared.roles.Role.TheVariants.{Owner};
 ghost use Rattle.holder_client.specs.Answering.{AnswersBy};
-ghost use Rattle.holder_client.specs.Holding.{ArePresent, AreSized, HoldsKeys, IsPresent, IsReadingOf};
-ghost use Rattle.holder_client.specs.Opening.{IsOpenedBy, IsOpenedTo, IsOwners, is_no_holders, plain_visit};
+ghost use Rattle.holder_client.specs.Holding.{ArePresent, AreSized, HasKind, HoldsKeys, IsPresent, IsReadingOf};
+ghost use Rattle.holder_client.specs.Opening.{HasItsKind, IsFor, IsOpenedBy, IsOpenedTo, plain_visit};
 ghost use Rattle.holder_client.specs.Visiting.{Opened, Reading};
 ghost use Rattle.holder_client.specs.Visiting as spec;
 ghost use Rattle.holder_client.specs.Visits.{Visit as PlainVisit, all_visits, holder_visits};
@@ -37,16 +37,16 @@ pub struct OwnersView {
 }
 
 /// Makes room for the edge's key, and visits it.
-fn visit_link(
+pub(crate) fn visit_link(
     state: &PublicState,
     log: &IndexedLog<'_>,
     ring: &mut KeyRing,
     edge: &Edge,
 ) -> Result<(), ClientFault>
-    requires owners { IsOwners (ToKey edge.now) }
+    requires kind { HasKind edge.now }
     requires keys { ArePresent state.now.keys.keys ring.old }
-    ensures answer { (r : Reading) (o : Opened) → IsReadingOf state.now log.now r → HoldsKeys is_no_holders ring.old o.keys →
-        AnswersBy (λ _ behind. HoldsKeys is_no_holders ring.new behind.keys × (behind.store ≡ o.store)) result (spec.visit r (ToKey edge.now) o) }
+    ensures answer { (told : TheRole → Bool) (r : Reading) (o : Opened) → IsReadingOf state.now log.now r → IsTrue (told edge.now.from) → HoldsKeys told ring.old o.keys →
+        AnswersBy (λ _ behind. HoldsKeys told ring.new behind.keys × (behind.store ≡ o.store)) result (spec.visit r (ToKey edge.now) o) }
     ensures keys { OnOk result (ArePresent state.now.keys.keys ring.new) }
     ensures others { OnOk result ((role : TheRole) → role ≢ edge.now.to → key_of ring.new role ≡ key_of ring.old role) }
     ensures no_disk { result ≢ Err ClientFault.DiskFault }
@@ -65,10 +65,11 @@ fn visit_one(
     view: &mut OwnersView,
     visit: &Visit,
 ) -> Result<(), ClientFault>
-    requires owners { IsOwners (plain_visit visit.now) }
+    requires kind { HasItsKind (plain_visit visit.now) }
     requires keys { ArePresent state.now.keys.keys view.old.ring }
-    ensures answer { (r : Reading) (o : Opened) (left : List PlainVisit) → IsReadingOf state.now log.now r → IsOpenedTo r.stand.store (plain_visit visit.now ∷ left) view.old o →
-        AnswersBy (λ _ behind. IsOpenedTo r.stand.store left view.new behind) result (spec.visit r (plain_visit visit.now) o) }
+    ensures answer { (told : TheRole → Bool) (r : Reading) (o : Opened) (left : List PlainVisit) → IsFor told (plain_visit visit.now) → IsReadingOf state.now log.now r →
+        IsOpenedTo told r.stand.store (plain_visit visit.now ∷ left) view.old o →
+        AnswersBy (λ _ behind. IsOpenedTo told r.stand.store left view.new behind) result (spec.visit r (plain_visit visit.now) o) }
     ensures keys { OnOk result (ArePresent state.now.keys.keys view.new.ring) }
     ensures sized { OnOk result (AreSized view.old.names → AreSized view.new.names) }
     ensures no_disk { result ≢ Err ClientFault.DiskFault }
@@ -82,18 +83,19 @@ fn visit_one(
 }
 
 /// Makes the visits one after another, up to the first that fails.
-fn visit_each(
+pub(crate) fn visit_each(
     alloc: Global,
     state: &PublicState,
     log: &IndexedLog<'_>,
     visits: &[Visit],
     before: OwnersView,
 ) -> Result<OwnersView, ClientFault>
-    requires owners { AllByRecursion IsOwners (map plain_visit visits.now) }
+    requires kinds { AllByRecursion HasItsKind (map plain_visit visits.now) }
     requires keys { ArePresent state.now.keys.keys before.ring }
     requires sized { AreSized before.names }
-    ensures answer { (r : Reading) (o : Opened) → IsReadingOf state.now log.now r → IsOpenedTo r.stand.store (map plain_visit visits.now) before o →
-        AnswersBy (λ view behind. IsOpenedTo r.stand.store [] view behind) result (spec.visit_all r (map plain_visit visits.now) o) }
+    ensures answer { (told : TheRole → Bool) (r : Reading) (o : Opened) → AllByRecursion (IsFor told) (map plain_visit visits.now) → IsReadingOf state.now log.now r →
+        IsOpenedTo told r.stand.store (map plain_visit visits.now) before o →
+        AnswersBy (λ view behind. IsOpenedTo told r.stand.store [] view behind) result (spec.visit_all r (map plain_visit visits.now) o) }
     ensures keys { IfOk result (λ view. ArePresent state.now.keys.keys view.ring) }
     ensures sized { IfOk result (λ view. AreSized view.names) }
     ensures no_disk { result ≢ Err ClientFault.DiskFault }

@@ -1,12 +1,13 @@
 //! Names, bytes and holders' keys that are opened, each with the key of its folder, its file or the owner (docs/FORMAT.md,
 //! "Reading").
-ghost use Rattle.std.specs.Prelude.{◌≡◌, ◌≢◌, Bool, Err, IfOk, IsTrue, MatchOption, OnOk, false, length, map};
+ghost use Rattle.std.specs.Prelude.{◌≡◌, ◌≢◌, ◌≤◌, Bool, Err, IfOk, IsTrue, MatchOption, OnOk, false, length, map};
 ghost use Rattle.commit_journal.specs.Placed.{plain_placed};
+ghost use Rattle.cry_base.specs.Naming.{is_name};
 ghost use Rattle.cry_base.specs.Store.{Store};
 ghost use Rattle.cry_base.specs.declared.roles.Role.{Role as TheRole};
 ghost use Rattle.cry_base.specs.declared.roles.Role.TheVariants.{Owner};
 ghost use Rattle.holder_client.specs.Answering.{AnswersBy};
-ghost use Rattle.holder_client.specs.Holding.{ArePresent, AreSized, HasNames, HasParts, HoldsKeys, IsHeldBy, IsTitledBy};
+ghost use Rattle.holder_client.specs.Holding.{ArePresent, AreSized, HasNames, HasParts, HoldsKeys, IsFiledBy, IsHeldBy, IsTitledBy};
 ghost use Rattle.holder_client.specs.Visiting as spec;
 ghost use Rattle.holder_client.specs.Visits.Visit.{ToFile, ToHolder, ToName};
 ghost use Rattle.public_fold.specs.KeyStep.{present};
@@ -92,9 +93,37 @@ pub(crate) fn visit_name(
     Ok(())
 }
 
-/// Opens the text of a file and gives the file its name and its bytes. `Damaged` behind the header comes exactly where there
-/// is no content with the text or no key for it, then `Tampered` with the content's place exactly where its tag is wrong, and
-/// then `Damaged` with the content's place exactly where the text isn't a length, a name of that length and the bytes of a file.
+/// The name and the bytes of a file.
+#[derive(Drop)]
+pub(crate) struct NamedBytes {
+    pub(crate) name: Text,
+    pub(crate) bytes: Text,
+}
+
+/// Opens the text of a file. `Damaged` behind the header comes exactly where there is no content with the text or no key for it,
+/// then `Tampered` with the content's place exactly where its tag is wrong, and then `Damaged` with the content's place exactly
+/// where the text isn't a length, a name of that length and the bytes of a file.
+pub(crate) fn open_file(
+    alloc: Global,
+    log: &IndexedLog<'_>,
+    ring: &KeyRing,
+    file: FileId,
+) -> Result<NamedBytes, ClientFault>
+    ensures answer { (told : TheRole → Bool) (r : spec.Reading) (o : spec.Opened) → r.log ≡ map plain_placed log.now → IsTrue (told (file_role file.0)) → HoldsKeys told ring.now o.keys →
+        AnswersBy (λ parts behind. IsFiledBy file.0 parts o behind) result (spec.visit r (ToFile file.0) o) }
+    ensures form { IfOk result (λ parts. IsTrue (is_name parts.name.items) × (length parts.bytes.items ≤ 1048576)) }
+    ensures no_disk { result ≢ Err ClientFault.DiskFault }
+{
+    let OpenedText { at, text } = open_text(alloc, log, ring, FILE_TEXT, file.0)?;
+    let Some((name, bytes)) = file_parts(text.as_slice()) else {
+        return Err(ClientFault::Damaged { at });
+    };
+    let name = text_of(alloc, name)?;
+    let bytes = text_of(alloc, bytes)?;
+    Ok(NamedBytes { name, bytes })
+}
+
+/// Opens the text of a file and gives the file its name and its bytes, with the faults of `open_file`.
 pub(crate) fn visit_file(
     alloc: Global,
     log: &IndexedLog<'_>,
@@ -109,12 +138,7 @@ pub(crate) fn visit_file(
     ensures no_disk { result ≢ Err ClientFault.DiskFault }
 {
     names.reserve()?;
-    let OpenedText { at, text } = open_text(alloc, log, ring, FILE_TEXT, file.0)?;
-    let Some((name, bytes)) = file_parts(text.as_slice()) else {
-        return Err(ClientFault::Damaged { at });
-    };
-    let name = text_of(alloc, name)?;
-    let bytes = text_of(alloc, bytes)?;
+    let NamedBytes { name, bytes } = open_file(alloc, log, ring, file)?;
     names.set(Node::File(file), name, bytes);
     Ok(())
 }
@@ -131,7 +155,7 @@ fn key_bytes(text: &[u8]) -> [u8; 32]
 
 /// The serial of the role's newest key, and 0 where it has none.
 #[tactic(auto, unfolding(public_fold::specs::KeyStep::present))]
-fn present_serial(state: &PublicState, role: Role) -> Serial
+pub(crate) fn present_serial(state: &PublicState, role: Role) -> Serial
     ensures { result.0 ≡ present state.now.keys.keys role }
 {
     match state.present(role) {

@@ -7,7 +7,7 @@ ghost use Rattle.commit_journal.specs.Logs.{AreInEpochs, epoch_behind};
 ghost use Rattle.commit_journal.specs.Opening.{IsOpened, LeavesGated, opening_verdict};
 ghost use Rattle.commit_journal.specs.Placed.{plain_log, plain_placed};
 ghost use Rattle.commit_journal.specs.Places.{IsStanding};
-ghost use Rattle.holder_client.specs.Answering.{AnswersBy, client_fault};
+ghost use Rattle.holder_client.specs.Answering.{AnswersBy, IsOfBytes, client_fault};
 ghost use Rattle.holder_client.specs.Asking.{open_with, opened_store};
 ghost use Rattle.holder_client.specs.Holding.{ArePresent, AreSized};
 ghost use Rattle.move_plan.specs.Fitting.{folder_stands};
@@ -66,7 +66,9 @@ fn open_contents(alloc: Global, log: &[Placed], owner: Key<OwnerK>) -> Result<Co
     Ok(Contents { state, view })
 }
 
+/// The fault of a log or of an owner's visits. Neither is that of a holder or a path.
 fn open_fault(fault: ClientFault) -> OpenFault
+    requires { IsOfBytes fault }
     ensures { fault ≡ client_fault result }
 {
     match fault {
@@ -74,6 +76,7 @@ fn open_fault(fault: ClientFault) -> OpenFault
         ClientFault::WrongKey => OpenFault::WrongKey,
         ClientFault::Damaged { at } => OpenFault::Damaged { at },
         ClientFault::Tampered { batch, at } => OpenFault::Tampered { batch, at },
+        ClientFault::NoHolder { .. } | ClientFault::Unseen => unreachable!(),
         ClientFault::DiskFault => OpenFault::DiskFault,
         ClientFault::OutOfMemory => OpenFault::OutOfMemory,
     }

@@ -1,13 +1,15 @@
 use Rattle.std.proofs.Common.{◌≡◌, ◌++◌, List, [], ◌∷◌, map, sym, ap, subst, ◌∙◌}
+use Rattle.std.specs.List.{AllByRecursion}
 use Rattle.commit_journal.specs.declared.placed.Placed.{Placed}
 use Rattle.cry_base.specs.declared.roles.Role.TheVariants.{Owner}
 use Rattle.holder_client.specs.declared.opening.OwnersView.{OwnersView}
+use Rattle.holder_client.specs.declared.visit_list.Visit.{Visit as Listed}
 use Rattle.holder_client.specs.Answering.{AnswersBy}
 use Rattle.holder_client.specs.Holding.{IsReadingOf}
-use Rattle.holder_client.specs.Opening.{IsOpenedBy, IsOpenedTo, plain_visit}
+use Rattle.holder_client.specs.Opening.{HasItsKind, IsFor, IsOpenedBy, IsOpenedTo, is_no_holders, plain_visit}
 use Rattle.holder_client.specs.Visiting.{Opened, visit_all}
 use Rattle.holder_client.specs.Visits.{Visit, all_visits, holder_visits}
-use Rattle.holder_client.proofs.Opens.{answered, opening_begins}
+use Rattle.holder_client.proofs.Opens.{answered, for_kinds, opening_begins}
 use Rattle.holder_client.proofs.OwnerVisits.{seen_nameless}
 use Rattle.holder_client.proofs.Sized.{unnamed_sized}
 use Rattle.role_graph.specs.Rights.Who.{TheOwner}
@@ -23,14 +25,18 @@ returns-clause-answer c = λ r of_log.
     let begun : Opened = record { keys = (Owner, c.args.owner.bytes) ∷ []; store = bare } in
     let same = ap (map plain_visit) c.as_slice.ensures.value in
     let is : visits ≡ all = same ∙ c.in_ok-visits.ensures.visits r.stand of_log.1 in
-    let opening : IsOpenedTo bare visits view begun =
-    subst (λ l. IsOpenedTo bare l view begun) (sym same)
+    let opening : IsOpenedTo is_no_holders bare visits view begun =
+    subst (λ l. IsOpenedTo is_no_holders bare l view begun) (sym same)
     (opening_begins bare (map plain_visit c.in_ok-visits.visits.items) view c.args.owner (seen_nameless state r.stand of_log.1 c.in_ok-visits.ensures.nameless) c.new.ensures
     c.new-2.ensures.folders c.new-2.ensures.files (λ e i. c.in_ok-visits.ensures.holders r.stand e of_log.1 i))
     in
     let reading : IsReadingOf state c.in_ok-indexed.indexed r = subst (λ (log : List Placed). IsReadingOf state log r) (sym c.in_ok-indexed.ensures) of_log in
     subst (λ (l : List Visit). AnswersBy (λ (x : OwnersView) behind. IsOpenedBy bare x behind) c.visit_each.result (visit_all r l begun)) is
-    (answered bare c.visit_each.result (visit_all r visits begun) (c.visit_each.ensures.answer r begun reading opening))
+    (answered bare c.visit_each.result (visit_all r visits begun) (c.visit_each.ensures.answer is_no_holders r begun (subst (λ l. AllByRecursion (IsFor is_no_holders) l) (sym same) c.in_ok-visits.ensures.owners) reading opening))
 
 pub visit_each-requires-clause-sized : goal.visit_each-requires-clause-sized
 visit_each-requires-clause-sized c = unnamed_sized c.new-2.result c.new-2.ensures.files
+
+pub visit_each-requires-clause-kinds : goal.visit_each-requires-clause-kinds
+visit_each-requires-clause-kinds c =
+    subst (λ (l : List Listed). AllByRecursion HasItsKind (map plain_visit l)) (sym c.as_slice.ensures.value) (for_kinds is_no_holders (map plain_visit c.in_ok-visits.visits.items) c.in_ok-visits.ensures.owners)

@@ -4,12 +4,12 @@ use Rattle.std.proofs.lemmas.Result.{err_from_is_err_and}
 use Rattle.cry_base.specs.declared.roles.Role.TheVariants.{Owner}
 use Rattle.holder_client.specs.declared.visit_list.Visit.{Visit as Listed}
 use Rattle.holder_client.specs.declared.visit_list.Visit.TheVariants.{Link}
-use Rattle.holder_client.specs.Opening.{IsOwners, plain_visit}
+use Rattle.holder_client.specs.Opening.{HasItsKind, plain_visit}
 use Rattle.holder_client.proofs.Opens.{IsVisitedTo, visits_behind, visits_end, visits_fail, visits_from, visits_go_on}
 use Rattle.holder_client.proofs.opening.visit_each.Goals as goal
 
 pub returns-in_err-visit_one-clause-answer : goal.returns-in_err-visit_one-clause-answer
-returns-in_err-visit_one-clause-answer c = λ r o of_log begun.
+returns-in_err-visit_one-clause-answer c = λ told r o fit of_log begun.
     let p = err_from_is_err_and c.from_residual.result c.from_residual.ensures.1 in
     let state = c.args.state.now in
     let log = c.args.log.now in
@@ -21,7 +21,7 @@ returns-in_err-visit_one-clause-answer c = λ r o of_log begun.
     let so_far = subst (λ l. IsVisitedTo state log all c.args.before l c.loop-visit.view) (visits_from visits i d within) c.loop-visit.invariant.visited in
     rw (p.1, p.2)
     (visits_fail state log all (map plain_visit (drop (i + 1) visits)) (plain_visit (get_or visits i d)) c.args.before c.loop-visit.view c.visit_one.new.view c.in_err-visit_one.field-0.0
-    so_far c.in_err-visit_one.ensures.answer r o of_log begun)
+    so_far c.in_err-visit_one.ensures.answer told r o fit of_log begun)
 
 pub loop-visit-preserved : goal.loop-visit-preserved
 loop-visit-preserved c =
@@ -33,9 +33,9 @@ loop-visit-preserved c =
     let d : Listed = Link (record { kind = 0; from = Owner; to = Owner }) in
     let within : i < length visits = omega (arith, c.loop-visit-test.true) in
     let so_far = subst (λ l. IsVisitedTo state log all c.args.before l c.loop-visit.view) (visits_from visits i d within) c.loop-visit.invariant.visited in
-    let owners = subst (AllByRecursion IsOwners) (visits_from visits i d within) c.loop-visit.invariant.owners in
+    let kinds = subst (AllByRecursion HasItsKind) (visits_from visits i d within) c.loop-visit.invariant.kinds in
     record {
-      owners = owners.1;
+      kinds = kinds.1;
       present = c.in_ok-visit_one.ensures.keys;
       sized = c.in_ok-visit_one.ensures.sized c.loop-visit.invariant.sized;
       visited = visits_go_on state log all (map plain_visit (drop (i + 1) visits)) (plain_visit (get_or visits i d)) c.args.before c.loop-visit.view c.visit_one.new.view
@@ -43,11 +43,11 @@ loop-visit-preserved c =
     }
 
 pub returns-clause-answer : goal.returns-clause-answer
-returns-clause-answer c = λ r o of_log begun.
+returns-clause-answer c = λ told r o fit of_log begun.
     let state = c.args.state.now in
     let log = c.args.log.now in
     let visits = c.args.visits.now in
     let all = map plain_visit visits in
     let past : length visits ≤ c.loop-visit.visit-index = omega (arith, c.loop-visit-test.false) in
     visits_end state log all c.args.before c.loop-visit.view
-    (subst (λ l. IsVisitedTo state log all c.args.before l c.loop-visit.view) (visits_behind visits c.loop-visit.visit-index past) c.loop-visit.invariant.visited) r o of_log begun
+    (subst (λ l. IsVisitedTo state log all c.args.before l c.loop-visit.view) (visits_behind visits c.loop-visit.visit-index past) c.loop-visit.invariant.visited) told r o fit of_log begun

@@ -1,13 +1,13 @@
 use Rattle.std.proofs.Common.{drop, map}
 use Rattle.std.specs.List.{AllByRecursion}
 use Rattle.holder_client.specs.Holding.{ArePresent, AreSized}
-use Rattle.holder_client.specs.Opening.{IsOwners, plain_visit}
+use Rattle.holder_client.specs.Opening.{HasItsKind, plain_visit}
 use Rattle.holder_client.proofs.Opens.{IsVisitedTo}
 use Rattle.holder_client.proofs.opening.visit_each.Given as goal
 
 abbrev pub invariant-loop-visit : goal.invariant-loop-visit
 invariant-loop-visit l = record {
-  owners : AllByRecursion IsOwners (map plain_visit (drop l.visit-index l.visits));
+  kinds : AllByRecursion HasItsKind (map plain_visit (drop l.visit-index l.visits));
   present : ArePresent l.state.keys.keys l.view.ring;
   sized : AreSized l.view.names;
   visited : IsVisitedTo l.state l.log (map plain_visit l.visits) l.initial.view (map plain_visit (drop l.visit-index l.visits)) l.view;

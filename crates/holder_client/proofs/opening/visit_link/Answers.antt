@@ -1,7 +1,6 @@
 use Rattle.std.proofs.Common.{◌≡◌, ◌≢◌, option_map, sym, ap, ◌∙◌}
 use Rattle.chacha_seal.specs.Keys.{KeyParts}
 use Rattle.cry_base.specs.declared.roles.Role.{Role}
-use Rattle.holder_client.specs.Opening.{is_no_holders}
 use Rattle.holder_client.specs.Visiting.{visit}
 use Rattle.holder_client.proofs.Opens.{same_keys, on_any}
 use Rattle.key_links.specs.Ringed.{key_of}
@@ -13,9 +12,9 @@ visit_edge-requires-clause-keys c = λ role key there.
 
 pub returns-clause-answer : goal.returns-clause-answer
 unfolding visit
-returns-clause-answer c = λ r o of_log holds.
-    c.visit_edge.ensures.answer is_no_holders r o of_log c.requires.owners.1
-    (λ role told. holds role told ∙ ap (option_map (λ (k : KeyParts). k.bytes)) (sym (same_keys c.reserve.new.self c.args.ring.now role c.in_ok-reserve.ensures.keys)))
+returns-clause-answer c = λ told r o of_log from holds.
+    c.visit_edge.ensures.answer told r o of_log from
+    (λ role is_told. holds role is_told ∙ ap (option_map (λ (k : KeyParts). k.bytes)) (sym (same_keys c.reserve.new.self c.args.ring.now role c.in_ok-reserve.ensures.keys)))
 
 pub returns-clause-others : goal.returns-clause-others
 returns-clause-others c =

@@ -2,51 +2,65 @@ use Rattle.std.proofs.Common.{◌≡◌, ◌∷◌, refl, sym, ap, subst}
 use Rattle.holder_client.specs.declared.opening.OwnersView.{OwnersView}
 use Rattle.holder_client.specs.Answering.{AnswersBy}
 use Rattle.holder_client.specs.Holding.{IsHeldBy, IsTitledBy}
-use Rattle.holder_client.specs.Opening.{IsOpenedTo, is_no_holders, plain_visit}
+use Rattle.holder_client.specs.Opening.{IsFor, IsOpenedTo, plain_visit}
 use Rattle.holder_client.specs.Visiting.{Opened, visit}
 use Rattle.holder_client.specs.Visits.{Visit}
-use Rattle.holder_client.specs.Visits.Visit.{ToName, ToFile, ToHolder}
-use Rattle.holder_client.proofs.Opens.{answers_for, holder_opened, no_file, no_name, title_opened}
+use Rattle.holder_client.specs.Visits.Visit.{ToKey, ToName, ToFile, ToHolder}
+use Rattle.holder_client.proofs.Opens.{answers_for, holder_opened, link_answered, no_file, no_name, title_opened}
 use Rattle.role_graph.specs.Roles.{data_of, file_role}
 use Rattle.holder_client.proofs.opening.visit_one.Goals as goal
 
 pub returns-in-Name-clause-answer : goal.returns-in-Name-clause-answer
 unfolding data_of
-returns-in-Name-clause-answer c = λ r o left of_log opened.
+returns-in-Name-clause-answer c = λ told r o left fit of_log opened.
     let f = c.in-Name.folder.0 in
     let old = c.args.view.now in
     let new : OwnersView = record { ring = old.ring; names = c.visit_name.new.names } in
     let is : plain_visit c.args.visit.now ≡ ToName f = ap plain_visit c.in-Name.is in
-    let before : IsOpenedTo r.stand.store (ToName f ∷ left) old o = subst (λ (v : Visit). IsOpenedTo r.stand.store (v ∷ left) old o) is opened in
-    subst (λ (v : Visit). AnswersBy (λ (x : Unit {0}) behind. IsOpenedTo r.stand.store left new behind) c.visit_name.result (visit r v o)) (sym is)
-    (answers_for (λ (x : Unit {0}) (behind : Opened). IsTitledBy r.stand.store new.names o behind) (λ (x : Unit {0}) (behind : Opened). IsOpenedTo r.stand.store left new behind)
+    let fits : IsFor told (ToName f) = subst (IsFor told) is fit in
+    let before : IsOpenedTo told r.stand.store (ToName f ∷ left) old o = subst (λ (v : Visit). IsOpenedTo told r.stand.store (v ∷ left) old o) is opened in
+    subst (λ (v : Visit). AnswersBy (λ (x : Unit {0}) behind. IsOpenedTo told r.stand.store left new behind) c.visit_name.result (visit r v o)) (sym is)
+    (answers_for (λ (x : Unit {0}) (behind : Opened). IsTitledBy r.stand.store new.names o behind) (λ (x : Unit {0}) (behind : Opened). IsOpenedTo told r.stand.store left new behind)
     c.visit_name.result (visit r (ToName f) o)
-    (λ x behind titled. title_opened r.stand.store (ToName f) left old new o behind (λ h. no_name h f) before titled refl)
-    (c.visit_name.ensures.answer is_no_holders r o r.stand.store of_log.0 refl before.keys before.names))
+    (λ x behind titled. title_opened told r.stand.store (ToName f) left old new o behind (λ h. no_name h f) before titled refl)
+    (c.visit_name.ensures.answer told r o r.stand.store of_log.0 fits before.keys before.names))
 
 pub returns-in-Bytes-clause-answer : goal.returns-in-Bytes-clause-answer
 unfolding file_role
-returns-in-Bytes-clause-answer c = λ r o left of_log opened.
+returns-in-Bytes-clause-answer c = λ told r o left fit of_log opened.
     let f = c.in-Bytes.file.0 in
     let old = c.args.view.now in
     let new : OwnersView = record { ring = old.ring; names = c.visit_file.new.names } in
     let is : plain_visit c.args.visit.now ≡ ToFile f = ap plain_visit c.in-Bytes.is in
-    let before : IsOpenedTo r.stand.store (ToFile f ∷ left) old o = subst (λ (v : Visit). IsOpenedTo r.stand.store (v ∷ left) old o) is opened in
-    subst (λ (v : Visit). AnswersBy (λ (x : Unit {0}) behind. IsOpenedTo r.stand.store left new behind) c.visit_file.result (visit r v o)) (sym is)
-    (answers_for (λ (x : Unit {0}) (behind : Opened). IsTitledBy r.stand.store new.names o behind) (λ (x : Unit {0}) (behind : Opened). IsOpenedTo r.stand.store left new behind)
+    let fits : IsFor told (ToFile f) = subst (IsFor told) is fit in
+    let before : IsOpenedTo told r.stand.store (ToFile f ∷ left) old o = subst (λ (v : Visit). IsOpenedTo told r.stand.store (v ∷ left) old o) is opened in
+    subst (λ (v : Visit). AnswersBy (λ (x : Unit {0}) behind. IsOpenedTo told r.stand.store left new behind) c.visit_file.result (visit r v o)) (sym is)
+    (answers_for (λ (x : Unit {0}) (behind : Opened). IsTitledBy r.stand.store new.names o behind) (λ (x : Unit {0}) (behind : Opened). IsOpenedTo told r.stand.store left new behind)
     c.visit_file.result (visit r (ToFile f) o)
-    (λ x behind titled. title_opened r.stand.store (ToFile f) left old new o behind (λ h. no_file h f) before titled refl)
-    (c.visit_file.ensures.answer is_no_holders r o r.stand.store of_log.0 refl before.keys before.names))
+    (λ x behind titled. title_opened told r.stand.store (ToFile f) left old new o behind (λ h. no_file h f) before titled refl)
+    (c.visit_file.ensures.answer told r o r.stand.store of_log.0 fits before.keys before.names))
 
 pub returns-in-Key-clause-answer : goal.returns-in-Key-clause-answer
-returns-in-Key-clause-answer c = λ r o left of_log opened.
+returns-in-Key-clause-answer c = λ told r o left fit of_log opened.
     let h = c.in-Key.holder.0 in
     let old = c.args.view.now in
     let new : OwnersView = record { ring = c.visit_holder.new.ring; names = old.names } in
     let is : plain_visit c.args.visit.now ≡ ToHolder h = ap plain_visit c.in-Key.is in
-    let before : IsOpenedTo r.stand.store (ToHolder h ∷ left) old o = subst (λ (v : Visit). IsOpenedTo r.stand.store (v ∷ left) old o) is opened in
-    subst (λ (v : Visit). AnswersBy (λ (x : Unit {0}) behind. IsOpenedTo r.stand.store left new behind) c.visit_holder.result (visit r v o)) (sym is)
-    (answers_for (λ (x : Unit {0}) (behind : Opened). IsHeldBy new.ring old.ring h o behind) (λ (x : Unit {0}) (behind : Opened). IsOpenedTo r.stand.store left new behind)
+    let fits : IsFor told (ToHolder h) = subst (IsFor told) is fit in
+    let before : IsOpenedTo told r.stand.store (ToHolder h ∷ left) old o = subst (λ (v : Visit). IsOpenedTo told r.stand.store (v ∷ left) old o) is opened in
+    subst (λ (v : Visit). AnswersBy (λ (x : Unit {0}) behind. IsOpenedTo told r.stand.store left new behind) c.visit_holder.result (visit r v o)) (sym is)
+    (answers_for (λ (x : Unit {0}) (behind : Opened). IsHeldBy new.ring old.ring h o behind) (λ (x : Unit {0}) (behind : Opened). IsOpenedTo told r.stand.store left new behind)
     c.visit_holder.result (visit r (ToHolder h) o)
-    (λ x behind held. holder_opened r.stand.store h left old new o behind before held refl)
-    (c.visit_holder.ensures.answer is_no_holders r o of_log.0 refl before.keys))
+    (λ x behind held. holder_opened told r.stand.store h left old new o behind fits.1 before held refl)
+    (c.visit_holder.ensures.answer told r o of_log.0 fits.0 before.keys))
+
+pub returns-in-Link-clause-answer : goal.returns-in-Link-clause-answer
+returns-in-Link-clause-answer c = λ told r o left fit of_log opened.
+    let e = c.in-Link.edge in
+    let old = c.args.view.now in
+    let new : OwnersView = record { ring = c.visit_link.new.ring; names = old.names } in
+    let is : plain_visit c.args.visit.now ≡ ToKey e = ap plain_visit c.in-Link.is in
+    let fits : IsFor told (ToKey e) = subst (IsFor told) is fit in
+    let before : IsOpenedTo told r.stand.store (ToKey e ∷ left) old o = subst (λ (v : Visit). IsOpenedTo told r.stand.store (v ∷ left) old o) is opened in
+    subst (λ (v : Visit). AnswersBy (λ (x : Unit {0}) behind. IsOpenedTo told r.stand.store left new behind) c.visit_link.result (visit r v o)) (sym is)
+    (link_answered told r.stand.store e left old new o c.visit_link.result (visit r (ToKey e) o) fits before refl c.visit_link.ensures.others (c.visit_link.ensures.answer told r o of_log fits.1 before.keys))

@@ -1,46 +1,25 @@
-use Rattle.std.proofs.Common.{sym, ap, subst, ◌∙◌}
+use Rattle.std.proofs.Common.{◌≡◌, sym, ap, subst, ◌∙◌}
 use Rattle.std.proofs.lemmas.Result.{err_from_is_err_and}
-use Rattle.holder_client.specs.Holding.{HasParts}
-use Rattle.holder_client.specs.Visiting.{is_file_text, visit, with_text_at}
-use Rattle.holder_client.proofs.Naming.{text_refused, file_taken}
+use Rattle.holder_client.specs.Visiting.{visit}
+use Rattle.holder_client.proofs.Naming.{file_titled}
 use Rattle.holder_client.proofs.Sized.{file_sized}
-use Rattle.role_graph.specs.Roles.{file_role}
 use Rattle.holder_client.proofs.texts.visit_file.Goals as goal
 
-pub returns-in_err-at-clause-answer : goal.returns-in_err-at-clause-answer
-unfolding visit file_role
-returns-in_err-at-clause-answer c = λ told r o s of_log is_told holds has.
-    let p = err_from_is_err_and c.from_residual-in_err-at.result c.from_residual-in_err-at.ensures.1 in
-    rw (p.1, p.2) (c.in_err-at.ensures.answer told r o (with_text_at o c.args.file.0) of_log is_told holds)
-
-pub returns-in_default-clause-answer : goal.returns-in_default-clause-answer
-unfolding visit file_role
-returns-in_default-clause-answer c = λ told r o s of_log is_told holds has.
-    c.in_ok-at.ensures.answer told r o (with_text_at o c.args.file.0) of_log is_told holds
-    ∙ text_refused o c.args.file.0 c.in_ok-at.field-0.at c.in_ok-at.field-0.text.items (ap is_file_text (sym c.as_slice.ensures) ∙ c.in_default.ensures)
+pub returns-in_err-name-clause-answer : goal.returns-in_err-name-clause-answer
+returns-in_err-name-clause-answer c = λ told r o s of_log is_told holds has.
+    let p = err_from_is_err_and c.from_residual-in_err-name.result c.from_residual-in_err-name.ensures.1 in
+    rw (p.1, p.2) (c.in_err-name.ensures.answer told r o of_log is_told holds)
 
 pub returns-clause-answer : goal.returns-clause-answer
-unfolding visit file_role
 returns-clause-answer c = λ told r o s of_log is_told holds has.
-    let text = c.in_ok-at.field-0.text.items in
-    let name = c.in_ok-name.name.items in
-    let bytes = c.in_ok-bytes.bytes.items in
-    let parts : HasParts text name bytes =
-    subst (λ n. HasParts text n bytes) (sym c.in_ok-name.ensures) (subst (λ b. HasParts text c.in-Some.name.now b) (sym c.in_ok-bytes.ensures)
-    (subst (λ t. HasParts t c.in-Some.name.now c.in-Some.bytes.now) c.as_slice.ensures c.in-Some.ensures))
-    in
-    let w = file_taken s o c.args.file.0 c.in_ok-at.field-0.at text name bytes c.set.new.self c.reserve.new.self c.args.names.now parts c.set.ensures.titles
-    c.in_ok-reserve.ensures.folders c.in_ok-reserve.ensures.files has
-    in
-    (w.0, c.in_ok-at.ensures.answer told r o (with_text_at o c.args.file.0) of_log is_told holds ∙ w.1, w.2)
+    let w = c.in_ok-name.ensures.answer told r o of_log is_told holds in (
+      w.0,
+      w.1,
+      file_titled s o w.0 c.args.file.0 c.in_ok-name.field-0.name.items c.in_ok-name.field-0.bytes.items c.set.new.self c.reserve.new.self c.args.names.now w.2 c.set.ensures.titles
+          c.in_ok-reserve.ensures.folders c.in_ok-reserve.ensures.files has,
+    )
 
 pub returns-clause-sized : goal.returns-clause-sized
 returns-clause-sized c = λ sized.
-    let text = c.in_ok-at.field-0.text.items in
-    let name = c.in_ok-name.name.items in
-    let bytes = c.in_ok-bytes.bytes.items in
-    let parts : HasParts text name bytes =
-    subst (λ n. HasParts text n bytes) (sym c.in_ok-name.ensures) (subst (λ b. HasParts text c.in-Some.name.now b) (sym c.in_ok-bytes.ensures)
-    (subst (λ t. HasParts t c.in-Some.name.now c.in-Some.bytes.now) c.as_slice.ensures c.in-Some.ensures))
-    in
-    file_sized c.args.file.0 text name bytes c.set.new.self c.reserve.new.self c.args.names.now parts c.set.ensures.titles c.in_ok-reserve.ensures.files sized
+    file_sized c.args.file.0 c.in_ok-name.field-0.name.items c.in_ok-name.field-0.bytes.items c.set.new.self c.reserve.new.self c.args.names.now c.in_ok-name.ensures.form.1 c.set.ensures.titles
+    c.in_ok-reserve.ensures.files sized

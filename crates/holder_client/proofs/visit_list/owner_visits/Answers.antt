@@ -1,47 +1,36 @@
 use Rattle.std.proofs.Common.{◌≡◌, length, sym, ap, subst, ◌∙◌}
 use Rattle.cry_base.specs.Store.{Store}
+use Rattle.cry_base.specs.declared.roles.Role.{Role}
 use Rattle.folder_nodes.specs.Trees.{IsTree}
-use Rattle.holder_client.proofs.OwnerVisits.{HasRows, IsListed, is_listed, visits_told, all_owners, holders_visited, rows_nameless}
+use Rattle.holder_client.specs.Opening.{is_no_holders}
+use Rattle.holder_client.specs.Sights.{AreSights}
+use Rattle.holder_client.proofs.OwnerVisits.{are_listed, visits_told, all_fit, holders_visited, rows_nameless, seen_tree}
 use Rattle.holder_client.proofs.visit_list.owner_visits.Goals as goal
+use Rattle.role_graph.specs.Rights.Who.{TheOwner}
 
 pub returns-clause-visits : goal.returns-clause-visits
 returns-clause-visits c = λ at seen.
     let state = c.args.state.now in
-    let folders = c.folders-folders.result.now in
-    let files = c.files-files.result.now in
-    let rows : HasRows folders files state =
-    record {
-      folder_rows = sym (c.folders-folders.ensures ∙ ap (λ (t : Store). t.folders) c.shape-shape.ensures);
-      file_rows = sym (c.files-files.ensures ∙ ap (λ (t : Store). t.files) c.shape-shape.ensures);
-      tree = subst IsTree c.shape-shape.ensures c.is_tree.ensures;
-    } in
-    let listed = is_listed folders files c.holders.result c.new-visits.result.items c.push_folders.new.visits.items c.push_folders-2.new.visits.items c.push_folders-3.new.visits.items c.push_files.new.visits.items c.push_holders.new.visits.items
-    c.new-visits.ensures.items c.in_ok-push_folders.ensures c.in_ok-push_folders-2.ensures c.in_ok-push_folders-3.ensures c.in_ok-push_files.ensures c.in_ok-push_holders.ensures
-    in
+    let files = c.files.result.now in
+    let tree = c.in_ok-seen.ensures.tree in
     let count : c.holders.result ≡ length state.checks = c.holders.ensures ∙ ap length c.grants.ensures.checks in
-    visits_told state at folders files c.push_holders.new.visits.items rows seen (subst (λ n. IsListed folders files n c.push_holders.new.visits.items) count listed)
-
-pub returns-clause-nameless : goal.returns-clause-nameless
-returns-clause-nameless c =
-    rows_nameless c.args.state.now.tree c.folders-folders.result.now c.files-files.result.now
-    (sym (c.folders-folders.ensures ∙ ap (λ (t : Store). t.folders) c.shape-shape.ensures))
-    (sym (c.files-files.ensures ∙ ap (λ (t : Store). t.files) c.shape-shape.ensures))
+    let sights : AreSights at.store TheOwner c.as_slice.result.now = subst (AreSights at.store TheOwner) (sym c.as_slice.ensures.value) (c.in_ok-seen.ensures.sights at seen tt) in
+    let listed = are_listed c.in_ok-visits.visits.items c.push_files.new.visits.items c.push_holders.new.visits.items files c.holders.result c.in_ok-push_files.ensures c.in_ok-push_holders.ensures in
+    visits_told state at c.in_ok-visits.visits.items c.push_holders.new.visits.items files
+    (sym (c.files.ensures ∙ ap (λ (t : Store). t.files) c.shape.ensures)) tree seen
+    (c.in_ok-visits.ensures.visits at.store (seen_tree state at seen tree) sights)
+    (rw (← count) listed)
 
 pub returns-clause-owners : goal.returns-clause-owners
 returns-clause-owners c =
-    let folders = c.folders-folders.result.now in
-    let files = c.files-files.result.now in
-    all_owners folders files c.holders.result c.push_holders.new.visits.items
-    (is_listed folders files c.holders.result c.new-visits.result.items c.push_folders.new.visits.items c.push_folders-2.new.visits.items c.push_folders-3.new.visits.items c.push_files.new.visits.items c.push_holders.new.visits.items
-    c.new-visits.ensures.items c.in_ok-push_folders.ensures c.in_ok-push_folders-2.ensures c.in_ok-push_folders-3.ensures c.in_ok-push_files.ensures c.in_ok-push_holders.ensures)
+    let files = c.files.result.now in
+    all_fit c.in_ok-visits.visits.items c.push_holders.new.visits.items files c.holders.result (c.in_ok-visits.ensures.told is_no_holders (λ role is. is))
+    (are_listed c.in_ok-visits.visits.items c.push_files.new.visits.items c.push_holders.new.visits.items files c.holders.result c.in_ok-push_files.ensures c.in_ok-push_holders.ensures)
 
 pub returns-clause-holders : goal.returns-clause-holders
 returns-clause-holders c = λ at e seen i.
     let state = c.args.state.now in
-    let folders = c.folders-folders.result.now in
-    let files = c.files-files.result.now in
-    let listed = is_listed folders files c.holders.result c.new-visits.result.items c.push_folders.new.visits.items c.push_folders-2.new.visits.items c.push_folders-3.new.visits.items c.push_files.new.visits.items c.push_holders.new.visits.items
-    c.new-visits.ensures.items c.in_ok-push_folders.ensures c.in_ok-push_folders-2.ensures c.in_ok-push_folders-3.ensures c.in_ok-push_files.ensures c.in_ok-push_holders.ensures
-    in
+    let files = c.files.result.now in
     let count : c.holders.result ≡ length state.checks = c.holders.ensures ∙ ap length c.grants.ensures.checks in
-    holders_visited state at folders files c.push_holders.new.visits.items e seen (subst (λ n. IsListed folders files n c.push_holders.new.visits.items) count listed) i
+    let listed = are_listed c.in_ok-visits.visits.items c.push_files.new.visits.items c.push_holders.new.visits.items files c.holders.result c.in_ok-push_files.ensures c.in_ok-push_holders.ensures in
+    holders_visited state at c.in_ok-visits.visits.items c.push_holders.new.visits.items files e seen (rw (← count) listed) i

@@ -1,6 +1,6 @@
 use Rattle.std.proofs.Common.{◌≡◌, ◌++◌, take}
 use Rattle.std.specs.List.{flat_map}
-use Rattle.holder_client.specs.Opening.{file_part}
+use Rattle.holder_client.specs.Listing.{file_part}
 use Rattle.holder_client.proofs.visit_list.push_files.Given as goal
 
 abbrev pub invariant-loop-file : goal.invariant-loop-file

@@ -2,6 +2,7 @@ use Rattle.std.proofs.Common.{◌≡◌, map, Ok, sym, ap, subst, ◌∙◌}
 use Rattle.chacha_seal.specs.Keys.{KeyParts}
 use Rattle.commit_journal.specs.Placed.{plain_log, plain_placed}
 use Rattle.holder_client.specs.Answering.{IsFault}
+use Rattle.holder_client.proofs.Viewed.{of_bytes_alone}
 use Rattle.store_owner.specs.Opened.{opened_of}
 use Rattle.store_owner.specs.Owned.{OwnerView}
 use Rattle.store_owner.proofs.OpenedBehind.{behind_fails, behind_opens, behind_sound}
@@ -30,6 +31,9 @@ returns-in-Ok-clause-answer c =
     in
     behind_opens key (plain_log c.args.opened.placed) c.in-Ok.contents c.at.result a.0 is a.2 c.in-Ok.ensures.present
     (ap (λ (o : OwnerView). o.state) c.at.ensures) (ap (λ (o : OwnerView). o.names) c.at.ensures) (ap (λ (o : OwnerView). o.ring) c.at.ensures)
+
+pub open_fault-requires : goal.open_fault-requires
+open_fault-requires c = of_bytes_alone c.in-Err.fault (opened_of c.owner.result.bytes (map plain_placed c.as_slice.result.now)) c.in-Err.ensures.answer
 
 pub returns-in-Err-clause-answer : goal.returns-in-Err-clause-answer
 returns-in-Err-clause-answer c =

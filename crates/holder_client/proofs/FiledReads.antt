@@ -1,0 +1,192 @@
+-- Files that were read, seen by the names and bytes that they have then.
+use Rattle.std.proofs.Common.{◌≡◌, ◌≢◌, ℕ, ◌+◌, ◌<◌, ◌≤◌, Bool, true, false, cond, ◌==◌, List, [], ◌∷◌, ◌++◌, drop, get_or, length, map, take, find, Some, Result, Ok, Err, inl, inr, ⊎_elim, refl, sym, ap, subst, ◌∙◌, arith}
+use Rattle.std.specs.List.{AllPairs, flat_map}
+use Rattle.std.proofs.Math.ListN.{drop_of_length-le}
+use Rattle.std.proofs.lemmas.Bool.{eq-eqb, ne_eqb}
+use Rattle.std.proofs.lemmas.List.{drop_more, map-append}
+use Rattle.commit_journal.specs.Answering.{Fault, and_then}
+use Rattle.commit_journal.specs.declared.placed.Placed.{Placed}
+use Rattle.cry_base.specs.Sets.{In}
+use Rattle.cry_base.specs.Stepping.{with_file}
+use Rattle.cry_base.specs.Store.{Store}
+use Rattle.cry_base.specs.declared.roles.Node.{Node}
+use Rattle.cry_base.specs.declared.roles.Node.TheVariants.{Folder, File}
+use Rattle.folder_nodes.specs.Titles.{Title, Titles, title_at}
+use Rattle.folder_nodes.specs.declared.rows.FileRow.{FileRow}
+use Rattle.folder_nodes.proofs.Ascending.{All-in, head_below, rest_rising}
+use Rattle.holder_client.specs.Answering.{IsFault}
+use Rattle.holder_client.specs.Filed.{IsReadBy, everyone, file_stops, read_title, titles_read, with_read}
+use Rattle.holder_client.specs.Holding.{HasKind, HasNames, HoldsKeys, IsFiled, IsFiledBy, IsReadingOf}
+use Rattle.holder_client.specs.Visiting.{Opened, Reading, visit, visit_all}
+use Rattle.holder_client.specs.Visits.{Visit}
+use Rattle.holder_client.specs.Visits.Visit.{ToKey, ToFile}
+use Rattle.holder_client.specs.declared.fault.ClientFault.{ClientFault}
+use Rattle.holder_client.specs.declared.fault.ClientFault.TheVariants as faults
+use Rattle.holder_client.specs.declared.reading.ReadFile.{ReadFile}
+use Rattle.holder_client.specs.declared.texts.NamedBytes.{NamedBytes}
+use Rattle.holder_client.proofs.ListedVisits.{taken_more}
+use Rattle.holder_client.proofs.Naming.{IsNamed, file_named}
+use Rattle.holder_client.proofs.Viewed.{fault_first}
+use Rattle.key_links.specs.Ended.{kind_from, kind_to, role_with, row_numbered}
+use Rattle.key_links.specs.Ringed.{Ringed}
+use Rattle.public_fold.specs.Standing.{PublicView}
+use Rattle.role_graph.specs.Edges.{edge, file_edge}
+use Rattle.role_graph.specs.Roles.{file_role, files_of, role_id}
+
+-- one file more
+pub read_more : (files : List ReadFile) (f : ReadFile) (titles : List Title) → titles_read (files ++ f ∷ []) titles ≡ read_title f ∷ titles_read files titles
+unfolding titles_read
+read_more [] f titles = refl
+read_more (x ∷ files) f titles = read_more files f (read_title x ∷ titles)
+
+pub filed_more : (bare : Store) (names : Titles) (files new : List ReadFile) (f : ReadFile) (o behind : Opened) → new ≡ files ++ f ∷ [] → IsFiled f.row.id.0 f.name.items f.bytes.items o behind →
+    HasNames bare (with_read names files) o.store → HasNames bare (with_read names new) behind.store
+unfolding with_file
+filed_more bare names files new f o behind is filed has =
+    let titles = titles_read files names.files in
+    let next : Titles = record names { files = read_title f ∷ titles } in
+    let named : HasNames bare next (with_file o.store f.row.id.0 (λ e. record e { name = f.name.items; bytes = f.bytes.items })) =
+    file_named bare f.row.id.0 f.name.items f.bytes.items next (with_read names files) o.store (told f titles) has
+    in
+    subst (HasNames bare (with_read names new)) (sym filed)
+    (subst (λ ts. HasNames bare (record names { files = ts }) (with_file o.store f.row.id.0 (λ e. record e { name = f.name.items; bytes = f.bytes.items })))
+    (sym (ap (λ l. titles_read l names.files) is ∙ read_more files f names.files)) named)
+  where
+    told : (f : ReadFile) (titles : List Title) → IsNamed (File (record { 0 = f.row.id.0 })) f.name.items f.bytes.items (record names { files = read_title f ∷ titles }) (record names { files = titles })
+    told f titles (Folder g) = refl
+    told f titles (File y) = refl
+
+-- ---- looked up
+
+-- titles of others change nothing
+others_read : (files : List ReadFile) (titles : List Title) (x : ℕ) → ((f : ReadFile) → In f files → f.row.id.0 ≢ x) → title_at (titles_read files titles) x ≡ title_at titles x
+unfolding titles_read
+others_read [] titles x apart = refl
+others_read (f ∷ files) titles x apart =
+    others_read files (read_title f ∷ titles) x (λ g i. apart g (inr i))
+    ∙ ap (λ b. cond b (Some (read_title f)) (title_at titles x)) (ne_eqb f.row.id.0 x (apart f (inl refl)))
+
+abbrev pub rank : ReadFile → ℕ
+rank f = f.row.id.0
+
+-- of files with numbers of their own each is found
+pub read_found : (files : List ReadFile) (titles : List Title) (f : ReadFile) → AllPairs (λ (a b : ReadFile). rank a < rank b) files → In f files → title_at (titles_read files titles) (rank f) ≡ Some (read_title f)
+unfolding titles_read
+read_found [] titles f up i = absurd i
+read_found (x ∷ files) titles f up i = ⊎_elim
+    (λ (same : f ≡ x).
+    ap (λ (g : ReadFile). title_at (titles_read files (read_title x ∷ titles)) (rank g)) same
+    ∙ others_read files (read_title x ∷ titles) (rank x) (λ g j. let less : rank x < rank g = All-in ReadFile (λ z. rank x < rank z) files g (head_below ReadFile rank x files up) j in λ q. omega (arith, less, q))
+    ∙ ap (λ b. cond b (Some (read_title x)) (title_at titles (rank x))) (eq-eqb (rank x) (rank x) refl)
+    ∙ ap (λ (g : ReadFile). Some (read_title g)) (sym same))
+    (λ j. read_found files (read_title x ∷ titles) f (rest_rising ReadFile rank x files up) j)
+    i
+
+-- ---- the two visits of a file
+
+pub link_fails : (r : Reading) (o : Opened) (row : FileRow) (fault : ClientFault) → IsFault fault (visit r (ToKey (file_edge row.folder.0 row.id.0)) o) → IsFault fault (visit_all r (file_stops row) o)
+unfolding visit_all
+link_fails r o row fault is = fault_first fault (visit r (ToKey (file_edge row.folder.0 row.id.0)) o) (visit_all r (ToFile row.id.0 ∷ [])) is
+
+link_passes : (r : Reading) (o next : Opened) (row : FileRow) → visit r (ToKey (file_edge row.folder.0 row.id.0)) o ≡ Ok next → visit_all r (file_stops row) o ≡ and_then (visit r (ToFile row.id.0) next) (visit_all r [])
+unfolding visit_all and_then
+link_passes r o next row is = rw is refl
+
+pub text_fails : (r : Reading) (o next : Opened) (row : FileRow) (fault : ClientFault) → visit r (ToKey (file_edge row.folder.0 row.id.0)) o ≡ Ok next → IsFault fault (visit r (ToFile row.id.0) next) →
+    IsFault fault (visit_all r (file_stops row) o)
+text_fails r o next row fault passed is = subst (IsFault fault) (sym (link_passes r o next row passed)) (fault_first fault (visit r (ToFile row.id.0) next) (visit_all r []) is)
+
+pub text_read : (ring : Ringed) (r : Reading) (o next : Opened) (row : FileRow) (f : ReadFile) (parts : NamedBytes) → visit r (ToKey (file_edge row.folder.0 row.id.0)) o ≡ Ok next → HoldsKeys everyone ring next.keys →
+    next.store ≡ o.store → (last : Opened) × (visit r (ToFile row.id.0) next ≡ Ok last) × IsFiledBy row.id.0 parts next last → f.row ≡ row → f.name ≡ parts.name → f.bytes ≡ parts.bytes →
+    (behind : Opened) × (visit_all r (file_stops row) o ≡ Ok behind) × (HoldsKeys everyone ring behind.keys × IsReadBy f o behind)
+unfolding visit_all and_then with_file
+text_read ring r o next row f parts passed holds same filed is_row is_name is_bytes =
+    let last = filed.0 in
+    let keys : last.keys ≡ next.keys = ap (λ (x : Opened). x.keys) filed.2 in
+    let store : last.store ≡ with_file o.store f.row.id.0 (λ e. record e { name = f.name.items; bytes = f.bytes.items }) =
+    ap (λ (x : Opened). x.store) filed.2
+    ∙ ap (λ (s : Store). with_file s row.id.0 (λ e. record e { name = parts.name.items; bytes = parts.bytes.items })) same
+    ∙ rw (is_row, is_name, is_bytes) refl
+    in
+    (last, link_passes r o next row passed ∙ rw filed.1 refl, (subst (HoldsKeys everyone ring) (sym keys) holds, store))
+
+-- ---- all of them
+
+-- the files so far were read, and those from an index on are left
+abbrev pub AreReadTo : PublicView → List Placed → Ringed → List FileRow → ℕ → Ringed → List ReadFile → Type 0
+AreReadTo state log before rows i ring files =
+    (r : Reading) (o : Opened) (bare : Store) (names : Titles) → IsReadingOf state log r → HoldsKeys everyone before o.keys → HasNames bare names o.store →
+    (p : Opened) × (visit_all r (flat_map file_stops rows) o ≡ visit_all r (flat_map file_stops (drop i rows)) p) × HoldsKeys everyone ring p.keys × HasNames bare (with_read names files) p.store
+
+pub reads_begin : (state : PublicView) (log : List Placed) (ring : Ringed) (rows : List FileRow) (files : List ReadFile) → files ≡ [] → AreReadTo state log ring rows 0 ring files
+unfolding titles_read
+reads_begin state log ring rows files none = λ r o bare names of_log holds has. (o, refl, holds, subst (λ l. HasNames bare (with_read names l) o.store) (sym none) has)
+
+pub all_after : (r : Reading) (vs ws : List Visit) (o p : Opened) → visit_all r vs o ≡ Ok p → visit_all r (vs ++ ws) o ≡ visit_all r ws p
+unfolding visit_all and_then
+all_after r [] ws o p is = let same : o ≡ p = cc in ap (visit_all r ws) same
+all_after r (v ∷ vs) ws o p is =
+    (elim (visit r v o) as (λ x. and_then x (visit_all r vs) ≡ Ok p → and_then x (visit_all r (vs ++ ws)) ≡ visit_all r ws p) [
+      | Ok next ↦ λ e. all_after r vs ws next p e
+      | Err fault ↦ λ e. absurd cc
+    ]) is
+
+pub fails_before : (r : Reading) (vs ws : List Visit) (o : Opened) (fault : ClientFault) → IsFault fault (visit_all r vs o) → IsFault fault (visit_all r (vs ++ ws) o)
+unfolding visit_all and_then
+fails_before r [] ws o fault = none fault
+  where
+    none : (fault : ClientFault) → IsFault fault (let x : Result Opened Fault = Ok o in x) → IsFault fault (visit_all r ws o)
+    none faults.NotAStore is = absurd cc
+    none faults.WrongKey is = absurd cc
+    none (faults.Damaged at) is = absurd cc
+    none (faults.Tampered batch at) is = absurd cc
+    none (faults.NoHolder known) is = absurd is
+    none faults.Unseen is = absurd is
+    none faults.DiskFault is = tt
+    none faults.OutOfMemory is = tt
+fails_before r (v ∷ vs) ws o fault =
+    elim (visit r v o) as (λ x. IsFault fault (and_then x (visit_all r vs)) → IsFault fault (and_then x (visit_all r (vs ++ ws)))) [
+      | Ok next ↦ λ e. fails_before r vs ws next fault e
+      | Err other ↦ λ e. e
+    ]
+
+from_row : (rows : List FileRow) (i : ℕ) (row : FileRow) → i < length rows → row ≡ get_or rows i row → flat_map file_stops (drop i rows) ≡ file_stops row ++ flat_map file_stops (drop (i + 1) rows)
+from_row rows i row within is = ap (flat_map file_stops) (drop_more rows i row within) ∙ ap (λ (x : FileRow). file_stops x ++ flat_map file_stops (drop (i + 1) rows)) (sym is)
+
+pub reads_go_on : (state : PublicView) (log : List Placed) (before ring next : Ringed) (rows : List FileRow) (i : ℕ) (row : FileRow) (files new : List ReadFile) (f : ReadFile) → i < length rows → row ≡ get_or rows i row →
+    AreReadTo state log before rows i ring files → new ≡ files ++ f ∷ [] →
+    ((r : Reading) (o : Opened) → IsReadingOf state log r → HoldsKeys everyone ring o.keys → (behind : Opened) × (visit_all r (file_stops row) o ≡ Ok behind) × (HoldsKeys everyone next behind.keys × IsReadBy f o behind)) →
+    AreReadTo state log before rows (i + 1) next new
+reads_go_on state log before ring next rows i row files new f within is so_far more made = λ r o bare names of_log holds has.
+    let so = so_far r o bare names of_log holds has in
+    let w = made r so.0 of_log so.2 in (
+      w.0,
+      so.1 ∙ ap (λ l. visit_all r l so.0) (from_row rows i row within is) ∙ all_after r (file_stops row) (flat_map file_stops (drop (i + 1) rows)) so.0 w.0 w.1,
+      w.2.0,
+      filed_more bare names files new f so.0 w.0 more w.2.1 so.3,
+    )
+
+pub reads_fail : (state : PublicView) (log : List Placed) (before ring : Ringed) (rows : List FileRow) (i : ℕ) (row : FileRow) (files : List ReadFile) (fault : ClientFault) → i < length rows → row ≡ get_or rows i row →
+    AreReadTo state log before rows i ring files → ((r : Reading) (o : Opened) → IsReadingOf state log r → HoldsKeys everyone ring o.keys → IsFault fault (visit_all r (file_stops row) o)) →
+    (r : Reading) (o : Opened) (bare : Store) (names : Titles) → IsReadingOf state log r → HoldsKeys everyone before o.keys → HasNames bare names o.store → IsFault fault (visit_all r (flat_map file_stops rows) o)
+reads_fail state log before ring rows i row files fault within is so_far failed = λ r o bare names of_log holds has.
+    let so = so_far r o bare names of_log holds has in
+    subst (IsFault fault) (sym (so.1 ∙ ap (λ l. visit_all r l so.0) (from_row rows i row within is)))
+    (fails_before r (file_stops row) (flat_map file_stops (drop (i + 1) rows)) so.0 fault (failed r so.0 of_log so.2))
+
+pub reads_end : (state : PublicView) (log : List Placed) (before ring : Ringed) (rows : List FileRow) (i : ℕ) (files : List ReadFile) → length rows ≤ i → AreReadTo state log before rows i ring files →
+    (r : Reading) (o : Opened) (bare : Store) (names : Titles) → IsReadingOf state log r → HoldsKeys everyone before o.keys → HasNames bare names o.store →
+    (behind : Opened) × (visit_all r (flat_map file_stops rows) o ≡ Ok behind) × HasNames bare (with_read names files) behind.store
+unfolding visit_all
+reads_end state log before ring rows i files past so_far = λ r o bare names of_log holds has.
+    let so = so_far r o bare names of_log holds has in
+    (so.0, so.1 ∙ ap (λ l. visit_all r (flat_map file_stops l) so.0) (drop_of_length-le rows past), so.3)
+
+pub rows_more : (rows : List FileRow) (i : ℕ) (row : FileRow) (files new : List ReadFile) (f : ReadFile) → i < length rows → row ≡ get_or rows i row → map (λ (x : ReadFile). x.row) files ≡ take i rows → f.row ≡ row →
+    new ≡ files ++ f ∷ [] → map (λ (x : ReadFile). x.row) new ≡ take (i + 1) rows
+rows_more rows i row files new f within is so_far own more =
+    ap (map (λ (x : ReadFile). x.row)) more ∙ map-append (λ (x : ReadFile). x.row) files (f ∷ []) ∙ ap (λ l. l ++ f.row ∷ []) so_far ∙ ap (λ (x : FileRow). take i rows ++ x ∷ []) own ∙ taken_more rows i row within is
+
+pub file_kind : (row : FileRow) → HasKind (file_edge row.folder.0 row.id.0)
+unfolding file_edge edge files_of file_role role_with kind_from kind_to row_numbered role_id
+file_kind row = record { from_one = omega arith; to_nine = omega arith; source = refl; target = refl }

@@ -1,0 +1,8 @@
+use Rattle.std.proofs.Common.{◌≡◌, filter, take}
+use Rattle.std.specs.HashSet.{contains}
+use Rattle.holder_client.specs.Sights.{same_number}
+use Rattle.folder_nodes.specs.declared.rows.FileRow.{FileRow}
+use Rattle.holder_client.proofs.file_rows.files_in.Given as goal
+
+abbrev pub invariant-loop-row : goal.invariant-loop-row
+invariant-loop-row l = l.found.items ≡ filter (λ (r : FileRow). contains same_number l.folders r.folder.0) (take l.row-index l.files)

@@ -1,0 +1,10 @@
+use Rattle.std.proofs.Common.{◌≡◌, ◌||◌, ◌==◌, ℕ, sym, ap, subst, ◌∙◌}
+use Rattle.std.specs.HashSet.{contains}
+use Rattle.std.specs.List.{list_any}
+use Rattle.cry_base.specs.declared.ids.FolderId.{FolderId}
+use Rattle.holder_client.specs.Sights.{same_number}
+use Rattle.holder_client.proofs.Sighted.{way_noted}
+use Rattle.holder_client.proofs.sights.note_way.Goals as goal
+
+pub returns : goal.returns
+returns c = way_noted c.args.shape.now.tree c.args.folder.0 c.in_ok-way.way.items c.as_slice.result.now c.args.above.now c.note_each.new.above c.note_each.result c.in_ok-way.ensures c.as_slice.ensures.value c.note_each.ensures

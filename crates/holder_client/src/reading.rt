@@ -1,0 +1,154 @@
+//! What a bundle's key opens: the names of folders, and then the names and bytes of files, one file after another (docs/FORMAT.md,
+//! "Reading").
+ghost use Rattle.std.specs.Prelude.{◌≡◌, ◌≢◌, [], ◌∷◌, ◌++◌, Err, IfOk, OnOk, map};
+ghost use Rattle.std.specs.List.{flat_map};
+ghost use Rattle.cry_base.specs.Store.{Store};
+ghost use Rattle.cry_base.specs.declared.roles.Role.TheVariants.{Owner};
+ghost use Rattle.folder_nodes.specs.Titles.{Titles};
+ghost use Rattle.folder_nodes.specs.Trees.{IsTree};
+ghost use Rattle.holder_client.specs.Answering.{AnswersBy};
+ghost use Rattle.holder_client.specs.Filed.{IsNamedBy, IsReadBy, everyone, file_stops, with_read};
+ghost use Rattle.holder_client.specs.Holding.{ArePresent, HasNames, HoldsKeys, IsReadingOf};
+ghost use Rattle.holder_client.specs.Judging.{first_key, opened_first, who_of};
+ghost use Rattle.holder_client.specs.Opening.{IsNameless};
+ghost use Rattle.holder_client.specs.Sights.{AreSights, plain_viewer};
+ghost use Rattle.holder_client.specs.Visiting.{Opened, Reading};
+ghost use Rattle.holder_client.specs.Visiting as spec;
+ghost use Rattle.holder_client.specs.Visits as visits;
+ghost use Rattle.public_fold.specs.KeyStep.{present};
+ghost use Rattle.role_graph.specs.Edges.{file_edge};
+
+use crate::ClientFault;
+use crate::indexed_log::IndexedLog;
+use crate::opening::{OwnersView, visit_each, visit_link};
+use crate::sights::{Sight, Viewer};
+use crate::texts::{NamedBytes, open_file, present_serial};
+use crate::visit_list::visits_to_names;
+use chacha_seal::Key;
+use cry_base::{Bundle, Edge, Mem, Role, Text};
+use folder_nodes::{FileRow, Names};
+use key_links::KeyRing;
+use public_fold::PublicState;
+use std::alloc::Global;
+
+/// Who reads with a bundle.
+#[tactic(auto, unfolding(crate::specs::Judging::who_of))]
+pub(crate) fn viewer_of(bundle: &Bundle) -> Viewer
+    ensures { plain_viewer result ≡ who_of bundle.now }
+{
+    match bundle {
+        Bundle::Owner { .. } => Viewer::Owner,
+        Bundle::Holder { holder, .. } => Viewer::Holder(*holder),
+    }
+}
+
+/// The ring with the bundle's own key alone.
+fn first_ring(alloc: Global, bundle: &Bundle, state: &PublicState) -> KeyRing
+    requires { present state.now.keys.keys Owner ≡ 0 }
+    ensures keys { HoldsKeys everyone result (first_key bundle.now ∷ []) }
+    ensures present { ArePresent state.now.keys.keys result }
+{
+    match bundle {
+        Bundle::Owner { key } => KeyRing::new(alloc, Key::owner(*key)),
+        Bundle::Holder { holder, key } => {
+            let serial = present_serial(state, Role::Holder(*holder));
+            KeyRing::of_holder(alloc, Key::holder(*holder, serial, *key))
+        }
+    }
+}
+
+/// Opens all keys up to those of the folders' names, and the names: the visits before those of files, up to the first that fails.
+pub(crate) fn open_names(
+    alloc: Global,
+    bundle: &Bundle,
+    state: &PublicState,
+    log: &IndexedLog<'_>,
+    sights: &[Sight],
+) -> Result<OwnersView, ClientFault>
+    requires owner { present state.now.keys.keys Owner ≡ 0 }
+    requires nameless { IsNameless state.now.tree }
+    ensures answer { (r : Reading) → IsReadingOf state.now log.now r → IsTree r.stand.store → AreSights r.stand.store (who_of bundle.now) sights.now →
+        AnswersBy (λ view o. IsNamedBy r.stand.store view o) result (spec.visit_all r (visits.visits_to_names r.stand.store (who_of bundle.now)) (opened_first bundle.now r)) }
+    ensures present { IfOk result (λ view. ArePresent state.now.keys.keys view.ring) }
+    ensures no_disk { result ≢ Err ClientFault.DiskFault }
+{
+    let visits = visits_to_names(alloc, viewer_of(bundle), sights)?;
+    let before = OwnersView {
+        ring: first_ring(alloc, bundle, state),
+        names: Names::new(alloc),
+    };
+    visit_each(alloc, state, log, visits.as_slice(), before)
+}
+
+/// A file with its name and its bytes.
+#[derive(Drop)]
+pub(crate) struct ReadFile {
+    pub(crate) row: FileRow,
+    pub(crate) name: Text,
+    pub(crate) bytes: Text,
+}
+
+#[tactic(auto, unfolding(role_graph::specs::Edges::file_edge, role_graph::specs::Edges::edge, role_graph::specs::Roles::files_of, role_graph::specs::Roles::file_role))]
+fn edge_into(row: &FileRow) -> Edge
+    ensures { result ≡ file_edge row.now.folder.0 row.now.id.0 }
+{
+    Edge {
+        kind: 9,
+        from: Role::Files(row.folder),
+        to: Role::File(row.id),
+    }
+}
+
+/// Opens the key of a file from the one of its folder's files, and then the file's text.
+fn read_file(
+    alloc: Global,
+    state: &PublicState,
+    log: &IndexedLog<'_>,
+    ring: &mut KeyRing,
+    row: &FileRow,
+) -> Result<ReadFile, ClientFault>
+    requires keys { ArePresent state.now.keys.keys ring.old }
+    ensures answer { (r : Reading) (o : Opened) → IsReadingOf state.now log.now r → HoldsKeys everyone ring.old o.keys →
+        AnswersBy (λ file behind. HoldsKeys everyone ring.new behind.keys × IsReadBy file o behind) result (spec.visit_all r (file_stops row.now) o) }
+    ensures row { IfOk result (λ file. file.row ≡ row.now) }
+    ensures keys { OnOk result (ArePresent state.now.keys.keys ring.new) }
+    ensures no_disk { result ≢ Err ClientFault.DiskFault }
+{
+    visit_link(state, log, ring, &edge_into(row))?;
+    let NamedBytes { name, bytes } = open_file(alloc, log, ring, row.id)?;
+    Ok(ReadFile {
+        row: *row,
+        name,
+        bytes,
+    })
+}
+
+fn keep(files: &mut Vec<ReadFile>, file: ReadFile) -> Mem<()>
+    ensures { OnOk result (files.new.items ≡ files.old.items ++ file ∷ []) }
+{
+    files.push(file)?;
+    Ok(())
+}
+
+/// Opens the files one after another, up to the first that fails.
+pub(crate) fn read_files(
+    alloc: Global,
+    state: &PublicState,
+    log: &IndexedLog<'_>,
+    ring: KeyRing,
+    rows: &[FileRow],
+) -> Result<Vec<ReadFile>, ClientFault>
+    requires keys { ArePresent state.now.keys.keys ring }
+    ensures answer { (r : Reading) (o : Opened) (bare : Store) (names : Titles) → IsReadingOf state.now log.now r → HoldsKeys everyone ring o.keys → HasNames bare names o.store →
+        AnswersBy (λ files behind. HasNames bare (with_read names files.items) behind.store) result (spec.visit_all r (flat_map file_stops rows.now) o) }
+    ensures rows { IfOk result (λ files. map (λ file. file.row) files.items ≡ rows.now) }
+    ensures no_disk { result ≢ Err ClientFault.DiskFault }
+{
+    let mut ring = ring;
+    let mut files = Vec::new(alloc);
+    for row in rows {
+        let file = read_file(alloc, state, log, &mut ring, row)?;
+        keep(&mut files, file)?;
+    }
+    Ok(files)
+}
