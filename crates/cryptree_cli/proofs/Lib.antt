@@ -1,5 +1,4 @@
 pub mod AnsweredScripts
-pub mod FirstLines
 pub mod InputLemmas
 pub mod LineLemmas
 pub mod LinesRun

@@ -1,4 +1,3 @@
-pub mod Heard
 pub mod Input
 pub mod KeyLine
 pub mod Lines

@@ -5,7 +5,6 @@ use Rattle.cryptree_cli.specs.declared.texts.TheConstants.{HELP, VERSION}
 use Rattle.cryptree_cli.specs.declared.words.Form.TheVariants.{Help, Version}
 use Rattle.cryptree_cli.specs.Top.{text_of, PrintsAll, PrintsFront}
 use Rattle.cryptree_cli.specs.Words.{form_of_words}
-use Rattle.cryptree_cli.proofs.ListingLemmas.{as_fresh}
 use Rattle.cryptree_cli.proofs.MakeLemmas.{done_or_no_memory}
 use Rattle.cryptree_cli.proofs.top.top.Goals as goal
 
@@ -44,8 +43,3 @@ returns-in-Some-Make-clause-complete g c = λ is blank x was enough random disk 
     (λ e. omega (arith, make.disk_fault e, disk))
     (λ e. omega (arith, make.write_fault e, out))
     (λ left need e. let short = make.short left need e in omega (arith, short.had x was, short.fewer, enough))
-
-pub returns-in-Some-List-clause-fresh_listed : goal.returns-in-Some-List-clause-fresh_listed
-returns-in-Some-List-clause-fresh_listed g c = λ is typed was image now drawn long hands same.
-    let written = g.W.Sink.written in
-    as_fresh c.list.result drawn typed image (written c.args.out.now) (written c.list.new.out) long hands same (c.list.ensures.lists typed was image now)
