@@ -22,9 +22,9 @@ use std::alloc::Global;
 /// published for the holder. Then come the visits: `Tampered` at the first byte of a record with a wrong tag, and `Damaged` at the
 /// first byte of a content whose text has another form. The first of these ends the call (docs/FORMAT.md, "Reading").
 pub fn view<D: Disk>(
-    _alloc: Global,
-    _disk: &mut D,
-    _bundle: &Bundle,
+    alloc: Global,
+    disk: &mut D,
+    bundle: &Bundle,
 ) -> Result<List<Line>, ClientFault>
     ensures verdict { WhereTold (D.shown disk.old) (λ s. AnswersAs plain_view result (shown_with bundle.now s)) }
     ensures seen { result ≢ Err ClientFault.Unseen }
@@ -42,10 +42,10 @@ pub fn view<D: Disk>(
 /// one is shown, so a bad one beside the path is told; where a folder has the path, or the path has another form than that of paths,
 /// no file is visited. `Unseen` comes exactly where these visits pass and no line has the path.
 pub fn open_path<D: Disk>(
-    _alloc: Global,
-    _disk: &mut D,
-    _bundle: &Bundle,
-    _path: &[u8],
+    alloc: Global,
+    disk: &mut D,
+    bundle: &Bundle,
+    path: &[u8],
 ) -> Result<Line, ClientFault>
     ensures verdict { WhereTold (D.shown disk.old) (λ s. AnswersAs plain_line result (line_shown bundle.now path.now s)) }
     ensures read_only { IsOnlyRead D.shown D.size_of D.may_leave disk.old disk.new }
