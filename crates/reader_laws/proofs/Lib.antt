@@ -1,0 +1,16 @@
+pub mod AtRecords
+pub mod Behind
+pub mod Checks
+pub mod Lines
+pub mod Openable
+pub mod Ordered
+pub mod Published
+pub mod Readable
+pub mod ReaderVisits
+pub mod Readers
+pub mod Rights
+pub mod Seen
+pub mod Shown
+pub mod ValidReaders
+pub mod Written
+pub mod WrongKeys

@@ -1,0 +1,340 @@
+-- A reader's visits come in an order in which each has its key.
+use Rattle.std.proofs.Common.{◌≡◌, ⊎_elim, inl, inr, ◌⊎◌, ℕ, suc, ◌<◌, ◌≤◌, Bool, true, false, ◌==◌, ◌&&◌, List, [], ◌∷◌, ◌++◌, map, filter, arith, refl, sym, ap, subst, ◌∙◌}
+use Rattle.std.specs.Prelude.{nat_lt, not}
+use Rattle.std.specs.List.{flat_map}
+use Rattle.std.proofs.lemmas.Bool.{and_from, and_parts, cases_Bool, eq-eqb, eqb-true, ltb-false, ltb-true, not-true, not_from_false, or_cases, or_parts}
+use Rattle.cry_base.specs.Sets.{In}
+use Rattle.cry_base.specs.Store.{Store, FolderEntry, FileEntry, GrantEntry}
+use Rattle.cry_base.specs.declared.roles.Edge.{Edge}
+use Rattle.cry_base.specs.declared.roles.Role.{Role}
+use Rattle.cry_base.specs.declared.roles.Role.TheVariants.{Owner}
+use Rattle.cry_base.proofs.Members.{In-append, In-filter, In-flat_map, In-map}
+use Rattle.holder_client.specs.Visits.{Visit, all_visits, allowed_visits, entry_edge, entry_visits, file_visits, files_that, folders_that, is_deeper, is_entry, is_higher, lower_visits, name_visits, upper_visit, upper_visits, visit_from, visits_to_names}
+use Rattle.holder_client.specs.Visits.Visit.{ToKey, ToName, ToFile}
+use Rattle.move_plan.specs.Change.{folder_of_file, parent_of_folder}
+use Rattle.role_graph.specs.Edges.{IsEdge, edge, file_edge, folder_edges, grant_edge, in_order, parent_edges}
+use Rattle.role_graph.specs.Rights.{Who, allowed_to, named_to}
+use Rattle.role_graph.specs.Rights.Who.{TheOwner, TheHolder}
+use Rattle.role_graph.specs.RightsByReach.{HasFolder}
+use Rattle.role_graph.specs.Roles.{back_of, clear_of, data_of, files_of, holder_role, sub_of}
+use Rattle.role_graph.proofs.Edging.{In-order}
+use Rattle.reader_laws.proofs.Ordered.{AreOrdered, CanVisit, OneLeadsTo, OpenBefore, order_sorted, ordered_both, ordered_each, ordered_in_order}
+use Rattle.reader_laws.proofs.Rights.{HasShape, IsUnder, depth, entry_granted, folder_told, over_named, parent_is, parent_stands, parent_told, passes, passing, under_allowed, under_what_stands}
+
+-- the key that a reader has at first
+abbrev pub first_role : Who → Role
+first_role TheOwner = Owner
+first_role (TheHolder h) = holder_role h
+
+abbrev pub AtFirst : Who → Role → Type 0
+AtFirst who role = role ≡ first_role who
+
+own_edge : (s : Store) (f : ℕ) (e : Edge) → HasFolder s f → In e (folder_edges f) → IsEdge s e
+own_edge s f e has i = inl (has.0, has.1, subst (λ n. In e (folder_edges n)) (sym has.2) i)
+
+-- a grant stands for a holder's entry
+entry_can : (s : Store) (who : Who) (f : ℕ) → HasFolder s f → is_entry s who f ≡ true → CanVisit s (AtFirst who) (ToKey (entry_edge who f))
+unfolding entry_edge grant_edge edge folder_edges
+entry_can s TheOwner f has t = (own_edge s f (edge 1 Owner (clear_of f)) has (inl refl), refl)
+entry_can s (TheHolder h) f has t =
+    let g : GrantEntry = record { holder = h; folder = f } in
+    (inr (inr (inl (g, entry_granted s h f t, refl))), refl)
+
+entry_to : (who : Who) (f : ℕ) → clear_of f ≡ (entry_edge who f).to
+unfolding entry_edge grant_edge edge
+entry_to TheOwner f = refl
+entry_to (TheHolder h) f = refl
+
+flat_one : (visit : ℕ → Visit) (fs : List ℕ) → flat_map (λ f. visit f ∷ []) fs ≡ map visit fs
+flat_one visit [] = refl
+flat_one visit (f ∷ fs) = ap (λ vs. visit f ∷ vs) (flat_one visit fs)
+
+-- ---- shallower folders first, deeper folders first
+
+higher_told : (s : Store) (a b : ℕ) → is_higher s a b ≡ true → depth s a ≤ depth s b
+unfolding is_higher
+higher_told s a b t =
+    let m = depth s a in
+    let n = depth s b in ⊎_elim
+    (λ u. let less : m < n = ltb-true m n u in omega (arith, less))
+    (λ u. let same : m ≡ n = eqb-true m n (and_parts (m == n) (nat_lt a b) u).0 in omega (arith, same))
+    (or_cases (nat_lt m n) ((m == n) && nat_lt a b) t)
+
+higher_other : (s : Store) (a b : ℕ) → is_higher s a b ≡ false → depth s b ≤ depth s a
+unfolding is_higher
+higher_other s a b t =
+    let m = depth s a in
+    let n = depth s b in
+    let no = ltb-false m n (or_parts (nat_lt m n) ((m == n) && nat_lt a b) t).0 in
+    omega (arith, no)
+
+deeper_told : (s : Store) (a b : ℕ) → is_deeper s a b ≡ true → depth s b ≤ depth s a
+unfolding is_deeper
+deeper_told s a b t =
+    let m = depth s a in
+    let n = depth s b in ⊎_elim
+    (λ u. let less : n < m = ltb-true n m u in omega (arith, less))
+    (λ u. let same : m ≡ n = eqb-true m n (and_parts (m == n) (nat_lt a b) u).0 in omega (arith, same))
+    (or_cases (nat_lt n m) ((m == n) && nat_lt a b) t)
+
+deeper_other : (s : Store) (a b : ℕ) → is_deeper s a b ≡ false → depth s a ≤ depth s b
+unfolding is_deeper
+deeper_other s a b t =
+    let m = depth s a in
+    let n = depth s b in
+    let no = ltb-false n m (or_parts (nat_lt n m) ((m == n) && nat_lt a b) t).0 in
+    omega (arith, no)
+
+-- each of these is a file that stands, in a folder that passes
+abbrev pub AreFilesIn : Store → Who → List ℕ → Type 0
+AreFilesIn s who xs = (x : ℕ) → In x xs → (e : FileEntry) × In e s.files × (e.id ≡ x) × (allowed_to s who e.folder ≡ true)
+
+module _ (s : Store) (who : Who) (shape : HasShape s) where
+  abbrev entries : List Visit
+  entries = entry_visits s who
+
+  abbrev lowers : List Visit
+  lowers = lower_visits s who
+
+  abbrev insides : List Visit
+  insides = allowed_visits s who
+
+  abbrev uppers : List Visit
+  uppers = upper_visits s who
+
+  -- what is open after the first parts
+  abbrev Entered : Role → Type 0
+  Entered role = AtFirst who role ⊎ OneLeadsTo entries role
+
+  abbrev Lowered : Role → Type 0
+  Lowered role = Entered role ⊎ OneLeadsTo lowers role
+
+  abbrev Inside : Role → Type 0
+  Inside role = Lowered role ⊎ OneLeadsTo insides role
+
+  abbrev Above : Role → Type 0
+  Above role = Inside role ⊎ OneLeadsTo uppers role
+
+  -- ---- entries
+
+  entries_ordered : AreOrdered s (AtFirst who) entries
+  unfolding entry_visits edge folder_edges
+  entries_ordered =
+      ordered_each s (AtFirst who) (λ f. ToKey (entry_edge who f) ∷ ToKey (edge 3 (clear_of f) (sub_of f)) ∷ []) (folders_that (is_entry s who) s) (λ f i.
+      let p = passing (is_entry s who) s f i in
+      (entry_can s who f p.0 p.1, ((own_edge s f (edge 3 (clear_of f) (sub_of f)) p.0 (inr (inl refl)), inr (entry_to who f)), tt)))
+
+  entry_sub : (f : ℕ) → HasFolder s f → is_entry s who f ≡ true → OneLeadsTo entries (sub_of f)
+  unfolding entry_visits edge
+  entry_sub f has t =
+      let e = edge 3 (clear_of f) (sub_of f) in (
+        e,
+        (In-flat_map ℕ Visit (λ f. ToKey (entry_edge who f) ∷ ToKey (edge 3 (clear_of f) (sub_of f)) ∷ []) (ToKey e) (folders_that (is_entry s who) s)).1
+            (f, passes (is_entry s who) s f has t, inr (inl refl)),
+        refl,
+      )
+
+  -- ---- folders below
+
+  abbrev is_lower : ℕ → Bool
+  is_lower f = allowed_to s who f && not (is_entry s who f)
+
+  abbrev lower_folders : List ℕ
+  lower_folders = in_order (is_higher s) (folders_that is_lower s)
+
+  abbrev lower_visit : ℕ → Visit
+  lower_visit f = ToKey (edge 6 (sub_of (parent_of_folder s f)) (sub_of f))
+
+  abbrev Higher : ℕ → ℕ → Type 0
+  Higher a b = depth s a < depth s b
+
+  is_lower_folder : (f : ℕ) → HasFolder s f → allowed_to s who f ≡ true → is_entry s who f ≡ false → In f lower_folders
+  is_lower_folder f has allowed other =
+      (In-order ℕ (is_higher s) f (folders_that is_lower s)).1
+      (passes is_lower s f has (and_from (allowed_to s who f) (not (is_entry s who f)) allowed (not_from_false (is_entry s who f) other)))
+
+  one_lower : (f : ℕ) → In f lower_folders → AreOrdered s (OpenBefore Higher Entered (λ f. lower_visit f ∷ []) lower_folders f) (lower_visit f ∷ [])
+  unfolding edge parent_edges
+  one_lower f i =
+      let p = passing is_lower s f ((In-order ℕ (is_higher s) f (folders_that is_lower s)).0 i) in
+      let both = and_parts (allowed_to s who f) (not (is_entry s who f)) p.1 in
+      let u = under_allowed s who f shape both.0 (not-true (is_entry s who f) both.1) in
+      let under : IsUnder s f = u.0 in
+      let parent : ℕ = under.entry.parent in
+      let above = parent_stands s f shape under in
+      let told : parent_of_folder s f ≡ parent = parent_told s f shape under in
+      let level : depth s f ≡ suc (depth s parent) = above.1 in
+      let is_open : OpenBefore Higher Entered (λ f. lower_visit f ∷ []) lower_folders f (sub_of parent) = ⊎_elim
+      (λ t. inl (inr (entry_sub parent above.0 t)))
+      (λ t. inr (parent, is_lower_folder parent above.0 u.1 t, omega (arith, level), (edge 6 (sub_of (parent_of_folder s parent)) (sub_of parent), inl refl, refl)))
+      (cases_Bool (is_entry s who parent)) in
+      ((inr (inl (under.entry, under.stands, under.has_parent, inl (λ j. edge 6 (sub_of (told j)) (sub_of (sym under.is j))))), subst (λ n. OpenBefore Higher Entered (λ f. lower_visit f ∷ []) lower_folders f (sub_of n)) (sym told) is_open), tt)
+
+  lowers_ordered : AreOrdered s Entered lowers
+  unfolding lower_visits
+  lowers_ordered =
+      subst (AreOrdered s Entered) (flat_one lower_visit lower_folders)
+      (ordered_in_order s Higher (λ a b. depth s a ≤ depth s b) (λ a b less more. absurd (omega (arith, less, more))) (λ a. omega arith) Entered (λ f. lower_visit f ∷ []) lower_folders one_lower
+      (order_sorted (is_higher s) (λ a b. depth s a ≤ depth s b) (λ a b c p q. omega (arith, p, q)) (higher_told s) (higher_other s) (folders_that is_lower s)))
+
+  sub_open : (f : ℕ) → HasFolder s f → allowed_to s who f ≡ true → Lowered (sub_of f)
+  unfolding lower_visits edge
+  sub_open f has allowed = ⊎_elim
+      (λ t. inl (inr (entry_sub f has t)))
+      (λ t. inr (edge 6 (sub_of (parent_of_folder s f)) (sub_of f), (In-map ℕ Visit lower_visit (lower_visit f) lower_folders).1 (f, is_lower_folder f has allowed t, refl), refl))
+      (cases_Bool (is_entry s who f))
+
+  -- ---- within allowed folders
+
+  insides_ordered : AreOrdered s Lowered insides
+  unfolding allowed_visits edge folder_edges
+  insides_ordered =
+      ordered_each s Lowered (λ f. ToKey (edge 4 (sub_of f) (back_of f)) ∷ ToKey (edge 5 (sub_of f) (files_of f)) ∷ []) (folders_that (allowed_to s who) s) (λ f i.
+      let p = passing (allowed_to s who) s f i in
+      let is_open = sub_open f p.0 p.1 in (
+        (own_edge s f (edge 4 (sub_of f) (back_of f)) p.0 (inr (inr (inl refl))), is_open),
+        ((own_edge s f (edge 5 (sub_of f) (files_of f)) p.0 (inr (inr (inr (inl refl)))), inl is_open), tt),
+      ))
+
+  inside_leads : (f : ℕ) → HasFolder s f → allowed_to s who f ≡ true → OneLeadsTo insides (back_of f) × OneLeadsTo insides (files_of f)
+  unfolding allowed_visits edge
+  inside_leads f has allowed =
+      let visits : ℕ → List Visit = λ f. ToKey (edge 4 (sub_of f) (back_of f)) ∷ ToKey (edge 5 (sub_of f) (files_of f)) ∷ [] in
+      let fs = folders_that (allowed_to s who) s in
+      let i = passes (allowed_to s who) s f has allowed in
+      let back = edge 4 (sub_of f) (back_of f) in
+      let files = edge 5 (sub_of f) (files_of f) in (
+        (back, (In-flat_map ℕ Visit visits (ToKey back) fs).1 (f, i, inl refl), refl),
+        (files, (In-flat_map ℕ Visit visits (ToKey files) fs).1 (f, i, inr (inl refl)), refl),
+      )
+
+  -- ---- folders above
+
+  abbrev is_upper : ℕ → Bool
+  is_upper f = named_to s who f && not (allowed_to s who f)
+
+  abbrev upper_folders : List ℕ
+  upper_folders = in_order (is_deeper s) (folders_that is_upper s)
+
+  abbrev is_child : ℕ → ℕ → Bool
+  is_child f c = named_to s who c && (parent_of_folder s c == f)
+
+  abbrev Deeper : ℕ → ℕ → Type 0
+  Deeper a b = depth s b < depth s a
+
+  is_upper_folder : (f : ℕ) → HasFolder s f → named_to s who f ≡ true → allowed_to s who f ≡ false → In f upper_folders
+  is_upper_folder f has named other =
+      (In-order ℕ (is_deeper s) f (folders_that is_upper s)).1
+      (passes is_upper s f has (and_from (named_to s who f) (not (allowed_to s who f)) named (not_from_false (allowed_to s who f) other)))
+
+  from_child : (f c : ℕ) (cs : List ℕ) → In c cs → OneLeadsTo (visit_from f cs) (back_of f)
+  unfolding visit_from edge
+  from_child f c [] i = absurd i
+  from_child f c (d ∷ ds) i = (edge 8 (back_of d) (back_of f), inl refl, refl)
+
+  over_leads : (f : ℕ) → named_to s who f ≡ true → allowed_to s who f ≡ false → OneLeadsTo (upper_visit s who f) (back_of f)
+  unfolding upper_visit
+  over_leads f named other =
+      let w = over_named s who f named other in
+      let child : FolderEntry = w.0 in
+      let parent : parent_of_folder s child.id ≡ f = parent_is s child child.id shape w.1 refl ∙ w.2 in
+      from_child f child.id (folders_that (is_child f) s)
+      (passes (is_child f) s child.id (child, w.1, refl) (and_from (named_to s who child.id) (parent_of_folder s child.id == f) w.3 (eq-eqb (parent_of_folder s child.id) f parent)))
+
+  from_children : (f : ℕ) → HasFolder s f → (cs : List ℕ) → ((c : ℕ) → In c cs → HasFolder s c × (is_child f c ≡ true)) → AreOrdered s (OpenBefore Deeper Inside (upper_visit s who) upper_folders f) (visit_from f cs)
+  unfolding visit_from edge parent_edges
+  from_children f has [] told = tt
+  from_children f has (c ∷ cs) told =
+      let first = told c (inl refl) in
+      let both = and_parts (named_to s who c) (parent_of_folder s c == f) first.1 in
+      let e : FolderEntry = first.0.0 in
+      let parent : e.parent ≡ f = sym (parent_is s e c shape first.0.1 first.0.2) ∙ eqb-true (parent_of_folder s c) f both.1 in
+      let under : IsUnder s c = record { entry = e; stands = first.0.1; is = first.0.2; has_parent = under_what_stands s e f shape parent has } in
+      let level : depth s c ≡ suc (depth s e.parent) = (parent_stands s c shape under).1 in
+      let here : depth s e.parent ≡ depth s f = ap (depth s) parent in
+      let is_open : OpenBefore Deeper Inside (upper_visit s who) upper_folders f (back_of c) = ⊎_elim
+      (λ t. inl (inr (inside_leads c first.0 t).0))
+      (λ t. inr (c, is_upper_folder c first.0 both.0 t, omega (arith, level, here), over_leads c both.0 t))
+      (cases_Bool (allowed_to s who c)) in
+      ((inr (inl (e, first.0.1, under.has_parent, inr (inl (λ j. edge 8 (back_of (sym first.0.2 j)) (back_of (sym parent j)))))), is_open), tt)
+
+  one_upper : (f : ℕ) → In f upper_folders → AreOrdered s (OpenBefore Deeper Inside (upper_visit s who) upper_folders f) (upper_visit s who f)
+  unfolding upper_visit
+  one_upper f i =
+      let p = passing is_upper s f ((In-order ℕ (is_deeper s) f (folders_that is_upper s)).0 i) in
+      from_children f p.0 (folders_that (is_child f) s) (λ c j. passing (is_child f) s c j)
+
+  uppers_ordered : AreOrdered s Inside uppers
+  unfolding upper_visits
+  uppers_ordered =
+      ordered_in_order s Deeper (λ a b. depth s b ≤ depth s a) (λ a b less more. absurd (omega (arith, less, more))) (λ a. omega arith) Inside (upper_visit s who) upper_folders one_upper
+      (order_sorted (is_deeper s) (λ a b. depth s b ≤ depth s a) (λ a b c p q. omega (arith, p, q)) (deeper_told s) (deeper_other s) (folders_that is_upper s))
+
+  back_open : (f : ℕ) → HasFolder s f → named_to s who f ≡ true → Above (back_of f)
+  unfolding upper_visits
+  back_open f has named = ⊎_elim
+      (λ t. inl (inr (inside_leads f has t).0))
+      (λ t.
+      let w = over_leads f named t in
+      inr (w.0, (In-flat_map ℕ Visit (upper_visit s who) (ToKey w.0) upper_folders).1 (f, is_upper_folder f has named t, w.1), w.2))
+      (cases_Bool (allowed_to s who f))
+
+  -- ---- names and files
+
+  titles_ordered : AreOrdered s Above (name_visits s who)
+  unfolding name_visits edge folder_edges
+  titles_ordered =
+      ordered_each s Above (λ f. ToKey (edge 7 (back_of f) (data_of f)) ∷ ToName f ∷ []) (folders_that (named_to s who) s) (λ f i.
+      let p = passing (named_to s who) s f i in
+      ((own_edge s f (edge 7 (back_of f) (data_of f)) p.0 (inr (inr (inr (inr (inl refl))))), back_open f p.0 p.1), ((p.0, inr refl), tt)))
+
+  -- the visits to names
+  pub names_ordered : AreOrdered s (AtFirst who) (visits_to_names s who)
+  unfolding visits_to_names
+  names_ordered =
+      let N = name_visits s who in
+      ordered_both s (AtFirst who) entries (lowers ++ (insides ++ (uppers ++ N))) entries_ordered
+      (ordered_both s Entered lowers (insides ++ (uppers ++ N)) lowers_ordered
+      (ordered_both s Lowered insides (uppers ++ N) insides_ordered
+      (ordered_both s Inside uppers N uppers_ordered titles_ordered)))
+
+  -- what they open
+  abbrev pub Named : Role → Type 0
+  Named role = AtFirst who role ⊎ OneLeadsTo (visits_to_names s who) role
+
+  files_open : (f : ℕ) → HasFolder s f → allowed_to s who f ≡ true → Named (files_of f)
+  unfolding visits_to_names
+  files_open f has allowed =
+      let w = (inside_leads f has allowed).1 in
+      let v : Visit = ToKey w.0 in
+      let N = name_visits s who in
+      let i = (In-append Visit v insides (uppers ++ N)).1 (inl w.1) in
+      let j = (In-append Visit v lowers (insides ++ (uppers ++ N))).1 (inr i) in
+      inr (w.0, (In-append Visit v entries (lowers ++ (insides ++ (uppers ++ N)))).1 (inr j), w.2)
+
+  -- the visits to allowed files behind them
+  pub files_ordered : (xs : List ℕ) → AreFilesIn s who xs → AreOrdered s Named (file_visits s xs)
+  unfolding file_visits file_edge edge
+  files_ordered xs are =
+      ordered_each s Named (λ x. ToKey (file_edge (folder_of_file s x) x) ∷ ToFile x ∷ []) xs (λ x i.
+      let w = are x i in
+      let e : FileEntry = w.0 in
+      let told : folder_of_file s x ≡ e.folder = folder_told s e x shape w.1 w.2 in
+      let is_open : Named (files_of (folder_of_file s x)) = subst (λ n. Named (files_of n)) (sym told) (files_open e.folder (shape.file_folder e w.1) w.3) in
+      ((inr (inr (inr (e, w.1, (λ j. file_edge (told j) (sym w.2 j))))), is_open), (((e, w.1, w.2), inr refl), tt)))
+
+  allowed_files : AreFilesIn s who (files_that (λ e. allowed_to s who e.folder) s)
+  unfolding files_that
+  allowed_files x i =
+      let test : FileEntry → Bool = λ e. allowed_to s who e.folder in
+      let ids = map (λ (e : FileEntry). e.id) (filter test s.files) in
+      let w = (In-map FileEntry ℕ (λ e. e.id) x (filter test s.files)).0 ((In-order ℕ nat_lt x ids).0 i) in
+      let told = In-filter FileEntry test w.0 s.files w.1 in
+      (w.0, told.0, sym w.2, told.1)
+
+  -- all visits
+  pub all_ordered : AreOrdered s (AtFirst who) (all_visits s who)
+  unfolding all_visits
+  all_ordered =
+      let xs = files_that (λ e. allowed_to s who e.folder) s in
+      ordered_both s (AtFirst who) (visits_to_names s who) (file_visits s xs) names_ordered (files_ordered xs allowed_files)

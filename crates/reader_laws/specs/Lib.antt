@@ -1,0 +1,3 @@
+pub mod Failing
+pub mod Readers
+pub mod Reading
