@@ -1,13 +1,13 @@
 -- What a reader's input hands in, line by line.
-use Rattle.std.proofs.Common.{◌≡◌, ◌≢◌, ℕ, ◌+◌, ◌≤◌, List, [], ◌∷◌, ◌++◌, length, Option, None, Some, Ok, Err, inl, inr, append_assoc, arith, refl, sym, ap, subst, ◌∙◌, length-append}
+use Rattle.std.proofs.Common.{◌≡◌, ◌≢◌, ℕ, ◌+◌, List, [], ◌∷◌, ◌++◌, Option, None, Some, Ok, Err, inl, inr, append_assoc, arith, refl, sym, ap, subst, ◌∙◌, length-append}
 use Rattle.std.specs.Prelude.{is_some, ok_or}
 use Rattle.std.proofs.lemmas.List.{append-nil}
 use Rattle.std.proofs.lemmas.List.Elements.{All-nil}
 use Rattle.cry_base.specs.Listed.{Listed}
 use Rattle.cry_base.specs.declared.client.Bundle.{Bundle}
 use Rattle.script_text.specs.Reading.{bundle_of}
-use Rattle.cryptree_cli.specs.Input.{IsBehindBundle, IsUnjudged, ReadsInput, TakesLines, alone, bundle_before, bundle_in, input_answer}
-use Rattle.cryptree_cli.specs.Lines.{AreOfLines, Gives, InputLine, IsCutOff, IsOneLine, IsUnended, LineState, Takes, bytes_ahead, input_limit, lines_ahead, lines_of}
+use Rattle.cryptree_cli.specs.Input.{IsBehindBundle, ReadsInput, TakesLines, bundle_before, bundle_in, input_answer}
+use Rattle.cryptree_cli.specs.Lines.{Gives, InputLine, IsCutOff, IsOneLine, IsUnended, LineState, Takes, bytes_ahead, input_limit, lines_ahead}
 use Rattle.cryptree_cli.specs.Lines.InputLine.{Whole, TooLong}
 use Rattle.cryptree_cli.specs.declared.lines.Next.{Next}
 use Rattle.cryptree_cli.specs.declared.lines.Next.TheVariants.{Line, End, PastLimit}

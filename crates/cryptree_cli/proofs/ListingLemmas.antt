@@ -1,9 +1,8 @@
 -- How a view is printed line by line, and how `list` and `open` end.
 use Rattle.std.proofs.Common.{inl, inr, refl, ◌≡◌, ◌<◌, ◌+◌, ◌⊎◌, ℕ, List, [], ◌∷◌, ◌++◌, map, drop, length, get_or, append_assoc, arith, Option, Result, Ok, Err, codes, true, false, sym, ap, ◌∙◌, subst}
-use Rattle.std.specs.Prelude.{IsOk, IsTrue, is_ok, is_some}
+use Rattle.std.specs.Prelude.{IsTrue, is_ok, is_some}
 use Rattle.std.proofs.lemmas.Bool.{false≢true}
 use Rattle.std.proofs.lemmas.List.{append-nil, drop_more}
-use Rattle.cry_base.specs.Listed.{Listed}
 use Rattle.cry_base.specs.Texts.{hex_of, ended_lines}
 use Rattle.cry_base.specs.declared.client.Bundle.{Bundle}
 use Rattle.cry_base.specs.declared.client.Line.{Line}

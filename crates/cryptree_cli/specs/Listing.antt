@@ -3,7 +3,7 @@ use Rattle.std.specs.Prelude.{◌≡◌, ℕ, Bool, true, false, List, [], ◌�
 use Rattle.cry_base.specs.Listed.{Listed}
 use Rattle.cry_base.specs.declared.client.Bundle.{Bundle}
 use Rattle.cry_io.specs.Told.{WhereTold, WhereBothTold}
-use Rattle.commit_journal.specs.Answering.{Fault, NotAStore, WrongKey, Damaged, Tampered}
+use Rattle.commit_journal.specs.Answering.{NotAStore, WrongKey, Damaged, Tampered}
 use Rattle.commit_journal.specs.Reading.{IsOnlyRead}
 use Rattle.holder_client.specs.declared.fault.ClientFault.{ClientFault}
 use Rattle.holder_client.specs.declared.fault.ClientFault.TheVariants as clients

@@ -2,6 +2,7 @@
 ghost use Rattle.std.specs.Prelude.{◌≡◌, ◌≢◌, ◌<◌, ◌≤◌, ◌⊎◌, ◌↔◌, ℕ, [], length, is_some, None, IsTrue, IsSome};
 ghost use Rattle.cry_io.specs.Stops.{IsDurable};
 ghost use Rattle.cry_io.specs.Told.{WhereTold, WhereBothTold};
+ghost use Rattle.cryptree_cli.specs.Journals.{AnswersJournal, line_of, view_of};
 ghost use Rattle.cryptree_cli.specs.Listing.{Reads, is_before_read, is_list_answer, is_open_answer, list_answer, open_answer};
 ghost use Rattle.cryptree_cli.specs.Refusing.{Refuses, is_refusal};
 ghost use Rattle.cryptree_cli.specs.Running.{EndsTyped, FirstIsBad, HasBadLine, JudgesTyped, RanDry, RanLines, ReadsWholeTyped, is_after_opening, is_before_opening, is_run_answer, key_in_lines, lines_in, lines_typed};
@@ -25,8 +26,8 @@ use std::alloc::Global;
 /// the store's file, `random` a source of random bytes, `out` standard output, `input` standard input.
 ///
 /// Where two causes of an answer hold, the one met first is given; for `make`: words, size, memory, draw, disk, output; for
-/// `run`: words, the first line, the store, and then for each line its form, memory, draw, disk, output. Want of memory comes
-/// at its place in this order, and no clause says when.
+/// `run`: words, the first line, the store, and then for each line its form, memory, draw, disk, output; for `list` and `open`:
+/// words, the input, the store, output. Want of memory comes at its place in this order, and no clause says when.
 pub fn top<S: Source, R: Source, D: Disk, W: Sink>(
     alloc: Global,
     words: &List<Text>,
@@ -96,6 +97,12 @@ pub fn top<S: Source, R: Source, D: Disk, W: Sink>(
     ensures opened { IsOpen words.now.items → Reads (open_answer (path_in_words words.now.items)) D.shown D.size_of D.may_leave result
         (S.left input.old) (S.left input.new) disk.old disk.new (W.written out.old) (W.written out.new) }
     ensures readers_draw_none { IsReader words.now.items → random.new ≡ random.old }
+
+    // On a disk that shows a journal they answer what its store shows: to a reader whose key is right, and another key is told so.
+    ensures listed_journal { IsList words.now.items → WhereTold (S.left input.old) (λ typed. WhereTold (D.shown disk.old) (λ image.
+        AnswersJournal view_of result typed image (W.written out.old) (W.written out.new))) }
+    ensures opened_journal { IsOpen words.now.items → WhereTold (S.left input.old) (λ typed. WhereTold (D.shown disk.old) (λ image.
+        AnswersJournal (line_of (path_in_words words.now.items)) result typed image (W.written out.old) (W.written out.new))) }
 
     // What the texts do: nothing but print.
     ensures text { WhereTold (text_of (form_of_words words.now.items)) (λ text.
