@@ -1,5 +1,5 @@
 -- What a reader's input hands in, line by line.
-use Rattle.std.proofs.Common.{◌≡◌, ◌≢◌, ℕ, ◌+◌, List, [], ◌∷◌, ◌++◌, Option, None, Some, Ok, Err, inl, inr, append_assoc, arith, refl, sym, ap, subst, ◌∙◌, length-append}
+use Rattle.std.proofs.Common.{◌≡◌, ◌≢◌, ℕ, List, [], ◌∷◌, ◌++◌, Option, None, Some, Ok, Err, inl, inr, append_assoc, arith, refl, sym, ap, subst, ◌∙◌, length-append}
 use Rattle.std.specs.Prelude.{is_some, ok_or}
 use Rattle.std.proofs.lemmas.List.{append-nil}
 use Rattle.std.proofs.lemmas.List.Elements.{All-nil}

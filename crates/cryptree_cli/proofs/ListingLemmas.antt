@@ -1,5 +1,5 @@
 -- How a view is printed line by line, and how `list` and `open` end.
-use Rattle.std.proofs.Common.{inl, inr, refl, ◌≡◌, ◌<◌, ◌+◌, ◌⊎◌, ℕ, List, [], ◌∷◌, ◌++◌, map, drop, length, get_or, append_assoc, arith, Option, Result, Ok, Err, codes, true, false, sym, ap, ◌∙◌, subst}
+use Rattle.std.proofs.Common.{inl, inr, refl, ◌≡◌, ◌<◌, ◌+◌, ◌⊎◌, ℕ, List, [], ◌∷◌, ◌++◌, map, drop, length, get_or, append_assoc, arith, Option, Result, Ok, Err, codes, sym, ap, ◌∙◌, subst}
 use Rattle.std.specs.Prelude.{IsTrue, is_ok, is_some}
 use Rattle.std.proofs.lemmas.Bool.{false≢true}
 use Rattle.std.proofs.lemmas.List.{append-nil, drop_more}
