@@ -43,7 +43,7 @@ fn words_given(rt: &HostRuntime) -> Mem<List<Text>> {
 fn run(rt: &HostRuntime, words: &List<Text>) -> Status {
     // No file is touched where the words are of no form.
     let (store, random) = match (form_of(words).and_then(Access::of), words.as_slice()) {
-        (Some(access), [store, random, _]) => (
+        (Some(access), [store, random, ..]) => (
             open_store(rt, store.as_slice(), access),
             Random::open(rt, random.as_slice()),
         ),

@@ -1,6 +1,6 @@
 pub mod AnsweredScripts
-pub mod FirstLines
 pub mod InputLemmas
+pub mod JournalAnswers
 pub mod LineLemmas
 pub mod LinesRun
 pub mod ListingLemmas

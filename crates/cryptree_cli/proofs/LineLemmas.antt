@@ -1,11 +1,9 @@
 -- The lines of bytes that are cut at a newline, or go past the limit.
-use Rattle.std.proofs.Common.{◌≡◌, ◌≢◌, ℕ, zero, suc, ◌+◌, ◌-◌, ◌<◌, ◌≤◌, true, false, cond, List, [], ◌∷◌, ◌++◌, length, take, drop, append_assoc, arith, refl, sym, ap, subst, ◌∙◌, length-append}
+use Rattle.std.proofs.Common.{◌≡◌, ◌≢◌, inl, inr, length-drop, ℕ, zero, suc, ◌+◌, ◌-◌, ◌<◌, ◌≤◌, true, false, cond, List, [], ◌∷◌, ◌++◌, length, take, drop, append_assoc, arith, refl, sym, ap, subst, ◌∙◌, length-append}
 use Rattle.std.proofs.lemmas.Bool.Decides.{nat_tests}
 use Rattle.std.proofs.lemmas.List.{append-nil, length-take-le}
 use Rattle.std.proofs.lemmas.List.Elements.{All-head, All-tail, All-append}
-use Rattle.cryptree_cli.specs.Heard.{IsOneLine}
-use Rattle.cryptree_cli.specs.Input.{is_newline}
-use Rattle.cryptree_cli.specs.Lines.{InputLine, LineState, Gives, GivesFrom, Numbers, Within, IsLine, IsUnended, begun_with, lines_of, bytes_ahead, lines_ahead}
+use Rattle.cryptree_cli.specs.Lines.{InputLine, IsCutOff, IsOneLine, LineState, Takes, TakesOff, is_newline, read_ahead, Gives, GivesFrom, Numbers, Within, IsLine, IsUnended, begun_with, lines_of, bytes_ahead, lines_ahead}
 use Rattle.cryptree_cli.specs.declared.lines.Next.{Next}
 use Rattle.cryptree_cli.specs.declared.lines.Next.TheVariants.{Line, End, PastLimit}
 use Rattle.cryptree_cli.specs.Lines.InputLine.{Whole, TooLong}
@@ -80,8 +78,8 @@ cut_held line piece front behind left is =
 
 -- a newline behind the limit
 pub past_at_newline : (s : LineState) (place : ℕ) → IsOneLine s.line → IsOneLine (take place s.piece) → place < length s.piece
-    → s.piece ≡ take place s.piece ++ 10 ∷ drop (place + 1) s.piece → s.room ≤ length s.line + place → GivesFrom (PastLimit (s.given + 1)) s s
-past_at_newline s place one first within ends full =
+    → s.piece ≡ take place s.piece ++ 10 ∷ drop (place + 1) s.piece → s.room ≤ length s.line + place → length s.piece ≤ read_ahead → GivesFrom (PastLimit (s.given + 1)) s s
+past_at_newline s place one first within ends full few =
     let front : List ℕ = take place s.piece in
     let behind : List ℕ = drop (place + 1) s.piece in
     let long : s.room ≤ length (s.line ++ front) = omega (arith, full, length-append s.line front, length-take-le place s.piece (omega (arith, within))) in
@@ -91,31 +89,35 @@ past_at_newline s place one first within ends full =
             ∙ full_lines s.room (s.line ++ front) 10 (behind ++ left) (All-append Other s.line front one first) long,
         refl,
       );
+      takes = λ left. record { same = refl; one = one; few = few };
       number = (refl, refl);
       room = refl;
     }
 
 -- bytes without a newline that go past the limit
-pub past_without_newline : (s : LineState) → IsOneLine s.line → IsOneLine s.piece → s.room < length s.line + length s.piece → GivesFrom (PastLimit (s.given + 1)) s s
-past_without_newline s one piece full = record {
+pub past_without_newline : (s : LineState) → IsOneLine s.line → IsOneLine s.piece → s.room < length s.line + length s.piece → length s.piece ≤ read_ahead → GivesFrom (PastLimit (s.given + 1)) s s
+past_without_newline s one piece full few = record {
   gives = λ left. (
     ap (lines_of s.room) (sym (append_assoc s.line s.piece left))
         ∙ long_lines s.room (s.line ++ s.piece) left (All-append Other s.line s.piece one piece) (omega (arith, full, length-append s.line s.piece)),
     refl,
   );
+  takes = λ left. record { same = refl; one = one; few = few };
   number = (refl, refl);
   room = refl;
 }
 
 given_line : (s new : LineState) (next : Next) (line : List ℕ) → IsLine next (s.given + 1) line → new.given ≡ s.given + 1 → length line + new.room ≤ s.room → new.room < s.room
-    → ((left : List ℕ) → lines_ahead s left ≡ Whole line ∷ lines_ahead new left) → GivesFrom next s new
-given_line s new (Line number bytes) line is given room less lines = record {
+    → ((left : List ℕ) → lines_ahead s left ≡ Whole line ∷ lines_ahead new left)
+    → ((left : List ℕ) → TakesOff line s new (bytes_ahead s left) (bytes_ahead new left)) → GivesFrom next s new
+given_line s new (Line number bytes) line is given room less lines takes = record {
   gives = λ left. lines left ∙ ap (λ b. Whole b ∷ lines_ahead new left) (sym is.1);
+  takes = λ left. subst (λ l. TakesOff l s new (bytes_ahead s left) (bytes_ahead new left)) (sym is.1) (takes left);
   number = (is.0, given ∙ sym is.0);
   room = (rw is.1 room, less);
 }
-given_line s new End line is given room less lines = absurd is
-given_line s new (PastLimit number) line is given room less lines = absurd is
+given_line s new End line is given room less lines takes = absurd is
+given_line s new (PastLimit number) line is given room less lines takes = absurd is
 
 pub same_state : (line bytes piece other : List ℕ) (room same given too : ℕ) → line ≡ bytes → piece ≡ other → room ≡ same → given ≡ too
     → ◌≡◌ {A = LineState} (record { line = line; piece = piece; room = room; given = given }) (record { line = bytes; piece = other; room = same; given = too })
@@ -134,8 +136,8 @@ pub line_at_newline : (s new : LineState) (next : Next) (place : ℕ) (line piec
     → IsOneLine s.line → IsOneLine (take place s.piece) → place < length s.piece
     → s.piece ≡ take place s.piece ++ 10 ∷ drop (place + 1) s.piece → s.room ≡ room + (length s.line + (place + 1))
     → line ≡ s.line ++ take place s.piece → piece ≡ drop (place + 1) s.piece → given ≡ s.given
-    → IsLine next (given + 1) line → new ≡ record { line = []; piece = piece; room = room; given = given + 1 } → GivesFrom next s new
-line_at_newline s new next place line piece room given one first within ends is_room is_line is_piece is_given is new_is =
+    → IsLine next (given + 1) line → new ≡ record { line = []; piece = piece; room = room; given = given + 1 } → length s.piece ≤ read_ahead → GivesFrom next s new
+line_at_newline s new next place line piece room given one first within ends is_room is_line is_piece is_given is new_is few =
     let front : List ℕ = take place s.piece in
     let behind : List ℕ = drop (place + 1) s.piece in
     let len : length (s.line ++ front) ≡ length s.line + place = length-append s.line front ∙ ap (λ n. length s.line + n) (length-take-le place s.piece (omega (arith, within))) in
@@ -144,7 +146,13 @@ line_at_newline s new next place line piece room given one first within ends is_
     let is_next : IsLine next (s.given + 1) (s.line ++ front) = same_line next (given + 1) (s.given + 1) line (s.line ++ front) (omega (arith, is_given)) is_line is in
     subst (λ x. GivesFrom next s x) (sym end_is) (given_line s end next (s.line ++ front) is_next refl (omega (arith, len, is_room)) (omega (arith, is_room)) (λ left.
     ap (lines_of s.room) (cut_held s.line s.piece front behind left ends)
-    ∙ cut_lines s.room (s.line ++ front) (behind ++ left) room (All-append Other s.line front one first) (omega (arith, len, is_room))))
+    ∙ cut_lines s.room (s.line ++ front) (behind ++ left) room (All-append Other s.line front one first) (omega (arith, len, is_room)))
+    (λ left. record {
+      one = All-append Other s.line front one first;
+      begins = refl;
+      few = omega (arith, few, length-drop (place + 1) s.piece);
+      cut = inl (cut_held s.line s.piece front behind left ends, omega (arith, len, is_room));
+    }))
 
 -- the piece is kept behind the line
 pub piece_kept : (s new : LineState) → IsOneLine s.line → IsOneLine s.piece → length s.line + length s.piece ≤ s.room
@@ -159,11 +167,17 @@ piece_kept s new one piece within is =
     subst (λ x. IsUnended x) (sym is) unended
 
 -- a line that ends with the input
+no_bytes_ahead : (s : LineState) → s.piece ≡ [] → s.line ≡ [] → bytes_ahead s [] ≡ []
+no_bytes_ahead s piece line = ap (λ l. l ++ (s.piece ++ [])) line ∙ ap (λ p. p ++ []) piece
+
 nothing_ahead : (s : LineState) → s.piece ≡ [] → s.line ≡ [] → lines_ahead s [] ≡ []
 nothing_ahead s piece line = ap (λ l. lines_of s.room (l ++ (s.piece ++ []))) line ∙ ap (λ p. lines_of s.room (p ++ [])) piece ∙ no_lines s.room
 
 pub ends_without_line : (s : LineState) → IsUnended s → s.line ≡ [] → Gives End (lines_ahead s []) (lines_ahead s [])
 ends_without_line s unended none = (nothing_ahead s unended.all none, nothing_ahead s unended.all none)
+
+pub takes_no_line : (s : LineState) → IsUnended s → s.line ≡ [] → Takes End s s (bytes_ahead s []) (bytes_ahead s [])
+takes_no_line s unended none = (no_bytes_ahead s unended.all none, no_bytes_ahead s unended.all none)
 
 pub lines_of_whole : (room : ℕ) (line : List ℕ) → IsOneLine line → 1 ≤ length line → length line ≤ room → lines_of room line ≡ Whole line ∷ []
 lines_of_whole room [] one some within = absurd (omega (arith, some))
@@ -172,6 +186,7 @@ lines_of_whole room (byte ∷ line) one some within = last_lines room byte line 
 -- what is given of a source that ended
 pub record GivesLast (next : Next) (old new : LineState) : Type 0 where
   pub gives : Gives next (lines_ahead old []) (lines_ahead new [])
+  pub takes : Takes next old new (bytes_ahead old []) (bytes_ahead new [])
   pub number : Numbers next old.given new.given
   pub room : Within next old.room new.room
 
@@ -183,9 +198,17 @@ line_at_end s new (Line number bytes) unended some is new_is =
     ∙ lines_of_whole s.room s.line unended.one some unended.within
     in
     let none : lines_ahead new [] ≡ [] = nothing_ahead new (ap (λ x. x.piece) new_is ∙ unended.all) (ap (λ x. x.line) new_is) in
+    let whole : bytes_ahead s [] ≡ s.line = ap (λ p. s.line ++ (p ++ [])) unended.all ∙ append-nil s.line in
+    let no_piece_left : new.piece ≡ [] = ap (λ x. x.piece) new_is ∙ unended.all in
     let left : new.room ≡ s.room - length s.line = ap (λ x. x.room) new_is in
     record {
       gives = lines ∙ ap (λ b. Whole b ∷ []) (sym is.1) ∙ ap (λ ls. Whole bytes.items ∷ ls) (sym none);
+      takes = subst (λ l. TakesOff l s new (bytes_ahead s []) (bytes_ahead new [])) (sym is.1) (record {
+        one = unended.one;
+        begins = ap (λ x. x.line) new_is;
+        few = omega (arith, ap length no_piece_left);
+        cut = inr (whole, no_bytes_ahead new no_piece_left (ap (λ x. x.line) new_is), unended.within);
+      });
       number = (is.0, ap (λ x. x.given) new_is ∙ sym is.0);
       room = (omega (arith, ap length is.1, left, unended.within), omega (arith, left, some, unended.within));
     }
@@ -235,3 +258,14 @@ nothing_read (byte ∷ piece) m y none gone is = absurd (omega (arith, none))
 pub no_piece : (piece : List ℕ) → length piece ≡ 0 → piece ≡ []
 no_piece [] none = refl
 no_piece (byte ∷ piece) none = absurd (omega (arith, none))
+
+-- of the state before, the room alone matters to what is taken
+pub takes_same_room : (next : Next) (old other new : LineState) (before after : List ℕ) → old.room ≡ other.room → Takes next old new before after → Takes next other new before after
+takes_same_room (Line number bytes) old other new before after same takes = record {
+  one = takes.one;
+  begins = takes.begins;
+  few = takes.few;
+  cut = subst (λ room. IsCutOff bytes.items room new.room before after) same takes.cut;
+}
+takes_same_room End old other new before after same takes = takes
+takes_same_room (PastLimit number) old other new before after same takes = takes

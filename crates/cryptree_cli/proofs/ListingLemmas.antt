@@ -1,27 +1,31 @@
--- How a view is printed line by line, and what `list` answers.
-use Rattle.std.proofs.Common.{◌≡◌, ◌<◌, ◌+◌, ℕ, List, [], ◌∷◌, ◌++◌, map, drop, length, get_or, append_assoc, Option, Ok, Err, codes, true, false, sym, ap, ◌∙◌, subst}
-use Rattle.std.specs.Prelude.{IsTrue}
-use Rattle.std.proofs.lemmas.List.{drop_more}
+-- How a view is printed line by line, and how `list` and `open` end.
+use Rattle.std.proofs.Common.{inl, inr, refl, ◌≡◌, ◌<◌, ◌+◌, ◌⊎◌, ℕ, List, [], ◌∷◌, ◌++◌, map, drop, length, get_or, append_assoc, arith, Option, Result, Ok, Err, codes, sym, ap, ◌∙◌, subst}
+use Rattle.std.specs.Prelude.{IsTrue, is_ok, is_some}
+use Rattle.std.proofs.lemmas.Bool.{false≢true}
+use Rattle.std.proofs.lemmas.List.{append-nil, drop_more}
+use Rattle.cry_base.specs.Texts.{hex_of, ended_lines}
+use Rattle.cry_base.specs.declared.client.Bundle.{Bundle}
 use Rattle.cry_base.specs.declared.client.Line.{Line}
 use Rattle.cry_base.specs.declared.client.Line.TheVariants as lines
-use Rattle.key_links.specs.Fresh.{piece, fresh_image}
+use Rattle.cry_io.proofs.ToldLemmas.{told_again}
+use Rattle.cry_io.specs.Told.{WhereTold, WhereBothTold}
+use Rattle.commit_journal.specs.Reading.{IsOnlyRead}
 use Rattle.script_text.specs.Printing.{path_line, file_line}
 use Rattle.script_text.specs.Printing as printing
-use Rattle.cry_base.specs.Store.{root_store}
-use Rattle.cry_base.specs.Texts.{hex_of, ended_lines}
-use Rattle.role_graph.specs.Rights.Who.{TheOwner}
-use Rattle.holder_client.specs.View.{spell_line, spell_view, view}
-use Rattle.holder_client.specs.View as model
-use Rattle.holder_client.specs.Answering.{IsFault}
+use Rattle.holder_client.specs.Answering.{IsFailure}
 use Rattle.holder_client.specs.declared.fault.ClientFault.{ClientFault}
 use Rattle.holder_client.specs.declared.fault.ClientFault.TheVariants as clients
+use Rattle.holder_client.specs.Judging.{Failure}
 use Rattle.holder_client.specs.Lines.{plain_line}
-use Rattle.holder_client.specs.Verdict.{view_verdict}
-use Rattle.holder_client.proofs.FreshShown.{fresh_shown}
+use Rattle.holder_client.specs.View as model
+use Rattle.holder_client.specs.View.{spell_line, spell_view}
+use Rattle.cryptree_cli.specs.declared.input.InputFault.{InputFault}
+use Rattle.cryptree_cli.specs.declared.input.InputFault.TheVariants.{BadLine, Failed, OutOfMemory}
 use Rattle.cryptree_cli.specs.declared.status.Status.{Status}
 use Rattle.cryptree_cli.specs.declared.status.Status.TheVariants as statuses
-use Rattle.cryptree_cli.specs.Input.{input_answer}
-use Rattle.cryptree_cli.specs.Listing.{Hands, ListsAs, answer_of, is_before_read, list_answer, owner_in, view_answer, view_status}
+use Rattle.cryptree_cli.specs.Input.{ReadsInput, TakesLines, input_answer}
+use Rattle.cryptree_cli.specs.Listing.{AnswersAs, GivesText, InputDecides, Reads, TakesInput, answer_for, client_status, input_status, is_store_answer, line_answer, view_answer}
+use Rattle.cryptree_cli.specs.Top.{PrintsAll, PrintsFront}
 
 -- the end of a line may be counted to the line, or to what follows
 ended : (word path rest : List ℕ) → (word ++ (path ++ 10 ∷ [])) ++ rest ≡ (word ++ path) ++ 10 ∷ rest
@@ -52,49 +56,180 @@ printed_more text whole items i line within is before =
     ∙ ap (λ ls. text ++ spell_view (map plain_line ls)) (sym split)
     ∙ before
 
--- what is answered before the store is read is what was wanted
-pub as_input : (status : Status) (input image : List ℕ) (before after : Option (List ℕ)) → IsTrue (is_before_read status) →
-    Hands (Err status) (owner_in (input_answer input)) → ListsAs status (list_answer input image) before after
-unfolding list_answer
-as_input (statuses.BadScript line) input image before after early hands = ap (λ owner. answer_of owner image) hands
-as_input statuses.ReadFault input image before after early hands = tt
-as_input statuses.Done input image before after early hands = absurd (let no : false ≡ true = early in cc)
-as_input statuses.Usage input image before after early hands = absurd (let no : false ≡ true = early in cc)
-as_input statuses.WriteFault input image before after early hands = absurd (let no : false ≡ true = early in cc)
-as_input statuses.DiskFault input image before after early hands = absurd (let no : false ≡ true = early in cc)
-as_input statuses.RandomFault input image before after early hands = absurd (let no : false ≡ true = early in cc)
-as_input (statuses.RandomShort left need) input image before after early hands = absurd (let no : false ≡ true = early in cc)
-as_input statuses.NotAStore input image before after early hands = absurd (let no : false ≡ true = early in cc)
-as_input (statuses.Damaged at) input image before after early hands = absurd (let no : false ≡ true = early in cc)
-as_input statuses.WrongKey input image before after early hands = absurd (let no : false ≡ true = early in cc)
-as_input (statuses.Tampered batch at) input image before after early hands = absurd (let no : false ≡ true = early in cc)
-as_input statuses.OutOfMemory input image before after early hands = absurd (let no : false ≡ true = early in cc)
-as_input statuses.NotBlank input image before after early hands = absurd (let no : false ≡ true = early in cc)
+-- ---- where the input hands in no bundle
 
--- a fault of the view is what was wanted
-pub as_view : (fault : ClientFault) (key input image : List ℕ) (before after : Option (List ℕ)) →
-    owner_in (input_answer input) ≡ Ok key → IsFault fault (view_verdict key image) →
-    ListsAs (view_status fault) (list_answer input image) before after
-unfolding list_answer
-as_view clients.NotAStore key input image before after hands is = ap (λ owner. answer_of owner image) hands ∙ ap view_answer is
-as_view clients.WrongKey key input image before after hands is = ap (λ owner. answer_of owner image) hands ∙ ap view_answer is
-as_view (clients.Damaged at) key input image before after hands is = ap (λ owner. answer_of owner image) hands ∙ ap view_answer is
-as_view (clients.Tampered batch at) key input image before after hands is = ap (λ owner. answer_of owner image) hands ∙ ap view_answer is
-as_view clients.DiskFault key input image before after hands is = tt
-as_view clients.OutOfMemory key input image before after hands is = tt
+decided_first : (fault : InputFault) (typed left : List ℕ) → ReadsInput (Err fault) typed left → InputDecides (input_status fault) (input_answer typed)
+decided_first (BadLine line) typed left reads = reads.0
+decided_first Failed typed left reads = tt
+decided_first OutOfMemory typed left reads = tt
 
--- the lines of a view, as they are printed, are what was wanted
-pub as_lines : (lines : List model.Line) (key input image : List ℕ) → owner_in (input_answer input) ≡ Ok key →
-    view_verdict key image ≡ Ok lines → list_answer input image ≡ Ok (spell_view lines)
-unfolding list_answer
-as_lines lines key input image hands is = ap (λ owner. answer_of owner image) hands ∙ ap view_answer is
+answered_first : (shows : Bundle → Result (List ℕ) Status) (fault : InputFault) (typed left : List ℕ) (before after : Option (List ℕ)) → ReadsInput (Err fault) typed left
+    → AnswersAs (input_status fault) (answer_for shows (input_answer typed)) before after
+answered_first shows (BadLine line) typed left before after reads = ap (answer_for shows) reads.0
+answered_first shows Failed typed left before after reads = tt
+answered_first shows OutOfMemory typed left before after reads = tt
 
--- of a fresh store its owner wants the root's line
-pub as_fresh : (status : Status) (drawn input image : List ℕ) (before after : Option (List ℕ)) → length drawn ≡ 192 →
-    owner_in (input_answer input) ≡ Ok (piece drawn 0) → image ≡ fresh_image drawn →
-    ListsAs status (list_answer input image) before after →
-    ListsAs status (Ok (spell_view (view root_store TheOwner))) before after
-as_fresh status drawn input image before after long hands is =
-    subst (λ wanted. ListsAs status wanted before after)
-    (as_lines (view root_store TheOwner) (piece drawn 0) input image hands
-    (ap (λ bytes. view_verdict (piece drawn 0) bytes) is ∙ fresh_shown drawn long))
+taken_first : (fault : InputFault) (typed left : List ℕ) → ReadsInput (Err fault) typed left → TakesInput (input_status fault) typed left
+taken_first (BadLine line) typed left reads = reads.1
+taken_first Failed typed left reads = reads
+taken_first OutOfMemory typed left reads = tt
+
+-- what is answered to a bundle and an image
+abbrev Shows : Type 0
+Shows = Bundle → List ℕ → Result (List ℕ) Status
+
+abbrev answer_by : Shows → List ℕ → List ℕ → Result (List ℕ) Status
+answer_by shows typed image = answer_for (λ bundle. shows bundle image) (input_answer typed)
+
+pub reads_no_bundle : {D : Type 0} (shows : Shows) (shown : D → Option (List ℕ)) (size_of : D → ℕ) (may_leave : D → List ℕ → Type 0) (fault : InputFault) (status : Status)
+    (typed left : Option (List ℕ)) (disk : D) (before : Option (List ℕ)) → status ≡ input_status fault → is_some left ≡ is_some typed
+    → WhereBothTold typed left (ReadsInput (Err fault)) → Reads (answer_by shows) shown size_of may_leave status typed left disk disk before before
+reads_no_bundle {D} shows shown size_of may_leave fault status typed left disk before is told reads =
+    subst (λ s. Reads (answer_by shows) shown size_of may_leave s typed left disk disk before before) (sym is) (record {
+      decided = λ x was. let again = told_again typed left x told was in decided_first fault x again.0 (reads x again.0 was again.1);
+      answered = λ x was image now.
+          let again = told_again typed left x told was in
+          answered_first (λ bundle. shows bundle image) fault x again.0 before before (reads x again.0 was again.1);
+      takes = λ x y was now. taken_first fault x y (reads x y was now);
+      reads_only = record { same_bytes = refl; same_size = refl; same_stops = λ c. (λ x. x, λ x. x) };
+    })
+
+-- ---- where the store shows nothing
+
+decided_then : (status : Status) (bundle : Bundle) (input : Result Bundle ℕ) → IsTrue (is_store_answer status) → input ≡ Ok bundle → InputDecides status input
+decided_then statuses.NotAStore bundle input store is = ap is_ok is
+decided_then statuses.WrongKey bundle input store is = ap is_ok is
+decided_then (statuses.Damaged at) bundle input store is = ap is_ok is
+decided_then (statuses.Tampered batch at) bundle input store is = ap is_ok is
+decided_then (statuses.NoHolder known) bundle input store is = ap is_ok is
+decided_then statuses.Unseen bundle input store is = ap is_ok is
+decided_then statuses.DiskFault bundle input store is = ap is_ok is
+decided_then statuses.OutOfMemory bundle input store is = tt
+decided_then statuses.Done bundle input store is = absurd (false≢true store)
+decided_then statuses.Usage bundle input store is = absurd (false≢true store)
+decided_then (statuses.BadScript line) bundle input store is = absurd (false≢true store)
+decided_then statuses.ReadFault bundle input store is = absurd (false≢true store)
+decided_then statuses.WriteFault bundle input store is = absurd (false≢true store)
+decided_then statuses.RandomFault bundle input store is = absurd (false≢true store)
+decided_then (statuses.RandomShort left need) bundle input store is = absurd (false≢true store)
+decided_then statuses.NotBlank bundle input store is = absurd (false≢true store)
+
+answered_then : (shows : Bundle → Result (List ℕ) Status) (status : Status) (bundle : Bundle) (input : Result Bundle ℕ) (before after : Option (List ℕ)) → IsTrue (is_store_answer status)
+    → input ≡ Ok bundle → GivesText (Err status) (shows bundle) → AnswersAs status (answer_for shows input) before after
+answered_then shows statuses.NotAStore bundle input before after store is gives = ap (answer_for shows) is ∙ gives
+answered_then shows statuses.WrongKey bundle input before after store is gives = ap (answer_for shows) is ∙ gives
+answered_then shows (statuses.Damaged at) bundle input before after store is gives = ap (answer_for shows) is ∙ gives
+answered_then shows (statuses.Tampered batch at) bundle input before after store is gives = ap (answer_for shows) is ∙ gives
+answered_then shows (statuses.NoHolder known) bundle input before after store is gives = ap (answer_for shows) is ∙ gives
+answered_then shows statuses.Unseen bundle input before after store is gives = ap (answer_for shows) is ∙ gives
+answered_then shows statuses.DiskFault bundle input before after store is gives = tt
+answered_then shows statuses.OutOfMemory bundle input before after store is gives = tt
+answered_then shows statuses.Done bundle input before after store is gives = absurd (false≢true store)
+answered_then shows statuses.Usage bundle input before after store is gives = absurd (false≢true store)
+answered_then shows (statuses.BadScript line) bundle input before after store is gives = absurd (false≢true store)
+answered_then shows statuses.ReadFault bundle input before after store is gives = absurd (false≢true store)
+answered_then shows statuses.WriteFault bundle input before after store is gives = absurd (false≢true store)
+answered_then shows statuses.RandomFault bundle input before after store is gives = absurd (false≢true store)
+answered_then shows (statuses.RandomShort left need) bundle input before after store is gives = absurd (false≢true store)
+answered_then shows statuses.NotBlank bundle input before after store is gives = absurd (false≢true store)
+
+-- an input that was read to its end
+all_taken : (bundle : Bundle) (typed left : List ℕ) → ReadsInput (Ok bundle) typed left → TakesLines 1 typed left
+all_taken bundle typed left reads = record {
+  front = typed;
+  ahead = [];
+  taken = sym (append-nil typed) ∙ ap (λ l. typed ++ l) (sym reads.1);
+  of_lines = reads.2;
+  few = omega arith;
+}
+
+taken_then : (status : Status) (bundle : Bundle) (typed left : List ℕ) → IsTrue (is_store_answer status) → ReadsInput (Ok bundle) typed left → TakesInput status typed left
+taken_then statuses.NotAStore bundle typed left store reads = all_taken bundle typed left reads
+taken_then statuses.WrongKey bundle typed left store reads = all_taken bundle typed left reads
+taken_then (statuses.Damaged at) bundle typed left store reads = all_taken bundle typed left reads
+taken_then (statuses.Tampered batch at) bundle typed left store reads = all_taken bundle typed left reads
+taken_then (statuses.NoHolder known) bundle typed left store reads = all_taken bundle typed left reads
+taken_then statuses.Unseen bundle typed left store reads = all_taken bundle typed left reads
+taken_then statuses.DiskFault bundle typed left store reads = all_taken bundle typed left reads
+taken_then statuses.OutOfMemory bundle typed left store reads = tt
+taken_then statuses.Done bundle typed left store reads = absurd (false≢true store)
+taken_then statuses.Usage bundle typed left store reads = absurd (false≢true store)
+taken_then (statuses.BadScript line) bundle typed left store reads = absurd (false≢true store)
+taken_then statuses.ReadFault bundle typed left store reads = absurd (false≢true store)
+taken_then statuses.WriteFault bundle typed left store reads = absurd (false≢true store)
+taken_then statuses.RandomFault bundle typed left store reads = absurd (false≢true store)
+taken_then (statuses.RandomShort drawn need) bundle typed left store reads = absurd (false≢true store)
+taken_then statuses.NotBlank bundle typed left store reads = absurd (false≢true store)
+
+pub reads_nothing : {D : Type 0} (shows : Shows) (shown : D → Option (List ℕ)) (size_of : D → ℕ) (may_leave : D → List ℕ → Type 0) (bundle : Bundle) (status : Status)
+    (typed left : Option (List ℕ)) (old new : D) (before : Option (List ℕ)) → IsTrue (is_store_answer status) → is_some left ≡ is_some typed
+    → WhereBothTold typed left (ReadsInput (Ok bundle)) → WhereTold (shown old) (λ image. GivesText (Err status) (shows bundle image))
+    → IsOnlyRead shown size_of may_leave old new → Reads (answer_by shows) shown size_of may_leave status typed left old new before before
+reads_nothing {D} shows shown size_of may_leave bundle status typed left old new before store told reads gives only = record {
+  decided = λ x was.
+      let again = told_again typed left x told was in
+      decided_then status bundle (input_answer x) store (reads x again.0 was again.1).0;
+  answered = λ x was image now.
+      let again = told_again typed left x told was in
+      answered_then (λ b. shows b image) status bundle (input_answer x) before before store (reads x again.0 was again.1).0 (gives image now);
+  takes = λ x y was now. taken_then status bundle x y store (reads x y was now);
+  reads_only = only;
+}
+
+-- ---- where it shows something
+
+-- a text was printed, or a front of it
+abbrev Tells : Status → Option (List ℕ) → Option (List ℕ) → List ℕ → Type 0
+Tells status before after text =
+    (status ≡ statuses.Done) × WhereBothTold before after (PrintsAll text) ⊎ (status ≡ statuses.WriteFault) × WhereBothTold before after (PrintsFront text)
+
+pub reads_text : {D : Type 0} (shows : Shows) (shown : D → Option (List ℕ)) (size_of : D → ℕ) (may_leave : D → List ℕ → Type 0) (bundle : Bundle) (text : List ℕ) (status : Status)
+    (typed left : Option (List ℕ)) (old new : D) (before after : Option (List ℕ)) → Tells status before after text → is_some left ≡ is_some typed
+    → WhereBothTold typed left (ReadsInput (Ok bundle)) → WhereTold (shown old) (λ image. shows bundle image ≡ Ok text)
+    → IsOnlyRead shown size_of may_leave old new → Reads (answer_by shows) shown size_of may_leave status typed left old new before after
+reads_text {D} shows shown size_of may_leave bundle text status typed left old new before after tells told reads gives only =
+    elim tells [
+      | inl done ↦ subst (λ s. Reads (answer_by shows) shown size_of may_leave s typed left old new before after) (sym done.0) (record {
+        decided = λ x was. let again = told_again typed left x told was in ap is_ok (reads x again.0 was again.1).0;
+        answered = λ x was image now.
+            let again = told_again typed left x told was in
+            (text, ap (answer_for (λ b. shows b image)) (reads x again.0 was again.1).0 ∙ gives image now, done.1);
+        takes = λ x y was now. (reads x y was now).1;
+        reads_only = only;
+      })
+      | inr cut ↦ subst (λ s. Reads (answer_by shows) shown size_of may_leave s typed left old new before after) (sym cut.0) (record {
+        decided = λ x was. let again = told_again typed left x told was in ap is_ok (reads x again.0 was again.1).0;
+        answered = λ x was image now.
+            let again = told_again typed left x told was in
+            (text, ap (answer_for (λ b. shows b image)) (reads x again.0 was again.1).0 ∙ gives image now, cut.1);
+        takes = λ x y was now. all_taken bundle x y (reads x y was now);
+        reads_only = only;
+      })
+    ]
+
+-- ---- a client's fault is how it is wanted to end
+
+pub fault_is_view : (fault : ClientFault) (wanted : Result (List model.Line) Failure) → IsFailure fault wanted → GivesText (Err (client_status fault)) (view_answer wanted)
+fault_is_view clients.NotAStore wanted is = ap view_answer is
+fault_is_view clients.WrongKey wanted is = ap view_answer is
+fault_is_view (clients.Damaged at) wanted is = ap view_answer is
+fault_is_view (clients.Tampered batch at) wanted is = ap view_answer is
+fault_is_view (clients.NoHolder known) wanted is = ap view_answer is
+fault_is_view clients.Unseen wanted is = ap view_answer is
+fault_is_view clients.DiskFault wanted is = tt
+fault_is_view clients.OutOfMemory wanted is = tt
+
+pub fault_is_line : (fault : ClientFault) (wanted : Result model.Line Failure) → IsFailure fault wanted → GivesText (Err (client_status fault)) (line_answer wanted)
+fault_is_line clients.NotAStore wanted is = ap line_answer is
+fault_is_line clients.WrongKey wanted is = ap line_answer is
+fault_is_line (clients.Damaged at) wanted is = ap line_answer is
+fault_is_line (clients.Tampered batch at) wanted is = ap line_answer is
+fault_is_line (clients.NoHolder known) wanted is = ap line_answer is
+fault_is_line clients.Unseen wanted is = ap line_answer is
+fault_is_line clients.DiskFault wanted is = tt
+fault_is_line clients.OutOfMemory wanted is = tt
+
+-- one line, as it is printed
+pub printed_one : (line : Line) → printing.spell_line line ≡ spell_view (plain_line line ∷ [])
+unfolding spell_view ended_lines
+printed_one line = sym (append-nil (printing.spell_line line)) ∙ printed_plain line []

@@ -10,7 +10,7 @@ use Rattle.store_owner.specs.Owned.{OwnerView}
 use Rattle.store_owner.specs.declared.apply_fault.ApplyFault.{ApplyFault}
 use Rattle.store_owner.specs.declared.apply_fault.ApplyFault.TheVariants as faults
 use Rattle.cryptree_cli.specs.declared.status.Status.{Status}
-use Rattle.cryptree_cli.specs.declared.status.Status.TheVariants.{Done, Usage, BadScript, ReadFault, NotAStore, Damaged, WrongKey, Tampered, WriteFault, DiskFault, RandomFault, RandomShort, OutOfMemory, NotBlank}
+use Rattle.cryptree_cli.specs.declared.status.Status.TheVariants.{Done, Usage, BadScript, ReadFault, NotAStore, Damaged, WrongKey, Tampered, WriteFault, DiskFault, RandomFault, RandomShort, OutOfMemory, NotBlank, NoHolder, Unseen}
 use Rattle.cryptree_cli.specs.Running.{apply_status}
 use Rattle.cryptree_cli.specs.Status.{is_make_answer}
 use Rattle.cryptree_cli.specs.Top.{EndsShort, IsShort, Makes}
@@ -86,3 +86,5 @@ done_or_no_memory WrongKey a b c d e f = absurd (let no : false ≡ true = a in 
 done_or_no_memory (Tampered batch at) a b c d e f = absurd (let no : false ≡ true = a in cc)
 done_or_no_memory OutOfMemory a b c d e f = inr refl
 done_or_no_memory NotBlank a b c d e f = absurd (b refl)
+done_or_no_memory (NoHolder known) a b c d e f = absurd (let no : false ≡ true = a in cc)
+done_or_no_memory Unseen a b c d e f = absurd (let no : false ≡ true = a in cc)

@@ -39,6 +39,8 @@ opened_refuses_none statuses.RandomFault judged is = absurd (false≢true is)
 opened_refuses_none (statuses.RandomShort left need) judged is = absurd (false≢true is)
 opened_refuses_none statuses.OutOfMemory judged is = absurd (false≢true is)
 opened_refuses_none statuses.NotBlank judged is = absurd (false≢true is)
+opened_refuses_none (statuses.NoHolder known) judged is = absurd (false≢true is)
+opened_refuses_none statuses.Unseen judged is = absurd (false≢true is)
 
 no_refusal : {P : Type 0} (fault : OpenFault) → fault ≡ opening.DiskFault → open_status fault ≢ statuses.DiskFault → P
 no_refusal opening.DiskFault is other = absurd (other refl)

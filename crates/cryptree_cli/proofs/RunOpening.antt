@@ -6,8 +6,7 @@ use Rattle.commit_journal.specs.declared.fault.OpenFault.TheVariants as opening
 use Rattle.cry_base.specs.declared.limits.Limits.{Limits}
 use Rattle.journal_bytes.specs.Journals.{IsSettled, ShowsJournal}
 use Rattle.journal_bytes.specs.Script.{opened}
-use Rattle.cryptree_cli.specs.Input.{input_limit}
-use Rattle.cryptree_cli.specs.Lines.{InputLine, LineState, lines_ahead}
+use Rattle.cryptree_cli.specs.Lines.{InputLine, LineState, input_limit, lines_ahead}
 use Rattle.cryptree_cli.specs.Running.{CountsOwner, Ends, FirstIsBad, GivesOwner, IsUnopened, Judges, Seen, is_after_opening, is_before_opening, key_in_lines, lines_in, open_status, script_status, version_limits}
 use Rattle.cryptree_cli.specs.Script.{IsReading}
 use Rattle.cryptree_cli.specs.declared.script.ScriptFault.{ScriptFault}

@@ -1,59 +1,81 @@
 -- A reader's input: one line, its bundle's. This project's own, docs/FORMAT.md, "Lines".
-use Rattle.std.specs.Prelude.{◌≡◌, ◌≢◌, ◌<◌, ◌≤◌, ◌⊎◌, ◌+◌, ℕ, Bool, nat_lt, ◌==◌, List, [], ◌∷◌, ◌++◌, length, take, All, Option, Some, None, Result, Ok, Err, IsSome, if◌then◌else◌}
-use Rattle.std.specs.List.{position_or_len, before_first, after_first}
+use Rattle.std.specs.Prelude.{◌≡◌, ◌<◌, ◌≤◌, ◌⊎◌, ℕ, List, [], ◌∷◌, ◌++◌, length, Option, Some, None, Result, Ok, Err, IsSome}
 use Rattle.cry_base.specs.declared.client.Bundle.{Bundle}
 use Rattle.script_text.specs.Reading.{bundle_of}
+use Rattle.cryptree_cli.specs.Lines.{AreOfLines, InputLine, IsCutOff, IsOneLine, LineState, input_limit, lines_ahead, lines_of, read_ahead}
+use Rattle.cryptree_cli.specs.Lines.InputLine.{Whole, TooLong}
 use Rattle.cryptree_cli.specs.declared.input.InputFault.{InputFault}
-use Rattle.cryptree_cli.specs.declared.input.InputFault.TheVariants.{BadLine, Failed}
+use Rattle.cryptree_cli.specs.declared.input.InputFault.TheVariants.{BadLine, Failed, OutOfMemory}
 
--- the byte that ends a line
-abbrev pub is_newline : ℕ → Bool
-is_newline byte = byte == 10
+-- each line behind the bundle's is bad
+abbrev pub alone : Bundle → List InputLine → Result Bundle ℕ
+alone bundle [] = Ok bundle
+alone bundle (line ∷ lines) = Err 2
 
--- the most bytes that an input may have
-abbrev pub input_limit : ℕ
-input_limit = 67108864
+-- the first line's bundle, if it is one of any, with these lines behind it
+abbrev pub bundle_before : Option Bundle → List InputLine → Result Bundle ℕ
+bundle_before None lines = Err 1
+bundle_before (Some bundle) lines = alone bundle lines
 
--- the first line, without its newline
-abbrev pub first_line : List ℕ → List ℕ
-first_line bytes = before_first is_newline bytes
+-- the bundle that these lines hand in, or the number of the first that is bad
+abbrev pub bundle_in : List InputLine → Result Bundle ℕ
+bundle_in [] = Err 1
+bundle_in (TooLong ∷ lines) = Err 1
+bundle_in (Whole line ∷ lines) = bundle_before (bundle_of line) lines
 
--- the first line with its newline, which belongs to it
-abbrev pub ended_line : List ℕ → List ℕ
-ended_line bytes = take (position_or_len is_newline bytes + 1) bytes
+-- so for a whole input
+unfoldable pub input_answer : List ℕ → Result Bundle ℕ
+input_answer typed = bundle_in (lines_of input_limit typed)
 
--- what stands behind the first line
-abbrev pub behind_line : List ℕ → List ℕ
-behind_line bytes = after_first is_newline bytes
+-- Of what was taken of an input, all but a few bytes are of no more than so many lines.
+pub record TakesLines (lines : ℕ) (typed left : List ℕ) : Type 0 where
+  pub front : List ℕ
+  pub ahead : List ℕ
+  pub taken : typed ≡ front ++ (ahead ++ left)
+  pub of_lines : AreOfLines lines front
+  pub few : length ahead ≤ read_ahead
 
--- the answer on a first line of the bundle, if it is one of any, by what stands behind it: each second line is bad
-abbrev pub answer_behind : Option Bundle → List ℕ → Result Bundle InputFault
-answer_behind None behind = Err (BadLine 1)
-answer_behind (Some bundle) [] = Ok bundle
-answer_behind (Some bundle) (byte ∷ bytes) = Err (BadLine 2)
+-- a bundle's line, and the front of a second
+pub record IsPastBundle (bytes : List ℕ) : Type 0 where
+  pub line : List ℕ
+  pub second : List ℕ
+  pub bytes_are : bytes ≡ line ++ 10 ∷ second
+  pub line_is_one : IsOneLine line
+  pub second_is_one : IsOneLine second
+  pub is_bundle : IsSome (bundle_of line)
 
--- the answer on a whole input, the first line that is bad or the one line's bundle: a line is bad too where it holds
--- the byte past the limit
-unfoldable pub input_answer : List ℕ → Result Bundle InputFault
-input_answer bytes =
-    if nat_lt input_limit (length (ended_line bytes)) then Err (BadLine 1)
-    else answer_behind (bundle_of (first_line bytes)) (behind_line bytes)
-
--- no bad line has ended in these bytes: they don't pass the limit, a first line that has ended is a bundle's, and no
--- second line has ended
+-- No bad line has ended in these bytes: they don't pass the limit, and are of one line, or of a second behind a bundle's.
 pub record IsUnjudged (bytes : List ℕ) : Type 0 where
   pub within : length bytes ≤ input_limit
-  pub first : (first_line bytes ≡ bytes) ⊎ IsSome (bundle_of (first_line bytes))
-  pub second : All (λ byte. byte ≢ 10) (behind_line bytes)
+  pub lines : IsOneLine bytes ⊎ IsPastBundle bytes
 
--- the answer is that on the bytes that were left, and on a bundle nothing is left of them; where the source failed no
--- bad line had ended in those that it gave
+-- the answer is that on the input, of which nothing is left behind a bundle, and little was taken behind a bad line; where the
+-- source failed no bad line had ended in what it gave
 abbrev pub ReadsInput : Result Bundle InputFault → List ℕ → List ℕ → Type 0
-ReadsInput (Ok bundle) before after = (input_answer before ≡ Ok bundle) × (after ≡ [])
-ReadsInput (Err (BadLine line)) before after = input_answer before ≡ Err (BadLine line)
-ReadsInput (Err Failed) before after = (given : List ℕ) × (before ≡ given ++ after) × IsUnjudged given
+ReadsInput (Ok bundle) typed left = (input_answer typed ≡ Ok bundle) × (left ≡ []) × AreOfLines 1 typed
+ReadsInput (Err (BadLine line)) typed left = (input_answer typed ≡ Err line) × TakesLines line typed left
+ReadsInput (Err Failed) typed left = (given : List ℕ) × (typed ≡ given ++ left) × IsUnjudged given
+ReadsInput (Err OutOfMemory) typed left = Unit {0}
+
+-- The first line was this bundle's, and the reader stands behind it.
+pub record IsBehindBundle (bundle : Bundle) (typed : List ℕ) (reader : LineState) (left : List ℕ) : Type 0 where
+  pub line : List ℕ
+  pub is_bundle : bundle_of line ≡ Some bundle
+  pub lines_are : lines_of input_limit typed ≡ Whole line ∷ lines_ahead reader left
+  pub one : IsOneLine line
+  pub cut : IsCutOff line input_limit reader.room typed (reader.line ++ (reader.piece ++ left))
+
+-- the first line hands in a bundle, or is the answer
+abbrev pub BeginsInput : Result Bundle InputFault → List ℕ → LineState → List ℕ → Type 0
+BeginsInput (Ok bundle) typed reader left = IsBehindBundle bundle typed reader left
+BeginsInput (Err fault) typed reader left = ReadsInput (Err fault) typed left
+
+-- there is no line behind the bundle's, or that is the answer
+abbrev pub EndsInput : Result (Unit {0}) InputFault → Bundle → List ℕ → List ℕ → Type 0
+EndsInput (Ok _) bundle typed left = ReadsInput (Ok bundle) typed left
+EndsInput (Err fault) bundle typed left = ReadsInput (Err fault) typed left
 
 -- the count of faults never falls, and Failed comes only where it rose
-abbrev pub InputFailsByCount : Result Bundle InputFault → ℕ → ℕ → Type 0
+abbrev pub InputFailsByCount : {U : Type 0} → Result U InputFault → ℕ → ℕ → Type 0
 InputFailsByCount (Err Failed) old new = old < new
 InputFailsByCount _ old new = old ≤ new

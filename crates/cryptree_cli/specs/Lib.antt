@@ -1,5 +1,5 @@
-pub mod Heard
 pub mod Input
+pub mod Journals
 pub mod KeyLine
 pub mod Lines
 pub mod Listing

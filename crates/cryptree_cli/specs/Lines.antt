@@ -1,11 +1,26 @@
 -- The lines of an input, one after another. This project's own, docs/FORMAT.md, "Lines".
-use Rattle.std.specs.Prelude.{◌≡◌, ◌<◌, ◌≤◌, ℕ, zero, suc, ◌+◌, List, [], ◌∷◌, ◌++◌, length, Option, Some, None, Result, Ok, Err, if◌then◌else◌}
+use Rattle.std.specs.Prelude.{◌≡◌, ◌≢◌, ◌<◌, ◌≤◌, ◌⊎◌, ℕ, zero, suc, ◌+◌, Bool, ◌==◌, List, [], ◌∷◌, ◌++◌, length, All, Option, Some, None, Result, Ok, Err, if◌then◌else◌}
 use Rattle.cryptree_cli.specs.declared.lines.Next.{Next}
 use Rattle.cryptree_cli.specs.declared.lines.Next.TheVariants.{Line, End, PastLimit}
 use Rattle.cryptree_cli.specs.declared.lines.NextFault.{NextFault}
 use Rattle.cryptree_cli.specs.declared.lines.NextFault.TheVariants.{Failed}
-use Rattle.cryptree_cli.specs.Heard.{IsOneLine}
-use Rattle.cryptree_cli.specs.Input.{is_newline}
+
+-- the byte that ends a line
+abbrev pub is_newline : ℕ → Bool
+is_newline byte = byte == 10
+
+-- the most bytes that an input may have
+abbrev pub input_limit : ℕ
+input_limit = 67108864
+
+-- no line ends in these bytes
+abbrev pub IsOneLine : List ℕ → Type 0
+IsOneLine bytes = All (λ byte. byte ≢ 10) bytes
+
+-- these bytes are of no more than so many lines
+abbrev pub AreOfLines : ℕ → List ℕ → Type 0
+AreOfLines zero bytes = bytes ≡ []
+AreOfLines (suc lines) bytes = IsOneLine bytes ⊎ ((line rest : List ℕ) × IsOneLine line × (bytes ≡ line ++ 10 ∷ rest) × AreOfLines lines rest)
 
 -- a line without its newline, or a line that holds a byte past the limit
 pub data InputLine : Type 0 where
@@ -73,9 +88,43 @@ abbrev pub Within : Next → ℕ → ℕ → Type 0
 Within (Line number bytes) before after = (length bytes.items + after ≤ before) × (after < before)
 Within _ before after = after ≡ before
 
+-- the most bytes that are read behind the line that is given
+abbrev pub read_ahead : ℕ
+read_ahead = 65536
+
+-- a line is cut off the front of these bytes, with its newline, or with the end behind it
+abbrev pub IsCutOff : List ℕ → ℕ → ℕ → List ℕ → List ℕ → Type 0
+IsCutOff line room rest before after =
+    ((before ≡ line ++ 10 ∷ after) × (room ≡ rest + (length line + 1))) ⊎ ((before ≡ line) × (after ≡ []) × (length line ≤ room))
+
+-- A line was cut off the front of the bytes that were to come, and few are held behind it.
+pub record TakesOff (line : List ℕ) (old new : LineState) (before after : List ℕ) : Type 0 where
+  pub one : IsOneLine line
+  pub begins : new.line ≡ []
+  pub few : length new.piece ≤ read_ahead
+  pub cut : IsCutOff line old.room new.room before after
+
+-- All bytes are still to come; and those that are held are the front of one line, and few behind it.
+pub record TakesNone (new : LineState) (before after : List ℕ) : Type 0 where
+  pub same : after ≡ before
+  pub one : IsOneLine new.line
+  pub few : length new.piece ≤ read_ahead
+
+-- the bytes that were to come, and those that still are
+abbrev pub Takes : Next → LineState → LineState → List ℕ → List ℕ → Type 0
+Takes (Line number bytes) old new before after = TakesOff bytes.items old new before after
+Takes End old new before after = (before ≡ []) × (after ≡ [])
+Takes (PastLimit number) old new before after = TakesNone new before after
+
+-- so it is, and after a fault all are still to come
+abbrev pub TakesNext : Result Next NextFault → LineState → LineState → List ℕ → List ℕ → Type 0
+TakesNext (Ok next) old new before after = Takes next old new before after
+TakesNext (Err fault) old new before after = (after ≡ before) × (new.room ≡ old.room)
+
 -- what is given of the bytes held, whatever is left in the source
 pub record GivesFrom (next : Next) (old new : LineState) : Type 0 where
   pub gives : (left : List ℕ) → Gives next (lines_ahead old left) (lines_ahead new left)
+  pub takes : (left : List ℕ) → Takes next old new (bytes_ahead old left) (bytes_ahead new left)
   pub number : Numbers next old.given new.given
   pub room : Within next old.room new.room
 

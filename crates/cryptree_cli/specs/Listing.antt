@@ -1,100 +1,142 @@
--- What `list` answers. This project's own, docs/FORMAT.md, "Reading" and "The program".
-use Rattle.std.specs.Prelude.{◌≡◌, ℕ, Bool, true, false, List, length, Option, Result, Ok, Err, IsOk}
-use Rattle.cry_base.specs.Store.{root_store}
-use Rattle.role_graph.specs.Rights.Who.{TheOwner}
+-- What `list` and `open` answer. This project's own, docs/FORMAT.md, "Reading" and "The program".
+use Rattle.std.specs.Prelude.{◌≡◌, ℕ, Bool, true, false, List, [], ◌∷◌, ◌++◌, Option, Result, Ok, Err, IsOk}
+use Rattle.cry_base.specs.Listed.{Listed}
 use Rattle.cry_base.specs.declared.client.Bundle.{Bundle}
-use Rattle.cry_base.specs.declared.client.Bundle.TheVariants.{Owner, Holder}
-use Rattle.commit_journal.specs.Answering.{Fault, NotAStore, WrongKey, Damaged, Tampered}
+use Rattle.cry_io.specs.Told.{WhereTold, WhereBothTold}
+use Rattle.commit_journal.specs.Answering.{NotAStore, WrongKey, Damaged, Tampered}
+use Rattle.commit_journal.specs.Reading.{IsOnlyRead}
 use Rattle.holder_client.specs.declared.fault.ClientFault.{ClientFault}
 use Rattle.holder_client.specs.declared.fault.ClientFault.TheVariants as clients
-use Rattle.holder_client.specs.Lines.{key_in}
-use Rattle.holder_client.specs.Verdict.{view_verdict}
-use Rattle.holder_client.specs.View.{Line, spell_view, view}
+use Rattle.holder_client.specs.Asking.{line_shown}
+use Rattle.holder_client.specs.Judging.{Failure, NoHolder, OfBytes, Unseen, shown_with}
+use Rattle.holder_client.specs.View.{Line, spell_view}
+use Rattle.cryptree_cli.specs.declared.input.InputFault.{InputFault}
+use Rattle.cryptree_cli.specs.declared.input.InputFault.TheVariants.{BadLine, Failed, OutOfMemory}
 use Rattle.cryptree_cli.specs.declared.status.Status.{Status}
 use Rattle.cryptree_cli.specs.declared.status.Status.TheVariants as statuses
-use Rattle.key_links.specs.Fresh.{piece, fresh_image}
-use Rattle.cry_io.specs.Told.{WhereBothTold}
-use Rattle.cryptree_cli.specs.declared.input.InputFault.{InputFault}
-use Rattle.cryptree_cli.specs.declared.input.InputFault.TheVariants.{BadLine, Failed}
-use Rattle.cryptree_cli.specs.Input.{input_answer}
+use Rattle.cryptree_cli.specs.Input.{IsUnjudged, TakesLines, input_answer}
 use Rattle.cryptree_cli.specs.Top.{PrintsAll, PrintsFront}
 
 -- how the program ends where a test of the store fails
-abbrev pub store_status : Fault → Status
-store_status NotAStore = statuses.NotAStore
-store_status WrongKey = statuses.WrongKey
-store_status (Damaged at) = statuses.Damaged at
-store_status (Tampered batch at) = statuses.Tampered batch at
+abbrev pub failure_status : Failure → Status
+failure_status (OfBytes NotAStore) = statuses.NotAStore
+failure_status (OfBytes WrongKey) = statuses.WrongKey
+failure_status (OfBytes (Damaged at)) = statuses.Damaged at
+failure_status (OfBytes (Tampered batch at)) = statuses.Tampered batch at
+failure_status (NoHolder known) = statuses.NoHolder known
+failure_status Unseen = statuses.Unseen
 
 -- what a view prints, or how the program ends
-abbrev pub view_answer : Result (List Line) Fault → Result (List ℕ) Status
+abbrev pub view_answer : Result (List Line) Failure → Result (List ℕ) Status
 view_answer (Ok lines) = Ok (spell_view lines)
-view_answer (Err fault) = Err (store_status fault)
+view_answer (Err failure) = Err (failure_status failure)
 
--- the owner's key that an input hands in; a holder's can't be read yet, and its line is bad
-abbrev pub owner_in : Result Bundle InputFault → Result (List ℕ) Status
-owner_in (Ok (Owner key)) = Ok key
-owner_in (Ok (Holder holder key)) = Err (statuses.BadScript 1)
-owner_in (Err (BadLine line)) = Err (statuses.BadScript line)
-owner_in (Err Failed) = Err statuses.ReadFault
+-- and what the one line of a path prints
+abbrev pub line_answer : Result Line Failure → Result (List ℕ) Status
+line_answer (Ok line) = Ok (spell_view (line ∷ []))
+line_answer (Err failure) = Err (failure_status failure)
 
--- what is printed of an image with such a key
-abbrev pub answer_of : Result (List ℕ) Status → List ℕ → Result (List ℕ) Status
-answer_of (Ok key) image = view_answer (view_verdict key image)
-answer_of (Err status) image = Err status
+-- the answer for the bundle that an input hands in, if no line of it is bad
+abbrev pub answer_for : (Bundle → Result (List ℕ) Status) → Result Bundle ℕ → Result (List ℕ) Status
+answer_for shows (Ok bundle) = shows bundle
+answer_for shows (Err line) = Err (statuses.BadScript line)
 
--- what an input and an image are answered: the input first, then the log, then its records
-unfoldable pub list_answer : List ℕ → List ℕ → Result (List ℕ) Status
-list_answer input image = answer_of (owner_in (input_answer input)) image
+-- what `list` answers to an input and an image: the input first, then the log, then its records
+abbrev pub list_answer : List ℕ → List ℕ → Result (List ℕ) Status
+list_answer typed image = answer_for (λ bundle. view_answer (shown_with bundle image)) (input_answer typed)
 
--- how the program ends where a view was not given
-abbrev pub view_status : ClientFault → Status
-view_status clients.NotAStore = statuses.NotAStore
-view_status clients.WrongKey = statuses.WrongKey
-view_status (clients.Damaged at) = statuses.Damaged at
-view_status (clients.Tampered batch at) = statuses.Tampered batch at
-view_status clients.DiskFault = statuses.DiskFault
-view_status clients.OutOfMemory = statuses.OutOfMemory
+-- and what `open` does with a path
+abbrev pub open_answer : List ℕ → List ℕ → List ℕ → Result (List ℕ) Status
+open_answer path typed image = answer_for (λ bundle. line_answer (line_shown bundle path image)) (input_answer typed)
 
--- the owner's bundle that was wanted, or the bad line; an input that failed decides nothing
-abbrev pub Hands : Result Bundle Status → Result (List ℕ) Status → Type 0
-Hands (Ok bundle) owner = owner ≡ Ok (key_in bundle)
-Hands (Err statuses.ReadFault) owner = Unit {0}
-Hands (Err status) owner = owner ≡ Err status
+-- ---- how the program ends
 
--- an answer that the input decides: a bad line where it has one, unless it failed first
-abbrev pub InputDecides : Status → Result (List ℕ) Status → Type 0
-InputDecides (statuses.BadScript line) owner = owner ≡ Err (statuses.BadScript line)
-InputDecides statuses.ReadFault owner = Unit {0}
-InputDecides _ owner = IsOk owner
+-- where an input hands in no bundle
+abbrev pub input_status : InputFault → Status
+input_status (BadLine line) = statuses.BadScript line
+input_status Failed = statuses.ReadFault
+input_status OutOfMemory = statuses.OutOfMemory
 
--- The answer is the wanted one, and what was wanted was printed, unless something outside failed or memory was wanting.
-abbrev pub ListsAs : Status → Result (List ℕ) Status → Option (List ℕ) → Option (List ℕ) → Type 0
-ListsAs statuses.Done wanted before after =
-    (text : List ℕ) × (wanted ≡ Ok text) × WhereBothTold before after (PrintsAll text)
-ListsAs statuses.WriteFault wanted before after =
-    (text : List ℕ) × (wanted ≡ Ok text) × WhereBothTold before after (PrintsFront text)
-ListsAs statuses.ReadFault wanted before after = Unit {0}
-ListsAs statuses.DiskFault wanted before after = Unit {0}
-ListsAs statuses.OutOfMemory wanted before after = Unit {0}
-ListsAs status wanted before after = wanted ≡ Err status
+-- where a client's call shows nothing
+abbrev pub client_status : ClientFault → Status
+client_status clients.NotAStore = statuses.NotAStore
+client_status clients.WrongKey = statuses.WrongKey
+client_status (clients.Damaged at) = statuses.Damaged at
+client_status (clients.Tampered batch at) = statuses.Tampered batch at
+client_status (clients.NoHolder known) = statuses.NoHolder known
+client_status clients.Unseen = statuses.Unseen
+client_status clients.DiskFault = statuses.DiskFault
+client_status clients.OutOfMemory = statuses.OutOfMemory
 
--- The image of a fresh store with its owner's key: what the store with the root alone shows its owner was wanted.
-abbrev pub ListsFresh : Status → Result (List ℕ) Status → List ℕ → Option (List ℕ) → Option (List ℕ) → Type 0
-ListsFresh status owner image before after =
-    (drawn : List ℕ) → length drawn ≡ 192 → owner ≡ Ok (piece drawn 0) → image ≡ fresh_image drawn →
-    ListsAs status (Ok (spell_view (view root_store TheOwner))) before after
+-- how `open` may end
+abbrev pub is_open_answer : Status → Bool
+is_open_answer statuses.Usage = false
+is_open_answer statuses.RandomFault = false
+is_open_answer (statuses.RandomShort left need) = false
+is_open_answer statuses.NotBlank = false
+is_open_answer _ = true
 
 -- how `list` may end
 abbrev pub is_list_answer : Status → Bool
-is_list_answer statuses.Usage = false
-is_list_answer statuses.RandomFault = false
-is_list_answer (statuses.RandomShort left need) = false
-is_list_answer statuses.NotBlank = false
-is_list_answer _ = true
+is_list_answer statuses.Unseen = false
+is_list_answer status = is_open_answer status
 
--- how it ends before it reads the disk
+-- how a reader may end that has read its input and prints nothing
+abbrev pub is_store_answer : Status → Bool
+is_store_answer statuses.NotAStore = true
+is_store_answer statuses.WrongKey = true
+is_store_answer (statuses.Damaged at) = true
+is_store_answer (statuses.Tampered batch at) = true
+is_store_answer (statuses.NoHolder known) = true
+is_store_answer statuses.Unseen = true
+is_store_answer statuses.DiskFault = true
+is_store_answer statuses.OutOfMemory = true
+is_store_answer _ = false
+
+-- how one ends before it reads the disk
 abbrev pub is_before_read : Status → Bool
 is_before_read (statuses.BadScript line) = true
 is_before_read statuses.ReadFault = true
 is_before_read _ = false
+
+-- ---- what the answers have to do with what was wanted
+
+-- the text is the one that is wanted, or this is how it is wanted to end. A disk that fails and want of memory may come at any time
+abbrev pub GivesText : Result (Listed ℕ) Status → Result (List ℕ) Status → Type 0
+GivesText (Ok text) wanted = wanted ≡ Ok text.items
+GivesText (Err statuses.DiskFault) wanted = Unit {0}
+GivesText (Err statuses.OutOfMemory) wanted = Unit {0}
+GivesText (Err status) wanted = wanted ≡ Err status
+
+-- The answer is the wanted one, and what was wanted was printed, unless something outside failed or memory was wanting.
+abbrev pub AnswersAs : Status → Result (List ℕ) Status → Option (List ℕ) → Option (List ℕ) → Type 0
+AnswersAs statuses.Done wanted before after = (text : List ℕ) × (wanted ≡ Ok text) × WhereBothTold before after (PrintsAll text)
+AnswersAs statuses.WriteFault wanted before after = (text : List ℕ) × (wanted ≡ Ok text) × WhereBothTold before after (PrintsFront text)
+AnswersAs statuses.ReadFault wanted before after = Unit {0}
+AnswersAs statuses.DiskFault wanted before after = Unit {0}
+AnswersAs statuses.OutOfMemory wanted before after = Unit {0}
+AnswersAs status wanted before after = wanted ≡ Err status
+
+-- what the input decides, whatever the disk shows: a bad line is told, where it has one, unless it failed or memory was wanting first
+abbrev pub InputDecides : Status → Result Bundle ℕ → Type 0
+InputDecides (statuses.BadScript line) input = input ≡ Err line
+InputDecides statuses.ReadFault input = Unit {0}
+InputDecides statuses.OutOfMemory input = Unit {0}
+InputDecides _ input = IsOk input
+
+-- what was taken of the input: all of it at Done; no bad line before the source failed; else little behind the line at which the call
+-- ended, which is the bundle's where the store was read
+abbrev pub TakesInput : Status → List ℕ → List ℕ → Type 0
+TakesInput statuses.Done typed left = left ≡ []
+TakesInput statuses.ReadFault typed left = (given : List ℕ) × (typed ≡ given ++ left) × IsUnjudged given
+TakesInput statuses.OutOfMemory typed left = Unit {0}
+TakesInput (statuses.BadScript line) typed left = TakesLines line typed left
+TakesInput _ typed left = TakesLines 1 typed left
+
+-- What a reader's command does: it answers and prints what is said of its input and of what the disk shows, and only reads the disk.
+pub record Reads {D : Type 0} (answer : List ℕ → List ℕ → Result (List ℕ) Status) (shown : D → Option (List ℕ)) (size_of : D → ℕ) (may_leave : D → List ℕ → Type 0)
+    (status : Status) (typed left : Option (List ℕ)) (disk_old disk_new : D) (before after : Option (List ℕ)) : Type 0 where
+  pub decided : WhereTold typed (λ bytes. InputDecides status (input_answer bytes))
+  pub answered : WhereTold typed (λ bytes. WhereTold (shown disk_old) (λ image. AnswersAs status (answer bytes image) before after))
+  pub takes : WhereBothTold typed left (TakesInput status)
+  pub reads_only : IsOnlyRead shown size_of may_leave disk_old disk_new

@@ -18,9 +18,7 @@ use Rattle.journal_bytes.specs.Journals.{ShowsJournal, StandsForJournal}
 use Rattle.journal_bytes.specs.Script.{answer, draws_of, journal_then, opened, script_going, script_replies}
 use Rattle.store_owner.specs.Drawing.{AreKeys, joined}
 use Rattle.cryptree_cli.specs.KeyLine.{owner_key}
-use Rattle.cryptree_cli.specs.Heard.{IsOneLine}
-use Rattle.cryptree_cli.specs.Input.{input_limit}
-use Rattle.cryptree_cli.specs.Lines.{InputLine, lines_of}
+use Rattle.cryptree_cli.specs.Lines.{InputLine, IsOneLine, input_limit, lines_of}
 use Rattle.cryptree_cli.specs.Lines.InputLine.{Whole, TooLong}
 use Rattle.cryptree_cli.specs.Script.{Asks, IsBadFirst, PrintsCut, spell_replies}
 use Rattle.commit_journal.specs.declared.fault.OpenFault.{OpenFault}
@@ -181,6 +179,8 @@ Ends _ limits key m lines seen may_leave = ⊥
 abbrev pub is_run_answer : Status → Bool
 is_run_answer statuses.Usage = false
 is_run_answer statuses.NotBlank = false
+is_run_answer (statuses.NoHolder known) = false
+is_run_answer statuses.Unseen = false
 is_run_answer _ = true
 
 -- how it ends before it opens the store

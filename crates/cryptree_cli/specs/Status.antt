@@ -2,7 +2,7 @@
 use Rattle.std.specs.Prelude.{ℕ, List, [], ◌∷◌, ◌++◌, Bool, true, false, codes}
 use Rattle.std.specs.Fmt.{decimal}
 use Rattle.cryptree_cli.specs.declared.status.Status.{Status}
-use Rattle.cryptree_cli.specs.declared.status.Status.TheVariants.{Done, Usage, BadScript, ReadFault, WriteFault, DiskFault, RandomFault, RandomShort, NotAStore, Damaged, WrongKey, Tampered, OutOfMemory, NotBlank}
+use Rattle.cryptree_cli.specs.declared.status.Status.TheVariants.{Done, Usage, BadScript, ReadFault, WriteFault, DiskFault, RandomFault, RandomShort, NotAStore, Damaged, WrongKey, Tampered, OutOfMemory, NotBlank, NoHolder, Unseen}
 
 -- the exit status
 abbrev pub code_of : Status → ℕ
@@ -20,6 +20,8 @@ code_of WrongKey = 11
 code_of (Tampered batch at) = 12
 code_of OutOfMemory = 13
 code_of NotBlank = 14
+code_of (NoHolder known) = 15
+code_of Unseen = 16
 
 -- a text as a whole line of standard error
 abbrev pub told_line : List ℕ → List ℕ
@@ -41,6 +43,8 @@ line_of WrongKey = told_line (codes "wrong key")
 line_of (Tampered batch at) = codes "cryptree: tampered batch " ++ (decimal batch ++ (codes " at " ++ (decimal at ++ 10 ∷ [])))
 line_of OutOfMemory = told_line (codes "out of memory")
 line_of NotBlank = told_line (codes "not blank")
+line_of (NoHolder known) = codes "cryptree: no holder, " ++ (decimal known ++ (codes " known" ++ 10 ∷ []))
+line_of Unseen = told_line (codes "unseen")
 
 -- how the program ends before it draws
 abbrev pub is_before_draw : Status → Bool
@@ -75,4 +79,6 @@ is_before_print (Damaged at) = true
 is_before_print WrongKey = true
 is_before_print (Tampered batch at) = true
 is_before_print DiskFault = true
+is_before_print (NoHolder known) = true
+is_before_print Unseen = true
 is_before_print status = is_before_write status

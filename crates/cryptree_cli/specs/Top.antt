@@ -5,7 +5,7 @@ use Rattle.cry_io.specs.Told.{WhereTold, WhereBothTold}
 use Rattle.cryptree_cli.specs.declared.status.Status.{Status}
 use Rattle.cryptree_cli.specs.declared.status.Status.TheVariants.{RandomFault, RandomShort, OutOfMemory}
 use Rattle.cryptree_cli.specs.declared.words.Form.{Form}
-use Rattle.cryptree_cli.specs.declared.words.Form.TheVariants.{Make, Run, Help, Version}
+use Rattle.cryptree_cli.specs.declared.words.Form.TheVariants.{Make, Run, Open, Help, Version}
 use Rattle.cryptree_cli.specs.declared.words.Form.TheVariants as forms
 use Rattle.cryptree_cli.specs.declared.texts.TheConstants.{HELP, VERSION}
 use Rattle.key_links.specs.Fresh.{piece, fresh_image}
@@ -23,6 +23,14 @@ IsRun words = form_of_words words ≡ Some Run
 -- the words ask for a key's view
 abbrev pub IsList : List (Listed ℕ) → Type 0
 IsList words = form_of_words words ≡ Some forms.List
+
+-- or for the one line of it that has a path
+abbrev pub IsOpen : List (Listed ℕ) → Type 0
+IsOpen words = form_of_words words ≡ Some Open
+
+-- either of these two, which only read
+abbrev pub IsReader : List (Listed ℕ) → Type 0
+IsReader words = IsList words ⊎ IsOpen words
 
 -- the text that the words ask for, where they ask for one
 abbrev pub text_of : Option Form → Option (List ℕ)

@@ -1,13 +1,13 @@
 //! What the program does, over any source of input and of random bytes, any disk and any sink.
 #![tactic(auto)]
 
-mod heard;
+mod answering;
 mod input;
 mod key_line;
-pub mod laws;
 mod lines;
 mod list;
 mod make;
+mod open;
 mod outside;
 mod owner_steps;
 mod piece;

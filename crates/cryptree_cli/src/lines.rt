@@ -2,9 +2,7 @@
 ghost use Rattle.std.specs.Prelude.{◌≡◌, ◌+◌, ◌-◌, ◌<◌, ◌≤◌, ◌∷◌, ◌++◌, [], Ok, Err, length, take, drop, is_some, IfOk, IfSome, IsNone, OnErr};
 ghost use Rattle.cry_io.specs.Counts.{CountsFault};
 ghost use Rattle.cry_io.specs.Told.{WhereTold, WhereBothTold};
-ghost use Rattle.cryptree_cli.specs.Heard.{IsOneLine};
-ghost use Rattle.cryptree_cli.specs.Input.{input_limit};
-ghost use Rattle.cryptree_cli.specs.Lines.{lines_ahead, IsLine, IsUnended, Gives, GivesFrom, GivesNext, GivesHeld, Numbers, NumbersNext, NextFailsByCount, Within};
+ghost use Rattle.cryptree_cli.specs.Lines.{bytes_ahead, input_limit, lines_ahead, IsLine, IsOneLine, Takes, TakesNext, IsUnended, Gives, GivesFrom, GivesNext, GivesHeld, Numbers, NumbersNext, NextFailsByCount, Within};
 
 use crate::piece::Piece;
 use cry_base::{List, Mem, Text};
@@ -46,14 +44,13 @@ pub(crate) struct LineReader {
 
 impl Model for LineReader {
     ghost use Rattle.std.specs.Prelude.{◌+◌, ◌≤◌, length};
-    ghost use Rattle.cryptree_cli.specs.Heard.{IsOneLine};
-    ghost use Rattle.cryptree_cli.specs.Lines.{LineState};
+    ghost use Rattle.cryptree_cli.specs.Lines.{IsOneLine, LineState};
 
     ghost Value = { LineState };
 
     ghost view = { λ r. record { line = r.line.items; piece = r.piece; room = r.spare + length r.line.items; given = r.given } };
 
-    ghost invariant = { λ r. IsOneLine r.line.items × (r.given + (r.spare + length r.line.items) ≤ 67108864) };
+    ghost invariant = { λ r. IsOneLine r.line.items × (r.given + (r.spare + length r.line.items) ≤ 67108864) × (length r.piece ≤ 4096) };
 }
 
 impl LineReader {
@@ -77,6 +74,7 @@ impl LineReader {
     ) -> Result<Next, NextFault>
         ensures told { is_some (S.left input.new) ≡ is_some (S.left input.old) }
         ensures lines { WhereBothTold (S.left input.old) (S.left input.new) (λ before after. GivesNext result (lines_ahead self.old before) (lines_ahead self.new after)) }
+        ensures bytes { WhereBothTold (S.left input.old) (S.left input.new) (λ before after. TakesNext result self.old self.new (bytes_ahead self.old before) (bytes_ahead self.new after)) }
         ensures to_end { result ≡ Ok Next.End → WhereTold (S.left input.new) (λ after. after ≡ []) }
         ensures number { NumbersNext result self.old.given self.new.given }
         ensures room { IfOk result (λ next. Within next self.old.room self.new.room) }
@@ -164,6 +162,7 @@ impl LineReader {
     fn last_line(&mut self, alloc: Global) -> Next
         requires { IsUnended self.old }
         ensures gives { Gives result (lines_ahead self.old []) (lines_ahead self.new []) }
+        ensures takes { Takes result self.old self.new (bytes_ahead self.old []) (bytes_ahead self.new []) }
         ensures number { Numbers result self.old.given self.new.given }
         ensures room { Within result self.old.room self.new.room }
     {

@@ -1,19 +1,20 @@
 //! The command `list`: the whole input, then all that its key opens, then the lines in one piece, in this order.
-ghost use Rattle.std.specs.Prelude.{◌≡◌, ◌<◌, ◌≤◌, [], Err, IfOk, IfErr, OnOk, is_some, IsTrue};
+ghost use Rattle.std.specs.Prelude.{◌≡◌, ◌≢◌, ◌<◌, ◌≤◌, Err, IfOk, IfErr, is_some, IsTrue};
 ghost use Rattle.cry_io.specs.Told.{WhereTold};
 ghost use Rattle.commit_journal.specs.Reading.{IsOnlyRead};
-ghost use Rattle.cryptree_cli.specs.Input.{input_answer};
-ghost use Rattle.cryptree_cli.specs.Listing.{Hands, InputDecides, ListsAs, owner_in, list_answer, view_status, is_list_answer, is_before_read};
+ghost use Rattle.cryptree_cli.specs.Listing.{GivesText, Reads, is_before_read, is_list_answer, is_store_answer, list_answer, view_answer};
 ghost use Rattle.cryptree_cli.specs.Status.{is_before_print};
-ghost use Rattle.holder_client.specs.Lines.{IsOwner, plain_view};
+ghost use Rattle.holder_client.specs.Judging.{shown_with};
+ghost use Rattle.holder_client.specs.Lines.{plain_view};
 ghost use Rattle.holder_client.specs.View.{spell_view};
 
-use crate::input::{InputFault, read_bundle_line};
-use crate::outside::print;
+use crate::answering::{client_status, input_status};
+use crate::input::read_bundle_line;
+use crate::outside::tell;
 use crate::status::Status;
 use cry_base::{Bundle, Line, List, Mem, Text};
 use cry_io::{Disk, Sink, Source};
-use holder_client::{ClientFault, view};
+use holder_client::view;
 use script_text::print_line;
 use std::alloc::Global;
 
@@ -24,69 +25,45 @@ pub(crate) fn list<S: Source, D: Disk, W: Sink>(
     disk: &mut D,
     out: &mut W,
 ) -> Status
+    ensures reads { Reads list_answer D.shown D.size_of D.may_leave result (S.left input.old) (S.left input.new) disk.old disk.new (W.written out.old) (W.written out.new) }
     ensures answers { IsTrue (is_list_answer result) }
-    ensures decides { WhereTold (S.left input.old) (λ typed. InputDecides result (owner_in (input_answer typed))) }
-    ensures lists { WhereTold (S.left input.old) (λ typed. WhereTold (D.shown disk.old) (λ image.
-        ListsAs result (list_answer typed image) (W.written out.old) (W.written out.new))) }
     ensures read_fault { result ≡ Status.ReadFault → S.faults input.old < S.faults input.new }
     ensures disk_fault { result ≡ Status.DiskFault → D.faults disk.old < D.faults disk.new }
     ensures write_fault { result ≡ Status.WriteFault → W.faults out.old < W.faults out.new }
-    ensures read_to_end { result ≡ Status.Done → WhereTold (S.left input.new) (λ rest. rest ≡ []) }
-    ensures reads_only { IsOnlyRead D.shown D.size_of D.may_leave disk.old disk.new }
     ensures disk_unread { IsTrue (is_before_read result) → disk.new ≡ disk.old }
     ensures out_kept { IsTrue (is_before_print result) → out.new ≡ out.old }
     ensures input_told { is_some (S.left input.new) ≡ is_some (S.left input.old) }
-    ensures disk_told { is_some (D.shown disk.new) ≡ is_some (D.shown disk.old) }
     ensures out_told { is_some (W.written out.new) ≡ is_some (W.written out.old) }
     ensures input_counts { S.faults input.old ≤ S.faults input.new }
     ensures disk_counts { D.faults disk.old ≤ D.faults disk.new }
     ensures out_counts { W.faults out.old ≤ W.faults out.new }
 {
-    let bundle = match owner_given(input) {
+    let bundle = match read_bundle_line(alloc, input) {
         Ok(bundle) => bundle,
-        Err(status) => return status,
+        Err(fault) => return input_status(fault),
     };
-    let lines = match view(alloc, disk, &bundle) {
-        Ok(lines) => lines,
-        Err(fault) => return status_of(fault),
-    };
-    let Ok(text) = text_of(alloc, &lines) else {
-        return Status::OutOfMemory;
-    };
-    let Ok(()) = print(out, text.as_slice()) else {
-        return Status::WriteFault;
-    };
-    Status::Done
-}
-
-/// The owner's bundle that the input hands in. A holder's can't be read yet, and its line is bad.
-fn owner_given<S: Source>(input: &mut S) -> Result<Bundle, Status>
-    ensures owner { IfOk result IsOwner }
-    ensures hands { WhereTold (S.left input.old) (λ typed. Hands result (owner_in (input_answer typed))) }
-    ensures faults { IfErr result (λ status. IsTrue (is_before_read status)) }
-    ensures read_fault { result ≡ Err Status.ReadFault → S.faults input.old < S.faults input.new }
-    ensures to_end { OnOk result (WhereTold (S.left input.new) (λ rest. rest ≡ [])) }
-    ensures told { is_some (S.left input.new) ≡ is_some (S.left input.old) }
-    ensures counts { S.faults input.old ≤ S.faults input.new }
-{
-    match read_bundle_line(input) {
-        Ok(Bundle::Owner { key }) => Ok(Bundle::Owner { key }),
-        Ok(Bundle::Holder { .. }) => Err(Status::BadScript { line: 1 }),
-        Err(InputFault::BadLine { line }) => Err(Status::BadScript { line }),
-        Err(InputFault::Failed) => Err(Status::ReadFault),
+    match view_text(alloc, disk, &bundle) {
+        Ok(text) => tell(text.as_slice(), out),
+        Err(status) => status,
     }
 }
 
-fn status_of(fault: ClientFault) -> Status
-    ensures { result ≡ view_status fault }
+/// What the bundle's key shows, as it is printed.
+fn view_text<D: Disk>(alloc: Global, disk: &mut D, bundle: &Bundle) -> Result<Text, Status>
+    ensures gives { WhereTold (D.shown disk.old) (λ image. GivesText result (view_answer (shown_with bundle.now image))) }
+    ensures ends { IfErr result (λ status. IsTrue (is_store_answer status)) }
+    ensures seen { result ≢ Err Status.Unseen }
+    ensures reads_only { IsOnlyRead D.shown D.size_of D.may_leave disk.old disk.new }
+    ensures counts { D.faults disk.old ≤ D.faults disk.new }
+    ensures disk_fault { result ≡ Err Status.DiskFault → D.faults disk.old < D.faults disk.new }
 {
-    match fault {
-        ClientFault::NotAStore => Status::NotAStore,
-        ClientFault::WrongKey => Status::WrongKey,
-        ClientFault::Damaged { at } => Status::Damaged { at },
-        ClientFault::Tampered { batch, at } => Status::Tampered { batch, at },
-        ClientFault::DiskFault => Status::DiskFault,
-        ClientFault::OutOfMemory => Status::OutOfMemory,
+    let lines = match view(alloc, disk, bundle) {
+        Ok(lines) => lines,
+        Err(fault) => return Err(client_status(fault)),
+    };
+    match text_of(alloc, &lines) {
+        Ok(text) => Ok(text),
+        Err(_) => Err(Status::OutOfMemory),
     }
 }
 

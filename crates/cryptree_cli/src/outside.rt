@@ -1,9 +1,11 @@
 //! A whole piece written to a sink.
-ghost use Rattle.std.specs.Prelude.{◌≡◌, is_some};
+ghost use Rattle.std.specs.Prelude.{◌≡◌, ◌<◌, ◌≤◌, ◌⊎◌, is_some};
 ghost use Rattle.cry_io.specs.Counts.{CountsFault};
 ghost use Rattle.cry_io.specs.Told.{WhereBothTold};
 ghost use Rattle.cryptree_cli.specs.Outside.{Prints};
+ghost use Rattle.cryptree_cli.specs.Top.{PrintsAll, PrintsFront};
 
+use crate::status::Status;
 use cry_io::{Failed, Sink};
 
 /// Writes a whole piece to a sink.
@@ -20,4 +22,18 @@ pub(crate) fn print<W: Sink>(out: &mut W, piece: &[u8]) -> Result<(), Failed>
         done += n;
     }
     Ok(())
+}
+
+/// Prints a whole text as the last thing that the program does.
+pub(crate) fn tell<W: Sink>(text: &[u8], out: &mut W) -> Status
+    ensures done { (result ≡ Status.Done) × WhereBothTold (W.written out.old) (W.written out.new) (PrintsAll text.now)
+        ⊎ (result ≡ Status.WriteFault) × WhereBothTold (W.written out.old) (W.written out.new) (PrintsFront text.now) }
+    ensures write_fault { result ≡ Status.WriteFault → W.faults out.old < W.faults out.new }
+    ensures out_told { is_some (W.written out.new) ≡ is_some (W.written out.old) }
+    ensures out_counts { W.faults out.old ≤ W.faults out.new }
+{
+    let Ok(()) = print(out, text) else {
+        return Status::WriteFault;
+    };
+    Status::Done
 }

@@ -61,6 +61,7 @@ impl Piece {
         ensures bytes { WhereBothTold (S.left input.old) (S.left input.new) (λ before after. before ≡ self.new ++ after) }
         ensures at_end { result ≡ Ok 0 → WhereTold (S.left input.old) (λ before. before ≡ []) }
         ensures count { IfOk result (λ count. count ≡ length self.new) }
+        ensures few { length self.new ≤ 4096 }
         ensures err { OnErr result (self.new ≡ []) }
         ensures counts { CountsFault result (S.faults input.old) (S.faults input.new) }
     {

@@ -37,10 +37,14 @@ pub enum Status {
     OutOfMemory,
     /// The store's file isn't empty.
     NotBlank,
+    /// No holder has this number: `known` were made so far.
+    NoHolder { known: u32 },
+    /// Nothing that the key shows has this path.
+    Unseen,
 }
 
 impl Status {
-    /// The exit status, 0 to 14.
+    /// The exit status, 0 to 16.
     pub fn code(&self) -> u8
         ensures { result ≡ code_of self.now }
     {
@@ -59,6 +63,8 @@ impl Status {
             Status::Tampered { .. } => 12,
             Status::OutOfMemory => 13,
             Status::NotBlank => 14,
+            Status::NoHolder { .. } => 15,
+            Status::Unseen => 16,
         }
     }
 }
@@ -88,6 +94,8 @@ pub fn fault_line(alloc: Global, status: &Status, out: &mut Text) -> Mem<()>
         }
         Status::OutOfMemory => out.append(b"cryptree: out of memory\n"),
         Status::NotBlank => out.append(b"cryptree: not blank\n"),
+        Status::NoHolder { known } => out.append(no_holder_line(alloc, *known)?.as_bytes()),
+        Status::Unseen => out.append(b"cryptree: unseen\n"),
     }
 }
 
@@ -107,6 +115,12 @@ fn damaged_line(alloc: Global, at: u64) -> Mem<String>
     ensures { IfOk result (λ text. string_bytes text ≡ line_of (Status.Damaged at)) }
 {
     Ok(format!(in alloc; "cryptree: damaged at {at}\n")?)
+}
+
+fn no_holder_line(alloc: Global, known: u32) -> Mem<String>
+    ensures { IfOk result (λ text. string_bytes text ≡ line_of (Status.NoHolder known)) }
+{
+    Ok(format!(in alloc; "cryptree: no holder, {known} known\n")?)
 }
 
 fn tampered_line(alloc: Global, batch: u32, at: u64) -> Mem<String>

@@ -4,20 +4,22 @@
 pub const HELP: &[u8] = b"\
 cryptree keeps shared folders in one store file, on a disk that nobody has to trust
 
-  cryptree STORE RANDOM make   make a store in STORE, a missing or empty file, and print its owner's key
-  cryptree STORE RANDOM run    apply the commands of standard input, one a line behind the owner's line, and answer each:
-                               holder, mkdir PATH, write PATH HEX, rm PATH, rename PATH NAME, move PATH FOLDER,
-                               grant N PATH or revoke N PATH
-  cryptree STORE RANDOM list   print what a key opens; the key's line, as make prints it, is read from standard input
-  cryptree --help              print this text
-  cryptree --version           print the version
+  cryptree STORE RANDOM make        make a store in STORE, a missing or empty file, and print its owner's key
+  cryptree STORE RANDOM run         apply the commands of standard input, one a line behind the owner's line, and answer each:
+                                    holder, mkdir PATH, write PATH HEX, rm PATH, rename PATH NAME, move PATH FOLDER,
+                                    grant N PATH or revoke N PATH
+  cryptree STORE RANDOM list        print what a key opens; the key's line is read from standard input: the owner's, as make
+                                    prints it, or a holder's, as run answers holder
+  cryptree STORE RANDOM open PATH   print the one line of it that has this path
+  cryptree --help                   print this text
+  cryptree --version                print the version
 
 RANDOM is a file of random bytes, such as /dev/urandom; - stands for none
 the owner's key opens the whole store: keep it secret, for nothing can bring it back
 
 exit status: 0 done, 2 usage, 3 bad line of input, 4 read fault, 5 write fault, 6 disk fault, 7 random fault,
              8 random too short, 9 not a store, 10 damaged, 11 wrong key, 12 tampered, 13 out of memory,
-             14 the store's file isn't empty
+             14 the store's file isn't empty, 15 no such holder, 16 nothing that the key opens has the path
 more: README.md, and docs/FORMAT.md for every byte of a store
 ";
 

@@ -2,22 +2,22 @@
 ghost use Rattle.std.specs.Prelude.{◌≡◌, ◌≢◌, ◌<◌, ◌≤◌, ◌⊎◌, ◌↔◌, ℕ, [], length, is_some, None, IsTrue, IsSome};
 ghost use Rattle.cry_io.specs.Stops.{IsDurable};
 ghost use Rattle.cry_io.specs.Told.{WhereTold, WhereBothTold};
-ghost use Rattle.commit_journal.specs.Reading.{IsOnlyRead};
-ghost use Rattle.cryptree_cli.specs.Input.{input_answer};
-ghost use Rattle.cryptree_cli.specs.Listing.{InputDecides, ListsAs, ListsFresh, owner_in, list_answer, is_list_answer, is_before_read};
+ghost use Rattle.cryptree_cli.specs.Journals.{AnswersJournal, line_of, view_of};
+ghost use Rattle.cryptree_cli.specs.Listing.{Reads, is_before_read, is_list_answer, is_open_answer, list_answer, open_answer};
 ghost use Rattle.cryptree_cli.specs.Refusing.{Refuses, is_refusal};
 ghost use Rattle.cryptree_cli.specs.Running.{EndsTyped, FirstIsBad, HasBadLine, JudgesTyped, RanDry, RanLines, ReadsWholeTyped, is_after_opening, is_before_opening, is_run_answer, key_in_lines, lines_in, lines_typed, seen_from};
 ghost use Rattle.cryptree_cli.specs.Status.{is_make_answer, is_before_draw, is_before_write, is_before_print};
-ghost use Rattle.cryptree_cli.specs.Top.{IsMake, IsRun, IsList, Makes, PrintsAll, PrintsFront, IsShort, EndsShort, text_of};
-ghost use Rattle.cryptree_cli.specs.Words.{form_of_words};
+ghost use Rattle.cryptree_cli.specs.Top.{IsMake, IsRun, IsList, IsOpen, IsReader, Makes, PrintsAll, PrintsFront, IsShort, EndsShort, text_of};
+ghost use Rattle.cryptree_cli.specs.Words.{form_of_words, path_in_words};
 
 use crate::list::list;
 use crate::make::make;
-use crate::outside::print;
+use crate::open::open;
+use crate::outside::tell;
 use crate::run::run;
 use crate::status::Status;
 use crate::texts::{HELP, VERSION};
-use crate::words::{Form, form_of};
+use crate::words::{Form, form_of, path_in};
 use cry_base::{List, Text};
 use cry_io::{Disk, Sink, Source};
 use std::alloc::Global;
@@ -26,8 +26,8 @@ use std::alloc::Global;
 /// the store's file, `random` a source of random bytes, `out` standard output, `input` standard input.
 ///
 /// Where two causes of an answer hold, the one met first is given; for `make`: words, size, memory, draw, disk, output; for
-/// `run`: words, the first line, the store, and then for each line its form, memory, draw, disk, output. Want of memory comes
-/// at its place in this order, and no clause says when.
+/// `run`: words, the first line, the store, and then for each line its form, memory, draw, disk, output; for `list` and `open`:
+/// words, the input, the store, output. Want of memory comes at its place in this order, and no clause says when.
 pub fn top<S: Source, R: Source, D: Disk, W: Sink>(
     alloc: Global,
     words: &List<Text>,
@@ -40,6 +40,7 @@ pub fn top<S: Source, R: Source, D: Disk, W: Sink>(
     ensures usage { (result ≡ Status.Usage) ↔ (form_of_words words.now.items ≡ None) }
     ensures make_answers { IsMake words.now.items → IsTrue (is_make_answer result) }
     ensures list_answers { IsList words.now.items → IsTrue (is_list_answer result) }
+    ensures open_answers { IsOpen words.now.items → IsTrue (is_open_answer result) }
     ensures not_blank { (result ≡ Status.NotBlank) ↔ (IsMake words.now.items × (D.size_of disk.old ≢ 0)) }
     ensures run_answers { IsRun words.now.items → IsTrue (is_run_answer result) }
     ensures short { IsMake words.now.items → (left need : ℕ) → result ≡ Status.RandomShort left need →
@@ -92,17 +93,20 @@ pub fn top<S: Source, R: Source, D: Disk, W: Sink>(
     ensures run_unopened { IsRun words.now.items → IsTrue (is_before_opening result) →
         (random.new ≡ random.old) × (disk.new ≡ disk.old) × (out.new ≡ out.old) }
 
-    // What `list` does: it reads the input to its end, reads the store, and prints what the key shows in one piece.
-    ensures list_input { IsList words.now.items → WhereTold (S.left input.old) (λ typed.
-        InputDecides result (owner_in (input_answer typed))) }
-    ensures listed { IsList words.now.items → WhereTold (S.left input.old) (λ typed. WhereTold (D.shown disk.old) (λ image.
-        ListsAs result (list_answer typed image) (W.written out.old) (W.written out.new))) }
-    ensures fresh_listed { IsList words.now.items →
-        WhereTold (S.left input.old) (λ typed. WhereTold (D.shown disk.old) (λ image.
-        ListsFresh result (owner_in (input_answer typed)) image (W.written out.old) (W.written out.new))) }
-    ensures list_read_to_end { IsList words.now.items → result ≡ Status.Done → WhereTold (S.left input.new) (λ rest. rest ≡ []) }
-    ensures list_reads_only { IsList words.now.items →
-        (random.new ≡ random.old) × IsOnlyRead D.shown D.size_of D.may_leave disk.old disk.new }
+    // What `list` and `open` do, whatever the input holds and the disk shows: they read the input to its end, open what the key opens of
+    // the store, and then print in one piece. The first line that is bad is told, also where the input failed behind it; and a
+    // failure of the store exactly where the image has it.
+    ensures listed { IsList words.now.items → Reads list_answer D.shown D.size_of D.may_leave result
+        (S.left input.old) (S.left input.new) disk.old disk.new (W.written out.old) (W.written out.new) }
+    ensures opened { IsOpen words.now.items → Reads (open_answer (path_in_words words.now.items)) D.shown D.size_of D.may_leave result
+        (S.left input.old) (S.left input.new) disk.old disk.new (W.written out.old) (W.written out.new) }
+    ensures readers_draw_none { IsReader words.now.items → random.new ≡ random.old }
+
+    // On a disk that shows a journal they answer what its store shows: to a reader whose key is right, and another key is told so.
+    ensures listed_journal { IsList words.now.items → WhereTold (S.left input.old) (λ typed. WhereTold (D.shown disk.old) (λ image.
+        AnswersJournal view_of result typed image (W.written out.old) (W.written out.new))) }
+    ensures opened_journal { IsOpen words.now.items → WhereTold (S.left input.old) (λ typed. WhereTold (D.shown disk.old) (λ image.
+        AnswersJournal (line_of (path_in_words words.now.items)) result typed image (W.written out.old) (W.written out.new))) }
 
     // What the texts do: nothing but print.
     ensures text { WhereTold (text_of (form_of_words words.now.items)) (λ text.
@@ -112,9 +116,9 @@ pub fn top<S: Source, R: Source, D: Disk, W: Sink>(
         (random.new ≡ random.old) × (disk.new ≡ disk.old) }
 
     // What an answer leaves as it was.
-    ensures input_kept { IsList words.now.items ⊎ (IsRun words.now.items ⊎ (input.new ≡ input.old)) }
+    ensures input_kept { IsReader words.now.items ⊎ (IsRun words.now.items ⊎ (input.new ≡ input.old)) }
     ensures random_kept { IsTrue (is_before_draw result) → IsRun words.now.items ⊎ (random.new ≡ random.old) }
-    ensures disk_kept { IsTrue (is_before_write result) → IsList words.now.items ⊎ (IsRun words.now.items ⊎ (disk.new ≡ disk.old)) }
+    ensures disk_kept { IsTrue (is_before_write result) → IsReader words.now.items ⊎ (IsRun words.now.items ⊎ (disk.new ≡ disk.old)) }
     ensures disk_unread { IsTrue (is_before_read result) → IsRun words.now.items ⊎ (disk.new ≡ disk.old) }
     ensures out_kept { IsTrue (is_before_print result) → IsRun words.now.items ⊎ (out.new ≡ out.old) }
 
@@ -133,20 +137,8 @@ pub fn top<S: Source, R: Source, D: Disk, W: Sink>(
         Some(Form::Make) => make(alloc, random, disk, out),
         Some(Form::Run) => run(alloc, input, random, disk, out),
         Some(Form::List) => list(alloc, input, disk, out),
+        Some(Form::Open) => open(alloc, path_in(words), input, disk, out),
         Some(Form::Help) => tell(HELP, out),
         Some(Form::Version) => tell(VERSION, out),
     }
-}
-
-fn tell<W: Sink>(text: &[u8], out: &mut W) -> Status
-    ensures done { (result ≡ Status.Done) × WhereBothTold (W.written out.old) (W.written out.new) (PrintsAll text.now)
-        ⊎ (result ≡ Status.WriteFault) × WhereBothTold (W.written out.old) (W.written out.new) (PrintsFront text.now) }
-    ensures write_fault { result ≡ Status.WriteFault → W.faults out.old < W.faults out.new }
-    ensures out_told { is_some (W.written out.new) ≡ is_some (W.written out.old) }
-    ensures out_counts { W.faults out.old ≤ W.faults out.new }
-{
-    let Ok(()) = print(out, text) else {
-        return Status::WriteFault;
-    };
-    Status::Done
 }

@@ -1,6 +1,6 @@
 //! The words that the program takes after its name.
 ghost use Rattle.std.specs.Prelude.{◌≡◌};
-ghost use Rattle.cryptree_cli.specs.Words.{form_of_words, option_form, command_form};
+ghost use Rattle.cryptree_cli.specs.Words.{form_of_words, option_form, command_form, path_command_form, path_in_words};
 
 use cry_base::{List, Text};
 
@@ -13,6 +13,8 @@ pub enum Form {
     Run,
     /// `STORE RANDOM list`
     List,
+    /// `STORE RANDOM open PATH`, where any word stands for a path
+    Open,
     /// `--help`
     Help,
     /// `--version`
@@ -26,7 +28,18 @@ pub fn form_of(words: &List<Text>) -> Option<Form>
     match words.as_slice() {
         [only] => option_of(only),
         [_store, _random, command] => command_of(command),
+        [_store, _random, command, _path] => path_command_of(command),
         _ => None,
+    }
+}
+
+/// The path that `STORE RANDOM open PATH` names, and no bytes where the words name none.
+pub(crate) fn path_in(words: &List<Text>) -> &[u8]
+    ensures { result.now ≡ path_in_words words.now.items }
+{
+    match words.as_slice() {
+        [_store, _random, _command, path] => path.as_slice(),
+        _ => &[],
     }
 }
 
@@ -51,6 +64,17 @@ fn command_of(word: &Text) -> Option<Form>
         Some(Form::Run)
     } else if word.as_slice() == b"list".as_slice() {
         Some(Form::List)
+    } else {
+        None
+    }
+}
+
+/// The command that takes one word more.
+fn path_command_of(word: &Text) -> Option<Form>
+    ensures { result ≡ path_command_form word.now }
+{
+    if word.as_slice() == b"open".as_slice() {
+        Some(Form::Open)
     } else {
         None
     }

@@ -3,9 +3,10 @@ use Rattle.cry_io.specs.Told.{WhereBothTold}
 use Rattle.cryptree_cli.specs.declared.status.Status.TheVariants.{Done, WriteFault}
 use Rattle.cryptree_cli.specs.declared.texts.TheConstants.{HELP, VERSION}
 use Rattle.cryptree_cli.specs.declared.words.Form.TheVariants.{Help, Version}
+use Rattle.cryptree_cli.specs.Journals.{AnswersJournal, line_of}
 use Rattle.cryptree_cli.specs.Top.{text_of, PrintsAll, PrintsFront}
 use Rattle.cryptree_cli.specs.Words.{form_of_words}
-use Rattle.cryptree_cli.proofs.ListingLemmas.{as_fresh}
+use Rattle.cryptree_cli.proofs.JournalAnswers.{line_as_journal, view_as_journal}
 use Rattle.cryptree_cli.proofs.MakeLemmas.{done_or_no_memory}
 use Rattle.cryptree_cli.proofs.top.top.Goals as goal
 
@@ -45,7 +46,12 @@ returns-in-Some-Make-clause-complete g c = λ is blank x was enough random disk 
     (λ e. omega (arith, make.write_fault e, out))
     (λ left need e. let short = make.short left need e in omega (arith, short.had x was, short.fewer, enough))
 
-pub returns-in-Some-List-clause-fresh_listed : goal.returns-in-Some-List-clause-fresh_listed
-returns-in-Some-List-clause-fresh_listed g c = λ is typed was image now drawn long hands same.
-    let written = g.W.Sink.written in
-    as_fresh c.list.result drawn typed image (written c.args.out.now) (written c.list.new.out) long hands same (c.list.ensures.lists typed was image now)
+pub returns-in-Some-List-clause-listed_journal : goal.returns-in-Some-List-clause-listed_journal
+returns-in-Some-List-clause-listed_journal g c = λ is typed was image now.
+    view_as_journal c.list.result typed image (g.W.Sink.written c.args.out.now) (g.W.Sink.written c.list.new.out) (c.list.ensures.reads.answered typed was image now)
+
+pub returns-in-Some-Open-clause-opened_journal : goal.returns-in-Some-Open-clause-opened_journal
+returns-in-Some-Open-clause-opened_journal g c = λ is typed was image now.
+    subst (λ path. AnswersJournal (line_of path) c.open.result typed image (g.W.Sink.written c.args.out.now) (g.W.Sink.written c.open.new.out)) c.path_in.ensures
+    (line_as_journal c.path_in.result.now c.open.result typed image (g.W.Sink.written c.args.out.now) (g.W.Sink.written c.open.new.out)
+    (c.open.ensures.reads.answered typed was image now))

@@ -1,6 +1,5 @@
 use Rattle.std.proofs.Common.{◌≡◌, ◌+◌, ◌-◌, ◌≤◌, ◌++◌, ℕ, List, length, take, drop, arith, ap, subst, sym, ◌∙◌}
-use Rattle.cryptree_cli.specs.Heard.{IsOneLine}
-use Rattle.cryptree_cli.specs.Lines.{LineState, GivesFrom}
+use Rattle.cryptree_cli.specs.Lines.{IsOneLine, LineState, GivesFrom, read_ahead}
 use Rattle.cryptree_cli.proofs.LineLemmas.{past_at_newline, line_at_newline}
 use Rattle.cryptree_cli.proofs.lines.LineReader.end_line.Goals as goal
 
@@ -10,7 +9,8 @@ returns-then-self-place-clause-gives c =
     let one : IsOneLine s.line = subst (λ x. IsOneLine x.line) c.self.view_is c.self.invariant.0 in
     let full : s.room ≤ length s.line + c.args.place = subst (λ x. x.room ≤ length x.line + c.args.place) c.self.view_is (omega (arith, c.if-self-place.true)) in
     subst (λ next. GivesFrom next s s) (sym c.past_limit.ensures)
-    (past_at_newline s c.args.place one c.requires.first c.requires.within c.requires.ends full)
+    (past_at_newline s c.args.place one c.requires.first c.requires.within c.requires.ends full
+    (subst (λ x. length x.piece ≤ read_ahead) c.self.view_is (omega (arith, c.self.invariant.2))))
 
 pub returns-clause-gives : goal.returns-clause-gives
 returns-clause-gives c =
@@ -29,3 +29,4 @@ returns-clause-gives c =
     let is_given : inside.given ≡ s.given = ap (λ x. x.given) c.self.view_is in
     line_at_newline s c.give.new.self c.give.result place line c.skip.new.self ((spare + length line) - length line) inside.given
     one c.requires.first c.requires.within c.requires.ends (omega (arith, room)) is_line is_piece is_given c.give.ensures.line c.give.ensures.rest
+    (subst (λ x. length x.piece ≤ read_ahead) c.self.view_is (omega (arith, c.self.invariant.2)))

@@ -1,8 +1,7 @@
-use Rattle.std.proofs.Common.{◌≡◌, ◌≢◌, ◌+◌, ◌-◌, ◌<◌, ◌≤◌, ◌++◌, [], ℕ, List, length, arith, ap, subst, sym, ◌∙◌, length-append}
+use Rattle.std.proofs.Common.{◌≡◌, ◌≢◌, ◌+◌, ◌-◌, ◌<◌, ◌≤◌, ◌++◌, [], ℕ, List, length, arith, ap, subst, sym, ◌∙◌, length-append, length-drop}
 use Rattle.std.proofs.lemmas.List.{drop_all}
 use Rattle.std.proofs.lemmas.List.Elements.{All-append}
-use Rattle.cryptree_cli.specs.Heard.{IsOneLine}
-use Rattle.cryptree_cli.specs.Lines.{LineState, GivesFrom}
+use Rattle.cryptree_cli.specs.Lines.{IsOneLine, LineState, GivesFrom, read_ahead}
 use Rattle.cryptree_cli.proofs.LineLemmas.{past_without_newline, piece_kept, same_state}
 use Rattle.cryptree_cli.proofs.lines.LineReader.keep_piece.Goals as goal
 
@@ -12,7 +11,8 @@ returns-then-self-count-clause-held c =
     let one : IsOneLine s.line = subst (λ x. IsOneLine x.line) c.self.view_is c.self.invariant.0 in
     let full : s.room < length s.line + length s.piece =
     subst (λ x. x.room < length x.line + length x.piece) c.self.view_is (omega (arith, c.if-self-count.true, ap length c.as_slice-count.ensures)) in
-    subst (λ next. GivesFrom next s s) (sym c.past_limit.ensures) (past_without_newline s one c.requires.one full)
+    subst (λ next. GivesFrom next s s) (sym c.past_limit.ensures) (past_without_newline s one c.requires.one full
+    (subst (λ x. length x.piece ≤ read_ahead) c.self.view_is (omega (arith, c.self.invariant.2))))
 
 pub invariant_of-self-2 : goal.invariant_of-self-2
 invariant_of-self-2 c =
@@ -30,6 +30,7 @@ invariant_of-self-2 c =
         ap length is_line,
         length-append inside.line.items inside.piece,
       ),
+      omega (arith, c.self.invariant.2, ap length c.skip.ensures, length-drop (length c.as_slice-count.result.now) inside.piece),
     )
 
 pub returns-clause-held : goal.returns-clause-held

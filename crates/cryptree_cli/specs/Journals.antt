@@ -1,0 +1,28 @@
+-- What `list` and `open` answer on a disk that shows a journal. This project's own, docs/FORMAT.md, "Reading".
+use Rattle.std.specs.Prelude.{◌≡◌, ℕ, List, Option, Result, Ok, Err}
+use Rattle.cry_base.specs.Store.{Store}
+use Rattle.cry_base.specs.declared.client.Bundle.{Bundle}
+use Rattle.public_fold.specs.Journal.{Journal, store_of}
+use Rattle.journal_bytes.specs.Journals.{IsHonestFor, StandsForJournal, published_journal}
+use Rattle.reader_laws.specs.Reading.{IsRightFor, IsWrongFor, line_shown_of, shown_of}
+use Rattle.cryptree_cli.specs.declared.status.Status.{Status}
+use Rattle.cryptree_cli.specs.declared.status.Status.TheVariants as statuses
+use Rattle.cryptree_cli.specs.Input.{input_answer}
+use Rattle.cryptree_cli.specs.Listing.{AnswersAs, line_answer, view_answer}
+
+-- what a store shows to a bundle's reader, as it is printed, or how the program ends: all of it
+abbrev pub view_of : Store → Bundle → Result (List ℕ) Status
+view_of s bundle = view_answer (shown_of s bundle)
+
+-- or the one line of a path
+abbrev pub line_of : List ℕ → Store → Bundle → Result (List ℕ) Status
+line_of path s bundle = line_answer (line_shown_of s bundle path)
+
+-- An image that stands for a journal, with an honest last slot, is answered to a reader with a right key as the store of the journal that
+-- it publishes says; and to one whose key has another check than the one that is published, the key is wrong.
+pub record AnswersJournal (wanted : Store → Bundle → Result (List ℕ) Status) (status : Status) (typed image : List ℕ) (before after : Option (List ℕ)) : Type 0 where
+  pub right : (owner : List ℕ) (m : Journal) (bundle : Bundle) → input_answer typed ≡ Ok bundle → StandsForJournal owner m image → IsHonestFor owner image m
+      → IsRightFor owner (published_journal owner image m) bundle
+      → AnswersAs status (wanted (store_of (published_journal owner image m)) bundle) before after
+  pub wrong : (owner : List ℕ) (m : Journal) (bundle : Bundle) → input_answer typed ≡ Ok bundle → StandsForJournal owner m image → IsHonestFor owner image m
+      → IsWrongFor owner (published_journal owner image m) bundle → AnswersAs status (Err statuses.WrongKey) before after
