@@ -5,3 +5,4 @@ pub mod Bringing
 pub mod Sealing
 pub mod Journals
 pub mod Secrets
+pub mod Computed
