@@ -24,7 +24,7 @@ all_told test (y ∷ ys) =
       λ w. and_from (test y) (list_all test ys) (w y (inl refl)) (rest.1 (λ x i. w x (inr i))),
     )
 
-node_told : (s : Store) (h : ℕ) (o : Option Node) → IsTrue (shown_node s h o) ↔ IsShownNode s h o
+pub node_told : (s : Store) (h : ℕ) (o : Option Node) → IsTrue (shown_node s h o) ↔ IsShownNode s h o
 unfolding shown_node
 node_told s h None = (λ t. false≢true t, λ n. absurd n)
 node_told s h (Some node) = shown_told s (TheHolder h) node
@@ -75,7 +75,7 @@ KeepsFrom known h at entries = (before : List Entry) (entry : Entry) (later : Li
     → (IsShownNode (stand_after at (before ++ entry ∷ [])).store h (node_of_piece c.piece) → ⊥)
     → (GainsLater (stand_after at (before ++ entry ∷ [])) later h → ⊥) → In c.key_serial known → ⊥
 
-never_empty : (before : List Entry) (entry : Entry) (later : List Entry) → [] ≡ before ++ entry ∷ later → ⊥
+pub never_empty : (before : List Entry) (entry : Entry) (later : List Entry) → [] ≡ before ++ entry ∷ later → ⊥
 never_empty [] entry later e = absurd cc
 never_empty (b ∷ bs) entry later e = absurd cc
 
@@ -115,7 +115,7 @@ from_told known h (x ∷ xs) at =
       λ w. let both = to_parts known h at x xs w in and_from a b (here.1 both.0) (rest.1 both.1),
     )
 
-known_told : (m : Journal) (h k : ℕ) (o : Option ℕ) → own_serial m (TheHolder h) ≡ o → In k (known_to m o) ↔ ((a : ℕ) × (own_serial m (TheHolder h) ≡ Some a) × Derives (history m) a k)
+pub known_told : (m : Journal) (h k : ℕ) (o : Option ℕ) → own_serial m (TheHolder h) ≡ o → In k (known_to m o) ↔ ((a : ℕ) × (own_serial m (TheHolder h) ≡ Some a) × Derives (history m) a k)
 unfolding known_to
 known_told m h k None e = (λ i. absurd i, λ w. let s : own_serial m (TheHolder h) ≡ Some w.0 = w.1 in absurd cc)
 known_told m h k (Some a) e = (

@@ -87,7 +87,7 @@ owner_alone r n =
       | false ↦ λ t e. absurd cc
     ]) refl
 
-first_holds : Holds is_root_role (state_of (record { store = no_store; keys = next_epoch no_keys }) no_past)
+pub first_holds : Holds is_root_role (state_of (record { store = no_store; keys = next_epoch no_keys }) no_past)
 unfolding next_epoch no_keys no_past
 first_holds = record {
   marked = record {

@@ -6,3 +6,5 @@ pub mod Sealing
 pub mod Journals
 pub mod Secrets
 pub mod Computed
+pub mod NoteSteps
+pub mod Unseen

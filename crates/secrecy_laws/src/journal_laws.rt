@@ -5,12 +5,13 @@ ghost use Rattle.cry_base.specs.declared.roles.Role.{Role};
 ghost use Rattle.role_graph.specs.Roles.{is_root_role};
 ghost use Rattle.public_fold.specs.Journal.{Journal, keys_of, nothing, stand_after};
 ghost use Rattle.public_fold.specs.KeyStep.{next_serial};
+ghost use Rattle.public_fold.specs.Records.{Content};
 ghost use Rattle.public_fold.specs.Valid.{IsValid};
 ghost use Rattle.closure_laws.specs.History.{history, trails};
 ghost use Rattle.closure_laws.specs.Secrecy.{KeepsSecret, keeps_secret};
 ghost use Rattle.secrecy_laws.specs.Holding.{Holds};
 ghost use Rattle.secrecy_laws.specs.Pasts.{ends_of, past_of, state_of};
-ghost use Rattle.secrecy_laws.specs.Revocation.{OpensByGain};
+ghost use Rattle.secrecy_laws.specs.Revocation.{IsDerivedUnseen, OpensByGain, derived_unseen};
 
 /// Revocation secrecy: in no valid journal a holder derives what an entry wrote while its object wasn't shown to the holder, unless a
 /// later entry is a gain for the holder.
@@ -35,4 +36,9 @@ pub fn keys_are_traced_in_journals()
     ensures holds { (m : Journal) → IsValid m → Holds is_root_role (state_of (stand_after nothing m) (past_of m)) }
     ensures below { (m : Journal) → IsValid m → (key : Role × ℕ) → In key (past_of m).made → key.1 < next_serial (keys_of m) }
     ensures trails { (m : Journal) → trails (history m) ≡ map ends_of (past_of m).links }
+{}
+
+/// What is computed of what a holder derives, and wasn't shown when it was written, is what is said of it, for every journal.
+pub fn unseen_contents_are_told()
+    ensures { (m : Journal) (h : ℕ) (c : Content) → In c (derived_unseen m h) ↔ IsDerivedUnseen m h c }
 {}
