@@ -1,18 +1,17 @@
 -- What is computed of a journal's secrets is what is said of them.
-use Rattle.std.proofs.Common.{◌≡◌, ℕ, Bool, true, false, not, ◌&&◌, ◌||◌, ◌==◌, ◌↔◌, List, [], ◌∷◌, ◌++◌, Option, Some, None, IsTrue, inl, inr, ⊎_elim, refl, sym, ap, ◌∙◌, subst}
+use Rattle.std.proofs.Common.{◌≡◌, ℕ, Bool, true, not, ◌||◌, ◌==◌, ◌↔◌, List, [], ◌∷◌, ◌++◌, Option, Some, None, IsTrue, inl, inr, ⊎_elim, refl, sym, ap, ◌∙◌, subst}
 use Rattle.std.specs.List.{list_all}
 use Rattle.std.proofs.lemmas.Bool.{or_cases, or_left, or_right, and_parts, and_from, false≢true, not-true, not_from_false, cases_Bool}
 use Rattle.cry_base.specs.Sets.{In, has}
 use Rattle.cry_base.specs.Store.{Store}
 use Rattle.cry_base.specs.declared.roles.Node.{Node}
 use Rattle.cry_base.proofs.Reaching.{has-in, in-has}
-use Rattle.role_graph.specs.Rights.{shown}
 use Rattle.role_graph.specs.Rights.Who.{TheHolder}
 use Rattle.role_graph.proofs.Granting.{nat_tells, shown_told}
 use Rattle.public_fold.specs.Journal.{Entry, Journal, Stand, nothing, entry_step, stand_then, stand_after}
 use Rattle.public_fold.specs.Records.{Content}
-use Rattle.closure_laws.specs.Gains.{IsGain, gains}
-use Rattle.closure_laws.specs.History.{Derives, DerivesFor, history, own_serial}
+use Rattle.closure_laws.specs.Gains.{gains}
+use Rattle.closure_laws.specs.History.{Derives, history, own_serial}
 use Rattle.closure_laws.specs.Secrecy.{IsShownNode, GainsLater, KeepsSecret, node_of_piece, shown_node, gains_later, kept_content, keeps_from, known_to, keeps_secret}
 use Rattle.closure_laws.proofs.Gaining.{derived_told, gains_told}
 

@@ -8,3 +8,4 @@ pub mod Secrets
 pub mod Computed
 pub mod NoteSteps
 pub mod Unseen
+pub mod Seeing

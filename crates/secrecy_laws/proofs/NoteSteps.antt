@@ -1,8 +1,7 @@
 -- The key step of any note that fits is a step of the laws over any roles.
-use Rattle.std.proofs.Common.{◌≡◌, ℕ, ◌*◌, ◌+◌, ◌^◌, ◌<◌, Bool, true, ◌&&◌, List, [], ◌∷◌, ◌++◌, inl, sym, ap, ◌∙◌, subst, arith}
-use Rattle.std.proofs.lemmas.Bool.{and_parts, false≢true}
+use Rattle.std.proofs.Common.{◌≡◌, ℕ, ◌*◌, ◌+◌, ◌^◌, ◌<◌, true, List, [], ◌∷◌, arith}
+use Rattle.std.proofs.lemmas.Bool.{and_parts}
 use Rattle.cry_base.specs.Sets.{In}
-use Rattle.cry_base.specs.Store.{no_store}
 use Rattle.cry_base.specs.declared.roles.Role.{Role}
 use Rattle.role_graph.specs.Edges.{edges}
 use Rattle.role_graph.specs.Roles.{is_root_role, same_role}
@@ -13,7 +12,7 @@ use Rattle.record_format.specs.Noted.{Note}
 use Rattle.public_fold.specs.Fitted.{told_step, told_stand}
 use Rattle.public_fold.specs.Journal.{Stand, nothing, note_step}
 use Rattle.public_fold.specs.Keyed.{KeysHold}
-use Rattle.public_fold.specs.KeyStep.{no_keys, next_epoch, next_serial, key_step}
+use Rattle.public_fold.specs.KeyStep.{next_epoch, next_serial}
 use Rattle.public_fold.specs.Records.{pieces_of}
 use Rattle.public_fold.specs.Rooted.{MayStand}
 use Rattle.public_fold.specs.StandFits.{note_fits}
@@ -22,7 +21,7 @@ use Rattle.public_fold.specs.Turns.{Turn, turn_fits, turn_stand, turns_fit, turn
 use Rattle.public_fold.specs.Turns.Turn.{Began, Noted}
 use Rattle.public_fold.proofs.NoteMoves.{note_moves}
 use Rattle.public_fold.proofs.TurnsHold.{fit_told, note_holds, epoch_stands, first_stands, first_note}
-use Rattle.secrecy_laws.specs.States.{State, IsStep, Fits}
+use Rattle.secrecy_laws.specs.States.{IsStep, Fits}
 use Rattle.secrecy_laws.specs.Holding.{Holds}
 use Rattle.secrecy_laws.specs.Pasts.{Past, no_past, past_then, state_of, move_of}
 use Rattle.secrecy_laws.specs.NotedPasts.{past_note, past_turns}

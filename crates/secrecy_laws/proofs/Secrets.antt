@@ -1,5 +1,5 @@
 -- Revocation secrecy for every valid journal, both sentences.
-use Rattle.std.proofs.Common.{◌≡◌, ℕ, ◌+◌, ◌^◌, ◌<◌, Bool, true, ◌&&◌, List, [], ◌∷◌, ◌++◌, map, length, Option, Some, None, inl, inr, ◌⊎◌, ⊎_elim, refl, sym, ap, ◌∙◌, subst, append_assoc, append-nil}
+use Rattle.std.proofs.Common.{◌≡◌, ℕ, ◌+◌, ◌^◌, ◌<◌, true, List, [], ◌∷◌, ◌++◌, map, length, Some, None, inl, inr, ◌⊎◌, ⊎_elim, refl, sym, ap, ◌∙◌, subst, append_assoc, append-nil}
 use Rattle.std.proofs.lemmas.Bool.{and_parts}
 use Rattle.std.proofs.lemmas.List.{map-append}
 use Rattle.cry_base.specs.Sets.{In, Path}
@@ -17,16 +17,16 @@ use Rattle.record_format.specs.Noted.{Note}
 use Rattle.record_format.specs.Noted.Note.{Root}
 use Rattle.public_fold.specs.Journal.{Entry, Journal, Stand, nothing, first_key, note_step, entry_step, entry_store, stand_then, stand_after, steps_from, steps_of, keys_of}
 use Rattle.public_fold.specs.Journal.Entry.{Session, Made, Did}
-use Rattle.public_fold.specs.Keyed.{HasRole, KeysHold, links_of}
-use Rattle.public_fold.specs.KeyStep.{KeyState, Stepped, no_keys, next_epoch, newest, next_serial, present, keys_then, renewed, given, published_edges, published, step_with, key_step}
-use Rattle.public_fold.specs.Records.{Link, Content, pieces_of, sealing_role}
+use Rattle.public_fold.specs.Keyed.{KeysHold, links_of}
+use Rattle.public_fold.specs.KeyStep.{KeyState, Stepped, no_keys, next_epoch, newest, next_serial, keys_then, renewed, given, published_edges, published, step_with, key_step}
+use Rattle.public_fold.specs.Records.{Content, pieces_of, sealing_role}
 use Rattle.public_fold.specs.StandFits.{note_fits, entry_fits, all_fit}
 use Rattle.public_fold.specs.Valid.{FollowOn, BeginsWell, IsValid}
 use Rattle.public_fold.proofs.AllFit.{journal_all_fit}
 use Rattle.public_fold.proofs.KeepingKeys.{IsMove}
 use Rattle.public_fold.proofs.KeyMoves.{IsSound, effect_sound, root_sound, root_moves, nothing_holds}
-use Rattle.closure_laws.specs.Gains.{IsWritten, IsGain}
-use Rattle.closure_laws.specs.History.{Published, published_from, history, trails, Derives, own_serial, DerivesFor}
+use Rattle.closure_laws.specs.Gains.{IsWritten}
+use Rattle.closure_laws.specs.History.{Published, published_from, history, trails, own_serial, DerivesFor}
 use Rattle.closure_laws.specs.Secrecy.{IsShownNode, node_of_piece, GainsLater, KeepsSecret}
 use Rattle.secrecy_laws.specs.Holding.{Holds}
 use Rattle.secrecy_laws.specs.Pasts.{Past, no_past, past_then, past_entry, past_after, past_of, ends_of, state_of}

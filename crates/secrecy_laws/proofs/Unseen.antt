@@ -1,5 +1,5 @@
 -- What is computed of what a holder derives unseen is what is said of it.
-use Rattle.std.proofs.Common.{◌≡◌, ℕ, Bool, not, ◌&&◌, ◌==◌, ◌↔◌, List, [], ◌∷◌, ◌++◌, filter, inl, inr, ◌⊎◌, ⊎_elim, refl, sym, ap, ◌∙◌, subst}
+use Rattle.std.proofs.Common.{◌≡◌, ℕ, not, ◌==◌, ◌↔◌, List, [], ◌∷◌, ◌++◌, filter, inl, inr, ◌⊎◌, ⊎_elim, refl, sym, ap, ◌∙◌, subst}
 use Rattle.std.proofs.lemmas.Bool.{and_parts, and_from, false≢true, not-true, not_from_false, false_from_ne_true}
 use Rattle.cry_base.specs.Sets.{In, has}
 use Rattle.cry_base.proofs.Members.{In-append, In-filter, filter-In}
@@ -8,8 +8,7 @@ use Rattle.role_graph.specs.Rights.Who.{TheHolder}
 use Rattle.role_graph.proofs.Granting.{nat_tells}
 use Rattle.public_fold.specs.Journal.{Entry, Journal, Stand, nothing, entry_step, stand_then, stand_after}
 use Rattle.public_fold.specs.Records.{Content}
-use Rattle.closure_laws.specs.Gains.{IsWritten}
-use Rattle.closure_laws.specs.History.{DerivesFor, own_serial}
+use Rattle.closure_laws.specs.History.{own_serial}
 use Rattle.closure_laws.specs.Secrecy.{IsShownNode, node_of_piece, shown_node, known_to}
 use Rattle.secrecy_laws.specs.Revocation.{IsDerivedUnseen, is_unseen, unseen_from, derived_unseen}
 use Rattle.secrecy_laws.proofs.Computed.{node_told, known_told, never_empty}

@@ -4,4 +4,5 @@ pub mod Runs
 pub mod Pasts
 pub mod NotedPasts
 pub mod Revocation
+pub mod Sights
 pub mod WorkedSecrets

@@ -11,6 +11,9 @@ ghost use Rattle.closure_laws.specs.History.{history, trails};
 ghost use Rattle.closure_laws.specs.Secrecy.{KeepsSecret, keeps_secret};
 ghost use Rattle.secrecy_laws.specs.Holding.{Holds};
 ghost use Rattle.secrecy_laws.specs.Pasts.{ends_of, past_of, state_of};
+ghost use Rattle.closure_laws.specs.Seen.{Sight, seen};
+ghost use Rattle.role_graph.specs.Rights.Who.{TheHolder};
+ghost use Rattle.secrecy_laws.specs.Sights.{IsFairlySeen};
 ghost use Rattle.secrecy_laws.specs.Revocation.{IsDerivedUnseen, OpensByGain, derived_unseen};
 
 /// Revocation secrecy: in no valid journal a holder derives what an entry wrote while its object wasn't shown to the holder, unless a
@@ -23,6 +26,12 @@ pub fn journals_keep_secrets()
 /// key and wasn't in reach, and that role's present key after the entry leads to the key of what was written.
 pub fn secrets_open_by_gains()
     ensures { (m : Journal) → IsValid m → (h : ℕ) → OpensByGain m h }
+{}
+
+/// Each name and file that an audit shows a holder of a valid journal was shown to the holder when it was written, or a later gain for
+/// the holder opens it.
+pub fn audits_show_what_was_shown_or_gained()
+    ensures { (m : Journal) → IsValid m → (h : ℕ) (x : Sight) → In x (seen m (TheHolder h)) → IsFairlySeen m h x }
 {}
 
 /// What is computed of a journal's secrets is what is said of them, for every journal.

@@ -20,12 +20,16 @@ ghost use Rattle.secrecy_laws.specs.States.{Fits, IsStep};
 
 /// The key step of a note that fits is a step of the laws over any roles, and keeps to what a step has to.
 pub fn fitting_notes_are_steps()
-    ensures step { (at : Stand) (note : Note) (p : Past) → IsTrue (fits at.store note) → MayStand at.store → KeysHold at.store at.keys p.links
+    ensures step { (at : Stand) (note : Note) (p : Past)
+        → IsTrue (fits at.store note) → MayStand at.store → KeysHold at.store at.keys p.links
         → ((key : Role × ℕ) → In key p.made → key.1 < next_serial at.keys)
-        → IsStep (state_of at p) (move_of (edges at.store) (change_of at.store note) (told_step at note)) (state_of (told_stand at note) (past_note at p note)) }
-    ensures fits { (at : Stand) (note : Note) (p : Past) → IsTrue (fits at.store note) → MayStand at.store → KeysHold at.store at.keys p.links
+        → IsStep (state_of at p) (move_of (edges at.store) (change_of at.store note) (told_step at note))
+            (state_of (told_stand at note) (past_note at p note)) }
+    ensures fits { (at : Stand) (note : Note) (p : Past)
+        → IsTrue (fits at.store note) → MayStand at.store → KeysHold at.store at.keys p.links
         → ((key : Role × ℕ) → In key p.made → key.1 < next_serial at.keys)
-        → Fits is_root_role (state_of at p) (move_of (edges at.store) (change_of at.store note) (told_step at note)) (state_of (told_stand at note) (past_note at p note)) }
+        → Fits is_root_role (state_of at p) (move_of (edges at.store) (change_of at.store note) (told_step at note))
+            (state_of (told_stand at note) (past_note at p note)) }
 {}
 
 /// What holds of keys over any roles holds after any turns, each of which fits where it comes, from nothing on; and so after any log of

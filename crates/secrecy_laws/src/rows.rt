@@ -18,6 +18,7 @@ pub fn a_grant_opens_what_was_written_before()
 /// So does a move into what is granted.
 #[tactic(auto, unfolding(crate::specs::WorkedSecrets::secrets))]
 pub fn a_move_opens_what_was_written_before()
-    ensures { map (λ c. c.piece.name) (derived_unseen (granting ++ (does 5 (MakeFolder (codes "/b")) ∷ does 0 (Relocate (codes "/b") (codes "/a")) ∷ [])) 1)
+    ensures { map (λ c. c.piece.name)
+        (derived_unseen (granting ++ (does 5 (MakeFolder (codes "/b")) ∷ does 0 (Relocate (codes "/b") (codes "/a")) ∷ [])) 1)
         ≡ [] ∷ codes "a" ∷ codes "x" ∷ codes "b" ∷ [] }
 {}
