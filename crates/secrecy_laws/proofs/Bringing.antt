@@ -1,7 +1,7 @@
 -- An entry that brings a role into a holder's reach is a gain for the holder.
-use Rattle.std.proofs.Common.{◌≡◌, ℕ, ◌+◌, Bool, not, ◌&&◌, ◌==◌, List, [], ◌∷◌, ◌++◌, filter, Option, Some, None, inl, inr, ◌⊎◌, ⊎_elim, refl, sym, ap, ◌∙◌, subst}
+use Rattle.std.proofs.Common.{◌≡◌, ℕ, not, ◌&&◌, ◌==◌, List, [], ◌∷◌, Option, Some, None, inl, inr, ◌⊎◌, ⊎_elim, refl, sym, ap, subst}
 use Rattle.std.proofs.lemmas.Bool.{eqb-true}
-use Rattle.cry_base.specs.Sets.{In, Path}
+use Rattle.cry_base.specs.Sets.{In}
 use Rattle.cry_base.specs.Sets.Path.{Here, On}
 use Rattle.cry_base.specs.Requests.{Request}
 use Rattle.cry_base.specs.Requests.Request.{AddHolder, MakeFolder, WriteFile, Remove, Rename, Relocate, Grant, Revoke}
@@ -16,8 +16,6 @@ use Rattle.cry_base.specs.declared.roles.Role.TheVariants.{Owner, Holder, Clear,
 use Rattle.cry_base.proofs.Finding.{find-found}
 use Rattle.cry_base.proofs.Members.{In-append, In-map, In-filter}
 use Rattle.role_graph.specs.Edges.{Reaches, edges, pairs_of, IsEdge}
-use Rattle.role_graph.specs.Rights.{IsShown, IsOpen, IsGranted}
-use Rattle.role_graph.specs.Rights.Who.{TheHolder}
 use Rattle.role_graph.specs.RightsByReach.{HasFolder, IsRightful, IsStandingRole, IsSettled}
 use Rattle.role_graph.specs.Roles.{holder_role}
 use Rattle.role_graph.proofs.Edging.{edges_told}

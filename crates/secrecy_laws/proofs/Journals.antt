@@ -1,8 +1,7 @@
 -- Whole journals: what holds after each entry, and how a holder comes to derive what was written unseen.
-use Rattle.std.proofs.Common.{◌≡◌, ℕ, ◌+◌, ◌*◌, ◌^◌, ◌-◌, ◌<◌, ◌≤◌, Bool, true, false, cond, ◌&&◌, List, [], ◌∷◌, ◌++◌, map, length, Option, Some, None, inl, inr, ◌⊎◌, ⊎_elim, refl, sym, ap, ◌∙◌, subst, arith, append_assoc}
+use Rattle.std.proofs.Common.{◌≡◌, ℕ, ◌+◌, ◌*◌, ◌^◌, ◌-◌, ◌<◌, true, false, cond, ◌&&◌, List, [], ◌∷◌, map, Some, None, inl, inr, ⊎_elim, refl, sym, ap, ◌∙◌, subst, arith}
 use Rattle.std.specs.Prelude.{nat_lt}
 use Rattle.std.proofs.lemmas.Bool.{and_parts, ltb-true}
-use Rattle.std.proofs.lemmas.List.{map-append}
 use Rattle.cry_base.specs.Sets.{In, Path}
 use Rattle.cry_base.specs.Requests.{Request}
 use Rattle.cry_base.specs.Store.{Store, no_store, root_store}
@@ -11,9 +10,8 @@ use Rattle.cry_base.specs.Refusing.{refusal_of}
 use Rattle.cry_base.specs.declared.roles.Edge.{Edge}
 use Rattle.cry_base.specs.declared.roles.Role.{Role}
 use Rattle.cry_base.specs.declared.roles.Role.TheVariants.{Owner}
-use Rattle.cry_base.proofs.Members.{In-append, In-map}
-use Rattle.role_graph.specs.Edges.{Reaches, edges, pairs_of, IsEdge, IsOwnEdge, IsParentEdge, IsGrantEdge, IsFileEdge}
-use Rattle.role_graph.specs.Rights.Who.{TheHolder}
+use Rattle.cry_base.proofs.Members.{In-map}
+use Rattle.role_graph.specs.Edges.{Reaches, edges, pairs_of, IsOwnEdge, IsParentEdge, IsGrantEdge, IsFileEdge}
 use Rattle.role_graph.specs.Roles.{holder_role, is_root_role, same_role}
 use Rattle.role_graph.proofs.Comparing.{same_role_tells}
 use Rattle.role_graph.proofs.Edging.{edges_told}
@@ -22,29 +20,26 @@ use Rattle.move_plan.specs.Fitting.{fits}
 use Rattle.move_plan.specs.Noting.{note_of}
 use Rattle.record_format.specs.Noted.{Note}
 use Rattle.record_format.specs.Noted.Note.{Root}
-use Rattle.public_fold.specs.Journal.{Entry, Journal, Stand, nothing, first_key, note_step, entry_step, entry_store, stand_then, stand_after, steps_from, steps_of, keys_of}
+use Rattle.public_fold.specs.Journal.{Entry, Stand, nothing, first_key, note_step, entry_step, entry_store, stand_then, stand_after}
 use Rattle.public_fold.specs.Journal.Entry.{Session, Made, Did}
-use Rattle.public_fold.specs.Keyed.{HasRole, KeysHold, links_of}
-use Rattle.public_fold.specs.KeyStep.{KeyState, Stepped, no_keys, next_epoch, newest, next_serial, numbered, present, contents_from, keys_then, renewed, given, published_edges, published, step_with, key_step}
-use Rattle.public_fold.specs.Records.{Link, Piece, Content, pieces_of, sealing_role}
+use Rattle.public_fold.specs.Keyed.{KeysHold}
+use Rattle.public_fold.specs.KeyStep.{KeyState, Stepped, no_keys, next_epoch, newest, next_serial, published, key_step}
+use Rattle.public_fold.specs.Records.{Piece, pieces_of}
 use Rattle.public_fold.specs.StandFits.{has_count, note_fits, entry_fits, all_fit}
-use Rattle.public_fold.specs.Valid.{IsNext, FollowOn, BeginsWell, IsValid}
-use Rattle.public_fold.proofs.AllFit.{journal_all_fit}
+use Rattle.public_fold.specs.Valid.{FollowOn}
 use Rattle.public_fold.proofs.KeepingKeys.{IsMove, keys_after}
 use Rattle.public_fold.proofs.KeyMoves.{IsSound, effect_sound, root_sound, command_moves, root_moves, nothing_holds, epoch_holds}
-use Rattle.closure_laws.specs.Gains.{IsWritten, IsGain}
-use Rattle.closure_laws.specs.History.{Published, published_from, history, trails, Derives, own_serial, DerivesFor}
-use Rattle.closure_laws.specs.Secrecy.{IsShownNode, node_of_piece, GainsLater, KeepsSecret}
-use Rattle.secrecy_laws.specs.States.{State, Move, IsStep, Fits}
-use Rattle.secrecy_laws.specs.Holding.{Holds, AreMarked, AreMadeOnce, Opens, Brings}
-use Rattle.secrecy_laws.specs.Runs.{Turn, state_after, AreSteps, IsOpened}
-use Rattle.secrecy_laws.specs.Pasts.{Past, no_past, past_then, past_entry, past_after, past_of, ends_of, state_of, move_of, turns_of}
-use Rattle.secrecy_laws.specs.Revocation.{IsBrought, GainOpens, OpensByGain}
+use Rattle.closure_laws.specs.Gains.{IsGain}
+use Rattle.closure_laws.specs.History.{Published, trails}
+use Rattle.secrecy_laws.specs.States.{State, IsStep, Fits}
+use Rattle.secrecy_laws.specs.Holding.{Holds, Opens, Brings}
+use Rattle.secrecy_laws.specs.Runs.{state_after, AreSteps, IsOpened}
+use Rattle.secrecy_laws.specs.Pasts.{Past, no_past, past_then, past_entry, past_after, ends_of, state_of, move_of, turns_of}
+use Rattle.secrecy_laws.specs.Revocation.{GainOpens}
 use Rattle.secrecy_laws.proofs.Steps.{stays_held}
 use Rattle.secrecy_laws.proofs.Whole.{opens_by_gain}
-use Rattle.secrecy_laws.proofs.KeySteps.{is_step, fits_step, below_after, source_clean, keyed_present}
+use Rattle.secrecy_laws.proofs.KeySteps.{is_step, fits_step, below_after}
 use Rattle.secrecy_laws.proofs.Bringing.{brings_gain}
-use Rattle.secrecy_laws.proofs.Sealing.{pieces_sealed, sealed_due, sealed_stands, reached_shown, content_told}
 
 -- what holds of a stand with its past
 pub record Kept (at : Stand) (p : Past) : Type 0 where
@@ -87,7 +82,7 @@ owner_alone r n =
       | false ↦ λ t e. absurd cc
     ]) refl
 
-first_holds : Holds is_root_role (state_of (record { store = no_store; keys = next_epoch no_keys }) no_past)
+pub first_holds : Holds is_root_role (state_of (record { store = no_store; keys = next_epoch no_keys }) no_past)
 unfolding next_epoch no_keys no_past
 first_holds = record {
   marked = record {

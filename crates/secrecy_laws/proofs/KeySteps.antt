@@ -1,5 +1,5 @@
 -- The key step of a store is a step of the laws over any roles.
-use Rattle.std.proofs.Common.{◌≡◌, ℕ, ◌+◌, ◌*◌, ◌^◌, ◌<◌, ◌≤◌, Bool, true, false, cond, ◌||◌, ◌⊎◌, ◌↔◌, List, [], ◌∷◌, ◌++◌, map, filter, length, Option, Some, None, inl, inr, ⊎_elim, refl, sym, ap, ◌∙◌, subst, arith}
+use Rattle.std.proofs.Common.{◌≡◌, ℕ, ◌+◌, ◌*◌, ◌^◌, ◌<◌, ◌≤◌, true, false, cond, ◌||◌, ◌⊎◌, ◌↔◌, List, [], ◌∷◌, ◌++◌, map, filter, length, Option, Some, None, inl, inr, ⊎_elim, refl, sym, ap, ◌∙◌, subst, arith}
 use Rattle.std.specs.Prelude.{unwrap_or}
 use Rattle.std.proofs.lemmas.Bool.{or_cases, or_left, or_right, false≢true}
 use Rattle.cry_base.specs.Sets.{In, Path, has}
@@ -16,14 +16,13 @@ use Rattle.role_graph.proofs.Edging.{edges_told}
 use Rattle.role_graph.proofs.Typing.{typed}
 use Rattle.rekey_walk.proofs.Marking.{mark_all_told}
 use Rattle.move_plan.specs.Change.{Change}
-use Rattle.public_fold.specs.Journal.{Stand}
 use Rattle.public_fold.specs.Keyed.{HasRole, KeysHold}
 use Rattle.public_fold.specs.KeyStep.{KeyState, Stepped, without, edges_left, dirty_left, renewed, next_serial, numbered, given, keys_then, keys_without, newest, present, edges_then, is_published, published_edges, link_of, links_from, published, step_with, key_step}
 use Rattle.public_fold.specs.Records.{Link, Piece}
-use Rattle.public_fold.proofs.EdgesThen.{IsThen, same_edge_tells, left_told, then_told}
+use Rattle.public_fold.proofs.EdgesThen.{same_edge_tells, left_told, then_told}
 use Rattle.public_fold.proofs.KeepingKeys.{IsMove, newest-first, numbered-some, without_told, marked_told, marked_stands, marked_no_root, planned_told, same_key, no_key, keys_after}
 use Rattle.public_fold.proofs.Serials.{numbered-between, keys_between}
-use Rattle.secrecy_laws.specs.States.{State, Move, IsTouched, IsPublished, IsStep, Fits}
+use Rattle.secrecy_laws.specs.States.{State, Move, IsStep, Fits}
 use Rattle.secrecy_laws.specs.Pasts.{Past, marks_of, serials_of, past_then, ends_of, state_of, move_of}
 use Rattle.secrecy_laws.proofs.Steps.{member}
 
@@ -279,8 +278,7 @@ module _ (s t : Store) (k : KeyState) (c : Change) (p : Past) (pieces : List Pie
         λ i. let w = link_of_edge n l i in
             let e = w.0 in
             let v = published_is e w.1 in
-            let ends = mv.ends_after e v.0 in
-            (
+            let ends = mv.ends_after e v.0 in (
               (e.from, e.to),
               pair_in (edges t) e ((edges_told t e).1 v.0),
               keyed_present e.from ends.0 ∙ ap (λ n. Some n) (sym w.2),
@@ -289,12 +287,12 @@ module _ (s t : Store) (k : KeyState) (c : Change) (p : Past) (pieces : List Pie
             ),
         λ w. let at = (pair_told (edges t) w.0).0 w.1 in
             let one = λ (e : Edge) (same : w.0 ≡ (e.from, e.to)) (i : In e (published_edges (edges s) c (renewed k (edges s) c))).
-                link_for n e l i (ap (newest ks) (sym (source_is w.0 e same)) ∙ w.2) (ap (newest ks) (sym (target_is w.0 e same)) ∙ w.3) in
+            link_for n e l i (ap (newest ks) (sym (source_is w.0 e same)) ∙ w.2) (ap (newest ks) (sym (target_is w.0 e same)) ∙ w.3) in
             ⊎_elim
             (λ a. let u = (pair_told c.added w.0).0 a in one u.0 u.2 (is_shown u.0 (added_after u.0 u.1) (inl u.1)))
             (λ v. one at.0 at.2 (is_shown at.0 ((edges_told t at.0).0 at.1) (inr (⊎_elim
-                (λ a. inl (subst (λ r. In r (renewed k (edges s) c ++ c.fresh)) (source_is w.0 at.0 at.2) (touched w.0.0 a)))
-                (λ a. inr (subst (λ r. In r (renewed k (edges s) c ++ c.fresh)) (target_is w.0 at.0 at.2) (touched w.0.1 a))) v))))
+            (λ a. inl (subst (λ r. In r (renewed k (edges s) c ++ c.fresh)) (source_is w.0 at.0 at.2) (touched w.0.0 a)))
+            (λ a. inr (subst (λ r. In r (renewed k (edges s) c ++ c.fresh)) (target_is w.0 at.0 at.2) (touched w.0.1 a))) v))))
             w.4,
       )
 

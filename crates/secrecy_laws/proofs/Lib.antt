@@ -5,3 +5,7 @@ pub mod Bringing
 pub mod Sealing
 pub mod Journals
 pub mod Secrets
+pub mod Computed
+pub mod NoteSteps
+pub mod Unseen
+pub mod Seeing

@@ -1,14 +1,11 @@
 -- What a note seals is sealed under the present key of a clean role, which a holder reaches only where it is shown.
-use Rattle.std.proofs.Common.{◌≡◌, ℕ, ◌+◌, true, false, cond, ◌==◌, List, [], ◌∷◌, map, Option, Some, None, inl, inr, ◌⊎◌, ⊎_elim, refl, sym, ap, ◌∙◌, subst}
+use Rattle.std.proofs.Common.{◌≡◌, ℕ, ◌+◌, List, [], ◌∷◌, Some, None, inl, inr, ◌⊎◌, ⊎_elim, refl, sym, ap, ◌∙◌, subst}
 use Rattle.cry_base.specs.Sets.{In}
 use Rattle.cry_base.specs.Store.{Store, FolderEntry, FileEntry, HolderEntry, folder_node, file_node, folder_entry, file_entry, holder_entry}
-use Rattle.cry_base.specs.declared.roles.Edge.{Edge}
-use Rattle.cry_base.specs.declared.roles.Node.{Node}
 use Rattle.cry_base.specs.declared.roles.Role.{Role}
-use Rattle.cry_base.specs.declared.roles.Role.TheVariants.{Owner, Holder, Clear, Sub, Back, Files, Data, File}
+use Rattle.cry_base.specs.declared.roles.Role.TheVariants.{Owner}
 use Rattle.cry_base.proofs.Members.{In-map}
 use Rattle.role_graph.specs.Edges.{Reaches, edges}
-use Rattle.role_graph.specs.Rights.Who.{TheHolder}
 use Rattle.role_graph.specs.RightsByReach.{IsRightful}
 use Rattle.role_graph.specs.Roles.{holder_role, data_of, file_role, folder_roles}
 use Rattle.role_graph.proofs.Rightful.{rights_by_reach}

@@ -1,5 +1,5 @@
 -- Revocation secrecy for every valid journal, both sentences.
-use Rattle.std.proofs.Common.{◌≡◌, ℕ, ◌+◌, ◌^◌, ◌<◌, Bool, true, ◌&&◌, List, [], ◌∷◌, ◌++◌, map, length, Option, Some, None, inl, inr, ◌⊎◌, ⊎_elim, refl, sym, ap, ◌∙◌, subst, append_assoc, append-nil}
+use Rattle.std.proofs.Common.{◌≡◌, ℕ, ◌+◌, ◌^◌, ◌<◌, true, List, [], ◌∷◌, ◌++◌, map, length, Some, None, inl, inr, ◌⊎◌, ⊎_elim, refl, sym, ap, ◌∙◌, subst, append_assoc, append-nil}
 use Rattle.std.proofs.lemmas.Bool.{and_parts}
 use Rattle.std.proofs.lemmas.List.{map-append}
 use Rattle.cry_base.specs.Sets.{In, Path}
@@ -17,16 +17,16 @@ use Rattle.record_format.specs.Noted.{Note}
 use Rattle.record_format.specs.Noted.Note.{Root}
 use Rattle.public_fold.specs.Journal.{Entry, Journal, Stand, nothing, first_key, note_step, entry_step, entry_store, stand_then, stand_after, steps_from, steps_of, keys_of}
 use Rattle.public_fold.specs.Journal.Entry.{Session, Made, Did}
-use Rattle.public_fold.specs.Keyed.{HasRole, KeysHold, links_of}
-use Rattle.public_fold.specs.KeyStep.{KeyState, Stepped, no_keys, next_epoch, newest, next_serial, present, keys_then, renewed, given, published_edges, published, step_with, key_step}
-use Rattle.public_fold.specs.Records.{Link, Content, pieces_of, sealing_role}
+use Rattle.public_fold.specs.Keyed.{KeysHold, links_of}
+use Rattle.public_fold.specs.KeyStep.{KeyState, Stepped, no_keys, next_epoch, newest, next_serial, keys_then, renewed, given, published_edges, published, step_with, key_step}
+use Rattle.public_fold.specs.Records.{Content, pieces_of, sealing_role}
 use Rattle.public_fold.specs.StandFits.{note_fits, entry_fits, all_fit}
 use Rattle.public_fold.specs.Valid.{FollowOn, BeginsWell, IsValid}
 use Rattle.public_fold.proofs.AllFit.{journal_all_fit}
 use Rattle.public_fold.proofs.KeepingKeys.{IsMove}
 use Rattle.public_fold.proofs.KeyMoves.{IsSound, effect_sound, root_sound, root_moves, nothing_holds}
-use Rattle.closure_laws.specs.Gains.{IsWritten, IsGain}
-use Rattle.closure_laws.specs.History.{Published, published_from, history, trails, Derives, own_serial, DerivesFor}
+use Rattle.closure_laws.specs.Gains.{IsWritten}
+use Rattle.closure_laws.specs.History.{Published, published_from, history, trails, own_serial, DerivesFor}
 use Rattle.closure_laws.specs.Secrecy.{IsShownNode, node_of_piece, GainsLater, KeepsSecret}
 use Rattle.secrecy_laws.specs.Holding.{Holds}
 use Rattle.secrecy_laws.specs.Pasts.{Past, no_past, past_then, past_entry, past_after, past_of, ends_of, state_of}
@@ -184,3 +184,34 @@ gains_later published (entry ∷ entries) at h k g = ⊎_elim (λ w. inl w.0) (�
 pub keeps_secret : (m : Journal) → IsValid m → (h : ℕ) → KeepsSecret m h
 keeps_secret m v h before entry later c e i hidden none d =
     none (gains_later (history m) later (stand_after nothing (before ++ entry ∷ [])) h c.key_serial (opens_by_gain m v h before entry later c e i hidden d))
+
+-- what holds after each entry
+after_kept : (entries : List Entry) (at : Stand) (p : Past) → Kept at p → FollowOn at entries → all_fit at entries ≡ true → Kept (stand_after at entries) (past_after at p entries)
+unfolding stand_after past_after
+after_kept [] at p ok f t = ok
+after_kept (Session ∷ entries) at p ok f t = after_kept entries (stand_then at Session) (past_entry at p Session) (session_kept at p ok) f.1 (session_fit at entries t)
+after_kept (Made keys ∷ entries) at p ok f t = absurd f.0
+after_kept (Did request keys ∷ entries) at p ok f t =
+    let w = did_count at request keys entries t in
+    after_kept entries (stand_then at (Did request keys)) (past_entry at p (Did request keys)) (did_kept at p request keys ok f.0.0 w.0) f.1 w.1
+
+begun_kept : (m : Journal) → BeginsWell m → all_fit nothing m ≡ true → Kept (stand_after nothing m) (past_after nothing no_past m)
+unfolding stand_after past_after past_entry
+begun_kept [] b t = absurd b
+begun_kept (Session ∷ []) b t = absurd b
+begun_kept (Session ∷ Session ∷ es) b t = absurd b
+begun_kept (Session ∷ Made keys ∷ es) b t = let w = made_fit keys es t in after_kept es (made_stand keys) (made_past keys) (made_kept keys w.0) b.1 w.1
+begun_kept (Session ∷ Did request keys ∷ es) b t = absurd b
+begun_kept (Made keys ∷ es) b t = absurd b
+begun_kept (Did request keys ∷ es) b t = absurd b
+
+journal_kept : (m : Journal) → IsValid m → Kept (stand_after nothing m) (past_of m)
+unfolding past_of
+journal_kept m v = begun_kept m v.0 (journal_all_fit m v)
+
+pub journal_holds : (m : Journal) → IsValid m → Holds is_root_role (state_of (stand_after nothing m) (past_of m))
+journal_holds m v = (journal_kept m v).holds
+
+pub journal_below : (m : Journal) → IsValid m → (key : Role × ℕ) → In key (past_of m).made → key.1 < next_serial (keys_of m)
+unfolding keys_of
+journal_below m v = (journal_kept m v).below

@@ -1,9 +1,9 @@
 -- From one step to any number.
-use Rattle.std.proofs.Common.{◌≡◌, ℕ, Bool, true, List, [], ◌∷◌, Some, refl, sym, ◌∙◌, subst, ◌⊎◌, inl, inr, ⊎_elim}
+use Rattle.std.proofs.Common.{◌≡◌, ℕ, Bool, true, List, [], ◌∷◌, Some, subst, ◌⊎◌, inl, inr, ⊎_elim}
 use Rattle.cry_base.specs.Sets.{In, Path, Tells}
 use Rattle.cry_base.specs.Sets.Path.{Here, On}
-use Rattle.secrecy_laws.specs.States.{State, Move, IsStep, Fits}
-use Rattle.secrecy_laws.specs.Holding.{Holds, Opens, Brings}
+use Rattle.secrecy_laws.specs.States.{State}
+use Rattle.secrecy_laws.specs.Holding.{Holds, Opens}
 use Rattle.secrecy_laws.specs.Runs.{Turn, state_after, AreSteps, IsOpened, AreOpenedByGain, BringNothing}
 use Rattle.secrecy_laws.proofs.Steps.{stays_held, opened_or}
 

@@ -1,5 +1,5 @@
 -- What holds of keys after each step.
-use Rattle.std.specs.Prelude.{◌≡◌, ℕ, Bool, true, List, Option, Some, ◌↔◌}
+use Rattle.std.specs.Prelude.{◌≡◌, ℕ, Bool, true, Some, ◌↔◌}
 use Rattle.cry_base.specs.Sets.{In, Path}
 use Rattle.secrecy_laws.specs.States.{State}
 

@@ -32,7 +32,8 @@ IsTouched m r = In r m.renewed ⊎ In r m.fresh
 -- the link is from present key to present key along an edge that was added, or has a role at an end that got a key
 abbrev pub IsPublished : {R : Type 0} → Move R → State R → ℕ × ℕ → Type 0
 IsPublished {R} m new l =
-    (e : R × R) × In e new.edges × (new.key e.0 ≡ Some l.0) × (new.key e.1 ≡ Some l.1) × (In e m.added ⊎ (IsTouched m e.0 ⊎ IsTouched m e.1))
+    (e : R × R) × In e new.edges × (new.key e.0 ≡ Some l.0) × (new.key e.1 ≡ Some l.1)
+    × (In e m.added ⊎ (IsTouched m e.0 ⊎ IsTouched m e.1))
 
 -- the move leads from the old state to the new one: all behind a removed edge is marked; what is renewed or new gets a key and is clean
 pub record IsStep {R : Type 0} (old : State R) (m : Move R) (new : State R) : Type 0 where

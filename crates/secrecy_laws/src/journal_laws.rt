@@ -1,16 +1,20 @@
 //! Laws of journals: what holds of their keys, and what a holder derives of what was written while it wasn't shown.
-ghost use Rattle.std.specs.Prelude.{◌≡◌, ◌<◌, ℕ, map};
+ghost use Rattle.std.specs.Prelude.{◌≡◌, ◌<◌, ◌↔◌, ℕ, IsTrue, map};
 ghost use Rattle.cry_base.specs.Sets.{In};
 ghost use Rattle.cry_base.specs.declared.roles.Role.{Role};
 ghost use Rattle.role_graph.specs.Roles.{is_root_role};
 ghost use Rattle.public_fold.specs.Journal.{Journal, keys_of, nothing, stand_after};
 ghost use Rattle.public_fold.specs.KeyStep.{next_serial};
+ghost use Rattle.public_fold.specs.Records.{Content};
 ghost use Rattle.public_fold.specs.Valid.{IsValid};
 ghost use Rattle.closure_laws.specs.History.{history, trails};
-ghost use Rattle.closure_laws.specs.Secrecy.{KeepsSecret};
+ghost use Rattle.closure_laws.specs.Secrecy.{KeepsSecret, keeps_secret};
 ghost use Rattle.secrecy_laws.specs.Holding.{Holds};
 ghost use Rattle.secrecy_laws.specs.Pasts.{ends_of, past_of, state_of};
-ghost use Rattle.secrecy_laws.specs.Revocation.{OpensByGain};
+ghost use Rattle.closure_laws.specs.Seen.{Sight, seen};
+ghost use Rattle.role_graph.specs.Rights.Who.{TheHolder};
+ghost use Rattle.secrecy_laws.specs.Sights.{IsFairlySeen};
+ghost use Rattle.secrecy_laws.specs.Revocation.{IsDerivedUnseen, OpensByGain, derived_unseen};
 
 /// Revocation secrecy: in no valid journal a holder derives what an entry wrote while its object wasn't shown to the holder, unless a
 /// later entry is a gain for the holder.
@@ -22,4 +26,28 @@ pub fn journals_keep_secrets()
 /// key and wasn't in reach, and that role's present key after the entry leads to the key of what was written.
 pub fn secrets_open_by_gains()
     ensures { (m : Journal) → IsValid m → (h : ℕ) → OpensByGain m h }
+{}
+
+/// Each name and file that an audit shows a holder of a valid journal was shown to the holder when it was written, or a later gain for
+/// the holder opens it.
+pub fn audits_show_what_was_shown_or_gained()
+    ensures { (m : Journal) → IsValid m → (h : ℕ) (x : Sight) → In x (seen m (TheHolder h)) → IsFairlySeen m h x }
+{}
+
+/// What is computed of a journal's secrets is what is said of them, for every journal.
+pub fn secrets_are_told()
+    ensures { (m : Journal) (h : ℕ) → IsTrue (keeps_secret m h) ↔ KeepsSecret m h }
+{}
+
+/// What holds of keys over any roles holds after each entry of a valid journal; no serial that was ever given is the next one or above
+/// it; and the links of the past are the trails of the history.
+pub fn keys_are_traced_in_journals()
+    ensures holds { (m : Journal) → IsValid m → Holds is_root_role (state_of (stand_after nothing m) (past_of m)) }
+    ensures below { (m : Journal) → IsValid m → (key : Role × ℕ) → In key (past_of m).made → key.1 < next_serial (keys_of m) }
+    ensures trails { (m : Journal) → trails (history m) ≡ map ends_of (past_of m).links }
+{}
+
+/// What is computed of what a holder derives, and wasn't shown when it was written, is what is said of it, for every journal.
+pub fn unseen_contents_are_told()
+    ensures { (m : Journal) (h : ℕ) (c : Content) → In c (derived_unseen m h) ↔ IsDerivedUnseen m h c }
 {}

@@ -3,3 +3,5 @@
 
 pub mod any_roles;
 pub mod journal_laws;
+pub mod note_laws;
+pub mod rows;
