@@ -1,11 +1,9 @@
 pub mod Admitted
 pub mod Beginning
-pub mod Counted
 pub mod FiledReads
 pub mod Folded
 pub mod FoldedHolds
 pub mod Following
-pub mod FreshShown
 pub mod InOrder
 pub mod Keyed
 pub mod Lasts
@@ -18,7 +16,6 @@ pub mod OwnNames
 pub mod OwnPath
 pub mod OwnerKey
 pub mod OwnerVisits
-pub mod SameShown
 pub mod Shows
 pub mod Sighted
 pub mod Sized

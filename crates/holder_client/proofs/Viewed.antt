@@ -1,15 +1,11 @@
--- The steps of a view, and the fault of the first that fails.
-use Rattle.std.proofs.Common.{◌≡◌, ℕ, List, [], None, Some, Result, Ok, refl}
+-- The fault of the first step that fails.
+use Rattle.std.proofs.Common.{◌≡◌, Result, refl}
 use Rattle.commit_journal.specs.declared.fault.OpenFault.{OpenFault}
 use Rattle.commit_journal.specs.declared.fault.OpenFault.TheVariants as opening
 use Rattle.commit_journal.specs.Answering as journal
-use Rattle.commit_journal.specs.Logs.{known_log}
-use Rattle.commit_journal.specs.Placed.{PlainPlaced}
 use Rattle.holder_client.specs.declared.fault.ClientFault.{ClientFault}
 use Rattle.holder_client.specs.declared.fault.ClientFault.TheVariants as faults
 use Rattle.holder_client.specs.Answering.{client_fault, IsFault, IsOfBytes}
-use Rattle.holder_client.specs.Root.{PlainRoot, fold_log}
-use Rattle.holder_client.specs.Verdict.{visit_root, visit, view_verdict}
 use Rattle.commit_journal.specs.Answering.{Fault, and_then}
 
 -- a fault ends what would follow
@@ -43,21 +39,3 @@ log_fault (opening.Damaged at) read is = is
 log_fault (opening.Tampered batch at) read is = is
 log_fault opening.DiskFault read is = tt
 log_fault opening.OutOfMemory read is = tt
-
-pub log_fails : (fault : OpenFault) (owner s : List ℕ) → journal.IsFault fault (known_log (Some 2) owner s) → IsFault (client_fault fault) (view_verdict owner s)
-unfolding view_verdict
-log_fails fault owner s is =
-    fault_first (client_fault fault) (known_log (Some 2) owner s) (λ log. and_then (fold_log log) (λ root. visit owner root)) (log_fault fault (known_log (Some 2) owner s) is)
-
-pub fold_fails : (fault : ClientFault) (owner s : List ℕ) (log : List PlainPlaced) → known_log (Some 2) owner s ≡ Ok log → IsFault fault (fold_log log) → IsFault fault (view_verdict owner s)
-unfolding view_verdict and_then
-fold_fails fault owner s log read is = rw read (fault_first fault (fold_log log) (λ root. visit owner root) is)
-
-pub shows_nothing : (owner s : List ℕ) (log : List PlainPlaced) → known_log (Some 2) owner s ≡ Ok log → fold_log log ≡ Ok None → view_verdict owner s ≡ Ok []
-unfolding view_verdict and_then visit
-shows_nothing owner s log read folded = rw (read, folded) refl
-
-pub shows_root : (owner s : List ℕ) (log : List PlainPlaced) (root : PlainRoot) → known_log (Some 2) owner s ≡ Ok log → fold_log log ≡ Ok (Some root)
-    → view_verdict owner s ≡ visit_root owner root
-unfolding view_verdict and_then visit
-shows_root owner s log root read folded = rw (read, folded) refl

@@ -11,9 +11,7 @@ pub mod Listing
 pub mod Opening
 pub mod OwnPaths
 pub mod Placing
-pub mod Root
 pub mod Sights
-pub mod Shown
 pub mod Verdict
 pub mod View
 pub mod Visiting

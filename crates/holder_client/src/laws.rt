@@ -4,7 +4,6 @@ ghost use Rattle.cry_base.specs.Sets.{In};
 ghost use Rattle.cry_base.specs.Store.{Store};
 ghost use Rattle.role_graph.specs.Rights.{Who};
 ghost use Rattle.holder_client.specs.OwnPaths.{HasOwnNames, has_own_names};
-ghost use Rattle.holder_client.specs.Shown.{ShowsTheRoot};
 ghost use Rattle.holder_client.specs.View.{Ascends, IsLine, Line, line_path, view};
 
 /// A view has a line for each folder that is named and each file that is allowed, and no other, by the bytes of their paths.
@@ -21,9 +20,4 @@ pub fn paths_in_a_view_differ()
 /// A store that passes the computed test has names of its own.
 pub fn own_names_are_told()
     ensures { (s : Store) → IsTrue (has_own_names s) → HasOwnNames s }
-{}
-
-/// The owner of a store fresh from `make` is shown its root.
-pub fn fresh_store_shows_its_root()
-    ensures { ShowsTheRoot }
 {}

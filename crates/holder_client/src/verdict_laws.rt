@@ -1,24 +1,17 @@
 //! Laws of the verdict over every image.
-ghost use Rattle.std.specs.Prelude.{◌≡◌, ◌<◌, ◌≤◌, ◌++◌, List, ℕ, length, Ok, Err, Some, None};
+ghost use Rattle.std.specs.Prelude.{◌≡◌, ◌<◌, ◌++◌, List, ℕ, length, Ok, Some, None};
 ghost use Rattle.cry_base.specs.Refusing.{refusal_of};
 ghost use Rattle.cry_base.specs.Requests.{Request};
 ghost use Rattle.cry_base.specs.Stepping.{effect};
-ghost use Rattle.cry_base.specs.Store.{Store, root_store};
+ghost use Rattle.cry_base.specs.Store.{Store};
 ghost use Rattle.cry_base.specs.declared.client.Bundle.{Bundle};
-ghost use Rattle.cry_base.specs.declared.ids.HolderId.{HolderId};
 ghost use Rattle.commit_journal.specs.Answering.{Fault, NotAStore};
-ghost use Rattle.commit_journal.specs.Log.{log_verdict};
-ghost use Rattle.commit_journal.specs.Logs.{known_log};
 ghost use Rattle.commit_journal.specs.Placed.{PlainPlaced};
 ghost use Rattle.move_plan.specs.Fitting.{public_of};
 ghost use Rattle.move_plan.specs.Noting.{note_of};
-ghost use Rattle.role_graph.specs.Rights.Who.{TheOwner};
-ghost use Rattle.key_links.specs.Fresh.{piece, fresh_image};
 ghost use Rattle.holder_client.specs.Asking.{Asking, ToAudit, ToList, ToOpen, asked_log, verdict};
-ghost use Rattle.holder_client.specs.Judging.{Failure, OfBytes, NoHolder, of_bytes, shown_with};
+ghost use Rattle.holder_client.specs.Judging.{Failure, OfBytes};
 ghost use Rattle.public_fold.specs.Told.{told_store};
-ghost use Rattle.holder_client.specs.Verdict.{view_verdict};
-ghost use Rattle.holder_client.specs.View.{view};
 
 /// Law: fewer bytes than a header are no store, whoever asks for whatever.
 pub fn cut_header_is_no_store()
@@ -36,20 +29,6 @@ pub fn verdict_is_of_the_log()
 pub fn audit_reads_as_views_do()
     ensures { (bundle : Bundle) (path bytes : List ℕ) (failure : Failure) → verdict (ToAudit bundle) bytes ≡ Some failure →
         (verdict (ToList bundle) bytes ≡ Some failure) × (verdict (ToOpen bundle path) bytes ≡ Some failure) }
-{}
-
-/// Law: where the log holds what makes a store and no more, or fails at these batches, the verdict with the owner's key is the
-/// one that `view` answers.
-pub fn listed_logs_are_judged_alike()
-    ensures read { (owner bytes : List ℕ) (log : List PlainPlaced) → known_log (Some 2) owner bytes ≡ Ok log → length log ≤ 2 → shown_with (Bundle.Owner owner) bytes ≡ of_bytes (view_verdict owner bytes) }
-    ensures failed { (owner bytes : List ℕ) (fault : Fault) → known_log (Some 2) owner bytes ≡ Err fault → log_verdict owner bytes ≡ Err fault → shown_with (Bundle.Owner owner) bytes ≡ of_bytes (view_verdict owner bytes) }
-{}
-
-/// Law: a store fresh from `make` passes all tests and shows its owner the root; nobody else is a holder of it.
-pub fn fresh_store_passes()
-    ensures shows { (drawn : List ℕ) → length drawn ≡ 192 → shown_with (Bundle.Owner (piece drawn 0)) (fresh_image drawn) ≡ Ok (view root_store TheOwner) }
-    ensures passes { (drawn : List ℕ) → length drawn ≡ 192 → verdict (ToList (Bundle.Owner (piece drawn 0))) (fresh_image drawn) ≡ None }
-    ensures stranger { (drawn key : List ℕ) (holder : HolderId) → length drawn ≡ 192 → verdict (ToList (Bundle.Holder holder key)) (fresh_image drawn) ≡ Some (NoHolder 0) }
 {}
 
 /// Law: what a note tells everyone of a store is what its command does to it, for each command that is accepted.
