@@ -1,5 +1,5 @@
 -- The present key of a clean role is derived only where the role is in reach.
-use Rattle.std.proofs.Common.{◌≡◌, ℕ, List, map, Some, subst}
+use Rattle.std.proofs.Common.{◌≡◌, ℕ, Some, subst}
 use Rattle.cry_base.specs.Sets.{In, Path}
 use Rattle.cry_base.specs.declared.roles.Role.{Role}
 use Rattle.role_graph.specs.Edges.{Reaches, edges}
