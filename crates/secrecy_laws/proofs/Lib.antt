@@ -8,4 +8,5 @@ pub mod Secrets
 pub mod Computed
 pub mod NoteSteps
 pub mod Unseen
+pub mod Clean
 pub mod Seeing

@@ -1,5 +1,5 @@
 -- What a holder's audit shows was shown to the holder when it was written, or a later gain opens it.
-use Rattle.std.proofs.Common.{◌≡◌, ℕ, suc, ◌+◌, Bool, true, false, List, [], ◌∷◌, ◌++◌, length, inl, inr, ◌⊎◌, ⊎_elim, refl, sym, ap, ◌∙◌, subst, arith}
+use Rattle.std.proofs.Common.{◌≡◌, ℕ, suc, ◌+◌, List, [], ◌∷◌, ◌++◌, length, inl, inr, ◌⊎◌, ⊎_elim, refl, sym, ap, ◌∙◌, subst, arith}
 use Rattle.std.proofs.lemmas.Bool.{false≢true, cases_Bool}
 use Rattle.cry_base.specs.Sets.{In}
 use Rattle.role_graph.specs.Rights.Who.{TheHolder}
@@ -9,7 +9,7 @@ use Rattle.public_fold.specs.Valid.{IsValid}
 use Rattle.closure_laws.specs.Gains.{IsWritten}
 use Rattle.closure_laws.specs.History.{Published, published_from, history, DerivesFor}
 use Rattle.closure_laws.specs.Secrecy.{IsShownNode, node_of_piece, shown_node}
-use Rattle.closure_laws.specs.Seen.{Sight, sight_of, seen, IsSeen}
+use Rattle.closure_laws.specs.Seen.{Sight, sight_of, seen}
 use Rattle.closure_laws.proofs.Growing.{seen_told}
 use Rattle.secrecy_laws.specs.Revocation.{GainOpens}
 use Rattle.secrecy_laws.specs.Sights.{IsFairlySeen}

@@ -10,7 +10,7 @@ pub record AreMarked {R : Type 0} (root : R → Bool) (s : State R) : Type 0 whe
   pub roots_clean : (r : R) → In r s.dirty → root r ≡ true → ⊥
   pub tainted : (r : R) (k : ℕ) → s.key r ≡ Some k → In k s.tainted ↔ In r s.dirty
 
--- each serial was given once, to one role; present keys, tainted ones and both ends of each link are among those made
+-- no serial was given to two roles; present keys, tainted ones and both ends of each link are among those made
 pub record AreMadeOnce {R : Type 0} (s : State R) : Type 0 where
   pub own : (q r : R) (k : ℕ) → In {X = R × ℕ} (q, k) s.made → In {X = R × ℕ} (r, k) s.made → q ≡ r
   pub present : (r : R) (k : ℕ) → s.key r ≡ Some k → In {X = R × ℕ} (r, k) s.made

@@ -47,7 +47,8 @@ past_then p before c step = record {
 unfoldable pub past_entry : Stand → Past → Entry → Past
 past_entry at p Session = p
 past_entry at p (Made keys) = past_then p (edges at.store) (change_of at.store Root) (entry_step at (Made keys))
-past_entry at p (Did request keys) = past_then p (edges at.store) (change_of at.store (note_of at.store request [])) (entry_step at (Did request keys))
+past_entry at p (Did request keys) =
+    past_then p (edges at.store) (change_of at.store (note_of at.store request [])) (entry_step at (Did request keys))
 
 unfoldable pub past_after : Stand → Past → List Entry → Past
 past_after at p [] = p

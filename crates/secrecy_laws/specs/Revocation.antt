@@ -36,7 +36,8 @@ OpensByGain m h = (before : List Entry) (entry : Entry) (later : List Entry) (c 
 
 -- the holder derives the content, which an entry wrote while its object wasn't shown to the holder
 abbrev pub IsDerivedUnseen : Journal → ℕ → Content → Type 0
-IsDerivedUnseen m h c = (before : List Entry) × ((entry : Entry) × ((later : List Entry) × (m ≡ before ++ entry ∷ later) × IsWritten before entry c
+IsDerivedUnseen m h c = (before : List Entry) × ((entry : Entry) × ((later : List Entry)
+    × (m ≡ before ++ entry ∷ later) × IsWritten before entry c
     × (IsShownNode (stand_after nothing (before ++ entry ∷ [])).store h (node_of_piece c.piece) → ⊥) × DerivesFor m (TheHolder h) c))
 
 -- the same, computed: of what each entry writes, what isn't shown after it and is under a key of these serials
@@ -46,7 +47,8 @@ is_unseen known s h c = has ◌==◌ known c.key_serial && not (shown_node s h (
 unfoldable pub unseen_from : List ℕ → ℕ → Stand → List Entry → List Content
 unseen_from known h at [] = []
 unseen_from known h at (entry ∷ entries) =
-    filter (is_unseen known (stand_then at entry).store h) (entry_step at entry).contents ++ unseen_from known h (stand_then at entry) entries
+    filter (is_unseen known (stand_then at entry).store h) (entry_step at entry).contents
+    ++ unseen_from known h (stand_then at entry) entries
 
 unfoldable pub derived_unseen : Journal → ℕ → List Content
 derived_unseen m h = unseen_from (known_to m (own_serial m (TheHolder h))) h nothing m

@@ -52,8 +52,8 @@ pub record IsStep {R : Type 0} (old : State R) (m : Move R) (new : State R) : Ty
   pub links : (l : ℕ × ℕ) → In l new.links ↔ (In l old.links ⊎ In l m.shown)
 
 -- what a step has to keep to: the dirty source of an edge to a renewed role is renewed with it; an added edge leaves no dirty role, and
--- both its ends have keys; no edge that is left has an end that goes; a new role had no key; each serial is given once and was never
--- given before; no root is renewed, and no edge ends in one
+-- both its ends have keys; no edge that is left has an end that goes; a new role had no key; no serial is given to two roles, or was given
+-- before; no root is renewed, and no edge ends in one
 pub record Fits {R : Type 0} (root : R → Bool) (old : State R) (m : Move R) (new : State R) : Type 0 where
   pub renews_back : (e : R × R) → In e m.left → In e.0 old.dirty ⊎ In e.0 m.marked → In e.1 m.renewed → In e.0 m.renewed
   pub adds_clean : (e : R × R) → In e m.added → In e.0 new.dirty → ⊥

@@ -6,8 +6,8 @@ ghost use Rattle.secrecy_laws.specs.Holding.{Holds, Opens, Brings};
 ghost use Rattle.secrecy_laws.specs.Runs.{Turn, state_after, AreSteps, BringNothing, AreOpenedByGain};
 
 /// A step keeps what holds of the keys: what is dirty is so with all behind it, and a present key was marked after it was made
-/// exactly where its role is dirty; each serial is given once; a link into a key that wasn't marked since comes from another such key,
-/// along an edge that stands; and each edge has its link.
+/// exactly where its role is dirty; no serial is given to two roles; a link into a key that wasn't marked since comes from another such
+/// key, along an edge that stands; and each edge has its link.
 pub fn steps_keep_what_holds<R>()
     ensures { (same : R → R → Bool) (root : R → Bool) (old : State R) (m : Move R) (new : State R)
         → Tells same → Holds root old → IsStep old m new → Fits root old m new → Holds root new }
@@ -37,4 +37,10 @@ pub fn any_roles_keep_secrets<R>()
         → BringNothing h s turns → Opens (state_after s turns) h k → ⊥ }
     ensures opened { (same : R → R → Bool) (root : R → Bool) (s : State R) (turns : List (Turn R))
         → Tells same → Holds root s → AreSteps root s turns → AreOpenedByGain root s turns }
+{}
+
+/// The present key of a clean role is opened only where the role is in reach.
+pub fn clean_keys_are_opened_in_reach<R>()
+    ensures { (root : R → Bool) (s : State R) (h r : R) (k : ℕ)
+        → Holds root s → s.key r ≡ Some k → (In r s.dirty → ⊥) → Opens s h k → Path s.edges h r }
 {}

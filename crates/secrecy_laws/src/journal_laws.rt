@@ -1,13 +1,15 @@
 //! Laws of journals: what holds of their keys, and what a holder derives of what was written while it wasn't shown.
-ghost use Rattle.std.specs.Prelude.{◌≡◌, ◌<◌, ◌↔◌, ℕ, IsTrue, map};
+ghost use Rattle.std.specs.Prelude.{Some, ◌≡◌, ◌<◌, ◌↔◌, ℕ, IsTrue, map};
 ghost use Rattle.cry_base.specs.Sets.{In};
 ghost use Rattle.cry_base.specs.declared.roles.Role.{Role};
+ghost use Rattle.role_graph.specs.Edges.{Reaches, edges};
+ghost use Rattle.role_graph.specs.RightsByReach.{IsRightful, IsStandingRole};
 ghost use Rattle.role_graph.specs.Roles.{is_root_role};
-ghost use Rattle.public_fold.specs.Journal.{Journal, keys_of, nothing, stand_after};
-ghost use Rattle.public_fold.specs.KeyStep.{next_serial};
+ghost use Rattle.public_fold.specs.Journal.{Journal, keys_of, nothing, stand_after, store_of};
+ghost use Rattle.public_fold.specs.KeyStep.{newest, next_serial};
 ghost use Rattle.public_fold.specs.Records.{Content};
 ghost use Rattle.public_fold.specs.Valid.{IsValid};
-ghost use Rattle.closure_laws.specs.History.{history, trails};
+ghost use Rattle.closure_laws.specs.History.{Derives, history, own_serial, trails};
 ghost use Rattle.closure_laws.specs.Secrecy.{KeepsSecret, keeps_secret};
 ghost use Rattle.secrecy_laws.specs.Holding.{Holds};
 ghost use Rattle.secrecy_laws.specs.Pasts.{ends_of, past_of, state_of};
@@ -50,4 +52,14 @@ pub fn keys_are_traced_in_journals()
 /// What is computed of what a holder derives, and wasn't shown when it was written, is what is said of it, for every journal.
 pub fn unseen_contents_are_told()
     ensures { (m : Journal) (h : ℕ) (c : Content) → In c (derived_unseen m h) ↔ IsDerivedUnseen m h c }
+{}
+
+/// In a valid journal whoever has the key of a role derives the present key of a clean role only where edges lead to it; so a holder
+/// derives it only by a right that the role stands for. By `rights_derive_keys` of `closure_laws` a right is enough.
+pub fn clean_keys_are_derived_by_rights_alone()
+    ensures edges { (m : Journal) → IsValid m → (a r : Role) (j k : ℕ) → newest (keys_of m).keys a ≡ Some j → newest (keys_of m).keys r ≡ Some k
+        → (In r (keys_of m).dirty → ⊥) → Derives (history m) j k → Reaches (edges (store_of m)) a r }
+    ensures rights { (m : Journal) → IsValid m → (h : ℕ) (r : Role) (j k : ℕ) → IsStandingRole (store_of m) r
+        → own_serial m (TheHolder h) ≡ Some j → newest (keys_of m).keys r ≡ Some k
+        → (In r (keys_of m).dirty → ⊥) → Derives (history m) j k → IsRightful (store_of m) h r }
 {}

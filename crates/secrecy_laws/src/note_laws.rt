@@ -24,12 +24,12 @@ pub fn fitting_notes_are_steps()
         → IsTrue (fits at.store note) → MayStand at.store → KeysHold at.store at.keys p.links
         → ((key : Role × ℕ) → In key p.made → key.1 < next_serial at.keys)
         → IsStep (state_of at p) (move_of (edges at.store) (change_of at.store note) (told_step at note))
-            (state_of (told_stand at note) (past_note at p note)) }
+        (state_of (told_stand at note) (past_note at p note)) }
     ensures fits { (at : Stand) (note : Note) (p : Past)
         → IsTrue (fits at.store note) → MayStand at.store → KeysHold at.store at.keys p.links
         → ((key : Role × ℕ) → In key p.made → key.1 < next_serial at.keys)
         → Fits is_root_role (state_of at p) (move_of (edges at.store) (change_of at.store note) (told_step at note))
-            (state_of (told_stand at note) (past_note at p note)) }
+        (state_of (told_stand at note) (past_note at p note)) }
 {}
 
 /// What holds of keys over any roles holds after any turns, each of which fits where it comes, from nothing on; and so after any log of
