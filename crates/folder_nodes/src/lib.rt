@@ -24,6 +24,6 @@ mod ways;
 pub use checking::check_tree;
 pub use finding::find;
 pub use names::Names;
-pub use naming::{name_ok, path_ok};
+pub use naming::{front_of, name_ok, path_ok};
 pub use rows::{FileRow, FolderRow};
 pub use shape::Shape;

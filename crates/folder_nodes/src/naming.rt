@@ -124,8 +124,8 @@ pub(crate) fn cut<'a>(bytes: &'a [u8], name: &[u8]) -> Option<&'a [u8]>
     }
 }
 
-/// The path without its last name.
-pub(crate) fn front_of(path: &[u8]) -> &[u8]
+/// The path without its last name, which is `/` where it has one name alone (docs/FORMAT.md, "Lines").
+pub fn front_of(path: &[u8]) -> &[u8]
     requires form { is_path path.now ≡ true }
     requires other { is_root_path path.now ≡ false }
     ensures { result.now ≡ parent_path path.now }
