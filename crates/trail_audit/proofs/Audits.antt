@@ -1,5 +1,5 @@
 -- What an audit answers, by how its reading ends.
-use Rattle.std.proofs.Common.{◌≡◌, ◌↔◌, ℕ, List, Option, Some, Result, Ok, Err, inl, ⊎_elim, sym, ◌∙◌, subst}
+use Rattle.std.proofs.Common.{◌≡◌, ◌↔◌, ℕ, List, Some, Result, Ok, Err, inl, ⊎_elim, sym, ◌∙◌, subst}
 use Rattle.cry_base.specs.declared.client.Bundle.{Bundle}
 use Rattle.holder_client.specs.Asking.{ToAudit, audited, failure_of, verdict}
 use Rattle.holder_client.specs.Judging.{Failure}

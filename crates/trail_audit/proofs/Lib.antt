@@ -1,3 +1,7 @@
+pub mod Answered
 pub mod Audits
+pub mod Followed
 pub mod Leading
+pub mod Listed
 pub mod OwnRecords
+pub mod Revealed

@@ -1,5 +1,5 @@
 -- What an audit may answer. This project's own, docs/FORMAT.md, "Reading" and "What a reader opens".
-use Rattle.std.specs.Prelude.{◌≡◌, ◌⊎◌, ℕ, Bool, true, false, ◌==◌, cond, List, [], ◌∷◌, map, Result, Ok, Err, unwrap_or}
+use Rattle.std.specs.Prelude.{◌≡◌, ◌⊎◌, ℕ, Bool, true, false, ◌==◌, cond, List, map, Ok, Err}
 use Rattle.chacha_seal.specs.Keys.{KeyParts}
 use Rattle.chacha_seal.specs.Sealing.{sealed}
 use Rattle.cry_base.specs.Sets.{In}
@@ -14,7 +14,7 @@ use Rattle.holder_client.specs.Asking.{audited}
 use Rattle.holder_client.specs.Judging.{Failure, OfBytes}
 use Rattle.holder_client.specs.Placing.{PlacedLink, PlacedContent, log_links, log_contents}
 use Rattle.holder_client.specs.Visiting.{Reading, is_folder_text, is_file_text}
-use Rattle.trail_audit.specs.Records.{PlainRecord, ALink, AContent, IsTagged}
+use Rattle.trail_audit.specs.Records.{ALink, AContent, IsTagged}
 use Rattle.trail_audit.specs.Right.{IsRight}
 
 -- the key of a bundle, with its number and its serial: the owner's has serial 0, a holder's that of its role

@@ -1,4 +1,6 @@
 pub mod Records
 pub mod Right
 pub mod Forged
+pub mod Trails
 pub mod Auditing
+pub mod Derived

@@ -1,4 +1,15 @@
 //! What an audit may derive from a store: the keys that right links lead to, and the records that nobody but the owner made.
 #![tactic(auto)]
 
+mod admission;
+mod auditing;
+mod contents;
 pub mod laws;
+mod log_reading;
+mod placed_records;
+mod right_key;
+mod seen;
+mod trails;
+
+pub use auditing::audit;
+pub use seen::Seen;

@@ -1,0 +1,78 @@
+-- The links and contents of a log, as a walk over it goes on.
+use Rattle.std.proofs.Common.{◌≡◌, ◌+◌, ◌*◌, ◌<◌, ℕ, zero, suc, List, [], ◌∷◌, ◌++◌, get_or, length, take, map, sym, ap, ◌∙◌, add-one, append_assoc, arith}
+use Rattle.std.specs.List.{flat_map, sum_by}
+use Rattle.std.proofs.lemmas.Grind.{flat_map-append}
+use Rattle.std.proofs.lemmas.List.{append-nil, map-append, take_more}
+use Rattle.std.proofs.lemmas.List.Sums.{sum_by-cons}
+use Rattle.commit_journal.specs.declared.placed.Placed.{Placed}
+use Rattle.commit_journal.specs.Placed.{PlainPlaced, plain_placed}
+use Rattle.record_format.specs.declared.link.LinkRecord.{LinkRecord}
+use Rattle.record_format.specs.Plain.{PlainContent}
+use Rattle.record_format.specs.Sizes.{content_size}
+use Rattle.holder_client.specs.Found.{content_here, link_here}
+use Rattle.holder_client.specs.Placing.{PlacedContent, PlacedLink, contents_at, links_at}
+
+links_with_next : (batch at : ℕ) (links : List LinkRecord) (i : ℕ) (d : LinkRecord) → i < length links →
+    links_at batch at (take (suc i) links) ≡ links_at batch at (take i links) ++ link_here batch (at + 98 * i) (get_or links i d) ∷ []
+unfolding links_at
+links_with_next batch at [] i d within = absurd (omega (arith, within))
+links_with_next batch at (l ∷ links) zero d within = let place : at ≡ at + 98 * 0 = omega arith in ap (λ n. link_here batch n l ∷ []) place
+links_with_next batch at (l ∷ links) (suc i) d within =
+    let inside : i < length links = omega (arith, within) in
+    let place : at + 98 + 98 * i ≡ at + 98 * suc i = omega arith in
+    ap (λ ls. link_here batch at l ∷ ls)
+    (links_with_next batch (at + 98) links i d inside ∙ ap (λ n. links_at batch (at + 98) (take i links) ++ link_here batch n (get_or links i d) ∷ []) place)
+
+-- the links so far of a batch, and the next one
+pub more_links : (found new so_far : List PlacedLink) (batch first at : ℕ) (links : List LinkRecord) (i : ℕ) (link : LinkRecord) → i < length links → at ≡ first + 98 * i → link ≡ get_or links i link →
+    found ≡ so_far ++ links_at batch first (take i links) → new ≡ found ++ link_here batch at link ∷ [] → new ≡ so_far ++ links_at batch first (take (i + 1) links)
+more_links found new so_far batch first at links i link within place is has next =
+    let before = links_at batch first (take i links) in
+    next
+    ∙ ap (λ (ls : List PlacedLink). ls ++ link_here batch at link ∷ []) has
+    ∙ append_assoc so_far before (link_here batch at link ∷ [])
+    ∙ ap (λ n. so_far ++ (before ++ link_here batch n link ∷ [])) place
+    ∙ ap (λ (l : LinkRecord). so_far ++ (before ++ link_here batch (first + 98 * i) l ∷ [])) is
+    ∙ ap (λ ls. so_far ++ ls) (sym (links_with_next batch first links i link within))
+    ∙ ap (λ n. so_far ++ links_at batch first (take n links)) (sym (add-one i))
+
+contents_with_next : (batch at : ℕ) (contents : List PlainContent) (i : ℕ) (d : PlainContent) → i < length contents →
+    contents_at batch at (take (suc i) contents) ≡ contents_at batch at (take i contents) ++ content_here batch (at + sum_by content_size (take i contents)) (get_or contents i d) ∷ []
+unfolding contents_at
+contents_with_next batch at [] i d within = absurd (omega (arith, within))
+contents_with_next batch at (c ∷ contents) zero d within = let place : at ≡ at + 0 = omega arith in ap (λ n. content_here batch n c ∷ []) place
+contents_with_next batch at (c ∷ contents) (suc i) d within =
+    let inside : i < length contents = omega (arith, within) in
+    let size = content_size c in
+    let before = sum_by content_size (take i contents) in
+    let all : sum_by content_size (take (suc i) (c ∷ contents)) ≡ size + before = sum_by-cons content_size c (take i contents) in
+    let place : at + size + before ≡ at + sum_by content_size (take (suc i) (c ∷ contents)) = omega (arith, all) in
+    ap (λ cs. content_here batch at c ∷ cs)
+    (contents_with_next batch (at + size) contents i d inside ∙ ap (λ n. contents_at batch (at + size) (take i contents) ++ content_here batch n (get_or contents i d) ∷ []) place)
+
+-- the contents so far of a batch, and the next one
+pub more_contents : (found new so_far : List PlacedContent) (batch first at : ℕ) (contents : List PlainContent) (i : ℕ) (content : PlainContent) → i < length contents →
+    at ≡ first + sum_by content_size (take i contents) → content ≡ get_or contents i content →
+    found ≡ so_far ++ contents_at batch first (take i contents) → new ≡ found ++ content_here batch at content ∷ [] → new ≡ so_far ++ contents_at batch first (take (i + 1) contents)
+more_contents found new so_far batch first at contents i content within place is has next =
+    let before = contents_at batch first (take i contents) in
+    next
+    ∙ ap (λ (cs : List PlacedContent). cs ++ content_here batch at content ∷ []) has
+    ∙ append_assoc so_far before (content_here batch at content ∷ [])
+    ∙ ap (λ n. so_far ++ (before ++ content_here batch n content ∷ [])) place
+    ∙ ap (λ (c : PlainContent). so_far ++ (before ++ content_here batch (first + sum_by content_size (take i contents)) c ∷ [])) is
+    ∙ ap (λ cs. so_far ++ cs) (sym (contents_with_next batch first contents i content within))
+    ∙ ap (λ n. so_far ++ contents_at batch first (take n contents)) (sym (add-one i))
+
+-- the parts of the batches so far, and of the next one
+pub log_with_next : {X : Type 0} (parts : PlainPlaced → List X) (log : List Placed) (i : ℕ) (p : Placed) → i < length log → p ≡ get_or log i p →
+    flat_map parts (map plain_placed (take i log)) ++ parts (plain_placed p) ≡ flat_map parts (map plain_placed (take (i + 1) log))
+log_with_next {X} parts log i p within is =
+    let before = map plain_placed (take i log) in
+    let last = plain_placed p ∷ [] in
+    let more : map plain_placed (take (i + 1) log) ≡ before ++ last =
+    ap (map plain_placed) (take_more log i p within) ∙ map-append plain_placed (take i log) (get_or log i p ∷ []) ∙ ap (λ (q : Placed). before ++ plain_placed q ∷ []) (sym is)
+    in
+    ap (λ (xs : List X). flat_map parts before ++ xs) (sym (append-nil (parts (plain_placed p))))
+    ∙ sym (flat_map-append parts before last)
+    ∙ ap (flat_map parts) (sym more)

@@ -1,0 +1,18 @@
+use Rattle.std.proofs.lemmas.Result.{err_from_is_err_and}
+use Rattle.commit_journal.specs.Logs.{holder_log}
+use Rattle.holder_client.proofs.Listings.{opening_seen}
+use Rattle.holder_client.proofs.Viewed.{log_fault}
+use Rattle.trail_audit.proofs.log_reading.holders_log.Goals as goal
+
+pub returns-in_err-log-clause-verdict : goal.returns-in_err-log-clause-verdict
+returns-in_err-log-clause-verdict g c = λ s is.
+    let p = err_from_is_err_and c.from_residual.result c.from_residual.ensures.1 in
+    rw (p.1, p.2) (log_fault c.in_err-log.field-0.0 (holder_log s) (c.in_err-log.ensures.verdict s is))
+
+pub returns-clause-verdict : goal.returns-clause-verdict
+returns-clause-verdict g c = λ s is. c.in_ok-log.ensures.verdict s is
+
+pub returns-in_err-log-clause-seen : goal.returns-in_err-log-clause-seen
+returns-in_err-log-clause-seen g c =
+    let p = err_from_is_err_and c.from_residual.result c.from_residual.ensures.1 in
+    rw (p.1, p.2) (opening_seen c.in_err-log.field-0.0)

@@ -1,0 +1,238 @@
+//! The contents of a log, opened with all right keys (docs/FORMAT.md, "Records").
+ghost use Rattle.std.specs.Prelude.{◌≡◌, ◌++◌, [], ◌∷◌, IfErr, IfOk, IsTrue, MatchOption, OnOk, false, map, true};
+ghost use Rattle.cry_base.specs.Sets.{In};
+ghost use Rattle.holder_client.specs.Holding.{HasParts};
+ghost use Rattle.holder_client.specs.Placing.{PlacedContent};
+ghost use Rattle.holder_client.specs.Visiting.{is_file_text as the_file_text, is_folder_text as the_folder_text};
+ghost use Rattle.trail_audit.specs.Auditing.{is_text as the_text, sealing_id as the_sealing_id};
+ghost use Rattle.trail_audit.specs.Derived as spec;
+ghost use Rattle.trail_audit.specs.Records.{IsTagged};
+ghost use Rattle.trail_audit.specs.Records.PlainRecord.{AContent};
+
+use crate::Seen;
+use crate::placed_records::ContentAt;
+use crate::right_key::RightKey;
+use chacha_seal::{BadTag, open_in_place};
+use cry_base::{FileId, FolderId, List, Mem, Node, Text};
+use folder_nodes::name_ok;
+use holder_client::ClientFault;
+use record_format::content_header;
+use std::alloc::Global;
+
+/// The kinds of contents: the names of folders, the names and bytes of files, the keys of holders.
+const FOLDER_NAME: u8 = 1;
+
+const FILE_TEXT: u8 = 2;
+
+const HOLDER_KEY: u8 = 3;
+
+const ROOT: u32 = 1;
+
+/// The most bytes that a file of any store may have.
+const FILE_BYTES: usize = 1_048_576;
+
+/// The number of the role whose key seals the content.
+#[tactic(auto, unfolding(crate::specs::Auditing::sealing_id))]
+fn sealing_id(found: &ContentAt<'_>) -> u32
+    ensures { result ≡ the_sealing_id found.now.content }
+{
+    if found.content.kind == HOLDER_KEY {
+        0
+    } else {
+        found.content.object
+    }
+}
+
+/// Whether the content says that it is sealed under the key.
+#[tactic(auto, unfolding(crate::specs::Derived::is_sealed_by))]
+fn is_sealed_by(found: &ContentAt<'_>, key: &RightKey) -> bool
+    ensures { result ≡ spec.is_sealed_by found.now.content key.now }
+{
+    sealing_id(found) == key.id && found.content.key_serial.0 == key.serial.0
+}
+
+/// Opens a content. `Tampered` comes exactly where its tag is wrong under the key.
+#[tactic(auto, unfolding(crate::specs::Derived::text_with))]
+fn open_content(alloc: Global, found: &ContentAt<'_>, key: &RightKey) -> Result<Text, ClientFault>
+    requires sealed { IsTrue (spec.is_sealed_by found.now.content key.now) }
+    ensures tagged { IfOk result (λ _. IsTagged key.now.bytes (AContent found.now.content)) }
+    ensures text { IfOk result (λ text. text.items ≡ spec.text_with found.now.content key.now) }
+    ensures fault { IfErr result (spec.ContentFault (found.now ∷ []) (key.now ∷ [])) }
+{
+    let content = found.content;
+    let header = content_header(content);
+    let mut text = Text::new(alloc);
+    text.append(content.cipher.as_slice())?;
+    match open_in_place(
+        &key.opener(),
+        content.nonce,
+        &header,
+        text.as_mut_slice(),
+        &content.tag,
+    ) {
+        Ok(()) => Ok(text),
+        Err(BadTag) => Err(ClientFault::Tampered {
+            batch: found.batch,
+            at: found.at,
+        }),
+    }
+}
+
+/// Whether a folder may have the text for its name: the root the empty one alone, and another a name.
+#[tactic(auto, unfolding(holder_client::specs::Visiting::is_folder_text))]
+fn is_folder_text(folder: u32, text: &[u8]) -> bool
+    ensures { result ≡ the_folder_text folder text.now }
+{
+    if folder == ROOT {
+        text.is_empty()
+    } else {
+        name_ok(text)
+    }
+}
+
+/// The name and the bytes of a file, where the text has that form: a byte with the name's length, the name, the bytes.
+#[tactic(auto, unfolding(holder_client::specs::Visiting::is_file_text))]
+fn file_parts(text: &[u8]) -> Option<(&[u8], &[u8])>
+    ensures { MatchOption result (the_file_text text.now ≡ false) (λ parts. HasParts text.now parts.0.now parts.1.now) }
+{
+    let (size, rest) = text.split_first()?;
+    let size = *size as usize;
+    if size > rest.len() || rest.len() - size > FILE_BYTES || !name_ok(&rest[..size]) {
+        return None;
+    }
+    Some((&rest[..size], &rest[size..]))
+}
+
+fn text_of(alloc: Global, bytes: &[u8]) -> Mem<Text>
+    ensures { IfOk result (λ text. text.items ≡ bytes.now) }
+{
+    let mut text = Text::new(alloc);
+    text.append(bytes)?;
+    Ok(text)
+}
+
+/// Adds the name of a folder. `Damaged` comes exactly where the text is no name, and for the root where it isn't empty.
+fn see_folder(
+    alloc: Global,
+    found: &ContentAt<'_>,
+    text: Text,
+    seen: &mut List<Seen>,
+) -> Result<(), ClientFault>
+    requires kind { found.now.content.kind ≡ 1 }
+    ensures form { OnOk result (the_text found.now.content text.items ≡ true) }
+    ensures seen { OnOk result (map spec.plain_seen seen.new.items ≡ map spec.plain_seen seen.old.items ++ spec.text_shown found.now.batch found.now.content text.items) }
+    ensures fault { IfErr result (spec.FormFault found.now text.items) }
+{
+    if !is_folder_text(found.content.object, text.as_slice()) {
+        return Err(ClientFault::Damaged { at: found.at });
+    }
+    seen.push(Seen {
+        batch: found.batch,
+        node: Node::Folder(FolderId(found.content.object)),
+        name: text,
+        bytes: Text::new(alloc),
+    })?;
+    Ok(())
+}
+
+/// Adds the name and the bytes of a file. `Damaged` comes exactly where the text isn't a length, a name of that length and the
+/// bytes of a file.
+fn see_file(
+    alloc: Global,
+    found: &ContentAt<'_>,
+    text: &[u8],
+    seen: &mut List<Seen>,
+) -> Result<(), ClientFault>
+    requires kind { found.now.content.kind ≡ 2 }
+    ensures form { OnOk result (the_text found.now.content text.now ≡ true) }
+    ensures seen { OnOk result (map spec.plain_seen seen.new.items ≡ map spec.plain_seen seen.old.items ++ spec.text_shown found.now.batch found.now.content text.now) }
+    ensures fault { IfErr result (spec.FormFault found.now text.now) }
+{
+    let Some((name, bytes)) = file_parts(text) else {
+        return Err(ClientFault::Damaged { at: found.at });
+    };
+    let name = text_of(alloc, name)?;
+    let bytes = text_of(alloc, bytes)?;
+    seen.push(Seen {
+        batch: found.batch,
+        node: Node::File(FileId(found.content.object)),
+        name,
+        bytes,
+    })?;
+    Ok(())
+}
+
+/// Adds what a text shows. `Damaged` comes exactly where it isn't of its content's form.
+fn see_text(
+    alloc: Global,
+    found: &ContentAt<'_>,
+    text: Text,
+    seen: &mut List<Seen>,
+) -> Result<(), ClientFault>
+    ensures form { OnOk result (the_text found.now.content text.items ≡ true) }
+    ensures seen { OnOk result (map spec.plain_seen seen.new.items ≡ map spec.plain_seen seen.old.items ++ spec.text_shown found.now.batch found.now.content text.items) }
+    ensures fault { IfErr result (spec.FormFault found.now text.items) }
+{
+    let kind = found.content.kind;
+    if kind == FOLDER_NAME {
+        return see_folder(alloc, found, text, seen);
+    }
+    if kind == FILE_TEXT {
+        return see_file(alloc, found, text.as_slice(), seen);
+    }
+    Ok(())
+}
+
+/// Opens a content with a key, where it says that it is sealed under it, and adds what it shows.
+fn see_with(
+    alloc: Global,
+    found: &ContentAt<'_>,
+    key: &RightKey,
+    seen: &mut List<Seen>,
+) -> Result<(), ClientFault>
+    ensures opened { OnOk result (spec.IsOpened (key.now ∷ []) found.now) }
+    ensures seen { OnOk result (map spec.plain_seen seen.new.items ≡ map spec.plain_seen seen.old.items ++ spec.content_shown (key.now ∷ []) found.now) }
+    ensures fault { IfErr result (spec.ContentFault (found.now ∷ []) (key.now ∷ [])) }
+{
+    if !is_sealed_by(found, key) {
+        return Ok(());
+    }
+    let text = open_content(alloc, found, key)?;
+    see_text(alloc, found, text, seen)
+}
+
+/// Opens a content with each of the keys that it says it is sealed under.
+fn see_content(
+    alloc: Global,
+    found: &ContentAt<'_>,
+    keys: &[RightKey],
+    seen: &mut List<Seen>,
+) -> Result<(), ClientFault>
+    ensures opened { OnOk result (spec.IsOpened keys.now found.now) }
+    ensures seen { OnOk result (map spec.plain_seen seen.new.items ≡ map spec.plain_seen seen.old.items ++ spec.content_shown keys.now found.now) }
+    ensures fault { IfErr result (spec.ContentFault (found.now ∷ []) keys.now) }
+{
+    for key in keys {
+        see_with(alloc, found, key, seen)?;
+    }
+    Ok(())
+}
+
+/// Opens each content with each of the keys that it says it is sealed under, in order. `Tampered` comes only for a content with a
+/// wrong tag under such a key, and `Damaged` only for one with a right tag and a text that isn't of its form; where there is such
+/// a content, the answer isn't Ok.
+pub(crate) fn see_contents(
+    alloc: Global,
+    contents: &[ContentAt<'_>],
+    keys: &[RightKey],
+) -> Result<List<Seen>, ClientFault>
+    ensures opened { IfOk result (λ _. (c : PlacedContent) → In c contents.now → spec.IsOpened keys.now c) }
+    ensures seen { IfOk result (λ seen. map spec.plain_seen seen.items ≡ spec.audit_of keys.now contents.now) }
+    ensures fault { IfErr result (spec.ContentFault contents.now keys.now) }
+{
+    let mut seen = List::new(alloc);
+    for found in contents {
+        see_content(alloc, found, keys, &mut seen)?;
+    }
+    Ok(seen)
+}

@@ -1,0 +1,151 @@
+//! The links and contents of a log, and where they stand (docs/FORMAT.md, "Records").
+ghost use Rattle.std.specs.Prelude.{◌≡◌, ◌+◌, ◌*◌, ◌<◌, ◌^◌, ◌++◌, All, IfOk, OnOk, length, map};
+ghost use Rattle.std.specs.List.{sum_by};
+ghost use Rattle.commit_journal.specs.Placed.{plain_body, plain_placed};
+ghost use Rattle.commit_journal.specs.Places.{IsStanding};
+ghost use Rattle.holder_client.specs.Placing as spec;
+ghost use Rattle.record_format.specs.Plain.{plain_content};
+ghost use Rattle.record_format.specs.Sizes.{content_size};
+ghost use Rattle.record_format.specs.Spellable.{IsContent};
+
+use commit_journal::{Body, Placed, content_place, link_place};
+use cry_base::{List, Mem};
+use record_format::{ContentRecord, LinkRecord};
+use std::alloc::Global;
+use std::marker::Model;
+
+const LINK_LEN: u64 = 98;
+
+/// The bytes of a content beside its text.
+const HEAD_AND_TAG: u64 = 58;
+
+/// A link, and where it stands.
+#[derive(Drop)]
+pub(crate) struct LinkAt<'a> {
+    /// The number of its batch.
+    pub(crate) batch: u32,
+    /// The place of its first byte in the file.
+    pub(crate) at: u64,
+    pub(crate) link: &'a LinkRecord,
+}
+
+impl<'a> Model for LinkAt<'a> {
+    ghost use Rattle.holder_client.specs.Placing.{PlacedLink};
+
+    ghost Value = { PlacedLink };
+
+    ghost view = { λ l. record { batch = l.batch; at = l.at; link = l.link.now } };
+}
+
+/// A content that has the format's form, and where it stands.
+#[derive(Drop)]
+pub(crate) struct ContentAt<'a> {
+    /// The number of its batch.
+    pub(crate) batch: u32,
+    /// The place of its first byte in the file.
+    pub(crate) at: u64,
+    pub(crate) content: &'a ContentRecord,
+}
+
+impl<'a> Model for ContentAt<'a> {
+    ghost use Rattle.holder_client.specs.Placing.{PlacedContent};
+    ghost use Rattle.record_format.specs.Plain.{plain_content};
+    ghost use Rattle.record_format.specs.Spellable.{IsContent};
+
+    ghost Value = { PlacedContent };
+
+    ghost view = { λ c. record { batch = c.batch; at = c.at; content = plain_content c.content.now } };
+
+    ghost invariant = { λ c. IsContent (plain_content c.content.now) };
+}
+
+/// Adds the links of a batch, of which the first stands at the place.
+fn add_links<'a>(
+    found: &mut List<LinkAt<'a>>,
+    batch: u32,
+    first: u64,
+    links: &'a [LinkRecord],
+) -> Mem<()>
+    requires { first + 98 * length links.now < 2 ^ 64 }
+    ensures { OnOk result (found.new.items ≡ found.old.items ++ spec.links_at batch first links.now) }
+{
+    let mut at = first;
+    for link in links {
+        found.push(LinkAt { batch, at, link })?;
+        at += LINK_LEN;
+    }
+    Ok(())
+}
+
+/// Adds the links that a batch carries.
+fn add_links_of<'a>(found: &mut List<LinkAt<'a>>, placed: &'a Placed) -> Mem<()>
+    requires { IsStanding placed.now }
+    ensures { OnOk result (found.new.items ≡ found.old.items ++ spec.body_links placed.now.batch placed.now.place (plain_body placed.now.body)) }
+{
+    let Body::Commands(payload) = &placed.body else {
+        return Ok(());
+    };
+    let links = payload.links.as_slice();
+    if links.is_empty() {
+        return Ok(());
+    }
+    add_links(found, placed.batch, link_place(placed, 0), links)
+}
+
+/// The links of a log, in order.
+pub(crate) fn links_of<'a>(alloc: Global, log: &'a [Placed]) -> Mem<List<LinkAt<'a>>>
+    requires { All IsStanding log.now }
+    ensures { IfOk result (λ found. found.items ≡ spec.log_links (map plain_placed log.now)) }
+{
+    let mut found = List::new(alloc);
+    for placed in log {
+        add_links_of(&mut found, placed)?;
+    }
+    Ok(found)
+}
+
+/// Adds the contents of a batch, of which the first stands at the place.
+fn add_contents<'a>(
+    found: &mut List<ContentAt<'a>>,
+    batch: u32,
+    first: u64,
+    contents: &'a [ContentRecord],
+) -> Mem<()>
+    requires form { All IsContent (map plain_content contents.now) }
+    requires end { first + sum_by content_size (map plain_content contents.now) < 2 ^ 64 }
+    ensures { OnOk result (found.new.items ≡ found.old.items ++ spec.contents_at batch first (map plain_content contents.now)) }
+{
+    let mut at = first;
+    for content in contents {
+        found.push(ContentAt { batch, at, content })?;
+        at += HEAD_AND_TAG + content.cipher.as_slice().len() as u64;
+    }
+    Ok(())
+}
+
+/// Adds the contents that a batch carries.
+fn add_contents_of<'a>(found: &mut List<ContentAt<'a>>, placed: &'a Placed) -> Mem<()>
+    requires { IsStanding placed.now }
+    ensures { OnOk result (found.new.items ≡ found.old.items ++ spec.body_contents placed.now.batch placed.now.place (plain_body placed.now.body)) }
+{
+    let Body::Commands(payload) = &placed.body else {
+        return Ok(());
+    };
+    let contents = payload.contents.as_slice();
+    if contents.is_empty() {
+        return Ok(());
+    }
+    add_contents(found, placed.batch, content_place(placed, 0), contents)
+}
+
+/// The contents of a log, in order.
+pub(crate) fn contents_of<'a>(alloc: Global, log: &'a [Placed]) -> Mem<List<ContentAt<'a>>>
+    requires { All IsStanding log.now }
+    ensures { IfOk result (λ found. found.items ≡ spec.log_contents (map plain_placed log.now)) }
+{
+    let mut found = List::new(alloc);
+    for placed in log {
+        add_contents_of(&mut found, placed)?;
+    }
+    Ok(found)
+}

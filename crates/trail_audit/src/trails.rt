@@ -1,0 +1,117 @@
+//! All keys to which right links lead from a bundle's key (docs/FORMAT.md, "Records").
+ghost use Rattle.std.specs.Prelude.{◌≡◌, ◌↔◌, [], ◌∷◌, IfErr, IfOk, IsTrue, OnOk};
+ghost use Rattle.cry_base.specs.Sets.{In};
+ghost use Rattle.trail_audit.specs.Records.{IsTagged};
+ghost use Rattle.trail_audit.specs.Records.PlainRecord.{ALink};
+ghost use Rattle.trail_audit.specs.Right.{target_of};
+ghost use Rattle.trail_audit.specs.Trails.{AreRightKeys, BeginsAt, IsGrown, IsKept, LinkFault, TagFault};
+
+use crate::placed_records::LinkAt;
+use crate::right_key::RightKey;
+use chacha_seal::{BadTag, HolderK, Key, open_key};
+use cry_base::{List, Mem};
+use holder_client::ClientFault;
+use record_format::link_header;
+use std::alloc::Global;
+
+/// Whether the key stands among the keys, with the same bytes.
+fn has_key(keys: &[RightKey], key: &RightKey) -> bool
+    ensures { IsTrue result ↔ In key.now keys.now }
+{
+    for known in keys {
+        if known.equals(key) {
+            return true;
+        }
+    }
+    false
+}
+
+/// Adds a key, where it isn't there.
+fn keep_key(keys: &mut List<RightKey>, key: RightKey) -> Mem<()>
+    ensures { OnOk result (IsKept key keys.old.items keys.new.items) }
+{
+    if has_key(keys.as_slice(), &key) {
+        return Ok(());
+    }
+    keys.push(key)
+}
+
+/// The key that a link leads to from the key at which it begins. `Tampered` comes exactly where its tag is wrong.
+fn open_link(found: &LinkAt<'_>, key: &RightKey) -> Result<RightKey, ClientFault>
+    requires begins { BeginsAt found.now.link key.now }
+    ensures tagged { IfOk result (λ _. IsTagged key.now.bytes (ALink found.now.link)) }
+    ensures target { IfOk result (λ target. target ≡ target_of key.now found.now.link) }
+    ensures fault { IfErr result (TagFault (found.now ∷ []) key.now) }
+{
+    let link = found.link;
+    let header = link_header(link);
+    let opened: Result<Key<HolderK>, BadTag> = open_key(
+        &key.opener(),
+        link.nonce,
+        &header,
+        link.cipher,
+        &link.tag,
+        link.to_id,
+        link.to_serial,
+    );
+    match opened {
+        Ok(target) => Ok(RightKey::of(&target)),
+        Err(BadTag) => Err(ClientFault::Tampered {
+            batch: found.batch,
+            at: found.at,
+        }),
+    }
+}
+
+/// Follows a link from a key, where it begins there.
+fn follow_link(
+    found: &LinkAt<'_>,
+    key: &RightKey,
+    keys: &mut List<RightKey>,
+) -> Result<(), ClientFault>
+    ensures grown { OnOk result (IsGrown (found.now ∷ []) key.now keys.old.items keys.new.items) }
+    ensures fault { IfErr result (TagFault (found.now ∷ []) key.now) }
+{
+    if !key.begins(found.link) {
+        return Ok(());
+    }
+    let target = open_link(found, key)?;
+    keep_key(keys, target)?;
+    Ok(())
+}
+
+/// Follows each link that begins at a key.
+fn follow_links(
+    links: &[LinkAt<'_>],
+    key: &RightKey,
+    keys: &mut List<RightKey>,
+) -> Result<(), ClientFault>
+    ensures grown { OnOk result (IsGrown links.now key.now keys.old.items keys.new.items) }
+    ensures fault { IfErr result (TagFault links.now key.now) }
+{
+    for found in links {
+        follow_link(found, key, keys)?;
+    }
+    Ok(())
+}
+
+/// The keys to which the links lead from the bundle's, each once, and the bundle's own. `Tampered` comes only for a link that
+/// begins at such a key and has a wrong tag under it, and where there is such a link, the answer isn't Ok.
+pub(crate) fn right_keys(
+    alloc: Global,
+    links: &[LinkAt<'_>],
+    bundle: RightKey,
+) -> Result<List<RightKey>, ClientFault>
+    ensures keys { IfOk result (λ keys. AreRightKeys links.now bundle keys.items) }
+    ensures fault { IfErr result (LinkFault links.now bundle) }
+{
+    let mut keys = List::new(alloc);
+    keys.push(bundle)?;
+    let mut done = 0;
+    while done < keys.as_slice().len() {
+        let key = keys.as_slice()[done];
+        follow_links(links, &key, &mut keys)?;
+        done += 1;
+    }
+    Ok(keys)
+}
