@@ -1,5 +1,6 @@
 pub mod Answered
 pub mod Audits
+pub mod Derivable
 pub mod Followed
 pub mod Leading
 pub mod Listed

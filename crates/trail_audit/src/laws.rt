@@ -1,6 +1,7 @@
 //! Laws of right keys and forged records.
 ghost use Rattle.std.specs.Prelude.{◌≡◌, ◌↔◌, ℕ, List, ◌++◌, Some};
 ghost use Rattle.chacha_seal.specs.Keys.{KeyParts};
+ghost use Rattle.closure_laws.specs.History.{Derives, history};
 ghost use Rattle.commit_journal.specs.Laws.{AreBodies};
 ghost use Rattle.cry_base.specs.Sets.{In};
 ghost use Rattle.cry_base.specs.declared.client.Bundle.{Bundle};
@@ -8,11 +9,13 @@ ghost use Rattle.holder_client.specs.Asking.{ToAudit, verdict};
 ghost use Rattle.holder_client.specs.Judging.{Failure};
 ghost use Rattle.key_links.specs.Sealed.{sealed_content, sealed_link};
 ghost use Rattle.public_fold.specs.Journal.{Journal};
+ghost use Rattle.public_fold.specs.Valid.{IsValid};
 ghost use Rattle.record_format.specs.declared.link.LinkRecord.{LinkRecord};
 ghost use Rattle.journal_bytes.specs.Bytes.{bodies_of};
 ghost use Rattle.journal_bytes.specs.Journals.{StandsWholeForJournal};
-ghost use Rattle.journal_bytes.specs.Keys.{key_bytes};
-ghost use Rattle.trail_audit.specs.Auditing.{MayFail, MayPass};
+ghost use Rattle.journal_bytes.specs.Keys.{AreWhole, key_bytes};
+ghost use Rattle.journal_bytes.specs.Opening.{reading_of};
+ghost use Rattle.trail_audit.specs.Auditing.{MayFail, MayPass, links_read};
 ghost use Rattle.trail_audit.specs.Forged.{IsForged, records_of};
 ghost use Rattle.trail_audit.specs.Records.{IsTagged, PlainRecord, records_in, sealing_serial};
 ghost use Rattle.trail_audit.specs.Records.PlainRecord.{AContent};
@@ -49,4 +52,11 @@ pub fn audits_fail_or_pass()
     ensures reading { (bundle : Bundle) (bytes : List ℕ) (failure : Failure) → verdict (ToAudit bundle) bytes ≡ Some failure →
         (other : Failure) → MayFail bundle bytes other ↔ (other ≡ failure) }
     ensures pass { (bundle : Bundle) (bytes : List ℕ) (failure : Failure) → MayPass bundle bytes → MayFail bundle bytes failure → ⊥ }
+{}
+
+/// Law: in the log of a valid journal right links lead from one of its keys to keys of the journal alone: to such whose serials its
+/// history derives, with the bytes that were drawn for them.
+pub fn right_keys_are_derived()
+    ensures { (owner : List ℕ) (m : Journal) → IsValid m → AreWhole owner m → (own key : KeyParts) → own.bytes ≡ key_bytes owner m own.serial →
+        IsRight (links_read (reading_of owner m)) own key → Derives (history m) own.serial key.serial × (key.bytes ≡ key_bytes owner m key.serial) }
 {}
