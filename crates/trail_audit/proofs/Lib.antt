@@ -1,6 +1,7 @@
 pub mod Answered
 pub mod Audits
 pub mod Derivable
+pub mod Disclosed
 pub mod Followed
 pub mod Leading
 pub mod Listed

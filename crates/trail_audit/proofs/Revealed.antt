@@ -20,7 +20,6 @@ use Rattle.role_graph.specs.Roles.{holder_role}
 use Rattle.cry_base.specs.declared.roles.Node.{Node}
 use Rattle.cry_base.specs.declared.roles.Node.TheVariants.{Folder, File}
 use Rattle.commit_journal.specs.Answering.{Damaged, Tampered}
-use Rattle.holder_client.specs.Holding.{HasParts}
 use Rattle.holder_client.specs.Judging.{Failure, OfBytes}
 use Rattle.holder_client.specs.Placing.{PlacedContent, PlacedLink, log_contents, log_links}
 use Rattle.holder_client.specs.Visiting.{Reading, is_file_text, is_folder_text}
@@ -53,10 +52,10 @@ pub folder_seen : (batch : ℕ) (c : PlainContent) (text : List ℕ) → c.kind 
 unfolding text_shown
 folder_seen batch c text is = rw is refl
 
-pub file_seen : (batch : ℕ) (c : PlainContent) (text name bytes : List ℕ) → c.kind ≡ 2 → HasParts text name bytes →
+pub file_seen : (batch : ℕ) (c : PlainContent) (text name bytes : List ℕ) → c.kind ≡ 2 → text ≡ length name ∷ (name ++ bytes) →
     text_shown batch c text ≡ record { batch = batch; node = File (record { 0 = c.object }); name = name; bytes = bytes } ∷ []
 unfolding text_shown file_shown
-file_seen batch c text name bytes is parts = rw (is, parts.1, take-append_seam name bytes, drop-append_seam name bytes) refl
+file_seen batch c text name bytes is parts = rw (is, parts, take-append_seam name bytes, drop-append_seam name bytes) refl
 
 pub other_seen : (batch : ℕ) (c : PlainContent) (text : List ℕ) → c.kind ≢ 1 → c.kind ≢ 2 → text_shown batch c text ≡ []
 unfolding text_shown

@@ -4,6 +4,7 @@ use Rattle.std.specs.Prelude.{◌≡◌, ◌⊎◌, ℕ, Bool, true, false, ◌&
 use Rattle.std.specs.List.{flat_map}
 use Rattle.chacha_seal.specs.Keys.{KeyParts}
 use Rattle.chacha_seal.specs.Sealing.{sealed}
+use Rattle.closure_laws.specs.Seen.{Sight}
 use Rattle.commit_journal.specs.Answering.{NotAStore, WrongKey, Damaged, Tampered}
 use Rattle.cry_base.specs.Listed.{Listed}
 use Rattle.cry_base.specs.Sets.{In}
@@ -94,6 +95,15 @@ MayAnswer bundle bytes (Err fault) = IsToldOf (MayFail bundle bytes) fault
 abbrev pub AnswersAudit : Result Reading Failure → Bundle → Result (Listed Seen) ClientFault → Type 0
 AnswersAudit read bundle (Ok answer) = (r : Reading) × (read ≡ Ok r) × Passes r bundle (map plain_seen answer.items)
 AnswersAudit read bundle (Err fault) = IsToldOf (λ failure. (read ≡ Err failure) ⊎ ((r : Reading) × (read ≡ Ok r) × RecordFault r bundle failure)) fault
+
+-- a name or a file of a history, as an audit gives it
+unfoldable pub seen_of_sight : Sight → PlainSeen
+seen_of_sight s = record {
+  batch = s.batch;
+  node = cond (s.piece.kind == 1) (Folder (record { 0 = s.piece.object })) (File (record { 0 = s.piece.object }));
+  name = s.piece.name;
+  bytes = cond (s.piece.kind == 1) [] s.piece.bytes;
+}
 
 -- ---- contents, as they are opened
 

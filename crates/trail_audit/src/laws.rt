@@ -1,7 +1,8 @@
 //! Laws of right keys and forged records.
 ghost use Rattle.std.specs.Prelude.{◌≡◌, ◌↔◌, ℕ, List, ◌++◌, Some};
 ghost use Rattle.chacha_seal.specs.Keys.{KeyParts};
-ghost use Rattle.closure_laws.specs.History.{Derives, history};
+ghost use Rattle.closure_laws.specs.History.{Derives, history, own_serial};
+ghost use Rattle.closure_laws.specs.Seen.{IsSeen, Sight};
 ghost use Rattle.commit_journal.specs.Laws.{AreBodies};
 ghost use Rattle.cry_base.specs.Sets.{In};
 ghost use Rattle.cry_base.specs.declared.client.Bundle.{Bundle};
@@ -10,12 +11,14 @@ ghost use Rattle.holder_client.specs.Judging.{Failure};
 ghost use Rattle.key_links.specs.Sealed.{sealed_content, sealed_link};
 ghost use Rattle.public_fold.specs.Journal.{Journal};
 ghost use Rattle.public_fold.specs.Valid.{IsValid};
+ghost use Rattle.role_graph.specs.Rights.{Who};
 ghost use Rattle.record_format.specs.declared.link.LinkRecord.{LinkRecord};
 ghost use Rattle.journal_bytes.specs.Bytes.{bodies_of};
 ghost use Rattle.journal_bytes.specs.Journals.{StandsWholeForJournal};
 ghost use Rattle.journal_bytes.specs.Keys.{AreWhole, key_bytes};
 ghost use Rattle.journal_bytes.specs.Opening.{reading_of};
-ghost use Rattle.trail_audit.specs.Auditing.{MayFail, MayPass, links_read};
+ghost use Rattle.trail_audit.specs.Auditing.{MayFail, MayPass, bundle_key, links_read};
+ghost use Rattle.trail_audit.specs.Derived.{IsAudit, PlainSeen, seen_of_sight};
 ghost use Rattle.trail_audit.specs.Forged.{IsForged, records_of};
 ghost use Rattle.trail_audit.specs.Records.{IsTagged, PlainRecord, records_in, sealing_serial};
 ghost use Rattle.trail_audit.specs.Records.PlainRecord.{AContent};
@@ -59,4 +62,13 @@ pub fn audits_fail_or_pass()
 pub fn right_keys_are_derived()
     ensures { (owner : List ℕ) (m : Journal) → IsValid m → AreWhole owner m → (own key : KeyParts) → own.bytes ≡ key_bytes owner m own.serial →
         IsRight (links_read (reading_of owner m)) own key → Derives (history m) own.serial key.serial × (key.bytes ≡ key_bytes owner m key.serial) }
+{}
+
+/// Law: what an audit of a valid journal's log shows to whoever looks is what the history derives from the own key: a name or a file
+/// of one of its batches, and no holder's key.
+pub fn audits_show_what_is_derived()
+    ensures { (owner : List ℕ) (m : Journal) → IsValid m → AreWhole owner m → (who : Who) (bundle : Bundle) (answer : List PlainSeen) →
+        own_serial m who ≡ Some (bundle_key bundle (reading_of owner m)).serial →
+        (bundle_key bundle (reading_of owner m)).bytes ≡ key_bytes owner m (bundle_key bundle (reading_of owner m)).serial →
+        IsAudit (reading_of owner m) bundle answer → (s : PlainSeen) → In s answer → (x : Sight) × IsSeen m who x × (s ≡ seen_of_sight x) }
 {}

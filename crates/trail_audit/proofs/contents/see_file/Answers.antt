@@ -18,4 +18,4 @@ returns-clause-seen c =
     seen_added c.args.seen.now.items c.push.new.self.items _ _ c.in_ok-push.ensures.items
     (seen_alike c.found.inside.batch found.batch (File (record { 0 = c.found.inside.content.now.object })) (File (record { 0 = found.content.object })) c.in_ok-name.name.items name c.in_ok-bytes.bytes.items bytes
     (ap (λ (p : PlacedContent). p.batch) c.found.view_is) (ap (λ (p : PlacedContent). File (record { 0 = p.content.object })) c.found.view_is) c.in_ok-name.ensures c.in_ok-bytes.ensures
-    ∙ sym (file_seen found.batch found.content c.args.text.now name bytes c.requires.kind c.in-Some.ensures))
+    ∙ sym (file_seen found.batch found.content c.args.text.now name bytes c.requires.kind c.in-Some.ensures.1))
