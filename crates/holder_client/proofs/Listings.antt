@@ -120,7 +120,7 @@ pub reads_pass_view : (bundle : Bundle) (log : Result (List PlainPlaced) Fault) 
 reads_pass_view bundle log r is = read_then bundle log ∙ then_ok (read_with bundle log) (viewed bundle) r is
 
 -- a log that fails
-no_reading : (bundle : Bundle) (log : Result (List PlainPlaced) Fault) (fault : ClientFault) → IsFault fault log → IsFailure fault (read_with bundle log)
+pub no_reading : (bundle : Bundle) (log : Result (List PlainPlaced) Fault) (fault : ClientFault) → IsFault fault log → IsFailure fault (read_with bundle log)
 unfolding read_with read_through
 no_reading bundle log fault is =
     failure_first fault (of_bytes (read_through log)) (may_read bundle)
