@@ -1,5 +1,5 @@
 -- One path is opened: the files beside it are those that the definition visits, and their lines those that it shows.
-use Rattle.std.proofs.Common.{◌≡◌, ◌≤◌, ℕ, Bool, true, false, length, ◌&&◌, ◌==◌, List, [], ◌∷◌, ◌++◌, map, filter, Option, None, Some, Result, Ok, Err, refl, sym, ap, subst, ◌∙◌}
+use Rattle.std.proofs.Common.{◌≡◌, ◌≤◌, ℕ, Bool, true, false, length, ◌&&◌, ◌==◌, List, [], ◌∷◌, map, filter, Option, None, Some, Result, Ok, Err, refl, sym, ap, subst, ◌∙◌}
 use Rattle.std.specs.Prelude.{IsTrue, bytes_eq, codes, find, option_map, nat_lt}
 use Rattle.std.specs.List.{flat_map, list_any}
 use Rattle.std.proofs.lemmas.Bool.{and_from, and_parts, eqb-true, eq-eqb}
@@ -110,7 +110,7 @@ opens_told t s who sights path f are stands =
       sight_of s who stands.0,
       subst (In (sight_of s who stands.0)) (sym are) ((In-map FolderEntry Sight (sight_of s who) (sight_of s who stands.0) s.folders).1 (stands.0, found_in s.folders f stands.0 stands.1, refl)),
       and_from (allowed_to s who stands.0.id && test stands.0.id) (stands.0.id == f)
-      (subst (λ k. (allowed_to s who k && test k) ≡ true) (sym id) q) (eq-eqb stands.0.id f id),
+          (subst (λ k. (allowed_to s who k && test k) ≡ true) (sym id) q) (eq-eqb stands.0.id f id),
     ))
 
 row_told : (tree bare : Store) (names : Titles) (who : Who) (sights : List Sight) (rows : List FileRow) (path : List ℕ) → IsTree bare → AreSights bare who sights → bare.files ≡ map file_of_row rows →

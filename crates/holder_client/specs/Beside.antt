@@ -1,5 +1,5 @@
 -- The files beside a path, as code finds them. This project's own, docs/FORMAT.md, "Reading".
-use Rattle.std.specs.Prelude.{ℕ, Bool, ◌&&◌, ◌==◌, List, Result, Err}
+use Rattle.std.specs.Prelude.{ℕ, Bool, ◌&&◌, ◌==◌, List, Result}
 use Rattle.std.specs.List.{list_any}
 use Rattle.std.specs.Str.{bytes_eq}
 use Rattle.cry_base.specs.Naming.{is_path, parent_path, spell_path}

@@ -65,7 +65,12 @@ fn push_folder(
 }
 
 /// The lines of the folders that are named.
-pub(crate) fn folder_lines(alloc: Global, shape: &Shape, names: &Names, sights: &[Sight]) -> Mem<Vec<Line>>
+pub(crate) fn folder_lines(
+    alloc: Global,
+    shape: &Shape,
+    names: &Names,
+    sights: &[Sight],
+) -> Mem<Vec<Line>>
     ensures { IfOk result (λ lines. map plain_line lines.items ≡ flat_map (spec.lines_of (tree_store shape.now.tree names.now)) sights.now) }
 {
     let mut lines = Vec::new(alloc);

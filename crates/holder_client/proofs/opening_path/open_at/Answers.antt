@@ -1,4 +1,4 @@
-use Rattle.std.proofs.Common.{◌≡◌, List, Option, Ok, Err, map, filter, refl, sym, ap, subst, ◌∙◌}
+use Rattle.std.proofs.Common.{◌≡◌, List, Option, Err, map, filter, sym, ap, subst, ◌∙◌}
 use Rattle.std.specs.Prelude.{option_map}
 use Rattle.std.specs.List.{flat_map}
 use Rattle.std.proofs.lemmas.Result.{err_from_is_err_and}
@@ -7,7 +7,6 @@ use Rattle.cry_base.specs.Store.{Store}
 use Rattle.cry_base.specs.declared.client.Line.{Line as Shown}
 use Rattle.folder_nodes.specs.Bare.{file_of_row}
 use Rattle.folder_nodes.specs.Titles.{tree_store}
-use Rattle.folder_nodes.specs.declared.rows.FileRow.{FileRow}
 use Rattle.holder_client.specs.Answering.{IsFailure}
 use Rattle.holder_client.specs.Asking.{file_with, line_at}
 use Rattle.holder_client.specs.Beside.{is_row_beside}
@@ -17,7 +16,6 @@ use Rattle.holder_client.specs.Judging.{Unseen, who_of}
 use Rattle.holder_client.specs.Lines.{plain_line}
 use Rattle.holder_client.specs.View.{Line}
 use Rattle.holder_client.specs.Sights.{AreSights, MayRead}
-use Rattle.holder_client.specs.declared.sights.Sight.{Sight}
 use Rattle.holder_client.proofs.Besides.{files_fail_path, files_pass_path, first_line, folders_named, names_fail_path, names_pass_path, no_line, none_of, shown_beside, stops_beside}
 use Rattle.holder_client.proofs.OwnerVisits.{seen_tree}
 use Rattle.role_graph.specs.Rights.{Who}
