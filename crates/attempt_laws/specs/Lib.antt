@@ -1,0 +1,3 @@
+pub mod Trials
+pub mod Happenings
+pub mod Spent
