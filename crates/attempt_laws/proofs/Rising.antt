@@ -29,7 +29,7 @@ use Rattle.journal_bytes.proofs.NextEntry.{between}
 use Rattle.journal_bytes.proofs.NextValid.{next_valid, session_valid}
 use Rattle.attempt_laws.specs.Happenings.{CanHappen, IsCourse, IsDrawnFor}
 use Rattle.attempt_laws.specs.Spent.{AContent, AKey, ALink, Differ, Spender, all_spenders, number_of, spenders_in}
-use Rattle.attempt_laws.specs.Trials.{Befalls, BeginsEpoch, Happening, Trial, all_trials, attempt_of, command_trial, course_behind, epoch_trial, held, made_course, trials, trials_at}
+use Rattle.attempt_laws.specs.Trials.{Befalls, BeginsEpoch, Happening, Trial, all_trials, attempt_of, command_trial, course_after, course_behind, epoch_trial, held, made_course, trials, trials_at}
 use Rattle.attempt_laws.proofs.Epochs.{course, epoch_command, keys_more, keys_session}
 
 -- ---- lists whose numbers rise
@@ -289,7 +289,12 @@ module _ (limits : Limits) (store_low : limits.store_bytes ≤ 268435456) (files
             (rises-append Spender number_of (spent (trials_at c now)) (spent (trials then later)) (low_in c.journal c.begun) (low_in then.journal then.begun) rest.0 mine rest.1),
       )
 
-made_valid : (keys : List (List ℕ)) → length keys ≡ 5 → IsValid (Session ∷ Made keys ∷ [])
+  pub course_valid : (c : Course) (later : List Happening) → IsValid c.journal → IsCourse limits c later → IsValid (course_after c later).journal
+  unfolding course_after
+  course_valid c [] valid can = valid
+  course_valid c (now ∷ later) valid can = course_valid (course_behind c now) later (valid_behind c.journal c.begun now valid can.0) can.1
+
+pub made_valid : (keys : List (List ℕ)) → length keys ≡ 5 → IsValid (Session ∷ Made keys ∷ [])
 unfolding journal_bytes
 made_valid keys five = ((five, tt), omega arith)
 

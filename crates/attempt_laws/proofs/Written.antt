@@ -7,7 +7,8 @@ use Rattle.commit_journal.specs.Image.{image, masked_payload}
 use Rattle.commit_journal.specs.Journals.{JournalState, last_epoch}
 use Rattle.commit_journal.specs.Laws.{batch_of, batches_from}
 use Rattle.commit_journal.specs.Standing.{last_tag}
-use Rattle.public_fold.specs.Journal.{Entry, Journal, Stand, entry_step, keys_of, nothing, stand_after, stand_then}
+use Rattle.public_fold.specs.Journal.{Entry, Journal, Stand, entry_step, keys_of, note_step, nothing, stand_after, stand_then}
+use Rattle.public_fold.specs.KeyStep.{key_step, next_epoch, no_keys, published, step_with}
 use Rattle.public_fold.specs.Journal.Entry.{Session, Made, Did}
 use Rattle.journal_bytes.specs.Attempts.{Course, Event, attempts, attempts_at, begun_journal, command_attempt, course_then, epoch_attempt}
 use Rattle.journal_bytes.specs.Attempts.Event.{IsRefused, Enters, IsAbandoned, LosesEpoch, Ends, Reopens}
@@ -15,7 +16,7 @@ use Rattle.journal_bytes.specs.Bytes.{batches_of, bodies_from, bodies_of, entry_
 use Rattle.journal_bytes.specs.Keys.{all_keys, owner_parts}
 use Rattle.journal_bytes.proofs.NextBatches.{batches_then, epoch_of}
 use Rattle.journal_bytes.proofs.NextEntry.{between}
-use Rattle.attempt_laws.specs.Trials.{Befalls, Happening, Trial, all_trials, attempt_of, batch_in, command_trial, course_behind, epoch_trial, held, trials, trials_at}
+use Rattle.attempt_laws.specs.Trials.{Befalls, Happening, Trial, all_trials, attempt_of, batch_in, command_trial, course_behind, epoch_trial, held, made_course, trials, trials_at}
 use Rattle.attempt_laws.proofs.Epochs.{course, epoch_command, epoch_made, epoch_session}
 use Rattle.attempt_laws.proofs.Ranks.{all_apart, apart_same}
 
@@ -58,6 +59,15 @@ attempts_told c (event ∷ events) =
     ap (λ l. attempts_at c event ++ l) (attempts_told (course_then c event) events)
     ∙ ap (λ l. l ++ map attempt_of (trials (course_then c event) (map Befalls events))) (event_told c.journal c.begun event)
     ∙ sym (map-append (trials_at c (Befalls event)) (trials (course_then c event) (map Befalls events)))
+
+pub made_told : (keys : List (List ℕ)) (events : List Event) → map attempt_of (all_trials keys (map Befalls events))
+    ≡ record { epoch = 1; number = 1; holds = None }
+    ∷ record { epoch = 1; number = 2; holds = Some (entry_step (stand_after nothing (Session ∷ [])) (Made keys)) }
+    ∷ attempts (made_course keys) events
+unfolding all_trials attempt_of held nothing no_keys keys_of stand_after stand_then entry_step note_step next_epoch key_step step_with published
+made_told keys events =
+    ap (λ l. record { epoch = 1; number = 1; holds = None } ∷ record { epoch = 1; number = 2; holds = Some (entry_step (stand_after nothing (Session ∷ [])) (Made keys)) } ∷ l)
+    (sym (attempts_told (made_course keys) events))
 
 -- ---- batches
 
@@ -122,8 +132,5 @@ module _ (owner : List ℕ) (keys : List (List ℕ)) (later : List Happening) (a
   same_trial = apart_same (all_trials keys later) (all_apart keys later) a b i j
       (sym (epochs_agree owner a) ∙ epochs ∙ epochs_agree owner b, sym (numbers_agree owner a) ∙ numbers ∙ numbers_agree owner b)
 
-  pub same_payload : (batch_in owner a).payload ≡ (batch_in owner b).payload
-  same_payload = ap (λ t. (batch_in owner t).payload) same_trial
-
-  pub same_masked : masked_payload owner (batch_in owner a) ≡ masked_payload owner (batch_in owner b)
-  same_masked = ap (λ t. masked_payload owner (batch_in owner t)) same_trial
+  pub same_payload : ((batch_in owner a).payload ≡ (batch_in owner b).payload) × (masked_payload owner (batch_in owner a) ≡ masked_payload owner (batch_in owner b))
+  same_payload = (ap (λ t. (batch_in owner t).payload) same_trial, ap (λ t. masked_payload owner (batch_in owner t)) same_trial)

@@ -28,4 +28,5 @@ all_spenders attempts = flat_map (λ a. spenders_in a.holds) attempts
 
 -- no two places of a list have one number
 abbrev pub Differ : {X : Type 0} → (X → ℕ) → List X → Type 0
-Differ {X} number xs = (i j : ℕ) (d : X) → i < length xs → j < length xs → number (slice_index_or xs i d) ≡ number (slice_index_or xs j d) → i ≡ j
+Differ {X} number xs = (i j : ℕ) (d : X) → i < length xs → j < length xs
+    → number (slice_index_or xs i d) ≡ number (slice_index_or xs j d) → i ≡ j

@@ -1,7 +1,8 @@
 -- All batches that were ever written to a store, from its making on, with what each one masked. This project's own, docs/FORMAT.md.
 use Rattle.std.specs.Prelude.{◌≡◌, ◌<◌, ◌⊎◌, ℕ, ◌+◌, true, false, cond, List, [], ◌∷◌, ◌++◌, length, slice_index_or, Option, Some, None}
 use Rattle.cry_base.specs.Requests.{Request}
-use Rattle.commit_journal.specs.Image.{Batch}
+use Rattle.cry_base.specs.Sets.{In}
+use Rattle.commit_journal.specs.Image.{Batch, masked_payload}
 use Rattle.commit_journal.specs.Laws.{batch_of}
 use Rattle.public_fold.specs.Journal.{Entry, Journal, Stand, nothing, entry_step, keys_of, stand_after}
 use Rattle.public_fold.specs.Journal.Entry.{Session, Made, Did}
@@ -48,13 +49,19 @@ unfoldable pub trials : Course → List Happening → List Trial
 trials c [] = []
 trials c (now ∷ later) = trials_at c now ++ trials (course_behind c now) later
 
+-- the course in the end
+unfoldable pub course_after : Course → List Happening → Course
+course_after c [] = c
+course_after c (now ∷ later) = course_after (course_behind c now) later
+
 -- the course of a store that was just made under these keys: the session that makes a store ends there
 unfoldable pub made_course : List (List ℕ) → Course
 made_course keys = record { journal = Session ∷ Made keys ∷ []; begun = false }
 
 -- the two batches of making a store, and all that is written to it then
 unfoldable pub all_trials : List (List ℕ) → List Happening → List Trial
-all_trials keys later = record { behind = []; entry = Session } ∷ record { behind = Session ∷ []; entry = Made keys } ∷ trials (made_course keys) later
+all_trials keys later =
+    record { behind = []; entry = Session } ∷ record { behind = Session ∷ []; entry = Made keys } ∷ trials (made_course keys) later
 
 -- the step that an entry's batch holds. An epoch's batch holds none
 unfoldable pub held : Stand → Entry → Option Stepped
@@ -64,7 +71,11 @@ held at (Did request keys) = Some (entry_step at (Did request keys))
 
 -- the attempt that a batch is
 unfoldable pub attempt_of : Trial → Attempt
-attempt_of t = record { epoch = (keys_of (t.behind ++ t.entry ∷ [])).epoch; number = length t.behind + 1; holds = held (stand_after nothing t.behind) t.entry }
+attempt_of t = record {
+  epoch = (keys_of (t.behind ++ t.entry ∷ [])).epoch;
+  number = length t.behind + 1;
+  holds = held (stand_after nothing t.behind) t.entry;
+}
 
 -- the batch itself, with the payload that is masked: sealed under the keys that there are with its entry
 unfoldable pub batch_in : List ℕ → Trial → Batch
@@ -80,3 +91,9 @@ ShareVeil t u = ((attempt_of t).epoch ≡ (attempt_of u).epoch) × ((attempt_of 
 abbrev pub ShareWithThemselves : List Trial → Type 0
 ShareWithThemselves ts = (i j : ℕ) (d : Trial) → i < length ts → j < length ts → ShareVeil (slice_index_or ts i d) (slice_index_or ts j d)
     → (i ≡ j) ⊎ (((slice_index_or ts i d).entry ≡ Session) × (slice_index_or ts i d ≡ slice_index_or ts j d))
+
+-- whichever two of the list are masked under the veil key of one epoch and one number have one payload, before it is masked and then
+abbrev pub MaskOnePayload : List ℕ → List Trial → Type 0
+MaskOnePayload owner ts = (t u : Trial) → In t ts → In u ts
+    → (batch_in owner t).epoch ≡ (batch_in owner u).epoch → (batch_in owner t).number ≡ (batch_in owner u).number
+    → ((batch_in owner t).payload ≡ (batch_in owner u).payload) × (masked_payload owner (batch_in owner t) ≡ masked_payload owner (batch_in owner u))
