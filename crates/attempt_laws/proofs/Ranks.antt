@@ -33,7 +33,10 @@ abbrev IsAhead : Journal → Bool → Trial → Type 0
 IsAhead m b u = (next_rank m b < rank u) ⊎ ((next_rank m b ≡ rank u) × (b ≡ false → u ≡ session_behind m))
 
 ahead_low : (m : Journal) (b : Bool) (u : Trial) → IsAhead m b u → next_rank m b ≤ rank u
-ahead_low m b u h = ⊎_elim (λ (l : next_rank m b < rank u). omega (arith, l)) (λ e. let same : next_rank m b ≡ rank u = e.0 in omega (arith, same)) h
+ahead_low m b u h = ⊎_elim
+    (λ (l : next_rank m b < rank u). omega (arith, l))
+    (λ e. let same : next_rank m b ≡ rank u = e.0 in omega (arith, same))
+    h
 
 -- two that share a rank both begin an epoch behind one journal
 abbrev pub AreOne : Trial → Trial → Type 0
@@ -43,7 +46,8 @@ abbrev pub AreApart : List Trial → Type 0
 AreApart [] = Unit {0}
 AreApart (t ∷ ts) = ((u : Trial) → In u ts → rank t ≡ rank u → AreOne t u) × AreApart ts
 
-apart-append : (xs ys : List Trial) → AreApart xs → AreApart ys → ((t u : Trial) → In t xs → In u ys → rank t ≡ rank u → AreOne t u) → AreApart (xs ++ ys)
+apart-append : (xs ys : List Trial) → AreApart xs → AreApart ys
+    → ((t u : Trial) → In t xs → In u ys → rank t ≡ rank u → AreOne t u) → AreApart (xs ++ ys)
 apart-append [] ys a b cross = b
 apart-append (x ∷ xs) ys a b cross = (
   λ u i e. ⊎_elim (λ l. a.0 u l e) (λ r. cross x u (inl refl) r e) ((In-append Trial u xs ys).0 i),
@@ -55,15 +59,18 @@ apart-append (x ∷ xs) ys a b cross = (
 session_rank : (m : Journal) → rank (session_behind m) ≡ next_rank m false
 session_rank m = refl
 
-command_rank : (m : Journal) (b : Bool) (r : Request) (keys : List (List ℕ)) → rank (command_behind (between m b) r keys) ≡ next_rank m b + cond b 0 1
+command_rank : (m : Journal) (b : Bool) (r : Request) (keys : List (List ℕ))
+    → rank (command_behind (between m b) r keys) ≡ next_rank m b + cond b 0 1
 command_rank m b r keys =
     let same : epoch_in (between m b ++ Did r keys ∷ []) ≡ epoch_in (between m b) = epoch_command (between m b) r keys in
     let long : length (between m b) ≡ length m + cond b 0 1 = length_between m b in
     omega (arith, same, long)
 
-entered_rank : (m : Journal) (b : Bool) (r : Request) (keys : List (List ℕ)) → next_rank (between m b ++ Did r keys ∷ []) true ≡ next_rank m b + cond b 0 1 + 1
+entered_rank : (m : Journal) (b : Bool) (r : Request) (keys : List (List ℕ))
+    → next_rank (between m b ++ Did r keys ∷ []) true ≡ next_rank m b + cond b 0 1 + 1
 entered_rank m b r keys =
-    let nil : epoch_in ((between m b ++ Did r keys ∷ []) ++ []) ≡ epoch_in (between m b ++ Did r keys ∷ []) = ap epoch_in (append-nil (between m b ++ Did r keys ∷ [])) in
+    let n = between m b ++ Did r keys ∷ [] in
+    let nil : epoch_in (n ++ []) ≡ epoch_in n = ap epoch_in (append-nil n) in
     let same : epoch_in (between m b ++ Did r keys ∷ []) ≡ epoch_in (between m b) = epoch_command (between m b) r keys in
     let more : length (between m b ++ Did r keys ∷ []) ≡ length (between m b) + 1 = length-append (between m b) (Did r keys ∷ []) in
     let long : length (between m b) ≡ length m + cond b 0 1 = length_between m b in
@@ -124,10 +131,12 @@ both_ahead m b r keys t i = ⊎_elim
     (λ (e : t ≡ command_behind (between m b) r keys). subst (λ z. IsAhead m b z) (sym e) (command_ahead m b r keys))
     (both_are m b r keys t i)
 
-both_low : (m : Journal) (b : Bool) (r : Request) (keys : List (List ℕ)) (t : Trial) → In t (written_both m b r keys) → rank t ≤ next_rank m b + cond b 0 1
+both_low : (m : Journal) (b : Bool) (r : Request) (keys : List (List ℕ)) (t : Trial) → In t (written_both m b r keys)
+    → rank t ≤ next_rank m b + cond b 0 1
 both_low m b r keys t i = ⊎_elim
     (λ l. session_low b l.0 l.1)
-    (λ (e : t ≡ command_behind (between m b) r keys). let same : rank t ≡ next_rank m b + cond b 0 1 = ap rank e ∙ command_rank m b r keys in omega (arith, same))
+    (λ (e : t ≡ command_behind (between m b) r keys).
+    let same : rank t ≡ next_rank m b + cond b 0 1 = ap rank e ∙ command_rank m b r keys in omega (arith, same))
     (both_are m b r keys t i)
   where
     session_low : (b : Bool) → b ≡ false → t ≡ session_behind m → rank t ≤ next_rank m b + cond b 0 1
@@ -144,7 +153,8 @@ unfolding command_trial begun_journal
 both_apart m b r keys =
     apart-append (epoch_trial (course m b)) (command_trial (course m b) r keys ∷ []) (epoch_apart m b) (λ u i e. absurd i, tt)
     (λ t u i j e. ⊎_elim
-    (λ (s : u ≡ command_behind (between m b) r keys). absurd (differ b (epoch_is m b t i).0 (epoch_is m b t i).1 (e ∙ ap rank s ∙ command_rank m b r keys)))
+    (λ (s : u ≡ command_behind (between m b) r keys).
+    let is = epoch_is m b t i in absurd (differ b is.0 is.1 (e ∙ ap rank s ∙ command_rank m b r keys)))
     (λ n. absurd n) j)
   where
     differ : {t : Trial} (b : Bool) → b ≡ false → t ≡ session_behind m → rank t ≡ next_rank m b + cond b 0 1 → ⊥
@@ -168,10 +178,13 @@ begun_ahead m false u h =
 begun_ahead m true u h =
     let more : next_rank (between m true) true ≡ next_rank m true + 0 = begun_rank m true in ⊎_elim
     (λ (l : next_rank (between m true) true < rank u). let told : next_rank m true < rank u = omega (arith, l, more) in inl told)
-    (λ e. let same : next_rank (between m true) true ≡ rank u = e.0 in let told : next_rank m true ≡ rank u = omega (arith, same, more) in inr (told, λ g. absurd (false≢true (sym g))))
+    (λ e.
+    let same : next_rank (between m true) true ≡ rank u = e.0 in
+    let told : next_rank m true ≡ rank u = omega (arith, same, more) in inr (told, λ g. absurd (false≢true (sym g))))
     h
 
-entered_ahead : (m : Journal) (b : Bool) (r : Request) (keys : List (List ℕ)) (u : Trial) → IsAhead (between m b ++ Did r keys ∷ []) true u → IsAhead m b u
+entered_ahead : (m : Journal) (b : Bool) (r : Request) (keys : List (List ℕ)) (u : Trial)
+    → IsAhead (between m b ++ Did r keys ∷ []) true u → IsAhead m b u
 entered_ahead m b r keys u h =
     let low : next_rank (between m b ++ Did r keys ∷ []) true ≤ rank u = ahead_low (between m b ++ Did r keys ∷ []) true u h in
     let more : next_rank (between m b ++ Did r keys ∷ []) true ≡ next_rank m b + cond b 0 1 + 1 = entered_rank m b r keys in
@@ -225,7 +238,8 @@ lost_again m b t u i h e =
     (λ (w : (next_rank m false ≡ rank u) × (false ≡ false → u ≡ session_behind m)). (ap (λ (z : Trial). z.entry) s, s ∙ sym (w.1 refl)))
     h
 
-begun_once : (m : Journal) (b : Bool) (t u : Trial) → In t (epoch_trial (course m b)) → IsAhead (between m b) true u → rank t ≡ rank u → AreOne t u
+begun_once : (m : Journal) (b : Bool) (t u : Trial) → In t (epoch_trial (course m b)) → IsAhead (between m b) true u
+    → rank t ≡ rank u → AreOne t u
 begun_once m true t u i h e = absurd (false≢true (sym (epoch_is m true t i).0))
 begun_once m false t u i h e =
     let same : rank t ≡ next_rank m false = ap rank (epoch_is m false t i).1 in
@@ -233,14 +247,18 @@ begun_once m false t u i h e =
     let more : next_rank (between m false) true ≡ next_rank m false + 1 = begun_rank m false in
     absurd (omega (arith, same, low, more, e))
 
-command_once : (m : Journal) (b : Bool) (r : Request) (keys : List (List ℕ)) (t u : Trial) → In t (written_both m b r keys) → next_rank m b + cond b 0 1 + 1 ≤ rank u → rank t ≡ rank u → AreOne t u
-command_once m b r keys t u i low e = let top : rank t ≤ next_rank m b + cond b 0 1 = both_low m b r keys t i in absurd (omega (arith, top, low, e))
+command_once : (m : Journal) (b : Bool) (r : Request) (keys : List (List ℕ)) (t u : Trial) → In t (written_both m b r keys)
+    → next_rank m b + cond b 0 1 + 1 ≤ rank u → rank t ≡ rank u → AreOne t u
+command_once m b r keys t u i low e =
+    let top : rank t ≤ next_rank m b + cond b 0 1 = both_low m b r keys t i in absurd (omega (arith, top, low, e))
 
-now_once : (m : Journal) (b : Bool) (now : Happening) (t u : Trial) → In t (trials_at (course m b) now) → IsBehind (course_behind (course m b) now) u → rank t ≡ rank u → AreOne t u
+now_once : (m : Journal) (b : Bool) (now : Happening) (t u : Trial) → In t (trials_at (course m b) now)
+    → IsBehind (course_behind (course m b) now) u → rank t ≡ rank u → AreOne t u
 unfolding trials_at course_behind course_then begun_journal
 now_once m b (Befalls (IsRefused r)) t u i h e = absurd i
 now_once m b (Befalls (Enters r keys)) t u i h e =
-    command_once m b r keys t u i (subst (λ n. n ≤ rank u) (entered_rank m b r keys) (ahead_low (between m b ++ Did r keys ∷ []) true u h)) e
+    let low = ahead_low (between m b ++ Did r keys ∷ []) true u h in
+    command_once m b r keys t u i (subst (λ n. n ≤ rank u) (entered_rank m b r keys) low) e
 now_once m b (Befalls (IsAbandoned r keys)) t u i h e =
     command_once m b r keys t u i (subst (λ n. n ≤ rank u) (abandoned_rank m b) (ahead_low (between m b) false u h)) e
 now_once m b (Befalls LosesEpoch) t u i h e = lost_again m b t u i h e
@@ -262,8 +280,9 @@ trials_apart : (c : Course) (later : List Happening) → AreApart (trials c late
 unfolding trials
 trials_apart c [] = tt
 trials_apart c (now ∷ later) =
-    apart-append (trials_at c now) (trials (course_behind c now) later) (now_apart c.journal c.begun now) (trials_apart (course_behind c now) later)
-    (λ t u i j e. now_once c.journal c.begun now t u i (trials_ahead (course_behind c now) later u j) e)
+    let then = course_behind c now in
+    apart-append (trials_at c now) (trials then later) (now_apart c.journal c.begun now) (trials_apart then later)
+    (λ t u i j e. now_once c.journal c.begun now t u i (trials_ahead then later u j) e)
 
 pub all_apart : (keys : List (List ℕ)) (later : List Happening) → AreApart (all_trials keys later)
 unfolding all_trials made_course
@@ -273,15 +292,20 @@ all_apart keys later =
     let two : epoch_in m ≡ epoch_in (Session ∷ []) = epoch_made (Session ∷ []) keys in
     let three : epoch_in (m ++ Session ∷ []) ≡ epoch_in m + 1 = epoch_session m in
     let after : (u : Trial) → In u (trials (made_course keys) later) → epoch_in m + 4 ≤ rank u = λ u i.
-    let low : epoch_in (m ++ Session ∷ []) + (2 + 1) ≤ rank u = ahead_low m false u (trials_ahead (made_course keys) later u i) in omega (arith, low, three)
+    let ahead = trials_ahead (made_course keys) later u i in
+    let low : epoch_in (m ++ Session ∷ []) + (2 + 1) ≤ rank u = ahead_low m false u ahead in omega (arith, low, three)
     in (
       λ u i e. ⊎_elim
           (λ (s : u ≡ record { behind = Session ∷ []; entry = Made keys }).
           let first : epoch_in (Session ∷ []) + 1 ≡ epoch_in m + 2 = e ∙ ap rank s in absurd (omega (arith, two, first)))
-          (λ r. let low : epoch_in m + 4 ≤ rank u = after u r in let first : epoch_in (Session ∷ []) + 1 ≡ rank u = e in absurd (omega (arith, two, low, first)))
+          (λ r.
+          let low : epoch_in m + 4 ≤ rank u = after u r in
+          let first : epoch_in (Session ∷ []) + 1 ≡ rank u = e in absurd (omega (arith, two, low, first)))
           i,
       (
-        λ u i e. let low : epoch_in m + 4 ≤ rank u = after u i in let first : epoch_in m + 2 ≡ rank u = e in absurd (omega (arith, low, first)),
+        λ u i e.
+            let low : epoch_in m + 4 ≤ rank u = after u i in
+            let first : epoch_in m + 2 ≡ rank u = e in absurd (omega (arith, low, first)),
         trials_apart (made_course keys) later,
       ),
     )
@@ -308,7 +332,10 @@ apart_share (t ∷ ts) a (suc i) zero d h k s =
     let u = slice_index_or ts i d in
     let told : AreOne t u = a.0 u (in_at ts i d (omega arith)) (sym (ranks_share u t s)) in
     inr (ap (λ (z : Trial). z.entry) (sym told.1) ∙ told.0, sym told.1)
-apart_share (t ∷ ts) a (suc i) (suc j) d h k s = ⊎_elim (λ (e : i ≡ j). inl (ap suc e)) (λ e. inr e) (apart_share ts a.1 i j d (omega arith) (omega arith) s)
+apart_share (t ∷ ts) a (suc i) (suc j) d h k s = ⊎_elim
+    (λ (e : i ≡ j). inl (ap suc e))
+    (λ e. inr e)
+    (apart_share ts a.1 i j d (omega arith) (omega arith) s)
 
 pub apart_same : (ts : List Trial) → AreApart ts → (t u : Trial) → In t ts → In u ts → ShareVeil t u → t ≡ u
 apart_same [] a t u i j s = absurd i

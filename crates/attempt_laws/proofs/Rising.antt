@@ -39,19 +39,23 @@ abbrev pub Rises : {X : Type 0} → (X → ℕ) → List X → ℕ → ℕ → T
 Rises number [] low high = low ≤ high
 Rises number (x ∷ xs) low high = (low ≤ number x) × Rises number xs (number x + 1) high
 
-rises_from : (X : Type 0) (number : X → ℕ) (xs : List X) (low next high : ℕ) → low ≤ next → Rises number xs next high → Rises number xs low high
+rises_from : (X : Type 0) (number : X → ℕ) (xs : List X) (low next high : ℕ) → low ≤ next → Rises number xs next high
+    → Rises number xs low high
 rises_from X number [] low next high h r = omega (arith, h, r)
 rises_from X number (x ∷ xs) low next high h r = let first : next ≤ number x = r.0 in (omega (arith, h, first), r.1)
 
-rises_to : (X : Type 0) (number : X → ℕ) (xs : List X) (low next high : ℕ) → next ≤ high → Rises number xs low next → Rises number xs low high
+rises_to : (X : Type 0) (number : X → ℕ) (xs : List X) (low next high : ℕ) → next ≤ high → Rises number xs low next
+    → Rises number xs low high
 rises_to X number [] low next high h r = omega (arith, h, r)
 rises_to X number (x ∷ xs) low next high h r = (r.0, rises_to X number xs (number x + 1) next high h r.1)
 
-rises-append : (X : Type 0) (number : X → ℕ) (xs ys : List X) (low next high : ℕ) → Rises number xs low next → Rises number ys next high → Rises number (xs ++ ys) low high
+rises-append : (X : Type 0) (number : X → ℕ) (xs ys : List X) (low next high : ℕ) → Rises number xs low next
+    → Rises number ys next high → Rises number (xs ++ ys) low high
 rises-append X number [] ys low next high r s = rises_from X number ys low next high r s
 rises-append X number (x ∷ xs) ys low next high r s = (r.0, rises-append X number xs ys (number x + 1) next high r.1 s)
 
-rises_above : (X : Type 0) (number : X → ℕ) (xs : List X) (low high i : ℕ) (d : X) → Rises number xs low high → i < length xs → low ≤ number (slice_index_or xs i d)
+rises_above : (X : Type 0) (number : X → ℕ) (xs : List X) (low high i : ℕ) (d : X) → Rises number xs low high → i < length xs
+    → low ≤ number (slice_index_or xs i d)
 rises_above X number [] low high i d r h = absurd (omega arith)
 rises_above X number (x ∷ xs) low high zero d r h = r.0
 rises_above X number (x ∷ xs) low high (suc i) d r h =
@@ -68,11 +72,13 @@ rising_differ X number (x ∷ xs) low high r zero (suc j) d h k e =
 rising_differ X number (x ∷ xs) low high r (suc i) zero d h k e =
     let more : number x + 1 ≤ number (slice_index_or xs i d) = rises_above X number xs (number x + 1) high i d r.1 (omega arith) in
     let same : number (slice_index_or xs i d) ≡ number x = e in absurd (omega (arith, more, same))
-rising_differ X number (x ∷ xs) low high r (suc i) (suc j) d h k e = ap suc (rising_differ X number xs (number x + 1) high r.1 i j d (omega arith) (omega arith) e)
+rising_differ X number (x ∷ xs) low high r (suc i) (suc j) d h k e =
+    ap suc (rising_differ X number xs (number x + 1) high r.1 i j d (omega arith) (omega arith) e)
 
 -- ---- one step
 
-numbered_rise : (X : Type 0) (made : X × ℕ → Spender) (told : (x : X × ℕ) → number_of (made x) ≡ x.1) (n : ℕ) (xs : List X) → Rises number_of (map made (numbered n xs)) n (n + length xs)
+numbered_rise : (X : Type 0) (made : X × ℕ → Spender) (told : (x : X × ℕ) → number_of (made x) ≡ x.1) (n : ℕ) (xs : List X)
+    → Rises number_of (map made (numbered n xs)) n (n + length xs)
 unfolding numbered
 numbered_rise X made told n [] = omega arith
 numbered_rise X made told n (x ∷ xs) =
@@ -117,31 +123,39 @@ module _ (k : KeyState) (before : List Edge) (c : Change) (pieces : List Piece) 
   contents_rise =
       let keys = keys_then k c (renewed k before c) in
       let n = next_serial k + length (given k c (renewed k before c)) + length (published_edges before c (renewed k before c)) in
-      subst (λ l. Rises number_of l n (n + length pieces)) (sym (map_twice (Piece × ℕ) Content Spender (content_of keys) AContent (numbered n pieces)))
+      let one = map_twice (Piece × ℕ) Content Spender (content_of keys) AContent (numbered n pieces) in
+      subst (λ l. Rises number_of l n (n + length pieces)) (sym one)
       (numbered_rise Piece (λ p. AContent (content_of keys p)) (λ _. refl) n pieces)
 
   after_is : next_serial (key_step k before c pieces).after ≡ first_content + length pieces
   unfolding next_serial key_step step_with published first_content
-  after_is = after_counts (k.epoch * 2 ^ 32) k.count (length (given k c (renewed k before c))) (length (published_edges before c (renewed k before c))) (length pieces)
+  after_is =
+      let many = length (given k c (renewed k before c)) in
+      after_counts (k.epoch * 2 ^ 32) k.count many (length (published_edges before c (renewed k before c))) (length pieces)
     where
       after_counts : (a n g e p : ℕ) → a + (n + g + e + p) ≡ ((a + n) + g + e) + p
       after_counts a n g e p = omega arith
 
-  pub step_rises : Rises number_of (spenders_in (Some (key_step k before c pieces))) (next_serial k) (next_serial (key_step k before c pieces).after)
+  pub step_rises : Rises number_of (spenders_in (Some (key_step k before c pieces)))
+      (next_serial k) (next_serial (key_step k before c pieces).after)
   unfolding spenders_in
   step_rises =
       let step = key_step k before c pieces in
-      subst (λ n. Rises number_of (map AKey step.given ++ map ALink step.links ++ map AContent step.contents) (next_serial k) n) (sym after_is)
-      (rises-append Spender number_of (map AKey step.given ++ map ALink step.links) (map AContent step.contents) (next_serial k) first_content (first_content + length pieces)
-      (rises-append Spender number_of (map AKey step.given) (map ALink step.links) (next_serial k) first_link first_content keys_rise links_rise)
-      contents_rise)
+      let keys = map AKey step.given in
+      let links = map ALink step.links in
+      let contents = map AContent step.contents in
+      let both = rises-append Spender number_of keys links (next_serial k) first_link first_content keys_rise links_rise in
+      let last = first_content + length pieces in
+      subst (λ n. Rises number_of (keys ++ links ++ contents) (next_serial k) n) (sym after_is)
+      (rises-append Spender number_of (keys ++ links) contents (next_serial k) first_content last both contents_rise)
 
 abbrev next_in : Journal → ℕ
 next_in m = next_serial (keys_of m)
 
 -- ---- what is written behind a journal
 
-command_rises : (m : Journal) (r : Request) (keys : List (List ℕ)) → Rises number_of (spenders_in (held (stand_after nothing m) (Did r keys))) (next_in m) (next_in (m ++ Did r keys ∷ []))
+command_rises : (m : Journal) (r : Request) (keys : List (List ℕ))
+    → Rises number_of (spenders_in (held (stand_after nothing m) (Did r keys))) (next_in m) (next_in (m ++ Did r keys ∷ []))
 unfolding held keys_of entry_step note_step
 command_rises m r keys =
     let at = stand_after nothing m in
@@ -149,7 +163,8 @@ command_rises m r keys =
     subst (λ k. Rises number_of (spenders_in (held at (Did r keys))) (next_serial at.keys) (next_serial k)) (sym (keys_more m (Did r keys)))
     (step_rises at.keys (edges at.store) (change_of at.store note) (pieces_of note (effect at.store r (first_key keys))))
 
-made_rises : (m : Journal) (keys : List (List ℕ)) → Rises number_of (spenders_in (held (stand_after nothing m) (Made keys))) (next_in m) (next_in (m ++ Made keys ∷ []))
+made_rises : (m : Journal) (keys : List (List ℕ))
+    → Rises number_of (spenders_in (held (stand_after nothing m) (Made keys))) (next_in m) (next_in (m ++ Made keys ∷ []))
 unfolding held keys_of entry_step note_step
 made_rises m keys =
     let at = stand_after nothing m in
@@ -165,7 +180,8 @@ epoch_above : (m : Journal) → (keys_of m).count ≤ 4294967296 → next_in m �
 epoch_above m low = subst (λ k. next_in m ≤ next_serial k) (sym (keys_session m)) (above (keys_of m) low)
 
 -- a session that follows an abandoned command begins the same epoch as if the command weren't there
-begins_alike : (m : Journal) (r : Request) (keys : List (List ℕ)) → next_in ((m ++ Did r keys ∷ []) ++ Session ∷ []) ≡ next_in (m ++ Session ∷ [])
+begins_alike : (m : Journal) (r : Request) (keys : List (List ℕ))
+    → next_in ((m ++ Did r keys ∷ []) ++ Session ∷ []) ≡ next_in (m ++ Session ∷ [])
 unfolding next_serial next_epoch
 begins_alike m r keys =
     ap next_serial (keys_session (m ++ Did r keys ∷ []))
@@ -178,6 +194,9 @@ count_low m valid = let low : (keys_of m).count ≤ 268435456 = journal_count m 
 -- the next number for a session: that of the epoch that it begins, where it has begun none
 abbrev low_in : Journal → Bool → ℕ
 low_in m b = next_in (between m b)
+
+abbrev low_on : Course → ℕ
+low_on c = low_in c.journal c.begun
 
 low_begun : (m : Journal) → low_in m true ≡ next_in m
 low_begun m = ap next_in (append-nil m)
@@ -205,14 +224,19 @@ unfolding all_spenders epoch_trial attempt_of held spenders_in
 spent_epoch m true = refl
 spent_epoch m false = refl
 
+abbrev spent_by_both : Journal → Bool → Request → List (List ℕ) → List Spender
+spent_by_both m b r keys = spent (epoch_trial (course m b) ++ command_trial (course m b) r keys ∷ [])
+
 both_rise : (m : Journal) (b : Bool) (r : Request) (keys : List (List ℕ))
-    → Rises number_of (spent (epoch_trial (course m b) ++ command_trial (course m b) r keys ∷ [])) (low_in m b) (next_in (between m b ++ Did r keys ∷ []))
+    → Rises number_of (spent_by_both m b r keys) (low_in m b) (next_in (between m b ++ Did r keys ∷ []))
 unfolding all_spenders command_trial begun_journal attempt_of
 both_rise m b r keys =
     let at = stand_after nothing (between m b) in
     let held_then = spenders_in (held at (Did r keys)) in
     subst (λ l. Rises number_of l (low_in m b) (next_in (between m b ++ Did r keys ∷ [])))
-    (sym (spent-append (epoch_trial (course m b)) (command_trial (course m b) r keys ∷ []) ∙ ap (λ l. l ++ (held_then ++ [])) (spent_epoch m b) ∙ append-nil held_then))
+    (sym (spent-append (epoch_trial (course m b)) (command_trial (course m b) r keys ∷ [])
+    ∙ ap (λ l. l ++ (held_then ++ [])) (spent_epoch m b)
+    ∙ append-nil held_then))
     (command_rises (between m b) r keys)
 
 epoch_rises : (m : Journal) (b : Bool) (low high : ℕ) → low ≤ high → Rises number_of (spent (epoch_trial (course m b))) low high
@@ -227,21 +251,24 @@ answered None true = λ e. absurd cc
 answered None false = λ e. (refl, refl)
 
 module _ (limits : Limits) (store_low : limits.store_bytes ≤ 268435456) (files_low : limits.file_bytes ≤ 1048576) where
-  not_refused : (m : Journal) (b : Bool) (r : Request) → answer limits m b r ≡ None → (refusal_of (store_of m) r limits.file_bytes ≡ None) × (due_end m b r ≤ 268435456)
+  not_refused : (m : Journal) (b : Bool) (r : Request) → answer limits m b r ≡ None
+      → (refusal_of (store_of m) r limits.file_bytes ≡ None) × (due_end m b r ≤ 268435456)
   unfolding answer store_of
   not_refused m b r fine =
       let both = answered (refusal_of (stand_after nothing m).store r limits.file_bytes) (nat_lt limits.store_bytes (due_end m b r)) fine in
       let low : due_end m b r ≤ limits.store_bytes = ltb-false limits.store_bytes (due_end m b r) both.1 in
       (both.0, omega (arith, low, store_low))
 
-  entered_valid : (m : Journal) (b : Bool) (r : Request) (keys : List (List ℕ)) → IsValid m → IsDrawnFor limits (course m b) r keys → IsValid (between m b ++ Did r keys ∷ [])
+  entered_valid : (m : Journal) (b : Bool) (r : Request) (keys : List (List ℕ)) → IsValid m → IsDrawnFor limits (course m b) r keys
+      → IsValid (between m b ++ Did r keys ∷ [])
   entered_valid m b r keys valid can =
       let fine = not_refused m b r can.0 in next_valid m b r keys limits.file_bytes valid files_low fine.0 can.1 can.2 fine.1
 
   begun_valid : (m : Journal) (b : Bool) (r : Request) → IsValid m → answer limits m b r ≡ None → IsValid (between m b)
   begun_valid m b r valid fine = session_valid m b r valid (not_refused m b r fine).1
 
-  valid_behind : (m : Journal) (b : Bool) (now : Happening) → IsValid m → CanHappen limits (course m b) now → IsValid (course_behind (course m b) now).journal
+  valid_behind : (m : Journal) (b : Bool) (now : Happening) → IsValid m → CanHappen limits (course m b) now
+      → IsValid (course_behind (course m b) now).journal
   unfolding course_behind course_then begun_journal
   valid_behind m b (Befalls (IsRefused r)) valid can = valid
   valid_behind m b (Befalls (Enters r keys)) valid can = entered_valid m b r keys valid can
@@ -251,23 +278,25 @@ module _ (limits : Limits) (store_low : limits.store_bytes ≤ 268435456) (files
   valid_behind m b (Befalls Reopens) valid can = valid
   valid_behind m b BeginsEpoch valid can = begun_valid m b can.1.0 valid can.1.1
 
-  abandoned_above : (m : Journal) (b : Bool) (r : Request) (keys : List (List ℕ)) → IsValid (between m b ++ Did r keys ∷ []) → next_in (between m b ++ Did r keys ∷ []) ≤ low_in (between m b) false
+  abandoned_above : (m : Journal) (b : Bool) (r : Request) (keys : List (List ℕ)) → IsValid (between m b ++ Did r keys ∷ [])
+      → next_in (between m b ++ Did r keys ∷ []) ≤ low_in (between m b) false
   abandoned_above m b r keys valid =
-      let n = between m b in
-      let low : (keys_of (n ++ Did r keys ∷ [])).count ≤ 4294967296 = count_low (n ++ Did r keys ∷ []) valid in
-      let above : next_in (n ++ Did r keys ∷ []) ≤ next_in ((n ++ Did r keys ∷ []) ++ Session ∷ []) = epoch_above (n ++ Did r keys ∷ []) low in
-      let same : next_in ((n ++ Did r keys ∷ []) ++ Session ∷ []) ≡ next_in (n ++ Session ∷ []) = begins_alike n r keys in
+      let n = between m b ++ Did r keys ∷ [] in
+      let above : next_in n ≤ next_in (n ++ Session ∷ []) = epoch_above n (count_low n valid) in
+      let same : next_in (n ++ Session ∷ []) ≡ next_in (between m b ++ Session ∷ []) = begins_alike (between m b) r keys in
       omega (arith, above, same)
 
   now_rises : (m : Journal) (b : Bool) (now : Happening) → IsValid m → CanHappen limits (course m b) now
-      → Rises number_of (spent (trials_at (course m b) now)) (low_in m b) (low_in (course_behind (course m b) now).journal (course_behind (course m b) now).begun)
+      → Rises number_of (spent (trials_at (course m b) now)) (low_in m b) (low_on (course_behind (course m b) now))
   unfolding all_spenders trials_at course_behind course_then begun_journal
   now_rises m b (Befalls (IsRefused r)) valid can = omega arith
   now_rises m b (Befalls (Enters r keys)) valid can =
-      subst (λ n. Rises number_of (spent (epoch_trial (course m b) ++ command_trial (course m b) r keys ∷ [])) (low_in m b) n) (sym (low_begun (between m b ++ Did r keys ∷ []))) (both_rise m b r keys)
+      let same = low_begun (between m b ++ Did r keys ∷ []) in
+      subst (λ n. Rises number_of (spent_by_both m b r keys) (low_in m b) n) (sym same) (both_rise m b r keys)
   now_rises m b (Befalls (IsAbandoned r keys)) valid can =
-      rises_to Spender number_of (spent (epoch_trial (course m b) ++ command_trial (course m b) r keys ∷ [])) (low_in m b) (next_in (between m b ++ Did r keys ∷ [])) (low_in (between m b) false)
-      (abandoned_above m b r keys (entered_valid m b r keys valid can)) (both_rise m b r keys)
+      let above = abandoned_above m b r keys (entered_valid m b r keys valid can) in
+      let next = next_in (between m b ++ Did r keys ∷ []) in
+      rises_to Spender number_of (spent_by_both m b r keys) (low_in m b) next (low_in (between m b) false) above (both_rise m b r keys)
   now_rises m b (Befalls LosesEpoch) valid can = epoch_rises m b (low_in m b) (low_in m false) (low_ended m b valid)
   now_rises m b (Befalls Ends) valid can = low_ended m b valid
   now_rises m b (Befalls Reopens) valid can = low_ended m b valid
@@ -277,19 +306,23 @@ module _ (limits : Limits) (store_low : limits.store_bytes ≤ 268435456) (files
 
   -- ---- all of them
 
-  trials_rise : (c : Course) (later : List Happening) → IsValid c.journal → IsCourse limits c later → (high : ℕ) × Rises number_of (spent (trials c later)) (low_in c.journal c.begun) high
+  trials_rise : (c : Course) (later : List Happening) → IsValid c.journal → IsCourse limits c later
+      → (high : ℕ) × Rises number_of (spent (trials c later)) (low_in c.journal c.begun) high
   unfolding all_spenders trials
   trials_rise c [] valid can = (low_in c.journal c.begun, omega arith)
   trials_rise c (now ∷ later) valid can =
       let then = course_behind c now in
       let rest = trials_rise then later (valid_behind c.journal c.begun now valid can.0) can.1 in
-      let mine = now_rises c.journal c.begun now valid can.0 in (
+      let mine = now_rises c.journal c.begun now valid can.0 in
+      let one = spent (trials_at c now) in
+      let more = spent (trials then later) in (
         rest.0,
         subst (λ l. Rises number_of l (low_in c.journal c.begun) rest.0) (sym (spent-append (trials_at c now) (trials then later)))
-            (rises-append Spender number_of (spent (trials_at c now)) (spent (trials then later)) (low_in c.journal c.begun) (low_in then.journal then.begun) rest.0 mine rest.1),
+            (rises-append Spender number_of one more (low_on c) (low_on then) rest.0 mine rest.1),
       )
 
-  pub course_valid : (c : Course) (later : List Happening) → IsValid c.journal → IsCourse limits c later → IsValid (course_after c later).journal
+  pub course_valid : (c : Course) (later : List Happening) → IsValid c.journal → IsCourse limits c later
+      → IsValid (course_after c later).journal
   unfolding course_after
   course_valid c [] valid can = valid
   course_valid c (now ∷ later) valid can = course_valid (course_behind c now) later (valid_behind c.journal c.begun now valid can.0) can.1
@@ -298,7 +331,8 @@ pub made_valid : (keys : List (List ℕ)) → length keys ≡ 5 → IsValid (Ses
 unfolding journal_bytes
 made_valid keys five = ((five, tt), omega arith)
 
-pub all_differ : (limits : Limits) (keys : List (List ℕ)) (later : List Happening) → limits.store_bytes ≤ 268435456 → limits.file_bytes ≤ 1048576 → length keys ≡ 5 → IsCourse limits (made_course keys) later
+pub all_differ : (limits : Limits) (keys : List (List ℕ)) (later : List Happening) → limits.store_bytes ≤ 268435456
+    → limits.file_bytes ≤ 1048576 → length keys ≡ 5 → IsCourse limits (made_course keys) later
     → Differ number_of (spent (all_trials keys later))
 unfolding all_trials all_spenders attempt_of held spenders_in made_course
 all_differ limits keys later store_low files_low five can =
@@ -307,6 +341,7 @@ all_differ limits keys later store_low files_low five can =
     let rest = trials_rise limits store_low files_low (made_course keys) later valid can in
     let made = spenders_in (held (stand_after nothing (Session ∷ [])) (Made keys)) in
     let first : Rises number_of made (next_in (Session ∷ [])) (next_in m) = made_rises (Session ∷ []) keys in
-    let above : Rises number_of made (next_in (Session ∷ [])) (low_in m false) = rises_to Spender number_of made (next_in (Session ∷ [])) (next_in m) (low_in m false) (epoch_above m (count_low m valid)) first in
-    rising_differ Spender number_of (spent (all_trials keys later)) (next_in (Session ∷ [])) rest.0
-    (rises-append Spender number_of made (spent (trials (made_course keys) later)) (next_in (Session ∷ [])) (low_in m false) rest.0 above rest.1)
+    let low = next_in (Session ∷ []) in
+    let above = rises_to Spender number_of made low (next_in m) (low_in m false) (epoch_above m (count_low m valid)) first in
+    rising_differ Spender number_of (spent (all_trials keys later)) low rest.0
+    (rises-append Spender number_of made (spent (trials (made_course keys) later)) low (low_in m false) rest.0 above rest.1)

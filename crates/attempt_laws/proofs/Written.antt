@@ -17,7 +17,7 @@ use Rattle.journal_bytes.specs.Keys.{all_keys, owner_parts}
 use Rattle.journal_bytes.proofs.NextBatches.{batches_then, epoch_of}
 use Rattle.journal_bytes.proofs.NextEntry.{between}
 use Rattle.attempt_laws.specs.Trials.{Befalls, Happening, Trial, all_trials, attempt_of, batch_in, command_trial, course_behind, epoch_trial, held, made_course, trials, trials_at}
-use Rattle.attempt_laws.proofs.Epochs.{course, epoch_command, epoch_made, epoch_session}
+use Rattle.attempt_laws.proofs.Epochs.{course, epoch_in, epoch_command, epoch_made, epoch_session}
 use Rattle.attempt_laws.proofs.Ranks.{all_apart, apart_same}
 
 -- ---- attempts
@@ -27,23 +27,28 @@ unfolding epoch_attempt epoch_trial attempt_of held
 epoch_told m true = refl
 epoch_told m false = ap (λ n. record { epoch = n; number = length m + 1; holds = None } ∷ []) (sym (epoch_session m))
 
-command_told : (m : Journal) (r : Request) (keys : List (List ℕ)) → command_attempt m r keys ≡ attempt_of (record { behind = m; entry = Did r keys })
+command_told : (m : Journal) (r : Request) (keys : List (List ℕ))
+    → command_attempt m r keys ≡ attempt_of (record { behind = m; entry = Did r keys })
 unfolding command_attempt attempt_of held
-command_told m r keys = ap (λ n. record { epoch = n; number = length m + 1; holds = Some (entry_step (stand_after nothing m) (Did r keys)) }) (sym (epoch_command m r keys))
+command_told m r keys =
+    let step = entry_step (stand_after nothing m) (Did r keys) in
+    ap (λ n. record { epoch = n; number = length m + 1; holds = Some step }) (sym (epoch_command m r keys))
 
 map-append : (xs ys : List Trial) → map attempt_of (xs ++ ys) ≡ map attempt_of xs ++ map attempt_of ys
 map-append [] ys = refl
 map-append (x ∷ xs) ys = ap (λ l. attempt_of x ∷ l) (map-append xs ys)
 
 both_told : (m : Journal) (b : Bool) (r : Request) (keys : List (List ℕ))
-    → epoch_attempt (course m b) ++ command_attempt (begun_journal (course m b)) r keys ∷ [] ≡ map attempt_of (epoch_trial (course m b) ++ command_trial (course m b) r keys ∷ [])
+    → epoch_attempt (course m b) ++ command_attempt (begun_journal (course m b)) r keys ∷ []
+    ≡ map attempt_of (epoch_trial (course m b) ++ command_trial (course m b) r keys ∷ [])
 unfolding command_trial begun_journal
 both_told m b r keys =
     ap (λ l. l ++ command_attempt (between m b) r keys ∷ []) (epoch_told m b)
     ∙ ap (λ a. map attempt_of (epoch_trial (course m b)) ++ a ∷ []) (command_told (between m b) r keys)
     ∙ sym (map-append (epoch_trial (course m b)) (command_trial (course m b) r keys ∷ []))
 
-event_told : (m : Journal) (b : Bool) (event : Event) → attempts_at (course m b) event ≡ map attempt_of (trials_at (course m b) (Befalls event))
+event_told : (m : Journal) (b : Bool) (event : Event)
+    → attempts_at (course m b) event ≡ map attempt_of (trials_at (course m b) (Befalls event))
 unfolding attempts_at trials_at
 event_told m b (IsRefused r) = refl
 event_told m b (Enters r keys) = both_told m b r keys
@@ -66,7 +71,8 @@ pub made_told : (keys : List (List ℕ)) (events : List Event) → map attempt_o
     ∷ attempts (made_course keys) events
 unfolding all_trials attempt_of held nothing no_keys keys_of stand_after stand_then entry_step note_step next_epoch key_step step_with published
 made_told keys events =
-    ap (λ l. record { epoch = 1; number = 1; holds = None } ∷ record { epoch = 1; number = 2; holds = Some (entry_step (stand_after nothing (Session ∷ [])) (Made keys)) } ∷ l)
+    let step = entry_step (stand_after nothing (Session ∷ [])) (Made keys) in
+    ap (λ l. record { epoch = 1; number = 1; holds = None } ∷ record { epoch = 1; number = 2; holds = Some step } ∷ l)
     (sym (attempts_told (made_course keys) events))
 
 -- ---- batches
@@ -75,7 +81,7 @@ pub epochs_agree : (owner : List ℕ) (t : Trial) → (batch_in owner t).epoch �
 unfolding batch_in attempt_of entry_body
 epochs_agree owner t = agree t.entry
   where
-    agree : (entry : Entry) → (batch_of (length t.behind) (keys_of t.behind).epoch (entry_body (all_keys owner (t.behind ++ entry ∷ [])) (stand_after nothing t.behind) entry)).epoch ≡ (keys_of (t.behind ++ entry ∷ [])).epoch
+    agree : (entry : Entry) → (batch_in owner (record { behind = t.behind; entry = entry })).epoch ≡ epoch_in (t.behind ++ entry ∷ [])
     agree Session = sym (epoch_session t.behind)
     agree (Made keys) = sym (epoch_made t.behind keys)
     agree (Did r keys) = sym (epoch_command t.behind r keys)
@@ -84,13 +90,14 @@ pub numbers_agree : (owner : List ℕ) (t : Trial) → (batch_in owner t).number
 unfolding batch_in attempt_of entry_body
 numbers_agree owner t = agree t.entry
   where
-    agree : (entry : Entry) → (batch_of (length t.behind) (keys_of t.behind).epoch (entry_body (all_keys owner (t.behind ++ entry ∷ [])) (stand_after nothing t.behind) entry)).number ≡ length t.behind + 1
+    agree : (entry : Entry) → (batch_in owner (record { behind = t.behind; entry = entry })).number ≡ length t.behind + 1
     agree Session = refl
     agree (Made keys) = refl
     agree (Did r keys) = refl
 
 -- a journal has a batch for each entry
-many_from : (keys : List KeyParts) (at : Stand) (number epoch : ℕ) (m : List Entry) → length (batches_from number epoch (bodies_from keys at m)) ≡ length m
+many_from : (keys : List KeyParts) (at : Stand) (number epoch : ℕ) (m : List Entry)
+    → length (batches_from number epoch (bodies_from keys at m)) ≡ length m
 unfolding bodies_from
 many_from keys at number epoch [] = refl
 many_from keys at number epoch (entry ∷ m) =
@@ -116,7 +123,8 @@ standing owner m = record {
   room = 0;
 }
 
-pub entered_is : (owner : List ℕ) (m : Journal) (entry : Entry) → batches_of owner (m ++ entry ∷ []) ≡ batches_of owner m ++ batch_in owner (record { behind = m; entry = entry }) ∷ []
+pub entered_is : (owner : List ℕ) (m : Journal) (entry : Entry)
+    → batches_of owner (m ++ entry ∷ []) ≡ batches_of owner m ++ batch_in owner (record { behind = m; entry = entry }) ∷ []
 unfolding batch_in standing
 entered_is owner m entry =
     let body = entry_body (all_keys owner (m ++ entry ∷ [])) (stand_after nothing m) entry in
@@ -126,11 +134,13 @@ entered_is owner m entry =
 
 -- ---- two batches under one veil key
 
-module _ (owner : List ℕ) (keys : List (List ℕ)) (later : List Happening) (a b : Trial) (i : In a (all_trials keys later)) (j : In b (all_trials keys later))
+module _ (owner : List ℕ) (keys : List (List ℕ)) (later : List Happening) (a b : Trial)
+    (i : In a (all_trials keys later)) (j : In b (all_trials keys later))
     (epochs : (batch_in owner a).epoch ≡ (batch_in owner b).epoch) (numbers : (batch_in owner a).number ≡ (batch_in owner b).number) where
   same_trial : a ≡ b
   same_trial = apart_same (all_trials keys later) (all_apart keys later) a b i j
       (sym (epochs_agree owner a) ∙ epochs ∙ epochs_agree owner b, sym (numbers_agree owner a) ∙ numbers ∙ numbers_agree owner b)
 
-  pub same_payload : ((batch_in owner a).payload ≡ (batch_in owner b).payload) × (masked_payload owner (batch_in owner a) ≡ masked_payload owner (batch_in owner b))
+  pub same_payload : ((batch_in owner a).payload ≡ (batch_in owner b).payload)
+      × (masked_payload owner (batch_in owner a) ≡ masked_payload owner (batch_in owner b))
   same_payload = (ap (λ t. (batch_in owner t).payload) same_trial, ap (λ t. masked_payload owner (batch_in owner t)) same_trial)

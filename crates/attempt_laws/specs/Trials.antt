@@ -96,4 +96,5 @@ ShareWithThemselves ts = (i j : ℕ) (d : Trial) → i < length ts → j < lengt
 abbrev pub MaskOnePayload : List ℕ → List Trial → Type 0
 MaskOnePayload owner ts = (t u : Trial) → In t ts → In u ts
     → (batch_in owner t).epoch ≡ (batch_in owner u).epoch → (batch_in owner t).number ≡ (batch_in owner u).number
-    → ((batch_in owner t).payload ≡ (batch_in owner u).payload) × (masked_payload owner (batch_in owner t) ≡ masked_payload owner (batch_in owner u))
+    → ((batch_in owner t).payload ≡ (batch_in owner u).payload)
+    × (masked_payload owner (batch_in owner t) ≡ masked_payload owner (batch_in owner u))

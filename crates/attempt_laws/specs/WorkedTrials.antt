@@ -11,8 +11,9 @@ use Rattle.attempt_laws.specs.Trials.{Happening, Befalls, BeginsEpoch, epoch_tri
 -- the grant enters
 unfoldable pub happened : List Happening
 happened =
-    Befalls (Enters (MakeFolder (codes "/a")) (some_keys 5)) ∷ Befalls (Enters AddHolder (some_keys 1)) ∷ Befalls (IsRefused (MakeFolder (codes "/a")))
-    ∷ Befalls (IsAbandoned (Grant 1 (codes "/a")) []) ∷ Befalls Reopens ∷ Befalls LosesEpoch ∷ Befalls Reopens ∷ BeginsEpoch ∷ Befalls Ends
+    Befalls (Enters (MakeFolder (codes "/a")) (some_keys 5)) ∷ Befalls (Enters AddHolder (some_keys 1))
+    ∷ Befalls (IsRefused (MakeFolder (codes "/a"))) ∷ Befalls (IsAbandoned (Grant 1 (codes "/a")) [])
+    ∷ Befalls Reopens ∷ Befalls LosesEpoch ∷ Befalls Reopens ∷ BeginsEpoch ∷ Befalls Ends
     ∷ Befalls Reopens ∷ Befalls (Enters (Grant 1 (codes "/a")) []) ∷ []
 
 -- every word of it

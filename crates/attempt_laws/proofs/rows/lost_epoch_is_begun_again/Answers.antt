@@ -12,4 +12,19 @@ returns-clause-course c =
     let five = All-replicate (λ (key : List ℕ). length key ≡ 32) 5 (replicate 32 1) refl in
     let one = All-replicate (λ (key : List ℕ). length key ≡ 32) 1 (replicate 32 1) refl in
     let none = All-nil (λ (key : List ℕ). length key ≡ 32) in
-    ((refl, refl, five), ((refl, refl, one), ((Exists, refl), ((refl, refl, none), (tt, ((refl, (Grant 1 (codes "/a"), refl)), (tt, ((refl, (Grant 1 (codes "/a"), refl)), (tt, (tt, ((refl, refl, none), tt)))))))))))
+    let grant = Grant 1 (codes "/a") in (
+      (refl, refl, five),
+      (
+        (refl, refl, one),
+        (
+          (Exists, refl),
+          (
+            (refl, refl, none),
+            (
+              tt,
+              ((refl, (grant, refl)), (tt, ((refl, (grant, refl)), (tt, (tt, ((refl, refl, none), tt)))))),
+            ),
+          ),
+        ),
+      ),
+    )
