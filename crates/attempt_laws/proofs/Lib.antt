@@ -1,0 +1,4 @@
+pub mod Epochs
+pub mod Rising
+pub mod Ranks
+pub mod Written

@@ -1,0 +1,4 @@
+pub mod Trials
+pub mod Happenings
+pub mod Spent
+pub mod WorkedTrials
