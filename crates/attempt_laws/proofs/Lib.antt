@@ -2,3 +2,4 @@ pub mod Epochs
 pub mod Rising
 pub mod Ranks
 pub mod Written
+pub mod Scripts

@@ -1,12 +1,15 @@
 //! Laws of all attempts, those that a stop or a fault cut short included.
 ghost use Rattle.std.specs.Prelude.{◌≡◌, ◌≤◌, ℕ, List, [], ◌∷◌, ◌++◌, length, map, None, Some};
+ghost use Rattle.cry_base.specs.Requests.{Request};
 ghost use Rattle.cry_base.specs.declared.limits.Limits.{Limits};
 ghost use Rattle.public_fold.specs.Journal.{Entry, Journal, entry_step, nothing, stand_after};
 ghost use Rattle.public_fold.specs.Journal.Entry.{Made, Session};
 ghost use Rattle.public_fold.specs.Valid.{IsValid};
 ghost use Rattle.journal_bytes.specs.Attempts.{Attempt, Course, Event, attempts};
 ghost use Rattle.journal_bytes.specs.Bytes.{batches_of};
+ghost use Rattle.journal_bytes.specs.Script.{Going, script_going};
 ghost use Rattle.attempt_laws.specs.Happenings.{IsCourse};
+ghost use Rattle.attempt_laws.specs.Scripted.{HasDraws, course_of, script_events};
 ghost use Rattle.attempt_laws.specs.Spent.{Differ, all_spenders, number_of};
 ghost use Rattle.attempt_laws.specs.Trials.{Befalls, Happening, MaskOnePayload, ShareWithThemselves, Trial, all_trials, attempt_of, batch_in, course_after, made_course, trials};
 
@@ -22,6 +25,15 @@ pub fn attempts_are_the_batches_written()
     ensures number { (owner : List ℕ) (t : Trial) → (batch_in owner t).number ≡ (attempt_of t).number }
     ensures entered { (owner : List ℕ) (m : Journal) (entry : Entry) →
         batches_of owner (m ++ entry ∷ []) ≡ batches_of owner m ++ batch_in owner (record { behind = m; entry = entry }) ∷ [] }
+{}
+
+/// What a script does to a store, where the random bytes are enough, can happen there: its commands are refused or enter, and
+/// leave the course where the script's session stands.
+pub fn scripts_are_courses()
+    ensures course { (limits : Limits) (g : Going) (lines : List Request) → HasDraws limits g lines
+        → IsCourse limits (course_of g) (script_events limits g lines) }
+    ensures after { (limits : Limits) (g : Going) (lines : List Request) →
+        course_after (course_of g) (script_events limits g lines) ≡ course_of (script_going limits g lines) }
 {}
 
 /// Whatever can happen to a store leaves a valid journal.
