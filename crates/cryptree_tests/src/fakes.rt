@@ -7,10 +7,10 @@ use cryptree_cli::status::Status;
 use cryptree_cli::top::top;
 use std::alloc::Global;
 
-/// What the program is called with: its command, its input, and how many bytes of that come at once.
+/// What the program is called with: its command's words, its input, and how many bytes of that come at once.
 #[derive(Clone, Copy)]
 pub(crate) struct Call {
-    pub(crate) command: &'static [u8],
+    pub(crate) command: &'static [&'static [u8]],
     pub(crate) input: &'static [u8],
     pub(crate) step: usize,
 }
@@ -64,9 +64,11 @@ fn ended(alloc: Global, status: Status, disk: &MemDisk, out: &MemSink) -> Mem<Ca
     })
 }
 
-fn words(alloc: Global, command: &[u8]) -> Mem<List<Text>> {
+fn words(alloc: Global, command: &[&[u8]]) -> Mem<List<Text>> {
     let mut words = List::new(alloc);
-    for word in [b"store".as_slice(), b"random", command] {
+    words.push(copied(alloc, b"store")?)?;
+    words.push(copied(alloc, b"random")?)?;
+    for word in command {
         words.push(copied(alloc, word)?)?;
     }
     Ok(words)

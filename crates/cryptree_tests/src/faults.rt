@@ -12,21 +12,21 @@ const OWNER_LINE: &[u8] =
     b"owner 000102030405060708090a0b0c0d0e0f101112131415161718191a1b1c1d1e1f\n";
 
 const MAKE: Call = Call {
-    command: b"make",
+    command: &[b"make"],
     input: b"",
     step: 1,
 };
 
 /// The owner's line, in two reads.
 const LIST: Call = Call {
-    command: b"list",
+    command: &[b"list"],
     input: OWNER_LINE,
     step: 45,
 };
 
 /// The owner's line and two commands, of which the second read ends in the last.
 const RUN: Call = Call {
-    command: b"run",
+    command: &[b"run"],
     input: b"owner 000102030405060708090a0b0c0d0e0f101112131415161718191a1b1c1d1e1f
 mkdir /a
 write /a/x 00ff
@@ -36,7 +36,7 @@ write /a/x 00ff
 
 /// One command alone.
 const FOLDER: Call = Call {
-    command: b"run",
+    command: &[b"run"],
     input: b"owner 000102030405060708090a0b0c0d0e0f101112131415161718191a1b1c1d1e1f
 mkdir /a",
     step: 100,
@@ -44,7 +44,7 @@ mkdir /a",
 
 /// Lines with a carriage return, with a NUL, and without a newline at the end.
 const LINES: Call = Call {
-    command: b"run",
+    command: &[b"run"],
     input: b"owner 000102030405060708090a0b0c0d0e0f101112131415161718191a1b1c1d1e1f
 mkdir /a\r
 mkdir /a\0
@@ -52,6 +52,36 @@ mkdir /a
 mkdir /a",
     step: 1,
 };
+
+/// The path of a file that `RUN` makes.
+const OPEN: Call = Call {
+    command: &[b"open", b"/a/x"],
+    input: OWNER_LINE,
+    step: 45,
+};
+
+/// A word that isn't of path form.
+const OPEN_NO_PATH: Call = Call {
+    command: &[b"open", b"a/x"],
+    input: OWNER_LINE,
+    step: 45,
+};
+
+/// A holder that no command made.
+const LIST_HOLDER: Call = Call {
+    command: &[b"list"],
+    input: b"holder 1 000102030405060708090a0b0c0d0e0f101112131415161718191a1b1c1d1e1f",
+    step: 100,
+};
+
+/// A second line, behind which the input fails.
+const TWO_LINES: Call = Call {
+    command: &[b"open", b"/"],
+    input: b"owner 000102030405060708090a0b0c0d0e0f101112131415161718191a1b1c1d1e1f\n\n",
+    step: 72,
+};
+
+const LISTED: &[u8] = b"folder /\nfolder /a\nfile /a/x 00ff\n";
 
 const REPLIES: &[u8] = b"refused bad-name\nrefused bad-name\nok\nrefused exists\n";
 
@@ -65,10 +95,26 @@ const MADE: [Row; 5] = [
 ];
 
 /// Calls over a fresh store, which has 1,801 bytes with the folder and 2,088 with the file in it.
-const OVER_FRESH: [Row; 11] = [
+const OVER_FRESH: [Row; 15] = [
     (LIST, Fault::Nothing, Status::Done, b"folder /\n", 819),
     (LIST, Fault::Input(1), Status::ReadFault, b"", 819),
     (LIST, Fault::Room(4), Status::WriteFault, b"fold", 819),
+    (
+        LIST_HOLDER,
+        Fault::Nothing,
+        Status::NoHolder { known: 0 },
+        b"",
+        819,
+    ),
+    (OPEN, Fault::Nothing, Status::Unseen, b"", 819),
+    (OPEN_NO_PATH, Fault::Nothing, Status::Unseen, b"", 819),
+    (
+        TWO_LINES,
+        Fault::Input(1),
+        Status::BadScript { line: 2 },
+        b"",
+        819,
+    ),
     (RUN, Fault::Nothing, Status::Done, b"ok\nok\n", 2088),
     (RUN, Fault::Input(1), Status::ReadFault, b"", 819),
     (RUN, Fault::Input(2), Status::ReadFault, b"ok\n", 1801),
@@ -113,6 +159,22 @@ fn faults_end_a_call_and_leave_what_was_done(rt: HostRuntime) -> Result<(), Fail
         first_wrong(alloc, &OVER_FRESH, fresh.image.as_slice())?,
         None
     );
+    Ok(())
+}
+
+#[test]
+fn what_a_run_made_is_listed_and_opened(rt: HostRuntime) -> Result<(), Fail> {
+    let alloc = rt.alloc();
+    let fresh = called(alloc, MAKE, Fault::Nothing, &[])?;
+    let made = called(alloc, RUN, Fault::Nothing, fresh.image.as_slice())?;
+    let image = made.image.as_slice();
+    let listed = called(alloc, LIST, Fault::Nothing, image)?;
+    assert_eq!(rt; listed.status, Status::Done);
+    assert_eq!(rt; listed.printed.as_slice(), LISTED);
+    let opened = called(alloc, OPEN, Fault::Nothing, image)?;
+    assert_eq!(rt; opened.status, Status::Done);
+    assert_eq!(rt; opened.printed.as_slice(), b"file /a/x 00ff\n".as_slice());
+    assert_eq!(rt; opened.image.as_slice() == image, true);
     Ok(())
 }
 

@@ -4,17 +4,17 @@ use Rattle.std.specs.Prelude.{bytes_eq, true, false}
 use Rattle.chacha_seal.specs.Sealing.{check_of}
 use Rattle.std.proofs.Math.ListN.{drop_of_length-le}
 use Rattle.std.proofs.lemmas.List.{drop_more}
-use Rattle.commit_journal.specs.Answering.{Fault, NotAStore, WrongKey, Damaged, Tampered, and_then}
+use Rattle.commit_journal.specs.Answering.{Fault, WrongKey, and_then}
 use Rattle.commit_journal.specs.Placed.{PlainPlaced, plain_body, plain_placed}
 use Rattle.commit_journal.specs.declared.placed.Placed.{Placed}
 use Rattle.cry_base.specs.Store.{no_store}
 use Rattle.cry_base.specs.declared.client.Bundle.{Bundle}
 use Rattle.cry_base.specs.declared.client.Bundle.TheVariants as bundles
 use Rattle.cry_base.specs.declared.ids.HolderId.{HolderId}
-use Rattle.holder_client.specs.Answering.{AnswersAs, AnswersAsBy, AnswersBy, IsFailure, IsFault}
+use Rattle.holder_client.specs.Answering.{IsFailure, IsFault}
 use Rattle.holder_client.specs.Folding.{folded}
 use Rattle.holder_client.specs.Holding.{IsReadingOf}
-use Rattle.holder_client.specs.Judging.{Failure, OfBytes, NoHolder, Unseen, body_check, holder_reads, may_read, of_bytes, published_check, read_through, read_with, then_on}
+use Rattle.holder_client.specs.Judging.{Failure, OfBytes, NoHolder, body_check, holder_reads, may_read, of_bytes, published_check, read_through, read_with, then_on}
 use Rattle.holder_client.specs.Visiting.{Reading}
 use Rattle.holder_client.specs.declared.fault.ClientFault.{ClientFault}
 use Rattle.holder_client.specs.declared.fault.ClientFault.TheVariants as faults

@@ -1,5 +1,5 @@
 -- What is open before the first visit of whoever reads, and what the visits of names leave.
-use Rattle.std.proofs.Common.{◌≡◌, ℕ, true, false, List, [], ◌∷◌, map, Result, Ok, Err, refl, sym, ap, subst, ◌∙◌}
+use Rattle.std.proofs.Common.{◌≡◌, ℕ, List, [], ◌∷◌, Result, refl, sym, ap, subst, ◌∙◌}
 use Rattle.std.proofs.lemmas.Bool.{false≢true}
 use Rattle.chacha_seal.specs.Keys.{KeyParts}
 use Rattle.commit_journal.specs.Answering.{Fault}
@@ -11,7 +11,7 @@ use Rattle.cry_base.specs.declared.roles.Role.{Role}
 use Rattle.cry_base.specs.declared.roles.Role.TheVariants.{Owner, Holder}
 use Rattle.holder_client.specs.Answering.{AnswersBy}
 use Rattle.holder_client.specs.Filed.{IsNamedBy, everyone}
-use Rattle.holder_client.specs.Holding.{ArePresent, HoldsKeys, IsPresent}
+use Rattle.holder_client.specs.Holding.{ArePresent, HoldsKeys}
 use Rattle.holder_client.specs.Judging.{first_key, opened_first}
 use Rattle.holder_client.specs.Opening.{IsNameless, IsOpenedTo, Tells}
 use Rattle.holder_client.specs.Visiting.{Opened, Reading}

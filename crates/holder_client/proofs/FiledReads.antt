@@ -1,5 +1,5 @@
 -- Files that were read, seen by the names and bytes that they have then.
-use Rattle.std.proofs.Common.{◌≡◌, ◌≢◌, ℕ, ◌+◌, ◌<◌, ◌≤◌, Bool, true, false, cond, ◌==◌, List, [], ◌∷◌, ◌++◌, drop, get_or, length, map, take, find, Some, Result, Ok, Err, inl, inr, ⊎_elim, refl, sym, ap, subst, ◌∙◌, arith}
+use Rattle.std.proofs.Common.{◌≡◌, ◌≢◌, ℕ, ◌+◌, ◌<◌, ◌≤◌, cond, List, [], ◌∷◌, ◌++◌, drop, get_or, length, map, take, Some, Result, Ok, Err, inl, inr, ⊎_elim, refl, sym, ap, subst, ◌∙◌, arith}
 use Rattle.std.specs.List.{AllPairs, flat_map}
 use Rattle.std.proofs.Math.ListN.{drop_of_length-le}
 use Rattle.std.proofs.lemmas.Bool.{eq-eqb, ne_eqb}
@@ -9,7 +9,6 @@ use Rattle.commit_journal.specs.declared.placed.Placed.{Placed}
 use Rattle.cry_base.specs.Sets.{In}
 use Rattle.cry_base.specs.Stepping.{with_file}
 use Rattle.cry_base.specs.Store.{Store}
-use Rattle.cry_base.specs.declared.roles.Node.{Node}
 use Rattle.cry_base.specs.declared.roles.Node.TheVariants.{Folder, File}
 use Rattle.folder_nodes.specs.Titles.{Title, Titles, title_at}
 use Rattle.folder_nodes.specs.declared.rows.FileRow.{FileRow}

@@ -1,5 +1,6 @@
 pub mod Admitted
 pub mod Beginning
+pub mod Besides
 pub mod FiledReads
 pub mod Folded
 pub mod FoldedHolds

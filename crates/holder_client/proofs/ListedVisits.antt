@@ -1,16 +1,16 @@
 -- The visits of whoever reads, from what may be seen of each folder.
-use Rattle.std.proofs.Common.{◌≡◌, ℕ, ◌-◌, ◌<◌, ◌≤◌, Bool, true, false, not, ◌&&◌, ◌||◌, ◌==◌, cond, List, [], ◌∷◌, ◌++◌, get_or, map, length, take, ◌+◌, filter, find, Option, None, Some, inl, inr, ⊎_elim, refl, sym, ap, subst, ◌∙◌, arith, append_assoc}
+use Rattle.std.proofs.Common.{◌≡◌, ℕ, ◌-◌, ◌<◌, ◌≤◌, Bool, true, false, not, ◌&&◌, ◌||◌, ◌==◌, cond, List, [], ◌∷◌, ◌++◌, get_or, map, length, take, ◌+◌, filter, find, Option, None, Some, inl, inr, refl, sym, ap, subst, ◌∙◌, arith, append_assoc}
 use Rattle.std.specs.Prelude.{IsTrue, is_some, nat_lt, option_map}
 use Rattle.std.specs.HashMap.{HashMap, get}
 use Rattle.std.specs.List.{AllByRecursion, flat_map}
-use Rattle.std.proofs.lemmas.Bool.{eqb-true, eq-eqb, ltb-true, lt-ltb, false_from_ne_true, false≢true}
+use Rattle.std.proofs.lemmas.Bool.{eqb-true, eq-eqb, ltb-true, lt-ltb, false≢true}
 use Rattle.std.proofs.lemmas.List.{map-append, take_more}
 use Rattle.std.proofs.lemmas.List.Kept.{AllPairs-filter}
 use Rattle.cry_base.specs.Sets.{In}
 use Rattle.cry_base.specs.Store.{Store, FolderEntry, depth_of, folder_entry, folder_node, way_to_root}
 use Rattle.cry_base.specs.declared.ids.FolderId.{FolderId}
 use Rattle.cry_base.specs.declared.roles.Role.{Role}
-use Rattle.cry_base.specs.declared.roles.Role.TheVariants.{Owner, Holder, Clear, Sub, Back, Files, Data, File}
+use Rattle.cry_base.specs.declared.roles.Role.TheVariants.{Owner, Clear, Sub, Back, Files, Data}
 use Rattle.cry_base.proofs.Members.{In-filter, In-map}
 use Rattle.folder_nodes.specs.Trees.{IsTree}
 use Rattle.folder_nodes.proofs.Climbing.{levels_few}
@@ -21,7 +21,6 @@ use Rattle.holder_client.specs.declared.sights.Viewer.TheVariants as viewers
 use Rattle.holder_client.specs.declared.visit_list.Part.{Part}
 use Rattle.holder_client.specs.declared.visit_list.Part.TheVariants.{Entry, Ways, Title}
 use Rattle.holder_client.specs.declared.visit_list.Visit.{Visit as Listed}
-use Rattle.holder_client.specs.declared.visit_list.Visit.TheVariants as listed
 use Rattle.holder_client.specs.Listing.{AreFirst, entry_link, folder_part, from_child, from_parent, has_part, listed_to_names, part_of, up_from}
 use Rattle.holder_client.specs.Opening.{IsFor, Tells, is_no_holders, plain_visit}
 use Rattle.holder_client.specs.Sights.{AreSights, is_child, is_deeper, is_lower, is_shallower, is_upper, plain_viewer, same_number, sight_of}

@@ -1,7 +1,6 @@
 -- A log that is listed: the visits of names, then those of files, then the lines.
 use Rattle.std.proofs.Common.{◌≡◌, ◌≢◌, ℕ, ◌<◌, Bool, true, false, Option, None, Some, List, [], ◌∷◌, ◌++◌, map, filter, Result, Ok, Err, refl, sym, ap, subst, ◌∙◌}
-use Rattle.std.specs.Prelude.{nat_lt}
-use Rattle.std.specs.List.{AllPairs, flat_map, list_any}
+use Rattle.std.specs.List.{flat_map, list_any}
 use Rattle.std.proofs.lemmas.List.Kept.{AllPairs-filter}
 use Rattle.std.specs.Prelude.{bytes_eq, if◌then◌else◌}
 use Rattle.chacha_seal.specs.Sealing.{check_of}
@@ -16,17 +15,15 @@ use Rattle.cry_base.specs.Store.{Store, FileEntry}
 use Rattle.cry_base.specs.declared.client.Bundle.{Bundle}
 use Rattle.cry_base.specs.declared.client.Bundle.TheVariants as bundles
 use Rattle.cry_base.specs.declared.client.Line.{Line as Shown}
-use Rattle.cry_base.proofs.Members.{In-filter, In-map}
+use Rattle.cry_base.proofs.Members.{In-filter}
 use Rattle.folder_nodes.specs.Bare.{file_of_row}
 use Rattle.folder_nodes.specs.declared.rows.FileRow.{FileRow}
-use Rattle.folder_nodes.specs.Titles.{Titles, tree_store}
 use Rattle.folder_nodes.specs.Trees.{IsTree}
 use Rattle.holder_client.specs.Answering.{AnswersAs, IsFailure, IsFault, client_fault}
-use Rattle.holder_client.specs.Filed.{file_stops, viewed, with_read}
-use Rattle.holder_client.specs.Holding.{HasNames}
+use Rattle.holder_client.specs.Filed.{file_stops, viewed}
 use Rattle.holder_client.specs.Judging.{Failure, OfBytes, Unseen, bundle_log, holder_reads, published_check, may_read, of_bytes, opened_first, read_through, read_with, shown_with, then_on, view_with, who_of}
 use Rattle.holder_client.specs.Folding.{folded}
-use Rattle.holder_client.specs.Lines.{plain_view, read_view}
+use Rattle.holder_client.specs.Lines.{plain_view}
 use Rattle.holder_client.specs.Sights.{AreSights, MayRead, opens}
 use Rattle.holder_client.specs.View.{Line, view}
 use Rattle.holder_client.specs.Visiting.{Opened, Reading, visit_all}
@@ -34,18 +31,17 @@ use Rattle.holder_client.specs.Visits.{Visit, all_visits, file_visits, files_tha
 use Rattle.holder_client.specs.Visits.Visit.{ToKey, ToFile}
 use Rattle.holder_client.specs.declared.fault.ClientFault.{ClientFault}
 use Rattle.holder_client.specs.declared.fault.ClientFault.TheVariants as faults
-use Rattle.holder_client.specs.declared.reading.ReadFile.{ReadFile}
 use Rattle.holder_client.specs.declared.sights.Sight.{Sight}
 use Rattle.holder_client.proofs.Admitted.{as_failure, bytes_ok, failure_first, then_ok}
 use Rattle.holder_client.proofs.FiledReads.{all_after, fails_before}
 use Rattle.holder_client.proofs.ListedVisits.{filter_alike, filter_mapped}
 use Rattle.holder_client.proofs.OwnerVisits.{flat_alike, ordered, own_folder}
 use Rattle.holder_client.proofs.Viewed.{fault_first}
-use Rattle.holder_client.proofs.Shows.{opens_row, view_shown}
+use Rattle.holder_client.proofs.Shows.{opens_row}
 use Rattle.public_fold.specs.Journal.{Stand, nothing}
 use Rattle.role_graph.specs.PublicStore.{GrantsStand}
 use Rattle.move_plan.specs.Change.{folder_of_file}
-use Rattle.role_graph.specs.Edges.{file_edge, in_order}
+use Rattle.role_graph.specs.Edges.{file_edge}
 use Rattle.role_graph.specs.Rights.{Who, allowed_to}
 use Rattle.role_graph.proofs.Adding.{flat_map_map}
 
@@ -120,7 +116,7 @@ pub reads_pass_view : (bundle : Bundle) (log : Result (List PlainPlaced) Fault) 
 reads_pass_view bundle log r is = read_then bundle log ∙ then_ok (read_with bundle log) (viewed bundle) r is
 
 -- a log that fails
-no_reading : (bundle : Bundle) (log : Result (List PlainPlaced) Fault) (fault : ClientFault) → IsFault fault log → IsFailure fault (read_with bundle log)
+pub no_reading : (bundle : Bundle) (log : Result (List PlainPlaced) Fault) (fault : ClientFault) → IsFault fault log → IsFailure fault (read_with bundle log)
 unfolding read_with read_through
 no_reading bundle log fault is =
     failure_first fault (of_bytes (read_through log)) (may_read bundle)

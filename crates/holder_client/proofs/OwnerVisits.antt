@@ -1,5 +1,5 @@
 -- The visits of an owner to files and holders, from the rows of the public state.
-use Rattle.std.proofs.Common.{◌≡◌, ℕ, zero, suc, ◌+◌, ◌<◌, Bool, true, false, not, ◌&&◌, ◌==◌, cond, List, [], ◌∷◌, ◌++◌, map, length, filter, Option, None, Some, inl, inr, ⊎_elim, refl, sym, ap, subst, ◌∙◌, arith, append_assoc}
+use Rattle.std.proofs.Common.{◌≡◌, ℕ, zero, suc, ◌+◌, ◌<◌, Bool, true, false, ◌==◌, cond, List, [], ◌∷◌, ◌++◌, map, length, filter, Option, None, Some, inl, inr, ⊎_elim, refl, sym, ap, subst, ◌∙◌, arith, append_assoc}
 use Rattle.std.specs.Prelude.{IsTrue, nat_lt}
 use Rattle.std.specs.List.{AllByRecursion, AllPairs, flat_map, range_with_len}
 use Rattle.std.proofs.lemmas.Bool.{eqb-true, eq-eqb, ltb-true, false_from_ne_true}
@@ -21,17 +21,17 @@ use Rattle.holder_client.specs.declared.visit_list.Visit.{Visit as Listed}
 use Rattle.holder_client.specs.declared.visit_list.Visit.TheVariants as listed
 use Rattle.holder_client.specs.Opening.{IsFor, IsNameless, is_no_holders, plain_visit}
 use Rattle.holder_client.specs.Listing.{file_part}
-use Rattle.holder_client.specs.Visits.{Visit, folders_that, is_entry, entry_edge, entry_visits, lower_visits, allowed_visits, upper_visit, upper_visits, name_visits, files_that, file_visits, visits_to_names, all_visits, holder_visits, is_higher, is_deeper}
-use Rattle.holder_client.specs.Visits.Visit.{ToKey, ToName, ToFile, ToHolder}
+use Rattle.holder_client.specs.Visits.{Visit, files_that, file_visits, visits_to_names, all_visits, holder_visits}
+use Rattle.holder_client.specs.Visits.Visit.{ToKey, ToFile, ToHolder}
 use Rattle.key_links.specs.Ended.{kind_from, kind_to, role_with, row_numbered}
-use Rattle.move_plan.specs.Change.{folder_of_file, parent_of_folder}
+use Rattle.move_plan.specs.Change.{folder_of_file}
 use Rattle.move_plan.specs.Seen.{keyless}
 use Rattle.public_fold.specs.Journal.{Stand}
 use Rattle.public_fold.specs.Standing.{PublicView, IsSeenAs}
 use Rattle.role_graph.specs.Edges.{edge, file_edge, in_order, put_in_order}
 use Rattle.role_graph.specs.Rights.Who.{TheOwner}
-use Rattle.role_graph.specs.Rights.{allowed_to, named_to}
-use Rattle.role_graph.specs.Roles.{clear_of, sub_of, back_of, files_of, data_of, file_role, role_id}
+use Rattle.role_graph.specs.Rights.{allowed_to}
+use Rattle.role_graph.specs.Roles.{files_of, file_role, role_id}
 use Rattle.role_graph.proofs.Adding.{flat_map_map}
 
 -- ---- what ascends is in order

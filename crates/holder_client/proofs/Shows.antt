@@ -1,5 +1,5 @@
 -- The lines of what was opened are the view of the store with the names and bytes that were opened.
-use Rattle.std.proofs.Common.{◌≡◌, ℕ, ◌<◌, Bool, true, false, cond, ◌&&◌, ◌||◌, ◌≤◌, ◌==◌, ◌↔◌, List, [], ◌∷◌, ◌++◌, length, drop, map, filter, Option, None, Some, inl, inr, ⊎_elim, refl, sym, ap, subst, ◌∙◌}
+use Rattle.std.proofs.Common.{◌≡◌, ℕ, ◌<◌, Bool, true, false, ◌||◌, ◌≤◌, ◌==◌, List, [], ◌∷◌, ◌++◌, length, drop, map, filter, Option, Some, refl, sym, ap, subst, ◌∙◌}
 use Rattle.std.specs.Prelude.{IfOk, IsTrue, Result, Ok, Err}
 use Rattle.std.specs.Global.{Vec}
 use Rattle.std.specs.HashSet.{HashSet, contains}
@@ -9,15 +9,15 @@ use Rattle.std.proofs.lemmas.List.Kept.{AllPairs-filter}
 use Rattle.cry_base.specs.Naming.{spell_path}
 use Rattle.cry_base.specs.Sets.{In, has, reach}
 use Rattle.cry_base.specs.Store.{Store, FolderEntry, FileEntry, HolderEntry, backwards, file_names, folder_entry, folder_names, way_to_root, way_up}
-use Rattle.cry_base.proofs.Members.{In-any, In-filter, In-map}
-use Rattle.folder_nodes.specs.Bare.{file_of_row, folder_of_row}
+use Rattle.cry_base.proofs.Members.{In-any, In-map}
+use Rattle.folder_nodes.specs.Bare.{file_of_row}
 use Rattle.folder_nodes.specs.declared.rows.FileRow.{FileRow}
-use Rattle.folder_nodes.specs.Titles.{Title, Titles, bytes_in, name_in, title_at, tree_store}
+use Rattle.folder_nodes.specs.Titles.{Title, Titles, bytes_in, name_in, tree_store}
 use Rattle.folder_nodes.specs.Trees.{IsTree}
 use Rattle.folder_nodes.proofs.Ascending.{All-in, rising_before}
 use Rattle.folder_nodes.proofs.Named.{named_file, named_folder}
 use Rattle.folder_nodes.proofs.Upward.{at_id}
-use Rattle.holder_client.specs.Filed.{read_title, titles_read, with_read}
+use Rattle.holder_client.specs.Filed.{with_read}
 use Rattle.holder_client.specs.Holding.{HasNames}
 use Rattle.holder_client.specs.Lines.{is_before, lines_of, read_line, read_view, sight_line}
 use Rattle.holder_client.specs.Sights.{AreSights, opens, same_number, sight_of}
@@ -26,12 +26,11 @@ use Rattle.holder_client.specs.declared.reading.ReadFile.{ReadFile}
 use Rattle.holder_client.specs.declared.sights.Sight.{Sight}
 use Rattle.holder_client.proofs.FiledReads.{rank, read_found}
 use Rattle.holder_client.proofs.ListedVisits.{filter_alike, filter_mapped, flat_where, map_alike, same_bool}
-use Rattle.holder_client.proofs.Sighted.{any_mapped}
 use Rattle.role_graph.specs.Edges.{in_order}
 use Rattle.role_graph.specs.Rights.{Who, allowed, allowed_to, downs, granted_to, named, named_to, ups}
 use Rattle.role_graph.specs.Rights.Who.{TheOwner, TheHolder}
 use Rattle.role_graph.proofs.Adding.{map_map}
-use Rattle.role_graph.proofs.Standing.{found_in, found_row}
+use Rattle.role_graph.proofs.Standing.{found_in}
 
 -- ---- rights don't hang on names
 

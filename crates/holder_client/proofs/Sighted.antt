@@ -4,28 +4,28 @@ use Rattle.std.specs.Prelude.{IfOk, IsTrue, OnOk, Result, Ok, Err}
 use Rattle.std.specs.Global.{Vec}
 use Rattle.std.specs.HashSet.{HashSet, contains}
 use Rattle.std.specs.List.{list_any}
-use Rattle.std.proofs.lemmas.Bool.{and_from, and_parts, eqb-true, eq-eqb, or_cases, or_left, or_right, false≢true, ne_eqb, not_from_false, cases_Bool}
+use Rattle.std.proofs.lemmas.Bool.{and_from, and_parts, eqb-true, eq-eqb, or_cases, or_left, or_right, not_from_false, cases_Bool}
 use Rattle.cry_base.specs.Sets.{In, Path}
 use Rattle.cry_base.specs.Store.{Store, FolderEntry, GrantEntry, backwards, depth_of, folder_entry, folder_names, folder_node, has_grant, is_within, node_names, way_to_root}
 use Rattle.cry_base.specs.declared.ids.FolderId.{FolderId}
 use Rattle.cry_base.specs.declared.ids.HolderId.{HolderId}
 use Rattle.cry_base.specs.declared.memory.OutOfMemory.{OutOfMemory}
-use Rattle.cry_base.proofs.Members.{In-any, In-map, In-filter, filter-In}
+use Rattle.cry_base.proofs.Members.{In-any, In-map}
 use Rattle.folder_nodes.specs.Bare.{folder_of_row}
 use Rattle.folder_nodes.specs.declared.rows.FolderRow.{FolderRow}
 use Rattle.folder_nodes.specs.Trees.{IsTree}
-use Rattle.folder_nodes.proofs.Treed.{depth_told, way_off, within_on}
+use Rattle.folder_nodes.proofs.Treed.{within_on}
 use Rattle.grant_book.specs.Granted.{folders_of, is_grant}
 use Rattle.holder_client.specs.declared.sights.Sight.{Sight}
 use Rattle.holder_client.specs.declared.sights.Viewer.{Viewer}
 use Rattle.holder_client.specs.declared.sights.Viewer.TheVariants as viewers
-use Rattle.holder_client.specs.Sights.{AreSights, HasAbove, MayRead, holders_sight, owners_sight, plain_viewer, same_number, sight_of}
+use Rattle.holder_client.specs.Sights.{AreSights, MayRead, holders_sight, owners_sight, plain_viewer, same_number, sight_of}
 use Rattle.holder_client.specs.Visits.{is_entry}
 use Rattle.holder_client.proofs.ListedVisits.{map_alike, same_bool}
 use Rattle.public_fold.specs.Journal.{Stand}
 use Rattle.public_fold.specs.Standing.{IsSeenAs, PublicView}
 use Rattle.role_graph.specs.PublicStore.{GrantsStand, allows, names, public_store}
-use Rattle.role_graph.specs.Rights.{IsAllowed, IsGranted, IsNamed, allowed, allowed_to, downs, named, named_to, ups}
+use Rattle.role_graph.specs.Rights.{IsAllowed, IsGranted, allowed, allowed_to, downs, named, named_to, ups}
 use Rattle.role_graph.specs.RightsByReach.{HasFolder}
 use Rattle.role_graph.specs.Rights.Who.{TheOwner, TheHolder}
 use Rattle.role_graph.proofs.Adding.{map_map}

@@ -1,6 +1,6 @@
 -- The way from the root down to a folder, and the names along it.
-use Rattle.std.proofs.Common.{◌≡◌, ◌≢◌, ℕ, zero, suc, Option, ◌+◌, ◌≤◌, ◌-◌, ◌==◌, true, false, List, [], ◌∷◌, ◌++◌, length, drop, map, None, Some, refl, sym, ap, subst, ◌∙◌, arith, append_assoc}
-use Rattle.std.specs.Prelude.{if◌then◌else◌, is_some, IsSome}
+use Rattle.std.proofs.Common.{◌≡◌, ◌≢◌, ℕ, suc, Option, ◌+◌, ◌≤◌, ◌-◌, ◌==◌, true, false, List, [], ◌∷◌, ◌++◌, length, drop, map, None, Some, refl, sym, ap, subst, ◌∙◌, arith, append_assoc}
+use Rattle.std.specs.Prelude.{if◌then◌else◌, is_some}
 use Rattle.std.specs.List.{flat_map}
 use Rattle.std.proofs.lemmas.Bool.{eqb-true}
 use Rattle.std.proofs.lemmas.List.{append-nil, length-map, map-append}
@@ -16,7 +16,7 @@ use Rattle.folder_nodes.proofs.Climbing.{level_on, levels_few}
 use Rattle.folder_nodes.proofs.Downward.{entry_id}
 use Rattle.folder_nodes.proofs.Named.{named_folder, up_named}
 use Rattle.folder_nodes.proofs.Rowed.{some_of}
-use Rattle.folder_nodes.proofs.Slashes.{joined_push, spelled_joined, spelled_root}
+use Rattle.folder_nodes.proofs.Slashes.{joined_push, spelled_joined}
 use Rattle.folder_nodes.proofs.Treed.{depth_told, way_off, way_on}
 use Rattle.role_graph.proofs.Adding.{flat_map_map, map_map}
 

@@ -1,5 +1,5 @@
 -- Files that were read, beside the names of folders that were opened. This project's own, docs/FORMAT.md, "Reading".
-use Rattle.std.specs.Prelude.{◌≡◌, ℕ, Bool, true, List, [], ◌∷◌, Result, Ok}
+use Rattle.std.specs.Prelude.{Bool, true, List, [], ◌∷◌, Result, Ok}
 use Rattle.cry_base.specs.Store.{Store}
 use Rattle.cry_base.specs.declared.client.Bundle.{Bundle}
 use Rattle.cry_base.specs.declared.roles.Role.{Role}

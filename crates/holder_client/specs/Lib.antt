@@ -1,5 +1,6 @@
 pub mod Answering
 pub mod Asking
+pub mod Beside
 pub mod Filed
 pub mod Folding
 pub mod Found

@@ -1,5 +1,5 @@
 -- The lines of a view, without the room that their texts have beside their bytes.
-use Rattle.std.specs.Prelude.{ℕ, Bool, true, false, cond, List, [], ◌∷◌, ◌++◌, map}
+use Rattle.std.specs.Prelude.{Bool, true, false, cond, List, [], ◌∷◌, ◌++◌, map}
 use Rattle.std.specs.List.{flat_map}
 use Rattle.cry_base.specs.Naming.{spell_path}
 use Rattle.cry_base.specs.Store.{Store, folder_names}

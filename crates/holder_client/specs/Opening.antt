@@ -1,5 +1,5 @@
 -- What an owner opens of a store, as code lists and keeps it. This project's own, docs/FORMAT.md, "Opening for writing".
-use Rattle.std.specs.Prelude.{◌≡◌, ◌⊎◌, Bool, true, false, IsTrue, List, [], ◌∷◌, Some, Result, Ok, Err, option_map}
+use Rattle.std.specs.Prelude.{◌≡◌, ◌⊎◌, Bool, true, false, IsTrue, List, [], Some, Result, Ok, Err, option_map}
 use Rattle.commit_journal.specs.Answering.{Fault}
 use Rattle.cry_base.specs.Sets.{In}
 use Rattle.cry_base.specs.Store.{Store, FolderEntry, FileEntry, HolderEntry}

@@ -38,7 +38,11 @@ fn is_in(folders: &HashSet<u32>, row: &FileRow) -> bool
 }
 
 /// The files in these folders.
-fn files_in(alloc: Global, folders: &HashSet<u32>, files: &[FileRow]) -> Mem<Vec<FileRow>>
+pub(crate) fn files_in(
+    alloc: Global,
+    folders: &HashSet<u32>,
+    files: &[FileRow],
+) -> Mem<Vec<FileRow>>
     ensures { IfOk result (λ l. l.items ≡ filter (λ r. contains spec.same_number folders.now r.folder.0) files.now) }
 {
     let mut found = Vec::new(alloc);

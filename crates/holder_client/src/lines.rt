@@ -18,7 +18,7 @@ use std::cmp::Ordering;
 
 /// The path of a line.
 #[tactic(auto, unfolding(crate::specs::View::line_path))]
-fn path_of(line: &Line) -> &[u8]
+pub(crate) fn path_of(line: &Line) -> &[u8]
     ensures { result.now ≡ line_path (plain_line line.now) }
 {
     match line {
@@ -65,7 +65,12 @@ fn push_folder(
 }
 
 /// The lines of the folders that are named.
-fn folder_lines(alloc: Global, shape: &Shape, names: &Names, sights: &[Sight]) -> Mem<Vec<Line>>
+pub(crate) fn folder_lines(
+    alloc: Global,
+    shape: &Shape,
+    names: &Names,
+    sights: &[Sight],
+) -> Mem<Vec<Line>>
     ensures { IfOk result (λ lines. map plain_line lines.items ≡ flat_map (spec.lines_of (tree_store shape.now.tree names.now)) sights.now) }
 {
     let mut lines = Vec::new(alloc);
@@ -76,7 +81,7 @@ fn folder_lines(alloc: Global, shape: &Shape, names: &Names, sights: &[Sight]) -
 }
 
 /// Adds the lines of files.
-fn push_files(
+pub(crate) fn push_files(
     lines: &mut Vec<Line>,
     alloc: Global,
     shape: &Shape,

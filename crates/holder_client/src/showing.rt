@@ -65,7 +65,7 @@ fn holders_log<D: Disk>(alloc: Global, disk: &mut D) -> Result<List<Placed>, Cli
 }
 
 /// The batches of the log as the bundle's reader reads them.
-fn read_log<D: Disk>(
+pub(crate) fn read_log<D: Disk>(
     alloc: Global,
     disk: &mut D,
     bundle: &Bundle,

@@ -1,5 +1,4 @@
-use Rattle.std.proofs.Common.{◌≡◌, length, map, sym, ap, ◌∙◌}
-use Rattle.commit_journal.specs.Placed.{PlainPlaced}
+use Rattle.std.proofs.Common.{length, sym, ap, ◌∙◌}
 use Rattle.cry_base.specs.Store.{Store}
 use Rattle.holder_client.specs.Judging.{published_check}
 use Rattle.holder_client.proofs.Admitted.{no_holder, other_key, own_key}

@@ -1,5 +1,4 @@
 use Rattle.folder_nodes.specs.Titles.{tree_store}
-use Rattle.std.proofs.Common.{map, ap, ◌∙◌}
 use Rattle.holder_client.proofs.Sorted.{view_made}
 use Rattle.holder_client.proofs.lines.view_lines.Goals as goal
 

@@ -1,6 +1,5 @@
 use Rattle.std.proofs.Common.{◌≡◌, List, map, sym, ap, subst, ◌∙◌}
 use Rattle.std.specs.List.{AllByRecursion}
-use Rattle.commit_journal.specs.declared.placed.Placed.{Placed}
 use Rattle.holder_client.specs.Answering.{AnswersBy}
 use Rattle.holder_client.specs.Filed.{IsNamedBy, everyone}
 use Rattle.holder_client.specs.Judging.{opened_first, who_of}

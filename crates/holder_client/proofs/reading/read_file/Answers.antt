@@ -1,10 +1,10 @@
-use Rattle.std.proofs.Common.{◌≡◌, refl, sym, ap, subst, ◌∙◌}
+use Rattle.std.proofs.Common.{refl, sym, ap, subst, ◌∙◌}
 use Rattle.std.proofs.lemmas.Result.{err_from_is_err_and}
 use Rattle.cry_base.specs.declared.roles.Edge.{Edge}
-use Rattle.holder_client.specs.Answering.{AnswersBy, IsFault}
+use Rattle.holder_client.specs.Answering.{IsFault}
 use Rattle.holder_client.specs.Filed.{everyone}
-use Rattle.holder_client.specs.Holding.{HasKind, HoldsKeys}
-use Rattle.holder_client.specs.Visiting.{Opened, visit}
+use Rattle.holder_client.specs.Holding.{HasKind}
+use Rattle.holder_client.specs.Visiting.{visit}
 use Rattle.holder_client.specs.Visits.Visit.{ToKey}
 use Rattle.holder_client.proofs.FiledReads.{file_kind, link_fails, text_fails, text_read}
 use Rattle.holder_client.proofs.reading.read_file.Goals as goal

@@ -1,17 +1,15 @@
-use Rattle.std.proofs.Common.{◌≡◌, List, ◌++◌, Ok, map, filter, refl, sym, ap, subst, ◌∙◌}
+use Rattle.std.proofs.Common.{◌≡◌, List, ◌++◌, Ok, map, filter, sym, ap, subst, ◌∙◌}
 use Rattle.std.specs.List.{flat_map, list_any}
 use Rattle.std.proofs.lemmas.Result.{err_from_is_err_and}
 use Rattle.commit_journal.specs.declared.placed.Placed.{Placed}
 use Rattle.cry_base.specs.Store.{Store}
 use Rattle.folder_nodes.specs.Bare.{file_of_row}
-use Rattle.folder_nodes.specs.Trees.{IsTree}
 use Rattle.folder_nodes.specs.declared.rows.FileRow.{FileRow}
 use Rattle.holder_client.specs.Filed.{file_stops}
 use Rattle.holder_client.specs.Holding.{IsReadingOf}
 use Rattle.holder_client.specs.Judging.{who_of}
 use Rattle.holder_client.specs.Sights.{AreSights, MayRead, opens}
 use Rattle.holder_client.specs.Visits.{visits_to_names}
-use Rattle.holder_client.specs.declared.reading.ReadFile.{ReadFile}
 use Rattle.holder_client.specs.declared.sights.Sight.{Sight}
 use Rattle.holder_client.proofs.Listings.{all_pass, allowed_stops, files_fail, names_fail}
 use Rattle.holder_client.proofs.OwnerVisits.{seen_tree}

@@ -1,9 +1,7 @@
-use Rattle.std.proofs.Common.{◌≡◌, ap, subst}
+use Rattle.std.proofs.Common.{◌≡◌, ap}
 use Rattle.std.proofs.lemmas.Result.{err_from_is_err_and}
 use Rattle.chacha_seal.specs.Keys.{KeyParts}
 use Rattle.commit_journal.specs.Log.{log_verdict}
-use Rattle.commit_journal.specs.Placed.{plain_log}
-use Rattle.holder_client.specs.Answering.{Answers}
 use Rattle.holder_client.proofs.Listings.{opening_seen}
 use Rattle.holder_client.proofs.Viewed.{log_fault}
 use Rattle.holder_client.proofs.showing.owners_log.Goals as goal

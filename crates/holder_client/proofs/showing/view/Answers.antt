@@ -1,9 +1,4 @@
-use Rattle.std.proofs.Common.{◌≡◌, map, sym, ap, subst, ◌∙◌}
 use Rattle.std.proofs.lemmas.Result.{err_from_is_err_and}
-use Rattle.commit_journal.specs.Placed.{plain_placed}
-use Rattle.holder_client.specs.Answering.{AnswersAs}
-use Rattle.holder_client.specs.Judging.{view_with}
-use Rattle.holder_client.specs.Lines.{plain_view}
 use Rattle.holder_client.proofs.Listings.{log_fails_view, log_read_view}
 use Rattle.holder_client.proofs.showing.view.Goals as goal
 

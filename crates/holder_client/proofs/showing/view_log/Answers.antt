@@ -1,7 +1,7 @@
-use Rattle.std.proofs.Common.{◌≡◌, Ok, map, sym, ap, subst, ◌∙◌}
+use Rattle.std.proofs.Common.{Ok, map, sym, subst}
 use Rattle.std.proofs.lemmas.Result.{err_from_is_err_and}
 use Rattle.commit_journal.specs.Placed.{plain_placed}
-use Rattle.holder_client.specs.Answering.{AnswersAs, IsFailure}
+use Rattle.holder_client.specs.Answering.{AnswersAs}
 use Rattle.holder_client.specs.Filed.{viewed}
 use Rattle.holder_client.specs.Judging.{read_with}
 use Rattle.holder_client.specs.Lines.{plain_view}

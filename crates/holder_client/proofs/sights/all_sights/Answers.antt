@@ -1,5 +1,3 @@
-use Rattle.std.proofs.Common.{◌∙◌, sym, ap}
-use Rattle.cry_base.specs.Store.{Store}
 use Rattle.holder_client.proofs.Sighted.{holders_listed, owners_listed}
 use Rattle.holder_client.proofs.sights.all_sights.Goals as goal
 

@@ -1,4 +1,4 @@
-use Rattle.std.proofs.Common.{refl, sym, ap, ◌∙◌}
+use Rattle.std.proofs.Common.{refl, ◌∙◌}
 use Rattle.holder_client.proofs.Sighted.{holders_made}
 use Rattle.holder_client.proofs.sights.holders_sight.Goals as goal
 

@@ -1,8 +1,3 @@
-use Rattle.std.proofs.Common.{◌≡◌, ◌||◌, ◌==◌, ℕ, sym, ap, subst, ◌∙◌}
-use Rattle.std.specs.HashSet.{contains}
-use Rattle.std.specs.List.{list_any}
-use Rattle.cry_base.specs.declared.ids.FolderId.{FolderId}
-use Rattle.holder_client.specs.Sights.{same_number}
 use Rattle.holder_client.proofs.Sighted.{way_noted}
 use Rattle.holder_client.proofs.sights.note_way.Goals as goal
 

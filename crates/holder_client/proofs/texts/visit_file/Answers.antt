@@ -1,6 +1,4 @@
-use Rattle.std.proofs.Common.{◌≡◌, sym, ap, subst, ◌∙◌}
 use Rattle.std.proofs.lemmas.Result.{err_from_is_err_and}
-use Rattle.holder_client.specs.Visiting.{visit}
 use Rattle.holder_client.proofs.Naming.{file_titled}
 use Rattle.holder_client.proofs.Sized.{file_sized}
 use Rattle.holder_client.proofs.texts.visit_file.Goals as goal

@@ -1,4 +1,4 @@
-use Rattle.std.proofs.Common.{◌+◌, ◌∷◌, ◌++◌, [], take, sym, subst, ap, ◌∙◌}
+use Rattle.std.proofs.Common.{take, subst}
 use Rattle.holder_client.specs.Listing.{AreFirst}
 use Rattle.holder_client.proofs.Lasts.{item_at}
 use Rattle.holder_client.proofs.ListedVisits.{taken_more}

@@ -1,10 +1,8 @@
 use Rattle.std.proofs.Common.{◌≡◌, length, sym, ap, subst, ◌∙◌}
 use Rattle.cry_base.specs.Store.{Store}
-use Rattle.cry_base.specs.declared.roles.Role.{Role}
-use Rattle.folder_nodes.specs.Trees.{IsTree}
 use Rattle.holder_client.specs.Opening.{is_no_holders}
 use Rattle.holder_client.specs.Sights.{AreSights}
-use Rattle.holder_client.proofs.OwnerVisits.{are_listed, visits_told, all_fit, holders_visited, rows_nameless, seen_tree}
+use Rattle.holder_client.proofs.OwnerVisits.{are_listed, visits_told, all_fit, holders_visited, seen_tree}
 use Rattle.holder_client.proofs.visit_list.owner_visits.Goals as goal
 use Rattle.role_graph.specs.Rights.Who.{TheOwner}
 

@@ -1,4 +1,4 @@
-use Rattle.std.proofs.Common.{length, sym, ap, ◌∙◌}
+use Rattle.std.proofs.Common.{sym, ◌∙◌}
 use Rattle.cry_base.specs.Store.{folder_names}
 use Rattle.folder_nodes.specs.Titles.{tree_store}
 use Rattle.folder_nodes.proofs.Slashes.{is_nothing, is_something}

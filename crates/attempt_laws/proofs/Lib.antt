@@ -1,0 +1,5 @@
+pub mod Epochs
+pub mod Rising
+pub mod Ranks
+pub mod Written
+pub mod Scripts

@@ -1,0 +1,7 @@
+use Rattle.attempt_laws.specs.Trials.{all_trials}
+use Rattle.attempt_laws.proofs.Ranks.{all_apart, apart_share}
+use Rattle.attempt_laws.proofs.Written.{same_payload}
+use Rattle.attempt_laws.proofs.laws.veil_keys_mask_one_payload.Goals as goal
+
+pub returns : goal.returns
+returns c = record { once = λ keys later. apart_share (all_trials keys later) (all_apart keys later); payload = same_payload }

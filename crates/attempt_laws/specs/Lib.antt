@@ -1,0 +1,5 @@
+pub mod Trials
+pub mod Happenings
+pub mod Spent
+pub mod Scripted
+pub mod WorkedTrials

@@ -1,0 +1,224 @@
+//! The one line of a path that a key shows (docs/FORMAT.md, "Reading").
+ghost use Rattle.std.specs.Prelude.{◌≡◌, ◌≢◌, ◌<◌, ◌≤◌, ◌||◌, ℕ, All, Err, IfOk, Ok, OnOk, filter, find, map, option_map, true};
+ghost use Rattle.std.specs.HashSet.{contains};
+ghost use Rattle.std.specs.List.{flat_map, list_any};
+ghost use Rattle.std.specs.Str.{bytes_eq};
+ghost use Rattle.commit_journal.specs.Placed.{plain_placed};
+ghost use Rattle.commit_journal.specs.Places.{IsStanding};
+ghost use Rattle.commit_journal.specs.Logs.{AreInEpochs};
+ghost use Rattle.commit_journal.specs.Reading.{IsOnlyRead};
+ghost use Rattle.cry_base.specs.Naming.{is_path, parent_path};
+ghost use Rattle.cry_base.specs.declared.roles.Role.TheVariants.{Owner};
+ghost use Rattle.cry_io.specs.Told.{WhereTold};
+ghost use Rattle.folder_nodes.specs.Titles.{tree_store};
+ghost use Rattle.holder_client.specs.Answering.{AnswersAs};
+ghost use Rattle.holder_client.specs.Asking.{line_shown, line_with};
+ghost use Rattle.holder_client.specs.Asking as asking;
+ghost use Rattle.holder_client.specs.Beside as spec;
+ghost use Rattle.holder_client.specs.Holding.{IsReadingOf};
+ghost use Rattle.holder_client.specs.Judging.{who_of};
+ghost use Rattle.holder_client.specs.Lines.{lines_of, plain_line, read_line};
+ghost use Rattle.holder_client.specs.Sights.{MayRead, same_number};
+ghost use Rattle.holder_client.specs.View.{line_path};
+ghost use Rattle.holder_client.specs.Visiting.{Reading};
+ghost use Rattle.public_fold.specs.KeyStep.{present};
+
+use crate::ClientFault;
+use crate::admission::read_through;
+use crate::file_rows::files_in;
+use crate::indexed_log::IndexedLog;
+use crate::lines::{folder_lines, path_of, push_files};
+use crate::opening::OwnersView;
+use crate::reading::{ReadFile, open_names, read_files, viewer_of};
+use crate::showing::read_log;
+use crate::sights::{Sight, all_sights, is_nameless};
+use crate::ways::folder_path;
+use commit_journal::Placed;
+use cry_base::{Bundle, Line, Mem};
+use cry_io::Disk;
+use folder_nodes::{FileRow, Names, Shape, front_of, path_ok};
+use public_fold::PublicState;
+use std::alloc::Global;
+use std::collections::HashSet;
+
+fn has_path(line: &Line, path: &[u8]) -> bool
+    ensures { result ≡ bytes_eq (line_path (plain_line line.now)) path.now }
+{
+    path_of(line) == path
+}
+
+/// The first of the lines that has the path.
+fn line_at(lines: Vec<Line>, path: &[u8]) -> Option<Line>
+    ensures { result ≡ find (λ l. bytes_eq (line_path (plain_line l)) path.now) lines.items }
+{
+    lines.into_iter().find(|line| has_path(line, path))
+}
+
+/// The line of the first folder that is named and has the path.
+fn folder_at(
+    alloc: Global,
+    shape: &Shape,
+    names: &Names,
+    sights: &[Sight],
+    path: &[u8],
+) -> Mem<Option<Line>>
+    ensures { IfOk result (λ line. option_map plain_line line ≡ asking.line_at path.now (flat_map (lines_of (tree_store shape.now.tree names.now)) sights.now)) }
+{
+    let lines = folder_lines(alloc, shape, names, sights)?;
+    Ok(line_at(lines, path))
+}
+
+/// The line of the first of the files that has the path.
+fn file_at(
+    alloc: Global,
+    shape: &Shape,
+    names: &Names,
+    files: Vec<ReadFile>,
+    path: &[u8],
+) -> Mem<Option<Line>>
+    ensures { IfOk result (λ line. option_map plain_line line ≡ asking.line_at path.now (map (read_line (tree_store shape.now.tree names.now)) files.items)) }
+{
+    let mut lines = Vec::new(alloc);
+    push_files(&mut lines, alloc, shape, names, files)?;
+    Ok(line_at(lines, path))
+}
+
+/// The path without its last name; the root's is its own.
+fn parent_of(path: &[u8]) -> &[u8]
+    requires { is_path path.now ≡ true }
+    ensures { result.now ≡ parent_path path.now }
+{
+    if path == b"/".as_slice() {
+        return path;
+    }
+    front_of(path)
+}
+
+/// Whether all in the folder may be read, and it has the path.
+fn is_open_at(alloc: Global, shape: &Shape, names: &Names, sight: &Sight, path: &[u8]) -> Mem<bool>
+    ensures { IfOk result (λ is. is ≡ spec.is_open_at (tree_store shape.now.tree names.now) path.now sight.now) }
+{
+    if !sight.allowed {
+        return Ok(false);
+    }
+    let own = folder_path(alloc, shape, names, sight.folder)?;
+    Ok(own.as_slice() == path)
+}
+
+/// Notes the folder, where all in it may be read and it has the path.
+fn note_open(
+    folders: &mut HashSet<u32>,
+    alloc: Global,
+    shape: &Shape,
+    names: &Names,
+    sight: &Sight,
+    path: &[u8],
+) -> Mem<()>
+    ensures { OnOk result ((f : ℕ) → contains same_number folders.new f ≡ (contains same_number folders.old f || spec.opens_at (tree_store shape.now.tree names.now) path.now f sight.now)) }
+{
+    if is_open_at(alloc, shape, names, sight, path)? {
+        folders.insert(sight.folder.0)?;
+    }
+    Ok(())
+}
+
+/// The folders with the path that are allowed.
+fn folders_open_at(
+    alloc: Global,
+    shape: &Shape,
+    names: &Names,
+    sights: &[Sight],
+    path: &[u8],
+) -> Mem<HashSet<u32>>
+    ensures { IfOk result (λ folders. (f : ℕ) → contains same_number folders f ≡ list_any (spec.opens_at (tree_store shape.now.tree names.now) path.now f) sights.now) }
+{
+    let mut folders = HashSet::new(alloc);
+    for sight in sights {
+        note_open(&mut folders, alloc, shape, names, sight, path)?;
+    }
+    Ok(folders)
+}
+
+/// The files that are allowed in folders with the path that this path, without its last name, is.
+fn files_beside(
+    alloc: Global,
+    shape: &Shape,
+    names: &Names,
+    sights: &[Sight],
+    files: &[FileRow],
+    path: &[u8],
+) -> Mem<Vec<FileRow>>
+    ensures { IfOk result (λ l. l.items ≡ filter (spec.is_row_beside (tree_store shape.now.tree names.now) sights.now path.now) files.now) }
+{
+    if !path_ok(path) {
+        return Ok(Vec::new(alloc));
+    }
+    let folders = folders_open_at(alloc, shape, names, sights, parent_of(path))?;
+    files_in(alloc, &folders, files)
+}
+
+/// Opens what the path needs of a log that may be read.
+fn open_at(
+    alloc: Global,
+    bundle: &Bundle,
+    log: &[Placed],
+    state: &PublicState,
+    path: &[u8],
+) -> Result<Line, ClientFault>
+    requires stands { All IsStanding log.now }
+    requires owner { present state.now.keys.keys Owner ≡ 0 }
+    ensures answer { (r : Reading) → IsReadingOf state.now log.now r → MayRead r.stand.store (who_of bundle.now) → AnswersAs plain_line result (spec.path_opened bundle.now path.now r) }
+    ensures no_disk { result ≢ Err ClientFault.DiskFault }
+{
+    is_nameless(state);
+    let indexed = IndexedLog::of(alloc, log)?;
+    let seen = all_sights(alloc, state, viewer_of(bundle))?;
+    let OwnersView { ring, names } = open_names(alloc, bundle, state, &indexed, seen.as_slice())?;
+    let shape = state.shape();
+    if let Some(line) = folder_at(alloc, shape, &names, seen.as_slice(), path)? {
+        return Ok(line);
+    }
+    let rows = files_beside(alloc, shape, &names, seen.as_slice(), shape.files(), path)?;
+    let files = read_files(alloc, state, &indexed, ring, rows.as_slice())?;
+    match file_at(alloc, shape, &names, files, path)? {
+        Some(line) => Ok(line),
+        None => Err(ClientFault::Unseen),
+    }
+}
+
+/// The line of the path that the bundle's key shows of a log.
+fn open_log(
+    alloc: Global,
+    bundle: &Bundle,
+    log: &[Placed],
+    path: &[u8],
+) -> Result<Line, ClientFault>
+    requires stands { All IsStanding log.now }
+    requires epochs { AreInEpochs 0 (map plain_placed log.now) }
+    ensures answer { AnswersAs plain_line result (line_with bundle.now path.now (Ok (map plain_placed log.now))) }
+    ensures no_disk { result ≢ Err ClientFault.DiskFault }
+{
+    let state = read_through(alloc, bundle, log)?;
+    open_at(alloc, bundle, log, &state, path)
+}
+
+/// The one line of a path that the bundle's key shows: that of a folder that is named, or else of a file that is allowed. The disk is
+/// never written.
+///
+/// Its faults before the visits are those of [`view`](crate::view). No file is visited but those beside the path, which are all
+/// visited before one is shown, so a bad one beside the path is told; where a folder has the path, or the path has another form than
+/// that of paths, no file is visited. `Unseen` comes exactly where these visits pass and no line has the path.
+pub fn open_path<D: Disk>(
+    alloc: Global,
+    disk: &mut D,
+    bundle: &Bundle,
+    path: &[u8],
+) -> Result<Line, ClientFault>
+    ensures verdict { WhereTold (D.shown disk.old) (λ s. AnswersAs plain_line result (line_shown bundle.now path.now s)) }
+    ensures read_only { IsOnlyRead D.shown D.size_of D.may_leave disk.old disk.new }
+    ensures counts { D.faults disk.old ≤ D.faults disk.new }
+    ensures disk_fault { result ≡ Err ClientFault.DiskFault → D.faults disk.old < D.faults disk.new }
+{
+    let log = read_log(alloc, disk, bundle)?;
+    open_log(alloc, bundle, log.as_slice(), path)
+}
