@@ -1,0 +1,53 @@
+"""A store as its users see it, kept from the lines alone that were done: what checks hold the program's answers against."""
+
+UNSEEN = 16, b"", b"cryptree: unseen\n"
+
+
+class PlainStore:
+    """A store as its users see it: the bytes of each file by its path, None for a folder, and the grants."""
+
+    def __init__(self):
+        self.nodes, self.grants = {b"/": None}, set()
+
+    def done(self, line):
+        """Follows a line that was answered with ok."""
+        word, *fields = line.split(b" ")
+        if word in (b"mkdir", b"write"):
+            self.nodes[fields[0]] = bytes.fromhex(b"".join(fields[1:]).decode()) if word == b"write" else None
+        elif word == b"rm":
+            del self.nodes[fields[0]]
+            self.grants = {(holder, path) for holder, path in self.grants if path != fields[0]}
+        elif word in (b"grant", b"revoke"):
+            self.grants ^= {(int(fields[0]), fields[1])}
+        elif word in (b"rename", b"move"):
+            above, name = fields[0].rsplit(b"/", 1)
+            self.shift(fields[0], above + b"/" + fields[1] if word == b"rename" else fields[1].rstrip(b"/") + b"/" + name)
+
+    def shift(self, old, new):
+        """A node gets another path, and all below it with it."""
+        def shifted(path):
+            return new + path[len(old):] if is_below(path, old) else path
+
+        self.nodes = {shifted(path): data for path, data in self.nodes.items()}
+        self.grants = {(holder, shifted(path)) for holder, path in self.grants}
+
+    def view(self, holder):
+        """The line for each path that is shown to the holder, or to the owner."""
+        entries = [path for its_holder, path in self.grants if its_holder == holder] if holder else [b"/"]
+        lines = {}
+        for path, data in self.nodes.items():
+            if any(is_below(path, entry) for entry in entries):
+                lines[path] = b"folder " + path + b"\n" if data is None else b"file " + path + b" " + data.hex().encode() + b"\n"
+            elif any(is_below(entry, path) for entry in entries):
+                lines[path] = b"ancestor " + path + b"\n"
+        return lines
+
+    def answers(self, holder, asked):
+        lines = self.view(holder)
+        whole = b"".join(lines[path] for path in sorted(lines))
+        return [(0, whole, b"") if path is None else (0, lines[path], b"") if path in lines else UNSEEN for path in asked]
+
+
+def is_below(path, above):
+    """Whether a path is this one, or one below it."""
+    return path == above or path.startswith(above.rstrip(b"/") + b"/")
