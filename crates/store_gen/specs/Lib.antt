@@ -1,0 +1,4 @@
+pub mod Accepting
+pub mod Rule
+pub mod Spelling
+pub mod WorkedLines

@@ -1,0 +1,1 @@
+//! Laws of generated scripts.
