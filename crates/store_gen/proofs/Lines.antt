@@ -1,5 +1,5 @@
 -- Lines in pieces.
-use Rattle.std.proofs.Common.{◌≡◌, ℕ, suc, ◌+◌, ◌-◌, ◌<◌, List, [], ◌∷◌, ◌++◌, map, refl, ap, sym, ◌∙◌, append_assoc, append-nil, arith}
+use Rattle.std.proofs.Common.{◌≡◌, ℕ, zero, suc, ◌+◌, ◌-◌, ◌<◌, List, [], ◌∷◌, ◌++◌, map, refl, ap, sym, ◌∙◌, append_assoc, append-nil, arith, length}
 use Rattle.std.specs.Fmt.{decimal}
 use Rattle.std.proofs.lemmas.Fmt.{decimal_digit}
 use Rattle.cry_base.specs.Texts.{ended_lines}
@@ -54,3 +54,12 @@ none_more count line g text whole past is_whole =
 pub script_parts : (seed count : ℕ) → script_of seed count ≡ lines_of opening ++ lines_of (drawn_requests count (first seed))
 unfolding script_of requests
 script_parts seed count = lines_of-append opening (drawn_requests count (first seed))
+
+length-drawn : (count : ℕ) (g : Generator) → length (drawn_requests count g) ≡ count
+unfolding drawn_requests
+length-drawn zero g = refl
+length-drawn (suc count) g = ap suc (length-drawn count (drawn g))
+
+pub length-requests : (seed count : ℕ) → length (requests seed count) ≡ 20 + count
+unfolding requests opening
+length-requests seed count = let n = length-drawn count (first seed) in omega (arith, n)

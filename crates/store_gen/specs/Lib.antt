@@ -1,4 +1,5 @@
 pub mod Accepting
 pub mod Rule
 pub mod Spelling
+pub mod Standing
 pub mod WorkedLines
