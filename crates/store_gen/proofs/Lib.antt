@@ -4,5 +4,7 @@ pub mod Effects
 pub mod Files
 pub mod Folders
 pub mod Lines
+pub mod Newlines
 pub mod Opening
 pub mod Refused
+pub mod Stood

@@ -1,4 +1,5 @@
--- The script of a generated store: what its lines ask for, by a rule from a number. This project's own, docs/FORMAT.md, "Lines".
+-- The script of a generated store: what its lines ask for, by a rule from a number. This project's own, docs/FORMAT.md,
+-- "Generated scripts".
 use Rattle.std.specs.Prelude.{◌≡◌, ℕ, zero, suc, ◌+◌, ◌*◌, ◌/◌, ◌%◌, ◌^◌, ◌<◌, Bool, true, false, nat_lt, ◌==◌, List, [], ◌∷◌, ◌++◌, length, map, replicate, slice_index_or, slice_set, if◌then◌else◌}
 use Rattle.cry_base.specs.Requests.{Request}
 use Rattle.cry_base.specs.Requests.Request.{AddHolder, MakeFolder, WriteFile, Relocate, Grant, Revoke}
@@ -91,6 +92,9 @@ other_folder from other = (from + 1 + other % 7) % 8
 abbrev pub grant_change : Bool → ℕ → ℕ → Change
 grant_change stands who folder = if stands then change.Revoke who folder else change.Grant who folder
 
+abbrev pub drawn_grant : Generator → ℕ → ℕ → Change
+drawn_grant g who folder = grant_change (has_granted g who folder) who folder
+
 abbrev pub move_change : ℕ → ℕ → ℕ → Change
 move_change file from other = change.Move file from (other_folder from other)
 
@@ -98,7 +102,7 @@ move_change file from other = change.Move file from (other_folder from other)
 unfoldable pub change_of : Generator → Change
 change_of g =
     if nat_lt (kind_in g.number) 2 then change.Write (folder_in g.number) (other_in g.number) (byte_in g.number) else
-    if kind_in g.number == 2 then grant_change (has_granted g (who_in g.number) (folder_in g.number)) (who_in g.number) (folder_in g.number) else
+    if kind_in g.number == 2 then drawn_grant g (who_in g.number) (folder_in g.number) else
     move_change (folder_in g.number) (home_of g (folder_in g.number)) (other_in g.number)
 
 abbrev pub advanced : Generator → Generator
@@ -125,6 +129,11 @@ drawn g = changed (advanced g) (change_of (advanced g))
 unfoldable pub drawn_requests : ℕ → Generator → List Request
 drawn_requests zero g = []
 drawn_requests (suc n) g = asks (change_of (advanced g)) ∷ drawn_requests n (drawn g)
+
+-- after so many lines
+unfoldable pub drawn_after : ℕ → Generator → Generator
+drawn_after zero g = g
+drawn_after (suc n) g = drawn_after n (drawn g)
 
 -- what a script's lines ask for
 unfoldable pub requests : ℕ → ℕ → List Request
