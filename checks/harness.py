@@ -23,14 +23,15 @@ class Check:
             file.write(data)
         return path
 
-    def call(self, words, typed=b""):
-        """How the program ends with these words and this input: its status, what it prints and what it says."""
-        done = subprocess.run([self.program, *words], input=typed, capture_output=True)
+    def call(self, words, typed=b"", under=None):
+        """How the program ends with these words and this input: its status, what it prints and what it says. One of faults.py may be what
+        it runs under."""
+        done = subprocess.run([self.program, *words], input=typed, capture_output=True, preexec_fn=under)
         return done.returncode, done.stdout, done.stderr
 
-    def show(self, store, bundle, path=None):
+    def show(self, store, bundle, path=None, under=None):
         """What `list` answers to this key, or `open` of this path, over the store's file."""
-        return self.call([store, "-", "list"] if path is None else [store, "-", "open", path], bundle_line(bundle))
+        return self.call([store, "-", "list"] if path is None else [store, "-", "open", path], bundle_line(bundle), under)
 
     def run(self, image, typed, random):
         """The answer of `run` to this input over a store of these bytes, with these random ones, and what it leaves."""

@@ -274,6 +274,7 @@ class Reading:
     def __init__(self, state, links, contents, bundle):
         self.state, self.links, self.contents = state, links, contents
         self.keys, self.names = {(HOLDER, bundle.holder) if bundle.holder else (OWNER, 0): bundle.key}, {}
+        self.texts = {}  # what was opened, by its kind and id
         entries = [folder for folder in state.parents if not bundle.holder or (bundle.holder, folder) in state.grants]
         above = {one for folder in entries for one in state.ancestors(folder)}
         self.allowed = {folder for folder in state.parents if folder in entries or self.is_under(folder, entries)}
@@ -310,6 +311,7 @@ class Reading:
         text = self.opened(batch, content, sealing_role(kind, number))
         if not is_right(text):
             raise damaged(content.at)
+        self.texts[kind, number] = text
         return text
 
     def opened(self, batch, record, role):
