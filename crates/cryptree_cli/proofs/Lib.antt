@@ -12,3 +12,4 @@ pub mod RunEnds
 pub mod RunLemmas
 pub mod RunOpening
 pub mod ScriptLemmas
+pub mod Takings

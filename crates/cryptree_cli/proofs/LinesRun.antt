@@ -9,9 +9,11 @@ use Rattle.cry_base.specs.declared.commands.Reply.{Reply}
 use Rattle.cry_io.specs.Told.{WhereBothTold}
 use Rattle.cry_io.proofs.ToldLemmas.{told_again}
 use Rattle.script_text.specs.Commands.{request_in}
-use Rattle.cryptree_cli.specs.Lines.{InputLine, LineState, lines_ahead}
+use Rattle.cryptree_cli.specs.Input.{TakesLines}
+use Rattle.cryptree_cli.specs.Lines.{InputLine, LineState, bytes_ahead, lines_ahead}
+use Rattle.cryptree_cli.specs.Taking.{AreTaken, TakesOne}
 use Rattle.cryptree_cli.specs.Lines.InputLine.{Whole, TooLong}
-use Rattle.cryptree_cli.specs.Running.{AnswersLines, CountsOwner, HasBadLine, PrintsAnswers, RanLines, ended_status, open_status, script_status}
+use Rattle.cryptree_cli.specs.Running.{AnswersLines, CountsOwner, HasBadLine, PrintsAnswers, RanLines, RanTaking, TakesBehindFirst, TakesTo, ended_status, open_status, script_status}
 use Rattle.cryptree_cli.specs.Script.{Answered, Asks, IsBadFirst, IsReading, Ran}
 use Rattle.cryptree_cli.specs.Script.Answered.{Begun, Then}
 use Rattle.cryptree_cli.specs.declared.script.ScriptFault.{ScriptFault}
@@ -19,6 +21,8 @@ use Rattle.cryptree_cli.specs.declared.script.ScriptFault.TheVariants.{BadLine, 
 use Rattle.cryptree_cli.specs.declared.status.Status.{Status}
 use Rattle.cryptree_cli.specs.declared.status.Status.TheVariants as statuses
 use Rattle.cryptree_cli.proofs.RunEnds.{asks_fewer}
+use Rattle.cryptree_cli.proofs.RunOpening.{fresh_reader}
+use Rattle.cryptree_cli.proofs.Takings.{takes_front, takes_more}
 use Rattle.cryptree_cli.proofs.ScriptLemmas.{asks_none, same_told, whole_is_cut}
 use Rattle.store_owner.specs.declared.apply_fault.ApplyFault.{ApplyFault}
 use Rattle.store_owner.specs.declared.apply_fault.ApplyFault.TheVariants as faults
@@ -55,7 +59,7 @@ module _ (X : Type 0) (Step : X → Request → Reply → X → Type 0) (Fails :
     pub takes : (b : List ℕ) → left_before ≡ Some b → (a : List ℕ) × Asks (asked ++ next ∷ []) (lines_ahead old b) (lines_ahead new a)
     pub printed : WhereBothTold out_before out_after (PrintsAnswers statuses.Done replies)
 
-  stopped : (fault : ApplyFault) → HasRan (Err (Applying fault)) → Stopped
+  abbrev stopped : (fault : ApplyFault) → HasRan (Err (Applying fault)) → Stopped
   stopped fault ran =
       let x : X = ran.stands.0 in
       let first : List Request = ran.stands.1 in
@@ -71,7 +75,7 @@ module _ (X : Type 0) (Step : X → Request → Reply → X → Type 0) (Fails :
         printed = ran.printed;
       }
 
-  lines_all : HasRan (Ok tt) → RunsLines statuses.Done
+  abbrev lines_all : HasRan (Ok tt) → RunsLines statuses.Done
   lines_all ran = record {
     asked = ran.asked;
     replies = ran.replies;
@@ -81,7 +85,7 @@ module _ (X : Type 0) (Step : X → Request → Reply → X → Type 0) (Fails :
     printed = ran.printed;
   }
 
-  lines_to_bad : (line : ℕ) → old.given ≡ 1 → HasRan (Err (BadLine line)) → RunsLines (statuses.BadScript line)
+  abbrev lines_to_bad : (line : ℕ) → old.given ≡ 1 → HasRan (Err (BadLine line)) → RunsLines (statuses.BadScript line)
   lines_to_bad line first ran = record {
     asked = ran.asked;
     replies = ran.replies;
@@ -101,7 +105,7 @@ module _ (X : Type 0) (Step : X → Request → Reply → X → Type 0) (Fails :
     printed = ran.printed;
   }
 
-  lines_cut : HasRan (Err WriteFault) → RunsLines statuses.WriteFault
+  abbrev lines_cut : HasRan (Err WriteFault) → RunsLines statuses.WriteFault
   lines_cut ran = record {
     asked = ran.asked;
     replies = ran.replies;
@@ -121,7 +125,7 @@ module _ (X : Type 0) (Step : X → Request → Reply → X → Type 0) (Fails :
     printed = ran.printed;
   }
 
-  lines_undrawn : Stopped → RunsLines statuses.RandomFault
+  abbrev lines_undrawn : Stopped → RunsLines statuses.RandomFault
   lines_undrawn s = record {
     asked = s.asked;
     replies = s.replies;
@@ -131,7 +135,7 @@ module _ (X : Type 0) (Step : X → Request → Reply → X → Type 0) (Fails :
     printed = s.printed;
   }
 
-  lines_short : (left need : ℕ) → Stopped → RunsLines (statuses.RandomShort left need)
+  abbrev lines_short : (left need : ℕ) → Stopped → RunsLines (statuses.RandomShort left need)
   lines_short left need s = record {
     asked = s.asked;
     replies = s.replies;
@@ -141,7 +145,7 @@ module _ (X : Type 0) (Step : X → Request → Reply → X → Type 0) (Fails :
     printed = s.printed;
   }
 
-  lines_unwritten : Stopped → RunsLines statuses.DiskFault
+  abbrev lines_unwritten : Stopped → RunsLines statuses.DiskFault
   lines_unwritten s = record {
     asked = s.asked;
     replies = s.replies;
@@ -176,6 +180,41 @@ module _ (X : Type 0) (Step : X → Request → Reply → X → Type 0) (Fails :
   ran_lines (Err (Applying faults.DiskFault)) ran first = lines_unwritten (stopped faults.DiskFault ran)
   ran_lines (Err (Applying faults.Closed)) ran first = lines_unwritten (stopped faults.Closed ran)
   ran_lines (Err (Applying faults.OutOfMemory)) ran first = lines_without (stopped faults.OutOfMemory ran)
+
+  -- and how much was taken
+  abbrev TakingLines : Status → Type 0
+  TakingLines status = RanTaking status (lines_ahead old) (TakesBehindFirst (bytes_ahead old)) left_before left_after out_before out_after
+
+  stopped_taken : (fault : ApplyFault) → (ran : HasRan (Err (Applying fault)))
+      → WhereBothTold left_before left_after (TakesBehindFirst (bytes_ahead old) (Some (length ran.stands.1 + 2)))
+  stopped_taken fault ran = λ b a was now front typed one are.
+      let count : length ran.asked ≡ length ran.stands.1 + 1 = ap length ran.stands.3 ∙ length-append ran.stands.1 (ran.stands.2 ∷ []) in
+      takes_front 1 (length ran.asked) (length ran.stands.1 + 2) front (bytes_ahead old b) typed a (omega (arith, count)) one are (ran.taken b a was now)
+
+  pub ran_taking : (result : Result (Unit {0}) ScriptFault) → HasRan result → old.given ≡ 1 → TakingLines (ended_status result)
+  ran_taking (Ok tt) ran first = record { ran = lines_all ran; takes = λ b a was now front typed one are. tt }
+  ran_taking (Err (BadLine line)) ran first = record {
+    ran = lines_to_bad line first ran;
+    takes = λ b a was now front typed one are.
+        takes_front 1 (length ran.asked + 1) line front (bytes_ahead old b) typed a (omega (arith, ran.number, first)) one are (ran.taken b a was now);
+  }
+  ran_taking (Err ReadFault) ran first = record { ran = lines_to_fault ran; takes = λ b a was now front typed one are. tt }
+  ran_taking (Err WriteFault) ran first = record {
+    ran = lines_cut ran;
+    takes = λ b a was now front typed one are.
+        takes_front 1 (length ran.asked) (length ran.asked + 1) front (bytes_ahead old b) typed a (omega arith) one are (ran.taken b a was now);
+  }
+  ran_taking (Err OutOfMemory) ran first = record { ran = lines_out ran; takes = λ b a was now front typed one are. tt }
+  ran_taking (Err (Applying faults.RandomFault)) ran first =
+      record { ran = lines_undrawn (stopped faults.RandomFault ran); takes = stopped_taken faults.RandomFault ran }
+  ran_taking (Err (Applying (faults.RandomShort left need))) ran first =
+      record { ran = lines_short left need (stopped (faults.RandomShort left need) ran); takes = stopped_taken (faults.RandomShort left need) ran }
+  ran_taking (Err (Applying faults.DiskFault)) ran first =
+      record { ran = lines_unwritten (stopped faults.DiskFault ran); takes = stopped_taken faults.DiskFault ran }
+  ran_taking (Err (Applying faults.Closed)) ran first =
+      record { ran = lines_unwritten (stopped faults.Closed ran); takes = stopped_taken faults.Closed ran }
+  ran_taking (Err (Applying faults.OutOfMemory)) ran first =
+      record { ran = lines_without (stopped faults.OutOfMemory ran); takes = λ b a was now front typed one are. tt }
 
 -- ---- before the opening nothing is asked
 
@@ -223,9 +262,39 @@ module _ (lines : List ℕ → List InputLine) (typed written : Option (List ℕ
   unopened_lines opening.DiskFault = record { asked = []; replies = []; one_each = refl; counted = tt; answered = λ b was. inl refl; printed = nothing_printed written }
   unopened_lines opening.OutOfMemory = none_without
 
+  -- and little was taken behind the first line
+  pub unread_taking : (left : Option (List ℕ)) (fault : ScriptFault) → IsReading fault → (old new : ℕ) → CountsOwner (Err fault) old new
+      → (reader held : LineState) → reader ≡ fresh_reader → WhereBothTold typed left (TakesOne {U = List ℕ} (Err fault) reader held)
+      → RanTaking (script_status fault) lines TakesTo typed left written written
+  unread_taking left (BadLine line) reading old new count reader held fresh takes = record {
+    ran = none_behind_bad line count;
+    takes = λ x y was now.
+        let one : TakesLines 1 x y = subst (λ (r : LineState). TakesLines 1 (bytes_ahead r x) y) fresh (takes x y was now) in
+        takes_more 1 line x y (omega (arith, count)) one;
+  }
+  unread_taking left ReadFault reading old new count reader held fresh takes = record { ran = none_read; takes = λ x y was now. tt }
+  unread_taking left OutOfMemory reading old new count reader held fresh takes = record { ran = none_without; takes = λ x y was now. tt }
+  unread_taking left WriteFault reading old new count reader held fresh takes = absurd reading
+  unread_taking left (Applying fault) reading old new count reader held fresh takes = absurd reading
+
+  pub unopened_taking : (left : Option (List ℕ)) (fault : OpenFault) → WhereBothTold typed left (TakesLines 1)
+      → RanTaking (open_status fault) lines TakesTo typed left written written
+  unopened_taking left opening.NotAStore takes = record { ran = unopened_lines opening.NotAStore; takes = takes }
+  unopened_taking left opening.WrongKey takes = record { ran = unopened_lines opening.WrongKey; takes = takes }
+  unopened_taking left (opening.Damaged at) takes = record { ran = unopened_lines (opening.Damaged at); takes = takes }
+  unopened_taking left (opening.Tampered batch at) takes = record { ran = unopened_lines (opening.Tampered batch at); takes = takes }
+  unopened_taking left opening.DiskFault takes =
+      let ran = unopened_lines opening.DiskFault in
+      record { ran = ran; takes = λ x y was now. takes_more 1 (length ran.asked + 2) x y (omega arith) (takes x y was now) }
+  unopened_taking left opening.OutOfMemory takes = record { ran = unopened_lines opening.OutOfMemory; takes = λ x y was now. tt }
+
+-- what the first line took of a whole input
+pub key_taken : (reader held : LineState) (typed left : List ℕ) → reader ≡ fresh_reader → AreTaken 1 reader held typed left → AreTaken 1 fresh_reader held typed left
+key_taken reader held typed left fresh taken = subst (λ (r : LineState). AreTaken 1 r held typed left) fresh taken
+
 -- ---- the lines as they were typed
 
-pub lines_as_typed : (status : Status) (lines behind : List ℕ → List InputLine) (first later before after : Option (List ℕ)) → is_some later ≡ is_some first
+abbrev pub lines_as_typed : (status : Status) (lines behind : List ℕ → List InputLine) (first later before after : Option (List ℕ)) → is_some later ≡ is_some first
     → ((x y : List ℕ) → first ≡ Some x → later ≡ Some y → lines y ≡ behind x) → RanLines status lines later before after → RanLines status behind first before after
 lines_as_typed status lines behind first later before after told same ran = record {
   asked = ran.asked;

@@ -14,6 +14,8 @@ use Rattle.cryptree_cli.specs.Lines.{InputLine, LineState, lines_ahead}
 use Rattle.cryptree_cli.specs.Lines.InputLine.{Whole}
 use Rattle.cryptree_cli.specs.Script.{Answered, AnswersOne, Asks, CountsCommand, GivesCommand, IsReading, PrintsCut, Ran, spell_replies}
 use Rattle.cryptree_cli.specs.Script.Answered.{Begun, Then}
+use Rattle.cryptree_cli.specs.Taking.{AreTaken, HoldsFew, TakesCommand}
+use Rattle.cryptree_cli.proofs.Takings.{takes_behind, taken_few, taken_on}
 use Rattle.cryptree_cli.specs.declared.script.ScriptFault.{ScriptFault}
 use Rattle.store_owner.specs.declared.apply_fault.ApplyFault.{ApplyFault}
 use Rattle.cryptree_cli.specs.declared.script.ScriptFault.TheVariants.{BadLine, ReadFault, WriteFault, OutOfMemory, Applying}
@@ -67,6 +69,7 @@ pub record Going {X : Type 0} (Step : X → Request → Reply → X → Type 0) 
   pub answered : Answered Step start asked replies x
   pub given : now.given ≡ old.given + length asked
   pub lines : WhereBothTold left_first left (λ before after. Asks asked (lines_ahead old before) (lines_ahead now after))
+  pub taken : WhereBothTold left_first left (AreTaken (length asked) old now)
   pub printed : WhereBothTold written_first written (λ before after. after ≡ before ++ spell_replies replies)
 
 pub same_told : {X : Type 0} (o : Option X) (x y : X) → o ≡ Some x → o ≡ Some y → y ≡ x
@@ -80,6 +83,7 @@ going_at_start Step start old left written = record {
   answered = Begun;
   given = omega arith;
   lines = λ x y was now. subst (λ z. Asks [] (lines_ahead old x) (lines_ahead old z)) (sym (same_told left x y was now)) (asks_none (lines_ahead old x));
+  taken = λ x y was now. subst (λ z. AreTaken 0 old old x z) (sym (same_told left x y was now)) ([], refl, refl);
   printed = λ x y was now. same_told written x y was now ∙ sym (append-nil x);
 }
 
@@ -97,6 +101,7 @@ ends_there Step Fails start x old now new first middle last out_first out going 
       let gone = none again.0 a again.1 is in
       (subst (λ rest. Asks going.asked (lines_ahead old b) rest) gone.0 (going.lines b again.0 was again.1), gone.1);
   number = tt;
+  taken = λ b a was is. tt;
   printed = going.printed;
 }
 
@@ -104,8 +109,8 @@ ends_there Step Fails start x old now new first middle last out_first out going 
 pub stops_reading : {X : Type 0} (Step : X → Request → Reply → X → Type 0) (Fails : X → Request → ApplyFault → X → Type 0) (fault : ScriptFault) (start x : X)
     (old now new : LineState) (first middle last out_first out : Option (List ℕ)) → Going Step start x old now first middle out_first out
     → is_some middle ≡ is_some first → WhereBothTold middle last (λ b a. GivesCommand (Err fault) (lines_ahead now b) (lines_ahead new a))
-    → CountsCommand (Err fault) now new → IsReading fault → Ran Step Fails (Err fault) start x old new first last out_first out
-stops_reading Step Fails (BadLine line) start x old now new first middle last out_first out going told gives count reading = record {
+    → WhereBothTold middle last (TakesCommand (Err fault) now new) → CountsCommand (Err fault) now new → IsReading fault → Ran Step Fails (Err fault) start x old new first last out_first out
+stops_reading Step Fails (BadLine line) start x old now new first middle last out_first out going told gives takes count reading = record {
   asked = going.asked;
   replies = going.replies;
   stands = going.answered;
@@ -113,9 +118,12 @@ stops_reading Step Fails (BadLine line) start x old now new first middle last ou
       let again = told_again first middle b told was in
       (lines_ahead now again.0, going.lines b again.0 was again.1, gives again.0 a again.1 is);
   number = count ∙ omega (arith, going.given);
+  taken = λ b a was is.
+      let again = told_again first middle b told was in
+      takes_behind (length going.asked) 1 (length going.asked + 1) old now b again.0 a refl (going.taken b again.0 was again.1) (takes again.0 a again.1 is);
   printed = going.printed;
 }
-stops_reading Step Fails ReadFault start x old now new first middle last out_first out going told gives count reading = record {
+stops_reading Step Fails ReadFault start x old now new first middle last out_first out going told gives takes count reading = record {
   asked = going.asked;
   replies = going.replies;
   stands = going.answered;
@@ -123,9 +131,10 @@ stops_reading Step Fails ReadFault start x old now new first middle last out_fir
       let again = told_again first middle b told was in
       subst (λ rest. Asks going.asked (lines_ahead old b) rest) (sym (gives again.0 a again.1 is)) (going.lines b again.0 was again.1);
   number = tt;
+  taken = λ b a was is. tt;
   printed = going.printed;
 }
-stops_reading Step Fails OutOfMemory start x old now new first middle last out_first out going told gives count reading = record {
+stops_reading Step Fails OutOfMemory start x old now new first middle last out_first out going told gives takes count reading = record {
   asked = going.asked;
   replies = going.replies;
   stands = going.answered;
@@ -133,10 +142,11 @@ stops_reading Step Fails OutOfMemory start x old now new first middle last out_f
       let again = told_again first middle b told was in
       (lines_ahead now again.0, going.lines b again.0 was again.1);
   number = tt;
+  taken = λ b a was is. tt;
   printed = λ b a was is. whole_is_cut going.replies b a (going.printed b a was is);
 }
-stops_reading Step Fails WriteFault start x old now new first middle last out_first out going told gives count reading = absurd reading
-stops_reading Step Fails (Applying fault) start x old now new first middle last out_first out going told gives count reading = absurd reading
+stops_reading Step Fails WriteFault start x old now new first middle last out_first out going told gives takes count reading = absurd reading
+stops_reading Step Fails (Applying fault) start x old now new first middle last out_first out going told gives takes count reading = absurd reading
 
 -- the lines with one more
 lines_more : {X : Type 0} (Step : X → Request → Reply → X → Type 0) (command : Command) (start x : X)
@@ -149,18 +159,32 @@ lines_more Step command start x old now new first middle last out_first out goin
     asks_more going.asked (request_of command) given.0 (lines_ahead old b) (lines_ahead now again.0) (lines_ahead new a)
     (going.lines b again.0 was again.1) given.1 given.2
 
+-- so it is with what was taken
+taken_more : {X : Type 0} (Step : X → Request → Reply → X → Type 0) (command : Command) (start x : X)
+    (old now new : LineState) (first middle last out_first out : Option (List ℕ)) → (going : Going Step start x old now first middle out_first out)
+    → is_some middle ≡ is_some first → WhereBothTold middle last (TakesCommand (Ok (Some command)) now new)
+    → WhereBothTold first last (λ b a. AreTaken (length (going.asked ++ request_of command ∷ [])) old new b a × HoldsFew new)
+taken_more Step command start x old now new first middle last out_first out going told takes = λ b a was is.
+    let again = told_again first middle b told was in
+    let one = takes again.0 a again.1 is in (
+      taken_on (length going.asked) (length (going.asked ++ request_of command ∷ [])) old now new b again.0 a
+          (length-append going.asked (request_of command ∷ [])) (going.taken b again.0 was again.1) one.0,
+      one.1,
+    )
+
 -- a command is answered
 pub goes_on : {X : Type 0} (Step : X → Request → Reply → X → Type 0) (Fails : X → Request → ApplyFault → X → Type 0) (command : Command) (start x y : X)
     (old now new : LineState) (first middle last out_first out out_last : Option (List ℕ)) → Going Step start x old now first middle out_first out
     → is_some middle ≡ is_some first → WhereBothTold middle last (λ b a. GivesCommand (Ok (Some command)) (lines_ahead now b) (lines_ahead new a))
-    → CountsCommand (Ok (Some command)) now new → is_some out ≡ is_some out_first
+    → WhereBothTold middle last (TakesCommand (Ok (Some command)) now new) → CountsCommand (Ok (Some command)) now new → is_some out ≡ is_some out_first
     → AnswersOne Step Fails (Ok tt) x (request_of command) y out out_last → Going Step start y old new first last out_first out_last
-goes_on Step Fails command start x y old now new first middle last out_first out out_last going told gives count out_told answer = record {
+goes_on Step Fails command start x y old now new first middle last out_first out out_last going told gives takes count out_told answer = record {
   asked = going.asked ++ request_of command ∷ [];
   replies = going.replies ++ answer.0 ∷ [];
   answered = Then going.answered answer.1;
   given = omega (arith, count.0, going.given, length-append going.asked (request_of command ∷ []));
   lines = lines_more Step command start x old now new first middle last out_first out going told gives;
+  taken = λ b a was is. (taken_more Step command start x old now new first middle last out_first out going told takes b a was is).0;
   printed = λ b a was is.
       let again = told_again out_first out b out_told was in
       answer.2 again.0 a again.1 is ∙ ap (λ text. text ++ spell_reply answer.0) (going.printed b again.0 was again.1)
@@ -171,35 +195,42 @@ goes_on Step Fails command start x y old now new first middle last out_first out
 pub stops_answering : {X : Type 0} (Step : X → Request → Reply → X → Type 0) (Fails : X → Request → ApplyFault → X → Type 0) (fault : ScriptFault) (command : Command)
     (start x y : X) (old now new : LineState) (first middle last out_first out out_last : Option (List ℕ)) → Going Step start x old now first middle out_first out
     → is_some middle ≡ is_some first → WhereBothTold middle last (λ b a. GivesCommand (Ok (Some command)) (lines_ahead now b) (lines_ahead new a))
-    → is_some out ≡ is_some out_first → AnswersOne Step Fails (Err fault) x (request_of command) y out out_last
+    → WhereBothTold middle last (TakesCommand (Ok (Some command)) now new) → is_some out ≡ is_some out_first → AnswersOne Step Fails (Err fault) x (request_of command) y out out_last
     → Ran Step Fails (Err fault) start y old new first last out_first out_last
-stops_answering Step Fails (BadLine line) command start x y old now new first middle last out_first out out_last going told gives out_told answer = absurd answer
-stops_answering Step Fails ReadFault command start x y old now new first middle last out_first out out_last going told gives out_told answer = absurd answer
-stops_answering Step Fails WriteFault command start x y old now new first middle last out_first out out_last going told gives out_told answer = record {
+stops_answering Step Fails (BadLine line) command start x y old now new first middle last out_first out out_last going told gives takes out_told answer = absurd answer
+stops_answering Step Fails ReadFault command start x y old now new first middle last out_first out out_last going told gives takes out_told answer = absurd answer
+stops_answering Step Fails WriteFault command start x y old now new first middle last out_first out out_last going told gives takes out_told answer = record {
   asked = going.asked ++ request_of command ∷ [];
   replies = going.replies ++ answer.0 ∷ [];
   stands = Then going.answered answer.1;
   lines = lines_more Step command start x old now new first middle last out_first out going told gives;
   number = tt;
+  taken = λ b a was is.
+      let more = taken_more Step command start x old now new first middle last out_first out going told takes b a was is in
+      taken_few (length (going.asked ++ request_of command ∷ [])) old new b a more.0 more.1;
   printed = λ b a was is.
       let again = told_again out_first out b out_told was in
       let cut = answer.2 again.0 a again.1 is in
       last_is_cut going.replies answer.0 cut.0 b again.0 a (going.printed b again.0 was again.1) cut.1;
 }
-stops_answering Step Fails OutOfMemory command start x y old now new first middle last out_first out out_last going told gives out_told answer = record {
+stops_answering Step Fails OutOfMemory command start x y old now new first middle last out_first out out_last going told gives takes out_told answer = record {
   asked = going.asked ++ request_of command ∷ [];
   replies = going.replies ++ answer.0 ∷ [];
   stands = Then going.answered answer.1;
   lines = λ b a was is. (lines_ahead new a, lines_more Step command start x old now new first middle last out_first out going told gives b a was is);
   number = tt;
+  taken = λ b a was is. tt;
   printed = λ b a was is.
       last_is_cut going.replies answer.0 0 b a a (going.printed b a was (sym answer.2 ∙ is)) (sym (append-nil a));
 }
-stops_answering Step Fails (Applying fault) command start x y old now new first middle last out_first out out_last going told gives out_told answer = record {
+stops_answering Step Fails (Applying fault) command start x y old now new first middle last out_first out out_last going told gives takes out_told answer = record {
   asked = going.asked ++ request_of command ∷ [];
   replies = going.replies;
   stands = (x, going.asked, request_of command, refl, going.answered, answer.0);
   lines = lines_more Step command start x old now new first middle last out_first out going told gives;
   number = tt;
+  taken = λ b a was is.
+      let more = taken_more Step command start x old now new first middle last out_first out going told takes b a was is in
+      taken_few (length (going.asked ++ request_of command ∷ [])) old new b a more.0 more.1;
   printed = λ b a was is. going.printed b a was (sym answer.1 ∙ is);
 }

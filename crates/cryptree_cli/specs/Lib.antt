@@ -9,5 +9,6 @@ pub mod Refusing
 pub mod Running
 pub mod Script
 pub mod Status
+pub mod Taking
 pub mod Top
 pub mod Words

@@ -18,7 +18,8 @@ use Rattle.journal_bytes.specs.Journals.{ShowsJournal, StandsForJournal}
 use Rattle.journal_bytes.specs.Script.{answer, draws_of, journal_then, opened, script_going, script_replies}
 use Rattle.store_owner.specs.Drawing.{AreKeys, joined}
 use Rattle.cryptree_cli.specs.KeyLine.{owner_key}
-use Rattle.cryptree_cli.specs.Lines.{InputLine, IsOneLine, input_limit, lines_of}
+use Rattle.cryptree_cli.specs.Input.{TakesLines}
+use Rattle.cryptree_cli.specs.Lines.{AreOfLines, InputLine, IsOneLine, input_limit, lines_of}
 use Rattle.cryptree_cli.specs.Lines.InputLine.{Whole, TooLong}
 use Rattle.cryptree_cli.specs.Script.{Asks, IsBadFirst, PrintsCut, spell_replies}
 use Rattle.commit_journal.specs.declared.fault.OpenFault.{OpenFault}
@@ -348,3 +349,32 @@ abbrev pub ReadsWholeTyped : List ℕ → List ℕ → Type 0
 ReadsWholeTyped typed left =
     ((front : List ℕ) × (room : ℕ) × IsOneLine front × (lines_in typed ≡ lines_of room (front ++ left)))
     ⊎ ReadsWhole (lines_typed typed) left
+
+-- ---- how much of the input was taken
+
+-- the number of the line at which it ended, where so many behind the first were answered: the first, where the store wasn't opened; the bad
+-- line; the one whose reply wasn't printed; or the one behind those that were answered. None where it read to the end, or nothing is said
+abbrev pub line_ended : Status → ℕ → Option ℕ
+line_ended statuses.Done answered = None
+line_ended statuses.ReadFault answered = None
+line_ended statuses.OutOfMemory answered = None
+line_ended (statuses.BadScript line) answered = Some line
+line_ended statuses.WriteFault answered = Some (answered + 1)
+line_ended statuses.RandomFault answered = Some (answered + 2)
+line_ended (statuses.RandomShort left need) answered = Some (answered + 2)
+line_ended statuses.DiskFault answered = Some (answered + 2)
+line_ended _ answered = Some 1
+
+-- what was taken goes to that line's end, and little past it
+abbrev pub TakesTo : Option ℕ → List ℕ → List ℕ → Type 0
+TakesTo None typed left = Unit {0}
+TakesTo (Some line) typed left = TakesLines line typed left
+
+-- so it is for whatever line was taken before those that were to come
+abbrev pub TakesBehindFirst : (List ℕ → List ℕ) → Option ℕ → List ℕ → List ℕ → Type 0
+TakesBehindFirst ahead end before left = (front typed : List ℕ) → AreOfLines 1 front → typed ≡ front ++ ahead before → TakesTo end typed left
+
+-- The lines of a run, and how much was taken: it follows from those that were answered, which the printed replies tell.
+pub record RanTaking (status : Status) (lines : List ℕ → List InputLine) (Takes : Option ℕ → List ℕ → List ℕ → Type 0) (typed left before after : Option (List ℕ)) : Type 0 where
+  pub ran : RanLines status lines typed before after
+  pub takes : WhereBothTold typed left (Takes (line_ended status (length ran.asked)))

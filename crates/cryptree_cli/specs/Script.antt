@@ -7,6 +7,7 @@ use Rattle.cry_base.specs.Requests.{Request, request_of}
 use Rattle.cry_io.specs.Told.{WhereBothTold}
 use Rattle.cryptree_cli.specs.Lines.{InputLine, LineState, lines_ahead}
 use Rattle.cryptree_cli.specs.Lines.InputLine.{Whole, TooLong}
+use Rattle.cryptree_cli.specs.Taking.{TakenBy}
 use Rattle.cryptree_cli.specs.declared.script.ScriptFault.{ScriptFault}
 use Rattle.cryptree_cli.specs.declared.script.ScriptFault.TheVariants as script
 use Rattle.script_text.specs.Commands.{request_in}
@@ -112,7 +113,7 @@ abbrev pub NumbersBad : Result (Unit {0}) ScriptFault → ℕ → Type 0
 NumbersBad (Err (script.BadLine line)) next = line ≡ next
 NumbersBad _ next = Unit {0}
 
--- What was asked and answered, how the state came about, and what was printed.
+-- What was asked and answered, how the state came about, what was taken of the input, and what was printed.
 pub record Ran {X : Type 0} (Step : X → Request → Reply → X → Type 0) (Fails : X → Request → ApplyFault → X → Type 0) (result : Result (Unit {0}) ScriptFault)
     (start end : X) (old new : LineState) (left_before left_after written_before written_after : Option (List ℕ)) : Type 0 where
   pub asked : List Request
@@ -120,4 +121,5 @@ pub record Ran {X : Type 0} (Step : X → Request → Reply → X → Type 0) (F
   pub stands : Stands Step Fails result start asked replies end
   pub lines : WhereBothTold left_before left_after (λ before after. TakesLines result asked (lines_ahead old before) (lines_ahead new after))
   pub number : NumbersBad result (old.given + length asked + 1)
+  pub taken : WhereBothTold left_before left_after (TakenBy result (length asked) old)
   pub printed : WhereBothTold written_before written_after (PrintsReplies result replies)

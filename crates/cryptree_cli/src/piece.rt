@@ -28,7 +28,7 @@ impl Model for Piece {
 }
 
 impl Piece {
-    /// Of no bytes.
+    /// Before the first read.
     pub(crate) fn empty() -> Piece
         ensures { result ≡ [] }
     {

@@ -8,11 +8,12 @@ ghost use Rattle.public_fold.specs.Journal.{Journal};
 ghost use Rattle.journal_bytes.specs.Bytes.{image_of};
 ghost use Rattle.journal_bytes.specs.Script.{opened};
 ghost use Rattle.store_owner.specs.Sessions.{StandsAt};
-ghost use Rattle.cryptree_cli.specs.Lines.{IsUnended, lines_ahead};
+ghost use Rattle.cryptree_cli.specs.Lines.{IsUnended, bytes_ahead, lines_ahead};
 ghost use Rattle.cryptree_cli.specs.Refusing.{Refuses, is_refusal};
 ghost use Rattle.cryptree_cli.specs.Running as running;
-ghost use Rattle.cryptree_cli.specs.Running.{CountsOwner, Ends, EndsTyped, KeepsFrom, FirstIsBad, GivesOwner, HasBadLine, Judges, JudgesTyped, RanDry, RanLines, ReadsWhole, ReadsWholeTyped, is_after_opening, is_before_opening, is_run_answer, key_in_lines, lines_in, lines_typed, seen_from, version_limits};
+ghost use Rattle.cryptree_cli.specs.Running.{CountsOwner, Ends, EndsTyped, KeepsFrom, FirstIsBad, GivesOwner, HasBadLine, Judges, JudgesTyped, RanDry, RanLines, RanTaking, ReadsWhole, ReadsWholeTyped, TakesBehindFirst, TakesTo, is_after_opening, is_before_opening, is_run_answer, key_in_lines, lines_in, lines_typed, seen_from, version_limits};
 ghost use Rattle.cryptree_cli.specs.Script.{IsReading, ReadsByCount};
+ghost use Rattle.cryptree_cli.specs.Taking.{TakesOne};
 
 use crate::key_line::read_owner;
 use crate::lines::{LineReader, Next, NextFault};
@@ -44,6 +45,7 @@ pub(crate) fn run<S: Source, R: Source, D: Disk, W: Sink>(
     ensures ran { WhereTold (S.left input.old) (λ typed. EndsTyped result typed
         (seen_from (R.left random.old) (R.left random.new) (D.shown disk.old) (D.shown disk.new) (W.written out.old) (W.written out.new)) (D.may_leave disk.new)) }
     ensures lines { RanLines result lines_typed (S.left input.old) (W.written out.old) (W.written out.new) }
+    ensures takes { RanTaking result lines_typed TakesTo (S.left input.old) (S.left input.new) (W.written out.old) (W.written out.new) }
     ensures bad_line { WhereTold (S.left input.old) (λ typed. HasBadLine (lines_typed typed) → result ≢ Status.Done) }
     ensures key_line { result ≡ Status.BadScript 1 → WhereTold (S.left input.old) (λ typed. key_in_lines (lines_in typed) ≡ None) }
     ensures short { (left need : ℕ) → result ≡ Status.RandomShort left need → RanDry left need (R.left random.old) (R.left random.new) }
@@ -87,6 +89,7 @@ fn first_owner<S: Source>(
 ) -> Result<[u8; 32], ScriptFault>
     ensures told { is_some (S.left input.new) ≡ is_some (S.left input.old) }
     ensures gives { WhereBothTold (S.left input.old) (S.left input.new) (λ before after. GivesOwner result (lines_ahead reader.old before) (lines_ahead reader.new after)) }
+    ensures takes { WhereBothTold (S.left input.old) (S.left input.new) (TakesOne result reader.old reader.new) }
     ensures count { CountsOwner result reader.old.given reader.new.given }
     ensures faults { IfErr result IsReading }
     ensures unended { result ≡ Err ScriptFault.ReadFault → IsUnended reader.new }
@@ -124,6 +127,7 @@ fn apply_lines<S: Source, R: Source, D: Disk, W: Sink>(
         Ends result version_limits key m (lines_ahead reader left)
         (seen_from (R.left random.old) (R.left random.new) was (D.shown disk.new) (W.written out.old) (W.written out.new)) (D.may_leave disk.new)) }
     ensures lines { RanLines result (lines_ahead reader) (S.left input.old) (W.written out.old) (W.written out.new) }
+    ensures takes { RanTaking result (lines_ahead reader) (TakesBehindFirst (bytes_ahead reader)) (S.left input.old) (S.left input.new) (W.written out.old) (W.written out.new) }
     ensures short { (left need : ℕ) → result ≡ Status.RandomShort left need → RanDry left need (R.left random.old) (R.left random.new) }
     ensures none_of_bytes { (verdict : Option Failure) → verdict ≡ None → Judges result verdict }
     ensures read_to_end { result ≡ Status.Done → WhereTold (S.left input.new) (λ rest. rest ≡ []) }

@@ -5,6 +5,7 @@ ghost use Rattle.cry_base.specs.declared.commands.Reply.{Reply};
 ghost use Rattle.cry_io.specs.Told.{WhereTold, WhereBothTold};
 ghost use Rattle.cryptree_cli.specs.Lines.{IsUnended, lines_ahead};
 ghost use Rattle.cryptree_cli.specs.Script.{GivesCommand, CountsCommand, ReadsByCount, AnswersOne, IsReading, Ran, StaysReady, WritesByCount};
+ghost use Rattle.cryptree_cli.specs.Taking.{TakesCommand};
 
 use crate::lines::{LineReader, Next, NextFault};
 use crate::outside::print;
@@ -98,6 +99,7 @@ fn next_command<S: Source>(
 ) -> Result<Option<Command>, ScriptFault>
     ensures told { is_some (S.left input.new) ≡ is_some (S.left input.old) }
     ensures gives { WhereBothTold (S.left input.old) (S.left input.new) (λ before after. GivesCommand result (lines_ahead reader.old before) (lines_ahead reader.new after)) }
+    ensures takes { WhereBothTold (S.left input.old) (S.left input.new) (TakesCommand result reader.old reader.new) }
     ensures to_end { result ≡ Ok None → WhereTold (S.left input.new) (λ after. after ≡ []) }
     ensures unended { result ≡ Err ScriptFault.ReadFault → IsUnended reader.new }
     ensures count { CountsCommand result reader.old reader.new }

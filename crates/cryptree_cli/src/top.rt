@@ -5,7 +5,7 @@ ghost use Rattle.cry_io.specs.Told.{WhereTold, WhereBothTold};
 ghost use Rattle.cryptree_cli.specs.Journals.{AnswersJournal, line_of, view_of};
 ghost use Rattle.cryptree_cli.specs.Listing.{Reads, is_before_read, is_list_answer, is_open_answer, list_answer, open_answer};
 ghost use Rattle.cryptree_cli.specs.Refusing.{Refuses, is_refusal};
-ghost use Rattle.cryptree_cli.specs.Running.{EndsTyped, FirstIsBad, HasBadLine, JudgesTyped, RanDry, RanLines, ReadsWholeTyped, is_after_opening, is_before_opening, is_run_answer, key_in_lines, lines_in, lines_typed, seen_from};
+ghost use Rattle.cryptree_cli.specs.Running.{EndsTyped, FirstIsBad, HasBadLine, JudgesTyped, RanDry, RanLines, RanTaking, ReadsWholeTyped, TakesTo, is_after_opening, is_before_opening, is_run_answer, key_in_lines, lines_in, lines_typed, seen_from};
 ghost use Rattle.cryptree_cli.specs.Status.{is_make_answer, is_before_draw, is_before_write, is_before_print};
 ghost use Rattle.cryptree_cli.specs.Top.{IsMake, IsRun, IsList, IsOpen, IsReader, Makes, PrintsAll, PrintsFront, IsShort, EndsShort, text_of};
 ghost use Rattle.cryptree_cli.specs.Words.{form_of_words, path_in_words};
@@ -69,12 +69,14 @@ pub fn top<S: Source, R: Source, D: Disk, W: Sink>(
     // What `run` does: it opens the store with the key that the first line hands in, and answers each command before the next
     // is read. Whatever the disk shows: line 1 is bad where it hands in no key, and there alone; the lines behind it are answered
     // in their order, up to a bad one or a fault, and these answers are what is printed; and the random source is said to end
-    // only where it did, in a command's draw. A store that it refuses for its bytes is as it was, but for slots that a stop had left
+    // only where it did, in a command's draw. Of the input no more is taken than to the end of the line at which it ends, and at most
+    // 65,536 bytes past it. A store that it refuses for its bytes is as it was, but for slots that a stop had left
     // without their keys.
     ensures run_first_line { IsRun words.now.items → WhereTold (S.left input.old) (λ typed. key_in_lines (lines_in typed) ≡ None → FirstIsBad result) }
     ensures run_judged { IsRun words.now.items → WhereTold (S.left input.old) (λ typed. WhereTold (D.shown disk.old) (λ image. JudgesTyped result typed image)) }
     ensures run_key_line { IsRun words.now.items → result ≡ Status.BadScript 1 → WhereTold (S.left input.old) (λ typed. key_in_lines (lines_in typed) ≡ None) }
     ensures run_lines { IsRun words.now.items → RanLines result lines_typed (S.left input.old) (W.written out.old) (W.written out.new) }
+    ensures run_takes { IsRun words.now.items → RanTaking result lines_typed TakesTo (S.left input.old) (S.left input.new) (W.written out.old) (W.written out.new) }
     ensures run_bad_line { IsRun words.now.items → WhereTold (S.left input.old) (λ typed. HasBadLine (lines_typed typed) → result ≢ Status.Done) }
     ensures run_short { IsRun words.now.items → (left need : ℕ) → result ≡ Status.RandomShort left need → RanDry left need (R.left random.old) (R.left random.new) }
 

@@ -6,3 +6,5 @@ pub mod HexText
 pub mod Numbers
 pub mod PrintedLengths
 pub mod Results
+pub mod LineEnds
+pub mod Gauges

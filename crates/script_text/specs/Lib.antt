@@ -1,3 +1,5 @@
 pub mod Commands
+pub mod Cutting
+pub mod Gauging
 pub mod Printing
 pub mod Reading

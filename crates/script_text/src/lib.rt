@@ -2,13 +2,17 @@
 #![tactic(auto)]
 
 mod commands;
+mod cutter;
 mod fault;
+mod fed;
+mod gauge;
 mod hex_text;
 pub mod laws;
 mod printing;
 mod reading;
 
 pub use commands::read_line;
+pub use cutter::Cutter;
 pub use fault::LineFault;
 pub use printing::{print_line, print_owner, print_reply};
 pub use reading::read_bundle;

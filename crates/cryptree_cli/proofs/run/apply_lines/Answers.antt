@@ -1,7 +1,7 @@
 use Rattle.std.proofs.Common.{◌≡◌, ◌≤◌, false, Ok, Err, sym, ap, subst, ◌∙◌}
-use Rattle.cryptree_cli.specs.Lines.{lines_ahead}
-use Rattle.cryptree_cli.specs.Running.{Ends, RanLines, version_limits}
-use Rattle.cryptree_cli.proofs.LinesRun.{ran_lines}
+use Rattle.cryptree_cli.specs.Lines.{bytes_ahead, lines_ahead}
+use Rattle.cryptree_cli.specs.Running.{Ends, RanLines, RanTaking, TakesBehindFirst, version_limits}
+use Rattle.cryptree_cli.proofs.LinesRun.{ran_lines, ran_taking}
 use Rattle.cryptree_cli.proofs.ReadFaults.{cut_lines}
 use Rattle.cryptree_cli.proofs.RunLemmas.{Fails, Step, calm_but, calm_is, disk_fault, ends_so, goes_on, random_fault, random_short}
 use Rattle.store_owner.specs.Owned.{OwnerView}
@@ -152,6 +152,27 @@ pub returns-clause-lines : goal.returns-clause-lines
 returns-clause-lines g c =
     subst (λ status. RanLines status (lines_ahead c.args.reader) (g.S.Source.left c.args.input.now) (g.W.Sink.written c.args.out.now) (g.W.Sink.written c.run_lines.new.out)) (sym c.script_status.ensures)
     (ran_lines (OwnerView × g.row.R.Denot × g.row.D.Denot)
+    (Step g.row.R.Denot g.row.D.Denot g.R.Source.left g.R.Source.faults g.D.Disk.shown g.D.Disk.faults g.D.Disk.may_leave)
+    (Fails g.row.R.Denot g.row.D.Denot g.R.Source.left g.R.Source.faults g.D.Disk.shown g.D.Disk.faults g.D.Disk.may_leave)
+    (c.args.owner, c.args.random.now, c.args.disk.now) (c.run_lines.new.owner, c.run_lines.new.random, c.run_lines.new.disk)
+    c.args.reader c.run_lines.new.reader (g.S.Source.left c.args.input.now) (g.S.Source.left c.run_lines.new.input)
+    (g.W.Sink.written c.args.out.now) (g.W.Sink.written c.run_lines.new.out)
+    c.in-Err.ensures.input_told (Err c.in-Err.fault) c.in-Err.ensures.ran c.requires.second)
+
+pub returns-in-Ok-clause-takes : goal.returns-in-Ok-clause-takes
+returns-in-Ok-clause-takes g c =
+    ran_taking (OwnerView × g.row.R.Denot × g.row.D.Denot)
+    (Step g.row.R.Denot g.row.D.Denot g.R.Source.left g.R.Source.faults g.D.Disk.shown g.D.Disk.faults g.D.Disk.may_leave)
+    (Fails g.row.R.Denot g.row.D.Denot g.R.Source.left g.R.Source.faults g.D.Disk.shown g.D.Disk.faults g.D.Disk.may_leave)
+    (c.args.owner, c.args.random.now, c.args.disk.now) (c.run_lines.new.owner, c.run_lines.new.random, c.run_lines.new.disk)
+    c.args.reader c.run_lines.new.reader (g.S.Source.left c.args.input.now) (g.S.Source.left c.run_lines.new.input)
+    (g.W.Sink.written c.args.out.now) (g.W.Sink.written c.run_lines.new.out)
+    c.in-Ok.ensures.input_told (Ok tt) c.in-Ok.ensures.ran c.requires.second
+
+pub returns-clause-takes : goal.returns-clause-takes
+returns-clause-takes g c =
+    subst (λ status. RanTaking status (lines_ahead c.args.reader) (TakesBehindFirst (bytes_ahead c.args.reader)) (g.S.Source.left c.args.input.now) (g.S.Source.left c.run_lines.new.input) (g.W.Sink.written c.args.out.now) (g.W.Sink.written c.run_lines.new.out)) (sym c.script_status.ensures)
+    (ran_taking (OwnerView × g.row.R.Denot × g.row.D.Denot)
     (Step g.row.R.Denot g.row.D.Denot g.R.Source.left g.R.Source.faults g.D.Disk.shown g.D.Disk.faults g.D.Disk.may_leave)
     (Fails g.row.R.Denot g.row.D.Denot g.R.Source.left g.R.Source.faults g.D.Disk.shown g.D.Disk.faults g.D.Disk.may_leave)
     (c.args.owner, c.args.random.now, c.args.disk.now) (c.run_lines.new.owner, c.run_lines.new.random, c.run_lines.new.disk)

@@ -4,12 +4,13 @@ use Rattle.journal_bytes.specs.Bytes.{image_of}
 use Rattle.journal_bytes.specs.Journals.{StandsForJournal}
 use Rattle.cryptree_cli.specs.Lines.{lines_ahead}
 use Rattle.cryptree_cli.specs.Refusing.{is_refusal}
-use Rattle.cryptree_cli.specs.Running.{Ends, FirstIsBad, Judges, KeepsFrom, RanLines, ReadsWhole, Seen, lines_behind, lines_in, lines_typed, open_status, version_limits}
-use Rattle.cryptree_cli.proofs.LinesRun.{bad_is_never_done, lines_as_typed, unopened_lines, unread_lines}
+use Rattle.cryptree_cli.specs.Running.{Ends, FirstIsBad, Judges, KeepsFrom, RanLines, RanTaking, ReadsWhole, Seen, TakesTo, lines_behind, lines_in, lines_typed, open_status, version_limits}
+use Rattle.cryptree_cli.proofs.LinesRun.{bad_is_never_done, key_taken, lines_as_typed, unopened_lines, unopened_taking, unread_lines, unread_taking}
 use Rattle.cryptree_cli.proofs.ReadFaults.{cut_first, unopened_reads_none}
 use Rattle.cryptree_cli.proofs.RefusedRuns.{leaves_unopened, opened_refuses_none, reading_refuses_none, refusal_is_other, untouched}
 use Rattle.cryptree_cli.proofs.RunEnds.{still_told}
-use Rattle.cryptree_cli.proofs.RunOpening.{bad_first_is_unjudged, first_alone, first_ends, first_is_bad, gives_first, key_is_given, not_before, opened_has_no_verdict, opened_stands, reading_draws_none, same_key, seen_unopened, unopened_draws_none, unopened_ends, unopened_is_judged, unopened_is_no_line}
+use Rattle.cryptree_cli.proofs.RunOpening.{bad_first_is_unjudged, first_alone, first_ends, first_is_bad, fresh_reader, gives_first, key_is_given, not_before, opened_has_no_verdict, opened_stands, reading_draws_none, same_key, seen_unopened, unopened_draws_none, unopened_ends, unopened_is_judged, unopened_is_no_line}
+use Rattle.cryptree_cli.proofs.Takings.{taken_few}
 use Rattle.holder_client.specs.Asking.{verdict}
 use Rattle.holder_client.specs.Asking.Asking.{ToWrite}
 use Rattle.cryptree_cli.proofs.run.run.Goals as goal
@@ -128,6 +129,33 @@ returns-in-Ok-open_store-clause-lines g c =
     (g.W.Sink.written c.args.out.now) (g.W.Sink.written c.apply_lines.new.out) c.in-Ok.ensures.told
     (λ x y was now. (gives_first (Ok c.in-Ok.key) c.new-reader.result x (lines_ahead c.first_owner.new.reader y) c.new-reader.ensures (c.in-Ok.ensures.gives x y was now)).1)
     c.apply_lines.ensures.lines
+
+pub returns-in-Err-clause-takes : goal.returns-in-Err-clause-takes
+returns-in-Err-clause-takes g c =
+    subst (λ status. RanTaking status lines_typed TakesTo (g.S.Source.left c.args.input.now) (g.S.Source.left c.first_owner.new.input) (g.W.Sink.written c.args.out.now) (g.W.Sink.written c.args.out.now)) (sym c.script_status.ensures)
+    (unread_taking lines_typed (g.S.Source.left c.args.input.now) (g.W.Sink.written c.args.out.now) (g.S.Source.left c.first_owner.new.input) c.in-Err.fault c.in-Err.ensures.faults _ _ c.in-Err.ensures.count
+    c.new-reader.result c.first_owner.new.reader c.new-reader.ensures c.in-Err.ensures.takes)
+
+pub returns-in-Err-open_store-clause-takes : goal.returns-in-Err-open_store-clause-takes
+returns-in-Err-open_store-clause-takes g c =
+    subst (λ status. RanTaking status lines_typed TakesTo (g.S.Source.left c.args.input.now) (g.S.Source.left c.first_owner.new.input) (g.W.Sink.written c.args.out.now) (g.W.Sink.written c.args.out.now)) (sym c.open_status.ensures)
+    (unopened_taking lines_typed (g.S.Source.left c.args.input.now) (g.W.Sink.written c.args.out.now) (g.S.Source.left c.first_owner.new.input) c.in-Err-open_store.fault
+    (λ x y was now.
+    let one = c.in-Ok.ensures.takes x y was now in
+    taken_few 1 fresh_reader c.first_owner.new.reader x y (key_taken c.new-reader.result c.first_owner.new.reader x y c.new-reader.ensures one.0) one.1))
+
+pub returns-in-Ok-open_store-clause-takes : goal.returns-in-Ok-open_store-clause-takes
+returns-in-Ok-open_store-clause-takes g c = record {
+  ran = lines_as_typed c.apply_lines.result (lines_ahead c.first_owner.new.reader) lines_typed (g.S.Source.left c.args.input.now) (g.S.Source.left c.first_owner.new.input)
+      (g.W.Sink.written c.args.out.now) (g.W.Sink.written c.apply_lines.new.out) c.in-Ok.ensures.told
+      (λ x y was now. (gives_first (Ok c.in-Ok.key) c.new-reader.result x (lines_ahead c.first_owner.new.reader y) c.new-reader.ensures (c.in-Ok.ensures.gives x y was now)).1)
+      c.apply_lines.ensures.takes.ran;
+  takes = λ x y was now.
+      let after = still_told (g.S.Source.left c.first_owner.new.input) (g.S.Source.left c.args.input.now) x c.in-Ok.ensures.told was in
+      let one = c.in-Ok.ensures.takes x after.0 was after.1 in
+      let first = key_taken c.new-reader.result c.first_owner.new.reader x after.0 c.new-reader.ensures one.0 in
+      c.apply_lines.ensures.takes.takes after.0 y after.1 now first.0 x first.1 first.2;
+}
 
 pub returns-in-Err-clause-bad_line : goal.returns-in-Err-clause-bad_line
 returns-in-Err-clause-bad_line g c = bad_is_never_done c.script_status.result lines_typed (g.S.Source.left c.args.input.now) _ _ (returns-in-Err-clause-lines g c)

@@ -1,7 +1,10 @@
 use Rattle.std.proofs.Common.{◌≡◌, None, Err, ap, subst, sym, ◌∙◌}
 use Rattle.script_text.specs.Commands.{Reads, request_in}
-use Rattle.cryptree_cli.specs.Lines.{Gives, lines_ahead}
+use Rattle.cryptree_cli.specs.Lines.{Gives, Takes, bytes_ahead, lines_ahead}
 use Rattle.cryptree_cli.specs.Script.{IsBadFirst}
+use Rattle.cryptree_cli.specs.declared.lines.Next.TheVariants.{Line, PastLimit}
+use Rattle.cryptree_cli.proofs.InputLemmas.{taken_one}
+use Rattle.cryptree_cli.proofs.Takings.{line_taken}
 use Rattle.cryptree_cli.proofs.script.next_command.Goals as goal
 
 pub returns-in-Ok-End-clause-gives : goal.returns-in-Ok-End-clause-gives
@@ -28,3 +31,21 @@ returns-in-Err-BadLine-clause-gives g c = λ x y was now.
     let bad : request_in c.as_slice.result.now ≡ None =
     subst (λ fault. Reads (Err fault) (request_in c.as_slice.result.now)) c.in-Err-BadLine.field-0-is c.in-Err-BadLine.ensures.reads in
     subst IsBadFirst (sym given) (ap request_in (sym c.as_slice.ensures) ∙ bad)
+
+pub returns-in-Ok-clause-takes : goal.returns-in-Ok-clause-takes
+returns-in-Ok-clause-takes g c = λ x y was now.
+    line_taken c.in-Ok-Line.number c.in-Ok-Line.bytes c.args.reader.now c.next_line.new.self x y
+    (subst (λ next. Takes next c.args.reader.now c.next_line.new.self (bytes_ahead c.args.reader.now x) (bytes_ahead c.next_line.new.self y)) c.in-Ok-Line.field-0-is
+    (c.in-Ok-Line.ensures.bytes x y was now))
+
+pub returns-in-Err-BadLine-clause-takes : goal.returns-in-Err-BadLine-clause-takes
+returns-in-Err-BadLine-clause-takes g c = λ x y was now.
+    taken_one (Line c.in-Ok-Line.number c.in-Ok-Line.bytes) c.args.reader.now c.next_line.new.self (bytes_ahead c.args.reader.now x) y
+    (subst (λ next. Takes next c.args.reader.now c.next_line.new.self (bytes_ahead c.args.reader.now x) (bytes_ahead c.next_line.new.self y)) c.in-Ok-Line.field-0-is
+    (c.in-Ok-Line.ensures.bytes x y was now))
+
+pub returns-in-Ok-PastLimit-clause-takes : goal.returns-in-Ok-PastLimit-clause-takes
+returns-in-Ok-PastLimit-clause-takes g c = λ x y was now.
+    taken_one (PastLimit c.in-Ok-PastLimit.number) c.args.reader.now c.next_line.new.self (bytes_ahead c.args.reader.now x) y
+    (subst (λ next. Takes next c.args.reader.now c.next_line.new.self (bytes_ahead c.args.reader.now x) (bytes_ahead c.next_line.new.self y)) c.in-Ok-PastLimit.field-0-is
+    (c.in-Ok-PastLimit.ensures.bytes x y was now))

@@ -1,6 +1,7 @@
 use Rattle.std.proofs.Common.{Ok, arith, refl, subst, ◌∙◌}
 use Rattle.cryptree_cli.specs.Lines.{lines_ahead}
 use Rattle.cryptree_cli.specs.Script.{CountsCommand, GivesCommand}
+use Rattle.cryptree_cli.specs.Taking.{TakesCommand}
 use Rattle.cryptree_cli.proofs.ScriptLemmas.{going_at_start, goes_on, ends_there, stops_reading, stops_answering}
 use Rattle.cryptree_cli.proofs.script.run_lines.Goals as goal
 
@@ -34,7 +35,7 @@ returns-in-Err-clause-ran g c =
     stops_reading g.O.Applies.answers g.O.Applies.fails c.in-Err.fault (c.args.owner.now, c.args.random.now, c.args.disk.now)
     (c.loop-command.owner, c.loop-command.random, c.loop-command.disk) c.args.reader.now c.loop-command.reader c.next_command.new.reader
     (left c.args.input.now) (left c.loop-command.input) (left c.next_command.new.input) (written c.args.out.now) (written c.loop-command.out)
-    loop.going loop.input_told c.in-Err.ensures.gives c.in-Err.ensures.count c.in-Err.ensures.faults
+    loop.going loop.input_told c.in-Err.ensures.gives c.in-Err.ensures.takes c.in-Err.ensures.count c.in-Err.ensures.faults
 
 pub returns-in-Err-answer-clause-ran : goal.returns-in-Err-answer-clause-ran
 returns-in-Err-answer-clause-ran g c =
@@ -49,6 +50,8 @@ returns-in-Err-answer-clause-ran g c =
     loop.going loop.input_told
     (λ b a was is. subst (λ o. GivesCommand (Ok o) (lines_ahead c.loop-command.reader b) (lines_ahead c.next_command.new.reader a)) c.in-Ok-Some.field-0-is
     (c.in-Ok-Some.ensures.gives b a was is))
+    (λ b a was is. subst (λ o. TakesCommand (Ok o) c.loop-command.reader c.next_command.new.reader b a) c.in-Ok-Some.field-0-is
+    (c.in-Ok-Some.ensures.takes b a was is))
     loop.out_told c.in-Err-answer.ensures.answers
 
 pub loop-command-preserved : goal.loop-command-preserved
@@ -70,6 +73,8 @@ loop-command-preserved g c =
           loop.going loop.input_told
           (λ b a was is. subst (λ o. GivesCommand (Ok o) (lines_ahead c.loop-command.reader b) (lines_ahead c.next_command.new.reader a)) c.in-Ok-Some.field-0-is
           (c.in-Ok-Some.ensures.gives b a was is))
+          (λ b a was is. subst (λ o. TakesCommand (Ok o) c.loop-command.reader c.next_command.new.reader b a) c.in-Ok-Some.field-0-is
+          (c.in-Ok-Some.ensures.takes b a was is))
           (subst (λ o. CountsCommand (Ok o) c.loop-command.reader c.next_command.new.reader) c.in-Ok-Some.field-0-is c.in-Ok-Some.ensures.count)
           loop.out_told c.in_default.ensures.answers;
     }
