@@ -33,21 +33,32 @@ class Check:
         """What `list` answers to this key, or `open` of this path, over the store's file."""
         return self.call([store, "-", "list"] if path is None else [store, "-", "open", path], bundle_line(bundle), under)
 
+    def audit(self, store, bundle):
+        """What `audit` answers to this key over the store's file."""
+        return self.call([store, "-", "audit"], bundle_line(bundle))
+
     def run(self, image, typed, random):
         """The answer of `run` to this input over a store of these bytes, with these random ones, and what it leaves."""
         store = self.put("store", image)
         return self.call([store, self.put("random", random), "run"], typed), read(store)
 
     def expect(self, what, came, due):
+        self.expect_one_of(what, came, [due])
+
+    def expect_one_of(self, what, came, dues):
         self.count += 1
-        if came != due:
-            self.wrong.append(f"{str(what)[:200]}: due {str(due)[:200]}, came {str(came)[:200]}")
+        if came not in dues:
+            self.wrong.append(f"{str(what)[:200]}: due {' or '.join(map(str, dues))[:200]}, came {str(came)[:200]}")
 
     def expect_all(self, cases):
         """Cases of what is asked, a function that asks it, and the answer due; they are asked beside one another."""
+        self.expect_all_of((what, asks, [due]) for what, asks, due in cases)
+
+    def expect_all_of(self, cases):
+        """The same where several answers are due, of which any one may come."""
         cases = list(cases)
-        for (what, _, due), came in zip(cases, self.pool.map(lambda case: case[1](), cases)):
-            self.expect(what, came, due)
+        for (what, _, dues), came in zip(cases, self.pool.map(lambda case: case[1](), cases)):
+            self.expect_one_of(what, came, dues)
 
 
 def is_left(path, due):

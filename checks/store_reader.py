@@ -3,6 +3,7 @@
 
     checks/store_reader.py STORE list         what the program prints for the bundle's line on standard input, and its status
     checks/store_reader.py STORE open PATH
+    checks/store_reader.py STORE audit
 
     a store    header, batches up to the first closed gate, and then anything
     header     "CRYPTREE", 1, check of the owner's key (32), gate (1)
@@ -14,15 +15,17 @@
     owner tag  HMAC(HMAC(owner key, 5), the tag before, the batch up to its slot, masked payload, check)
     link       seals the target's key under the source's, a content a name or a file under a key; a tag covers what is before it
     reading    the log to its end, then what its payloads make, and then the records that the key opens, one after another
+    audit      in place of these records all that right links lead to from the key, whenever they were written
 
-Checks import it: `answers` gives what `list` and `open` answer, `opened_to_write` what `run` does with the owner's line alone.
+Checks import it: `answers` gives what `list` and `open` answer, `audits` what `audit` may answer, `opened_to_write` what `run` does with
+the owner's line alone.
 """
 import functools
 import hmac
 import os
 import re
 import sys
-from collections import namedtuple
+from collections import defaultdict, namedtuple
 
 from key_step import (BYTES_OF_FILE, CONTENTS, FILE_LIMIT, GIVE, HOLDER, KEY_OF_HOLDER, LINKS, NAME_OF_FOLDER, NEW_FILE, NEW_FOLDER,
                       NEW_HOLDER, NOTES, OWNER, ROOT, SHIFT_FILE, SHIFT_FOLDER, TAKE, Head, State, sealing_role, source, target)
@@ -36,6 +39,7 @@ Bundle = namedtuple("Bundle", "holder key")  # the owner's has holder 0
 Batch = namedtuple("Batch", "at type number epoch slot masked check tag gate end")
 Payload = namedtuple("Payload", "code fields links contents")
 Record = namedtuple("Record", "at head header cipher tag")
+Key = namedtuple("Key", "id serial bytes")  # of an audit
 
 
 class Fault(Exception):
@@ -298,27 +302,22 @@ class Reading:
             self.follow(8, min(child for child in self.named if parents[child] == folder), folder)
         for folder in sorted(self.named):
             self.follow(7, folder, folder)
-            self.names[folder] = self.text(NAME_OF_FOLDER, folder, (lambda text: text == b"") if folder == 1 else NAME.fullmatch)
+            self.names[folder] = self.text(NAME_OF_FOLDER, folder)
 
     def follow(self, *edge):
         """Opens the last link of this edge between present keys."""
         batch, link = self.links[edge, (self.state.serials[source(edge)], self.state.serials[target(edge)])]
         self.keys[target(edge)] = self.opened(batch, link, source(edge))
 
-    def text(self, kind, number, is_right):
+    def text(self, kind, number):
         """Opens the last content of this kind and id, and tests its text."""
         batch, content = self.contents[kind, number]
-        text = self.opened(batch, content, sealing_role(kind, number))
-        if not is_right(text):
-            raise damaged(content.at)
+        text = tested(content, self.opened(batch, content, sealing_role(kind, number)))
         self.texts[kind, number] = text
         return text
 
     def opened(self, batch, record, role):
-        key = self.keys[role]
-        if mac(mac(key, b"\2"), record.header, record.cipher) != record.tag:
-            raise tampered(batch, record.at)
-        return xored(mac(key, b"\1"), record.head.nonce, record.cipher)
+        return opened_with(self.keys[role], batch, record)
 
     def folders(self):
         """Each named folder, ascending, with its path."""
@@ -332,7 +331,7 @@ class Reading:
         for number, home in sorted(self.state.homes.items()):
             if home in above:
                 self.follow(9, home, number)
-                text = self.text(BYTES_OF_FILE, number, is_file)
+                text = self.text(BYTES_OF_FILE, number)
                 yield above[home].rstrip(b"/") + b"/" + text[1:1 + text[0]], text[1 + text[0]:]
 
     def folder_line(self, folder, path):
@@ -353,6 +352,21 @@ class Reading:
         return found[0]
 
 
+def opened_with(key, batch, record):
+    """What a record of this batch holds for who has the key."""
+    if mac(mac(key, b"\2"), record.header, record.cipher) != record.tag:
+        raise tampered(batch, record.at)
+    return xored(mac(key, b"\1"), record.head.nonce, record.cipher)
+
+
+def tested(content, text):
+    """The text of this content, if it has the form of its kind."""
+    kind, (number,) = content.head[:2]
+    if kind == NAME_OF_FOLDER and (text != b"" if number == 1 else not NAME.fullmatch(text)) or kind == BYTES_OF_FILE and not is_file(text):
+        raise damaged(content.at)
+    return text
+
+
 def file_line(path, data):
     return b"file " + path + b" " + data.hex().encode() + b"\n"
 
@@ -364,6 +378,55 @@ def is_path(path):
 def is_file(text):
     length = text[0]
     return 1 <= length < len(text) and NAME.fullmatch(text[1:1 + length]) and len(text) - 1 - length <= FILE_LIMIT
+
+
+# what an audit opens
+
+class Audit:
+    """All that right links lead to from a key, and the faults of the records that are bad under what they lead to."""
+
+    def __init__(self, payloads, own):
+        self.keys, self.faults, self.lines = {own}, [], []
+        links, beyond = defaultdict(list), [own]
+        for batch, payload in payloads:
+            for link in payload.links:
+                links[link.head.ids[0], link.head.serials[0]].append((batch.number, link))
+        while beyond:
+            key = beyond.pop()
+            for batch, link in links[key.id, key.serial]:
+                self.noting_faults(self.follow, batch, link, key, beyond)
+        self.known = defaultdict(list)
+        for key in self.keys:
+            self.known[key.id, key.serial].append(key)
+        for batch, payload in payloads:
+            for content in payload.contents:
+                self.see(batch.number, content)
+
+    def noting_faults(self, step, *given):
+        try:
+            step(*given)
+        except Fault as fault:
+            self.faults.append(fault.answer)
+
+    def follow(self, batch, link, source, beyond):
+        found = Key(link.head.ids[1], link.head.serials[1], opened_with(source.bytes, batch, link))
+        if found not in self.keys:
+            self.keys.add(found)
+            beyond.append(found)
+
+    def see(self, batch, content):
+        kind, (number,), (serial,) = content.head[:3]
+        for key in self.known[0 if kind == KEY_OF_HOLDER else number, serial]:
+            self.noting_faults(self.open, batch, content, key)
+
+    def open(self, batch, content, key):
+        kind, (number,) = content.head[:2]
+        text = tested(content, opened_with(key.bytes, batch, content))
+        if kind == NAME_OF_FOLDER:
+            self.lines.append(b"folder %d %d %s\n" % (batch, number, text))
+        elif kind == BYTES_OF_FILE:
+            name, data = text[1:1 + text[0]], text[1 + text[0]:]
+            self.lines.append(b"file %d %d %s %s\n" % (batch, number, name, data.hex().encode()))
 
 
 # the answers
@@ -378,14 +441,31 @@ def answers(image, bundle, asked):
 
 
 def read(image, bundle):
+    return Reading(*admitted(image, bundle)[1:], bundle)
+
+
+def admitted(image, bundle):
+    """The batches of the log with their payloads, and what they make, for a key that is one of the store."""
     owner = None if bundle.holder else bundle.key
     test_header(image, owner)
-    state, links, contents = followed(log(image, owner))
+    batches = log(image, owner)
+    state, links, contents = followed(batches)
     if bundle.holder > len(state.checks):
         raise no_holder(len(state.checks))
     if bundle.holder and mac(bundle.key, b"\4") != state.checks[bundle.holder - 1]:
         raise wrong_key()
-    return Reading(state, links, contents, bundle)
+    return batches, state, links, contents
+
+
+def audits(image, bundle):
+    """Each answer that `audit` may give: with several bad records any one's."""
+    try:
+        batches, state, _, _ = admitted(image, bundle)
+    except Fault as fault:
+        return frozenset([fault.answer])
+    serial = state.serials[HOLDER, bundle.holder] if bundle.holder else 0
+    audit = Audit([row for row in batches if row[1] is not None], Key(bundle.holder, serial, bundle.key))
+    return frozenset(audit.faults or [(0, b"".join(audit.lines), b"")])
 
 
 def answer(reading, path):
@@ -408,7 +488,7 @@ def opened_to_write(image, owner):
         reading = Reading(state, links, contents, Bundle(0, owner))
         reading.list()
         for number in range(1, len(state.checks) + 1):
-            reading.text(KEY_OF_HOLDER, number, lambda text: True)
+            reading.text(KEY_OF_HOLDER, number)
     except Fault as fault:
         return fault.answer, left
     return (0, b"", b""), left
@@ -442,7 +522,8 @@ def main(store, command, path=None):
         bundle = read_bundle(sys.stdin.buffer.read())
         with open(store, "rb") as file:
             image = file.read()
-        status, printed, said = answers(image, bundle, [None if path is None else os.fsencode(path)])[0]
+        asked = None if path is None else os.fsencode(path)
+        status, printed, said = min(audits(image, bundle)) if command == "audit" else answers(image, bundle, [asked])[0]
     except FileNotFoundError:
         status, printed, said = not_a_store().answer
     except Fault as fault:
@@ -453,6 +534,6 @@ def main(store, command, path=None):
 
 
 if __name__ == "__main__":
-    if (len(sys.argv), *sys.argv[2:3]) not in ((3, "list"), (4, "open")):
+    if (len(sys.argv), *sys.argv[2:3]) not in ((3, "list"), (4, "open"), (3, "audit")):
         sys.exit(__doc__)
     sys.exit(main(*sys.argv[1:]))

@@ -22,7 +22,7 @@ impl Access {
         match form {
             Form::Make => Some(Access::Make),
             Form::Run => Some(Access::Write),
-            Form::List | Form::Open => Some(Access::Read),
+            Form::List | Form::Open | Form::Audit => Some(Access::Read),
             Form::Help | Form::Version => None,
         }
     }

@@ -8,7 +8,7 @@ use Rattle.reader_laws.specs.Reading.{IsRightFor, IsWrongFor, line_shown_of, sho
 use Rattle.cryptree_cli.specs.declared.status.Status.{Status}
 use Rattle.cryptree_cli.specs.declared.status.Status.TheVariants as statuses
 use Rattle.cryptree_cli.specs.Input.{input_answer}
-use Rattle.cryptree_cli.specs.Listing.{AnswersAs, line_answer, view_answer}
+use Rattle.cryptree_cli.specs.Listing.{AnswersAs, IsExactly, line_answer, view_answer}
 
 -- what a store shows to a bundle's reader, as it is printed, or how the program ends: all of it
 abbrev pub view_of : Store → Bundle → Result (List ℕ) Status
@@ -23,6 +23,6 @@ line_of path s bundle = line_answer (line_shown_of s bundle path)
 pub record AnswersJournal (wanted : Store → Bundle → Result (List ℕ) Status) (status : Status) (typed image : List ℕ) (before after : Option (List ℕ)) : Type 0 where
   pub right : (owner : List ℕ) (m : Journal) (bundle : Bundle) → input_answer typed ≡ Ok bundle → StandsForJournal owner m image → IsHonestFor owner image m
       → IsRightFor owner (published_journal owner image m) bundle
-      → AnswersAs status (wanted (store_of (published_journal owner image m)) bundle) before after
+      → AnswersAs status (IsExactly (wanted (store_of (published_journal owner image m)) bundle)) before after
   pub wrong : (owner : List ℕ) (m : Journal) (bundle : Bundle) → input_answer typed ≡ Ok bundle → StandsForJournal owner m image → IsHonestFor owner image m
-      → IsWrongFor owner (published_journal owner image m) bundle → AnswersAs status (Err statuses.WrongKey) before after
+      → IsWrongFor owner (published_journal owner image m) bundle → AnswersAs status (IsExactly (Err statuses.WrongKey)) before after

@@ -1,5 +1,6 @@
--- What `list` and `open` answer. This project's own, docs/FORMAT.md, "Reading" and "The program".
+-- What `list`, `open` and `audit` answer. This project's own, docs/FORMAT.md, "Reading" and "The program".
 use Rattle.std.specs.Prelude.{◌≡◌, ℕ, Bool, true, false, List, [], ◌∷◌, ◌++◌, Option, Result, Ok, Err, IsOk}
+use Rattle.std.specs.List.{flat_map}
 use Rattle.cry_base.specs.Listed.{Listed}
 use Rattle.cry_base.specs.declared.client.Bundle.{Bundle}
 use Rattle.cry_io.specs.Told.{WhereTold, WhereBothTold}
@@ -7,9 +8,13 @@ use Rattle.commit_journal.specs.Answering.{NotAStore, WrongKey, Damaged, Tampere
 use Rattle.commit_journal.specs.Reading.{IsOnlyRead}
 use Rattle.holder_client.specs.declared.fault.ClientFault.{ClientFault}
 use Rattle.holder_client.specs.declared.fault.ClientFault.TheVariants as clients
-use Rattle.holder_client.specs.Asking.{line_shown}
+use Rattle.holder_client.specs.Asking.{audited, line_shown}
 use Rattle.holder_client.specs.Judging.{Failure, NoHolder, OfBytes, Unseen, shown_with}
 use Rattle.holder_client.specs.View.{Line, spell_view}
+use Rattle.holder_client.specs.Visiting.{Reading}
+use Rattle.script_text.specs.SeenLines.{seen_line}
+use Rattle.trail_audit.specs.Auditing.{MayFail}
+use Rattle.trail_audit.specs.Derived.{Passes, PlainSeen}
 use Rattle.cryptree_cli.specs.declared.input.InputFault.{InputFault}
 use Rattle.cryptree_cli.specs.declared.input.InputFault.TheVariants.{BadLine, Failed, OutOfMemory}
 use Rattle.cryptree_cli.specs.declared.status.Status.{Status}
@@ -36,18 +41,38 @@ abbrev pub line_answer : Result Line Failure → Result (List ℕ) Status
 line_answer (Ok line) = Ok (spell_view (line ∷ []))
 line_answer (Err failure) = Err (failure_status failure)
 
--- the answer for the bundle that an input hands in, if no line of it is bad
-abbrev pub answer_for : (Bundle → Result (List ℕ) Status) → Result Bundle ℕ → Result (List ℕ) Status
-answer_for shows (Ok bundle) = shows bundle
-answer_for shows (Err line) = Err (statuses.BadScript line)
+-- an audit's text, a line for each thing seen
+unfoldable pub seen_text : List PlainSeen → List ℕ
+seen_text seen = flat_map (λ s. seen_line s.batch s.node s.name s.bytes) seen
+
+-- ---- what may be answered: a text that is printed, or how the program ends
+
+-- this alone
+abbrev pub IsExactly : Result (List ℕ) Status → Result (List ℕ) Status → Type 0
+IsExactly wanted answer = wanted ≡ answer
+
+-- what an audit of an image may print: all that the right keys show, where no record is bad; or how it may end
+abbrev pub AuditGives : Bundle → List ℕ → Result (List ℕ) Status → Type 0
+AuditGives bundle image (Ok text) =
+    (r : Reading) × (audited bundle image ≡ Ok r) × ((seen : List PlainSeen) × Passes r bundle seen × (text ≡ seen_text seen))
+AuditGives bundle image (Err status) = (failure : Failure) × MayFail bundle image failure × (status ≡ failure_status failure)
+
+-- what may be answered for the bundle that an input hands in, if no line of it is bad
+abbrev pub AnswersFor : (Bundle → Result (List ℕ) Status → Type 0) → Result Bundle ℕ → Result (List ℕ) Status → Type 0
+AnswersFor Gives (Ok bundle) = Gives bundle
+AnswersFor Gives (Err line) = IsExactly (Err (statuses.BadScript line))
 
 -- what `list` answers to an input and an image: the input first, then the log, then its records
-abbrev pub list_answer : List ℕ → List ℕ → Result (List ℕ) Status
-list_answer typed image = answer_for (λ bundle. view_answer (shown_with bundle image)) (input_answer typed)
+abbrev pub ListAnswers : List ℕ → List ℕ → Result (List ℕ) Status → Type 0
+ListAnswers typed image = AnswersFor (λ bundle. IsExactly (view_answer (shown_with bundle image))) (input_answer typed)
 
--- and what `open` does with a path
-abbrev pub open_answer : List ℕ → List ℕ → List ℕ → Result (List ℕ) Status
-open_answer path typed image = answer_for (λ bundle. line_answer (line_shown bundle path image)) (input_answer typed)
+-- what `open` answers with a path
+abbrev pub OpenAnswers : List ℕ → List ℕ → List ℕ → Result (List ℕ) Status → Type 0
+OpenAnswers path typed image = AnswersFor (λ bundle. IsExactly (line_answer (line_shown bundle path image))) (input_answer typed)
+
+-- and what `audit` may answer: which of several bad records it tells is free
+abbrev pub AuditAnswers : List ℕ → List ℕ → Result (List ℕ) Status → Type 0
+AuditAnswers typed image = AnswersFor (λ bundle. AuditGives bundle image) (input_answer typed)
 
 -- ---- how the program ends
 
@@ -76,7 +101,7 @@ is_open_answer (statuses.RandomShort left need) = false
 is_open_answer statuses.NotBlank = false
 is_open_answer _ = true
 
--- how `list` may end
+-- how `list` and `audit` may end
 abbrev pub is_list_answer : Status → Bool
 is_list_answer statuses.Unseen = false
 is_list_answer status = is_open_answer status
@@ -101,21 +126,21 @@ is_before_read _ = false
 
 -- ---- what the answers have to do with what was wanted
 
--- the text is the one that is wanted, or this is how it is wanted to end. A disk that fails and want of memory may come at any time
-abbrev pub GivesText : Result (Listed ℕ) Status → Result (List ℕ) Status → Type 0
-GivesText (Ok text) wanted = wanted ≡ Ok text.items
-GivesText (Err statuses.DiskFault) wanted = Unit {0}
-GivesText (Err statuses.OutOfMemory) wanted = Unit {0}
-GivesText (Err status) wanted = wanted ≡ Err status
+-- the text is one that may be answered, or so it may end. A disk that fails and want of memory may come at any time
+abbrev pub GivesText : Result (Listed ℕ) Status → (Result (List ℕ) Status → Type 0) → Type 0
+GivesText (Ok text) May = May (Ok text.items)
+GivesText (Err statuses.DiskFault) May = Unit {0}
+GivesText (Err statuses.OutOfMemory) May = Unit {0}
+GivesText (Err status) May = May (Err status)
 
--- The answer is the wanted one, and what was wanted was printed, unless something outside failed or memory was wanting.
-abbrev pub AnswersAs : Status → Result (List ℕ) Status → Option (List ℕ) → Option (List ℕ) → Type 0
-AnswersAs statuses.Done wanted before after = (text : List ℕ) × (wanted ≡ Ok text) × WhereBothTold before after (PrintsAll text)
-AnswersAs statuses.WriteFault wanted before after = (text : List ℕ) × (wanted ≡ Ok text) × WhereBothTold before after (PrintsFront text)
-AnswersAs statuses.ReadFault wanted before after = Unit {0}
-AnswersAs statuses.DiskFault wanted before after = Unit {0}
-AnswersAs statuses.OutOfMemory wanted before after = Unit {0}
-AnswersAs status wanted before after = wanted ≡ Err status
+-- The answer is one that may be given, and its text was printed, unless something outside failed or memory was wanting.
+abbrev pub AnswersAs : Status → (Result (List ℕ) Status → Type 0) → Option (List ℕ) → Option (List ℕ) → Type 0
+AnswersAs statuses.Done May before after = (text : List ℕ) × May (Ok text) × WhereBothTold before after (PrintsAll text)
+AnswersAs statuses.WriteFault May before after = (text : List ℕ) × May (Ok text) × WhereBothTold before after (PrintsFront text)
+AnswersAs statuses.ReadFault May before after = Unit {0}
+AnswersAs statuses.DiskFault May before after = Unit {0}
+AnswersAs statuses.OutOfMemory May before after = Unit {0}
+AnswersAs status May before after = May (Err status)
 
 -- what the input decides, whatever the disk shows: a bad line is told, where it has one, unless it failed or memory was wanting first
 abbrev pub InputDecides : Status → Result Bundle ℕ → Type 0
@@ -134,9 +159,9 @@ TakesInput (statuses.BadScript line) typed left = TakesLines line typed left
 TakesInput _ typed left = TakesLines 1 typed left
 
 -- What a reader's command does: it answers and prints what is said of its input and of what the disk shows, and only reads the disk.
-pub record Reads {D : Type 0} (answer : List ℕ → List ℕ → Result (List ℕ) Status) (shown : D → Option (List ℕ)) (size_of : D → ℕ) (may_leave : D → List ℕ → Type 0)
+pub record Reads {D : Type 0} (May : List ℕ → List ℕ → Result (List ℕ) Status → Type 0) (shown : D → Option (List ℕ)) (size_of : D → ℕ) (may_leave : D → List ℕ → Type 0)
     (status : Status) (typed left : Option (List ℕ)) (disk_old disk_new : D) (before after : Option (List ℕ)) : Type 0 where
   pub decided : WhereTold typed (λ bytes. InputDecides status (input_answer bytes))
-  pub answered : WhereTold typed (λ bytes. WhereTold (shown disk_old) (λ image. AnswersAs status (answer bytes image) before after))
+  pub answered : WhereTold typed (λ bytes. WhereTold (shown disk_old) (λ image. AnswersAs status (May bytes image) before after))
   pub takes : WhereBothTold typed left (TakesInput status)
   pub reads_only : IsOnlyRead shown size_of may_leave disk_old disk_new

@@ -5,7 +5,7 @@ use Rattle.cry_io.specs.Told.{WhereTold, WhereBothTold}
 use Rattle.cryptree_cli.specs.declared.status.Status.{Status}
 use Rattle.cryptree_cli.specs.declared.status.Status.TheVariants.{RandomFault, RandomShort, OutOfMemory}
 use Rattle.cryptree_cli.specs.declared.words.Form.{Form}
-use Rattle.cryptree_cli.specs.declared.words.Form.TheVariants.{Make, Run, Open, Help, Version}
+use Rattle.cryptree_cli.specs.declared.words.Form.TheVariants.{Make, Run, Open, Audit, Help, Version}
 use Rattle.cryptree_cli.specs.declared.words.Form.TheVariants as forms
 use Rattle.cryptree_cli.specs.declared.texts.TheConstants.{HELP, VERSION}
 use Rattle.key_links.specs.Fresh.{piece, fresh_image}
@@ -28,9 +28,13 @@ IsList words = form_of_words words ≡ Some forms.List
 abbrev pub IsOpen : List (Listed ℕ) → Type 0
 IsOpen words = form_of_words words ≡ Some Open
 
--- either of these two, which only read
+-- or for all that it leads to
+abbrev pub IsAudit : List (Listed ℕ) → Type 0
+IsAudit words = form_of_words words ≡ Some Audit
+
+-- one of these three, which only read
 abbrev pub IsReader : List (Listed ℕ) → Type 0
-IsReader words = IsList words ⊎ IsOpen words
+IsReader words = IsList words ⊎ (IsOpen words ⊎ IsAudit words)
 
 -- the text that the words ask for, where they ask for one
 abbrev pub text_of : Option Form → Option (List ℕ)

@@ -3,7 +3,7 @@ use Rattle.std.specs.Prelude.{ℕ, List, [], ◌∷◌, Bool, Option, Some, None
 use Rattle.std.specs.Cmp.Lexicographic.{pointwise}
 use Rattle.cry_base.specs.Listed.{Listed}
 use Rattle.cryptree_cli.specs.declared.words.Form.{Form}
-use Rattle.cryptree_cli.specs.declared.words.Form.TheVariants.{Make, Run, Open, Help, Version}
+use Rattle.cryptree_cli.specs.declared.words.Form.TheVariants.{Make, Run, Open, Audit, Help, Version}
 use Rattle.cryptree_cli.specs.declared.words.Form.TheVariants as forms
 
 -- the word is spelled by these bytes
@@ -20,7 +20,8 @@ option_form word =
 abbrev pub command_form : Listed ℕ → Option Form
 command_form word =
     if is_word word (codes "make") then Some Make
-    else (if is_word word (codes "run") then Some Run else (if is_word word (codes "list") then Some forms.List else None))
+    else (if is_word word (codes "run") then Some Run
+    else (if is_word word (codes "list") then Some forms.List else (if is_word word (codes "audit") then Some Audit else None)))
 
 -- STORE RANDOM COMMAND PATH
 abbrev pub path_command_form : Listed ℕ → Option Form

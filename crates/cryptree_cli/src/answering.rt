@@ -1,4 +1,4 @@
-//! How `list` and `open` end where nothing is shown.
+//! How `list`, `open` and `audit` end where nothing is shown.
 ghost use Rattle.std.specs.Prelude.{◌≡◌};
 ghost use Rattle.cryptree_cli.specs.Listing as listing;
 

@@ -2,6 +2,7 @@
 #![tactic(auto)]
 
 mod answering;
+mod audit;
 mod input;
 mod key_line;
 mod lines;

@@ -11,6 +11,7 @@ cryptree keeps shared folders in one store file, on a disk that nobody has to tr
   cryptree STORE RANDOM list        print what a key opens; the key's line is read from standard input: the owner's, as make
                                     prints it, or a holder's, as run answers holder
   cryptree STORE RANDOM open PATH   print the one line of it that has this path
+  cryptree STORE RANDOM audit       print every name and file that a key leads to, old ones too, with the batch that wrote it
   cryptree --help                   print this text
   cryptree --version                print the version
 

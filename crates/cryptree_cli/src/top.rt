@@ -3,13 +3,14 @@ ghost use Rattle.std.specs.Prelude.{◌≡◌, ◌≢◌, ◌<◌, ◌≤◌, �
 ghost use Rattle.cry_io.specs.Stops.{IsDurable};
 ghost use Rattle.cry_io.specs.Told.{WhereTold, WhereBothTold};
 ghost use Rattle.cryptree_cli.specs.Journals.{AnswersJournal, line_of, view_of};
-ghost use Rattle.cryptree_cli.specs.Listing.{Reads, is_before_read, is_list_answer, is_open_answer, list_answer, open_answer};
+ghost use Rattle.cryptree_cli.specs.Listing.{AuditAnswers, ListAnswers, OpenAnswers, Reads, is_before_read, is_list_answer, is_open_answer};
 ghost use Rattle.cryptree_cli.specs.Refusing.{Refuses, is_refusal};
 ghost use Rattle.cryptree_cli.specs.Running.{EndsTyped, FirstIsBad, HasBadLine, JudgesTyped, RanDry, RanLines, RanTaking, ReadsWholeTyped, TakesTo, is_after_opening, is_before_opening, is_run_answer, key_in_lines, lines_in, lines_typed, seen_from};
 ghost use Rattle.cryptree_cli.specs.Status.{is_make_answer, is_before_draw, is_before_write, is_before_print};
-ghost use Rattle.cryptree_cli.specs.Top.{IsMake, IsRun, IsList, IsOpen, IsReader, Makes, PrintsAll, PrintsFront, IsShort, EndsShort, text_of};
+ghost use Rattle.cryptree_cli.specs.Top.{IsMake, IsRun, IsList, IsOpen, IsAudit, IsReader, Makes, PrintsAll, PrintsFront, IsShort, EndsShort, text_of};
 ghost use Rattle.cryptree_cli.specs.Words.{form_of_words, path_in_words};
 
+use crate::audit::audit;
 use crate::list::list;
 use crate::make::make;
 use crate::open::open;
@@ -26,8 +27,8 @@ use std::alloc::Global;
 /// the store's file, `random` a source of random bytes, `out` standard output, `input` standard input.
 ///
 /// Where two causes of an answer hold, the one met first is given; for `make`: words, size, memory, draw, disk, output; for
-/// `run`: words, the first line, the store, and then for each line its form, memory, draw, disk, output; for `list` and `open`:
-/// words, the input, the store, output. Want of memory comes at its place in this order, and no clause says when.
+/// `run`: words, the first line, the store, and then for each line its form, memory, draw, disk, output; for `list`, `open` and
+/// `audit`: words, the input, the store, output. Want of memory comes at its place in this order, and no clause says when.
 pub fn top<S: Source, R: Source, D: Disk, W: Sink>(
     alloc: Global,
     words: &List<Text>,
@@ -41,6 +42,7 @@ pub fn top<S: Source, R: Source, D: Disk, W: Sink>(
     ensures make_answers { IsMake words.now.items → IsTrue (is_make_answer result) }
     ensures list_answers { IsList words.now.items → IsTrue (is_list_answer result) }
     ensures open_answers { IsOpen words.now.items → IsTrue (is_open_answer result) }
+    ensures audit_answers { IsAudit words.now.items → IsTrue (is_list_answer result) }
     ensures not_blank { (result ≡ Status.NotBlank) ↔ (IsMake words.now.items × (D.size_of disk.old ≢ 0)) }
     ensures run_answers { IsRun words.now.items → IsTrue (is_run_answer result) }
     ensures short { IsMake words.now.items → (left need : ℕ) → result ≡ Status.RandomShort left need →
@@ -95,12 +97,14 @@ pub fn top<S: Source, R: Source, D: Disk, W: Sink>(
     ensures run_unopened { IsRun words.now.items → IsTrue (is_before_opening result) →
         (random.new ≡ random.old) × (disk.new ≡ disk.old) × (out.new ≡ out.old) }
 
-    // What `list` and `open` do, whatever the input holds and the disk shows: they read the input to its end, open what the key opens of
-    // the store, and then print in one piece. The first line that is bad is told, also where the input failed behind it; and a
-    // failure of the store exactly where the image has it.
-    ensures listed { IsList words.now.items → Reads list_answer D.shown D.size_of D.may_leave result
+    // What `list`, `open` and `audit` do, whatever the input holds and the disk shows: they read the input to its end, open what the key
+    // opens of the store, for `audit` all that it leads to, and then print in one piece. The first line that is bad is told, also where
+    // the input failed behind it; and a failure of the store exactly where the image has it, of `audit` any bad record's.
+    ensures listed { IsList words.now.items → Reads ListAnswers D.shown D.size_of D.may_leave result
         (S.left input.old) (S.left input.new) disk.old disk.new (W.written out.old) (W.written out.new) }
-    ensures opened { IsOpen words.now.items → Reads (open_answer (path_in_words words.now.items)) D.shown D.size_of D.may_leave result
+    ensures opened { IsOpen words.now.items → Reads (OpenAnswers (path_in_words words.now.items)) D.shown D.size_of D.may_leave result
+        (S.left input.old) (S.left input.new) disk.old disk.new (W.written out.old) (W.written out.new) }
+    ensures audited { IsAudit words.now.items → Reads AuditAnswers D.shown D.size_of D.may_leave result
         (S.left input.old) (S.left input.new) disk.old disk.new (W.written out.old) (W.written out.new) }
     ensures readers_draw_none { IsReader words.now.items → random.new ≡ random.old }
 
@@ -139,6 +143,7 @@ pub fn top<S: Source, R: Source, D: Disk, W: Sink>(
         Some(Form::Make) => make(alloc, random, disk, out),
         Some(Form::Run) => run(alloc, input, random, disk, out),
         Some(Form::List) => list(alloc, input, disk, out),
+        Some(Form::Audit) => audit(alloc, input, disk, out),
         Some(Form::Open) => open(alloc, path_in(words), input, disk, out),
         Some(Form::Help) => tell(HELP, out),
         Some(Form::Version) => tell(VERSION, out),

@@ -13,6 +13,8 @@ pub enum Form {
     Run,
     /// `STORE RANDOM list`
     List,
+    /// `STORE RANDOM audit`
+    Audit,
     /// `STORE RANDOM open PATH`, where any word stands for a path
     Open,
     /// `--help`
@@ -64,6 +66,8 @@ fn command_of(word: &Text) -> Option<Form>
         Some(Form::Run)
     } else if word.as_slice() == b"list".as_slice() {
         Some(Form::List)
+    } else if word.as_slice() == b"audit".as_slice() {
+        Some(Form::Audit)
     } else {
         None
     }

@@ -4,6 +4,7 @@ use Rattle.std.specs.Fmt.{decimal}
 use Rattle.script_text.specs.Printing.{owner_line, path_line, file_line, holder_line, refused_line}
 use Rattle.cry_base.specs.declared.commands.Refusal.{Refusal}
 use Rattle.cry_base.specs.Refusals.{word_of}
+use Rattle.script_text.specs.SeenLines.{seen_file_line, seen_folder_line, seen_front}
 use Rattle.script_text.proofs.HexText.{length-hex_of}
 
 pub length-owner_line : (key : List ℕ) → length (owner_line key) ≡ 2 * length key + 7
@@ -28,3 +29,18 @@ length-refused_line why = simp length-append (omega arith)
 
 -- all of them
 pub ruleset lengths = (length-owner_line, length-path_line, length-file_line, length-holder_line, length-refused_line, length-hex_of)
+
+pub length-seen_front : (word batch id name : List ℕ) → length (seen_front word batch id name) ≡ length word + length batch + length id + length name + 2
+unfolding seen_front
+length-seen_front word batch id name = simp length-append (omega arith)
+
+pub length-seen_folder_line : (batch id name : List ℕ) → length (seen_folder_line batch id name) ≡ length batch + length id + length name + 10
+unfolding seen_folder_line seen_front
+length-seen_folder_line batch id name = simp length-append (omega arith)
+
+pub length-seen_file_line : (batch id name bytes : List ℕ) → length (seen_file_line batch id name bytes) ≡ length batch + length id + length name + 2 * length bytes + 9
+unfolding seen_file_line seen_front
+length-seen_file_line batch id name bytes = simp (length-append, length-hex_of) (omega arith)
+
+-- those of an audit
+pub ruleset seen_lengths = (length-seen_front, length-seen_folder_line, length-seen_file_line, length-hex_of)

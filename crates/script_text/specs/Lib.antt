@@ -3,3 +3,4 @@ pub mod Cutting
 pub mod Gauging
 pub mod Printing
 pub mod Reading
+pub mod SeenLines

@@ -8,8 +8,7 @@ pub mod laws;
 mod log_reading;
 mod placed_records;
 mod right_key;
-mod seen;
 mod trails;
 
 pub use auditing::audit;
-pub use seen::Seen;
+pub use script_text::Seen;
