@@ -1,3 +1,4 @@
+pub mod BesideKeys
 pub mod Ends
 pub mod InPlace
 pub mod Looked

@@ -92,22 +92,6 @@ found_without T rank rows gone k =
       | false ↦ λ t. find-kept T p q (λ x e. ap not (ne_eqb (rank x) gone (λ same. false≢true (sym t ∙ eq-eqb gone k (sym same ∙ eqb-true (rank x) k e))))) rows
     ]) refl
 
--- a new row behind others of other ranks
-pub found_beside : (T : Type 0) (rank : T → ℕ) (front rows : List T) (row : T) (k : ℕ) → row_at rank front (rank row) ≡ None →
-    row_at rank (front ++ with_row rank rows row) k ≡ cond (rank row == k) (Some row) (row_at rank (front ++ rows) k)
-found_beside T rank front rows row k none =
-    let p : T → Bool = λ r. rank r == k in
-    (elim (find p front) as (λ o. find p front ≡ o → find p (front ++ with_row rank rows row) ≡ cond (rank row == k) (Some row) (find p (front ++ rows))) [
-      | None ↦ λ e. find-append T p front (with_row rank rows row) e
-          ∙ found_with T rank rows row k
-          ∙ ap (λ o. cond (rank row == k) (Some row) o) (sym (find-append T p front rows e))
-      | Some y ↦ λ e.
-          (elim (rank row == k) as (λ b. rank row == k ≡ b → find p (front ++ with_row rank rows row) ≡ cond b (Some row) (find p (front ++ rows))) [
-            | true ↦ λ t. let same : find p front ≡ None = ap (λ n. row_at rank front n) (sym (eqb-true (rank row) k t)) ∙ none in absurd (cc)
-            | false ↦ λ t. find-front T p front (with_row rank rows row) y e ∙ sym (find-front T p front rows y e)
-          ]) refl
-    ]) refl
-
 -- rows without a rank, in two parts
 pub without-append : (T : Type 0) (rank : T → ℕ) (front rows : List T) (k : ℕ) → without rank (front ++ rows) k ≡ without rank front k ++ without rank rows k
 without-append T rank [] rows k = refl

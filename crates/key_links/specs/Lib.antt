@@ -1,3 +1,4 @@
+pub mod ByKind
 pub mod Drawn
 pub mod Ended
 pub mod Fresh

@@ -4,6 +4,7 @@
 mod any_fresh;
 mod any_key;
 mod any_links;
+mod by_kind;
 mod contents;
 pub mod laws;
 mod links;

@@ -7,9 +7,9 @@ ghost use Rattle.sorted_table.specs.Rows.{without};
 
 use crate::AnyFresh;
 use crate::any_key::{AnyKey, Place};
+use crate::by_kind::KeysByKind;
 use chacha_seal::{HolderK, Key, OwnerK};
 use cry_base::{Mem, Role, Serial};
-use sorted_table::Table;
 use std::alloc::Global;
 use std::marker::Model;
 
@@ -19,7 +19,7 @@ use std::marker::Model;
 pub struct KeyRing {
     // The key that the ring began with, which needs no room in the table.
     root: Option<AnyKey>,
-    held: Table<AnyKey>,
+    held: KeysByKind,
 }
 
 impl Model for KeyRing {
@@ -38,7 +38,7 @@ impl KeyRing {
     {
         KeyRing {
             root: Some(AnyKey::Owner(owner)),
-            held: Table::new(alloc),
+            held: KeysByKind::new(alloc),
         }
     }
 
@@ -48,7 +48,7 @@ impl KeyRing {
     {
         KeyRing {
             root: Some(AnyKey::Holder(key)),
-            held: Table::new(alloc),
+            held: KeysByKind::new(alloc),
         }
     }
 

@@ -10,7 +10,7 @@ returns-in-Some c =
 
 pub returns-in_default : goal.returns-in_default
 returns-in_default c =
-    c.find.ensures.row
+    c.find.ensures
     ∙ elim c.in_default.branch [
       | in_default-via-in-Some+else-is_of w ↦ beside_found c.args.self.now.keys c.self.inside.held.rows c.self.inside.root c.args.role c.of-place.result.0 (ap (λ r. r.keys) c.self.view_is) c.of-place.ensures w.in-Some.key w.in-Some.is (sym w.is_of.ensures ∙ w.if-is_of.false)
       | in_default-via-in_default w ↦ rest_found c.args.self.now.keys c.self.inside.held.rows c.self.inside.root c.args.role c.of-place.result.0 (ap (λ r. r.keys) c.self.view_is) c.of-place.ensures (cc)

@@ -1,7 +1,7 @@
-use Rattle.std.proofs.Common.{◌++◌, ap, sym, subst, ◌∙◌}
+use Rattle.std.proofs.Common.{ap, ◌∙◌}
 use Rattle.std.specs.Option.{option_to_list}
 use Rattle.sorted_table.specs.Rows.{without}
-use Rattle.key_links.specs.Ringed.{IsWithKey, key_rank, parts_of, role_of}
+use Rattle.key_links.specs.Ringed.{key_rank}
 use Rattle.key_links.proofs.Ringing.{emptied, with_key}
 use Rattle.key_links.proofs.ring.KeyRing.keep.Goals as goal
 
@@ -15,8 +15,5 @@ returns-clause-key c =
     let keys = c.empty.ensures.keys ∙ ap (λ n. without key_rank c.args.self.now.keys n) c.place.ensures in
     let whole = ap (λ r. r.keys) c.self.view_is in
     let root = option_to_list c.self.inside.root in
-    let spare = c.insert.new.self.spare in
-    subst (λ rows. IsWithKey (record { keys = root ++ rows; spare = spare }) c.args.self.now (role_of c.args.key) (parts_of c.args.key))
-    (sym c.insert.ensures.rows)
-    (with_key c.args.self.now spare root c.self.inside.held.rows c.args.key (whole ∙ keys)
-    (emptied c.empty.new.self root c.self.inside.held.rows c.args.self.now.keys (key_rank c.args.key) whole keys).0)
+    with_key c.args.self.now c.insert.new.self.spare root c.self.inside.held.rows c.insert.new.self.rows c.args.key c.insert.ensures.rows (whole ∙ keys)
+    (emptied c.empty.new.self root c.self.inside.held.rows c.args.self.now.keys (key_rank c.args.key) whole keys).0

@@ -1,0 +1,84 @@
+-- What is found among keys in several tables, when one comes or goes.
+use Rattle.std.proofs.Common.{◌≡◌, ℕ, ◌==◌, List, [], ◌∷◌, ◌++◌, true, false, cond, Bool, Option, Some, None, refl, sym, ap, ◌∙◌}
+use Rattle.std.proofs.lemmas.Bool.{eqb-true}
+use Rattle.sorted_table.specs.Rows.{row_at, with_row, without}
+use Rattle.key_links.specs.ByKind.{IsFoundBeside, either}
+use Rattle.key_links.specs.Ringed.{key_rank}
+use Rattle.key_links.specs.declared.any_key.AnyKey.{AnyKey}
+use Rattle.key_links.proofs.Looked.{find-neither, found_with, without-append}
+
+either_cond : (b : Bool) (key : AnyKey) (o p q : Option AnyKey) → either (cond b o p) q ≡ cond b (either o q) (either p q)
+either_cond true key o p q = refl
+either_cond false key o p q = refl
+
+-- among two lists the first key of the first one is found, and else that of the second
+pub found_either : (front rows : List AnyKey) (k : ℕ) → row_at key_rank (front ++ rows) k ≡ either (row_at key_rank front k) (row_at key_rank rows k)
+unfolding either
+found_either [] rows k = refl
+found_either (x ∷ front) rows k =
+    (elim (key_rank x == k) as (λ b. cond b (Some x) (row_at key_rank (front ++ rows) k) ≡ either (cond b (Some x) (row_at key_rank front k)) (row_at key_rank rows k)) [
+      | true ↦ refl
+      | false ↦ found_either front rows k
+    ])
+
+pub neither : (front rows : List AnyKey) (k : ℕ) → row_at key_rank (front ++ rows) k ≡ None → (row_at key_rank front k ≡ None) × (row_at key_rank rows k ≡ None)
+neither front rows k none = find-neither AnyKey (λ key. key_rank key == k) front rows none
+
+-- a key that comes into one table
+pub here : (key : AnyKey) (rows after : List AnyKey) → after ≡ with_row key_rank rows key → IsFoundBeside key rows after
+here key rows after is = λ k. ap (λ l. row_at key_rank l k) is ∙ found_with AnyKey key_rank rows key k
+
+-- a key that comes in the first of two lists
+pub before : (key : AnyKey) (rows after rest : List AnyKey) → IsFoundBeside key rows after → IsFoundBeside key (rows ++ rest) (after ++ rest)
+unfolding either
+before key rows after rest is = λ k.
+    found_either after rest k
+    ∙ ap (λ o. either o (row_at key_rank rest k)) (is k)
+    ∙ either_cond (key_rank key == k) key (Some key) (row_at key_rank rows k) (row_at key_rank rest k)
+    ∙ ap (λ o. cond (key_rank key == k) (Some key) o) (sym (found_either rows rest k))
+
+-- and in the second, where its place is free in the first
+pub behind : (key : AnyKey) (front rows after : List AnyKey) → row_at key_rank front (key_rank key) ≡ None → IsFoundBeside key rows after → IsFoundBeside key (front ++ rows) (front ++ after)
+unfolding either
+behind key front rows after none is = λ k.
+    found_either front after k
+    ∙ ap (λ o. either (row_at key_rank front k) o) (is k)
+    ∙ (elim (key_rank key == k) as (λ b. key_rank key == k ≡ b → either (row_at key_rank front k) (cond b (Some key) (row_at key_rank rows k)) ≡ cond b (Some key) (either (row_at key_rank front k) (row_at key_rank rows k))) [
+      | true ↦ λ t. ap (λ n. either (row_at key_rank front n) (Some key)) (sym (eqb-true (key_rank key) k t)) ∙ ap (λ o. either o (Some key)) none
+      | false ↦ λ t. refl
+    ]) refl
+    ∙ ap (λ o. cond (key_rank key == k) (Some key) o) (sym (found_either front rows k))
+
+either_more : (o p q : Option AnyKey) → either (either o p) q ≡ either o (either p q)
+unfolding either
+either_more (Some x) p q = refl
+either_more None p q = refl
+
+-- what is found in five lists
+pub found_in_five : (a b c d e : List AnyKey) (k : ℕ) →
+    either (either (row_at key_rank a k) (row_at key_rank b k)) (either (row_at key_rank c k) (either (row_at key_rank d k) (row_at key_rank e k))) ≡ row_at key_rank (a ++ (b ++ (c ++ (d ++ e)))) k
+found_in_five a b c d e k =
+    either_more (row_at key_rank a k) (row_at key_rank b k) (either (row_at key_rank c k) (either (row_at key_rank d k) (row_at key_rank e k)))
+    ∙ ap (λ o. either (row_at key_rank a k) (either (row_at key_rank b k) (either (row_at key_rank c k) o))) (sym (found_either d e k))
+    ∙ ap (λ o. either (row_at key_rank a k) (either (row_at key_rank b k) o)) (sym (found_either c (d ++ e) k))
+    ∙ ap (λ o. either (row_at key_rank a k) o) (sym (found_either b (c ++ (d ++ e)) k))
+    ∙ sym (found_either a (b ++ (c ++ (d ++ e))) k)
+
+-- what is left of five lists
+pub left_of_five : (a b c d e : List AnyKey) (k : ℕ) →
+    without key_rank a k ++ (without key_rank b k ++ (without key_rank c k ++ (without key_rank d k ++ without key_rank e k))) ≡ without key_rank (a ++ (b ++ (c ++ (d ++ e)))) k
+left_of_five a b c d e k =
+    ap (λ l. without key_rank a k ++ (without key_rank b k ++ (without key_rank c k ++ l))) (sym (without-append AnyKey key_rank d e k))
+    ∙ ap (λ l. without key_rank a k ++ (without key_rank b k ++ l)) (sym (without-append AnyKey key_rank c (d ++ e) k))
+    ∙ ap (λ l. without key_rank a k ++ l) (sym (without-append AnyKey key_rank b (c ++ (d ++ e)) k))
+    ∙ sym (without-append AnyKey key_rank a (b ++ (c ++ (d ++ e))) k)
+
+-- a place that is free in all five lists is free in each
+pub none_in_five : (a b c d e : List AnyKey) (k : ℕ) → row_at key_rank (a ++ (b ++ (c ++ (d ++ e)))) k ≡ None →
+    (row_at key_rank a k ≡ None) × (row_at key_rank b k ≡ None) × (row_at key_rank c k ≡ None) × (row_at key_rank d k ≡ None) × (row_at key_rank e k ≡ None)
+none_in_five a b c d e k none =
+    let first = neither a (b ++ (c ++ (d ++ e))) k none in
+    let second = neither b (c ++ (d ++ e)) k first.1 in
+    let third = neither c (d ++ e) k second.1 in
+    let last = neither d e k third.1 in
+    (first.0, second.0, third.0, last.0, last.1)

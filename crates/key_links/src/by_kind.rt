@@ -1,0 +1,112 @@
+//! Keys in a table for each kind of role, or for two whose keys come in turn.
+ghost use Rattle.std.specs.Prelude.{◌≡◌, ◌+◌, ◌≤◌, [], None, IsOk, OnOk};
+ghost use Rattle.std.specs.Option.{option_copied};
+ghost use Rattle.key_links.specs.ByKind.{IsFoundBeside, either};
+ghost use Rattle.key_links.specs.Ringed.{key_rank};
+ghost use Rattle.sorted_table.specs.Rows.{row_at, without};
+
+use crate::any_key::{AnyKey, Place};
+use cry_base::{Mem, Role};
+use sorted_table::Table;
+use std::alloc::Global;
+use std::marker::Model;
+
+/// Keys of which no two have one place. A key that comes for a new folder or file stands behind all in its table, so that it
+/// moves none of the others. `spare` is how many more fit without memory, of whatever kinds.
+#[derive(Drop)]
+pub(crate) struct KeysByKind {
+    holders: Table<AnyKey>,
+    entries: Table<AnyKey>,
+    ways: Table<AnyKey>,
+    titles: Table<AnyKey>,
+    files: Table<AnyKey>,
+}
+
+impl Model for KeysByKind {
+    ghost use Rattle.std.specs.Prelude.{◌++◌, min};
+    ghost use Rattle.key_links.specs.declared.any_key.AnyKey.{AnyKey as TheKey};
+    ghost use Rattle.sorted_table.specs.Tabled.{Tabled};
+
+    ghost Value = { Tabled TheKey };
+
+    ghost view = { λ k. record {
+      rows = k.holders.rows ++ (k.entries.rows ++ (k.ways.rows ++ (k.titles.rows ++ k.files.rows)));
+      spare = min k.holders.spare (min k.entries.spare (min k.ways.spare (min k.titles.spare k.files.spare)));
+    } };
+}
+
+impl KeysByKind {
+    /// No keys. It takes no memory.
+    pub(crate) fn new(alloc: Global) -> KeysByKind
+        ensures { result.rows ≡ [] }
+    {
+        KeysByKind {
+            holders: Table::new(alloc),
+            entries: Table::new(alloc),
+            ways: Table::new(alloc),
+            titles: Table::new(alloc),
+            files: Table::new(alloc),
+        }
+    }
+
+    /// Makes room for at least so many keys beside those that are there.
+    pub(crate) fn reserve(&mut self, keys: usize) -> Mem<()>
+        ensures rows { self.new.rows ≡ self.old.rows }
+        ensures room { OnOk result (keys ≤ self.new.spare) }
+        ensures kept { self.old.spare ≤ self.new.spare }
+        ensures has_room { keys ≤ self.old.spare → IsOk result }
+    {
+        self.holders.reserve(keys)?;
+        self.entries.reserve(keys)?;
+        self.ways.reserve(keys)?;
+        self.titles.reserve(keys)?;
+        self.files.reserve(keys)
+    }
+
+    /// The key at the place.
+    pub(crate) fn find(&self, place: &Place) -> Option<&AnyKey>
+        ensures { option_copied result ≡ row_at key_rank self.now.rows place.now.0 }
+    {
+        let upper = first_of(self.holders.find(place), self.entries.find(place));
+        let lower = first_of(self.titles.find(place), self.files.find(place));
+        first_of(upper, first_of(self.ways.find(place), lower))
+    }
+
+    /// Puts the key beside the others, of which none has its place, where there is room. It takes no memory.
+    pub(crate) fn insert(&mut self, key: AnyKey)
+        requires room { 1 ≤ self.old.spare }
+        requires absent { row_at key_rank self.old.rows (key_rank key) ≡ None }
+        ensures rows { IsFoundBeside key self.old.rows self.new.rows }
+        ensures spare { self.old.spare ≤ self.new.spare + 1 }
+    {
+        match key.role() {
+            Role::Owner | Role::Holder(_) => self.holders.insert(key),
+            Role::Clear(_) | Role::Sub(_) => self.entries.insert(key),
+            Role::Back(_) | Role::Files(_) => self.ways.insert(key),
+            Role::Data(_) => self.titles.insert(key),
+            Role::File(_) => self.files.insert(key),
+        }
+    }
+
+    /// Takes out the key at the place, where there is one.
+    pub(crate) fn remove(&mut self, place: &Place)
+        ensures rows { self.new.rows ≡ without key_rank self.old.rows place.now.0 }
+        ensures spare { self.old.spare ≤ self.new.spare }
+    {
+        let _ = self.holders.remove(place);
+        let _ = self.entries.remove(place);
+        let _ = self.ways.remove(place);
+        let _ = self.titles.remove(place);
+        let _ = self.files.remove(place);
+    }
+}
+
+/// The first of two keys, where there is one, and else the second.
+fn first_of<'a>(first: Option<&'a AnyKey>, second: Option<&'a AnyKey>) -> Option<&'a AnyKey>
+    ensures { option_copied result ≡ either (option_copied first.entry) (option_copied second.entry) }
+{
+    match first {
+        Some(key) => Some(key),
+        None => second,
+    }
+}
