@@ -61,7 +61,7 @@ log_serials keys at (entry ∷ entries) place number epoch n =
     ∙ ap (λ (pairs : List (ℕ × ℕ)). map (λ (l : Link). (l.from_serial, l.to_serial)) (entry_step at entry).links ++ pairs)
     (log_serials keys_with (stand_then at entry) entries next batch.number batch.epoch (n + 1))
 
-journal_serials : (owner : List ℕ) (m : Journal) → serials_of (log_links (log_of owner m)) ≡ trails (history m)
+pub journal_serials : (owner : List ℕ) (m : Journal) → serials_of (log_links (log_of owner m)) ≡ trails (history m)
 unfolding log_of bodies_of history steps_of
 journal_serials owner m = log_serials (owner_parts owner ∷ []) nothing m 42 0 0 1
 

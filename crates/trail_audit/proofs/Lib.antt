@@ -3,6 +3,7 @@ pub mod Audits
 pub mod Derivable
 pub mod Disclosed
 pub mod Followed
+pub mod Groups
 pub mod Leading
 pub mod Listed
 pub mod OwnRecords

@@ -15,6 +15,7 @@ use Rattle.public_fold.specs.Journal.{Journal}
 use Rattle.journal_bytes.specs.Bytes.{bodies_of, batches_of}
 use Rattle.journal_bytes.specs.Journals.{StandsWholeForJournal}
 use Rattle.journal_bytes.proofs.Grown.{batches_fit}
+use Rattle.journal_bytes.proofs.Spelled.{journal_spelled}
 use Rattle.trail_audit.specs.Forged.{body_records, records_of}
 use Rattle.trail_audit.specs.Records.{payload_records, read_payloads, payloads_in, records_in}
 
@@ -47,11 +48,11 @@ each_record number epoch (NewEpoch ∷ bodies) are =
     let others = each_record (number + 1) (epoch + 1) bodies are in
     ap (λ r. flat_map payload_records (r ++ flat_map read_bytes (map (λ (b : Batch). b.payload) (batches_from (number + 1) (epoch + 1) bodies)))) read_nothing ∙ others
 
-pub whole_records : (owner : List ℕ) (m : Journal) (bytes : List ℕ) → StandsWholeForJournal owner m bytes → AreBodies 0 (bodies_of owner m) → records_in bytes ≡ records_of owner m
+pub whole_records : (owner : List ℕ) (m : Journal) (bytes : List ℕ) → StandsWholeForJournal owner m bytes → records_in bytes ≡ records_of owner m
 unfolding records_in payloads_in records_of batches_of read_bytes
-whole_records owner m bytes whole are =
+whole_records owner m bytes whole =
     let unmasked : map slot_payload (gated bytes) ≡ map (λ (b : Batch). b.payload) (batches_from 0 0 (bodies_of owner m)) =
     whole_unmasked owner (batches_of owner m) bytes whole.stands (batches_fit owner m whole.valid whole.whole_keys)
     in
     ap (flat_map payload_records) (flat_map-map read_bytes slot_payload (gated bytes) ∙ ap (flat_map read_bytes) unmasked)
-    ∙ each_record 0 0 (bodies_of owner m) are
+    ∙ each_record 0 0 (bodies_of owner m) (journal_spelled owner m whole.valid whole.whole_keys)

@@ -4,3 +4,4 @@ pub mod Forged
 pub mod Trails
 pub mod Auditing
 pub mod Derived
+pub mod Grouped

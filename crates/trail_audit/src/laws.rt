@@ -3,7 +3,6 @@ ghost use Rattle.std.specs.Prelude.{◌≡◌, ◌↔◌, ℕ, List, ◌++◌, S
 ghost use Rattle.chacha_seal.specs.Keys.{KeyParts};
 ghost use Rattle.closure_laws.specs.History.{Derives, history, own_serial};
 ghost use Rattle.closure_laws.specs.Seen.{IsSeen, Sight};
-ghost use Rattle.commit_journal.specs.Laws.{AreBodies};
 ghost use Rattle.cry_base.specs.Sets.{In};
 ghost use Rattle.cry_base.specs.declared.client.Bundle.{Bundle};
 ghost use Rattle.holder_client.specs.Asking.{ToAudit, verdict};
@@ -13,7 +12,6 @@ ghost use Rattle.public_fold.specs.Journal.{Journal};
 ghost use Rattle.public_fold.specs.Valid.{IsValid};
 ghost use Rattle.role_graph.specs.Rights.{Who};
 ghost use Rattle.record_format.specs.declared.link.LinkRecord.{LinkRecord};
-ghost use Rattle.journal_bytes.specs.Bytes.{bodies_of};
 ghost use Rattle.journal_bytes.specs.Journals.{StandsWholeForJournal};
 ghost use Rattle.journal_bytes.specs.Keys.{AreWhole, key_bytes};
 ghost use Rattle.journal_bytes.specs.Opening.{reading_of};
@@ -43,10 +41,9 @@ pub fn own_records_are_not_forged()
         In r (records_of owner m) → key_bytes owner m (sealing_serial r) ≡ forged.key.bytes → ⊥ }
 {}
 
-/// Law: the records that stand in the whole image of a journal are those that it published, if each of its payloads has a
-/// spelling.
+/// Law: the records that stand in the whole image of a journal are those that it published.
 pub fn whole_image_has_the_own_records()
-    ensures { (owner : List ℕ) (m : Journal) (bytes : List ℕ) → StandsWholeForJournal owner m bytes → AreBodies 0 (bodies_of owner m) →
+    ensures { (owner : List ℕ) (m : Journal) (bytes : List ℕ) → StandsWholeForJournal owner m bytes →
         records_in bytes ≡ records_of owner m }
 {}
 

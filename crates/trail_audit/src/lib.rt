@@ -4,6 +4,7 @@
 mod admission;
 mod auditing;
 mod contents;
+mod grouped;
 pub mod laws;
 mod log_reading;
 mod placed_records;

@@ -7,7 +7,9 @@ ghost use Rattle.holder_client.specs.Placing as spec;
 ghost use Rattle.record_format.specs.Plain.{plain_content};
 ghost use Rattle.record_format.specs.Sizes.{content_size};
 ghost use Rattle.record_format.specs.Spellable.{IsContent};
+ghost use Rattle.trail_audit.specs.Grouped.{source_of_link};
 
+use crate::grouped::Source;
 use commit_journal::{Body, Placed, content_place, link_place};
 use cry_base::{List, Mem};
 use record_format::{ContentRecord, LinkRecord};
@@ -35,6 +37,29 @@ impl<'a> Model for LinkAt<'a> {
     ghost Value = { PlacedLink };
 
     ghost view = { λ l. record { batch = l.batch; at = l.at; link = l.link.now } };
+}
+
+impl<'a> LinkAt<'a> {
+    /// The same link at the same place.
+    pub(crate) fn again(&self) -> LinkAt<'a>
+        ensures { result ≡ self.now }
+    {
+        LinkAt {
+            batch: self.batch,
+            at: self.at,
+            link: self.link,
+        }
+    }
+
+    /// Where it begins.
+    pub(crate) fn source(&self) -> Source
+        ensures { result ≡ source_of_link self.now }
+    {
+        Source {
+            id: self.link.from_id,
+            serial: self.link.from_serial.0,
+        }
+    }
 }
 
 /// A content that has the format's form, and where it stands.

@@ -1,7 +1,9 @@
 //! A key to which right links lead.
 ghost use Rattle.std.specs.Prelude.{◌≡◌, ◌↔◌, IsTrue};
+ghost use Rattle.trail_audit.specs.Grouped.{key_source};
 ghost use Rattle.trail_audit.specs.Trails.{BeginsAt};
 
+use crate::grouped::Source;
 use chacha_seal::{HolderK, Key};
 use cry_base::{HolderId, Serial};
 use record_format::LinkRecord;
@@ -50,6 +52,16 @@ impl RightKey {
         ensures { IsTrue result ↔ BeginsAt link.now self.now }
     {
         link.from_id == self.id && link.from_serial.0 == self.serial.0
+    }
+
+    /// What it is looked for by.
+    pub(crate) fn source(&self) -> Source
+        ensures { result ≡ key_source self.now }
+    {
+        Source {
+            id: self.id,
+            serial: self.serial.0,
+        }
     }
 
     /// The key to open records with, for which its kind is of no account.

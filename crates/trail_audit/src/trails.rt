@@ -1,11 +1,14 @@
 //! All keys to which right links lead from a bundle's key (docs/FORMAT.md, "Records").
-ghost use Rattle.std.specs.Prelude.{◌≡◌, ◌↔◌, [], ◌∷◌, IfErr, IfOk, IsTrue, OnOk};
+ghost use Rattle.std.specs.Prelude.{◌≡◌, ◌↔◌, [], ◌∷◌, IfErr, IfOk, IsTrue, List as TheList, OnOk};
 ghost use Rattle.cry_base.specs.Sets.{In};
+ghost use Rattle.holder_client.specs.Placing.{PlacedLink};
+ghost use Rattle.trail_audit.specs.Grouped.{HasGroups, source_of_link};
 ghost use Rattle.trail_audit.specs.Records.{IsTagged};
 ghost use Rattle.trail_audit.specs.Records.PlainRecord.{ALink};
 ghost use Rattle.trail_audit.specs.Right.{target_of};
 ghost use Rattle.trail_audit.specs.Trails.{AreRightKeys, BeginsAt, IsGrown, IsKept, LinkFault, TagFault};
 
+use crate::grouped::{Source, add_under, group_of};
 use crate::placed_records::LinkAt;
 use crate::right_key::RightKey;
 use chacha_seal::{BadTag, HolderK, Key, open_key};
@@ -13,6 +16,7 @@ use cry_base::{List, Mem};
 use holder_client::ClientFault;
 use record_format::link_header;
 use std::alloc::Global;
+use std::collections::HashMap;
 
 /// Whether the key stands among the keys, with the same bytes.
 fn has_key(keys: &[RightKey], key: &RightKey) -> bool
@@ -80,7 +84,7 @@ fn follow_link(
     Ok(())
 }
 
-/// Follows each link that begins at a key.
+/// Follows each of the links that begins at a key.
 fn follow_links(
     links: &[LinkAt<'_>],
     key: &RightKey,
@@ -95,6 +99,29 @@ fn follow_links(
     Ok(())
 }
 
+/// The links by where they begin.
+fn by_source<'a>(alloc: Global, links: &[LinkAt<'a>]) -> Mem<HashMap<Source, List<LinkAt<'a>>>>
+    ensures { IfOk result (λ groups. HasGroups source_of_link groups links.now) }
+{
+    let mut groups = HashMap::new(alloc);
+    for found in links {
+        add_under(&mut groups, alloc, found.source(), found.again())?;
+    }
+    Ok(groups)
+}
+
+/// Follows each link that begins at a key, and walks over no other.
+fn follow_from(
+    groups: &HashMap<Source, List<LinkAt<'_>>>,
+    key: &RightKey,
+    keys: &mut List<RightKey>,
+) -> Result<(), ClientFault>
+    ensures grown { OnOk result ((links : TheList PlacedLink) → HasGroups source_of_link groups.now links → IsGrown links key.now keys.old.items keys.new.items) }
+    ensures fault { IfErr result (λ fault. (links : TheList PlacedLink) → HasGroups source_of_link groups.now links → TagFault links key.now fault) }
+{
+    follow_links(group_of(groups, key.source()), key, keys)
+}
+
 /// The keys to which the links lead from the bundle's, each once, and the bundle's own. `Tampered` comes only for a link that
 /// begins at such a key and has a wrong tag under it, and where there is such a link, the answer isn't Ok.
 pub(crate) fn right_keys(
@@ -105,12 +132,13 @@ pub(crate) fn right_keys(
     ensures keys { IfOk result (λ keys. AreRightKeys links.now bundle keys.items) }
     ensures fault { IfErr result (LinkFault links.now bundle) }
 {
+    let groups = by_source(alloc, links)?;
     let mut keys = List::new(alloc);
     keys.push(bundle)?;
     let mut done = 0;
     while done < keys.as_slice().len() {
         let key = keys.as_slice()[done];
-        follow_links(links, &key, &mut keys)?;
+        follow_from(&groups, &key, &mut keys)?;
         done += 1;
     }
     Ok(keys)

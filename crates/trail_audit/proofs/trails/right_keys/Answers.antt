@@ -7,15 +7,15 @@ use Rattle.trail_audit.proofs.trails.right_keys.Goals as goal
 pub loop-done-init : goal.loop-done-init
 loop-done-init c = found_first c.args.links.now c.args.bundle c.push.new.self.items (c.in_ok-push.ensures.items ∙ ap (λ (ks : List KeyParts). ks ++ c.args.bundle ∷ []) c.new-keys.ensures)
 
-pub returns-in_err-follow_links-clause-fault : goal.returns-in_err-follow_links-clause-fault
-returns-in_err-follow_links-clause-fault c =
-    let p = err_from_is_err_and c.from_residual-in_err-follow_links.result c.from_residual-in_err-follow_links.ensures.1 in
+pub returns-in_err-follow_from-clause-fault : goal.returns-in_err-follow_from-clause-fault
+returns-in_err-follow_from-clause-fault c =
+    let p = err_from_is_err_and c.from_residual-in_err-follow_from.result c.from_residual-in_err-follow_from.ensures.1 in
     let keys = c.loop-done.keys.items in
     let done = c.loop-done.done in
     let key = c.index-as_slice-done.result in
     let within : done < length keys = omega (arith, c.loop-done-test.true, ap length c.as_slice.ensures) in
     let is : key ≡ get_or keys done key = c.index-as_slice-done.is ∙ ap (λ (ks : List KeyParts). get_or ks done key) c.as_slice-in-loop-done.ensures in
-    rw (p.1, p.2) (link_fault_under c.args.links.now c.args.bundle key done keys c.in_err-follow_links.field-0.0 within is c.loop-done.invariant c.in_err-follow_links.ensures.fault)
+    rw (p.1, p.2) (link_fault_under c.args.links.now c.args.bundle key done keys c.in_err-follow_from.field-0.0 within is c.loop-done.invariant (c.in_err-follow_from.ensures.fault c.args.links.now c.in_ok-groups.ensures))
 
 pub loop-done-preserved : goal.loop-done-preserved
 loop-done-preserved c =
@@ -24,7 +24,7 @@ loop-done-preserved c =
     let key = c.index-as_slice-done.result in
     let within : done < length keys = omega (arith, c.loop-done-test.true, ap length c.as_slice.ensures) in
     let is : key ≡ get_or keys done key = c.index-as_slice-done.is ∙ ap (λ (ks : List KeyParts). get_or ks done key) c.as_slice-in-loop-done.ensures in
-    found_next c.args.links.now c.args.bundle done keys c.follow_links.new.keys.items key within is c.loop-done.invariant c.in_ok-follow_links.ensures.grown
+    found_next c.args.links.now c.args.bundle done keys c.follow_from.new.keys.items key within is c.loop-done.invariant (c.in_ok-follow_from.ensures.grown c.args.links.now c.in_ok-groups.ensures)
 
 pub returns-clause-keys : goal.returns-clause-keys
 returns-clause-keys c =

@@ -1,0 +1,24 @@
+-- What an audit shows of a journal, by serials alone. This project's own, docs/FORMAT.md, "Records" and "Lines".
+use Rattle.std.specs.Prelude.{List, map, Result, Ok}
+use Rattle.closure_laws.specs.Seen.{seen}
+use Rattle.cry_base.specs.Listed.{Listed}
+use Rattle.cry_base.specs.declared.client.Bundle.{Bundle}
+use Rattle.holder_client.specs.Judging.{Failure, who_of}
+use Rattle.public_fold.specs.Journal.{Journal, store_of}
+use Rattle.reader_laws.specs.Reading.{if_known}
+use Rattle.role_graph.specs.Rights.{Who}
+use Rattle.trail_audit.specs.Derived.{PlainSeen, plain_seen, seen_of_sight}
+use Rattle.trail_audit.specs.declared.seen.Seen.{Seen}
+
+-- each name and each file of the journal's history, as it was written, whose key the history derives from the own key of
+-- whoever looks; by batch. Holders' keys are left out
+unfoldable pub audit_of_journal : Journal → Who → List PlainSeen
+audit_of_journal m who = map seen_of_sight (seen m who)
+
+-- the answer to a bundle's reader: that, if the store knows who it is
+unfoldable pub audit_answer : Journal → Bundle → Result (List PlainSeen) Failure
+audit_answer m bundle = if_known (store_of m) bundle (Ok (audit_of_journal m (who_of bundle)))
+
+-- what an answer shows, without the room beside the bytes
+abbrev pub seen_items : Listed Seen → List PlainSeen
+seen_items answer = map plain_seen answer.items
