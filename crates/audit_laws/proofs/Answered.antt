@@ -38,7 +38,7 @@ use Rattle.reader_laws.proofs.Shown.{answered, bundle_reads, published_readable,
 use Rattle.reader_laws.proofs.WrongKeys.{wrong_owner}
 use Rattle.trail_audit.specs.Auditing.{MayFail, RecordFault, bundle_key}
 use Rattle.trail_audit.specs.Derived.{IsToldOf, MayAnswer, Passes, PlainSeen}
-use Rattle.trail_audit.specs.declared.seen.Seen.{Seen}
+use Rattle.cry_base.specs.declared.client.Seen.{Seen}
 use Rattle.audit_laws.specs.Audited.{audit_answer, audit_of_journal, seen_items}
 use Rattle.audit_laws.proofs.Begun.{begun_audit, begun_faults, begun_holder}
 use Rattle.audit_laws.proofs.Keyed.{newest_keyed, own_bytes}

@@ -16,7 +16,7 @@ use Rattle.reader_laws.proofs.Published.{MayPublish, may_publish}
 use Rattle.secrecy_laws.specs.Sights.{IsFairlySeen}
 use Rattle.secrecy_laws.proofs.Seeing.{fairly_seen}
 use Rattle.trail_audit.specs.Derived.{MayAnswer, PlainSeen, seen_of_sight}
-use Rattle.trail_audit.specs.declared.seen.Seen.{Seen}
+use Rattle.cry_base.specs.declared.client.Seen.{Seen}
 use Rattle.audit_laws.specs.Audited.{audit_answer, audit_of_journal, seen_items}
 use Rattle.audit_laws.proofs.Answered.{audit_answered}
 use Rattle.audit_laws.proofs.Begun.{begun_holder}

@@ -8,7 +8,7 @@ use Rattle.public_fold.specs.Journal.{Journal, store_of}
 use Rattle.reader_laws.specs.Reading.{if_known}
 use Rattle.role_graph.specs.Rights.{Who}
 use Rattle.trail_audit.specs.Derived.{PlainSeen, plain_seen, seen_of_sight}
-use Rattle.trail_audit.specs.declared.seen.Seen.{Seen}
+use Rattle.cry_base.specs.declared.client.Seen.{Seen}
 
 -- each name and each file of the journal's history, as it was written, whose key the history derives from the own key of
 -- whoever looks; by batch. Holders' keys are left out

@@ -14,7 +14,7 @@ ghost use Rattle.journal_bytes.specs.Journals.{IsHonestFor, StandsForJournal, pu
 ghost use Rattle.reader_laws.specs.Reading.{IsRightFor, IsWrongFor};
 ghost use Rattle.secrecy_laws.specs.Sights.{IsFairlySeen};
 ghost use Rattle.trail_audit.specs.Derived.{MayAnswer, PlainSeen, seen_of_sight};
-ghost use Rattle.trail_audit.specs.declared.seen.Seen.{Seen};
+ghost use Rattle.cry_base.specs.declared.client.Seen.{Seen};
 ghost use Rattle.audit_laws.specs.Audited.{audit_answer, seen_items};
 
 /// Law: of bytes that stand for a journal, with an honest last slot, an audit with a right key answers exactly what the history of

@@ -1,5 +1,5 @@
 //! What a reader is handed, and what it shows.
-use crate::{HolderId, Text};
+use crate::{HolderId, Node, Text};
 
 /// A key with whose it is: what opens a store to a reader.
 #[derive(Clone, Copy, PartialEq, Eq)]
@@ -19,4 +19,16 @@ pub enum Line {
     Folder { path: Text },
     /// A file that is shown.
     File { path: Text, bytes: Text },
+}
+
+/// What an audit shows: a name that a bundle's key leads to, or a file's name and bytes, and the batch that wrote it.
+#[derive(Debug, Drop, PartialEq, Eq)]
+pub struct Seen {
+    /// The number of the batch, from 1.
+    pub batch: u32,
+    /// The folder or the file.
+    pub node: Node,
+    pub name: Text,
+    /// The bytes of the file; of a folder none.
+    pub bytes: Text,
 }

@@ -11,7 +11,7 @@ mod memory;
 mod roles;
 pub mod rows;
 
-pub use client::{Bundle, Line};
+pub use client::{Bundle, Line, Seen};
 pub use commands::{Command, Refusal, Reply};
 pub use ids::{Epoch, FileId, FolderId, HolderId, Serial};
 pub use limits::{Limits, limits_of};

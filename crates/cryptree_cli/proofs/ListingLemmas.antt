@@ -14,7 +14,7 @@ use Rattle.commit_journal.specs.Reading.{IsOnlyRead}
 use Rattle.script_text.specs.Printing.{path_line, file_line}
 use Rattle.script_text.specs.Printing as printing
 use Rattle.script_text.specs.SeenLines.{spell_seen}
-use Rattle.script_text.specs.declared.seen.Seen.{Seen}
+use Rattle.cry_base.specs.declared.client.Seen.{Seen}
 use Rattle.trail_audit.specs.Auditing.{MayFail}
 use Rattle.trail_audit.specs.Derived.{IsToldOf, plain_seen}
 use Rattle.holder_client.specs.Answering.{IsFailure}

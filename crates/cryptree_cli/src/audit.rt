@@ -10,9 +10,9 @@ use crate::answering::{client_status, input_status};
 use crate::input::read_bundle_line;
 use crate::outside::tell;
 use crate::status::Status;
-use cry_base::{Bundle, List, Mem, Text};
+use cry_base::{Bundle, List, Mem, Seen, Text};
 use cry_io::{Disk, Sink, Source};
-use script_text::{Seen, print_seen};
+use script_text::print_seen;
 use std::alloc::Global;
 
 /// Prints all names and files that the key that the input hands in leads to, by the batches that wrote them.

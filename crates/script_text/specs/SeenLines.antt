@@ -3,7 +3,7 @@ use Rattle.std.specs.Prelude.{ℕ, List, [], ◌∷◌, ◌++◌, codes, decimal
 use Rattle.cry_base.specs.Texts.{hex_of}
 use Rattle.cry_base.specs.declared.roles.Node.{Node}
 use Rattle.cry_base.specs.declared.roles.Node.TheVariants.{Folder, File}
-use Rattle.script_text.specs.declared.seen.Seen.{Seen}
+use Rattle.cry_base.specs.declared.client.Seen.{Seen}
 
 -- a word, two numbers' digits and a name, with a space between them
 unfoldable pub seen_front : List ℕ → List ℕ → List ℕ → List ℕ → List ℕ

@@ -10,7 +10,6 @@ mod hex_text;
 pub mod laws;
 mod printing;
 mod reading;
-mod seen;
 mod seen_lines;
 
 pub use commands::read_line;
@@ -18,5 +17,4 @@ pub use cutter::Cutter;
 pub use fault::LineFault;
 pub use printing::{print_line, print_owner, print_reply};
 pub use reading::read_bundle;
-pub use seen::Seen;
 pub use seen_lines::print_seen;

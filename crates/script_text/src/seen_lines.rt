@@ -2,9 +2,8 @@
 ghost use Rattle.std.specs.Prelude.{◌≡◌, ◌+◌, ◌*◌, ◌^◌, ◌<◌, ◌≤◌, ◌++◌, length, IsOk, IsNone, IfSome, OnOk, OnErr};
 ghost use Rattle.script_text.specs.SeenLines.{seen_file_line, seen_folder_line, seen_front, spell_seen};
 
-use crate::Seen;
 use crate::hex_text::put_hex;
-use cry_base::{Mem, Node, OutOfMemory, Text};
+use cry_base::{Mem, Node, OutOfMemory, Seen, Text};
 use itoa::Buffer;
 
 /// Appends one line of an audit with its newline: `folder BATCH ID NAME` or `file BATCH ID NAME HEX`, numbers in decimal, the

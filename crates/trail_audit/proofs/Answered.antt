@@ -18,7 +18,7 @@ use Rattle.holder_client.proofs.Viewed.{fault_first}
 use Rattle.public_fold.specs.Journal.{Stand, nothing}
 use Rattle.trail_audit.specs.Auditing.{RecordFault}
 use Rattle.trail_audit.specs.Derived.{AnswersAudit, IsToldOf, MayAnswer, Passes, plain_seen}
-use Rattle.script_text.specs.declared.seen.Seen.{Seen}
+use Rattle.cry_base.specs.declared.client.Seen.{Seen}
 
 pub told_weaker : (P Q : Failure → Type 0) → ((failure : Failure) → P failure → Q failure) → (fault : ClientFault) → IsToldOf P fault → IsToldOf Q fault
 told_weaker P Q weaker faults.NotAStore told = weaker _ told

@@ -32,7 +32,7 @@ use Rattle.trail_audit.specs.Auditing.RecordFault.{WrongLink, WrongContent, Wron
 use Rattle.trail_audit.specs.Derived.{ContentFault, FormFault, IsOpened, IsOpenedBy, IsToldOf, Passes, PlainSeen, audit_of, content_shown, file_shown, is_sealed_by, plain_seen, shown_by, text_shown, text_with}
 use Rattle.trail_audit.specs.Records.{AContent, IsTagged}
 use Rattle.trail_audit.specs.Trails.{AreRightKeys, LinkFault}
-use Rattle.script_text.specs.declared.seen.Seen.{Seen}
+use Rattle.cry_base.specs.declared.client.Seen.{Seen}
 
 -- ---- texts of the kinds
 

@@ -21,7 +21,7 @@ use Rattle.record_format.specs.Plain.{PlainContent}
 use Rattle.trail_audit.specs.Auditing.{MayFail, RecordFault, bundle_key, is_text, sealing_id}
 use Rattle.trail_audit.specs.Records.{AContent, IsTagged}
 use Rattle.trail_audit.specs.Trails.{AreRightKeys}
-use Rattle.script_text.specs.declared.seen.Seen.{Seen}
+use Rattle.cry_base.specs.declared.client.Seen.{Seen}
 
 -- a name, or a file's name and bytes, without the room beside the bytes
 pub record PlainSeen : Type 0 where

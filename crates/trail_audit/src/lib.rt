@@ -12,4 +12,4 @@ mod right_key;
 mod trails;
 
 pub use auditing::audit;
-pub use script_text::Seen;
+pub use cry_base::Seen;
