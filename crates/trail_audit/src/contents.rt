@@ -1,15 +1,18 @@
 //! The contents of a log, opened with all right keys (docs/FORMAT.md, "Records").
-ghost use Rattle.std.specs.Prelude.{◌≡◌, ◌++◌, [], ◌∷◌, IfErr, IfOk, IsTrue, MatchOption, OnOk, false, map, true};
+ghost use Rattle.std.specs.Prelude.{◌≡◌, ◌++◌, [], ◌∷◌, IfErr, IfOk, IsTrue, List as TheList, MatchOption, OnOk, false, map, true};
+ghost use Rattle.chacha_seal.specs.Keys.{KeyParts};
 ghost use Rattle.cry_base.specs.Sets.{In};
 ghost use Rattle.holder_client.specs.Holding.{HasParts};
 ghost use Rattle.holder_client.specs.Placing.{PlacedContent};
 ghost use Rattle.holder_client.specs.Visiting.{is_file_text as the_file_text, is_folder_text as the_folder_text};
 ghost use Rattle.trail_audit.specs.Auditing.{is_text as the_text, sealing_id as the_sealing_id};
 ghost use Rattle.trail_audit.specs.Derived as spec;
+ghost use Rattle.trail_audit.specs.Grouped.{HasGroups, content_source, key_source};
 ghost use Rattle.trail_audit.specs.Records.{IsTagged};
 ghost use Rattle.trail_audit.specs.Records.PlainRecord.{AContent};
 
 use crate::Seen;
+use crate::grouped::{Source, add_under, group_of};
 use crate::placed_records::ContentAt;
 use crate::right_key::RightKey;
 use chacha_seal::{BadTag, open_in_place};
@@ -18,6 +21,7 @@ use folder_nodes::name_ok;
 use holder_client::ClientFault;
 use record_format::content_header;
 use std::alloc::Global;
+use std::collections::HashMap;
 
 /// The kinds of contents: the names of folders, the names and bytes of files, the keys of holders.
 const FOLDER_NAME: u8 = 1;
@@ -201,7 +205,7 @@ fn see_with(
     see_text(alloc, found, text, seen)
 }
 
-/// Opens a content with each of the keys that it says it is sealed under.
+/// Opens a content with each of the keys that it says it is sealed under, one after another.
 fn see_content(
     alloc: Global,
     found: &ContentAt<'_>,
@@ -218,6 +222,42 @@ fn see_content(
     Ok(())
 }
 
+/// The keys by their numbers and serials.
+fn by_source(alloc: Global, keys: &[RightKey]) -> Mem<HashMap<Source, List<RightKey>>>
+    ensures { IfOk result (λ groups. HasGroups key_source groups keys.now) }
+{
+    let mut groups = HashMap::new(alloc);
+    for key in keys {
+        add_under(&mut groups, alloc, key.source(), *key)?;
+    }
+    Ok(groups)
+}
+
+/// What the content says that it is sealed under.
+fn source_of(found: &ContentAt<'_>) -> Source
+    ensures { result ≡ content_source found.now.content }
+{
+    Source {
+        id: sealing_id(found),
+        serial: found.content.key_serial.0,
+    }
+}
+
+/// Opens a content with each of the keys that it says it is sealed under, and walks over no other.
+fn see_under(
+    alloc: Global,
+    found: &ContentAt<'_>,
+    groups: &HashMap<Source, List<RightKey>>,
+    seen: &mut List<Seen>,
+) -> Result<(), ClientFault>
+    ensures opened { OnOk result ((keys : TheList KeyParts) → HasGroups key_source groups.now keys → spec.IsOpened keys found.now) }
+    ensures seen { OnOk result ((keys : TheList KeyParts) → HasGroups key_source groups.now keys →
+        map spec.plain_seen seen.new.items ≡ map spec.plain_seen seen.old.items ++ spec.content_shown keys found.now) }
+    ensures fault { IfErr result (λ fault. (keys : TheList KeyParts) → HasGroups key_source groups.now keys → spec.ContentFault (found.now ∷ []) keys fault) }
+{
+    see_content(alloc, found, group_of(groups, source_of(found)), seen)
+}
+
 /// Opens each content with each of the keys that it says it is sealed under, in order. `Tampered` comes only for a content with a
 /// wrong tag under such a key, and `Damaged` only for one with a right tag and a text that isn't of its form; where there is such
 /// a content, the answer isn't Ok.
@@ -230,9 +270,10 @@ pub(crate) fn see_contents(
     ensures seen { IfOk result (λ seen. map spec.plain_seen seen.items ≡ spec.audit_of keys.now contents.now) }
     ensures fault { IfErr result (spec.ContentFault contents.now keys.now) }
 {
+    let groups = by_source(alloc, keys)?;
     let mut seen = List::new(alloc);
     for found in contents {
-        see_content(alloc, found, keys, &mut seen)?;
+        see_under(alloc, found, &groups, &mut seen)?;
     }
     Ok(seen)
 }
