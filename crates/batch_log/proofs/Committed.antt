@@ -1,10 +1,10 @@
 -- What the three steps of a commit, and each moment of them, leave of the bytes.
-use Rattle.std.proofs.Common.{◌≡◌, ◌≢◌, ◌⊎◌, inl, inr, ℕ, ◌+◌, ◌-◌, ◌≤◌, ◌<◌, List, [], ◌∷◌, ◌++◌, length, take, drop, append_assoc, arith, refl, sym, ap, subst, ◌∙◌, length-append}
+use Rattle.std.proofs.Common.{◌≡◌, ◌⊎◌, inl, inr, ℕ, ◌+◌, ◌-◌, ◌≤◌, List, [], ◌∷◌, ◌++◌, length, take, drop, append_assoc, arith, refl, sym, ap, subst, ◌∙◌, length-append}
 use Rattle.std.specs.Prelude.{slice_index, slice_range}
 use Rattle.std.proofs.Math.Seq.{take-append_seam, drop-append_seam}
 use Rattle.std.proofs.lemmas.List.{drop-drop, length-take-le, length-drop, places, take-append-drop}
 use Rattle.cry_io.specs.Stops.{Torn, Written}
-use Rattle.batch_log.specs.Steps.{AtEntry, BehindClosedGate, BehindOpenGate, Published, EndsAt, HoldsBatch, Interrupts, IsHeldWhereShown, IsOneOfFour, IsStageable, shown_at, with_slot, written_at, zero_slot}
+use Rattle.batch_log.specs.Steps.{AtEntry, BehindClosedGate, BehindOpenGate, Published, EndsAt, Interrupts, IsHeldWhereShown, IsOneOfFour, IsStageable, shown_at, with_slot, written_at, zero_slot}
 use Rattle.batch_log.proofs.Lists.{torn_behind, torn_over, written_behind, written_over}
 
 -- ---- the three steps, done

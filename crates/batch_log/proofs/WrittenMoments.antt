@@ -1,9 +1,9 @@
 -- The moments of one write and its sync.
-use Rattle.std.proofs.Common.{◌≡◌, ◌≤◌, ⊎_elim, inl, inr, ℕ, List, Option, Some, Result, Ok, Err, length, sym, subst, ◌∙◌}
-use Rattle.std.specs.Prelude.{is_some, OnOk, OnErr}
+use Rattle.std.proofs.Common.{◌≡◌, ◌≤◌, ℕ, List, Option, Some, Result, Ok, Err, length, sym, subst, ◌∙◌}
+use Rattle.std.specs.Prelude.{OnOk, OnErr}
 use Rattle.cry_io.specs.Told.{WhereBothTold}
 use Rattle.cry_io.specs.Stops.{Follows, IsDurable, Torn, Written}
-use Rattle.batch_log.specs.Moments.{OldOrNew, TornInto}
+use Rattle.batch_log.specs.Moments.{TornInto}
 use Rattle.batch_log.proofs.Lists.{nothing_torn, written_may_be_torn}
 
 pub told_one : (o : Option (List ℕ)) (x y : List ℕ) → o ≡ Some x → o ≡ Some y → x ≡ y

@@ -14,12 +14,7 @@ use cry_io::{Disk, Failed};
 ///
 /// `Failed` comes only where the disk's faults rose in this call. Then the gate before the batch is as it was, or the whole batch
 /// stands behind it but for its slot. Where nothing was pending, a stop at any moment of the call leaves such bytes too.
-pub fn append<D: Disk>(
-    disk: &mut D,
-    end: u64,
-    batch: &[u8],
-    veil: &[u8; 32],
-) -> Result<(), Failed>
+pub fn append<D: Disk>(disk: &mut D, end: u64, batch: &[u8], veil: &[u8; 32]) -> Result<(), Failed>
     requires gate { 1 ≤ end }
     requires inside { end ≤ D.size_of disk.old }
     requires fits { end + length batch.now < 2 ^ 64 }

@@ -111,14 +111,6 @@ pub fn open_gate<D: Disk>(disk: &mut D, staged: Staged<'_>) -> Result<Gated, Fai
     })
 }
 
-/// A batch of so many bytes, its next gate among them, whose gate before the place `end` was found open.
-pub fn gated_at(end: u64, len: u64) -> Gated
-    requires { (1 ≤ end) × (45 ≤ len) }
-    ensures { result ≡ record { end = end; len = len } }
-{
-    Gated { end, len }
-}
-
 /// Publishes a batch by its veil key, and makes that stay. Every list that a stop may leave has the open gate and the batch behind
 /// it by then: what was published is not taken back.
 pub fn unveil<D: Disk>(disk: &mut D, gated: Gated, veil: &[u8; 32]) -> Result<(), Failed>
@@ -141,4 +133,23 @@ pub fn unveil<D: Disk>(disk: &mut D, gated: Gated, veil: &[u8; 32]) -> Result<()
     let Gated { end, len: _ } = gated;
     let _size = disk.size();
     write_and_sync(disk, end + SLOT, veil)
+}
+
+/// Writes a slot anew that a stop left without its veil key, in a batch whose gate was found open when the store was opened. It makes
+/// that stay.
+pub fn refill_slot<D: Disk>(disk: &mut D, place: u64, veil: &[u8; 32]) -> Result<(), Failed>
+    requires inside { place + 32 ≤ D.size_of disk.old }
+    ensures told { is_some (D.shown disk.new) ≡ is_some (D.shown disk.old) }
+    ensures written { OnOk result (WhereBothTold (D.shown disk.old) (D.shown disk.new) (Written place veil.now)) }
+    ensures torn { OnErr result (WhereBothTold (D.shown disk.old) (D.shown disk.new) (Torn place 32)) }
+    ensures durable { OnOk result (IsDurable (D.may_leave disk.new) (D.shown disk.new)) }
+    ensures size { D.size_of disk.new ≡ D.size_of disk.old }
+    ensures later { D.moment disk.old ≤ D.moment disk.new }
+    ensures time { GoesOn (D.moment disk.old) (D.since disk.old) (D.since disk.new) }
+    ensures stops { IsDurable (D.may_leave disk.old) (D.shown disk.old) → WhereTold (D.shown disk.old)
+        (λ x. Throughout (TornInto place 32 x) (D.since disk.new (D.moment disk.old))) }
+    ensures counts { CountsFault result (D.faults disk.old) (D.faults disk.new) }
+{
+    let _size = disk.size();
+    write_and_sync(disk, place, veil)
 }

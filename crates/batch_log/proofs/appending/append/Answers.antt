@@ -1,8 +1,8 @@
-use Rattle.std.proofs.Common.{◌≡◌, ◌-◌, ◌+◌, ◌≤◌, ℕ, List, Option, Some, [], ◌∷◌, length, arith, ap, subst, ◌∙◌}
+use Rattle.std.proofs.Common.{◌≡◌, ◌-◌, ◌+◌, ◌≤◌, ℕ, List, [], ◌∷◌, length, arith, ap, subst, ◌∙◌}
 use Rattle.std.proofs.lemmas.Result.{on_err_weaker, on_ok_weaker}
 use Rattle.cry_io.proofs.ToldLemmas.{told_again}
 use Rattle.cry_io.specs.Stops.{Torn, Written}
-use Rattle.batch_log.specs.Moments.{OldOrNew, Throughout, TornInto}
+use Rattle.batch_log.specs.Moments.{OldOrNew, TornInto}
 use Rattle.batch_log.specs.Steps.{Interrupts, IsHeldWhereShown, IsOneOfFour}
 use Rattle.batch_log.specs.Tokens.{GatedBatch, StagedBatch}
 use Rattle.batch_log.proofs.Committed.{committed, four_in_opening, four_in_staging, four_in_unveiling, held_in_opening, held_in_staging, held_in_unveiling, torn_in_opening, torn_in_staging, torn_in_unveiling}

@@ -1,8 +1,7 @@
-use Rattle.std.proofs.Common.{◌≡◌, ◌-◌, ◌≤◌, ◌+◌, ℕ, List, [], ◌∷◌, length, arith, ap, sym, subst}
+use Rattle.std.proofs.Common.{◌≡◌, ◌-◌, [], ◌∷◌, length, arith, ap, sym, subst}
 use Rattle.cry_io.proofs.ToldLemmas.{told_again}
 use Rattle.cry_io.specs.Stops.{Written}
 use Rattle.batch_log.specs.Moments.{Throughout, TornInto}
-use Rattle.batch_log.specs.Steps.{IsGatedAt}
 use Rattle.batch_log.specs.Tokens.{StagedBatch}
 use Rattle.batch_log.proofs.Staging.{gated_written}
 use Rattle.batch_log.proofs.steps.open_gate.Goals as goal

@@ -1,4 +1,4 @@
-use Rattle.std.proofs.Common.{◌≡◌, ◌+◌, ℕ, List, length, subst}
+use Rattle.std.proofs.Common.{◌+◌, subst}
 use Rattle.std.specs.Prelude.{OnErr, OnOk}
 use Rattle.cry_io.specs.Stops.{Torn, Written}
 use Rattle.cry_io.specs.Told.{WhereBothTold}

@@ -1,8 +1,5 @@
-use Rattle.std.proofs.Common.{◌≡◌, ◌≤◌, ℕ, List, Option, Some, inl, inr, length, arith, sym, subst, ◌∙◌}
-use Rattle.std.specs.Prelude.{OnOk}
-use Rattle.cry_io.specs.Stops.{Torn, Written}
-use Rattle.cry_io.specs.Told.{WhereBothTold}
-use Rattle.batch_log.specs.Moments.{GoesOn, OldOrNew, TornInto}
+use Rattle.std.proofs.Common.{◌≡◌, ◌≤◌, ℕ, List, Some, inl, inr, length, arith, sym, subst, ◌∙◌}
+use Rattle.batch_log.specs.Moments.{OldOrNew, TornInto}
 use Rattle.batch_log.proofs.Lists.{written_may_be_torn}
 use Rattle.batch_log.proofs.Moments.{goes_on_elapsed, goes_on_then, in_next_call, in_one_call}
 use Rattle.batch_log.proofs.WrittenMoments.{on_err, on_ok, told_one, torn_at_start, torn_behind_write}
