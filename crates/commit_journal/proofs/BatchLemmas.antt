@@ -7,7 +7,7 @@ use Rattle.hmac_seal.specs.Hmac.{hmac}
 use Rattle.chacha_seal.specs.Sealing.{owner_tag_key, masked}
 use Rattle.chacha_seal.specs.Stream.{xor_stream, xor_from}
 use Rattle.commit_journal.proofs.Pieces.{length-head_bytes}
-use Rattle.commit_journal.specs.Committing.{with_slot}
+use Rattle.batch_log.specs.Steps.{with_slot}
 use Rattle.commit_journal.specs.Image.{Batch, batch_head, batch_veil, masked_payload, batch_check, owner_tag, spell_batch, empty_slot}
 use Rattle.commit_journal.specs.Journals.{epoch_batch}
 use borrow.Rule.Slice.PartMut.{post_of, put_mid}

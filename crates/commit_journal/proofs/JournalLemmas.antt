@@ -13,7 +13,7 @@ use Rattle.record_format.specs.Spellable.{IsSpellable}
 use Rattle.record_format.proofs.Lengths.{contents_small, note_size_most}
 use Rattle.commit_journal.specs.declared.commit_fault.CommitFault.{CommitFault}
 use Rattle.commit_journal.specs.declared.commit_fault.CommitFault.TheVariants as faults
-use Rattle.commit_journal.specs.Committing.{Commits, with_slot}
+use Rattle.batch_log.specs.Steps.{Commits, with_slot}
 use Rattle.commit_journal.specs.Image.{Batch, batch_veil, empty_slot, owner_tag, spell_batch, spell_header, spell_batches, image}
 use Rattle.commit_journal.specs.Journals.{JournalState, IsBehind, IsJournalOf, Joins, last_epoch, refusal}
 use Rattle.commit_journal.specs.Standing.{StandsWhole, tag_behind, last_tag}

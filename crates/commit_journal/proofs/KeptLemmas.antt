@@ -1,7 +1,6 @@
 -- What disks hold and calls kept: how calls one after another add up.
-use Rattle.std.proofs.Common.{◌≡◌, ◌≤◌, ⊎_elim, inl, inr, ℕ, List, [], ◌++◌, Option, Some, append_assoc, sym, ap, ◌∙◌, arith}
+use Rattle.std.proofs.Common.{◌≡◌, ◌≤◌, ⊎_elim, inl, inr, ℕ, List, [], ◌++◌, Option, Some, append_assoc, sym, ap, ◌∙◌}
 use Rattle.std.proofs.lemmas.List.{append-nil}
-use Rattle.cry_io.specs.Stops.{Elapses}
 use Rattle.commit_journal.specs.Holding.{IsPrefix, IsBetween, HoldsBetween, IsSettled, IsKept, Kept, GoesOn}
 
 pub prefix_same : {X : Type 0} (xs : List X) → IsPrefix xs xs
@@ -59,36 +58,3 @@ kept_then stands low high reached a b further start first past since before goes
       stands_for = k.stands_for;
     } in is))
     ((goes first s c before).0 at)
-
-pub goes_on_elapsed : (before now : ℕ) (past since : ℕ → List ℕ → List ℕ → Type 0) (was shown : Option (List ℕ)) (left may_leave : List ℕ → Type 0) →
-    ((s c : List ℕ) → past before s c → (was ≡ Some s) × left c) →
-    ((t : ℕ) (s c : List ℕ) → t ≤ before → was ≡ Some s → left c → past t s c) →
-    ((t : ℕ) (s c : List ℕ) → t ≤ now → shown ≡ Some s → may_leave c → since t s c) →
-    Elapses before now past since shown may_leave → GoesOn before past since
-goes_on_elapsed before now past since was shown left may_leave only counted counts time t s c early = (
-  λ at. ⊎_elim (λ old. inl old) (λ is. inr (counts before s c time.later is.0 is.1)) (time.nothing_else t s c early at),
-  λ at. ⊎_elim
-      (λ old. time.keeps t s c early old)
-      (λ new. ⊎_elim
-      (λ old. let is = only s c old in time.keeps t s c early (counted t s c early is.0 is.1))
-      (λ is. let by : t ≤ now = let l = time.later in omega arith in counts t s c by is.0 is.1)
-      (time.nothing_else before s c (omega arith) new))
-      at,
-)
-
-pub goes_on_then : (start next : ℕ) (past since later : ℕ → List ℕ → List ℕ → Type 0) → start ≤ next →
-    GoesOn start past since → GoesOn next since later → GoesOn start past later
-goes_on_then start next past since later order one two t s c early =
-    let by : t ≤ next = omega arith in (
-      λ at. ⊎_elim
-          (λ old. ⊎_elim (λ p. inl p) (λ n. inr ((two start s c order).1 (inl n))) ((one t s c early).0 old))
-          (λ new. inr ((two start s c order).1 (inr new)))
-          ((two t s c by).0 at),
-      λ at. ⊎_elim
-          (λ old. (two t s c by).1 (inl ((one t s c early).1 (inl old))))
-          (λ new. ⊎_elim
-          (λ n. (two t s c by).1 (inl ((one t s c early).1 (inr n))))
-          (λ n. (two t s c by).1 (inr n))
-          ((two start s c order).0 new))
-          at,
-    )

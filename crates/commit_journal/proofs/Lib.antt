@@ -3,7 +3,6 @@ pub mod BatchLemmas
 pub mod CommitLemmas
 pub mod Counted
 pub mod Followed
-pub mod Interrupted
 pub mod JournalLemmas
 pub mod Judged
 pub mod KeptLemmas
@@ -20,6 +19,7 @@ pub mod Stepped
 pub mod Stood
 pub mod Streamed
 pub mod Stopped
+pub mod StoppedCommits
 pub mod Tails
 pub mod Walked
 pub mod Walks

@@ -2,7 +2,7 @@
 use Rattle.std.proofs.Common.{◌≡◌, ◌≢◌, ◌⊎◌, inl, inr, ⊎_elim, ℕ, ◌+◌, Bool, true, false, eqb, List, [], ◌∷◌, ◌++◌, length, Option, append_assoc, arith, refl, sym, ap, subst, ◌∙◌}
 use Rattle.std.proofs.lemmas.Bool.Decides.{nat_tests}
 use Rattle.cry_io.specs.Told.{WhereBothTold}
-use Rattle.commit_journal.specs.Committing.{Interrupts, with_slot}
+use Rattle.batch_log.specs.Steps.{Interrupts, with_slot}
 use Rattle.commit_journal.specs.Image.{Batch, empty_slot, image, spell_batch}
 use Rattle.commit_journal.specs.Journals.{JournalState, MayJoin}
 use Rattle.commit_journal.specs.Standing.{StandsFor, StandsWhole, last_tag}
@@ -31,7 +31,7 @@ either owner slot bs b gate after y size is =
       | false ↦ λ shut. let other : gate ≢ 1 = grind (arith, nat_tests) in still owner bs b gate _ y other is
     ]) refl
 
-may_stand : (owner batch x y : List ℕ) (bs : List Batch) (b : Batch) (end : ℕ) → StandsWhole owner bs x → end ≡ length (image owner bs) + 1
+pub may_stand : (owner batch x y : List ℕ) (bs : List Batch) (b : Batch) (end : ℕ) → StandsWhole owner bs x → end ≡ length (image owner bs) + 1
     → batch ≡ spell_batch owner (last_tag owner bs) empty_slot b ++ 0 ∷ [] → Interrupts end batch x y → MayStand owner bs b y
 may_stand owner batch x y bs b end whole at batch_is interrupts =
     let previous = last_tag owner bs in

@@ -11,7 +11,7 @@ use Rattle.commit_journal.specs.Placed.{PlainBody, plain_placed}
 use Rattle.commit_journal.specs.declared.placed.Placed.{Placed}
 use Rattle.commit_journal.specs.Standing.{spell_slotted, slotted_image, StandsFor}
 use Rattle.commit_journal.specs.WholeLogs.{StillStand, whole_log}
-use Rattle.commit_journal.proofs.Interrupted.{torn_over}
+use Rattle.batch_log.proofs.Lists.{torn_over}
 use Rattle.commit_journal.proofs.Reopened.{opened_standing}
 use Rattle.commit_journal.proofs.Pieces.{length-head_bytes, piece}
 use Rattle.commit_journal.proofs.Refilled.{in_parts, slot_written}

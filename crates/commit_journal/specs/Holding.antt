@@ -1,6 +1,7 @@
 -- What a disk holds, and what a call kept at each moment, by what its bytes stand for: batches here, journals in the
 -- crates above. This project's own, docs/FORMAT.md, "Committing".
-use Rattle.std.specs.Prelude.{◌≡◌, ◌≤◌, ◌⊎◌, ◌↔◌, ℕ, List, ◌++◌, Option, Some}
+pub use Rattle.batch_log.specs.Moments.{GoesOn}
+use Rattle.std.specs.Prelude.{◌≡◌, ◌⊎◌, ℕ, List, ◌++◌, Option, Some}
 
 -- the one list begins the other, or is the other
 abbrev pub IsPrefix : {X : Type 0} → List X → List X → Type 0
@@ -37,7 +38,3 @@ pub record IsKept {X : Type 0} (stands : List X → List ℕ → Type 0) (low hi
 -- a call kept the two up to what it reached: so it was with whatever a stop might have left at each moment since its start
 abbrev pub Kept : {X : Type 0} → (List X → List ℕ → Type 0) → List X → List X → List X → (List ℕ → List ℕ → Type 0) → Type 0
 Kept stands low high reached since = (s c : List ℕ) → since s c → IsKept stands low high reached c
-
--- the moments since an earlier one are those that were past where a call starts, and those since its start
-abbrev pub GoesOn : ℕ → (ℕ → List ℕ → List ℕ → Type 0) → (ℕ → List ℕ → List ℕ → Type 0) → Type 0
-GoesOn start past since = (t : ℕ) (s c : List ℕ) → t ≤ start → since t s c ↔ (past t s c ⊎ since start s c)

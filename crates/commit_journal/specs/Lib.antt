@@ -13,7 +13,7 @@ pub mod Gates
 pub mod Holding
 pub mod Publishing
 pub mod Standing
-pub mod Committing
+pub mod Stopping
 pub mod Journals
 pub mod Opening
 pub mod WholeLogs

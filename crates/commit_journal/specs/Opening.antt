@@ -1,6 +1,7 @@
 -- What the owner's key reads of a store that is opened for writing, and the slots that are then filled. This project's own,
 -- docs/FORMAT.md, "Opening for writing".
 use Rattle.std.specs.Prelude.{◌≡◌, ◌≢◌, ◌⊎◌, ◌≤◌, ℕ, zero, suc, ◌+◌, ◌-◌, ◌*◌, true, false, ◌==◌, nat_le, if◌then◌else◌, List, [], ◌∷◌, ◌++◌, length, take, drop, slice_range, Option, None, Some, Result, Ok, Err}
+pub use Rattle.batch_log.specs.Steps.{written_at}
 use Rattle.std.specs.Str.{bytes_eq}
 use Rattle.chacha_seal.specs.Sealing.{veil_of, masked}
 use Rattle.commit_journal.specs.declared.head.Head.{Head}
@@ -65,10 +66,6 @@ owned_log limit owner past zero (byte ∷ rest) =
 -- the log of an image, or the first test that fails
 unfoldable pub opening_verdict : ℕ → List ℕ → List ℕ → Result OwnedLog Fault
 opening_verdict limit owner bytes = and_then (start_at owner bytes) (λ past. owned_log limit owner past 0 (drop 42 bytes))
-
--- the image with other bytes at a place
-abbrev pub written_at : ℕ → List ℕ → List ℕ → List ℕ
-written_at place bytes image = take place image ++ bytes ++ drop (place + length bytes) image
 
 -- the image with the veil key in the slot of each of these batches. A slot stands 32 bytes before its payload
 unfoldable pub slots_filled : List ℕ → List PlainPlaced → List ℕ → List ℕ

@@ -3,6 +3,7 @@ ghost use Rattle.std.specs.Prelude.{◌≡◌, ◌↔◌, ◌+◌, ◌-◌, ◌*
 ghost use Rattle.cry_io.specs.Counts.{CountsFault};
 ghost use Rattle.cry_io.specs.Stops.{IsDurable};
 ghost use Rattle.cry_io.specs.Told.{WhereTold};
+ghost use Rattle.batch_log.specs.Moments.{GoesOn};
 ghost use Rattle.record_format.specs.Plain.{plain_payload};
 ghost use Rattle.record_format.specs.Sizes.{payload_size};
 ghost use Rattle.record_format.specs.Spellable.{IsSpellable};
@@ -10,12 +11,13 @@ ghost use Rattle.record_format.specs.Spelling.{spell_payload};
 ghost use Rattle.commit_journal.specs.Image.{image};
 ghost use Rattle.commit_journal.specs.Journals as journals;
 ghost use Rattle.commit_journal.specs.Opening as opening;
+ghost use Rattle.commit_journal.specs.Stopping as stopping;
 
 use crate::CommitFault;
 use crate::batch::{EPOCH_BATCH_LEN, EpochBatch, command_batch, epoch_batch};
 use crate::head::BATCH_LEN;
 use crate::past::Past;
-use crate::steps::{append, write_and_sync};
+use batch_log::{append, write_header};
 use chacha_seal::{Key, OwnerK, check_of, veil_key};
 use cry_base::{Epoch, Limits, List, Mem, OutOfMemory, Text};
 use cry_io::Disk;
@@ -152,7 +154,7 @@ impl Journal {
         ensures counts { CountsFault result (D.faults disk.old) (D.faults disk.new) }
     {
         let check = check_of(owner.bytes());
-        let Ok(()) = write_and_sync(disk, 0, &header(&check)) else {
+        let Ok(()) = write_header(disk, &header(&check)) else {
             self.closed = true;
             return Err(CommitFault::DiskFault);
         };
@@ -284,6 +286,9 @@ impl Journal {
     /// batch would end past the store limit; nothing is changed by either. `DiskFault` comes only where the disk's faults
     /// rose in this call, and closes the journal: the disk then shows the log with this batch, or without. `OutOfMemory` never
     /// comes.
+    ///
+    /// Where nothing was pending, a stop at any moment of the call leaves the log with this batch or without, and none takes back what
+    /// was published.
     pub fn begin_epoch<D: Disk>(&mut self, disk: &mut D) -> Result<Epoch, CommitFault>
         requires spare { 1 ≤ self.old.spare }
         requires inside { self.old.is_closed ≡ false → self.old.end ≤ D.size_of disk.old }
@@ -293,6 +298,16 @@ impl Journal {
         ensures behind { OnOk result (journals.IsBehind (journals.next_epoch self.old) self.old self.new) }
         ensures joined { OnOk result (journals.Joins (journals.next_epoch self.old) self.old self.new (D.shown disk.old) (D.shown disk.new)) }
         ensures interrupted { result ≡ Err CommitFault.DiskFault → journals.MayJoin (journals.next_epoch self.old) self.old (D.shown disk.old) (D.shown disk.new) }
+        ensures later { D.moment disk.old ≤ D.moment disk.new }
+        ensures time { GoesOn (D.moment disk.old) (D.since disk.old) (D.since disk.new) }
+        ensures kept { stopping.KeepsLog (journals.next_epoch self.old) self.old
+            (D.shown disk.old) (D.may_leave disk.old) (D.since disk.new (D.moment disk.old)) }
+        ensures held { stopping.HoldsPublished (journals.next_epoch self.old) self.old
+            (D.shown disk.old) (D.may_leave disk.old) (D.since disk.new (D.moment disk.old)) }
+        ensures shows { OnOk result (stopping.ShowsFour (journals.next_epoch self.old) self.old
+            (D.shown disk.old) (D.since disk.new (D.moment disk.old))) }
+        ensures holds { stopping.HoldsLog (journals.next_epoch self.old) self.old
+            (D.shown disk.old) (D.may_leave disk.old) (D.shown disk.new) (D.may_leave disk.new) }
         ensures epoch { IfOk result (λ epoch. epoch.0 ≡ self.old.epoch + 1) }
         ensures begun { OnOk result (IsTrue self.new.has_epoch) }
         ensures spare { MatchResult result (λ _. self.old.spare ≤ self.new.spare + 1) (λ _. self.new.spare ≡ self.old.spare) }
@@ -341,6 +356,9 @@ impl Journal {
     /// batch would end past the store limit; nothing is changed by either. `DiskFault` comes only where the disk's faults
     /// rose in this call, and closes the journal: the disk then shows the log with this batch, or without. `OutOfMemory` never
     /// comes.
+    ///
+    /// Where nothing was pending, a stop at any moment of the call leaves the log with this batch or without, and none takes back what
+    /// was published.
     pub fn commit<D: Disk>(&mut self, disk: &mut D, payload: &Payload) -> Result<(), CommitFault>
         requires begun { IsTrue self.old.has_epoch }
         requires spellable { IsSpellable (plain_payload payload.now) }
@@ -356,6 +374,16 @@ impl Journal {
             self.old self.new (D.shown disk.old) (D.shown disk.new)) }
         ensures interrupted { result ≡ Err CommitFault.DiskFault → journals.MayJoin (journals.next_command self.old (spell_payload (plain_payload payload.now)))
             self.old (D.shown disk.old) (D.shown disk.new) }
+        ensures later { D.moment disk.old ≤ D.moment disk.new }
+        ensures time { GoesOn (D.moment disk.old) (D.since disk.old) (D.since disk.new) }
+        ensures kept { stopping.KeepsLog (journals.next_command self.old (spell_payload (plain_payload payload.now))) self.old
+            (D.shown disk.old) (D.may_leave disk.old) (D.since disk.new (D.moment disk.old)) }
+        ensures held { stopping.HoldsPublished (journals.next_command self.old (spell_payload (plain_payload payload.now))) self.old
+            (D.shown disk.old) (D.may_leave disk.old) (D.since disk.new (D.moment disk.old)) }
+        ensures shows { OnOk result (stopping.ShowsFour (journals.next_command self.old (spell_payload (plain_payload payload.now))) self.old
+            (D.shown disk.old) (D.since disk.new (D.moment disk.old))) }
+        ensures holds { stopping.HoldsLog (journals.next_command self.old (spell_payload (plain_payload payload.now))) self.old
+            (D.shown disk.old) (D.may_leave disk.old) (D.shown disk.new) (D.may_leave disk.new) }
         ensures begun { self.new.has_epoch ≡ self.old.has_epoch }
         ensures spare { MatchResult result (λ _. self.old.spare ≤ self.new.spare + 1) (λ _. self.new.spare ≡ self.old.spare) }
         ensures owner { self.new.owner ≡ self.old.owner }

@@ -21,7 +21,6 @@ mod places;
 mod public_log;
 mod reading;
 mod standing;
-mod steps;
 
 pub use batch_type::BatchType;
 pub use commit_fault::CommitFault;

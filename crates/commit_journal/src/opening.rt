@@ -19,8 +19,8 @@ use crate::judge::{OPEN, Turn};
 use crate::owned::judge_owned;
 use crate::past::Past;
 use crate::reading::{read_head, read_start};
-use crate::steps::write_and_sync;
 use crate::{Journal, OpenFault, Placed};
+use batch_log::refill_slot;
 use chacha_seal::{Key, OwnerK, veil_key};
 use cry_base::{Limits, List};
 use cry_io::{Disk, Failed};
@@ -141,7 +141,7 @@ fn fill_slot<D: Disk>(disk: &mut D, owner: &Key<OwnerK>, placed: &Placed) -> Res
     if tags_equal(&slot, &veil) {
         return Ok(());
     }
-    write_and_sync(disk, place, &veil)
+    refill_slot(disk, place, &veil)
 }
 
 fn fill_slots<D: Disk>(disk: &mut D, owner: &Key<OwnerK>, log: &[Placed]) -> Result<(), Failed>

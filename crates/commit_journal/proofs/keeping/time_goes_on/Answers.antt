@@ -1,4 +1,4 @@
-use Rattle.commit_journal.proofs.KeptLemmas.{goes_on_elapsed, goes_on_then}
+use Rattle.batch_log.proofs.Moments.{goes_on_elapsed, goes_on_then}
 use Rattle.commit_journal.proofs.keeping.time_goes_on.Goals as goal
 
 pub returns : goal.returns

@@ -1,9 +1,8 @@
-use Rattle.std.proofs.Common.{◌≡◌, ◌≢◌, ◌+◌, ◌-◌, false, true, length, slice_range, arith, sym, ap, subst, ◌∙◌}
+use Rattle.std.proofs.Common.{◌≡◌, ◌≢◌, ◌+◌, ◌-◌, false, true, slice_range, arith, sym, ap, ◌∙◌}
 use Rattle.std.proofs.lemmas.Result.{on_err_weaker, on_ok_weaker}
 use Rattle.chacha_seal.specs.Sealing.{veil_of}
 use Rattle.chacha_seal.proofs.SealingLemmas.{length-veil_of}
 use Rattle.commit_journal.specs.Opening.{written_at}
-use Rattle.cry_io.specs.Stops.{Torn}
 use Rattle.commit_journal.proofs.OwnedLemmas.{same_slot}
 use Rattle.commit_journal.proofs.SlotsLeft.{slot_torn}
 use Rattle.commit_journal.proofs.opening.fill_slot.Goals as goal
@@ -21,10 +20,10 @@ returns-then-tags_equal-clause-filled g c = λ x y x_is y_is.
 pub returns-clause-filled : goal.returns-clause-filled
 returns-clause-filled g c =
     let place = c.args.placed.now.place - 32 in
-    on_ok_weaker c.write_and_sync.result
+    on_ok_weaker c.refill_slot.result
     (λ written. λ x y x_is y_is.
     written x y (c.in_ok-read_at.ensures.shown ∙ x_is) y_is ∙ ap (λ v. written_at place v x) c.veil_key-veil.ensures)
-    c.write_and_sync.ensures.written
+    c.refill_slot.ensures.written
 
 pub returns-clause-left : goal.returns-clause-left
 returns-clause-left g c =
@@ -32,7 +31,7 @@ returns-clause-left g c =
     let place = placed.place - 32 in
     let owner = c.args.owner.now.bytes in
     let veil = veil_of owner placed.epoch.0 placed.batch in
-    on_err_weaker c.write_and_sync.result
+    on_err_weaker c.refill_slot.result
     (λ torn. λ x y x_is y_is.
     let size = g.met.D.Disk.size_is_shown c.args.disk.now x x_is in
     let read = c.in_ok-read_at.ensures.bytes x x_is in
@@ -43,5 +42,5 @@ returns-clause-left g c =
     none
     in
     slot_torn place veil x y (omega (arith, size, c.requires.behind, c.requires.inside)) differ
-    (subst (λ n. Torn place n x y) (ap length c.veil_key-veil.ensures ∙ length-veil_of owner placed.epoch.0 placed.batch) (torn x y (c.in_ok-read_at.ensures.shown ∙ x_is) y_is)))
-    c.write_and_sync.ensures.torn
+    (torn x y (c.in_ok-read_at.ensures.shown ∙ x_is) y_is))
+    c.refill_slot.ensures.torn

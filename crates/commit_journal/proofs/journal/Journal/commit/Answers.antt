@@ -1,10 +1,12 @@
-use Rattle.std.proofs.Common.{◌+◌, arith, refl, ap, ◌∙◌}
+use Rattle.std.proofs.Common.{◌+◌, arith, refl, ap, subst, ◌∙◌}
 use Rattle.record_format.specs.Plain.{plain_payload}
 use Rattle.record_format.specs.Spelling.{spell_payload}
 use Rattle.commit_journal.specs.Journals.{JournalState, IsBehind, next_command}
 use Rattle.commit_journal.specs.contracts.journal.Journal.{the_view}
 use Rattle.commit_journal.proofs.JournalLemmas.{joins, payload_small}
 use Rattle.commit_journal.proofs.MayHaveJoined.{may_join}
+use Rattle.commit_journal.specs.Stopping.{HoldsPublished, KeepsLog, ShowsFour}
+use Rattle.commit_journal.proofs.StoppedCommits.{commit_keeps, commit_published, commit_shows, holds_at_the_end, refused_keeps, refused_published, spelled_stageable, stays}
 use Rattle.commit_journal.proofs.journal.Journal.commit.Goals as goal
 
 pub refusal-requires : goal.refusal-requires
@@ -52,3 +54,117 @@ returns-in_default-append-clause-interrupted g c = λ is.
     rw (← c.self.view_is)
     (may_join old (next_command old payload) c.as_slice.result.now (g.D.Disk.shown c.args.disk.now) (g.D.Disk.shown c.append.new.disk)
     (c.as_slice.ensures ∙ c.command_batch-tag.ensures.spelled c.veil_key-veil.ensures) c.in_default-append.ensures.interrupted)
+
+pub append-requires-clause-batch : goal.append-requires-clause-batch
+append-requires-clause-batch g c =
+    let payload = spell_payload (plain_payload c.args.payload.now) in
+    let old = the_view c.self.inside in
+    spelled_stageable old.owner old.tag c.as_slice.result.now (next_command old payload) (c.as_slice.ensures ∙ c.command_batch-tag.ensures.spelled c.veil_key-veil.ensures)
+
+pub returns-in-Some-clause-time : goal.returns-in-Some-clause-time
+returns-in-Some-clause-time g c =
+    let D = g.D.Disk in
+    let a = c.args.disk.now in
+    stays (D.moment a) (D.since a) (D.shown a) (D.may_leave a) (λ s left at. g.met.D.Disk.only_now a s left at)
+    (λ t s left early is leaves. g.met.D.Disk.counts_now a t s left early is leaves)
+
+pub returns-in-Some-clause-kept : goal.returns-in-Some-clause-kept
+returns-in-Some-clause-kept g c =
+    let D = g.D.Disk in
+    let a = c.args.disk.now in
+    let payload = spell_payload (plain_payload c.args.payload.now) in
+    let old = c.args.self.now in
+    refused_keeps (next_command old payload) old (D.shown a) (D.may_leave a) (D.since a (D.moment a)) (λ s left at. g.met.D.Disk.only_now a s left at)
+
+pub returns-in-Some-clause-held : goal.returns-in-Some-clause-held
+returns-in-Some-clause-held g c =
+    let D = g.D.Disk in
+    let a = c.args.disk.now in
+    let payload = spell_payload (plain_payload c.args.payload.now) in
+    let old = c.args.self.now in
+    refused_published (next_command old payload) old (D.shown a) (D.may_leave a) (D.since a (D.moment a)) (λ s left at. g.met.D.Disk.only_now a s left at)
+
+pub returns-in-Some-clause-holds : goal.returns-in-Some-clause-holds
+returns-in-Some-clause-holds g c =
+    let D = g.D.Disk in
+    let a = c.args.disk.now in
+    let payload = spell_payload (plain_payload c.args.payload.now) in
+    let old = c.args.self.now in
+    holds_at_the_end (next_command old payload) old (D.shown a) (D.shown a) (D.may_leave a) (D.may_leave a) (D.since a (D.moment a)) refl
+    (λ s is. g.met.D.Disk.shown_may_be_left a s is)
+    (λ s left is leaves. g.met.D.Disk.counts_now a (D.moment a) s left (omega arith) is leaves)
+    (refused_keeps (next_command old payload) old (D.shown a) (D.may_leave a) (D.since a (D.moment a)) (λ s left at. g.met.D.Disk.only_now a s left at))
+
+pub returns-in_default-append-clause-kept : goal.returns-in_default-append-clause-kept
+returns-in_default-append-clause-kept g c =
+    let D = g.D.Disk in
+    let a = c.args.disk.now in
+    let payload = spell_payload (plain_payload c.args.payload.now) in
+    let since = D.since c.append.new.disk (D.moment a) in
+    let old = the_view c.self.inside in
+    subst (λ (j : JournalState). KeepsLog (next_command j payload) j (D.shown a) (D.may_leave a) since) c.self.view_is
+    (commit_keeps (next_command old payload) old c.as_slice.result.now (D.shown a) (D.may_leave a) since (c.as_slice.ensures ∙ c.command_batch-tag.ensures.spelled c.veil_key-veil.ensures) c.append.ensures.stops)
+
+pub returns-in_default-append-clause-held : goal.returns-in_default-append-clause-held
+returns-in_default-append-clause-held g c =
+    let D = g.D.Disk in
+    let a = c.args.disk.now in
+    let payload = spell_payload (plain_payload c.args.payload.now) in
+    let since = D.since c.append.new.disk (D.moment a) in
+    let old = the_view c.self.inside in
+    subst (λ (j : JournalState). HoldsPublished (next_command j payload) j (D.shown a) (D.may_leave a) since) c.self.view_is
+    (commit_published (next_command old payload) old c.as_slice.result.now (D.shown a) (D.may_leave a) since (c.as_slice.ensures ∙ c.command_batch-tag.ensures.spelled c.veil_key-veil.ensures) c.append.ensures.held)
+
+pub returns-in_default-append-clause-holds : goal.returns-in_default-append-clause-holds
+returns-in_default-append-clause-holds g c =
+    let D = g.D.Disk in
+    let a = c.args.disk.now in
+    let payload = spell_payload (plain_payload c.args.payload.now) in
+    let e = c.append.new.disk in
+    let old = c.args.self.now in
+    holds_at_the_end (next_command old payload) old (D.shown a) (D.shown e) (D.may_leave a) (D.may_leave e) (D.since e (D.moment a)) c.append.ensures.told
+    (λ s is. g.met.D.Disk.shown_may_be_left e s is)
+    (λ s left is leaves. g.met.D.Disk.counts_now e (D.moment a) s left c.append.ensures.later is leaves)
+    (returns-in_default-append-clause-kept g c)
+
+pub returns-clause-kept : goal.returns-clause-kept
+returns-clause-kept g c =
+    let D = g.D.Disk in
+    let a = c.args.disk.now in
+    let payload = spell_payload (plain_payload c.args.payload.now) in
+    let since = D.since c.append.new.disk (D.moment a) in
+    let old = the_view c.self.inside in
+    subst (λ (j : JournalState). KeepsLog (next_command j payload) j (D.shown a) (D.may_leave a) since) c.self.view_is
+    (commit_keeps (next_command old payload) old c.as_slice.result.now (D.shown a) (D.may_leave a) since (c.as_slice.ensures ∙ c.command_batch-tag.ensures.spelled c.veil_key-veil.ensures) c.append.ensures.stops)
+
+pub returns-clause-held : goal.returns-clause-held
+returns-clause-held g c =
+    let D = g.D.Disk in
+    let a = c.args.disk.now in
+    let payload = spell_payload (plain_payload c.args.payload.now) in
+    let since = D.since c.append.new.disk (D.moment a) in
+    let old = the_view c.self.inside in
+    subst (λ (j : JournalState). HoldsPublished (next_command j payload) j (D.shown a) (D.may_leave a) since) c.self.view_is
+    (commit_published (next_command old payload) old c.as_slice.result.now (D.shown a) (D.may_leave a) since (c.as_slice.ensures ∙ c.command_batch-tag.ensures.spelled c.veil_key-veil.ensures) c.append.ensures.held)
+
+pub returns-clause-holds : goal.returns-clause-holds
+returns-clause-holds g c =
+    let D = g.D.Disk in
+    let a = c.args.disk.now in
+    let payload = spell_payload (plain_payload c.args.payload.now) in
+    let e = c.append.new.disk in
+    let old = c.args.self.now in
+    holds_at_the_end (next_command old payload) old (D.shown a) (D.shown e) (D.may_leave a) (D.may_leave e) (D.since e (D.moment a)) c.append.ensures.told
+    (λ s is. g.met.D.Disk.shown_may_be_left e s is)
+    (λ s left is leaves. g.met.D.Disk.counts_now e (D.moment a) s left c.append.ensures.later is leaves)
+    (returns-clause-kept g c)
+
+pub returns-clause-shows : goal.returns-clause-shows
+returns-clause-shows g c =
+    let D = g.D.Disk in
+    let a = c.args.disk.now in
+    let payload = spell_payload (plain_payload c.args.payload.now) in
+    let since = D.since c.append.new.disk (D.moment a) in
+    let old = the_view c.self.inside in
+    subst (λ (j : JournalState). ShowsFour (next_command j payload) j (D.shown a) since) c.self.view_is
+    (commit_shows (next_command old payload) old c.as_slice.result.now c.veil_key-veil.result (D.shown a) since (c.as_slice.ensures ∙ c.command_batch-tag.ensures.spelled c.veil_key-veil.ensures) c.veil_key-veil.ensures c.in-Ok.ensures.shows)

@@ -3,7 +3,7 @@ use Rattle.chacha_seal.specs.Keys.{KeyParts}
 use Rattle.chacha_seal.specs.Sealing.{check_of}
 use Rattle.cry_io.proofs.ToldLemmas.{told_again}
 use Rattle.commit_journal.specs.Standing.{tag_behind}
-use Rattle.commit_journal.proofs.CommitLemmas.{written_first}
+use Rattle.batch_log.proofs.Lists.{written_first}
 use Rattle.commit_journal.proofs.JournalLemmas.{length-nothing, image_of_nothing}
 use Rattle.commit_journal.proofs.journal.Journal.found.Goals as goal
 
@@ -20,7 +20,7 @@ returns-clause-stands g c = record {
 pub returns-clause-shows : goal.returns-clause-shows
 returns-clause-shows g c = λ s is.
     let shown = g.D.Disk.shown in
-    let zero = told_again (shown c.write_and_sync.new.disk) (shown c.args.disk.now) s (sym c.in-Ok.ensures.told) is in
+    let zero = told_again (shown c.write_header.new.disk) (shown c.args.disk.now) s (sym c.in-Ok.ensures.told) is in
     written_first zero.0 c.header.result s
     (g.met.D.Disk.size_is_shown c.args.disk.now zero.0 zero.1 ∙ c.requires.blank)
     (c.in-Ok.ensures.written zero.0 s zero.1 is)

@@ -1,0 +1,214 @@
+use Rattle.std.proofs.Common.{◌≡◌, ◌-◌, ◌+◌, ◌≤◌, ℕ, List, [], ◌∷◌, length, arith, ap, subst, ◌∙◌}
+use Rattle.std.proofs.lemmas.Result.{on_err_weaker, on_ok_weaker}
+use Rattle.cry_io.proofs.ToldLemmas.{told_again}
+use Rattle.cry_io.specs.Stops.{Torn, Written}
+use Rattle.batch_log.specs.Moments.{OldOrNew, TornInto}
+use Rattle.batch_log.specs.Steps.{Interrupts, IsHeldWhereShown, IsOneOfFour}
+use Rattle.batch_log.specs.Tokens.{GatedBatch, StagedBatch}
+use Rattle.batch_log.proofs.Committed.{committed, four_in_opening, four_in_staging, four_in_unveiling, held_in_opening, held_in_staging, held_in_unveiling, torn_in_opening, torn_in_staging, torn_in_unveiling}
+use Rattle.batch_log.proofs.Moments.{goes_on_then, in_both}
+use Rattle.batch_log.proofs.Staging.{stageable_long}
+use Rattle.batch_log.proofs.WrittenMoments.{on_err}
+use Rattle.batch_log.proofs.appending.append.Goals as goal
+
+pub returns-in_err-staged-clause-interrupted : goal.returns-in_err-staged-clause-interrupted
+returns-in_err-staged-clause-interrupted g c =
+    on_err c.from_residual.result (λ x y was is. torn_in_staging c.args.end c.args.batch.now x y (c.in_err-staged.ensures.torn x y was is))
+
+pub returns-in_err-staged-clause-stops : goal.returns-in_err-staged-clause-stops
+returns-in_err-staged-clause-stops g c durable x x_is s left at =
+    torn_in_staging c.args.end c.args.batch.now x left (c.in_err-staged.ensures.stops durable x x_is s left at).1
+
+pub returns-in_err-staged-clause-held : goal.returns-in_err-staged-clause-held
+returns-in_err-staged-clause-held g c durable x x_is ends s left at =
+    held_in_staging c.args.end c.args.batch.now x s left ends (c.in_err-staged.ensures.stops durable x x_is s left at).0
+
+pub returns-in_err-gated-clause-interrupted : goal.returns-in_err-gated-clause-interrupted
+returns-in_err-gated-clause-interrupted g c =
+    let D = g.D.Disk in
+    let end = c.args.end in
+    let batch = c.args.batch.now in
+    let a = c.args.disk.now in
+    let b = c.stage.new.disk in
+    let whole : 45 ≤ length batch = let long = stageable_long batch c.requires.batch in omega (arith, long) in
+    let staged_end : c.in_ok-staged.staged.end ≡ end = ap (λ (s : StagedBatch). s.end) c.in_ok-staged.ensures.staged in
+    on_err c.from_residual-in_err-gated.result (λ x y x_is y_is.
+    let one = told_again (D.shown a) (D.shown b) x c.in_ok-staged.ensures.told x_is in
+    let first = c.in_ok-staged.ensures.written x one.0 x_is one.1 in
+    torn_in_opening end batch x one.0 y whole first (subst (λ n. Torn (n - 1) 1 one.0 y) staged_end (c.in_err-gated.ensures.torn one.0 y one.1 y_is)))
+
+pub returns-in_err-gated-clause-time : goal.returns-in_err-gated-clause-time
+returns-in_err-gated-clause-time g c =
+    let D = g.D.Disk in
+    let a = c.args.disk.now in
+    let b = c.stage.new.disk in
+    let e = c.open_gate.new.disk in
+    goes_on_then (D.moment a) (D.moment b) (D.since a) (D.since b) (D.since e) c.stage.ensures.later c.stage.ensures.time c.open_gate.ensures.time
+
+pub returns-in_err-gated-clause-stops : goal.returns-in_err-gated-clause-stops
+returns-in_err-gated-clause-stops g c durable x x_is =
+    let D = g.D.Disk in
+    let end = c.args.end in
+    let batch = c.args.batch.now in
+    let a = c.args.disk.now in
+    let b = c.stage.new.disk in
+    let whole : 45 ≤ length batch = let long = stageable_long batch c.requires.batch in omega (arith, long) in
+    let staged_end : c.in_ok-staged.staged.end ≡ end = ap (λ (s : StagedBatch). s.end) c.in_ok-staged.ensures.staged in
+    let one = told_again (D.shown a) (D.shown b) x c.in_ok-staged.ensures.told x_is in
+    let first = c.in_ok-staged.ensures.written x one.0 x_is one.1 in
+    let e = c.open_gate.new.disk in
+    in_both (D.moment a) (D.moment b) (D.since b) (D.since e) (λ s left. Interrupts end batch x left) c.stage.ensures.later c.open_gate.ensures.time
+    (λ s left at. let torn = c.in_ok-staged.ensures.stops durable x x_is s left at in torn_in_staging end batch x left torn.1)
+    (λ s left at. let torn = subst (λ n. TornInto (n - 1) 1 one.0 s left) staged_end (c.in_err-gated.ensures.stops one.0 one.1 s left at) in
+    torn_in_opening end batch x one.0 left whole first torn.1)
+
+pub returns-in_err-gated-clause-held : goal.returns-in_err-gated-clause-held
+returns-in_err-gated-clause-held g c durable x x_is ends =
+    let D = g.D.Disk in
+    let end = c.args.end in
+    let batch = c.args.batch.now in
+    let a = c.args.disk.now in
+    let b = c.stage.new.disk in
+    let whole : 45 ≤ length batch = let long = stageable_long batch c.requires.batch in omega (arith, long) in
+    let staged_end : c.in_ok-staged.staged.end ≡ end = ap (λ (s : StagedBatch). s.end) c.in_ok-staged.ensures.staged in
+    let one = told_again (D.shown a) (D.shown b) x c.in_ok-staged.ensures.told x_is in
+    let first = c.in_ok-staged.ensures.written x one.0 x_is one.1 in
+    let e = c.open_gate.new.disk in
+    in_both (D.moment a) (D.moment b) (D.since b) (D.since e) (IsHeldWhereShown end batch) c.stage.ensures.later c.open_gate.ensures.time
+    (λ s left at. let torn = c.in_ok-staged.ensures.stops durable x x_is s left at in held_in_staging end batch x s left ends torn.0)
+    (λ s left at. let torn = subst (λ n. TornInto (n - 1) 1 one.0 s left) staged_end (c.in_err-gated.ensures.stops one.0 one.1 s left at) in
+    held_in_opening end batch x one.0 s left c.requires.batch ends first torn.0)
+
+pub returns-clause-committed : goal.returns-clause-committed
+returns-clause-committed g c =
+    let D = g.D.Disk in
+    let end = c.args.end in
+    let batch = c.args.batch.now in
+    let a = c.args.disk.now in
+    let b = c.stage.new.disk in
+    let whole : 45 ≤ length batch = let long = stageable_long batch c.requires.batch in omega (arith, long) in
+    let staged_end : c.in_ok-staged.staged.end ≡ end = ap (λ (s : StagedBatch). s.end) c.in_ok-staged.ensures.staged in
+    let gated_end : c.in_ok-gated.gated.end ≡ end = ap (λ (s : GatedBatch). s.end) c.in_ok-gated.ensures.gated ∙ staged_end in
+    on_ok_weaker c.unveil.result
+    (λ third. λ x y x_is y_is. λ front behind gate ends split.
+    let one = told_again (D.shown a) (D.shown b) x c.in_ok-staged.ensures.told x_is in
+    let first = c.in_ok-staged.ensures.written x one.0 x_is one.1 in
+    let e = c.open_gate.new.disk in
+    let two = told_again (D.shown b) (D.shown e) one.0 c.in_ok-gated.ensures.told one.1 in
+    let second = subst (λ n. Written (n - 1) (1 ∷ []) one.0 two.0) staged_end (c.in_ok-gated.ensures.written one.0 two.0 one.1 two.1) in
+    committed end gate front behind batch c.args.veil.now x one.0 two.0 y ends whole c.told-veil split first second
+    (subst (λ n. Written (n + 13) c.args.veil.now two.0 y) gated_end (third two.0 y two.1 y_is)))
+    c.unveil.ensures.written
+
+pub returns-clause-interrupted : goal.returns-clause-interrupted
+returns-clause-interrupted g c =
+    let D = g.D.Disk in
+    let end = c.args.end in
+    let batch = c.args.batch.now in
+    let a = c.args.disk.now in
+    let b = c.stage.new.disk in
+    let whole : 45 ≤ length batch = let long = stageable_long batch c.requires.batch in omega (arith, long) in
+    let staged_end : c.in_ok-staged.staged.end ≡ end = ap (λ (s : StagedBatch). s.end) c.in_ok-staged.ensures.staged in
+    let gated_end : c.in_ok-gated.gated.end ≡ end = ap (λ (s : GatedBatch). s.end) c.in_ok-gated.ensures.gated ∙ staged_end in
+    on_err_weaker c.unveil.result
+    (λ third. λ x y x_is y_is.
+    let one = told_again (D.shown a) (D.shown b) x c.in_ok-staged.ensures.told x_is in
+    let first = c.in_ok-staged.ensures.written x one.0 x_is one.1 in
+    let e = c.open_gate.new.disk in
+    let two = told_again (D.shown b) (D.shown e) one.0 c.in_ok-gated.ensures.told one.1 in
+    let second = subst (λ n. Written (n - 1) (1 ∷ []) one.0 two.0) staged_end (c.in_ok-gated.ensures.written one.0 two.0 one.1 two.1) in
+    torn_in_unveiling end batch x one.0 two.0 y whole first second (subst (λ n. Torn (n + 13) 32 two.0 y) gated_end (third two.0 y two.1 y_is)))
+    c.unveil.ensures.torn
+
+pub returns-clause-time : goal.returns-clause-time
+returns-clause-time g c =
+    let D = g.D.Disk in
+    let a = c.args.disk.now in
+    let b = c.stage.new.disk in
+    let e = c.open_gate.new.disk in
+    let f = c.unveil.new.disk in
+    let earlier : D.moment a ≤ D.moment e = let one = c.stage.ensures.later in let two = c.open_gate.ensures.later in omega (arith, one, two) in
+    goes_on_then (D.moment a) (D.moment e) (D.since a) (D.since e) (D.since f) earlier
+    (goes_on_then (D.moment a) (D.moment b) (D.since a) (D.since b) (D.since e) c.stage.ensures.later c.stage.ensures.time c.open_gate.ensures.time)
+    c.unveil.ensures.time
+
+pub returns-clause-stops : goal.returns-clause-stops
+returns-clause-stops g c durable x x_is =
+    let D = g.D.Disk in
+    let end = c.args.end in
+    let batch = c.args.batch.now in
+    let a = c.args.disk.now in
+    let b = c.stage.new.disk in
+    let whole : 45 ≤ length batch = let long = stageable_long batch c.requires.batch in omega (arith, long) in
+    let staged_end : c.in_ok-staged.staged.end ≡ end = ap (λ (s : StagedBatch). s.end) c.in_ok-staged.ensures.staged in
+    let gated_end : c.in_ok-gated.gated.end ≡ end = ap (λ (s : GatedBatch). s.end) c.in_ok-gated.ensures.gated ∙ staged_end in
+    let one = told_again (D.shown a) (D.shown b) x c.in_ok-staged.ensures.told x_is in
+    let first = c.in_ok-staged.ensures.written x one.0 x_is one.1 in
+    let e = c.open_gate.new.disk in
+    let two = told_again (D.shown b) (D.shown e) one.0 c.in_ok-gated.ensures.told one.1 in
+    let second = subst (λ n. Written (n - 1) (1 ∷ []) one.0 two.0) staged_end (c.in_ok-gated.ensures.written one.0 two.0 one.1 two.1) in
+    let f = c.unveil.new.disk in
+    let earlier : D.moment a ≤ D.moment e = let l = c.stage.ensures.later in let m = c.open_gate.ensures.later in omega (arith, l, m) in
+    let P : List ℕ → List ℕ → Type 0 = (λ s left. Interrupts end batch x left) in
+    in_both (D.moment a) (D.moment e) (D.since e) (D.since f) P earlier c.unveil.ensures.time
+    (in_both (D.moment a) (D.moment b) (D.since b) (D.since e) P c.stage.ensures.later c.open_gate.ensures.time
+    (λ s left at. let torn = c.in_ok-staged.ensures.stops durable x x_is s left at in torn_in_staging end batch x left torn.1)
+    (λ s left at. let torn = subst (λ n. TornInto (n - 1) 1 one.0 s left) staged_end (c.in_ok-gated.ensures.stops one.0 one.1 s left at) in
+    torn_in_opening end batch x one.0 left whole first torn.1))
+    (λ s left at. let torn = subst (λ n. TornInto (n + 13) 32 two.0 s left) gated_end (c.unveil.ensures.stops two.0 two.1 s left at) in
+    torn_in_unveiling end batch x one.0 two.0 left whole first second torn.1)
+
+pub returns-clause-held : goal.returns-clause-held
+returns-clause-held g c durable x x_is ends =
+    let D = g.D.Disk in
+    let end = c.args.end in
+    let batch = c.args.batch.now in
+    let a = c.args.disk.now in
+    let b = c.stage.new.disk in
+    let whole : 45 ≤ length batch = let long = stageable_long batch c.requires.batch in omega (arith, long) in
+    let staged_end : c.in_ok-staged.staged.end ≡ end = ap (λ (s : StagedBatch). s.end) c.in_ok-staged.ensures.staged in
+    let gated_end : c.in_ok-gated.gated.end ≡ end = ap (λ (s : GatedBatch). s.end) c.in_ok-gated.ensures.gated ∙ staged_end in
+    let one = told_again (D.shown a) (D.shown b) x c.in_ok-staged.ensures.told x_is in
+    let first = c.in_ok-staged.ensures.written x one.0 x_is one.1 in
+    let e = c.open_gate.new.disk in
+    let two = told_again (D.shown b) (D.shown e) one.0 c.in_ok-gated.ensures.told one.1 in
+    let second = subst (λ n. Written (n - 1) (1 ∷ []) one.0 two.0) staged_end (c.in_ok-gated.ensures.written one.0 two.0 one.1 two.1) in
+    let f = c.unveil.new.disk in
+    let earlier : D.moment a ≤ D.moment e = let l = c.stage.ensures.later in let m = c.open_gate.ensures.later in omega (arith, l, m) in
+    let P : List ℕ → List ℕ → Type 0 = (IsHeldWhereShown end batch) in
+    in_both (D.moment a) (D.moment e) (D.since e) (D.since f) P earlier c.unveil.ensures.time
+    (in_both (D.moment a) (D.moment b) (D.since b) (D.since e) P c.stage.ensures.later c.open_gate.ensures.time
+    (λ s left at. let torn = c.in_ok-staged.ensures.stops durable x x_is s left at in held_in_staging end batch x s left ends torn.0)
+    (λ s left at. let torn = subst (λ n. TornInto (n - 1) 1 one.0 s left) staged_end (c.in_ok-gated.ensures.stops one.0 one.1 s left at) in
+    held_in_opening end batch x one.0 s left c.requires.batch ends first torn.0))
+    (λ s left at. let torn = subst (λ n. TornInto (n + 13) 32 two.0 s left) gated_end (c.unveil.ensures.stops two.0 two.1 s left at) in
+    held_in_unveiling end batch x one.0 two.0 s left whole ends first second torn.1)
+
+pub returns-clause-shows : goal.returns-clause-shows
+returns-clause-shows g c =
+    let D = g.D.Disk in
+    let end = c.args.end in
+    let batch = c.args.batch.now in
+    let a = c.args.disk.now in
+    let b = c.stage.new.disk in
+    let staged_end : c.in_ok-staged.staged.end ≡ end = ap (λ (s : StagedBatch). s.end) c.in_ok-staged.ensures.staged in
+    let gated_end : c.in_ok-gated.gated.end ≡ end = ap (λ (s : GatedBatch). s.end) c.in_ok-gated.ensures.gated ∙ staged_end in
+    let veil = c.args.veil.now in
+    on_ok_weaker c.unveil.result
+    (λ third. λ x x_is.
+    let one = told_again (D.shown a) (D.shown b) x c.in_ok-staged.ensures.told x_is in
+    let first = c.in_ok-staged.ensures.written x one.0 x_is one.1 in
+    let e = c.open_gate.new.disk in
+    let two = told_again (D.shown b) (D.shown e) one.0 c.in_ok-gated.ensures.told one.1 in
+    let second = subst (λ n. Written (n - 1) (1 ∷ []) one.0 two.0) staged_end (c.in_ok-gated.ensures.written one.0 two.0 one.1 two.1) in
+    let f = c.unveil.new.disk in
+    let earlier : D.moment a ≤ D.moment e = let l = c.stage.ensures.later in let m = c.open_gate.ensures.later in omega (arith, l, m) in
+    let P : List ℕ → List ℕ → Type 0 = IsOneOfFour end batch veil x in
+    in_both (D.moment a) (D.moment e) (D.since e) (D.since f) P earlier c.unveil.ensures.time
+    (in_both (D.moment a) (D.moment b) (D.since b) (D.since e) P c.stage.ensures.later c.open_gate.ensures.time
+    (λ s left at. four_in_staging end batch veil x s left (c.in_ok-staged.ensures.shows x x_is s left at))
+    (λ s left at. four_in_opening end batch veil x one.0 s left first
+    (subst (λ n. OldOrNew (n - 1) (1 ∷ []) one.0 s left) staged_end (c.in_ok-gated.ensures.shows one.0 one.1 s left at))))
+    (λ s left at. four_in_unveiling end batch veil x one.0 two.0 s left first second
+    (subst (λ n. OldOrNew (n + 13) veil two.0 s left) gated_end (third two.0 two.1 s left at))))
+    c.unveil.ensures.shows

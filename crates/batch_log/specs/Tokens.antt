@@ -1,0 +1,12 @@
+-- What contracts see of a batch between two steps of its commit. This project's own, docs/FORMAT.md, "Committing".
+use Rattle.std.specs.Prelude.{ℕ, List}
+
+-- the batch stands behind the gate before this place
+pub record StagedBatch : Type 0 where
+  pub end : ℕ
+  pub body : List ℕ
+
+-- a batch of so many bytes, its next gate among them, stands behind the open gate before this place
+pub record GatedBatch : Type 0 where
+  pub end : ℕ
+  pub len : ℕ

@@ -1,0 +1,155 @@
+//! The steps of a commit. A batch that was staged is a `Staged`, which `open_gate` alone makes a `Gated`, and `unveil` takes
+//! a `Gated` alone: no slot is written before its gate is open on the disk.
+ghost use Rattle.std.specs.Prelude.{◌≡◌, ◌+◌, ◌-◌, ◌<◌, ◌≤◌, ◌^◌, ℕ, List, [], ◌∷◌, length, max, is_some, IfOk, OnErr, OnOk};
+ghost use Rattle.cry_io.specs.Counts.{CountsFault};
+ghost use Rattle.cry_io.specs.Told.{WhereTold, WhereBothTold};
+ghost use Rattle.cry_io.specs.Stops.{IsDurable, Torn, Written};
+ghost use Rattle.batch_log.specs.Moments.{GoesOn, OldOrNew, Throughout, TornInto};
+ghost use Rattle.batch_log.specs.Steps as steps;
+
+use crate::writing::write_and_sync;
+use cry_io::{Disk, Failed};
+use std::marker::Model;
+
+/// The byte of an open gate.
+const OPEN: u8 = 1;
+
+/// The place of the slot in a batch.
+const SLOT: u64 = 13;
+
+/// A batch that stands behind the gate before the place `end`. It is not `Drop`: `open_gate` spends it, and so does its fault.
+/// Contracts see the place and the batch.
+pub struct Staged<'a> {
+    end: u64,
+    body: &'a [u8],
+}
+
+impl<'a> Model for Staged<'a> {
+    ghost use Rattle.std.specs.Prelude.{◌≤◌};
+    ghost use Rattle.batch_log.specs.Tokens.{StagedBatch};
+
+    ghost Value = { StagedBatch };
+
+    ghost view = { λ s. record { end = s.end; body = s.body.now } };
+
+    ghost invariant = { λ s. 1 ≤ s.end };
+}
+
+/// A batch behind the open gate before the place `end`. It is not `Drop`: `unveil` spends it, and so does its fault. Contracts
+/// see the place and how many bytes the batch has.
+pub struct Gated {
+    end: u64,
+    len: u64,
+}
+
+impl Model for Gated {
+    ghost use Rattle.std.specs.Prelude.{◌≤◌};
+    ghost use Rattle.batch_log.specs.Tokens.{GatedBatch};
+
+    ghost Value = { GatedBatch };
+
+    ghost view = { λ g. record { end = g.end; len = g.len } };
+
+    ghost invariant = { λ g. (1 ≤ g.end) × (45 ≤ g.len) };
+}
+
+/// Writes a batch behind the closed gate that ends the log at `end`, and makes it stay. What stands there is written over.
+pub fn stage<'a, D: Disk>(disk: &mut D, end: u64, body: &'a [u8]) -> Result<Staged<'a>, Failed>
+    requires gate { 1 ≤ end }
+    requires inside { end ≤ D.size_of disk.old }
+    requires fits { end + length body.now < 2 ^ 64 }
+    requires body { steps.IsStageable body.now }
+    ensures staged { IfOk result (λ staged. staged ≡ record { end = end; body = body.now }) }
+    ensures told { is_some (D.shown disk.new) ≡ is_some (D.shown disk.old) }
+    ensures written { OnOk result (WhereBothTold (D.shown disk.old) (D.shown disk.new) (Written end body.now)) }
+    ensures torn { OnErr result (WhereBothTold (D.shown disk.old) (D.shown disk.new) (Torn end (length body.now))) }
+    ensures durable { OnOk result (IsDurable (D.may_leave disk.new) (D.shown disk.new)) }
+    ensures holds { OnOk result (WhereTold (D.shown disk.new) (steps.StandsAt end body.now)) }
+    ensures closed { OnOk result (WhereBothTold (D.shown disk.old) (D.shown disk.new)
+        (λ x y. steps.EndsAt end x → steps.IsStagedAt end body.now y)) }
+    ensures size { OnOk result (D.size_of disk.new ≡ max (D.size_of disk.old) (end + length body.now)) }
+    ensures no_shorter { D.size_of disk.old ≤ D.size_of disk.new }
+    ensures later { D.moment disk.old ≤ D.moment disk.new }
+    ensures time { GoesOn (D.moment disk.old) (D.since disk.old) (D.since disk.new) }
+    ensures stops { IsDurable (D.may_leave disk.old) (D.shown disk.old) → WhereTold (D.shown disk.old)
+        (λ x. Throughout (TornInto end (length body.now) x) (D.since disk.new (D.moment disk.old))) }
+    ensures shows { OnOk result (WhereTold (D.shown disk.old)
+        (λ x. Throughout (OldOrNew end body.now x) (D.since disk.new (D.moment disk.old)))) }
+    ensures counts { CountsFault result (D.faults disk.old) (D.faults disk.new) }
+{
+    write_and_sync(disk, end, body)?;
+    Ok(Staged { end, body })
+}
+
+/// Opens the gate before a batch, and makes that stay. All of the batch has to stay by then: behind a gate that is open it counts.
+pub fn open_gate<D: Disk>(disk: &mut D, staged: Staged<'_>) -> Result<Gated, Failed>
+    requires nothing_pending { IsDurable (D.may_leave disk.old) (D.shown disk.old) }
+    requires stands { WhereTold (D.shown disk.old) (steps.StandsAt staged.end staged.body) }
+    requires whole { 45 ≤ length staged.body }
+    requires inside { staged.end + length staged.body ≤ D.size_of disk.old }
+    ensures gated { IfOk result (λ gated. gated ≡ record { end = staged.entry.end; len = length staged.entry.body }) }
+    ensures told { is_some (D.shown disk.new) ≡ is_some (D.shown disk.old) }
+    ensures written { OnOk result (WhereBothTold (D.shown disk.old) (D.shown disk.new) (Written (staged.entry.end - 1) (1 ∷ []))) }
+    ensures torn { OnErr result (WhereBothTold (D.shown disk.old) (D.shown disk.new) (Torn (staged.entry.end - 1) 1)) }
+    ensures durable { OnOk result (IsDurable (D.may_leave disk.new) (D.shown disk.new)) }
+    ensures opened { OnOk result (WhereTold (D.shown disk.new) (steps.IsGatedAt staged.entry.end (length staged.entry.body))) }
+    ensures size { D.size_of disk.new ≡ D.size_of disk.old }
+    ensures later { D.moment disk.old ≤ D.moment disk.new }
+    ensures time { GoesOn (D.moment disk.old) (D.since disk.old) (D.since disk.new) }
+    ensures stops { WhereTold (D.shown disk.old)
+        (λ x. Throughout (TornInto (staged.entry.end - 1) 1 x) (D.since disk.new (D.moment disk.old))) }
+    ensures shows { OnOk result (WhereTold (D.shown disk.old)
+        (λ x. Throughout (OldOrNew (staged.entry.end - 1) (1 ∷ []) x) (D.since disk.new (D.moment disk.old)))) }
+    ensures counts { CountsFault result (D.faults disk.old) (D.faults disk.new) }
+{
+    let Staged { end, body } = staged;
+    let _size = disk.size();
+    write_and_sync(disk, end - 1, &[OPEN])?;
+    Ok(Gated {
+        end,
+        len: body.len() as u64,
+    })
+}
+
+/// Publishes a batch by its veil key, and makes that stay. Every list that a stop may leave has the open gate and the batch behind
+/// it by then: what was published is not taken back.
+pub fn unveil<D: Disk>(disk: &mut D, gated: Gated, veil: &[u8; 32]) -> Result<(), Failed>
+    requires nothing_pending { IsDurable (D.may_leave disk.old) (D.shown disk.old) }
+    requires opened { WhereTold (D.shown disk.old) (steps.IsGatedAt gated.end gated.len) }
+    requires inside { gated.end + gated.len ≤ D.size_of disk.old }
+    ensures told { is_some (D.shown disk.new) ≡ is_some (D.shown disk.old) }
+    ensures written { OnOk result (WhereBothTold (D.shown disk.old) (D.shown disk.new) (Written (gated.end + 13) veil.now)) }
+    ensures torn { OnErr result (WhereBothTold (D.shown disk.old) (D.shown disk.new) (Torn (gated.end + 13) 32)) }
+    ensures durable { OnOk result (IsDurable (D.may_leave disk.new) (D.shown disk.new)) }
+    ensures size { D.size_of disk.new ≡ D.size_of disk.old }
+    ensures later { D.moment disk.old ≤ D.moment disk.new }
+    ensures time { GoesOn (D.moment disk.old) (D.since disk.old) (D.since disk.new) }
+    ensures stops { WhereTold (D.shown disk.old)
+        (λ x. Throughout (TornInto (gated.end + 13) 32 x) (D.since disk.new (D.moment disk.old))) }
+    ensures shows { OnOk result (WhereTold (D.shown disk.old)
+        (λ x. Throughout (OldOrNew (gated.end + 13) veil.now x) (D.since disk.new (D.moment disk.old)))) }
+    ensures counts { CountsFault result (D.faults disk.old) (D.faults disk.new) }
+{
+    let Gated { end, len: _ } = gated;
+    let _size = disk.size();
+    write_and_sync(disk, end + SLOT, veil)
+}
+
+/// Writes a slot anew that a stop left without its veil key, in a batch whose gate was found open when the store was opened. It makes
+/// that stay.
+pub fn refill_slot<D: Disk>(disk: &mut D, place: u64, veil: &[u8; 32]) -> Result<(), Failed>
+    requires inside { place + 32 ≤ D.size_of disk.old }
+    ensures told { is_some (D.shown disk.new) ≡ is_some (D.shown disk.old) }
+    ensures written { OnOk result (WhereBothTold (D.shown disk.old) (D.shown disk.new) (Written place veil.now)) }
+    ensures torn { OnErr result (WhereBothTold (D.shown disk.old) (D.shown disk.new) (Torn place 32)) }
+    ensures durable { OnOk result (IsDurable (D.may_leave disk.new) (D.shown disk.new)) }
+    ensures size { D.size_of disk.new ≡ D.size_of disk.old }
+    ensures later { D.moment disk.old ≤ D.moment disk.new }
+    ensures time { GoesOn (D.moment disk.old) (D.since disk.old) (D.since disk.new) }
+    ensures stops { IsDurable (D.may_leave disk.old) (D.shown disk.old) → WhereTold (D.shown disk.old)
+        (λ x. Throughout (TornInto place 32 x) (D.since disk.new (D.moment disk.old))) }
+    ensures counts { CountsFault result (D.faults disk.old) (D.faults disk.new) }
+{
+    let _size = disk.size();
+    write_and_sync(disk, place, veil)
+}

@@ -1,0 +1,36 @@
+-- What a stop at any moment of a commit leaves, and what the disk shows at each. This project's own, docs/FORMAT.md, "Committing".
+use Rattle.std.specs.Prelude.{ℕ, List, [], ◌∷◌, ◌++◌, Option}
+use Rattle.cry_io.specs.Stops.{IsDurable}
+use Rattle.cry_io.specs.Told.{WhereTold}
+use Rattle.batch_log.specs.Moments.{Throughout}
+use Rattle.batch_log.specs.Steps.{EndsAt, IsHeldWhereShown, IsOneOfFour}
+use Rattle.commit_journal.specs.Holding.{HoldsBetween, Kept, Shows}
+use Rattle.commit_journal.specs.Image.{Batch, batch_veil, empty_slot, spell_batch}
+use Rattle.commit_journal.specs.Journals.{JournalState, IsJournalOf}
+use Rattle.commit_journal.specs.Standing.{StandsFor, StandsWhole}
+
+-- a journal's next batch as it is written at first: with an empty slot, and a closed gate behind it
+abbrev pub staged_batch : JournalState → Batch → List ℕ
+staged_batch j b = spell_batch j.owner j.tag empty_slot b ++ 0 ∷ []
+
+-- Of whatever batches the journal stood: where the disk showed their whole image and nothing was pending, a stop at each moment leaves
+-- bytes that stand for these, or for these and one more
+abbrev pub KeepsLog : Batch → JournalState → Option (List ℕ) → (List ℕ → Type 0) → (List ℕ → List ℕ → Type 0) → Type 0
+KeepsLog b old was may_leave since = (bs : List Batch) → IsJournalOf bs old → IsDurable may_leave was → Shows (StandsWhole old.owner) bs was
+    → Kept (StandsFor old.owner) bs (bs ++ b ∷ []) (bs ++ b ∷ []) since
+
+-- and so does what the call leaves, which the disk shows, or which a stop leaves
+abbrev pub HoldsLog : Batch → JournalState → Option (List ℕ) → (List ℕ → Type 0) → Option (List ℕ) → (List ℕ → Type 0) → Type 0
+HoldsLog b old was left shown may_leave = (bs : List Batch) → IsJournalOf bs old → IsDurable left was → Shows (StandsWhole old.owner) bs was
+    → HoldsBetween (StandsFor old.owner) bs (bs ++ b ∷ []) shown may_leave
+
+-- Where nothing was pending and the log ended with a closed gate: at each moment in which the gate that is shown is open and the slot that is
+-- shown isn't zero, a stop leaves the whole batch, its slot aside, behind an open gate
+abbrev pub HoldsPublished : Batch → JournalState → Option (List ℕ) → (List ℕ → Type 0) → (List ℕ → List ℕ → Type 0) → Type 0
+HoldsPublished b old was may_leave since =
+    IsDurable may_leave was → WhereTold was (λ x. EndsAt old.end x → Throughout (IsHeldWhereShown old.end (staged_batch old b)) since)
+
+-- the list that is shown at each moment is as at entry; or with the batch behind the closed gate, its slot empty; or with that gate open;
+-- or with the veil key in the slot
+abbrev pub ShowsFour : Batch → JournalState → Option (List ℕ) → (List ℕ → List ℕ → Type 0) → Type 0
+ShowsFour b old was since = WhereTold was (λ x. Throughout (IsOneOfFour old.end (staged_batch old b) (batch_veil old.owner b) x) since)
