@@ -1,4 +1,5 @@
 pub mod AnsweredScripts
+pub mod AuditAnswers
 pub mod InputLemmas
 pub mod JournalAnswers
 pub mod LineLemmas

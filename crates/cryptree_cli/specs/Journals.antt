@@ -1,14 +1,17 @@
--- What `list` and `open` answer on a disk that shows a journal. This project's own, docs/FORMAT.md, "Reading".
+-- What `list`, `open` and `audit` answer on a disk that shows a journal. This project's own, docs/FORMAT.md, "Reading".
 use Rattle.std.specs.Prelude.{◌≡◌, ℕ, List, Option, Result, Ok, Err}
+use Rattle.audit_laws.specs.Audited.{audit_answer}
 use Rattle.cry_base.specs.Store.{Store}
 use Rattle.cry_base.specs.declared.client.Bundle.{Bundle}
+use Rattle.holder_client.specs.Judging.{Failure}
 use Rattle.public_fold.specs.Journal.{Journal, store_of}
 use Rattle.journal_bytes.specs.Journals.{IsHonestFor, StandsForJournal, published_journal}
 use Rattle.reader_laws.specs.Reading.{IsRightFor, IsWrongFor, line_shown_of, shown_of}
+use Rattle.trail_audit.specs.Derived.{PlainSeen}
 use Rattle.cryptree_cli.specs.declared.status.Status.{Status}
 use Rattle.cryptree_cli.specs.declared.status.Status.TheVariants as statuses
 use Rattle.cryptree_cli.specs.Input.{input_answer}
-use Rattle.cryptree_cli.specs.Listing.{AnswersAs, IsExactly, line_answer, view_answer}
+use Rattle.cryptree_cli.specs.Listing.{AnswersAs, IsExactly, failure_status, line_answer, seen_text, view_answer}
 
 -- what a store shows to a bundle's reader, as it is printed, or how the program ends: all of it
 abbrev pub view_of : Store → Bundle → Result (List ℕ) Status
@@ -24,5 +27,19 @@ pub record AnswersJournal (wanted : Store → Bundle → Result (List ℕ) Statu
   pub right : (owner : List ℕ) (m : Journal) (bundle : Bundle) → input_answer typed ≡ Ok bundle → StandsForJournal owner m image → IsHonestFor owner image m
       → IsRightFor owner (published_journal owner image m) bundle
       → AnswersAs status (IsExactly (wanted (store_of (published_journal owner image m)) bundle)) before after
+  pub wrong : (owner : List ℕ) (m : Journal) (bundle : Bundle) → input_answer typed ≡ Ok bundle → StandsForJournal owner m image → IsHonestFor owner image m
+      → IsWrongFor owner (published_journal owner image m) bundle → AnswersAs status (IsExactly (Err statuses.WrongKey)) before after
+
+-- what an audit prints, or how the program ends
+abbrev pub seen_answer : Result (List PlainSeen) Failure → Result (List ℕ) Status
+seen_answer (Ok seen) = Ok (seen_text seen)
+seen_answer (Err failure) = Err (failure_status failure)
+
+-- To an audit with a right key it is answered what the history of the journal that the image publishes derives from that key, and no
+-- record is told to be bad; and to another key as above.
+pub record AuditsJournal (status : Status) (typed image : List ℕ) (before after : Option (List ℕ)) : Type 0 where
+  pub right : (owner : List ℕ) (m : Journal) (bundle : Bundle) → input_answer typed ≡ Ok bundle → StandsForJournal owner m image → IsHonestFor owner image m
+      → IsRightFor owner (published_journal owner image m) bundle
+      → AnswersAs status (IsExactly (seen_answer (audit_answer (published_journal owner image m) bundle))) before after
   pub wrong : (owner : List ℕ) (m : Journal) (bundle : Bundle) → input_answer typed ≡ Ok bundle → StandsForJournal owner m image → IsHonestFor owner image m
       → IsWrongFor owner (published_journal owner image m) bundle → AnswersAs status (IsExactly (Err statuses.WrongKey)) before after

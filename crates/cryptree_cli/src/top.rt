@@ -2,7 +2,7 @@
 ghost use Rattle.std.specs.Prelude.{◌≡◌, ◌≢◌, ◌<◌, ◌≤◌, ◌⊎◌, ◌↔◌, ℕ, [], length, is_some, None, IsTrue, IsSome};
 ghost use Rattle.cry_io.specs.Stops.{IsDurable};
 ghost use Rattle.cry_io.specs.Told.{WhereTold, WhereBothTold};
-ghost use Rattle.cryptree_cli.specs.Journals.{AnswersJournal, line_of, view_of};
+ghost use Rattle.cryptree_cli.specs.Journals.{AnswersJournal, AuditsJournal, line_of, view_of};
 ghost use Rattle.cryptree_cli.specs.Listing.{AuditAnswers, ListAnswers, OpenAnswers, Reads, is_before_read, is_list_answer, is_open_answer};
 ghost use Rattle.cryptree_cli.specs.Refusing.{Refuses, is_refusal};
 ghost use Rattle.cryptree_cli.specs.Running.{EndsTyped, FirstIsBad, HasBadLine, JudgesTyped, RanDry, RanLines, RanTaking, ReadsWholeTyped, TakesTo, is_after_opening, is_before_opening, is_run_answer, key_in_lines, lines_in, lines_typed, seen_from};
@@ -108,11 +108,14 @@ pub fn top<S: Source, R: Source, D: Disk, W: Sink>(
         (S.left input.old) (S.left input.new) disk.old disk.new (W.written out.old) (W.written out.new) }
     ensures readers_draw_none { IsReader words.now.items → random.new ≡ random.old }
 
-    // On a disk that shows a journal they answer what its store shows: to a reader whose key is right, and another key is told so.
+    // On a disk that shows a journal they answer what its store shows, or what its history derives: to a reader whose key is right, and
+    // another key is told so.
     ensures listed_journal { IsList words.now.items → WhereTold (S.left input.old) (λ typed. WhereTold (D.shown disk.old) (λ image.
         AnswersJournal view_of result typed image (W.written out.old) (W.written out.new))) }
     ensures opened_journal { IsOpen words.now.items → WhereTold (S.left input.old) (λ typed. WhereTold (D.shown disk.old) (λ image.
         AnswersJournal (line_of (path_in_words words.now.items)) result typed image (W.written out.old) (W.written out.new))) }
+    ensures audited_journal { IsAudit words.now.items → WhereTold (S.left input.old) (λ typed. WhereTold (D.shown disk.old) (λ image.
+        AuditsJournal result typed image (W.written out.old) (W.written out.new))) }
 
     // What the texts do: nothing but print.
     ensures text { WhereTold (text_of (form_of_words words.now.items)) (λ text.
