@@ -67,6 +67,12 @@ const OPEN_NO_PATH: Call = Call {
     step: 45,
 };
 
+const AUDIT: Call = Call {
+    command: &[b"audit"],
+    input: OWNER_LINE,
+    step: 45,
+};
+
 /// A holder that no command made.
 const LIST_HOLDER: Call = Call {
     command: &[b"list"],
@@ -83,6 +89,8 @@ const TWO_LINES: Call = Call {
 
 const LISTED: &[u8] = b"folder /\nfolder /a\nfile /a/x 00ff\n";
 
+const SEEN: &[u8] = b"folder 2 1 \nfolder 4 2 a\nfile 5 1 x 00ff\n";
+
 const REPLIES: &[u8] = b"refused bad-name\nrefused bad-name\nok\nrefused exists\n";
 
 /// Calls over a blank disk. The keys are drawn by 64 bytes.
@@ -95,10 +103,13 @@ const MADE: [Row; 5] = [
 ];
 
 /// Calls over a fresh store, which has 1,801 bytes with the folder and 2,088 with the file in it.
-const OVER_FRESH: [Row; 15] = [
+const OVER_FRESH: [Row; 18] = [
     (LIST, Fault::Nothing, Status::Done, b"folder /\n", 819),
     (LIST, Fault::Input(1), Status::ReadFault, b"", 819),
     (LIST, Fault::Room(4), Status::WriteFault, b"fold", 819),
+    (AUDIT, Fault::Nothing, Status::Done, b"folder 2 1 \n", 819),
+    (AUDIT, Fault::Input(1), Status::ReadFault, b"", 819),
+    (AUDIT, Fault::Room(4), Status::WriteFault, b"fold", 819),
     (
         LIST_HOLDER,
         Fault::Nothing,
@@ -163,7 +174,7 @@ fn faults_end_a_call_and_leave_what_was_done(rt: HostRuntime) -> Result<(), Fail
 }
 
 #[test]
-fn what_a_run_made_is_listed_and_opened(rt: HostRuntime) -> Result<(), Fail> {
+fn what_a_run_made_is_listed_opened_and_audited(rt: HostRuntime) -> Result<(), Fail> {
     let alloc = rt.alloc();
     let fresh = called(alloc, MAKE, Fault::Nothing, &[])?;
     let made = called(alloc, RUN, Fault::Nothing, fresh.image.as_slice())?;
@@ -175,6 +186,9 @@ fn what_a_run_made_is_listed_and_opened(rt: HostRuntime) -> Result<(), Fail> {
     assert_eq!(rt; opened.status, Status::Done);
     assert_eq!(rt; opened.printed.as_slice(), b"file /a/x 00ff\n".as_slice());
     assert_eq!(rt; opened.image.as_slice() == image, true);
+    let audited = called(alloc, AUDIT, Fault::Nothing, image)?;
+    assert_eq!(rt; audited.status, Status::Done);
+    assert_eq!(rt; audited.printed.as_slice(), SEEN);
     Ok(())
 }
 
@@ -185,6 +199,7 @@ fn each_call_of_the_disk_may_fail(rt: HostRuntime) -> Result<(), Fail> {
     let image = fresh.image.as_slice();
     assert_eq!(rt; disk_calls(alloc, MAKE, &[])?, (14, Status::Done));
     assert_eq!(rt; disk_calls(alloc, LIST, image)?, (5, Status::Done));
+    assert_eq!(rt; disk_calls(alloc, AUDIT, image)?, (5, Status::Done));
     assert_eq!(rt; disk_calls(alloc, FOLDER, image)?, (20, Status::Done));
     Ok(())
 }
