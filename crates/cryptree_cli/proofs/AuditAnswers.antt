@@ -9,7 +9,7 @@ use Rattle.holder_client.specs.Answering as holders
 use Rattle.holder_client.specs.Judging.{Failure, NoHolder, OfBytes, Unseen}
 use Rattle.holder_client.specs.declared.fault.ClientFault.{ClientFault}
 use Rattle.holder_client.specs.declared.fault.ClientFault.TheVariants as clients
-use Rattle.script_text.specs.declared.seen.Seen.{Seen}
+use Rattle.cry_base.specs.declared.client.Seen.{Seen}
 use Rattle.trail_audit.specs.Auditing.{MayFail}
 use Rattle.trail_audit.specs.Derived.{MayAnswer, Passes, PlainSeen, plain_seen}
 use Rattle.cryptree_cli.specs.declared.status.Status.{Status}
