@@ -13,6 +13,7 @@ pub mod Opening
 pub mod OwnPaths
 pub mod Placing
 pub mod Sights
+pub mod Spots
 pub mod Verdict
 pub mod View
 pub mod Visiting

@@ -15,7 +15,7 @@ ghost use Rattle.holder_client.specs.Answering.{AnswersAs};
 ghost use Rattle.holder_client.specs.Asking.{line_shown, line_with};
 ghost use Rattle.holder_client.specs.Asking as asking;
 ghost use Rattle.holder_client.specs.Beside as spec;
-ghost use Rattle.holder_client.specs.Holding.{IsReadingOf};
+ghost use Rattle.holder_client.specs.Holding.{IsReadingIn};
 ghost use Rattle.holder_client.specs.Judging.{who_of};
 ghost use Rattle.holder_client.specs.Lines.{lines_of, plain_line, read_line};
 ghost use Rattle.holder_client.specs.Sights.{MayRead, same_number};
@@ -30,6 +30,7 @@ use crate::indexed_log::IndexedLog;
 use crate::lines::{folder_lines, path_of, push_files};
 use crate::opening::OwnersView;
 use crate::reading::{ReadFile, open_names, read_files, viewer_of};
+use crate::records::Records;
 use crate::showing::read_log;
 use crate::sights::{Sight, all_sights, is_nameless};
 use crate::ways::folder_path;
@@ -158,28 +159,35 @@ fn files_beside(
 }
 
 /// Opens what the path needs of a log that may be read.
-fn open_at(
+fn open_at<S, R: Records<S>>(
     alloc: Global,
     bundle: &Bundle,
-    log: &[Placed],
     state: &PublicState,
+    records: &R,
+    source: &mut S,
     path: &[u8],
 ) -> Result<Line, ClientFault>
-    requires stands { All IsStanding log.now }
     requires owner { present state.now.keys.keys Owner ≡ 0 }
-    ensures answer { (r : Reading) → IsReadingOf state.now log.now r → MayRead r.stand.store (who_of bundle.now) → AnswersAs plain_line result (spec.path_opened bundle.now path.now r) }
-    ensures no_disk { result ≢ Err ClientFault.DiskFault }
+    ensures answer { R.shows records.now source.old → (r : Reading) → IsReadingIn state.now (R.log records.now) r → MayRead r.stand.store (who_of bundle.now) → AnswersAs plain_line result (spec.path_opened bundle.now path.now r) }
+    ensures stays { R.stays source.old source.new }
+    ensures disk_fault { result ≡ Err ClientFault.DiskFault → R.faults source.old < R.faults source.new }
 {
     is_nameless(state);
-    let indexed = IndexedLog::of(alloc, log)?;
     let seen = all_sights(alloc, state, viewer_of(bundle))?;
-    let OwnersView { ring, names } = open_names(alloc, bundle, state, &indexed, seen.as_slice())?;
+    let OwnersView { ring, names } = open_names(
+        alloc,
+        bundle,
+        state,
+        records,
+        source,
+        seen.as_slice(),
+    )?;
     let shape = state.shape();
     if let Some(line) = folder_at(alloc, shape, &names, seen.as_slice(), path)? {
         return Ok(line);
     }
     let rows = files_beside(alloc, shape, &names, seen.as_slice(), shape.files(), path)?;
-    let files = read_files(alloc, state, &indexed, ring, rows.as_slice())?;
+    let files = read_files(alloc, state, records, source, ring, rows.as_slice())?;
     match file_at(alloc, shape, &names, files, path)? {
         Some(line) => Ok(line),
         None => Err(ClientFault::Unseen),
@@ -199,7 +207,8 @@ fn open_log(
     ensures no_disk { result ≢ Err ClientFault.DiskFault }
 {
     let state = read_through(alloc, bundle, log)?;
-    open_at(alloc, bundle, log, &state, path)
+    let indexed = IndexedLog::of(alloc, log)?;
+    open_at(alloc, bundle, &state, &indexed, &mut (), path)
 }
 
 /// The one line of a path that the bundle's key shows: that of a folder that is named, or else of a file that is allowed. The disk is

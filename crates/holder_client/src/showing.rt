@@ -9,7 +9,7 @@ ghost use Rattle.commit_journal.specs.Reading.{IsOnlyRead};
 ghost use Rattle.cry_base.specs.declared.roles.Role.TheVariants.{Owner};
 ghost use Rattle.holder_client.specs.Answering.{Answers, AnswersAs};
 ghost use Rattle.holder_client.specs.Filed.{viewed};
-ghost use Rattle.holder_client.specs.Holding.{IsReadingOf};
+ghost use Rattle.holder_client.specs.Holding.{IsReadingIn};
 ghost use Rattle.holder_client.specs.Judging as spec;
 ghost use Rattle.holder_client.specs.Judging.{shown_with, view_with};
 ghost use Rattle.holder_client.specs.Lines.{plain_view};
@@ -24,6 +24,7 @@ use crate::indexed_log::IndexedLog;
 use crate::lines::view_lines;
 use crate::opening::OwnersView;
 use crate::reading::{open_names, read_files, viewer_of};
+use crate::records::Records;
 use crate::sights::{all_sights, is_nameless};
 use chacha_seal::Key;
 use commit_journal::{Placed, read_owner, read_public};
@@ -85,23 +86,31 @@ pub(crate) fn read_log<D: Disk>(
 }
 
 /// Opens what the bundle's key opens of a log that it may read, and lists it.
-fn list_log(
+fn list_records<S, R: Records<S>>(
     alloc: Global,
     bundle: &Bundle,
-    log: &[Placed],
     state: &PublicState,
+    records: &R,
+    source: &mut S,
 ) -> Result<List<Line>, ClientFault>
-    requires stands { All IsStanding log.now }
     requires owner { present state.now.keys.keys Owner ≡ 0 }
-    ensures answer { (r : Reading) → IsReadingOf state.now log.now r → MayRead r.stand.store (spec.who_of bundle.now) → AnswersAs plain_view result (viewed bundle.now r) }
-    ensures no_disk { result ≢ Err ClientFault.DiskFault }
+    ensures answer { R.shows records.now source.old → (r : Reading) → IsReadingIn state.now (R.log records.now) r → MayRead r.stand.store (spec.who_of bundle.now) → AnswersAs plain_view result (viewed bundle.now r) }
+    ensures seen { result ≢ Err ClientFault.Unseen }
+    ensures stays { R.stays source.old source.new }
+    ensures disk_fault { result ≡ Err ClientFault.DiskFault → R.faults source.old < R.faults source.new }
 {
     is_nameless(state);
-    let indexed = IndexedLog::of(alloc, log)?;
     let seen = all_sights(alloc, state, viewer_of(bundle))?;
-    let OwnersView { ring, names } = open_names(alloc, bundle, state, &indexed, seen.as_slice())?;
+    let OwnersView { ring, names } = open_names(
+        alloc,
+        bundle,
+        state,
+        records,
+        source,
+        seen.as_slice(),
+    )?;
     let rows = allowed_files(alloc, seen.as_slice(), state.shape().files())?;
-    let files = read_files(alloc, state, &indexed, ring, rows.as_slice())?;
+    let files = read_files(alloc, state, records, source, ring, rows.as_slice())?;
     Ok(view_lines(alloc, state.shape(), &names, seen.as_slice(), files)?)
 }
 
@@ -114,7 +123,8 @@ fn view_log(alloc: Global, bundle: &Bundle, log: &[Placed]) -> Result<List<Line>
     ensures no_disk { result ≢ Err ClientFault.DiskFault }
 {
     let state = read_through(alloc, bundle, log)?;
-    list_log(alloc, bundle, log, &state)
+    let indexed = IndexedLog::of(alloc, log)?;
+    list_records(alloc, bundle, &state, &indexed, &mut ())
 }
 
 /// What the bundle's key shows of a store: a line for each folder that is named and each file that is allowed, by the bytes of

@@ -1,4 +1,4 @@
-use Rattle.std.proofs.Common.{Ok, map, sym, subst}
+use Rattle.std.proofs.Common.{Ok, map, sym, ap, subst, ◌∙◌}
 use Rattle.std.proofs.lemmas.Result.{err_from_is_err_and}
 use Rattle.commit_journal.specs.Placed.{plain_placed}
 use Rattle.holder_client.specs.Answering.{AnswersAs}
@@ -16,4 +16,4 @@ pub returns-clause-answer : goal.returns-clause-answer
 returns-clause-answer c =
     let a = c.in_ok-state.ensures.answer in
     subst (AnswersAs plain_line c.open_at.result) (sym (reads_pass_path c.args.bundle.now c.args.path.now (Ok (map plain_placed c.args.log.now)) a.0 a.1))
-    (c.open_at.ensures.answer a.0 a.2.0 (may_read_all c.args.bundle.now a.0.stand.store a.2.1))
+    (c.open_at.ensures.answer tt a.0 (a.2.0.0 ∙ ap (map plain_placed) (sym c.in_ok-indexed.ensures), a.2.0.1) (may_read_all c.args.bundle.now a.0.stand.store a.2.1))

@@ -1,4 +1,4 @@
-use Rattle.std.proofs.Common.{Ok, map, sym, subst}
+use Rattle.std.proofs.Common.{Ok, map, sym, ap, subst, ◌∙◌}
 use Rattle.std.proofs.lemmas.Result.{err_from_is_err_and}
 use Rattle.commit_journal.specs.Placed.{plain_placed}
 use Rattle.holder_client.specs.Answering.{AnswersAs}
@@ -16,7 +16,7 @@ returns-in_err-state-clause-answer c =
 pub returns-clause-answer : goal.returns-clause-answer
 returns-clause-answer c =
     let a = c.in_ok-state.ensures.answer in
-    subst (AnswersAs plain_view c.list_log.result) (sym (reads_pass_view c.args.bundle.now (Ok (map plain_placed c.args.log.now)) a.0 a.1)) (c.list_log.ensures.answer a.0 a.2.0 (may_read_all c.args.bundle.now a.0.stand.store a.2.1))
+    subst (AnswersAs plain_view c.list_records.result) (sym (reads_pass_view c.args.bundle.now (Ok (map plain_placed c.args.log.now)) a.0 a.1)) (c.list_records.ensures.answer tt a.0 (a.2.0.0 ∙ ap (map plain_placed) (sym c.in_ok-indexed.ensures), a.2.0.1) (may_read_all c.args.bundle.now a.0.stand.store a.2.1))
 
 pub returns-in_err-state-clause-seen : goal.returns-in_err-state-clause-seen
 returns-in_err-state-clause-seen c =
@@ -26,4 +26,4 @@ returns-in_err-state-clause-seen c =
 pub returns-clause-seen : goal.returns-clause-seen
 returns-clause-seen c =
     let a = c.in_ok-state.ensures.answer in
-    answers_seen plain_view c.list_log.result (viewed c.args.bundle.now a.0) (c.list_log.ensures.answer a.0 a.2.0 (may_read_all c.args.bundle.now a.0.stand.store a.2.1)) (viewed_seen c.args.bundle.now a.0)
+    answers_seen plain_view c.list_records.result (viewed c.args.bundle.now a.0) (c.list_records.ensures.answer tt a.0 (a.2.0.0 ∙ ap (map plain_placed) (sym c.in_ok-indexed.ensures), a.2.0.1) (may_read_all c.args.bundle.now a.0.stand.store a.2.1)) (viewed_seen c.args.bundle.now a.0)
