@@ -26,7 +26,7 @@ use Rattle.holder_client.specs.Visiting.{Reading}
 use Rattle.holder_client.specs.declared.admission.NewCheck.{NewCheck}
 use Rattle.holder_client.specs.declared.fault.ClientFault.{ClientFault}
 use Rattle.holder_client.specs.declared.log_reader.Reader.{Reader}
-use Rattle.holder_client.proofs.Admitted.{key_refused, key_taken}
+use Rattle.holder_client.proofs.Admitted.{refused_key, taken_key}
 use Rattle.holder_client.proofs.Folded.{behind_epoch}
 use Rattle.public_fold.specs.Journal.{Stand, nothing}
 use Rattle.public_fold.specs.KeyStep.{KeyState, no_keys}
@@ -183,5 +183,5 @@ misfit_met old log p place has failed = folded_not nothing has.stand.0 log p (Da
 pub admitted : (bundle : Bundle) (reader : Reader) (log : List PlainPlaced) (result : Result (Unit {0}) ClientFault) → HasFolded reader log →
     ((r : Reading) → IsReadingIn reader.state log r → AnswersAs (λ _. r) result (may_read bundle r)) →
     AnswersAsBy (λ (u : Unit {0}) r. IsReadingIn reader.state log r × GrantsStand r.stand.store) result (read_with bundle (Ok log))
-admitted bundle reader log (Ok u) has answer = key_taken bundle log reader.state has.stand answer
-admitted bundle reader log (Err fault) has answer = key_refused bundle log reader.state fault has.stand answer
+admitted bundle reader log (Ok u) has answer = taken_key bundle log reader.state has.stand answer
+admitted bundle reader log (Err fault) has answer = refused_key bundle log reader.state fault has.stand answer

@@ -18,7 +18,7 @@ use Rattle.holder_client.specs.declared.fault.ClientFault.TheVariants as faults
 use Rattle.public_fold.specs.Standing.{PublicView}
 use Rattle.std.specs.Option.{IsSome}
 use Rattle.holder_client.specs.Holding.{ArePresent, HoldsKeys, HasKind, IsReadingIn}
-use Rattle.holder_client.specs.Placing.{PlacedLink, PlacedContent, last_one, is_for_edge, link_for, content_for}
+use Rattle.holder_client.specs.Placing.{PlacedLink, PlacedContent, last_one, is_for_edge, log_links, link_for, content_for}
 use Rattle.holder_client.specs.Verdict.{open_link, open_content}
 use Rattle.holder_client.specs.Visiting.{Reading, Opened, needed, with_key, visit_edge, visit_text}
 use Rattle.holder_client.specs.Visiting as opened
@@ -70,6 +70,10 @@ head_of k e batch at l passes =
     }
 
 -- what is known of a link that may be there, of the one that is
+pub head_found : (k : KeyState) (log : List PlainPlaced) (e : Edge) (batch at : ℕ) (l : LinkRecord) → link_for k log e ≡ Some (link_here batch at l) → IsLinkOf k e l
+unfolding link_for
+head_found k log e batch at l is = head_of k e batch at l (last_passes (is_for_edge k e) (log_links log) (link_here batch at l) is)
+
 pub form_of : (k : KeyState) (e : Edge) (o : Option FoundLink) (l : FoundLink) → o ≡ Some l → IfSome o (IsLinkFor k e) → IsLinkFor k e l
 form_of k e o l is form = subst (λ x. IfSome x (IsLinkFor k e)) is form
 
