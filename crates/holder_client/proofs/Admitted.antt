@@ -13,7 +13,7 @@ use Rattle.cry_base.specs.declared.client.Bundle.TheVariants as bundles
 use Rattle.cry_base.specs.declared.ids.HolderId.{HolderId}
 use Rattle.holder_client.specs.Answering.{IsFailure, IsFault}
 use Rattle.holder_client.specs.Folding.{folded}
-use Rattle.holder_client.specs.Holding.{IsReadingOf}
+use Rattle.holder_client.specs.Holding.{IsReadingIn, IsReadingOf}
 use Rattle.holder_client.specs.Judging.{Failure, OfBytes, NoHolder, body_check, holder_reads, may_read, of_bytes, published_check, read_through, read_with, then_on}
 use Rattle.holder_client.specs.Visiting.{Reading}
 use Rattle.holder_client.specs.declared.fault.ClientFault.{ClientFault}
@@ -139,16 +139,24 @@ through : (bundle : Bundle) (log : List PlainPlaced) (stand : Stand) → folded 
 unfolding read_with read_through and_then
 through bundle log stand is = then_ok (of_bytes (read_through (Ok log))) (may_read bundle) (reading_of log stand) (bytes_ok (read_through (Ok log)) (reading_of log stand) (rw is refl))
 
+pub refused_key : (bundle : Bundle) (log : List PlainPlaced) (v : PublicView) (fault : ClientFault) → (stand : Stand) × (folded nothing log ≡ Ok stand) × IsSeenAs v stand →
+    ((r : Reading) → IsReadingIn v log r → IsFailure fault (may_read bundle r)) → IsFailure fault (read_with bundle (Ok log))
+refused_key bundle log v fault folds refused = subst (IsFailure fault) (sym (through bundle log folds.0 folds.1)) (refused (reading_of log folds.0) (refl, folds.2))
+
+pub taken_key : (bundle : Bundle) (log : List PlainPlaced) (v : PublicView) → (stand : Stand) × (folded nothing log ≡ Ok stand) × IsSeenAs v stand →
+    ((r : Reading) → IsReadingIn v log r → may_read bundle r ≡ Ok r) → (r : Reading) × (read_with bundle (Ok log) ≡ Ok r) × (IsReadingIn v log r × GrantsStand r.stand.store)
+taken_key bundle log v folds taken =
+    let r = reading_of log folds.0 in
+    let told : (x : Reading) × (read_with bundle (Ok log) ≡ Ok x) × (IsReadingIn v log x × GrantsStand x.stand.store) =
+    (r, through bundle log folds.0 folds.1 ∙ taken r (refl, folds.2), ((refl, folds.2), grants_stand log folds.0 folds.1))
+    in
+    told
+
+-- the same of a log
 pub key_refused : (bundle : Bundle) (log : List Placed) (v : PublicView) (fault : ClientFault) → (stand : Stand) × (folded nothing (map plain_placed log) ≡ Ok stand) × IsSeenAs v stand →
     ((r : Reading) → IsReadingOf v log r → IsFailure fault (may_read bundle r)) → IsFailure fault (read_with bundle (Ok (map plain_placed log)))
-key_refused bundle log v fault folds refused =
-    subst (IsFailure fault) (sym (through bundle (map plain_placed log) folds.0 folds.1)) (refused (reading_of (map plain_placed log) folds.0) (refl, folds.2))
+key_refused bundle log v fault folds refused = refused_key bundle (map plain_placed log) v fault folds refused
 
 pub key_taken : (bundle : Bundle) (log : List Placed) (v : PublicView) → (stand : Stand) × (folded nothing (map plain_placed log) ≡ Ok stand) × IsSeenAs v stand →
     ((r : Reading) → IsReadingOf v log r → may_read bundle r ≡ Ok r) → (r : Reading) × (read_with bundle (Ok (map plain_placed log)) ≡ Ok r) × (IsReadingOf v log r × GrantsStand r.stand.store)
-key_taken bundle log v folds taken =
-    let r = reading_of (map plain_placed log) folds.0 in
-    let told : (x : Reading) × (read_with bundle (Ok (map plain_placed log)) ≡ Ok x) × (IsReadingOf v log x × GrantsStand x.stand.store) =
-    (r, through bundle (map plain_placed log) folds.0 folds.1 ∙ taken r (refl, folds.2), ((refl, folds.2), grants_stand (map plain_placed log) folds.0 folds.1))
-    in
-    told
+key_taken bundle log v folds taken = taken_key bundle (map plain_placed log) v folds taken

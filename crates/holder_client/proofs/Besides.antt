@@ -5,9 +5,7 @@ use Rattle.std.specs.List.{flat_map, list_any}
 use Rattle.std.proofs.lemmas.Bool.{and_from, and_parts, eqb-true, eq-eqb}
 use Rattle.std.proofs.lemmas.Slice.Eq.{bytes_eq-Decides}
 use Rattle.commit_journal.specs.Answering.{Fault}
-use Rattle.commit_journal.specs.Placed.{PlainPlaced, plain_log, plain_placed}
-use Rattle.commit_journal.specs.declared.placed.Placed.{Placed}
-use Rattle.cry_base.specs.Listed.{Listed}
+use Rattle.commit_journal.specs.Placed.{PlainPlaced}
 use Rattle.cry_base.specs.Naming.{front, is_path, names_behind, names_of, parent_path, spell_path}
 use Rattle.cry_base.specs.Sets.{In}
 use Rattle.cry_base.specs.Store.{Store, FolderEntry, FileEntry, HolderEntry, file_names, folder_entry, folder_names, folder_node, node_names, path_of, way_to_root}
@@ -253,8 +251,7 @@ pub log_fails_path : (bundle : Bundle) (path bytes : List ℕ) (fault : ClientFa
 unfolding line_shown
 log_fails_path bundle path bytes fault is = reads_fail_path bundle path (bundle_log bundle bytes) fault (no_reading bundle (bundle_log bundle bytes) fault is)
 
-pub log_read_path : (bundle : Bundle) (path bytes : List ℕ) (log : Listed Placed) (items : List Placed) (result : Result Shown ClientFault) → bundle_log bundle bytes ≡ Ok (plain_log log) → items ≡ log.items →
-    AnswersAs plain_line result (line_with bundle path (Ok (map plain_placed items))) → AnswersAs plain_line result (line_shown bundle path bytes)
+pub log_read_path : (bundle : Bundle) (path bytes : List ℕ) (log : List PlainPlaced) (result : Result Shown ClientFault) → bundle_log bundle bytes ≡ Ok log →
+    AnswersAs plain_line result (line_with bundle path (Ok log)) → AnswersAs plain_line result (line_shown bundle path bytes)
 unfolding line_shown
-log_read_path bundle path bytes log items result read same answer =
-    subst (λ l. AnswersAs plain_line result (line_with bundle path l)) (ap (λ xs. let x : Result (List PlainPlaced) Fault = Ok (map plain_placed xs) in x) same ∙ sym read) answer
+log_read_path bundle path bytes log result read answer = subst (λ l. AnswersAs plain_line result (line_with bundle path l)) (sym read) answer

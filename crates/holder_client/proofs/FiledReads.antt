@@ -5,7 +5,7 @@ use Rattle.std.proofs.Math.ListN.{drop_of_length-le}
 use Rattle.std.proofs.lemmas.Bool.{eq-eqb, ne_eqb}
 use Rattle.std.proofs.lemmas.List.{drop_more, map-append}
 use Rattle.commit_journal.specs.Answering.{Fault, and_then}
-use Rattle.commit_journal.specs.declared.placed.Placed.{Placed}
+use Rattle.commit_journal.specs.Placed.{PlainPlaced}
 use Rattle.cry_base.specs.Sets.{In}
 use Rattle.cry_base.specs.Stepping.{with_file}
 use Rattle.cry_base.specs.Store.{Store}
@@ -15,7 +15,7 @@ use Rattle.folder_nodes.specs.declared.rows.FileRow.{FileRow}
 use Rattle.folder_nodes.proofs.Ascending.{All-in, head_below, rest_rising}
 use Rattle.holder_client.specs.Answering.{IsFault}
 use Rattle.holder_client.specs.Filed.{IsReadBy, everyone, file_stops, read_title, titles_read, with_read}
-use Rattle.holder_client.specs.Holding.{HasKind, HasNames, HoldsKeys, IsFiled, IsFiledBy, IsReadingOf}
+use Rattle.holder_client.specs.Holding.{HasKind, HasNames, HoldsKeys, IsFiled, IsFiledBy, IsReadingIn}
 use Rattle.holder_client.specs.Visiting.{Opened, Reading, visit, visit_all}
 use Rattle.holder_client.specs.Visits.{Visit}
 use Rattle.holder_client.specs.Visits.Visit.{ToKey, ToFile}
@@ -112,12 +112,12 @@ text_read ring r o next row f parts passed holds same filed is_row is_name is_by
 -- ---- all of them
 
 -- the files so far were read, and those from an index on are left
-abbrev pub AreReadTo : PublicView → List Placed → Ringed → List FileRow → ℕ → Ringed → List ReadFile → Type 0
+abbrev pub AreReadTo : PublicView → List PlainPlaced → Ringed → List FileRow → ℕ → Ringed → List ReadFile → Type 0
 AreReadTo state log before rows i ring files =
-    (r : Reading) (o : Opened) (bare : Store) (names : Titles) → IsReadingOf state log r → HoldsKeys everyone before o.keys → HasNames bare names o.store →
+    (r : Reading) (o : Opened) (bare : Store) (names : Titles) → IsReadingIn state log r → HoldsKeys everyone before o.keys → HasNames bare names o.store →
     (p : Opened) × (visit_all r (flat_map file_stops rows) o ≡ visit_all r (flat_map file_stops (drop i rows)) p) × HoldsKeys everyone ring p.keys × HasNames bare (with_read names files) p.store
 
-pub reads_begin : (state : PublicView) (log : List Placed) (ring : Ringed) (rows : List FileRow) (files : List ReadFile) → files ≡ [] → AreReadTo state log ring rows 0 ring files
+pub reads_begin : (state : PublicView) (log : List PlainPlaced) (ring : Ringed) (rows : List FileRow) (files : List ReadFile) → files ≡ [] → AreReadTo state log ring rows 0 ring files
 unfolding titles_read
 reads_begin state log ring rows files none = λ r o bare names of_log holds has. (o, refl, holds, subst (λ l. HasNames bare (with_read names l) o.store) (sym none) has)
 
@@ -152,9 +152,9 @@ fails_before r (v ∷ vs) ws o fault =
 from_row : (rows : List FileRow) (i : ℕ) (row : FileRow) → i < length rows → row ≡ get_or rows i row → flat_map file_stops (drop i rows) ≡ file_stops row ++ flat_map file_stops (drop (i + 1) rows)
 from_row rows i row within is = ap (flat_map file_stops) (drop_more rows i row within) ∙ ap (λ (x : FileRow). file_stops x ++ flat_map file_stops (drop (i + 1) rows)) (sym is)
 
-pub reads_go_on : (state : PublicView) (log : List Placed) (before ring next : Ringed) (rows : List FileRow) (i : ℕ) (row : FileRow) (files new : List ReadFile) (f : ReadFile) → i < length rows → row ≡ get_or rows i row →
+pub reads_go_on : (state : PublicView) (log : List PlainPlaced) (before ring next : Ringed) (rows : List FileRow) (i : ℕ) (row : FileRow) (files new : List ReadFile) (f : ReadFile) → i < length rows → row ≡ get_or rows i row →
     AreReadTo state log before rows i ring files → new ≡ files ++ f ∷ [] →
-    ((r : Reading) (o : Opened) → IsReadingOf state log r → HoldsKeys everyone ring o.keys → (behind : Opened) × (visit_all r (file_stops row) o ≡ Ok behind) × (HoldsKeys everyone next behind.keys × IsReadBy f o behind)) →
+    ((r : Reading) (o : Opened) → IsReadingIn state log r → HoldsKeys everyone ring o.keys → (behind : Opened) × (visit_all r (file_stops row) o ≡ Ok behind) × (HoldsKeys everyone next behind.keys × IsReadBy f o behind)) →
     AreReadTo state log before rows (i + 1) next new
 reads_go_on state log before ring next rows i row files new f within is so_far more made = λ r o bare names of_log holds has.
     let so = so_far r o bare names of_log holds has in
@@ -165,16 +165,16 @@ reads_go_on state log before ring next rows i row files new f within is so_far m
       filed_more bare names files new f so.0 w.0 more w.2.1 so.3,
     )
 
-pub reads_fail : (state : PublicView) (log : List Placed) (before ring : Ringed) (rows : List FileRow) (i : ℕ) (row : FileRow) (files : List ReadFile) (fault : ClientFault) → i < length rows → row ≡ get_or rows i row →
-    AreReadTo state log before rows i ring files → ((r : Reading) (o : Opened) → IsReadingOf state log r → HoldsKeys everyone ring o.keys → IsFault fault (visit_all r (file_stops row) o)) →
-    (r : Reading) (o : Opened) (bare : Store) (names : Titles) → IsReadingOf state log r → HoldsKeys everyone before o.keys → HasNames bare names o.store → IsFault fault (visit_all r (flat_map file_stops rows) o)
+pub reads_fail : (state : PublicView) (log : List PlainPlaced) (before ring : Ringed) (rows : List FileRow) (i : ℕ) (row : FileRow) (files : List ReadFile) (fault : ClientFault) → i < length rows → row ≡ get_or rows i row →
+    AreReadTo state log before rows i ring files → ((r : Reading) (o : Opened) → IsReadingIn state log r → HoldsKeys everyone ring o.keys → IsFault fault (visit_all r (file_stops row) o)) →
+    (r : Reading) (o : Opened) (bare : Store) (names : Titles) → IsReadingIn state log r → HoldsKeys everyone before o.keys → HasNames bare names o.store → IsFault fault (visit_all r (flat_map file_stops rows) o)
 reads_fail state log before ring rows i row files fault within is so_far failed = λ r o bare names of_log holds has.
     let so = so_far r o bare names of_log holds has in
     subst (IsFault fault) (sym (so.1 ∙ ap (λ l. visit_all r l so.0) (from_row rows i row within is)))
     (fails_before r (file_stops row) (flat_map file_stops (drop (i + 1) rows)) so.0 fault (failed r so.0 of_log so.2))
 
-pub reads_end : (state : PublicView) (log : List Placed) (before ring : Ringed) (rows : List FileRow) (i : ℕ) (files : List ReadFile) → length rows ≤ i → AreReadTo state log before rows i ring files →
-    (r : Reading) (o : Opened) (bare : Store) (names : Titles) → IsReadingOf state log r → HoldsKeys everyone before o.keys → HasNames bare names o.store →
+pub reads_end : (state : PublicView) (log : List PlainPlaced) (before ring : Ringed) (rows : List FileRow) (i : ℕ) (files : List ReadFile) → length rows ≤ i → AreReadTo state log before rows i ring files →
+    (r : Reading) (o : Opened) (bare : Store) (names : Titles) → IsReadingIn state log r → HoldsKeys everyone before o.keys → HasNames bare names o.store →
     (behind : Opened) × (visit_all r (flat_map file_stops rows) o ≡ Ok behind) × HasNames bare (with_read names files) behind.store
 unfolding visit_all
 reads_end state log before ring rows i files past so_far = λ r o bare names of_log holds has.

@@ -36,7 +36,7 @@ commanded_epoch at behind place p true made =
 commanded_epoch at behind place p false made = absurd (cc)
 
 -- behind a batch its epoch is the one that was begun last
-behind_epoch : (at behind : Stand) (place epoch : ℕ) (body : PlainBody) → IsInEpoch at.keys.epoch epoch body → stand_behind at place body ≡ Ok behind →
+pub behind_epoch : (at behind : Stand) (place epoch : ℕ) (body : PlainBody) → IsInEpoch at.keys.epoch epoch body → stand_behind at place body ≡ Ok behind →
     behind.keys.epoch ≡ epoch
 unfolding stand_behind next_epoch
 behind_epoch at behind place epoch NewEpoch is made =

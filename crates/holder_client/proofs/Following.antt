@@ -1,6 +1,6 @@
 -- A link that is opened as the definition says, and the ring behind it.
-use Rattle.std.proofs.Common.{◌≡◌, ◌≢◌, ◌&&◌, ℕ, Bool, true, false, cond, List, [], ◌∷◌, map, Option, None, Some, option_map, Result, Ok, Err, refl, sym, ap, subst, ◌∙◌}
-use Rattle.std.specs.Prelude.{IsTrue, ◌==◌}
+use Rattle.std.proofs.Common.{◌≡◌, ◌≢◌, ℕ, Bool, true, false, cond, List, [], ◌∷◌, Option, None, Some, option_map, Result, Ok, Err, refl, sym, ap, subst, ◌∙◌}
+use Rattle.std.specs.Prelude.{IfSome, IsTrue}
 use Rattle.std.specs.Str.{bytes_eq}
 use Rattle.std.proofs.lemmas.Bool.{and_parts, eqb-true, false_from_ne_true, false≢true}
 use Rattle.std.proofs.lemmas.Slice.Eq.{bytes_eq-Decides}
@@ -9,13 +9,16 @@ use Rattle.chacha_seal.specs.Sealing.{sealed, seal_tag}
 use Rattle.commit_journal.specs.Answering.{Fault, Damaged, Tampered, and_then}
 use Rattle.cry_base.specs.declared.roles.Edge.{Edge}
 use Rattle.cry_base.specs.declared.roles.Role.{Role}
-use Rattle.holder_client.specs.Found.{link_here, content_here}
-use Rattle.commit_journal.specs.Placed.{PlainPlaced, plain_placed}
-use Rattle.commit_journal.specs.declared.placed.Placed.{Placed}
+use Rattle.holder_client.specs.Found.{IsFree, IsLinkFor, link_here, content_here}
+use Rattle.commit_journal.specs.Placed.{PlainPlaced}
+use Rattle.holder_client.specs.Answering.{IsFault}
+use Rattle.holder_client.specs.declared.fault.ClientFault.{ClientFault}
+use Rattle.holder_client.specs.declared.last_links.FoundLink.{FoundLink}
+use Rattle.holder_client.specs.declared.fault.ClientFault.TheVariants as faults
 use Rattle.public_fold.specs.Standing.{PublicView}
 use Rattle.std.specs.Option.{IsSome}
-use Rattle.holder_client.specs.Holding.{ArePresent, HoldsKeys, HasKind, IsReadingOf}
-use Rattle.holder_client.specs.Placing.{PlacedLink, PlacedContent, last_one, is_for_edge, link_for, content_for}
+use Rattle.holder_client.specs.Holding.{ArePresent, HoldsKeys, HasKind, IsReadingIn}
+use Rattle.holder_client.specs.Placing.{PlacedLink, PlacedContent, last_one, is_for_edge, log_links, link_for, content_for}
 use Rattle.holder_client.specs.Verdict.{open_link, open_content}
 use Rattle.holder_client.specs.Visiting.{Reading, Opened, needed, with_key, visit_edge, visit_text}
 use Rattle.holder_client.specs.Visiting as opened
@@ -51,10 +54,9 @@ pub record IsLinkOf (k : KeyState) (e : Edge) (l : LinkRecord) : Type 0 where
   pub from_serial : l.from_serial.0 ≡ present k.keys e.from
   pub to_serial : l.to_serial.0 ≡ present k.keys e.to
 
-pub head_found : (k : KeyState) (log : _) (e : Edge) (batch at : ℕ) (l : LinkRecord) → link_for k log e ≡ Some (link_here batch at l) → IsLinkOf k e l
-unfolding link_for is_for_edge
-head_found k log e batch at l is =
-    let passes : is_for_edge k e (link_here batch at l) ≡ true = last_passes (is_for_edge k e) _ (link_here batch at l) is in
+pub head_of : (k : KeyState) (e : Edge) (batch at : ℕ) (l : LinkRecord) → IsTrue (is_for_edge k e (link_here batch at l)) → IsLinkOf k e l
+unfolding is_for_edge
+head_of k e batch at l passes =
     let one = and_parts _ _ passes in
     let two = and_parts _ _ one.1 in
     let three = and_parts _ _ two.1 in
@@ -66,6 +68,14 @@ head_found k log e batch at l is =
       from_serial = eqb-true l.from_serial.0 (present k.keys e.from) four.0;
       to_serial = eqb-true l.to_serial.0 (present k.keys e.to) four.1;
     }
+
+-- what is known of a link that may be there, of the one that is
+pub head_found : (k : KeyState) (log : List PlainPlaced) (e : Edge) (batch at : ℕ) (l : LinkRecord) → link_for k log e ≡ Some (link_here batch at l) → IsLinkOf k e l
+unfolding link_for
+head_found k log e batch at l is = head_of k e batch at l (last_passes (is_for_edge k e) (log_links log) (link_here batch at l) is)
+
+pub form_of : (k : KeyState) (e : Edge) (o : Option FoundLink) (l : FoundLink) → o ≡ Some l → IfSome o (IsLinkFor k e) → IsLinkFor k e l
+form_of k e o l is form = subst (λ x. IfSome x (IsLinkFor k e)) is form
 
 pub source_is : (k : KeyState) (e : Edge) (l : LinkRecord) → HasKind e → IsLinkOf k e l → source_role l ≡ e.from
 source_is k e l kind head = ap (λ n. role_with (kind_from n) l.from_id) head.kind ∙ ap (role_with (kind_from e.kind)) head.from_id ∙ kind.source
@@ -166,16 +176,22 @@ pub no_one : {X : Type 0} (o : Option X) → (IsSome o → ⊥) → o ≡ None
 no_one (Some x) none = absurd (none refl)
 no_one None none = refl
 
-pub link_told : (state : PublicView) (log : List Placed) (r : Reading) (e : Edge) → IsReadingOf state log r → link_for r.stand.keys r.log e ≡ link_for state.keys (map plain_placed log) e
-link_told state log r e of_log = ap (λ (k : KeyState). link_for k r.log e) of_log.1.keys ∙ ap (λ ps. link_for state.keys ps e) of_log.0
+-- a link that was found in a log is the one that a reading of it finds
+pub link_told : (state : PublicView) (log : List PlainPlaced) (r : Reading) (e : Edge) (found : Option PlacedLink) → IsReadingIn state log r → found ≡ link_for state.keys log e → found ≡ link_for r.stand.keys r.log e
+link_told state log r e found of_log is = is ∙ sym (ap (λ (k : KeyState). link_for k r.log e) of_log.1.keys ∙ ap (λ ps. link_for state.keys ps e) of_log.0)
+
+-- a fault that may come at any time is any fault that is wanted
+pub free_fault : {Y : Type 0} (fault : ClientFault) (wanted : Result Y Fault) → IsFree fault → IsFault fault wanted
+free_fault faults.NotAStore wanted free = absurd free
+free_fault faults.WrongKey wanted free = absurd free
+free_fault (faults.Damaged at) wanted free = absurd free
+free_fault (faults.Tampered batch at) wanted free = absurd free
+free_fault (faults.NoHolder known) wanted free = absurd free
+free_fault faults.Unseen wanted free = absurd free
+free_fault faults.DiskFault wanted free = tt
+free_fault faults.OutOfMemory wanted free = tt
 
 -- ---- texts
-
-pub content_found_of : (log : List PlainPlaced) (kind object batch at : ℕ) (c : PlainContent) → content_for log kind object ≡ Some (content_here batch at c) → (c.kind ≡ kind) × (c.object ≡ object)
-unfolding content_for
-content_found_of log kind object batch at c is =
-    let both = and_parts _ _ (last_passes (λ (d : PlacedContent). (d.content.kind == kind) && (d.content.object == object)) _ (content_here batch at c) is) in
-    (eqb-true c.kind kind both.0, eqb-true c.object object both.1)
 
 wanting_text_or : (key : Option (List ℕ)) (content : Option PlacedContent) (go_on : ℕ → List ℕ → Result Opened Fault) → content ≡ None →
     needed key (λ k. needed content (λ c. and_then (open_content c.batch c.at k c.content) (go_on c.at))) ≡ Err (Damaged 42)

@@ -1,26 +1,42 @@
 -- The last one that passes, as a walk over a log goes on.
-use Rattle.std.proofs.Common.{◌≡◌, ◌+◌, ◌*◌, ◌<◌, ℕ, zero, suc, Bool, true, false, cond, List, [], ◌∷◌, ◌++◌, get_or, length, take, map, None, Some, IfSome, refl, sym, ap, subst, ◌∙◌, add-one, append_assoc, arith}
+use Rattle.std.proofs.Common.{◌≡◌, ◌+◌, ◌*◌, ◌<◌, ℕ, zero, suc, Bool, true, false, cond, List, [], ◌∷◌, ◌++◌, get_or, length, take, map, Option, None, Some, IfSome, refl, sym, ap, subst, ◌∙◌, add-one, append_assoc, arith}
 use Rattle.std.specs.HashMap.{HashMap, get}
 use Rattle.std.specs.List.{flat_map, sum_by}
 use Rattle.std.specs.Map.{lookup}
-use Rattle.std.proofs.Math.ListN.{get_or-map}
+use Rattle.std.proofs.Math.ListN.{get_or-append, get_or-map}
+use Rattle.std.proofs.Math.Seq.{get_or-append_seam}
 use Rattle.std.proofs.lemmas.Grind.{flat_map-append}
-use Rattle.std.proofs.lemmas.List.{append-nil, length-map, map-append, take_more}
+use Rattle.std.proofs.lemmas.List.{append-nil, length-append, length-map, map-append, take_more}
 use Rattle.std.proofs.lemmas.List.Sums.{sum_by-cons}
-use Rattle.commit_journal.specs.declared.placed.Placed.{Placed}
+use Rattle.std.proofs.lemmas.Option.{get_or_from_slice_get, slice_get-get_or, slice_get_within}
 use Rattle.commit_journal.specs.Placed.{PlainPlaced, plain_body, plain_placed}
+use Rattle.commit_journal.specs.Places.{EndsWithin, IsStanding}
+use Rattle.commit_journal.specs.declared.placed.Body.{Body}
+use Rattle.commit_journal.specs.declared.placed.Body.TheVariants as bodies
+use Rattle.commit_journal.specs.declared.placed.Placed.{Placed}
+use Rattle.record_format.specs.Spellable.{IsContent}
+use Rattle.std.specs.List.{slice_get}
+use Rattle.std.proofs.lemmas.List.Elements.{All-get_or}
+use Rattle.cry_base.specs.declared.roles.Edge.{Edge}
+use Rattle.public_fold.specs.KeyStep.{KeyState}
 use Rattle.record_format.specs.declared.content.ContentRecord.{ContentRecord}
 use Rattle.record_format.specs.declared.link.LinkRecord.{LinkRecord}
 use Rattle.record_format.specs.Plain.{PlainContent, plain_content}
 use Rattle.record_format.specs.Sizes.{content_size}
-use Rattle.record_format.specs.Spellable.{IsContent}
+use Rattle.holder_client.specs.declared.index.Index.{Index}
 use Rattle.holder_client.specs.declared.last_contents.ContentHead.{ContentHead}
-use Rattle.holder_client.specs.declared.last_contents.FoundContent.{FoundContent}
+use Rattle.holder_client.specs.declared.last_contents.ContentSpot.{ContentSpot}
 use Rattle.holder_client.specs.declared.last_links.FoundLink.{FoundLink}
 use Rattle.holder_client.specs.declared.last_links.LinkHead.{LinkHead}
-use Rattle.holder_client.specs.Found.{content_here, is_of, is_sought, link_here, plain_found, plain_link}
-use Rattle.holder_client.specs.Indexed.{HasLastContents, HasLastLinks, IsIndexed, head_of_content, head_of_link, same_content_heads, same_link_heads}
-use Rattle.holder_client.specs.Placing.{PlacedContent, PlacedLink, body_contents, body_links, contents_at, last_one, links_at, log_contents, log_links}
+use Rattle.std.proofs.lemmas.Bool.{and_parts, eqb-true}
+use Rattle.std.specs.Prelude.{MatchResult, Result, Ok, Err}
+use Rattle.holder_client.specs.declared.fault.ClientFault.{ClientFault}
+use Rattle.holder_client.specs.declared.records.FoundContent.{FoundContent}
+use Rattle.holder_client.specs.Found.{FindsAt, IsFree, IsLinkFor, plain_content_found, content_here, is_of, is_sought, link_here, plain_link}
+use Rattle.holder_client.specs.Indexed.{HasLastContents, HasLastLinks, IsContentAt, IsIndexOf, IsLastAt, head_of_content, head_of_link, same_content_heads, same_link_heads}
+use Rattle.holder_client.specs.Placing.{PlacedContent, PlacedLink, body_contents, body_links, contents_at, content_for, is_for_edge, last_one, link_for, links_at, log_contents, log_links}
+use Rattle.holder_client.specs.Spots.{IsAt, contents_in}
+use Rattle.holder_client.proofs.Following.{last_passes}
 
 -- with one more, that one if it passes, and else the last before it
 last_with_next : {X : Type 0} (test : X → Bool) (xs : List X) (x : X) → last_one test (xs ++ x ∷ []) ≡ cond (test x) (Some x) (last_one test xs)
@@ -47,12 +63,12 @@ mapped_item contents i content within is = (
 -- ---- links
 
 -- a link that is noted is the last one that has its head
-pub link_noted : {S : Type 0} (last new : HashMap LinkHead FoundLink S) (head : LinkHead) (found : FoundLink) (so_far : List PlacedLink) → head ≡ head_of_link found.link.now →
+pub link_noted : {S : Type 0} (last new : HashMap LinkHead FoundLink S) (head : LinkHead) (found : FoundLink) (so_far : List PlacedLink) → head ≡ head_of_link found.link →
     ((q : LinkHead) → get same_link_heads new q ≡ cond (same_link_heads head q) (Some found) (get same_link_heads last q)) → HasLastLinks last so_far →
-    HasLastLinks new (so_far ++ link_here found.batch found.at found.link.now ∷ [])
+    HasLastLinks new (so_far ++ link_here found.batch found.at found.link ∷ [])
 link_noted last new head found so_far is updates has = record {
   found = λ q.
-      let x = link_here found.batch found.at found.link.now in
+      let x = link_here found.batch found.at found.link in
       let old = get same_link_heads last q in
       ap plain_link (updates q)
       ∙ ap (λ h. plain_link (cond (same_link_heads h q) (Some found) old)) is
@@ -88,22 +104,17 @@ more_links last so_far batch first at links i link within place is has =
 -- ---- contents
 
 -- a content that is noted is the last one that has its head
-pub content_noted : {S : Type 0} (last new : HashMap ContentHead FoundContent S) (head : ContentHead) (found : FoundContent) (so_far : List PlacedContent) → head ≡ head_of_content found.content.now →
-    ((q : ContentHead) → get same_content_heads new q ≡ cond (same_content_heads head q) (Some found) (get same_content_heads last q)) → IsContent (plain_content found.content.now) → HasLastContents last so_far →
-    HasLastContents new (so_far ++ content_here found.batch found.at (plain_content found.content.now) ∷ [])
-content_noted last new head found so_far is updates form has = record {
+pub content_noted : {S : Type 0} (last new : HashMap ContentHead ContentSpot S) (head : ContentHead) (spot : ContentSpot) (content : ContentRecord) (log : List PlainPlaced) (so_far : List PlacedContent) → head ≡ head_of_content content →
+    ((q : ContentHead) → get same_content_heads new q ≡ cond (same_content_heads head q) (Some spot) (get same_content_heads last q)) → IsContentAt log spot (plain_content content) → HasLastContents log last so_far →
+    HasLastContents log new (so_far ++ content_here spot.batch spot.at (plain_content content) ∷ [])
+content_noted last new head spot content log so_far is updates at has = record {
   found = λ q.
-      let x = content_here found.batch found.at (plain_content found.content.now) in
+      let x = content_here spot.batch spot.at (plain_content content) in
       let old = get same_content_heads last q in
-      ap plain_found (updates q)
-      ∙ ap (λ h. plain_found (cond (same_content_heads h q) (Some found) old)) is
-      ∙ (elim (is_of q.kind q.object x) as (λ b. plain_found (cond b (Some found) old) ≡ cond b (Some x) (plain_found old)) [ true ↦ refl | false ↦ refl ])
-      ∙ ap (λ o. cond (is_of q.kind q.object x) (Some x) o) (has.found q)
-      ∙ sym (last_with_next (is_of q.kind q.object) so_far x);
-  form = λ q.
-      let P : FoundContent → Type 0 = λ c. IsContent (plain_content c.content.now) in
-      subst (λ o. IfSome o P) (sym (updates q))
-      (elim (same_content_heads head q) as (λ b. IfSome (cond b (Some found) (get same_content_heads last q)) P) [ true ↦ form | false ↦ has.form q ]);
+      let before = last_one (is_of q.kind q.object) so_far in
+      subst (λ o. IsLastAt log o (last_one (is_of q.kind q.object) (so_far ++ x ∷ []))) (sym (updates q ∙ ap (λ h. cond (same_content_heads h q) (Some spot) old) is))
+      (subst (λ w. IsLastAt log (cond (is_of q.kind q.object x) (Some spot) old) w) (sym (last_with_next (is_of q.kind q.object) so_far x))
+      (elim (is_of q.kind q.object x) as (λ b. IsLastAt log (cond b (Some spot) old) (cond b (Some x) before)) [ true ↦ (plain_content content, at, refl) | false ↦ has.found q ]));
 }
 
 contents_with_next : (batch at : ℕ) (contents : List PlainContent) (i : ℕ) (d : PlainContent) → i < length contents →
@@ -121,12 +132,12 @@ contents_with_next batch at (c ∷ contents) (suc i) d within =
     (contents_with_next batch (at + size) contents i d inside ∙ ap (λ n. contents_at batch (at + size) (take i contents) ++ content_here batch n (get_or contents i d) ∷ []) place)
 
 -- the contents so far of a batch, and the next one
-pub more_contents : {S : Type 0} (last : HashMap ContentHead FoundContent S) (so_far : List PlacedContent) (batch first at : ℕ) (contents : List PlainContent) (i : ℕ) (content : PlainContent) → i < length contents →
+pub more_contents : {S : Type 0} (log : List PlainPlaced) (last : HashMap ContentHead ContentSpot S) (so_far : List PlacedContent) (batch first at : ℕ) (contents : List PlainContent) (i : ℕ) (content : PlainContent) → i < length contents →
     at ≡ first + sum_by content_size (take i contents) → content ≡ get_or contents i content →
-    HasLastContents last ((so_far ++ contents_at batch first (take i contents)) ++ content_here batch at content ∷ []) → HasLastContents last (so_far ++ contents_at batch first (take (i + 1) contents))
-more_contents last so_far batch first at contents i content within place is has =
+    HasLastContents log last ((so_far ++ contents_at batch first (take i contents)) ++ content_here batch at content ∷ []) → HasLastContents log last (so_far ++ contents_at batch first (take (i + 1) contents))
+more_contents log last so_far batch first at contents i content within place is has =
     let before = contents_at batch first (take i contents) in
-    subst (HasLastContents last)
+    subst (HasLastContents log last)
     (append_assoc so_far before (content_here batch at content ∷ [])
     ∙ ap (λ n. so_far ++ (before ++ content_here batch n content ∷ [])) place
     ∙ ap (λ (c : PlainContent). so_far ++ (before ++ content_here batch (first + sum_by content_size (take i contents)) c ∷ [])) is
@@ -136,37 +147,99 @@ more_contents last so_far batch first at contents i content within place is has 
 
 -- ---- batches
 
--- empty maps have the last ones of a log without batches
-pub nothing_indexed : {S : Type 0} (links : HashMap LinkHead FoundLink S) (contents : HashMap ContentHead FoundContent S) → links.entries ≡ [] → contents.entries ≡ [] → IsIndexed links contents []
+-- an index of nothing is that of a log without batches
+pub nothing_indexed : (index : Index) → index.links.entries ≡ [] → index.contents.entries ≡ [] → IsIndexOf index []
 unfolding last_one log_links log_contents
-nothing_indexed links contents no_links no_contents = record {
+nothing_indexed index no_links no_contents = record {
   last_links = record { found = λ q. ap (λ es. plain_link (lookup (same_link_heads q) es)) no_links };
-  last_contents = record {
-    found = λ q. ap (λ es. plain_found (lookup (same_content_heads q) es)) no_contents;
-    form = λ q. subst (λ es. IfSome (lookup (same_content_heads q) es) (λ c. IsContent (plain_content c.content.now))) (sym no_contents) tt;
-  };
+  last_contents = record { found = λ q. subst (λ es. IsLastAt [] (lookup (same_content_heads q) es) None) (sym no_contents) refl };
 }
 
-log_with_next : {X : Type 0} (parts : PlainPlaced → List X) (log : List Placed) (i : ℕ) (p : Placed) → i < length log → p ≡ get_or log i p →
-    flat_map parts (map plain_placed (take i log)) ++ parts (plain_placed p) ≡ flat_map parts (map plain_placed (take (i + 1) log))
-log_with_next {X} parts log i p within is =
-    let before = map plain_placed (take i log) in
-    let last = plain_placed p ∷ [] in
-    let more : map plain_placed (take (i + 1) log) ≡ before ++ last =
-    ap (map plain_placed) (take_more log i p within) ∙ map-append plain_placed (take i log) (get_or log i p ∷ []) ∙ ap (λ (q : Placed). before ++ plain_placed q ∷ []) (sym is)
+pub at_item : {X : Type 0} (xs : List X) (i : ℕ) (x : X) → i < length xs → x ≡ get_or xs i x → IsAt xs i x
+at_item xs i x within is = slice_get-get_or xs i x within ∙ ap Some (sym is)
+
+pub at_mapped : {X Y : Type 0} (f : X → Y) (xs : List X) (i : ℕ) (x : X) → IsAt xs i x → IsAt (map f xs) i (f x)
+at_mapped f xs i x is =
+    let inside : i < length (map f xs) = subst (λ n. i < n) (sym (length-map xs f)) (slice_get_within xs i x is) in
+    slice_get-get_or (map f xs) i (f x) inside ∙ ap Some (get_or-map f xs i x ∙ ap f (get_or_from_slice_get xs i x x is))
+
+-- what stands at a position stands there in a longer list
+at_more : {X : Type 0} (xs ys : List X) (i : ℕ) (x : X) → IsAt xs i x → IsAt (xs ++ ys) i x
+at_more xs ys i x is =
+    let within = slice_get_within xs i x is in
+    let long = length-append xs ys in
+    let inside : i < length (xs ++ ys) = omega (arith, within, long) in
+    slice_get-get_or (xs ++ ys) i x inside ∙ ap Some (get_or-append xs ys x i within ∙ get_or_from_slice_get xs i x x is)
+
+-- and one more stands behind the others
+pub at_end : {X : Type 0} (xs : List X) (x : X) (i : ℕ) → length xs ≡ i → IsAt (xs ++ x ∷ []) i x
+at_end xs x i is =
+    let long = length-append xs (x ∷ []) in
+    let inside : length xs < length (xs ++ x ∷ []) = omega (arith, long) in
+    subst (λ n. IsAt (xs ++ x ∷ []) n x) is (slice_get-get_or (xs ++ x ∷ []) (length xs) x inside ∙ ap Some (get_or-append_seam xs x [] x))
+
+last_grows : (log more : List PlainPlaced) (o : Option ContentSpot) (wanted : Option PlacedContent) → IsLastAt log o wanted → IsLastAt (log ++ more) o wanted
+last_grows log more None wanted is = is
+last_grows log more (Some spot) wanted is = (is.0, (is.1.0, at_more log more spot.position is.1.0 is.1.1, is.1.2), is.2)
+
+contents_grow : {S : Type 0} (log more : List PlainPlaced) (last : HashMap ContentHead ContentSpot S) (contents : List PlacedContent) → HasLastContents log last contents → HasLastContents (log ++ more) last contents
+contents_grow log more last contents has = record { found = λ q. last_grows log more (get same_content_heads last q) (last_one (is_of q.kind q.object) contents) (has.found q) }
+
+log_with_next : {X : Type 0} (parts : PlainPlaced → List X) (log : List PlainPlaced) (p : PlainPlaced) → flat_map parts log ++ parts p ≡ flat_map parts (log ++ p ∷ [])
+log_with_next {X} parts log p = ap (λ (xs : List X). flat_map parts log ++ xs) (sym (append-nil (parts p))) ∙ sym (flat_map-append parts log (p ∷ []))
+
+-- a batch that was noted behind those of a log
+pub batch_noted : (old new : Index) (log : List PlainPlaced) (position : ℕ) (p : PlainPlaced) → length log ≡ position → IsIndexOf old log →
+    HasLastLinks new.links (log_links log ++ body_links p.batch p.place p.body) →
+    ((all : List PlainPlaced) (so_far : List PlacedContent) → IsAt all position p → HasLastContents all old.contents so_far → HasLastContents all new.contents (so_far ++ body_contents p.batch p.place p.body)) →
+    IsIndexOf new (log ++ p ∷ [])
+unfolding log_links log_contents
+batch_noted old new log position p long has links contents = record {
+  last_links = subst (HasLastLinks new.links) (log_with_next (λ b. body_links b.batch b.place b.body) log p) links;
+  last_contents = subst (HasLastContents (log ++ p ∷ []) new.contents) (log_with_next (λ b. body_contents b.batch b.place b.body) log p)
+      (contents (log ++ p ∷ []) (log_contents log) (at_end log p position long) (contents_grow log (p ∷ []) old.contents (log_contents log) has.last_contents));
+}
+
+-- the index of the batches so far, and of the next one
+pub index_more : (index : Index) (log : List Placed) (i : ℕ) (p : Placed) → i < length log → p ≡ get_or log i p →
+    IsIndexOf index (map plain_placed (take i log) ++ plain_placed p ∷ []) → IsIndexOf index (map plain_placed (take (i + 1) log))
+index_more index log i p within is has =
+    let more : map plain_placed (take (i + 1) log) ≡ map plain_placed (take i log) ++ plain_placed p ∷ [] =
+    ap (map plain_placed) (take_more log i p within) ∙ map-append plain_placed (take i log) (get_or log i p ∷ []) ∙ ap (λ (q : Placed). map plain_placed (take i log) ++ plain_placed q ∷ []) (sym is)
     in
-    ap (λ (xs : List X). flat_map parts before ++ xs) (sym (append-nil (parts (plain_placed p))))
-    ∙ sym (flat_map-append parts before last)
-    ∙ ap (flat_map parts) (sym more)
+    subst (IsIndexOf index) (sym more) has
 
--- the links of the batches so far, and of the next one
-pub more_log_links : {S : Type 0} (last : HashMap LinkHead FoundLink S) (log : List Placed) (i : ℕ) (p : Placed) → i < length log → p ≡ get_or log i p →
-    HasLastLinks last (log_links (map plain_placed (take i log)) ++ body_links p.batch p.place (plain_body p.body)) → HasLastLinks last (log_links (map plain_placed (take (i + 1) log)))
-unfolding log_links
-more_log_links last log i p within is has = subst (HasLastLinks last) (log_with_next (λ b. body_links b.batch b.place b.body) log i p within is) has
+-- ---- what was found
 
--- the contents of the batches so far, and of the next one
-pub more_log_contents : {S : Type 0} (last : HashMap ContentHead FoundContent S) (log : List Placed) (i : ℕ) (p : Placed) → i < length log → p ≡ get_or log i p →
-    HasLastContents last (log_contents (map plain_placed (take i log)) ++ body_contents p.batch p.place (plain_body p.body)) → HasLastContents last (log_contents (map plain_placed (take (i + 1) log)))
-unfolding log_contents
-more_log_contents last log i p within is has = subst (HasLastContents last) (log_with_next (λ b. body_contents b.batch b.place b.body) log i p within is) has
+-- what is taken out of its batch is what is wanted
+pub finds_at : (log : List PlainPlaced) (kind object : ℕ) (spot : ContentSpot) (placed : Placed) (result : Result FoundContent ClientFault) → IsLastAt log (Some spot) (content_for log kind object) →
+    IsAt log spot.position (plain_placed placed) → FindsAt kind object placed spot result → MatchResult result (λ found. Some (plain_content_found found) ≡ content_for log kind object) IsFree
+unfolding content_for
+finds_at log kind object spot placed result last at finds =
+    let c = last.0 in
+    let one : Some last.1.0 ≡ Some (plain_placed placed) = sym last.1.1 ∙ at in
+    let same : last.1.0 ≡ plain_placed placed = cc in
+    let both = and_parts _ _ (last_passes (is_of kind object) (log_contents log) (content_here spot.batch spot.at c) last.2) in
+    let found = finds c (subst (λ (p : PlainPlaced). IsAt (contents_in p.body) spot.index c) same last.1.2) (eqb-true c.kind kind both.0) (eqb-true c.object object both.1) in
+    either result found
+  where
+    either : (result : Result FoundContent ClientFault) → MatchResult result (λ found. plain_content_found found ≡ content_here spot.batch spot.at last.0) IsFree →
+        MatchResult result (λ found. Some (plain_content_found found) ≡ content_for log kind object) IsFree
+    either (Ok found) is = ap Some is ∙ sym last.2
+    either (Err fault) is = is
+
+-- a content of a batch that stands has the format's form
+pub standing_form : (placed : Placed) (i : ℕ) (c : PlainContent) → IsStanding placed → IsAt (contents_in (plain_body placed.body)) i c → IsContent c
+standing_form placed i c stands is = of_body placed.place placed.body stands.payload is
+  where
+    of_body : (place : ℕ) (body : Body) → EndsWithin place body → IsAt (contents_in (plain_body body)) i c → IsContent c
+    of_body place (bodies.Commands payload) ends at =
+        let cs = contents_in (plain_body (bodies.Commands payload)) in
+        subst IsContent (get_or_from_slice_get cs i c c at) (All-get_or IsContent cs i c (slice_get_within cs i c at) ends.0.contents)
+    of_body place bodies.NewEpoch ends at = absurd (let bad : slice_get (let none : List PlainContent = [] in none) i ≡ Some c = at in let within = slice_get_within (let none : List PlainContent = [] in none) i c bad in omega (arith, within))
+
+-- a link that was found for an edge is one for it
+pub found_for : (k : KeyState) (log : List PlainPlaced) (e : Edge) (found : Option FoundLink) → plain_link found ≡ link_for k log e → IfSome found (IsLinkFor k e)
+unfolding link_for
+found_for k log e None is = tt
+found_for k log e (Some l) is = last_passes (is_for_edge k e) (log_links log) (link_here l.batch l.at l.link) (sym is)

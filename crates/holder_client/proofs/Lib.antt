@@ -1,3 +1,4 @@
+pub mod Adding
 pub mod Admitted
 pub mod Beginning
 pub mod Besides

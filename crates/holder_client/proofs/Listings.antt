@@ -7,8 +7,7 @@ use Rattle.chacha_seal.specs.Sealing.{check_of}
 use Rattle.commit_journal.specs.Answering.{Fault, WrongKey, and_then}
 use Rattle.commit_journal.specs.declared.fault.OpenFault.{OpenFault}
 use Rattle.commit_journal.specs.declared.fault.OpenFault.TheVariants as opening
-use Rattle.commit_journal.specs.Placed.{PlainPlaced, plain_log, plain_placed}
-use Rattle.commit_journal.specs.declared.placed.Placed.{Placed}
+use Rattle.commit_journal.specs.Placed.{PlainPlaced}
 use Rattle.cry_base.specs.Listed.{Listed}
 use Rattle.cry_base.specs.Sets.{In}
 use Rattle.cry_base.specs.Store.{Store, FileEntry}
@@ -126,11 +125,10 @@ pub log_fails_view : (bundle : Bundle) (bytes : List ℕ) (fault : ClientFault) 
 unfolding shown_with
 log_fails_view bundle bytes fault is = reads_fail_view bundle (bundle_log bundle bytes) fault (no_reading bundle (bundle_log bundle bytes) fault is)
 
-pub log_read_view : (bundle : Bundle) (bytes : List ℕ) (log : Listed Placed) (items : List Placed) (result : Result (Listed Shown) ClientFault) → bundle_log bundle bytes ≡ Ok (plain_log log) → items ≡ log.items →
-    AnswersAs plain_view result (view_with bundle (Ok (map plain_placed items))) → AnswersAs plain_view result (shown_with bundle bytes)
+pub log_read_view : (bundle : Bundle) (bytes : List ℕ) (log : List PlainPlaced) (result : Result (Listed Shown) ClientFault) → bundle_log bundle bytes ≡ Ok log →
+    AnswersAs plain_view result (view_with bundle (Ok log)) → AnswersAs plain_view result (shown_with bundle bytes)
 unfolding shown_with
-log_read_view bundle bytes log items result read same answer =
-    subst (λ l. AnswersAs plain_view result (view_with bundle l)) (ap (λ xs. let x : Result (List PlainPlaced) Fault = Ok (map plain_placed xs) in x) same ∙ sym read) answer
+log_read_view bundle bytes log result read answer = subst (λ l. AnswersAs plain_view result (view_with bundle l)) (sym read) answer
 
 -- ---- no path is asked for
 

@@ -7,7 +7,7 @@ use Rattle.std.proofs.Math.ListN.{drop_of_length-le}
 use Rattle.std.proofs.lemmas.List.{drop_more}
 use Rattle.chacha_seal.specs.Keys.{KeyParts}
 use Rattle.commit_journal.specs.Answering.{Fault, and_then}
-use Rattle.commit_journal.specs.declared.placed.Placed.{Placed}
+use Rattle.commit_journal.specs.Placed.{PlainPlaced}
 use Rattle.cry_base.specs.Sets.{In}
 use Rattle.cry_base.specs.Store.{Store, HolderEntry}
 use Rattle.cry_base.specs.declared.roles.Edge.{Edge}
@@ -18,7 +18,7 @@ use Rattle.holder_client.specs.declared.fault.ClientFault.{ClientFault}
 use Rattle.holder_client.specs.declared.opening.OwnersView.{OwnersView}
 use Rattle.holder_client.specs.declared.visit_list.Visit.{Visit as Listed}
 use Rattle.holder_client.specs.Answering.{IsFault, AnswersBy}
-use Rattle.holder_client.specs.Holding.{ArePresent, HasNames, HoldsKeys, IsHeldBy, IsPresent, IsReadingOf, IsTitledBy}
+use Rattle.holder_client.specs.Holding.{ArePresent, HasNames, HoldsKeys, IsHeldBy, IsPresent, IsReadingIn, IsTitledBy}
 use Rattle.holder_client.specs.Opening.{HasHolder, HasItsKind, IsFor, IsNameless, IsOpenedBy, IsOpenedTo, is_no_holders, plain_visit}
 use Rattle.holder_client.specs.Visiting.{Reading, Opened, visit, visit_all}
 use Rattle.holder_client.specs.Visiting as opened
@@ -164,16 +164,16 @@ holder_opened told bare h left old new o behind never before held names =
 -- ---- all of them
 
 -- what was to be visited, was, up to the rest
-abbrev pub IsVisitedTo : PublicView → List Placed → List Visit → OwnersView → List Visit → OwnersView → Type 0
+abbrev pub IsVisitedTo : PublicView → List PlainPlaced → List Visit → OwnersView → List Visit → OwnersView → Type 0
 IsVisitedTo state log all before left view =
-    (told : Role → Bool) (r : Reading) (o : Opened) → AllByRecursion (IsFor told) all → IsReadingOf state log r → IsOpenedTo told r.stand.store all before o →
+    (told : Role → Bool) (r : Reading) (o : Opened) → AllByRecursion (IsFor told) all → IsReadingIn state log r → IsOpenedTo told r.stand.store all before o →
     (p : Opened) × AllByRecursion (IsFor told) left × IsOpenedTo told r.stand.store left view p × (visit_all r all o ≡ visit_all r left p)
 
-pub visits_begin : (state : PublicView) (log : List Placed) (all : List Visit) (before : OwnersView) → IsVisitedTo state log all before all before
+pub visits_begin : (state : PublicView) (log : List PlainPlaced) (all : List Visit) (before : OwnersView) → IsVisitedTo state log all before all before
 visits_begin state log all before = λ told r o fit of_log begun. (o, fit, begun, refl)
 
-pub visits_go_on : (state : PublicView) (log : List Placed) (all left : List Visit) (v : Visit) (before old new : OwnersView) → IsVisitedTo state log all before (v ∷ left) old →
-    ((told : Role → Bool) (r : Reading) (o : Opened) (rest : List Visit) → IsFor told v → IsReadingOf state log r → IsOpenedTo told r.stand.store (v ∷ rest) old o →
+pub visits_go_on : (state : PublicView) (log : List PlainPlaced) (all left : List Visit) (v : Visit) (before old new : OwnersView) → IsVisitedTo state log all before (v ∷ left) old →
+    ((told : Role → Bool) (r : Reading) (o : Opened) (rest : List Visit) → IsFor told v → IsReadingIn state log r → IsOpenedTo told r.stand.store (v ∷ rest) old o →
     AnswersBy (λ (u : Unit {0}) behind. IsOpenedTo told r.stand.store rest new behind) (Ok tt) (visit r v o)) → IsVisitedTo state log all before left new
 unfolding visit_all and_then
 visits_go_on state log all left v before old new so_far made = λ told r o fit of_log begun.
@@ -181,16 +181,16 @@ visits_go_on state log all left v before old new so_far made = λ told r o fit o
     let next = made told r so.0 left so.1.0 of_log so.2 in
     (next.0, so.1.1, next.2, so.3 ∙ rw next.1 refl)
 
-pub visits_fail : (state : PublicView) (log : List Placed) (all left : List Visit) (v : Visit) (before old new : OwnersView) (fault : ClientFault) → IsVisitedTo state log all before (v ∷ left) old →
-    ((told : Role → Bool) (r : Reading) (o : Opened) (rest : List Visit) → IsFor told v → IsReadingOf state log r → IsOpenedTo told r.stand.store (v ∷ rest) old o → IsFault fault (visit r v o)) →
-    (told : Role → Bool) (r : Reading) (o : Opened) → AllByRecursion (IsFor told) all → IsReadingOf state log r → IsOpenedTo told r.stand.store all before o → IsFault fault (visit_all r all o)
+pub visits_fail : (state : PublicView) (log : List PlainPlaced) (all left : List Visit) (v : Visit) (before old new : OwnersView) (fault : ClientFault) → IsVisitedTo state log all before (v ∷ left) old →
+    ((told : Role → Bool) (r : Reading) (o : Opened) (rest : List Visit) → IsFor told v → IsReadingIn state log r → IsOpenedTo told r.stand.store (v ∷ rest) old o → IsFault fault (visit r v o)) →
+    (told : Role → Bool) (r : Reading) (o : Opened) → AllByRecursion (IsFor told) all → IsReadingIn state log r → IsOpenedTo told r.stand.store all before o → IsFault fault (visit_all r all o)
 unfolding visit_all
 visits_fail state log all left v before old new fault so_far failed told r o fit of_log begun =
     let so = so_far told r o fit of_log begun in
     subst (IsFault fault) (sym so.3) (fault_first fault (visit r v so.0) (visit_all r left) (failed told r so.0 left so.1.0 of_log so.2))
 
-pub visits_end : (state : PublicView) (log : List Placed) (all : List Visit) (before view : OwnersView) → IsVisitedTo state log all before [] view →
-    (told : Role → Bool) (r : Reading) (o : Opened) → AllByRecursion (IsFor told) all → IsReadingOf state log r → IsOpenedTo told r.stand.store all before o →
+pub visits_end : (state : PublicView) (log : List PlainPlaced) (all : List Visit) (before view : OwnersView) → IsVisitedTo state log all before [] view →
+    (told : Role → Bool) (r : Reading) (o : Opened) → AllByRecursion (IsFor told) all → IsReadingIn state log r → IsOpenedTo told r.stand.store all before o →
     AnswersBy (λ (x : OwnersView) behind. IsOpenedTo told r.stand.store [] x behind) (Ok view) (visit_all r all o)
 unfolding visit_all
 visits_end state log all before view so_far told r o fit of_log begun = let so = so_far told r o fit of_log begun in (so.0, so.3, so.2)

@@ -1,7 +1,7 @@
 -- What a client's ring holds of the keys that were opened. This project's own, docs/FORMAT.md, "Reading".
 use Rattle.std.specs.Prelude.{◌≡◌, ◌≢◌, ◌==◌, ℕ, ◌≤◌, Bool, cond, IsTrue, List, map, Some, Result, Ok, Err, option_map, length, ◌∷◌, ◌++◌}
 use Rattle.chacha_seal.specs.Keys.{KeyParts}
-use Rattle.commit_journal.specs.Placed.{plain_placed}
+use Rattle.commit_journal.specs.Placed.{PlainPlaced, plain_placed}
 use Rattle.commit_journal.specs.declared.placed.Placed.{Placed}
 use Rattle.cry_base.specs.Naming.{is_name}
 use Rattle.cry_base.specs.Stepping.{with_file}
@@ -23,9 +23,13 @@ use Rattle.public_fold.specs.KeyStep.{present}
 use Rattle.public_fold.specs.Standing.{PublicView, IsSeenAs}
 use Rattle.role_graph.specs.Roles.{role_id}
 
--- a reading of this log, and what everyone may see behind it
+-- a reading of these batches, and what everyone may see behind them
+abbrev pub IsReadingIn : PublicView → List PlainPlaced → Reading → Type 0
+IsReadingIn state log r = (r.log ≡ log) × IsSeenAs state r.stand
+
+-- the same of a log
 abbrev pub IsReadingOf : PublicView → List Placed → Reading → Type 0
-IsReadingOf state log r = (r.log ≡ map plain_placed log) × IsSeenAs state r.stand
+IsReadingOf state log r = IsReadingIn state (map plain_placed log) r
 
 -- the key has its role's number and its present serial
 abbrev pub IsPresent : List (Role × ℕ) → Role → KeyParts → Type 0

@@ -1,20 +1,20 @@
 -- Maps from the heads of records to where the last record of each head stands in a log.
-use Rattle.std.specs.Prelude.{◌≡◌, Bool, List, map, IfSome}
+use Rattle.std.specs.Prelude.{◌≡◌, Bool, List, Option, None, Some}
 use Rattle.std.specs.HashMap.{HashMap, get}
-use Rattle.commit_journal.specs.declared.placed.Placed.{Placed}
-use Rattle.commit_journal.specs.Placed.{plain_placed}
-use Rattle.record_format.specs.Plain.{plain_content}
-use Rattle.record_format.specs.Spellable.{IsContent}
+use Rattle.commit_journal.specs.Placed.{PlainPlaced}
+use Rattle.record_format.specs.Plain.{PlainContent}
 use Rattle.record_format.specs.declared.content.ContentRecord.{ContentRecord}
 use Rattle.record_format.specs.declared.link.LinkRecord.{LinkRecord}
 use Rattle.holder_client.specs.contracts.last_contents.ContentHeadPartialEq.TheImpl as content_heads
 use Rattle.holder_client.specs.contracts.last_links.LinkHeadPartialEq.TheImpl as link_heads
 use Rattle.holder_client.specs.declared.last_contents.ContentHead.{ContentHead}
-use Rattle.holder_client.specs.declared.last_contents.FoundContent.{FoundContent}
+use Rattle.holder_client.specs.declared.index.Index.{Index}
+use Rattle.holder_client.specs.declared.last_contents.ContentSpot.{ContentSpot}
 use Rattle.holder_client.specs.declared.last_links.FoundLink.{FoundLink}
 use Rattle.holder_client.specs.declared.last_links.LinkHead.{LinkHead}
-use Rattle.holder_client.specs.Found.{is_of, is_sought, plain_found, plain_link}
+use Rattle.holder_client.specs.Found.{content_here, is_of, is_sought, plain_link}
 use Rattle.holder_client.specs.Placing.{PlacedLink, PlacedContent, last_one, log_links, log_contents}
+use Rattle.holder_client.specs.Spots.{IsAt, contents_in}
 
 -- what a link is looked for by
 abbrev pub head_of_link : LinkRecord → LinkHead
@@ -41,12 +41,20 @@ same_content_heads = (content_heads.ghosts).eq
 pub record HasLastLinks {S : Type 0} (last : HashMap LinkHead FoundLink S) (links : List PlacedLink) : Type 0 where
   pub found : (head : LinkHead) → plain_link (get same_link_heads last head) ≡ last_one (is_sought head) links
 
--- the map has the last content of each head, and each has the format's form
-pub record HasLastContents {S : Type 0} (last : HashMap ContentHead FoundContent S) (contents : List PlacedContent) : Type 0 where
-  pub found : (head : ContentHead) → plain_found (get same_content_heads last head) ≡ last_one (is_of head.kind head.object) contents
-  pub form : (head : ContentHead) → IfSome (get same_content_heads last head) (λ c. IsContent (plain_content c.content.now))
+-- this content stands at the spot in a log
+abbrev pub IsContentAt : List PlainPlaced → ContentSpot → PlainContent → Type 0
+IsContentAt log spot c = (p : PlainPlaced) × IsAt log spot.position p × IsAt (contents_in p.body) spot.index c
+
+-- the spot is that of the content that is wanted, and there is none where none is
+abbrev pub IsLastAt : List PlainPlaced → Option ContentSpot → Option PlacedContent → Type 0
+IsLastAt log None wanted = wanted ≡ None
+IsLastAt log (Some spot) wanted = (c : PlainContent) × IsContentAt log spot c × (wanted ≡ Some (content_here spot.batch spot.at c))
+
+-- the map has the spot in a log of the last content of each head
+pub record HasLastContents {S : Type 0} (log : List PlainPlaced) (last : HashMap ContentHead ContentSpot S) (contents : List PlacedContent) : Type 0 where
+  pub found : (head : ContentHead) → IsLastAt log (get same_content_heads last head) (last_one (is_of head.kind head.object) contents)
 
 -- both maps have the last ones of a log
-pub record IsIndexed {S : Type 0} (links : HashMap LinkHead FoundLink S) (contents : HashMap ContentHead FoundContent S) (log : List Placed) : Type 0 where
-  pub last_links : HasLastLinks links (log_links (map plain_placed log))
-  pub last_contents : HasLastContents contents (log_contents (map plain_placed log))
+pub record IsIndexOf (index : Index) (log : List PlainPlaced) : Type 0 where
+  pub last_links : HasLastLinks index.links (log_links log)
+  pub last_contents : HasLastContents log index.contents (log_contents log)

@@ -12,7 +12,10 @@ pub mod Listing
 pub mod Opening
 pub mod OwnPaths
 pub mod Placing
+pub mod Reads
+pub mod Rereading
 pub mod Sights
+pub mod Spots
 pub mod Verdict
 pub mod View
 pub mod Visiting

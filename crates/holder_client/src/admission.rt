@@ -1,58 +1,60 @@
 //! Whether a bundle's key may read a log (docs/FORMAT.md, "Reading").
-ghost use Rattle.std.specs.Prelude.{◌≡◌, ◌≢◌, Err, IfOk, Ok, bytes_eq, map};
+ghost use Rattle.std.specs.Prelude.{◌≡◌, ◌≢◌, ◌++◌, [], ◌∷◌, ℕ, Err, List, MatchOption, None, OnOk, bytes_eq};
 ghost use Rattle.chacha_seal.specs.Sealing.{check_of as the_check_of};
-ghost use Rattle.commit_journal.specs.Logs.{AreInEpochs};
-ghost use Rattle.commit_journal.specs.Placed.{plain_body, plain_placed};
-ghost use Rattle.cry_base.specs.declared.roles.Role.TheVariants.{Owner};
-ghost use Rattle.holder_client.specs.Answering.{AnswersAs, AnswersAsBy};
-ghost use Rattle.holder_client.specs.Holding.{IsReadingOf};
+ghost use Rattle.commit_journal.specs.Placed.{PlainPlaced, plain_body, plain_placed};
+ghost use Rattle.holder_client.specs.Answering.{AnswersAs};
+ghost use Rattle.holder_client.specs.Holding.{IsReadingIn};
 ghost use Rattle.holder_client.specs.Judging as spec;
+ghost use Rattle.holder_client.specs.Reads.{HasChecks, Publishes};
 ghost use Rattle.holder_client.specs.Visiting.{Reading};
-ghost use Rattle.public_fold.specs.KeyStep.{present};
-ghost use Rattle.record_format.specs.Told.{told_note};
-ghost use Rattle.role_graph.specs.PublicStore.{GrantsStand};
 
 use crate::ClientFault;
-use crate::folding::fold;
 use chacha_seal::check_of;
 use commit_journal::{Body, Placed};
-use cry_base::{Bundle, HolderId};
+use cry_base::{Bundle, HolderId, Mem};
 use public_fold::PublicState;
 use record_format::Note;
-use std::alloc::Global;
+use std::collections::HashMap;
 
-/// The check that a note publishes for the holder.
-#[tactic(auto, unfolding(crate::specs::Judging::check_in, record_format::specs::Told::told_note))]
-fn check_in(note: &Note, h: HolderId) -> Option<[u8; 32]>
-    ensures { result ≡ spec.check_in h.0 (told_note note.now) }
+/// A holder's check, as a batch publishes it.
+#[derive(Clone, Copy)]
+pub(crate) struct NewCheck {
+    pub(crate) holder: HolderId,
+    pub(crate) check: [u8; 32],
+}
+
+/// The check that each holder's first batch publishes.
+pub(crate) type Checks = HashMap<u32, [u8; 32]>;
+
+/// The check that a note publishes.
+#[tactic(auto, unfolding(crate::specs::Judging::body_check, crate::specs::Judging::check_in, record_format::specs::Told::told_note))]
+fn check_in(placed: &Placed) -> Option<NewCheck>
+    ensures { MatchOption result ((h : ℕ) → spec.body_check h (plain_body placed.now.body) ≡ None) (Publishes (plain_body placed.now.body)) }
 {
-    match note {
-        Note::NewHolder { holder, check } if holder.0 == h.0 => Some(*check),
+    let Body::Commands(payload) = &placed.body else {
+        return None;
+    };
+    match &payload.note {
+        Note::NewHolder { holder, check } => Some(NewCheck {
+            holder: *holder,
+            check: *check,
+        }),
         _ => None,
     }
 }
 
-/// The check that a batch publishes for the holder.
-#[tactic(auto, unfolding(crate::specs::Judging::body_check))]
-fn check_of_batch(placed: &Placed, h: HolderId) -> Option<[u8; 32]>
-    ensures { result ≡ spec.body_check h.0 (plain_body placed.now.body) }
+/// Notes the check that a batch publishes, where its holder has none.
+pub(crate) fn note_check(checks: &mut Checks, placed: &Placed) -> Mem<()>
+    ensures { OnOk result ((log : List PlainPlaced) → HasChecks checks.old log → HasChecks checks.new (log ++ plain_placed placed.now ∷ [])) }
 {
-    match &placed.body {
-        Body::Commands(payload) => check_in(&payload.note, h),
-        Body::NewEpoch => None,
+    let Some(published) = check_in(placed) else {
+        return Ok(());
+    };
+    if checks.contains_key(&published.holder.0) {
+        return Ok(());
     }
-}
-
-/// The check that a log publishes for the holder.
-fn published_check(log: &[Placed], h: HolderId) -> Option<[u8; 32]>
-    ensures { result ≡ spec.published_check h.0 (map plain_placed log.now) }
-{
-    for placed in log {
-        if let Some(check) = check_of_batch(placed, h) {
-            return Some(check);
-        }
-    }
-    None
+    checks.insert(published.holder.0, published.check)?;
+    Ok(())
 }
 
 fn is_key_of(check: &[u8; 32], key: &[u8; 32]) -> bool
@@ -61,17 +63,18 @@ fn is_key_of(check: &[u8; 32], key: &[u8; 32]) -> bool
     *check == check_of(key)
 }
 
-/// Whether the key is the one whose check the log publishes for the holder.
+/// Whether the key is the one whose check was published for the holder.
 fn holder_may(
-    log: &[Placed],
+    checks: &Checks,
     state: &PublicState,
     h: HolderId,
     key: &[u8; 32],
 ) -> Result<(), ClientFault>
-    ensures answer { (r : Reading) → IsReadingOf state.now log.now r → AnswersAs (λ _. r) result (spec.holder_reads key.now r (spec.published_check h.0 r.log)) }
+    ensures answer { (log : List PlainPlaced) (r : Reading) → HasChecks checks.now log → IsReadingIn state.now log r → AnswersAs (λ _. r) result (spec.holder_reads key.now r (spec.published_check h.0 r.log)) }
+    ensures seen { result ≢ Err ClientFault.Unseen }
     ensures no_disk { result ≢ Err ClientFault.DiskFault }
 {
-    let Some(check) = published_check(log, h) else {
+    let Some(check) = checks.get(&h.0).copied() else {
         return Err(ClientFault::NoHolder {
             known: state.grants().holders(),
         });
@@ -83,28 +86,17 @@ fn holder_may(
 }
 
 /// Whether the bundle's key may read the log: the owner's was tested with the header.
-fn may_read(bundle: &Bundle, log: &[Placed], state: &PublicState) -> Result<(), ClientFault>
-    ensures answer { (r : Reading) → IsReadingOf state.now log.now r → AnswersAs (λ _. r) result (spec.may_read bundle.now r) }
+pub(crate) fn may_read(
+    bundle: &Bundle,
+    checks: &Checks,
+    state: &PublicState,
+) -> Result<(), ClientFault>
+    ensures answer { (log : List PlainPlaced) (r : Reading) → HasChecks checks.now log → IsReadingIn state.now log r → AnswersAs (λ _. r) result (spec.may_read bundle.now r) }
+    ensures seen { result ≢ Err ClientFault.Unseen }
     ensures no_disk { result ≢ Err ClientFault.DiskFault }
 {
     match bundle {
         Bundle::Owner { .. } => Ok(()),
-        Bundle::Holder { holder, key } => holder_may(log, state, *holder, key),
+        Bundle::Holder { holder, key } => holder_may(checks, state, *holder, key),
     }
-}
-
-/// What stands in public after a log that the bundle's key may read.
-pub(crate) fn read_through(
-    alloc: Global,
-    bundle: &Bundle,
-    log: &[Placed],
-) -> Result<PublicState, ClientFault>
-    requires epochs { AreInEpochs 0 (map plain_placed log.now) }
-    ensures answer { AnswersAsBy (λ state r. IsReadingOf state log.now r × GrantsStand r.stand.store) result (spec.read_with bundle.now (Ok (map plain_placed log.now))) }
-    ensures owner { IfOk result (λ state. present state.keys.keys Owner ≡ 0) }
-    ensures no_disk { result ≢ Err ClientFault.DiskFault }
-{
-    let state = fold(alloc, log)?;
-    may_read(bundle, log, &state)?;
-    Ok(state)
 }

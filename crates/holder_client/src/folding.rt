@@ -25,7 +25,11 @@ fn begin(state: &mut PublicState, epoch: Epoch)
 }
 
 /// Takes a batch's change. At `Err` the state is as it was, but for room.
-fn take_batch(alloc: Global, state: &mut PublicState, placed: &Placed) -> Result<(), ClientFault>
+pub(crate) fn take_batch(
+    alloc: Global,
+    state: &mut PublicState,
+    placed: &Placed,
+) -> Result<(), ClientFault>
     requires next { IsInEpoch state.old.keys.epoch placed.now.epoch.0 (plain_body placed.now.body) }
     ensures answer { (at : Stand) → IsSeenAs state.old at → AnswersBy (λ _ behind. IsSeenAs state.new behind) result (stand_behind at placed.now.place (plain_body placed.now.body)) }
     ensures no_disk { result ≢ Err ClientFault.DiskFault }

@@ -1,14 +1,14 @@
-//! The last content of each head in a log (docs/FORMAT.md, "Reading").
-ghost use Rattle.std.specs.Prelude.{◌≡◌, ◌+◌, ◌<◌, ◌^◌, ◌++◌, [], ◌∷◌, All, List, OnOk, map};
+//! Where the last content of each head stands in a log (docs/FORMAT.md, "Reading").
+ghost use Rattle.std.specs.Prelude.{◌≡◌, ◌+◌, ◌<◌, ◌^◌, ◌++◌, [], ◌∷◌, List, OnOk, map};
 ghost use Rattle.std.specs.List.{sum_by};
-ghost use Rattle.commit_journal.specs.Placed.{plain_body};
+ghost use Rattle.commit_journal.specs.Placed.{PlainPlaced, plain_body, plain_placed};
 ghost use Rattle.commit_journal.specs.Places.{IsStanding};
 ghost use Rattle.holder_client.specs.Found.{content_here};
-ghost use Rattle.holder_client.specs.Indexed.{HasLastContents, head_of_content};
+ghost use Rattle.holder_client.specs.Indexed.{HasLastContents, IsContentAt, head_of_content};
 ghost use Rattle.holder_client.specs.Placing as spec;
+ghost use Rattle.holder_client.specs.Spots.{IsAt, contents_in};
 ghost use Rattle.record_format.specs.Plain.{plain_content};
 ghost use Rattle.record_format.specs.Sizes.{content_size};
-ghost use Rattle.record_format.specs.Spellable.{IsContent};
 
 use commit_journal::{Body, Placed, content_place};
 use cry_base::Mem;
@@ -25,18 +25,21 @@ pub(crate) struct ContentHead {
     pub(crate) object: u32,
 }
 
-/// A content, and where it stands.
+/// Where a content stands, without its bytes.
 #[derive(Clone, Copy)]
-pub(crate) struct FoundContent<'a> {
+pub(crate) struct ContentSpot {
     /// The number of its batch.
     pub(crate) batch: u32,
     /// The place of its first byte in the file.
     pub(crate) at: u64,
-    pub(crate) content: &'a ContentRecord,
+    /// How many batches of the log stand before its own.
+    pub(crate) position: usize,
+    /// How many contents of its batch stand before it.
+    pub(crate) index: usize,
 }
 
-/// The last content of each head.
-pub(crate) type LastContents<'a> = HashMap<ContentHead, FoundContent<'a>>;
+/// The spot of the last content of each head.
+pub(crate) type LastContents = HashMap<ContentHead, ContentSpot>;
 
 fn head_of(content: &ContentRecord) -> ContentHead
     ensures { result ≡ head_of_content content.now }
@@ -47,42 +50,49 @@ fn head_of(content: &ContentRecord) -> ContentHead
     }
 }
 
-/// Notes a content under its head, in the place of an earlier one.
+/// Notes the spot of a content under its head, in the place of an earlier one.
 #[tactic(auto, using(crate::proofs::Lasts::content_noted))]
-fn note_content<'a>(last: &mut LastContents<'a>, found: FoundContent<'a>) -> Mem<()>
-    requires { IsContent (plain_content found.content.now) }
-    ensures { OnOk result ((so_far : List spec.PlacedContent) → HasLastContents last.old so_far →
-        HasLastContents last.new (so_far ++ content_here found.entry.batch found.entry.at (plain_content found.entry.content.now) ∷ [])) }
+fn note_content(last: &mut LastContents, spot: ContentSpot, content: &ContentRecord) -> Mem<()>
+    ensures { OnOk result ((log : List PlainPlaced) (so_far : List spec.PlacedContent) → IsContentAt log spot (plain_content content.now) → HasLastContents log last.old so_far →
+        HasLastContents log last.new (so_far ++ content_here spot.batch spot.at (plain_content content.now) ∷ [])) }
 {
-    last.insert(head_of(found.content), found)?;
+    last.insert(head_of(content), spot)?;
     Ok(())
 }
 
-/// Notes the contents of a batch, of which the first stands at the place.
-fn note_contents<'a>(
-    last: &mut LastContents<'a>,
+/// Notes the contents of the batch at a position of a log, of which the first stands at the place.
+fn note_contents(
+    last: &mut LastContents,
     batch: u32,
+    position: usize,
     first: u64,
-    contents: &'a [ContentRecord],
+    contents: &[ContentRecord],
 ) -> Mem<()>
-    requires form { All IsContent (map plain_content contents.now) }
     requires end { first + sum_by content_size (map plain_content contents.now) < 2 ^ 64 }
-    ensures { OnOk result ((so_far : List spec.PlacedContent) → HasLastContents last.old so_far →
-        HasLastContents last.new (so_far ++ spec.contents_at batch first (map plain_content contents.now))) }
+    ensures { OnOk result ((log : List PlainPlaced) (p : PlainPlaced) (so_far : List spec.PlacedContent) → IsAt log position p → contents_in p.body ≡ map plain_content contents.now →
+        HasLastContents log last.old so_far → HasLastContents log last.new (so_far ++ spec.contents_at batch first (map plain_content contents.now))) }
 {
     let mut at = first;
+    let mut index = 0;
     for content in contents {
-        note_content(last, FoundContent { batch, at, content })?;
+        let spot = ContentSpot {
+            batch,
+            at,
+            position,
+            index,
+        };
+        note_content(last, spot, content)?;
         at += HEAD_AND_TAG + content.cipher.as_slice().len() as u64;
+        index += 1;
     }
     Ok(())
 }
 
-/// Notes the contents that a batch of a log carries, behind those of the batches before it.
-pub(crate) fn note_contents_of<'a>(last: &mut LastContents<'a>, placed: &'a Placed) -> Mem<()>
+/// Notes the contents that the batch at a position of a log carries, behind those of the batches before it.
+pub(crate) fn note_contents_of(last: &mut LastContents, position: usize, placed: &Placed) -> Mem<()>
     requires { IsStanding placed.now }
-    ensures { OnOk result ((so_far : List spec.PlacedContent) → HasLastContents last.old so_far →
-        HasLastContents last.new (so_far ++ spec.body_contents placed.now.batch placed.now.place (plain_body placed.now.body))) }
+    ensures { OnOk result ((log : List PlainPlaced) (so_far : List spec.PlacedContent) → IsAt log position (plain_placed placed.now) → HasLastContents log last.old so_far →
+        HasLastContents log last.new (so_far ++ spec.body_contents placed.now.batch placed.now.place (plain_body placed.now.body))) }
 {
     let Body::Commands(payload) = &placed.body else {
         return Ok(());
@@ -91,5 +101,11 @@ pub(crate) fn note_contents_of<'a>(last: &mut LastContents<'a>, placed: &'a Plac
     if contents.is_empty() {
         return Ok(());
     }
-    note_contents(last, placed.batch, content_place(placed, 0), contents)
+    note_contents(
+        last,
+        placed.batch,
+        position,
+        content_place(placed, 0),
+        contents,
+    )
 }

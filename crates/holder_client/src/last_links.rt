@@ -28,16 +28,16 @@ pub(crate) struct LinkHead {
 
 /// A link, and where it stands.
 #[derive(Clone, Copy)]
-pub(crate) struct FoundLink<'a> {
+pub(crate) struct FoundLink {
     /// The number of its batch.
     pub(crate) batch: u32,
     /// The place of its first byte in the file.
     pub(crate) at: u64,
-    pub(crate) link: &'a LinkRecord,
+    pub(crate) link: LinkRecord,
 }
 
 /// The last link of each head.
-pub(crate) type LastLinks<'a> = HashMap<LinkHead, FoundLink<'a>>;
+pub(crate) type LastLinks = HashMap<LinkHead, FoundLink>;
 
 #[tactic(auto, unfolding(role_graph::specs::Roles::role_id))]
 fn id_of(role: Role) -> u32
@@ -88,34 +88,36 @@ fn head_of(link: &LinkRecord) -> LinkHead
 
 /// Notes a link under its head, in the place of an earlier one.
 #[tactic(auto, using(crate::proofs::Lasts::link_noted))]
-fn note_link<'a>(last: &mut LastLinks<'a>, found: FoundLink<'a>) -> Mem<()>
+fn note_link(last: &mut LastLinks, found: FoundLink) -> Mem<()>
     ensures { OnOk result ((so_far : List spec.PlacedLink) → HasLastLinks last.old so_far →
-        HasLastLinks last.new (so_far ++ link_here found.entry.batch found.entry.at found.entry.link.now ∷ [])) }
+        HasLastLinks last.new (so_far ++ link_here found.batch found.at found.link ∷ [])) }
 {
-    last.insert(head_of(found.link), found)?;
+    last.insert(head_of(&found.link), found)?;
     Ok(())
 }
 
 /// Notes the links of a batch, of which the first stands at the place.
-fn note_links<'a>(
-    last: &mut LastLinks<'a>,
-    batch: u32,
-    first: u64,
-    links: &'a [LinkRecord],
-) -> Mem<()>
+fn note_links(last: &mut LastLinks, batch: u32, first: u64, links: &[LinkRecord]) -> Mem<()>
     requires { first + 98 * length links.now < 2 ^ 64 }
     ensures { OnOk result ((so_far : List spec.PlacedLink) → HasLastLinks last.old so_far → HasLastLinks last.new (so_far ++ spec.links_at batch first links.now)) }
 {
     let mut at = first;
     for link in links {
-        note_link(last, FoundLink { batch, at, link })?;
+        note_link(
+            last,
+            FoundLink {
+                batch,
+                at,
+                link: *link,
+            },
+        )?;
         at += LINK_LEN;
     }
     Ok(())
 }
 
 /// Notes the links that a batch of a log carries, behind those of the batches before it.
-pub(crate) fn note_links_of<'a>(last: &mut LastLinks<'a>, placed: &'a Placed) -> Mem<()>
+pub(crate) fn note_links_of(last: &mut LastLinks, placed: &Placed) -> Mem<()>
     requires { IsStanding placed.now }
     ensures { OnOk result ((so_far : List spec.PlacedLink) → HasLastLinks last.old so_far →
         HasLastLinks last.new (so_far ++ spec.body_links placed.now.batch placed.now.place (plain_body placed.now.body))) }

@@ -1,11 +1,13 @@
 //! Opens all that an owner's key opens (docs/FORMAT.md, "Opening for writing").
-ghost use Rattle.std.specs.Prelude.{◌≡◌, ◌≢◌, ◌++◌, ◌∷◌, [], All, Bool, Err, IfOk, IsTrue, List, OnOk, map};
+ghost use Rattle.std.specs.Prelude.{◌≡◌, ◌≢◌, ◌<◌, ◌++◌, ◌∷◌, [], All, Bool, Err, IfOk, IfSome, IsTrue, List, OnOk, map};
 ghost use Rattle.std.specs.List.{AllByRecursion};
 ghost use Rattle.commit_journal.specs.Places.{IsStanding};
 ghost use Rattle.cry_base.specs.declared.roles.Role.{Role as TheRole};
 ghost use Rattle.cry_base.specs.declared.roles.Role.TheVariants.{Owner};
 ghost use Rattle.holder_client.specs.Answering.{AnswersBy};
-ghost use Rattle.holder_client.specs.Holding.{ArePresent, AreSized, HasKind, HoldsKeys, IsPresent, IsReadingOf};
+ghost use Rattle.holder_client.specs.Found.{IsLinkFor, plain_link};
+ghost use Rattle.holder_client.specs.Holding.{ArePresent, AreSized, HasKind, HoldsKeys, IsPresent, IsReadingIn, IsReadingOf};
+ghost use Rattle.holder_client.specs.Placing.{link_for};
 ghost use Rattle.holder_client.specs.Opening.{HasItsKind, IsFor, IsOpenedBy, IsOpenedTo, plain_visit};
 ghost use Rattle.holder_client.specs.Visiting.{Opened, Reading};
 ghost use Rattle.holder_client.specs.Visiting as spec;
@@ -16,7 +18,9 @@ ghost use Rattle.role_graph.specs.Rights.Who.{TheOwner};
 
 use crate::ClientFault;
 use crate::indexed_log::IndexedLog;
-use crate::texts::{visit_file, visit_holder, visit_name};
+use crate::last_links::FoundLink;
+use crate::records::Records;
+use crate::texts::{FILE_TEXT, FOLDER_NAME, HOLDER_KEY, visit_file, visit_holder, visit_name};
 use crate::visit_list::{Visit, owner_visits};
 use crate::visiting::visit_edge;
 use chacha_seal::{Key, OwnerK};
@@ -39,70 +43,90 @@ pub struct OwnersView {
 /// Makes room for the edge's key, and visits it.
 pub(crate) fn visit_link(
     state: &PublicState,
-    log: &IndexedLog<'_>,
+    found: Option<FoundLink>,
     ring: &mut KeyRing,
     edge: &Edge,
 ) -> Result<(), ClientFault>
+    requires found { IfSome found (IsLinkFor state.now.keys edge.now) }
     requires kind { HasKind edge.now }
     requires keys { ArePresent state.now.keys.keys ring.old }
-    ensures answer { (told : TheRole → Bool) (r : Reading) (o : Opened) → IsReadingOf state.now log.now r → IsTrue (told edge.now.from) → HoldsKeys told ring.old o.keys →
+    ensures answer { (told : TheRole → Bool) (r : Reading) (o : Opened) → plain_link found ≡ link_for r.stand.keys r.log edge.now → IsTrue (told edge.now.from) → HoldsKeys told ring.old o.keys →
         AnswersBy (λ _ behind. HoldsKeys told ring.new behind.keys × (behind.store ≡ o.store)) result (spec.visit r (ToKey edge.now) o) }
     ensures keys { OnOk result (ArePresent state.now.keys.keys ring.new) }
     ensures others { OnOk result ((role : TheRole) → role ≢ edge.now.to → key_of ring.new role ≡ key_of ring.old role) }
+    ensures seen { result ≢ Err ClientFault.Unseen }
     ensures no_disk { result ≢ Err ClientFault.DiskFault }
 {
     ring.reserve(1)?;
-    visit_edge(state, log, ring, edge)
+    visit_edge(state, found, ring, edge)
 }
 
 /// Makes one visit, as the definition says. `Damaged` behind the header comes exactly where its record or the key of that is
 /// missing, `Tampered` with the record's place exactly where its tag is wrong, and `Damaged` with the place of a content exactly
 /// where its text has another form.
-fn visit_one(
+fn visit_one<S, R: Records<S>>(
     alloc: Global,
     state: &PublicState,
-    log: &IndexedLog<'_>,
+    records: &R,
+    source: &mut S,
     view: &mut OwnersView,
     visit: &Visit,
 ) -> Result<(), ClientFault>
     requires kind { HasItsKind (plain_visit visit.now) }
     requires keys { ArePresent state.now.keys.keys view.old.ring }
-    ensures answer { (told : TheRole → Bool) (r : Reading) (o : Opened) (left : List PlainVisit) → IsFor told (plain_visit visit.now) → IsReadingOf state.now log.now r →
-        IsOpenedTo told r.stand.store (plain_visit visit.now ∷ left) view.old o →
+    ensures answer { R.shows records.now source.old → (told : TheRole → Bool) (r : Reading) (o : Opened) (left : List PlainVisit) → IsFor told (plain_visit visit.now) →
+        IsReadingIn state.now (R.log records.now) r → IsOpenedTo told r.stand.store (plain_visit visit.now ∷ left) view.old o →
         AnswersBy (λ _ behind. IsOpenedTo told r.stand.store left view.new behind) result (spec.visit r (plain_visit visit.now) o) }
     ensures keys { OnOk result (ArePresent state.now.keys.keys view.new.ring) }
     ensures sized { OnOk result (AreSized view.old.names → AreSized view.new.names) }
-    ensures no_disk { result ≢ Err ClientFault.DiskFault }
+    ensures seen { result ≢ Err ClientFault.Unseen }
+    ensures stays { R.stays source.old source.new }
+    ensures disk_fault { result ≡ Err ClientFault.DiskFault → R.faults source.old < R.faults source.new }
 {
     match visit {
-        Visit::Link { edge } => visit_link(state, log, &mut view.ring, edge),
-        Visit::Name { folder } => visit_name(alloc, log, &view.ring, &mut view.names, *folder),
-        Visit::Bytes { file } => visit_file(alloc, log, &view.ring, &mut view.names, *file),
-        Visit::Key { holder } => visit_holder(alloc, state, log, &mut view.ring, *holder),
+        Visit::Link { edge } => {
+            let found = records.link_for(state, edge);
+            visit_link(state, found, &mut view.ring, edge)
+        }
+        Visit::Name { folder } => {
+            let name = records.content_for(alloc, source, FOLDER_NAME, folder.0)?;
+            visit_name(alloc, name, &view.ring, &mut view.names, *folder)
+        }
+        Visit::Bytes { file } => {
+            let text = records.content_for(alloc, source, FILE_TEXT, file.0)?;
+            visit_file(alloc, text, &view.ring, &mut view.names, *file)
+        }
+        Visit::Key { holder } => {
+            let key = records.content_for(alloc, source, HOLDER_KEY, holder.0)?;
+            visit_holder(state, key, &mut view.ring, *holder)
+        }
     }
 }
 
 /// Makes the visits one after another, up to the first that fails.
-pub(crate) fn visit_each(
+pub(crate) fn visit_each<S, R: Records<S>>(
     alloc: Global,
     state: &PublicState,
-    log: &IndexedLog<'_>,
+    records: &R,
+    source: &mut S,
     visits: &[Visit],
     before: OwnersView,
 ) -> Result<OwnersView, ClientFault>
     requires kinds { AllByRecursion HasItsKind (map plain_visit visits.now) }
     requires keys { ArePresent state.now.keys.keys before.ring }
     requires sized { AreSized before.names }
-    ensures answer { (told : TheRole → Bool) (r : Reading) (o : Opened) → AllByRecursion (IsFor told) (map plain_visit visits.now) → IsReadingOf state.now log.now r →
-        IsOpenedTo told r.stand.store (map plain_visit visits.now) before o →
+    ensures answer { R.shows records.now source.old → (told : TheRole → Bool) (r : Reading) (o : Opened) → AllByRecursion (IsFor told) (map plain_visit visits.now) →
+        IsReadingIn state.now (R.log records.now) r → IsOpenedTo told r.stand.store (map plain_visit visits.now) before o →
         AnswersBy (λ view behind. IsOpenedTo told r.stand.store [] view behind) result (spec.visit_all r (map plain_visit visits.now) o) }
     ensures keys { IfOk result (λ view. ArePresent state.now.keys.keys view.ring) }
     ensures sized { IfOk result (λ view. AreSized view.names) }
-    ensures no_disk { result ≢ Err ClientFault.DiskFault }
+    ensures seen { result ≢ Err ClientFault.Unseen }
+    ensures stays { R.stays source.old source.new }
+    ensures disk_fault { result ≡ Err ClientFault.DiskFault → R.faults source.old < R.faults source.new }
 {
     let mut view = before;
     for visit in visits {
-        visit_one(alloc, state, log, &mut view, visit)?;
+        visit_one(alloc, state, records, source, &mut view, visit)?;
     }
     Ok(view)
 }
@@ -132,5 +156,5 @@ pub fn open_all(
         ring: KeyRing::new(alloc, owner),
         names: Names::new(alloc),
     };
-    visit_each(alloc, state, &indexed, visits.as_slice(), view)
+    visit_each(alloc, state, &indexed, &mut (), visits.as_slice(), view)
 }

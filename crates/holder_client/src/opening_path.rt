@@ -1,12 +1,10 @@
 //! The one line of a path that a key shows (docs/FORMAT.md, "Reading").
-ghost use Rattle.std.specs.Prelude.{◌≡◌, ◌≢◌, ◌<◌, ◌≤◌, ◌||◌, ℕ, All, Err, IfOk, Ok, OnOk, filter, find, map, option_map, true};
+ghost use Rattle.std.specs.Prelude.{◌≡◌, ◌≢◌, ◌<◌, ◌≤◌, ◌||◌, ℕ, Err, IfOk, Ok, OnOk, filter, find, map, option_map, true};
 ghost use Rattle.std.specs.HashSet.{contains};
 ghost use Rattle.std.specs.List.{flat_map, list_any};
 ghost use Rattle.std.specs.Str.{bytes_eq};
-ghost use Rattle.commit_journal.specs.Placed.{plain_placed};
-ghost use Rattle.commit_journal.specs.Places.{IsStanding};
-ghost use Rattle.commit_journal.specs.Logs.{AreInEpochs};
 ghost use Rattle.commit_journal.specs.Reading.{IsOnlyRead};
+ghost use Rattle.commit_journal.specs.Streaming.{ShowsGiven};
 ghost use Rattle.cry_base.specs.Naming.{is_path, parent_path};
 ghost use Rattle.cry_base.specs.declared.roles.Role.TheVariants.{Owner};
 ghost use Rattle.cry_io.specs.Told.{WhereTold};
@@ -15,25 +13,27 @@ ghost use Rattle.holder_client.specs.Answering.{AnswersAs};
 ghost use Rattle.holder_client.specs.Asking.{line_shown, line_with};
 ghost use Rattle.holder_client.specs.Asking as asking;
 ghost use Rattle.holder_client.specs.Beside as spec;
-ghost use Rattle.holder_client.specs.Holding.{IsReadingOf};
+ghost use Rattle.holder_client.specs.Holding.{IsReadingIn};
 ghost use Rattle.holder_client.specs.Judging.{who_of};
 ghost use Rattle.holder_client.specs.Lines.{lines_of, plain_line, read_line};
+ghost use Rattle.holder_client.specs.Reads.{HasRead};
 ghost use Rattle.holder_client.specs.Sights.{MayRead, same_number};
 ghost use Rattle.holder_client.specs.View.{line_path};
 ghost use Rattle.holder_client.specs.Visiting.{Reading};
 ghost use Rattle.public_fold.specs.KeyStep.{present};
 
 use crate::ClientFault;
-use crate::admission::read_through;
 use crate::file_rows::files_in;
-use crate::indexed_log::IndexedLog;
 use crate::lines::{folder_lines, path_of, push_files};
+use crate::log_reader::Reader;
 use crate::opening::OwnersView;
 use crate::reading::{ReadFile, open_names, read_files, viewer_of};
-use crate::showing::read_log;
+use crate::records::Records;
+use crate::showing::{ReadLog, read_log};
 use crate::sights::{Sight, all_sights, is_nameless};
+use crate::streamed_log::StreamedLog;
 use crate::ways::folder_path;
-use commit_journal::Placed;
+use commit_journal::PublicLog;
 use cry_base::{Bundle, Line, Mem};
 use cry_io::Disk;
 use folder_nodes::{FileRow, Names, Shape, front_of, path_ok};
@@ -158,48 +158,67 @@ fn files_beside(
 }
 
 /// Opens what the path needs of a log that may be read.
-fn open_at(
+fn open_at<S, R: Records<S>>(
     alloc: Global,
     bundle: &Bundle,
-    log: &[Placed],
     state: &PublicState,
+    records: &R,
+    source: &mut S,
     path: &[u8],
 ) -> Result<Line, ClientFault>
-    requires stands { All IsStanding log.now }
     requires owner { present state.now.keys.keys Owner ≡ 0 }
-    ensures answer { (r : Reading) → IsReadingOf state.now log.now r → MayRead r.stand.store (who_of bundle.now) → AnswersAs plain_line result (spec.path_opened bundle.now path.now r) }
-    ensures no_disk { result ≢ Err ClientFault.DiskFault }
+    ensures answer { R.shows records.now source.old → (r : Reading) → IsReadingIn state.now (R.log records.now) r → MayRead r.stand.store (who_of bundle.now) → AnswersAs plain_line result (spec.path_opened bundle.now path.now r) }
+    ensures stays { R.stays source.old source.new }
+    ensures disk_fault { result ≡ Err ClientFault.DiskFault → R.faults source.old < R.faults source.new }
 {
     is_nameless(state);
-    let indexed = IndexedLog::of(alloc, log)?;
     let seen = all_sights(alloc, state, viewer_of(bundle))?;
-    let OwnersView { ring, names } = open_names(alloc, bundle, state, &indexed, seen.as_slice())?;
+    let OwnersView { ring, names } = open_names(
+        alloc,
+        bundle,
+        state,
+        records,
+        source,
+        seen.as_slice(),
+    )?;
     let shape = state.shape();
     if let Some(line) = folder_at(alloc, shape, &names, seen.as_slice(), path)? {
         return Ok(line);
     }
     let rows = files_beside(alloc, shape, &names, seen.as_slice(), shape.files(), path)?;
-    let files = read_files(alloc, state, &indexed, ring, rows.as_slice())?;
+    let files = read_files(alloc, state, records, source, ring, rows.as_slice())?;
     match file_at(alloc, shape, &names, files, path)? {
         Some(line) => Ok(line),
         None => Err(ClientFault::Unseen),
     }
 }
 
-/// The line of the path that the bundle's key shows of a log.
-fn open_log(
-    alloc: Global,
-    bundle: &Bundle,
-    log: &[Placed],
-    path: &[u8],
-) -> Result<Line, ClientFault>
-    requires stands { All IsStanding log.now }
-    requires epochs { AreInEpochs 0 (map plain_placed log.now) }
-    ensures answer { AnswersAs plain_line result (line_with bundle.now path.now (Ok (map plain_placed log.now))) }
-    ensures no_disk { result ≢ Err ClientFault.DiskFault }
-{
-    let state = read_through(alloc, bundle, log)?;
-    open_at(alloc, bundle, log, &state, path)
+impl Reader {
+    /// The one line of a path that the bundle's key shows of the log whose batches were added. The conditions, and the faults before
+    /// the visits, are those of [`Reader::view`](crate::Reader::view); the visits and `Unseen` are those of
+    /// [`open_path`](crate::open_path).
+    pub fn open_path<D: Disk>(
+        &self,
+        alloc: Global,
+        log: &PublicLog,
+        disk: &mut D,
+        bundle: &Bundle,
+        path: &[u8],
+    ) -> Result<Line, ClientFault>
+        requires read { HasRead self.now log.now.given }
+        requires shows { WhereTold (D.shown disk.old) (λ s. ShowsGiven log.now s) }
+        ensures answer { WhereTold (D.shown disk.old) (λ _. AnswersAs plain_line result (line_with bundle.now path.now (Ok log.now.given))) }
+        ensures read_only { IsOnlyRead D.shown D.size_of D.may_leave disk.old disk.new }
+        ensures counts { D.faults disk.old ≤ D.faults disk.new }
+        ensures disk_fault { result ≡ Err ClientFault.DiskFault → D.faults disk.old < D.faults disk.new }
+    {
+        self.admit(bundle)?;
+        let records = StreamedLog {
+            log,
+            index: &self.index,
+        };
+        open_at(alloc, bundle, &self.state, &records, disk, path)
+    }
 }
 
 /// The one line of a path that the bundle's key shows: that of a folder that is named, or else of a file that is allowed. The disk is
@@ -219,6 +238,6 @@ pub fn open_path<D: Disk>(
     ensures counts { D.faults disk.old ≤ D.faults disk.new }
     ensures disk_fault { result ≡ Err ClientFault.DiskFault → D.faults disk.old < D.faults disk.new }
 {
-    let log = read_log(alloc, disk, bundle)?;
-    open_log(alloc, bundle, log.as_slice(), path)
+    let ReadLog { log, reader } = read_log(alloc, disk, bundle)?;
+    reader.open_path(alloc, &log, disk, bundle, path)
 }

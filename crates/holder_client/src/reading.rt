@@ -1,6 +1,6 @@
 //! What a bundle's key opens: the names of folders, and then the names and bytes of files, one file after another (docs/FORMAT.md,
 //! "Reading").
-ghost use Rattle.std.specs.Prelude.{◌≡◌, ◌≢◌, [], ◌∷◌, ◌++◌, Err, IfOk, OnOk, map};
+ghost use Rattle.std.specs.Prelude.{◌≡◌, ◌≢◌, ◌<◌, [], ◌∷◌, ◌++◌, Err, IfOk, OnOk, map};
 ghost use Rattle.std.specs.List.{flat_map};
 ghost use Rattle.cry_base.specs.Store.{Store};
 ghost use Rattle.cry_base.specs.declared.roles.Role.TheVariants.{Owner};
@@ -8,7 +8,7 @@ ghost use Rattle.folder_nodes.specs.Titles.{Titles};
 ghost use Rattle.folder_nodes.specs.Trees.{IsTree};
 ghost use Rattle.holder_client.specs.Answering.{AnswersBy};
 ghost use Rattle.holder_client.specs.Filed.{IsNamedBy, IsReadBy, everyone, file_stops, with_read};
-ghost use Rattle.holder_client.specs.Holding.{ArePresent, HasNames, HoldsKeys, IsReadingOf};
+ghost use Rattle.holder_client.specs.Holding.{ArePresent, HasNames, HoldsKeys, IsReadingIn};
 ghost use Rattle.holder_client.specs.Judging.{first_key, opened_first, who_of};
 ghost use Rattle.holder_client.specs.Opening.{IsNameless};
 ghost use Rattle.holder_client.specs.Sights.{AreSights, plain_viewer};
@@ -19,10 +19,10 @@ ghost use Rattle.public_fold.specs.KeyStep.{present};
 ghost use Rattle.role_graph.specs.Edges.{file_edge};
 
 use crate::ClientFault;
-use crate::indexed_log::IndexedLog;
 use crate::opening::{OwnersView, visit_each, visit_link};
+use crate::records::Records;
 use crate::sights::{Sight, Viewer};
-use crate::texts::{NamedBytes, open_file, present_serial};
+use crate::texts::{FILE_TEXT, NamedBytes, open_file, present_serial};
 use crate::visit_list::visits_to_names;
 use chacha_seal::Key;
 use cry_base::{Bundle, Edge, Mem, Role, Text};
@@ -58,26 +58,29 @@ fn first_ring(alloc: Global, bundle: &Bundle, state: &PublicState) -> KeyRing
 }
 
 /// Opens all keys up to those of the folders' names, and the names: the visits before those of files, up to the first that fails.
-pub(crate) fn open_names(
+pub(crate) fn open_names<S, R: Records<S>>(
     alloc: Global,
     bundle: &Bundle,
     state: &PublicState,
-    log: &IndexedLog<'_>,
+    records: &R,
+    source: &mut S,
     sights: &[Sight],
 ) -> Result<OwnersView, ClientFault>
     requires owner { present state.now.keys.keys Owner ≡ 0 }
     requires nameless { IsNameless state.now.tree }
-    ensures answer { (r : Reading) → IsReadingOf state.now log.now r → IsTree r.stand.store → AreSights r.stand.store (who_of bundle.now) sights.now →
+    ensures answer { R.shows records.now source.old → (r : Reading) → IsReadingIn state.now (R.log records.now) r → IsTree r.stand.store → AreSights r.stand.store (who_of bundle.now) sights.now →
         AnswersBy (λ view o. IsNamedBy r.stand.store view o) result (spec.visit_all r (visits.visits_to_names r.stand.store (who_of bundle.now)) (opened_first bundle.now r)) }
     ensures present { IfOk result (λ view. ArePresent state.now.keys.keys view.ring) }
-    ensures no_disk { result ≢ Err ClientFault.DiskFault }
+    ensures seen { result ≢ Err ClientFault.Unseen }
+    ensures stays { R.stays source.old source.new }
+    ensures disk_fault { result ≡ Err ClientFault.DiskFault → R.faults source.old < R.faults source.new }
 {
     let visits = visits_to_names(alloc, viewer_of(bundle), sights)?;
     let before = OwnersView {
         ring: first_ring(alloc, bundle, state),
         names: Names::new(alloc),
     };
-    visit_each(alloc, state, log, visits.as_slice(), before)
+    visit_each(alloc, state, records, source, visits.as_slice(), before)
 }
 
 /// A file with its name and its bytes.
@@ -100,22 +103,27 @@ fn edge_into(row: &FileRow) -> Edge
 }
 
 /// Opens the key of a file from the one of its folder's files, and then the file's text.
-fn read_file(
+fn read_file<S, R: Records<S>>(
     alloc: Global,
     state: &PublicState,
-    log: &IndexedLog<'_>,
+    records: &R,
+    source: &mut S,
     ring: &mut KeyRing,
     row: &FileRow,
 ) -> Result<ReadFile, ClientFault>
     requires keys { ArePresent state.now.keys.keys ring.old }
-    ensures answer { (r : Reading) (o : Opened) → IsReadingOf state.now log.now r → HoldsKeys everyone ring.old o.keys →
+    ensures answer { R.shows records.now source.old → (r : Reading) (o : Opened) → IsReadingIn state.now (R.log records.now) r → HoldsKeys everyone ring.old o.keys →
         AnswersBy (λ file behind. HoldsKeys everyone ring.new behind.keys × IsReadBy file o behind) result (spec.visit_all r (file_stops row.now) o) }
     ensures row { IfOk result (λ file. file.row ≡ row.now) }
     ensures keys { OnOk result (ArePresent state.now.keys.keys ring.new) }
-    ensures no_disk { result ≢ Err ClientFault.DiskFault }
+    ensures seen { result ≢ Err ClientFault.Unseen }
+    ensures stays { R.stays source.old source.new }
+    ensures disk_fault { result ≡ Err ClientFault.DiskFault → R.faults source.old < R.faults source.new }
 {
-    visit_link(state, log, ring, &edge_into(row))?;
-    let NamedBytes { name, bytes } = open_file(alloc, log, ring, row.id)?;
+    let edge = edge_into(row);
+    visit_link(state, records.link_for(state, &edge), ring, &edge)?;
+    let text = records.content_for(alloc, source, FILE_TEXT, row.id.0)?;
+    let NamedBytes { name, bytes } = open_file(alloc, text, ring, row.id)?;
     Ok(ReadFile {
         row: *row,
         name,
@@ -131,23 +139,26 @@ fn keep(files: &mut Vec<ReadFile>, file: ReadFile) -> Mem<()>
 }
 
 /// Opens the files one after another, up to the first that fails.
-pub(crate) fn read_files(
+pub(crate) fn read_files<S, R: Records<S>>(
     alloc: Global,
     state: &PublicState,
-    log: &IndexedLog<'_>,
+    records: &R,
+    source: &mut S,
     ring: KeyRing,
     rows: &[FileRow],
 ) -> Result<Vec<ReadFile>, ClientFault>
     requires keys { ArePresent state.now.keys.keys ring }
-    ensures answer { (r : Reading) (o : Opened) (bare : Store) (names : Titles) → IsReadingOf state.now log.now r → HoldsKeys everyone ring o.keys → HasNames bare names o.store →
+    ensures answer { R.shows records.now source.old → (r : Reading) (o : Opened) (bare : Store) (names : Titles) → IsReadingIn state.now (R.log records.now) r → HoldsKeys everyone ring o.keys → HasNames bare names o.store →
         AnswersBy (λ files behind. HasNames bare (with_read names files.items) behind.store) result (spec.visit_all r (flat_map file_stops rows.now) o) }
     ensures rows { IfOk result (λ files. map (λ file. file.row) files.items ≡ rows.now) }
-    ensures no_disk { result ≢ Err ClientFault.DiskFault }
+    ensures seen { result ≢ Err ClientFault.Unseen }
+    ensures stays { R.stays source.old source.new }
+    ensures disk_fault { result ≡ Err ClientFault.DiskFault → R.faults source.old < R.faults source.new }
 {
     let mut ring = ring;
     let mut files = Vec::new(alloc);
     for row in rows {
-        let file = read_file(alloc, state, log, &mut ring, row)?;
+        let file = read_file(alloc, state, records, source, &mut ring, row)?;
         keep(&mut files, file)?;
     }
     Ok(files)

@@ -1,120 +1,147 @@
 //! The lines that a key shows.
-ghost use Rattle.std.specs.Prelude.{◌≡◌, ◌≢◌, ◌<◌, ◌≤◌, All, Err, IfOk, Ok, map};
+ghost use Rattle.std.specs.Prelude.{◌≡◌, ◌≢◌, ◌<◌, ◌≤◌, Err, IfOk, Ok, option_copied};
 ghost use Rattle.cry_io.specs.Told.{WhereTold};
-ghost use Rattle.commit_journal.specs.Log.{log_verdict};
-ghost use Rattle.commit_journal.specs.Logs.{AreInEpochs, holder_log};
-ghost use Rattle.commit_journal.specs.Placed.{plain_log, plain_placed};
-ghost use Rattle.commit_journal.specs.Places.{IsStanding};
+ghost use Rattle.commit_journal.specs.Readers as readers;
 ghost use Rattle.commit_journal.specs.Reading.{IsOnlyRead};
+ghost use Rattle.commit_journal.specs.Streaming.{ShowsGiven};
 ghost use Rattle.cry_base.specs.declared.roles.Role.TheVariants.{Owner};
 ghost use Rattle.holder_client.specs.Answering.{Answers, AnswersAs};
 ghost use Rattle.holder_client.specs.Filed.{viewed};
-ghost use Rattle.holder_client.specs.Holding.{IsReadingOf};
+ghost use Rattle.holder_client.specs.Holding.{IsReadingIn};
 ghost use Rattle.holder_client.specs.Judging as spec;
 ghost use Rattle.holder_client.specs.Judging.{shown_with, view_with};
 ghost use Rattle.holder_client.specs.Lines.{plain_view};
+ghost use Rattle.holder_client.specs.Reads.{HasRead};
 ghost use Rattle.holder_client.specs.Sights.{MayRead};
 ghost use Rattle.holder_client.specs.Visiting.{Reading};
 ghost use Rattle.public_fold.specs.KeyStep.{present};
 
 use crate::ClientFault;
-use crate::admission::read_through;
 use crate::file_rows::allowed_files;
-use crate::indexed_log::IndexedLog;
 use crate::lines::view_lines;
+use crate::log_reader::Reader;
 use crate::opening::OwnersView;
 use crate::reading::{open_names, read_files, viewer_of};
+use crate::records::Records;
 use crate::sights::{all_sights, is_nameless};
-use chacha_seal::Key;
-use commit_journal::{Placed, read_owner, read_public};
+use crate::streamed_log::StreamedLog;
+use chacha_seal::{Key, OwnerK};
+use commit_journal::PublicLog;
 use cry_base::{Bundle, Line, List};
 use cry_io::Disk;
 use public_fold::PublicState;
 use std::alloc::Global;
 
-/// The batches of the log as the owner's key reads them.
-fn owners_log<D: Disk>(
+/// A log that was read to its end, and what a reading needs of it.
+#[derive(Drop)]
+pub(crate) struct ReadLog {
+    pub(crate) log: PublicLog,
+    pub(crate) reader: Reader,
+}
+
+/// Reads a log batch by batch up to its end, with the owner's key or without one.
+fn read_batches<D: Disk>(
     alloc: Global,
     disk: &mut D,
-    key: [u8; 32],
-) -> Result<List<Placed>, ClientFault>
-    ensures verdict { WhereTold (D.shown disk.old) (λ s. Answers plain_log result (log_verdict key s)) }
+    owner: Option<&Key<OwnerK>>,
+) -> Result<ReadLog, ClientFault>
+    ensures verdict { WhereTold (D.shown disk.old) (λ s. Answers (λ read. read.log.given) result (readers.read_log (readers.key_bytes (option_copied owner.entry)) s)) }
+    ensures read { IfOk result (λ read. HasRead read.reader read.log.given) }
+    ensures shows { WhereTold (D.shown disk.old) (λ s. IfOk result (λ read. ShowsGiven read.log s)) }
     ensures seen { result ≢ Err ClientFault.Unseen }
-    ensures stands { IfOk result (λ log. All IsStanding log.items) }
-    ensures epochs { IfOk result (λ log. AreInEpochs 0 (plain_log log)) }
     ensures read_only { IsOnlyRead D.shown D.size_of D.may_leave disk.old disk.new }
     ensures counts { D.faults disk.old ≤ D.faults disk.new }
     ensures disk_fault { result ≡ Err ClientFault.DiskFault → D.faults disk.old < D.faults disk.new }
 {
-    let log = read_owner(alloc, disk, &Key::owner(key))?;
-    Ok(log)
+    let mut log = PublicLog::begin(alloc, disk, owner)?;
+    let mut reader = Reader::new(alloc)?;
+    while let Some(placed) = log.next(alloc, disk)? {
+        reader.add(alloc, &placed)?;
+    }
+    Ok(ReadLog { log, reader })
 }
 
-/// The batches of the log that are published.
-fn holders_log<D: Disk>(alloc: Global, disk: &mut D) -> Result<List<Placed>, ClientFault>
-    ensures verdict { WhereTold (D.shown disk.old) (λ s. Answers plain_log result (holder_log s)) }
-    ensures seen { result ≢ Err ClientFault.Unseen }
-    ensures stands { IfOk result (λ log. All IsStanding log.items) }
-    ensures epochs { IfOk result (λ log. AreInEpochs 0 (plain_log log)) }
-    ensures read_only { IsOnlyRead D.shown D.size_of D.may_leave disk.old disk.new }
-    ensures counts { D.faults disk.old ≤ D.faults disk.new }
-    ensures disk_fault { result ≡ Err ClientFault.DiskFault → D.faults disk.old < D.faults disk.new }
-{
-    let log = read_public(alloc, disk)?;
-    Ok(log)
-}
-
-/// The batches of the log as the bundle's reader reads them.
+/// Reads the log as the bundle's reader reads it.
 pub(crate) fn read_log<D: Disk>(
     alloc: Global,
     disk: &mut D,
     bundle: &Bundle,
-) -> Result<List<Placed>, ClientFault>
-    ensures verdict { WhereTold (D.shown disk.old) (λ s. Answers plain_log result (spec.bundle_log bundle.now s)) }
+) -> Result<ReadLog, ClientFault>
+    ensures verdict { WhereTold (D.shown disk.old) (λ s. Answers (λ read. read.log.given) result (spec.bundle_log bundle.now s)) }
+    ensures read { IfOk result (λ read. HasRead read.reader read.log.given) }
+    ensures shows { WhereTold (D.shown disk.old) (λ s. IfOk result (λ read. ShowsGiven read.log s)) }
     ensures seen { result ≢ Err ClientFault.Unseen }
-    ensures stands { IfOk result (λ log. All IsStanding log.items) }
-    ensures epochs { IfOk result (λ log. AreInEpochs 0 (plain_log log)) }
     ensures read_only { IsOnlyRead D.shown D.size_of D.may_leave disk.old disk.new }
     ensures counts { D.faults disk.old ≤ D.faults disk.new }
     ensures disk_fault { result ≡ Err ClientFault.DiskFault → D.faults disk.old < D.faults disk.new }
 {
     match bundle {
-        Bundle::Owner { key } => owners_log(alloc, disk, *key),
-        Bundle::Holder { .. } => holders_log(alloc, disk),
+        Bundle::Owner { key } => {
+            let owner = Key::owner(*key);
+            read_batches(alloc, disk, Some(&owner))
+        }
+        Bundle::Holder { .. } => read_batches(alloc, disk, None),
     }
 }
 
 /// Opens what the bundle's key opens of a log that it may read, and lists it.
-fn list_log(
+fn list_records<S, R: Records<S>>(
     alloc: Global,
     bundle: &Bundle,
-    log: &[Placed],
     state: &PublicState,
+    records: &R,
+    source: &mut S,
 ) -> Result<List<Line>, ClientFault>
-    requires stands { All IsStanding log.now }
     requires owner { present state.now.keys.keys Owner ≡ 0 }
-    ensures answer { (r : Reading) → IsReadingOf state.now log.now r → MayRead r.stand.store (spec.who_of bundle.now) → AnswersAs plain_view result (viewed bundle.now r) }
-    ensures no_disk { result ≢ Err ClientFault.DiskFault }
+    ensures answer { R.shows records.now source.old → (r : Reading) → IsReadingIn state.now (R.log records.now) r → MayRead r.stand.store (spec.who_of bundle.now) → AnswersAs plain_view result (viewed bundle.now r) }
+    ensures seen { result ≢ Err ClientFault.Unseen }
+    ensures stays { R.stays source.old source.new }
+    ensures disk_fault { result ≡ Err ClientFault.DiskFault → R.faults source.old < R.faults source.new }
 {
     is_nameless(state);
-    let indexed = IndexedLog::of(alloc, log)?;
     let seen = all_sights(alloc, state, viewer_of(bundle))?;
-    let OwnersView { ring, names } = open_names(alloc, bundle, state, &indexed, seen.as_slice())?;
+    let OwnersView { ring, names } = open_names(
+        alloc,
+        bundle,
+        state,
+        records,
+        source,
+        seen.as_slice(),
+    )?;
     let rows = allowed_files(alloc, seen.as_slice(), state.shape().files())?;
-    let files = read_files(alloc, state, &indexed, ring, rows.as_slice())?;
+    let files = read_files(alloc, state, records, source, ring, rows.as_slice())?;
     Ok(view_lines(alloc, state.shape(), &names, seen.as_slice(), files)?)
 }
 
-/// What the bundle's key shows of a log.
-fn view_log(alloc: Global, bundle: &Bundle, log: &[Placed]) -> Result<List<Line>, ClientFault>
-    requires stands { All IsStanding log.now }
-    requires epochs { AreInEpochs 0 (map plain_placed log.now) }
-    ensures answer { AnswersAs plain_view result (view_with bundle.now (Ok (map plain_placed log.now))) }
-    ensures seen { result ≢ Err ClientFault.Unseen }
-    ensures no_disk { result ≢ Err ClientFault.DiskFault }
-{
-    let state = read_through(alloc, bundle, log)?;
-    list_log(alloc, bundle, log, &state)
+impl Reader {
+    /// What the bundle's key shows of the log whose batches were added: all that [`PublicLog::next`](commit_journal::PublicLog::next)
+    /// gave, in order. Contents are read from the disk once more, by [`PublicLog::again`](commit_journal::PublicLog::again), and a disk
+    /// that tells has to show the batches as they were given. The disk is never written.
+    ///
+    /// `Damaged` comes first, at the first byte of the first payload that doesn't fit what stands before it. The faults behind that
+    /// are those of [`view`](crate::view) behind it.
+    pub fn view<D: Disk>(
+        &self,
+        alloc: Global,
+        log: &PublicLog,
+        disk: &mut D,
+        bundle: &Bundle,
+    ) -> Result<List<Line>, ClientFault>
+        requires read { HasRead self.now log.now.given }
+        requires shows { WhereTold (D.shown disk.old) (λ s. ShowsGiven log.now s) }
+        ensures answer { WhereTold (D.shown disk.old) (λ _. AnswersAs plain_view result (view_with bundle.now (Ok log.now.given))) }
+        ensures seen { result ≢ Err ClientFault.Unseen }
+        ensures read_only { IsOnlyRead D.shown D.size_of D.may_leave disk.old disk.new }
+        ensures counts { D.faults disk.old ≤ D.faults disk.new }
+        ensures disk_fault { result ≡ Err ClientFault.DiskFault → D.faults disk.old < D.faults disk.new }
+    {
+        self.admit(bundle)?;
+        let records = StreamedLog {
+            log,
+            index: &self.index,
+        };
+        list_records(alloc, bundle, &self.state, &records, disk)
+    }
 }
 
 /// What the bundle's key shows of a store: a line for each folder that is named and each file that is allowed, by the bytes of
@@ -137,6 +164,6 @@ pub fn view<D: Disk>(
     ensures counts { D.faults disk.old ≤ D.faults disk.new }
     ensures disk_fault { result ≡ Err ClientFault.DiskFault → D.faults disk.old < D.faults disk.new }
 {
-    let log = read_log(alloc, disk, bundle)?;
-    view_log(alloc, bundle, log.as_slice())
+    let ReadLog { log, reader } = read_log(alloc, disk, bundle)?;
+    reader.view(alloc, &log, disk, bundle)
 }

@@ -1,20 +1,21 @@
 //! Names, bytes and holders' keys that are opened, each with the key of its folder, its file or the owner (docs/FORMAT.md,
 //! "Reading").
-ghost use Rattle.std.specs.Prelude.{◌≡◌, ◌≢◌, ◌≤◌, Bool, Err, IfOk, IsTrue, MatchOption, OnOk, false, length, map};
-ghost use Rattle.commit_journal.specs.Placed.{plain_placed};
+ghost use Rattle.std.specs.Prelude.{◌≡◌, ◌≢◌, ◌≤◌, Bool, Err, IfOk, IfSome, IsTrue, MatchOption, OnOk, false, length};
 ghost use Rattle.cry_base.specs.Naming.{is_name};
 ghost use Rattle.cry_base.specs.Store.{Store};
 ghost use Rattle.cry_base.specs.declared.roles.Role.{Role as TheRole};
 ghost use Rattle.cry_base.specs.declared.roles.Role.TheVariants.{Owner};
 ghost use Rattle.holder_client.specs.Answering.{AnswersBy};
+ghost use Rattle.holder_client.specs.Found.{IsContentFor, plain_found};
 ghost use Rattle.holder_client.specs.Holding.{ArePresent, AreSized, HasNames, HasParts, HoldsKeys, IsFiledBy, IsHeldBy, IsTitledBy};
+ghost use Rattle.holder_client.specs.Placing.{content_for};
 ghost use Rattle.holder_client.specs.Visiting as spec;
 ghost use Rattle.holder_client.specs.Visits.Visit.{ToFile, ToHolder, ToName};
 ghost use Rattle.public_fold.specs.KeyStep.{present};
 ghost use Rattle.role_graph.specs.Roles.{data_of, file_role};
 
 use crate::ClientFault;
-use crate::indexed_log::IndexedLog;
+use crate::records::FoundContent;
 use crate::visiting::{OpenedText, open_text};
 use chacha_seal::Key;
 use cry_base::{FileId, FolderId, HolderId, Mem, Node, Role, Serial, Text};
@@ -24,11 +25,11 @@ use public_fold::PublicState;
 use std::alloc::Global;
 
 /// The kinds of contents: the names of folders, the names and bytes of files, the keys of holders.
-const FOLDER_NAME: u8 = 1;
+pub(crate) const FOLDER_NAME: u8 = 1;
 
-const FILE_TEXT: u8 = 2;
+pub(crate) const FILE_TEXT: u8 = 2;
 
-const HOLDER_KEY: u8 = 3;
+pub(crate) const HOLDER_KEY: u8 = 3;
 
 const ROOT: u32 = 1;
 
@@ -73,19 +74,21 @@ fn text_of(alloc: Global, bytes: &[u8]) -> Mem<Text>
 /// with the content's place exactly where the text is no name, and for the root where it isn't empty.
 pub(crate) fn visit_name(
     alloc: Global,
-    log: &IndexedLog<'_>,
+    found: Option<FoundContent>,
     ring: &KeyRing,
     names: &mut Names,
     folder: FolderId,
 ) -> Result<(), ClientFault>
-    ensures answer { (told : TheRole → Bool) (r : spec.Reading) (o : spec.Opened) (s : Store) → r.log ≡ map plain_placed log.now → IsTrue (told (data_of folder.0)) →
+    requires { IfSome found (IsContentFor 1 folder.0) }
+    ensures answer { (told : TheRole → Bool) (r : spec.Reading) (o : spec.Opened) (s : Store) → plain_found found ≡ content_for r.log 1 folder.0 → IsTrue (told (data_of folder.0)) →
         HoldsKeys told ring.now o.keys → HasNames s names.old o.store →
         AnswersBy (λ _ behind. IsTitledBy s names.new o behind) result (spec.visit r (ToName folder.0) o) }
     ensures sized { OnOk result (AreSized names.old → AreSized names.new) }
+    ensures seen { result ≢ Err ClientFault.Unseen }
     ensures no_disk { result ≢ Err ClientFault.DiskFault }
 {
     names.reserve()?;
-    let OpenedText { at, text } = open_text(alloc, log, ring, FOLDER_NAME, folder.0)?;
+    let OpenedText { at, text } = open_text(found, ring, FOLDER_NAME, folder.0)?;
     if !is_folder_text(folder, text.as_slice()) {
         return Err(ClientFault::Damaged { at });
     }
@@ -105,16 +108,18 @@ pub(crate) struct NamedBytes {
 /// where the text isn't a length, a name of that length and the bytes of a file.
 pub(crate) fn open_file(
     alloc: Global,
-    log: &IndexedLog<'_>,
+    found: Option<FoundContent>,
     ring: &KeyRing,
     file: FileId,
 ) -> Result<NamedBytes, ClientFault>
-    ensures answer { (told : TheRole → Bool) (r : spec.Reading) (o : spec.Opened) → r.log ≡ map plain_placed log.now → IsTrue (told (file_role file.0)) → HoldsKeys told ring.now o.keys →
+    requires { IfSome found (IsContentFor 2 file.0) }
+    ensures answer { (told : TheRole → Bool) (r : spec.Reading) (o : spec.Opened) → plain_found found ≡ content_for r.log 2 file.0 → IsTrue (told (file_role file.0)) → HoldsKeys told ring.now o.keys →
         AnswersBy (λ parts behind. IsFiledBy file.0 parts o behind) result (spec.visit r (ToFile file.0) o) }
     ensures form { IfOk result (λ parts. IsTrue (is_name parts.name.items) × (length parts.bytes.items ≤ 1048576)) }
+    ensures seen { result ≢ Err ClientFault.Unseen }
     ensures no_disk { result ≢ Err ClientFault.DiskFault }
 {
-    let OpenedText { at, text } = open_text(alloc, log, ring, FILE_TEXT, file.0)?;
+    let OpenedText { at, text } = open_text(found, ring, FILE_TEXT, file.0)?;
     let Some((name, bytes)) = file_parts(text.as_slice()) else {
         return Err(ClientFault::Damaged { at });
     };
@@ -126,19 +131,21 @@ pub(crate) fn open_file(
 /// Opens the text of a file and gives the file its name and its bytes, with the faults of `open_file`.
 pub(crate) fn visit_file(
     alloc: Global,
-    log: &IndexedLog<'_>,
+    found: Option<FoundContent>,
     ring: &KeyRing,
     names: &mut Names,
     file: FileId,
 ) -> Result<(), ClientFault>
-    ensures answer { (told : TheRole → Bool) (r : spec.Reading) (o : spec.Opened) (s : Store) → r.log ≡ map plain_placed log.now → IsTrue (told (file_role file.0)) →
+    requires { IfSome found (IsContentFor 2 file.0) }
+    ensures answer { (told : TheRole → Bool) (r : spec.Reading) (o : spec.Opened) (s : Store) → plain_found found ≡ content_for r.log 2 file.0 → IsTrue (told (file_role file.0)) →
         HoldsKeys told ring.now o.keys → HasNames s names.old o.store →
         AnswersBy (λ _ behind. IsTitledBy s names.new o behind) result (spec.visit r (ToFile file.0) o) }
     ensures sized { OnOk result (AreSized names.old → AreSized names.new) }
+    ensures seen { result ≢ Err ClientFault.Unseen }
     ensures no_disk { result ≢ Err ClientFault.DiskFault }
 {
     names.reserve()?;
-    let NamedBytes { name, bytes } = open_file(alloc, log, ring, file)?;
+    let NamedBytes { name, bytes } = open_file(alloc, found, ring, file)?;
     names.set(Node::File(file), name, bytes);
     Ok(())
 }
@@ -167,20 +174,21 @@ pub(crate) fn present_serial(state: &PublicState, role: Role) -> Serial
 /// Opens the key of a holder, and keeps it. `Damaged` behind the header comes exactly where there is no content with the key,
 /// or no owner's key for it, and else `Tampered` with the content's place exactly where its tag is wrong.
 pub(crate) fn visit_holder(
-    alloc: Global,
     state: &PublicState,
-    log: &IndexedLog<'_>,
+    found: Option<FoundContent>,
     ring: &mut KeyRing,
     holder: HolderId,
 ) -> Result<(), ClientFault>
+    requires found { IfSome found (IsContentFor 3 holder.0) }
     requires keys { ArePresent state.now.keys.keys ring.old }
-    ensures answer { (told : TheRole → Bool) (r : spec.Reading) (o : spec.Opened) → r.log ≡ map plain_placed log.now → IsTrue (told Owner) → HoldsKeys told ring.old o.keys →
+    ensures answer { (told : TheRole → Bool) (r : spec.Reading) (o : spec.Opened) → plain_found found ≡ content_for r.log 3 holder.0 → IsTrue (told Owner) → HoldsKeys told ring.old o.keys →
         AnswersBy (λ _ behind. IsHeldBy ring.new ring.old holder.0 o behind) result (spec.visit r (ToHolder holder.0) o) }
     ensures keys { OnOk result (ArePresent state.now.keys.keys ring.new) }
+    ensures seen { result ≢ Err ClientFault.Unseen }
     ensures no_disk { result ≢ Err ClientFault.DiskFault }
 {
     ring.reserve(1)?;
-    let OpenedText { at: _, text } = open_text(alloc, log, ring, HOLDER_KEY, holder.0)?;
+    let OpenedText { at: _, text } = open_text(found, ring, HOLDER_KEY, holder.0)?;
     let serial = present_serial(state, Role::Holder(holder));
     ring.adopt_holder(Key::holder(holder, serial, key_bytes(text.as_slice())));
     Ok(())

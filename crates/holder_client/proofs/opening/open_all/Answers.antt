@@ -32,7 +32,7 @@ returns-clause-answer c = λ r of_log.
     in
     let reading : IsReadingOf state c.in_ok-indexed.indexed r = subst (λ (log : List Placed). IsReadingOf state log r) (sym c.in_ok-indexed.ensures) of_log in
     subst (λ (l : List Visit). AnswersBy (λ (x : OwnersView) behind. IsOpenedBy bare x behind) c.visit_each.result (visit_all r l begun)) is
-    (answered bare c.visit_each.result (visit_all r visits begun) (c.visit_each.ensures.answer is_no_holders r begun (subst (λ l. AllByRecursion (IsFor is_no_holders) l) (sym same) c.in_ok-visits.ensures.owners) reading opening))
+    (answered bare c.visit_each.result (visit_all r visits begun) (c.visit_each.ensures.answer tt is_no_holders r begun (subst (λ l. AllByRecursion (IsFor is_no_holders) l) (sym same) c.in_ok-visits.ensures.owners) reading opening))
 
 pub visit_each-requires-clause-sized : goal.visit_each-requires-clause-sized
 visit_each-requires-clause-sized c = unnamed_sized c.new-2.result c.new-2.ensures.files

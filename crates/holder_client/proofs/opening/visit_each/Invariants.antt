@@ -6,9 +6,10 @@ use Rattle.holder_client.proofs.Opens.{IsVisitedTo}
 use Rattle.holder_client.proofs.opening.visit_each.Given as goal
 
 abbrev pub invariant-loop-visit : goal.invariant-loop-visit
-invariant-loop-visit l = record {
+invariant-loop-visit g l = record {
   kinds : AllByRecursion HasItsKind (map plain_visit (drop l.visit-index l.visits));
   present : ArePresent l.state.keys.keys l.view.ring;
   sized : AreSized l.view.names;
-  visited : IsVisitedTo l.state l.log (map plain_visit l.visits) l.initial.view (map plain_visit (drop l.visit-index l.visits)) l.view;
+  stays : g.R.Records.stays l.fn.source l.source;
+  visited : g.R.Records.shows l.records l.fn.source → IsVisitedTo l.state (g.R.Records.log l.records) (map plain_visit l.visits) l.initial.view (map plain_visit (drop l.visit-index l.visits)) l.view;
 }

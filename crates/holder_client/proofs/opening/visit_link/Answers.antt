@@ -12,8 +12,8 @@ visit_edge-requires-clause-keys c = λ role key there.
 
 pub returns-clause-answer : goal.returns-clause-answer
 unfolding visit
-returns-clause-answer c = λ told r o of_log from holds.
-    c.visit_edge.ensures.answer told r o of_log from
+returns-clause-answer c = λ told r o is_found from holds.
+    c.visit_edge.ensures.answer told r o is_found from
     (λ role is_told. holds role is_told ∙ ap (option_map (λ (k : KeyParts). k.bytes)) (sym (same_keys c.reserve.new.self c.args.ring.now role c.in_ok-reserve.ensures.keys)))
 
 pub returns-clause-others : goal.returns-clause-others

@@ -1,6 +1,9 @@
-use Rattle.std.proofs.Common.{◌≡◌, ◌∷◌, refl, sym, ap, subst}
+use Rattle.std.proofs.Common.{◌≡◌, ◌∷◌, refl, sym, ap, subst, ◌∙◌}
 use Rattle.holder_client.specs.declared.opening.OwnersView.{OwnersView}
 use Rattle.holder_client.specs.Answering.{AnswersBy}
+use Rattle.holder_client.specs.Found.{plain_link}
+use Rattle.holder_client.specs.Placing.{content_for}
+use Rattle.holder_client.proofs.Following.{link_told}
 use Rattle.holder_client.specs.Holding.{IsHeldBy, IsTitledBy}
 use Rattle.holder_client.specs.Opening.{IsFor, IsOpenedTo, plain_visit}
 use Rattle.holder_client.specs.Visiting.{Opened, visit}
@@ -10,9 +13,9 @@ use Rattle.holder_client.proofs.Opens.{answers_for, holder_opened, link_answered
 use Rattle.role_graph.specs.Roles.{data_of, file_role}
 use Rattle.holder_client.proofs.opening.visit_one.Goals as goal
 
-pub returns-in-Name-clause-answer : goal.returns-in-Name-clause-answer
+pub returns-in_ok-name-in-Name-clause-answer : goal.returns-in_ok-name-in-Name-clause-answer
 unfolding data_of
-returns-in-Name-clause-answer c = λ told r o left fit of_log opened.
+returns-in_ok-name-in-Name-clause-answer g c = λ shown told r o left fit of_log opened.
     let f = c.in-Name.folder.0 in
     let old = c.args.view.now in
     let new : OwnersView = record { ring = old.ring; names = c.visit_name.new.names } in
@@ -23,11 +26,11 @@ returns-in-Name-clause-answer c = λ told r o left fit of_log opened.
     (answers_for (λ (x : Unit {0}) (behind : Opened). IsTitledBy r.stand.store new.names o behind) (λ (x : Unit {0}) (behind : Opened). IsOpenedTo told r.stand.store left new behind)
     c.visit_name.result (visit r (ToName f) o)
     (λ x behind titled. title_opened told r.stand.store (ToName f) left old new o behind (λ h. no_name h f) before titled refl)
-    (c.visit_name.ensures.answer told r o r.stand.store of_log.0 fits before.keys before.names))
+    (c.visit_name.ensures.answer told r o r.stand.store (c.in_ok-name-in-Name.ensures.found shown ∙ ap (λ l. content_for l 1 f) (sym of_log.0)) fits before.keys before.names))
 
-pub returns-in-Bytes-clause-answer : goal.returns-in-Bytes-clause-answer
+pub returns-in_ok-text-in-Bytes-clause-answer : goal.returns-in_ok-text-in-Bytes-clause-answer
 unfolding file_role
-returns-in-Bytes-clause-answer c = λ told r o left fit of_log opened.
+returns-in_ok-text-in-Bytes-clause-answer g c = λ shown told r o left fit of_log opened.
     let f = c.in-Bytes.file.0 in
     let old = c.args.view.now in
     let new : OwnersView = record { ring = old.ring; names = c.visit_file.new.names } in
@@ -38,10 +41,10 @@ returns-in-Bytes-clause-answer c = λ told r o left fit of_log opened.
     (answers_for (λ (x : Unit {0}) (behind : Opened). IsTitledBy r.stand.store new.names o behind) (λ (x : Unit {0}) (behind : Opened). IsOpenedTo told r.stand.store left new behind)
     c.visit_file.result (visit r (ToFile f) o)
     (λ x behind titled. title_opened told r.stand.store (ToFile f) left old new o behind (λ h. no_file h f) before titled refl)
-    (c.visit_file.ensures.answer told r o r.stand.store of_log.0 fits before.keys before.names))
+    (c.visit_file.ensures.answer told r o r.stand.store (c.in_ok-text-in-Bytes.ensures.found shown ∙ ap (λ l. content_for l 2 f) (sym of_log.0)) fits before.keys before.names))
 
-pub returns-in-Key-clause-answer : goal.returns-in-Key-clause-answer
-returns-in-Key-clause-answer c = λ told r o left fit of_log opened.
+pub returns-in_ok-key-in-Key-clause-answer : goal.returns-in_ok-key-in-Key-clause-answer
+returns-in_ok-key-in-Key-clause-answer g c = λ shown told r o left fit of_log opened.
     let h = c.in-Key.holder.0 in
     let old = c.args.view.now in
     let new : OwnersView = record { ring = c.visit_holder.new.ring; names = old.names } in
@@ -52,10 +55,10 @@ returns-in-Key-clause-answer c = λ told r o left fit of_log opened.
     (answers_for (λ (x : Unit {0}) (behind : Opened). IsHeldBy new.ring old.ring h o behind) (λ (x : Unit {0}) (behind : Opened). IsOpenedTo told r.stand.store left new behind)
     c.visit_holder.result (visit r (ToHolder h) o)
     (λ x behind held. holder_opened told r.stand.store h left old new o behind fits.1 before held refl)
-    (c.visit_holder.ensures.answer told r o of_log.0 fits.0 before.keys))
+    (c.visit_holder.ensures.answer told r o (c.in_ok-key-in-Key.ensures.found shown ∙ ap (λ l. content_for l 3 h) (sym of_log.0)) fits.0 before.keys))
 
 pub returns-in-Link-clause-answer : goal.returns-in-Link-clause-answer
-returns-in-Link-clause-answer c = λ told r o left fit of_log opened.
+returns-in-Link-clause-answer g c = λ shown told r o left fit of_log opened.
     let e = c.in-Link.edge in
     let old = c.args.view.now in
     let new : OwnersView = record { ring = c.visit_link.new.ring; names = old.names } in
@@ -63,4 +66,4 @@ returns-in-Link-clause-answer c = λ told r o left fit of_log opened.
     let fits : IsFor told (ToKey e) = subst (IsFor told) is fit in
     let before : IsOpenedTo told r.stand.store (ToKey e ∷ left) old o = subst (λ (v : Visit). IsOpenedTo told r.stand.store (v ∷ left) old o) is opened in
     subst (λ (v : Visit). AnswersBy (λ (x : Unit {0}) behind. IsOpenedTo told r.stand.store left new behind) c.visit_link.result (visit r v o)) (sym is)
-    (link_answered told r.stand.store e left old new o c.visit_link.result (visit r (ToKey e) o) fits before refl c.visit_link.ensures.others (c.visit_link.ensures.answer told r o of_log fits.1 before.keys))
+    (link_answered told r.stand.store e left old new o c.visit_link.result (visit r (ToKey e) o) fits before refl c.visit_link.ensures.others (c.visit_link.ensures.answer told r o (link_told c.args.state.now (g.R.Records.log c.args.records.now) r e (plain_link c.link_for-found.result) of_log c.link_for-found.ensures.found) fits.1 before.keys))

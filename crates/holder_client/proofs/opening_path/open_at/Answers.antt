@@ -1,8 +1,7 @@
-use Rattle.std.proofs.Common.{◌≡◌, List, Option, Err, map, filter, sym, ap, subst, ◌∙◌}
+use Rattle.std.proofs.Common.{◌≡◌, Option, Err, map, filter, sym, ap, subst, ◌∙◌}
 use Rattle.std.specs.Prelude.{option_map}
 use Rattle.std.specs.List.{flat_map}
 use Rattle.std.proofs.lemmas.Result.{err_from_is_err_and}
-use Rattle.commit_journal.specs.declared.placed.Placed.{Placed}
 use Rattle.cry_base.specs.Store.{Store}
 use Rattle.cry_base.specs.declared.client.Line.{Line as Shown}
 use Rattle.folder_nodes.specs.Bare.{file_of_row}
@@ -11,7 +10,6 @@ use Rattle.holder_client.specs.Answering.{IsFailure}
 use Rattle.holder_client.specs.Asking.{file_with, line_at}
 use Rattle.holder_client.specs.Beside.{is_row_beside}
 use Rattle.holder_client.specs.Filed.{file_stops}
-use Rattle.holder_client.specs.Holding.{IsReadingOf}
 use Rattle.holder_client.specs.Judging.{Unseen, who_of}
 use Rattle.holder_client.specs.Lines.{plain_line}
 use Rattle.holder_client.specs.View.{Line}
@@ -22,33 +20,31 @@ use Rattle.role_graph.specs.Rights.{Who}
 use Rattle.holder_client.proofs.opening_path.open_at.Goals as goal
 
 pub returns-in_err-ring-clause-answer : goal.returns-in_err-ring-clause-answer
-returns-in_err-ring-clause-answer c = λ r of_log may.
+returns-in_err-ring-clause-answer g c = λ shown r of_log may.
     let p = err_from_is_err_and c.from_residual-in_err-ring.result c.from_residual-in_err-ring.ensures.1 in
     let state = c.args.state.now in
     let bare = r.stand.store in
     let who = who_of c.args.bundle.now in
     let path = c.args.path.now in
-    let reading : IsReadingOf state c.in_ok-indexed.indexed r = subst (λ (log : List Placed). IsReadingOf state log r) (sym c.in_ok-indexed.ensures) of_log in
     let tree = seen_tree state r.stand of_log.1 c.in_ok-seen.ensures.tree in
     let listed : AreSights bare who c.in_ok-seen.seen.items =
     subst (λ (w : Who). AreSights bare w c.in_ok-seen.seen.items) c.viewer_of.ensures (c.in_ok-seen.ensures.sights r.stand of_log.1 (subst (λ (w : Who). MayRead bare w) (sym c.viewer_of.ensures) may))
     in
     let seen = subst (AreSights bare who) (sym c.as_slice.ensures.value) listed in
-    rw (p.1, p.2) (names_fail_path c.args.bundle.now path r c.in_err-ring.field-0.0 (c.in_err-ring.ensures.answer r reading tree seen))
+    rw (p.1, p.2) (names_fail_path c.args.bundle.now path r c.in_err-ring.field-0.0 (c.in_err-ring.ensures.answer shown r of_log tree seen))
 
 pub returns-in-Some-clause-answer : goal.returns-in-Some-clause-answer
-returns-in-Some-clause-answer c = λ r of_log may.
+returns-in-Some-clause-answer g c = λ shown r of_log may.
     let state = c.args.state.now in
     let bare = r.stand.store in
     let who = who_of c.args.bundle.now in
     let path = c.args.path.now in
-    let reading : IsReadingOf state c.in_ok-indexed.indexed r = subst (λ (log : List Placed). IsReadingOf state log r) (sym c.in_ok-indexed.ensures) of_log in
     let tree = seen_tree state r.stand of_log.1 c.in_ok-seen.ensures.tree in
     let listed : AreSights bare who c.in_ok-seen.seen.items =
     subst (λ (w : Who). AreSights bare w c.in_ok-seen.seen.items) c.viewer_of.ensures (c.in_ok-seen.ensures.sights r.stand of_log.1 (subst (λ (w : Who). MayRead bare w) (sym c.viewer_of.ensures) may))
     in
     let seen = subst (AreSights bare who) (sym c.as_slice.ensures.value) listed in
-    let a = c.in_ok-ring.ensures.answer r reading tree seen in
+    let a = c.in_ok-ring.ensures.answer shown r of_log tree seen in
     let folders : bare.folders ≡ c.shape-shape.result.now.tree.folders = ap (λ (s : Store). s.folders) of_log.1.store ∙ ap (λ (t : Store). t.folders) (sym c.shape-shape.ensures) in
     let t = tree_store c.shape-shape.result.now.tree c.in_ok-ring.field-0.names in
     let found : Option Line = option_map plain_line c.in_ok-line.field-0 in
@@ -58,19 +54,18 @@ returns-in-Some-clause-answer c = λ r of_log may.
     names ∙ first_line found (plain_line c.in-Some.line) (file_with r a.0 who path) (ap (option_map plain_line) c.in-Some.is)
 
 pub returns-in_err-files-clause-answer : goal.returns-in_err-files-clause-answer
-returns-in_err-files-clause-answer c = λ r of_log may.
+returns-in_err-files-clause-answer g c = λ shown r of_log may.
     let p = err_from_is_err_and c.from_residual-in_err-files.result c.from_residual-in_err-files.ensures.1 in
     let state = c.args.state.now in
     let bare = r.stand.store in
     let who = who_of c.args.bundle.now in
     let path = c.args.path.now in
-    let reading : IsReadingOf state c.in_ok-indexed.indexed r = subst (λ (log : List Placed). IsReadingOf state log r) (sym c.in_ok-indexed.ensures) of_log in
     let tree = seen_tree state r.stand of_log.1 c.in_ok-seen.ensures.tree in
     let listed : AreSights bare who c.in_ok-seen.seen.items =
     subst (λ (w : Who). AreSights bare w c.in_ok-seen.seen.items) c.viewer_of.ensures (c.in_ok-seen.ensures.sights r.stand of_log.1 (subst (λ (w : Who). MayRead bare w) (sym c.viewer_of.ensures) may))
     in
     let seen = subst (AreSights bare who) (sym c.as_slice.ensures.value) listed in
-    let a = c.in_ok-ring.ensures.answer r reading tree seen in
+    let a = c.in_ok-ring.ensures.answer shown r of_log tree seen in
     let folders : bare.folders ≡ c.shape-shape.result.now.tree.folders = ap (λ (s : Store). s.folders) of_log.1.store ∙ ap (λ (t : Store). t.folders) (sym c.shape-shape.ensures) in
     let t = tree_store c.shape-shape.result.now.tree c.in_ok-ring.field-0.names in
     let found : Option Line = option_map plain_line c.in_ok-line.field-0 in
@@ -87,21 +82,20 @@ returns-in_err-files-clause-answer c = λ r of_log may.
     in
     rw (p.1, p.2)
     (subst (IsFailure c.in_err-files.field-0.0) (sym passed)
-    (files_fail_path r a.0 who path (flat_map file_stops c.as_slice-4.result.now) c.in_err-files.field-0.0 stops (c.in_err-files.ensures.answer r a.0 bare c.in_ok-ring.field-0.names reading a.2.0 a.2.1)))
+    (files_fail_path r a.0 who path (flat_map file_stops c.as_slice-4.result.now) c.in_err-files.field-0.0 stops (c.in_err-files.ensures.answer (g.met.R.Records.still_shows c.args.records.now c.args.source.now c.open_names.new.source c.in_ok-ring.ensures.stays shown) r a.0 bare c.in_ok-ring.field-0.names of_log a.2.0 a.2.1)))
 
 pub returns-in-Some-2-clause-answer : goal.returns-in-Some-2-clause-answer
-returns-in-Some-2-clause-answer c = λ r of_log may.
+returns-in-Some-2-clause-answer g c = λ shown r of_log may.
     let state = c.args.state.now in
     let bare = r.stand.store in
     let who = who_of c.args.bundle.now in
     let path = c.args.path.now in
-    let reading : IsReadingOf state c.in_ok-indexed.indexed r = subst (λ (log : List Placed). IsReadingOf state log r) (sym c.in_ok-indexed.ensures) of_log in
     let tree = seen_tree state r.stand of_log.1 c.in_ok-seen.ensures.tree in
     let listed : AreSights bare who c.in_ok-seen.seen.items =
     subst (λ (w : Who). AreSights bare w c.in_ok-seen.seen.items) c.viewer_of.ensures (c.in_ok-seen.ensures.sights r.stand of_log.1 (subst (λ (w : Who). MayRead bare w) (sym c.viewer_of.ensures) may))
     in
     let seen = subst (AreSights bare who) (sym c.as_slice.ensures.value) listed in
-    let a = c.in_ok-ring.ensures.answer r reading tree seen in
+    let a = c.in_ok-ring.ensures.answer shown r of_log tree seen in
     let folders : bare.folders ≡ c.shape-shape.result.now.tree.folders = ap (λ (s : Store). s.folders) of_log.1.store ∙ ap (λ (t : Store). t.folders) (sym c.shape-shape.ensures) in
     let t = tree_store c.shape-shape.result.now.tree c.in_ok-ring.field-0.names in
     let found : Option Line = option_map plain_line c.in_ok-line.field-0 in
@@ -116,7 +110,7 @@ returns-in-Some-2-clause-answer c = λ r of_log may.
     let stops = stops_beside c.shape-shape.result.now.tree bare a.0.store c.in_ok-ring.field-0.names who c.as_slice-3.result.now rows path folders tree beside is a.2.1
     ∙ ap (flat_map file_stops) (sym chosen)
     in
-    let b = c.in_ok-files.ensures.answer r a.0 bare c.in_ok-ring.field-0.names reading a.2.0 a.2.1 in
+    let b = c.in_ok-files.ensures.answer (g.met.R.Records.still_shows c.args.records.now c.args.source.now c.open_names.new.source c.in_ok-ring.ensures.stays shown) r a.0 bare c.in_ok-ring.field-0.names of_log a.2.0 a.2.1 in
     let held : Option Line = option_map plain_line c.in_ok-line-2.field-0 in
     let files = files_pass_path r a.0 b.0 who path (flat_map file_stops c.as_slice-4.result.now) held stops b.1
     (c.in_ok-line-2.ensures ∙ ap (line_at path)
@@ -125,18 +119,17 @@ returns-in-Some-2-clause-answer c = λ r of_log may.
     passed ∙ files ∙ first_line held (plain_line c.in-Some-2.line) (Err Unseen) (ap (option_map plain_line) c.in-Some-2.is)
 
 pub returns-clause-answer : goal.returns-clause-answer
-returns-clause-answer c = λ r of_log may.
+returns-clause-answer g c = λ shown r of_log may.
     let state = c.args.state.now in
     let bare = r.stand.store in
     let who = who_of c.args.bundle.now in
     let path = c.args.path.now in
-    let reading : IsReadingOf state c.in_ok-indexed.indexed r = subst (λ (log : List Placed). IsReadingOf state log r) (sym c.in_ok-indexed.ensures) of_log in
     let tree = seen_tree state r.stand of_log.1 c.in_ok-seen.ensures.tree in
     let listed : AreSights bare who c.in_ok-seen.seen.items =
     subst (λ (w : Who). AreSights bare w c.in_ok-seen.seen.items) c.viewer_of.ensures (c.in_ok-seen.ensures.sights r.stand of_log.1 (subst (λ (w : Who). MayRead bare w) (sym c.viewer_of.ensures) may))
     in
     let seen = subst (AreSights bare who) (sym c.as_slice.ensures.value) listed in
-    let a = c.in_ok-ring.ensures.answer r reading tree seen in
+    let a = c.in_ok-ring.ensures.answer shown r of_log tree seen in
     let folders : bare.folders ≡ c.shape-shape.result.now.tree.folders = ap (λ (s : Store). s.folders) of_log.1.store ∙ ap (λ (t : Store). t.folders) (sym c.shape-shape.ensures) in
     let t = tree_store c.shape-shape.result.now.tree c.in_ok-ring.field-0.names in
     let found : Option Line = option_map plain_line c.in_ok-line.field-0 in
@@ -151,7 +144,7 @@ returns-clause-answer c = λ r of_log may.
     let stops = stops_beside c.shape-shape.result.now.tree bare a.0.store c.in_ok-ring.field-0.names who c.as_slice-3.result.now rows path folders tree beside is a.2.1
     ∙ ap (flat_map file_stops) (sym chosen)
     in
-    let b = c.in_ok-files.ensures.answer r a.0 bare c.in_ok-ring.field-0.names reading a.2.0 a.2.1 in
+    let b = c.in_ok-files.ensures.answer (g.met.R.Records.still_shows c.args.records.now c.args.source.now c.open_names.new.source c.in_ok-ring.ensures.stays shown) r a.0 bare c.in_ok-ring.field-0.names of_log a.2.0 a.2.1 in
     let held : Option Line = option_map plain_line c.in_ok-line-2.field-0 in
     let files = files_pass_path r a.0 b.0 who path (flat_map file_stops c.as_slice-4.result.now) held stops b.1
     (c.in_ok-line-2.ensures ∙ ap (line_at path)

@@ -1,4 +1,6 @@
+use Rattle.std.proofs.Common.{sym, ◌∙◌}
 use Rattle.std.proofs.lemmas.Result.{err_from_is_err_and}
+use Rattle.commit_journal.proofs.Walked.{only_read_twice}
 use Rattle.holder_client.proofs.Besides.{log_fails_path, log_read_path}
 use Rattle.holder_client.proofs.opening_path.open_path.Goals as goal
 
@@ -7,6 +9,13 @@ returns-in_err-log-clause-verdict g c = λ s is.
     let p = err_from_is_err_and c.from_residual.result c.from_residual.ensures.1 in
     rw (p.1, p.2) (log_fails_path c.args.bundle.now c.args.path.now s c.in_err-log.field-0.0 (c.in_err-log.ensures.verdict s is))
 
+pub open_path-requires-clause-shows : goal.open_path-requires-clause-shows
+open_path-requires-clause-shows g c = λ s is. c.in_ok-log.ensures.shows s (sym c.in_ok-log.ensures.read_only.same_bytes ∙ is)
+
 pub returns-clause-verdict : goal.returns-clause-verdict
 returns-clause-verdict g c = λ s is.
-    log_read_path c.args.bundle.now c.args.path.now s c.in_ok-log.log c.as_slice.result.now c.open_log.result (c.in_ok-log.ensures.verdict s is) c.as_slice.ensures c.open_log.ensures.answer
+    log_read_path c.args.bundle.now c.args.path.now s c.in_ok-log.field-0.log.given c.open_path.result (c.in_ok-log.ensures.verdict s is) (c.open_path.ensures.answer s (c.in_ok-log.ensures.read_only.same_bytes ∙ is))
+
+pub returns-clause-read_only : goal.returns-clause-read_only
+returns-clause-read_only g c =
+    only_read_twice g.D.Disk.shown g.D.Disk.size_of g.D.Disk.may_leave c.args.disk.now c.read_log.new.disk c.open_path.new.disk c.in_ok-log.ensures.read_only c.open_path.ensures.read_only

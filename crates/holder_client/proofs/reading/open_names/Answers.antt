@@ -17,15 +17,15 @@ use Rattle.role_graph.specs.Rights.{Who}
 use Rattle.holder_client.proofs.reading.open_names.Goals as goal
 
 pub visit_each-requires-clause-kinds : goal.visit_each-requires-clause-kinds
-visit_each-requires-clause-kinds c =
+visit_each-requires-clause-kinds g c =
     subst (λ (l : List Listed). AllByRecursion HasItsKind (map plain_visit l)) (sym c.as_slice.ensures.value)
     (for_kinds everyone (map plain_visit c.in_ok-visits.visits.items) (c.in_ok-visits.ensures.told everyone (tells_all c.viewer_of.result)))
 
 pub visit_each-requires-clause-sized : goal.visit_each-requires-clause-sized
-visit_each-requires-clause-sized c = unnamed_sized c.new.result c.new.ensures.files
+visit_each-requires-clause-sized g c = unnamed_sized c.new.result c.new.ensures.files
 
 pub returns-clause-answer : goal.returns-clause-answer
-returns-clause-answer c = λ r of_log tree sights.
+returns-clause-answer g c = λ shown r of_log tree sights.
     let state = c.args.state.now in
     let bare = r.stand.store in
     let who = who_of c.args.bundle.now in
@@ -40,4 +40,4 @@ returns-clause-answer c = λ r of_log tree sights.
     let fit = subst (λ l. AllByRecursion (IsFor everyone) l) (sym same) (c.in_ok-visits.ensures.told everyone (tells_all c.viewer_of.result)) in
     let opening = names_begin c.args.bundle.now r visits view (seen_nameless state r.stand of_log.1 c.requires.nameless) c.first_ring.ensures.keys c.new.ensures.folders c.new.ensures.files in
     subst (λ (l : List Visit). AnswersBy (λ (x : OwnersView) o. IsNamedBy bare x o) c.visit_each.result (visit_all r l begun)) is
-    (names_end bare c.visit_each.result (visit_all r visits begun) (c.visit_each.ensures.answer everyone r begun fit of_log opening))
+    (names_end bare c.visit_each.result (visit_all r visits begun) (c.visit_each.ensures.answer shown everyone r begun fit of_log opening))

@@ -1,15 +1,13 @@
-use Rattle.holder_client.proofs.Lasts.{more_log_contents, more_log_links, nothing_indexed}
+use Rattle.std.proofs.Common.{◌≡◌, ◌≤◌, length, map, take, ◌∙◌, arith}
+use Rattle.std.proofs.lemmas.List.{length-map, length-take-le}
+use Rattle.commit_journal.specs.Placed.{plain_placed}
+use Rattle.holder_client.proofs.Lasts.{index_more}
 use Rattle.holder_client.proofs.indexed_log.IndexedLog.of.Goals as goal
 
-pub loop-placed-init : goal.loop-placed-init
-loop-placed-init c = nothing_indexed c.new-links.result c.new-contents.result c.new-links.ensures.empty c.new-contents.ensures.empty
-
-pub loop-placed-preserved : goal.loop-placed-preserved
-loop-placed-preserved c =
+pub loop-position-preserved : goal.loop-position-preserved
+loop-position-preserved c =
     let log = c.args.log.now in
-    let i = c.loop-placed.placed-index in
-    let placed = c.placed-item.result in
-    record {
-      last_links = more_log_links c.note_links_of.new.last log i placed c.loop-placed-test.true c.placed-item.is (c.in_ok-note_links_of.ensures _ c.loop-placed.invariant.last_links);
-      last_contents = more_log_contents c.note_contents_of.new.last log i placed c.loop-placed-test.true c.placed-item.is (c.in_ok-note_contents_of.ensures _ c.loop-placed.invariant.last_contents);
-    }
+    let i = c.loop-position.position in
+    let within : i ≤ length log = omega (arith, c.loop-position-test.true) in
+    let long : length (map plain_placed (take i log)) ≡ i = length-map (take i log) plain_placed ∙ length-take-le i log within in
+    index_more c.note.new.self log i c.index-log-position.result c.loop-position-test.true c.index-log-position.is (c.in_ok-note.ensures (map plain_placed (take i log)) long c.loop-position.invariant)

@@ -1,6 +1,7 @@
-use Rattle.std.proofs.Common.{take}
-use Rattle.holder_client.specs.Indexed.{IsIndexed}
+use Rattle.std.proofs.Common.{map, take}
+use Rattle.commit_journal.specs.Placed.{plain_placed}
+use Rattle.holder_client.specs.Indexed.{IsIndexOf}
 use Rattle.holder_client.proofs.indexed_log.IndexedLog.of.Given as goal
 
-abbrev pub invariant-loop-placed : goal.invariant-loop-placed
-invariant-loop-placed l = IsIndexed l.links l.contents (take l.placed-index l.log)
+abbrev pub invariant-loop-position : goal.invariant-loop-position
+invariant-loop-position l = IsIndexOf l.index (map plain_placed (take l.position l.log))

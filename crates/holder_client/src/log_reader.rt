@@ -1,0 +1,96 @@
+//! Reads a log batch by batch (docs/FORMAT.md, "Reading").
+ghost use Rattle.std.specs.Prelude.{◌≡◌, ◌≢◌, ◌+◌, ◌≤◌, ◌++◌, [], ◌∷◌, Err, IfOk, List, Ok, OnOk, length};
+ghost use Rattle.commit_journal.specs.Logs.{AreInEpochs};
+ghost use Rattle.commit_journal.specs.Placed.{PlainPlaced, plain_placed};
+ghost use Rattle.commit_journal.specs.Places.{IsStanding};
+ghost use Rattle.holder_client.specs.Answering.{AnswersAsBy};
+ghost use Rattle.holder_client.specs.Holding.{IsReadingIn};
+ghost use Rattle.holder_client.specs.Indexed.{IsIndexOf};
+ghost use Rattle.holder_client.specs.Judging as spec;
+ghost use Rattle.holder_client.specs.Reads.{HasChecks, HasFolded, HasRead};
+ghost use Rattle.role_graph.specs.PublicStore.{GrantsStand};
+
+use crate::ClientFault;
+use crate::admission::{Checks, may_read, note_check};
+use crate::folding::take_batch;
+use crate::index::Index;
+use commit_journal::Placed;
+use cry_base::{Bundle, Mem, OutOfMemory};
+use public_fold::PublicState;
+use std::alloc::Global;
+use std::collections::HashMap;
+
+/// What a reading needs of a log, whose batches are added one after another: what stands in public after them, the last link
+/// of each head, where the last content of each head stands, and the holders' checks. It holds no payload. After a payload that
+/// doesn't fit it keeps the place of that alone.
+#[derive(Drop)]
+pub struct Reader {
+    pub(crate) index: Index,
+    pub(crate) state: PublicState,
+    pub(crate) checks: Checks,
+    /// The place of the first payload that doesn't fit what stands before it.
+    pub(crate) misfit: Option<u64>,
+}
+
+impl Reader {
+    /// A reader to which no batch was added.
+    pub fn new(alloc: Global) -> Mem<Reader>
+        ensures { IfOk result (λ reader. HasRead reader []) }
+    {
+        let state = PublicState::new(alloc)?;
+        Ok(Reader {
+            index: Index::new(alloc),
+            state,
+            checks: HashMap::new(alloc),
+            misfit: None,
+        })
+    }
+
+    /// Adds the next batch. After `Err` the reader is that of no log, and of no more use.
+    pub fn add(&mut self, alloc: Global, placed: &Placed) -> Mem<()>
+        requires stands { IsStanding placed.now }
+        requires next { (log : List PlainPlaced) × HasRead self.old log × AreInEpochs 0 (log ++ plain_placed placed.now ∷ []) × (placed.now.batch ≡ length log + 1) }
+        ensures { OnOk result ((log : List PlainPlaced) → HasRead self.old log → AreInEpochs 0 (log ++ plain_placed placed.now ∷ []) → placed.now.batch ≡ length log + 1 →
+            HasRead self.new (log ++ plain_placed placed.now ∷ [])) }
+    {
+        let _number = placed.batch;
+        if self.misfit.is_some() {
+            return Ok(());
+        }
+        match take_batch(alloc, &mut self.state, placed) {
+            Ok(()) => self.keep(placed),
+            Err(ClientFault::Damaged { at }) => {
+                self.misfit = Some(at);
+                Ok(())
+            }
+            Err(_) => Err(OutOfMemory),
+        }
+    }
+
+    /// Keeps what a reading needs of a batch that fits.
+    fn keep(&mut self, placed: &Placed) -> Mem<()>
+        requires stands { IsStanding placed.now }
+        requires from_one { 1 ≤ placed.now.batch }
+        ensures kept { OnOk result ((log : List PlainPlaced) → placed.now.batch ≡ length log + 1 → IsIndexOf self.old.index log → HasChecks self.old.checks log →
+            IsIndexOf self.new.index (log ++ plain_placed placed.now ∷ []) × HasChecks self.new.checks (log ++ plain_placed placed.now ∷ [])) }
+        ensures state { self.new.state ≡ self.old.state }
+        ensures misfit { self.new.misfit ≡ self.old.misfit }
+    {
+        note_check(&mut self.checks, placed)?;
+        self.index.note(placed.batch as usize - 1, placed)
+    }
+
+    /// Whether the bundle's key may read the batches that were added: first all of them have to fit.
+    pub(crate) fn admit(&self, bundle: &Bundle) -> Result<(), ClientFault>
+        ensures answer { (log : List PlainPlaced) → HasRead self.now log →
+            AnswersAsBy (λ _ r. IsReadingIn self.now.state log r × GrantsStand r.stand.store) result (spec.read_with bundle.now (Ok log)) }
+        ensures folded { OnOk result ((log : List PlainPlaced) → HasRead self.now log → HasFolded self.now log) }
+        ensures seen { result ≢ Err ClientFault.Unseen }
+        ensures no_disk { result ≢ Err ClientFault.DiskFault }
+    {
+        if let Some(at) = self.misfit {
+            return Err(ClientFault::Damaged { at });
+        }
+        may_read(bundle, &self.checks, &self.state)
+    }
+}

@@ -1,0 +1,72 @@
+//! A log that was read batch by batch, and its index: contents are read from the disk once more.
+use crate::ClientFault;
+use crate::index::Index;
+use crate::last_links::FoundLink;
+use crate::records::{FoundContent, Records, content_at};
+use commit_journal::PublicLog;
+use cry_base::Edge;
+use cry_io::Disk;
+use public_fold::PublicState;
+use std::alloc::Global;
+use std::marker::Model;
+
+/// A log on a disk, whose last link and last content of each head are found without a walk over it. Contracts see the log as far
+/// as it was read.
+#[derive(Drop)]
+pub(crate) struct StreamedLog<'a> {
+    pub(crate) log: &'a PublicLog,
+    pub(crate) index: &'a Index,
+}
+
+impl<'a> Model for StreamedLog<'a> {
+    ghost use Rattle.std.specs.Prelude.{◌<◌, ◌^◌, length};
+    ghost use Rattle.commit_journal.specs.Streaming.{LogState};
+    ghost use Rattle.holder_client.specs.Indexed.{IsIndexOf};
+
+    ghost Value = { LogState };
+
+    ghost view = { λ l. l.log.now };
+
+    ghost invariant = { λ l. IsIndexOf l.index.now l.log.now.given × (length l.log.now.given < 2 ^ 32) };
+}
+
+impl<'a, D: Disk> Records<D> for StreamedLog<'a> {
+    ghost use Rattle.std.specs.Prelude.{◌≡◌, ◌≤◌, ℕ, List, Some};
+    ghost use Rattle.commit_journal.specs.Reading.{IsOnlyRead};
+    ghost use Rattle.commit_journal.specs.Streaming.{ShowsGiven};
+    ghost use Rattle.holder_client.specs.Rereading.{only_read_on, only_read_still, still_shown};
+
+    ghost log = { λ l. l.given };
+
+    ghost shows = { λ l disk. (s : List ℕ) × (D.shown disk ≡ Some s) × ShowsGiven l s };
+
+    ghost stays = { λ a b. IsOnlyRead D.shown D.size_of D.may_leave a b × (D.faults a ≤ D.faults b) };
+
+    ghost faults = { D.faults };
+
+    fn link_for(&self, state: &PublicState, edge: &Edge) -> Option<FoundLink> {
+        self.index.link_for(state, edge)
+    }
+
+    fn content_for(
+        &self,
+        alloc: Global,
+        source: &mut D,
+        kind: u8,
+        object: u32,
+    ) -> Result<Option<FoundContent>, ClientFault> {
+        let Some(spot) = self.index.spot_for(kind, object) else {
+            return Ok(None);
+        };
+        let placed = self.log.again(alloc, source, spot.position as u32 + 1)?;
+        Ok(Some(content_at(alloc, &placed, &spot, kind, object)?))
+    }
+
+    ghost same = { λ a. only_read_still D.shown D.size_of D.may_leave D.faults a };
+
+    ghost twice = { λ a b c. only_read_on D.shown D.size_of D.may_leave D.faults a b c };
+
+    ghost still_shows = { λ l a b. still_shown D.shown D.size_of D.may_leave D.faults l a b };
+
+    ghost counts = { λ _ _ kept. kept.1 };
+}
