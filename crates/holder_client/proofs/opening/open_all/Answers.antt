@@ -9,7 +9,7 @@ use Rattle.holder_client.specs.Holding.{IsReadingOf}
 use Rattle.holder_client.specs.Opening.{HasItsKind, IsFor, IsOpenedBy, IsOpenedTo, is_no_holders, plain_visit}
 use Rattle.holder_client.specs.Visiting.{Opened, visit_all}
 use Rattle.holder_client.specs.Visits.{Visit, all_visits, holder_visits}
-use Rattle.holder_client.proofs.Opens.{answered, for_kinds, opening_begins}
+use Rattle.holder_client.proofs.Opens.{alone_present, answered, for_kinds, opening_begins}
 use Rattle.holder_client.proofs.OwnerVisits.{seen_nameless}
 use Rattle.holder_client.proofs.Sized.{unnamed_sized}
 use Rattle.role_graph.specs.Rights.Who.{TheOwner}
@@ -40,3 +40,6 @@ visit_each-requires-clause-sized c = unnamed_sized c.new-2.result c.new-2.ensure
 pub visit_each-requires-clause-kinds : goal.visit_each-requires-clause-kinds
 visit_each-requires-clause-kinds c =
     subst (λ (l : List Listed). AllByRecursion HasItsKind (map plain_visit l)) (sym c.as_slice.ensures.value) (for_kinds is_no_holders (map plain_visit c.in_ok-visits.visits.items) c.in_ok-visits.ensures.owners)
+
+pub visit_each-requires-clause-keys : goal.visit_each-requires-clause-keys
+visit_each-requires-clause-keys c = alone_present c.args.state.now.keys.keys c.new.result Owner c.args.owner c.new.ensures c.requires.owner
