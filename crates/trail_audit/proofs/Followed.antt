@@ -130,6 +130,11 @@ found_first links bundle keys is = subst (AreFoundSoFar links bundle 0) (sym is)
   followed = λ key i. absurd i;
 })
 
+pub first_kept : (key : KeyParts) (old new : List KeyParts) → old ≡ [] → IsKept key old new → new ≡ key ∷ []
+first_kept key old new none kept = ⊎_elim
+    (λ (k : In key old × (new ≡ old)). absurd (subst (In key) none k.0))
+    (λ (k : (In key old → ⊥) × (new ≡ old ++ key ∷ [])). k.1 ∙ ap (λ (ks : List KeyParts). ks ++ key ∷ []) none) kept
+
 still_followed : (links : List PlacedLink) (key : KeyParts) (old more new : List KeyParts) → new ≡ old ++ more → AreFollowed links key old → AreFollowed links key new
 still_followed links key old more new is followed = λ l i begins.
     let f = followed l i begins in

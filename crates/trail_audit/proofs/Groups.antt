@@ -122,3 +122,13 @@ opened_of_group c keys group is opened = λ key i sealed. opened key (subst (In 
 
 pub among_keys : (c : PlacedContent) (keys group : List KeyParts) → group ≡ filter (of_content c) keys → (key : KeyParts) → In key group → In key keys
 among_keys c keys group is key i = (In-filter KeyParts (of_content c) key keys (subst (In key) is i)).0
+
+abbrev of_key_of : KeyParts → KeyParts → Bool
+of_key_of key other = same_sources (key_source key) (key_source other)
+
+-- a key is among others where it is in its own group of them
+pub from_its_group : (key : KeyParts) (keys group : List KeyParts) → group ≡ filter (of_key_of key) keys → In key group → In key keys
+from_its_group key keys group is i = (In-filter KeyParts (of_key_of key) key keys (subst (In key) is i)).0
+
+pub in_its_group : (key : KeyParts) (keys group : List KeyParts) → group ≡ filter (of_key_of key) keys → In key keys → In key group
+in_its_group key keys group is i = subst (In key) (sym is) (filter-In KeyParts (of_key_of key) key keys i (is_same (key_source key) (key_source key) refl))

@@ -2,7 +2,7 @@
 ghost use Rattle.std.specs.Prelude.{◌≡◌, ◌↔◌, [], ◌∷◌, IfErr, IfOk, IsTrue, List as TheList, OnOk};
 ghost use Rattle.cry_base.specs.Sets.{In};
 ghost use Rattle.holder_client.specs.Placing.{PlacedLink};
-ghost use Rattle.trail_audit.specs.Grouped.{HasGroups, source_of_link};
+ghost use Rattle.trail_audit.specs.Grouped.{HasGroups, key_source, source_of_link};
 ghost use Rattle.trail_audit.specs.Records.{IsTagged};
 ghost use Rattle.trail_audit.specs.Records.PlainRecord.{ALink};
 ghost use Rattle.trail_audit.specs.Right.{target_of};
@@ -18,6 +18,13 @@ use record_format::link_header;
 use std::alloc::Global;
 use std::collections::HashMap;
 
+/// The keys found so far, in the order in which they were found, and again in groups by their numbers and serials.
+#[derive(Drop)]
+struct KnownKeys {
+    keys: List<RightKey>,
+    groups: HashMap<Source, List<RightKey>>,
+}
+
 /// Whether the key stands among the keys, with the same bytes.
 fn has_key(keys: &[RightKey], key: &RightKey) -> bool
     ensures { IsTrue result ↔ In key.now keys.now }
@@ -30,14 +37,18 @@ fn has_key(keys: &[RightKey], key: &RightKey) -> bool
     false
 }
 
-/// Adds a key, where it isn't there.
-fn keep_key(keys: &mut List<RightKey>, key: RightKey) -> Mem<()>
-    ensures { OnOk result (IsKept key keys.old.items keys.new.items) }
+/// Adds a key, where it isn't there, and walks over the keys of its number and serial alone.
+fn keep_key(alloc: Global, known: &mut KnownKeys, key: RightKey) -> Mem<()>
+    requires grouped { HasGroups key_source known.old.groups known.old.keys.items }
+    ensures kept { OnOk result (IsKept key known.old.keys.items known.new.keys.items) }
+    ensures grouped { OnOk result (HasGroups key_source known.new.groups known.new.keys.items) }
 {
-    if has_key(keys.as_slice(), &key) {
+    if has_key(group_of(&known.groups, key.source()), &key) {
         return Ok(());
     }
-    keys.push(key)
+    add_under(&mut known.groups, alloc, key.source(), key)?;
+    known.keys.push(key)?;
+    Ok(())
 }
 
 /// The key that a link leads to from the key at which it begins. `Tampered` comes exactly where its tag is wrong.
@@ -69,32 +80,38 @@ fn open_link(found: &LinkAt<'_>, key: &RightKey) -> Result<RightKey, ClientFault
 
 /// Follows a link from a key, where it begins there.
 fn follow_link(
+    alloc: Global,
     found: &LinkAt<'_>,
     key: &RightKey,
-    keys: &mut List<RightKey>,
+    known: &mut KnownKeys,
 ) -> Result<(), ClientFault>
-    ensures grown { OnOk result (IsGrown (found.now ∷ []) key.now keys.old.items keys.new.items) }
+    requires grouped { HasGroups key_source known.old.groups known.old.keys.items }
+    ensures grown { OnOk result (IsGrown (found.now ∷ []) key.now known.old.keys.items known.new.keys.items) }
+    ensures grouped { OnOk result (HasGroups key_source known.new.groups known.new.keys.items) }
     ensures fault { IfErr result (TagFault (found.now ∷ []) key.now) }
 {
     if !key.begins(found.link) {
         return Ok(());
     }
     let target = open_link(found, key)?;
-    keep_key(keys, target)?;
+    keep_key(alloc, known, target)?;
     Ok(())
 }
 
 /// Follows each of the links that begins at a key.
 fn follow_links(
+    alloc: Global,
     links: &[LinkAt<'_>],
     key: &RightKey,
-    keys: &mut List<RightKey>,
+    known: &mut KnownKeys,
 ) -> Result<(), ClientFault>
-    ensures grown { OnOk result (IsGrown links.now key.now keys.old.items keys.new.items) }
+    requires grouped { HasGroups key_source known.old.groups known.old.keys.items }
+    ensures grown { OnOk result (IsGrown links.now key.now known.old.keys.items known.new.keys.items) }
+    ensures grouped { OnOk result (HasGroups key_source known.new.groups known.new.keys.items) }
     ensures fault { IfErr result (TagFault links.now key.now) }
 {
     for found in links {
-        follow_link(found, key, keys)?;
+        follow_link(alloc, found, key, known)?;
     }
     Ok(())
 }
@@ -112,14 +129,19 @@ fn by_source<'a>(alloc: Global, links: &[LinkAt<'a>]) -> Mem<HashMap<Source, Lis
 
 /// Follows each link that begins at a key, and walks over no other.
 fn follow_from(
+    alloc: Global,
     groups: &HashMap<Source, List<LinkAt<'_>>>,
     key: &RightKey,
-    keys: &mut List<RightKey>,
+    known: &mut KnownKeys,
 ) -> Result<(), ClientFault>
-    ensures grown { OnOk result ((links : TheList PlacedLink) → HasGroups source_of_link groups.now links → IsGrown links key.now keys.old.items keys.new.items) }
-    ensures fault { IfErr result (λ fault. (links : TheList PlacedLink) → HasGroups source_of_link groups.now links → TagFault links key.now fault) }
+    requires grouped { HasGroups key_source known.old.groups known.old.keys.items }
+    ensures grown { OnOk result ((links : TheList PlacedLink) → HasGroups source_of_link groups.now links →
+        IsGrown links key.now known.old.keys.items known.new.keys.items) }
+    ensures grouped { OnOk result (HasGroups key_source known.new.groups known.new.keys.items) }
+    ensures fault { IfErr result (λ fault. (links : TheList PlacedLink) → HasGroups source_of_link groups.now links →
+        TagFault links key.now fault) }
 {
-    follow_links(group_of(groups, key.source()), key, keys)
+    follow_links(alloc, group_of(groups, key.source()), key, known)
 }
 
 /// The keys to which the links lead from the bundle's, each once, and the bundle's own. `Tampered` comes only for a link that
@@ -133,13 +155,16 @@ pub(crate) fn right_keys(
     ensures fault { IfErr result (LinkFault links.now bundle) }
 {
     let groups = by_source(alloc, links)?;
-    let mut keys = List::new(alloc);
-    keys.push(bundle)?;
+    let mut known = KnownKeys {
+        keys: List::new(alloc),
+        groups: HashMap::new(alloc),
+    };
+    keep_key(alloc, &mut known, bundle)?;
     let mut done = 0;
-    while done < keys.as_slice().len() {
-        let key = keys.as_slice()[done];
-        follow_from(&groups, &key, &mut keys)?;
+    while done < known.keys.as_slice().len() {
+        let key = known.keys.as_slice()[done];
+        follow_from(alloc, &groups, &key, &mut known)?;
         done += 1;
     }
-    Ok(keys)
+    Ok(known.keys)
 }

@@ -10,7 +10,7 @@ use Rattle.trail_audit.proofs.trails.follow_from.Goals as goal
 
 pub returns-clause-grown : goal.returns-clause-grown
 returns-clause-grown c = on_ok_weaker c.follow_links.result
-    (λ grown links has. grown_of_group links c.group_of.result.now c.args.key.now c.args.keys.now.items c.follow_links.new.keys.items
+    (λ grown links has. grown_of_group links c.group_of.result.now c.args.key.now c.args.known.now.keys.items c.follow_links.new.known.keys.items
     (c.group_of.ensures ∙ ap (λ s. items_of (get same_sources c.args.groups.now s)) c.source.ensures ∙ has.found (key_source c.args.key.now)) grown)
     c.follow_links.ensures.grown
 

@@ -4,12 +4,15 @@ use Rattle.trail_audit.proofs.Followed.{grown_by_all, grown_by_next, grown_by_no
 use Rattle.trail_audit.proofs.trails.follow_links.Goals as goal
 
 pub loop-found-init : goal.loop-found-init
-loop-found-init c = grown_by_none c.args.key.now c.args.keys.now.items
+loop-found-init c = record { grown = grown_by_none c.args.key.now c.args.known.now.keys.items; grouped = c.requires.grouped }
 
 pub loop-found-preserved : goal.loop-found-preserved
-loop-found-preserved c =
-    grown_by_next c.args.links.now c.loop-found.found-index c.found-item.result c.args.key.now c.args.keys.now.items c.loop-found.keys.items c.follow_link.new.keys.items
-    c.loop-found-test.true c.found-item.is c.loop-found.invariant c.in_ok-follow_link.ensures.grown
+loop-found-preserved c = record {
+  grown =
+      grown_by_next c.args.links.now c.loop-found.found-index c.found-item.result c.args.key.now c.args.known.now.keys.items c.loop-found.known.keys.items c.follow_link.new.known.keys.items
+      c.loop-found-test.true c.found-item.is c.loop-found.invariant.grown c.in_ok-follow_link.ensures.grown;
+  grouped = c.in_ok-follow_link.ensures.grouped;
+}
 
 pub returns-in_err-follow_link-clause-fault : goal.returns-in_err-follow_link-clause-fault
 returns-in_err-follow_link-clause-fault c =
@@ -19,4 +22,4 @@ returns-in_err-follow_link-clause-fault c =
 pub returns-clause-grown : goal.returns-clause-grown
 returns-clause-grown c =
     let past : length c.args.links.now ≤ c.loop-found.found-index = omega (arith, c.loop-found-test.false) in
-    grown_by_all c.args.links.now c.loop-found.found-index c.args.key.now c.args.keys.now.items c.loop-found.keys.items past c.loop-found.invariant
+    grown_by_all c.args.links.now c.loop-found.found-index c.args.key.now c.args.known.now.keys.items c.loop-found.known.keys.items past c.loop-found.invariant.grown

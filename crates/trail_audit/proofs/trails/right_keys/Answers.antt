@@ -1,32 +1,39 @@
-use Rattle.std.proofs.Common.{◌≡◌, ◌<◌, ◌≤◌, ◌∷◌, ◌++◌, [], List, get_or, length, ap, ◌∙◌, arith}
+use Rattle.std.proofs.Common.{◌≡◌, ◌<◌, ◌≤◌, List, get_or, length, ap, ◌∙◌, arith}
 use Rattle.std.proofs.lemmas.Result.{err_from_is_err_and}
 use Rattle.chacha_seal.specs.Keys.{KeyParts}
-use Rattle.trail_audit.proofs.Followed.{found_all, found_first, found_next, link_fault_under}
+use Rattle.trail_audit.proofs.Followed.{first_kept, found_all, found_first, found_next, link_fault_under}
 use Rattle.trail_audit.proofs.trails.right_keys.Goals as goal
 
 pub loop-done-init : goal.loop-done-init
-loop-done-init c = found_first c.args.links.now c.args.bundle c.push.new.self.items (c.in_ok-push.ensures.items ∙ ap (λ (ks : List KeyParts). ks ++ c.args.bundle ∷ []) c.new-keys.ensures)
+loop-done-init c = record {
+  found = found_first c.args.links.now c.args.bundle c.keep_key.new.known.keys.items
+      (first_kept c.args.bundle c.new.result.items c.keep_key.new.known.keys.items c.new.ensures c.in_ok-keep_key.ensures.kept);
+  grouped = c.in_ok-keep_key.ensures.grouped;
+}
 
 pub returns-in_err-follow_from-clause-fault : goal.returns-in_err-follow_from-clause-fault
 returns-in_err-follow_from-clause-fault c =
     let p = err_from_is_err_and c.from_residual-in_err-follow_from.result c.from_residual-in_err-follow_from.ensures.1 in
-    let keys = c.loop-done.keys.items in
+    let keys = c.loop-done.known.keys.items in
     let done = c.loop-done.done in
     let key = c.index-as_slice-done.result in
     let within : done < length keys = omega (arith, c.loop-done-test.true, ap length c.as_slice.ensures) in
     let is : key ≡ get_or keys done key = c.index-as_slice-done.is ∙ ap (λ (ks : List KeyParts). get_or ks done key) c.as_slice-in-loop-done.ensures in
-    rw (p.1, p.2) (link_fault_under c.args.links.now c.args.bundle key done keys c.in_err-follow_from.field-0.0 within is c.loop-done.invariant (c.in_err-follow_from.ensures.fault c.args.links.now c.in_ok-groups.ensures))
+    rw (p.1, p.2) (link_fault_under c.args.links.now c.args.bundle key done keys c.in_err-follow_from.field-0.0 within is c.loop-done.invariant.found (c.in_err-follow_from.ensures.fault c.args.links.now c.in_ok-groups.ensures))
 
 pub loop-done-preserved : goal.loop-done-preserved
 loop-done-preserved c =
-    let keys = c.loop-done.keys.items in
+    let keys = c.loop-done.known.keys.items in
     let done = c.loop-done.done in
     let key = c.index-as_slice-done.result in
     let within : done < length keys = omega (arith, c.loop-done-test.true, ap length c.as_slice.ensures) in
     let is : key ≡ get_or keys done key = c.index-as_slice-done.is ∙ ap (λ (ks : List KeyParts). get_or ks done key) c.as_slice-in-loop-done.ensures in
-    found_next c.args.links.now c.args.bundle done keys c.follow_from.new.keys.items key within is c.loop-done.invariant (c.in_ok-follow_from.ensures.grown c.args.links.now c.in_ok-groups.ensures)
+    record {
+      found = found_next c.args.links.now c.args.bundle done keys c.follow_from.new.known.keys.items key within is c.loop-done.invariant.found (c.in_ok-follow_from.ensures.grown c.args.links.now c.in_ok-groups.ensures);
+      grouped = c.in_ok-follow_from.ensures.grouped;
+    }
 
 pub returns-clause-keys : goal.returns-clause-keys
 returns-clause-keys c =
-    let past : length c.loop-done.keys.items ≤ c.loop-done.done = omega (arith, c.loop-done-test.false, ap length c.as_slice.ensures) in
-    found_all c.args.links.now c.args.bundle c.loop-done.done c.loop-done.keys.items past c.loop-done.invariant
+    let past : length c.loop-done.known.keys.items ≤ c.loop-done.done = omega (arith, c.loop-done-test.false, ap length c.as_slice.ensures) in
+    found_all c.args.links.now c.args.bundle c.loop-done.done c.loop-done.known.keys.items past c.loop-done.invariant.found

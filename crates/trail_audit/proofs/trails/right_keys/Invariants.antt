@@ -1,9 +1,13 @@
 use Rattle.std.proofs.Common.{◌-◌, ◌^◌}
+use Rattle.trail_audit.specs.Grouped.{HasGroups, key_source}
 use Rattle.trail_audit.proofs.Followed.{AreFoundSoFar}
 use Rattle.trail_audit.proofs.trails.right_keys.Given as goal
 
 abbrev pub invariant-loop-done : goal.invariant-loop-done
-invariant-loop-done l = AreFoundSoFar l.links l.fn.bundle l.done l.keys.items
+invariant-loop-done l = record {
+  found : AreFoundSoFar l.links l.fn.bundle l.done l.known.keys.items;
+  grouped : HasGroups key_source l.known.groups l.known.keys.items;
+}
 
 abbrev pub decreases-loop-done : goal.decreases-loop-done
 decreases-loop-done l = 2 ^ 64 - l.done
