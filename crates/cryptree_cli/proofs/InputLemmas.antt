@@ -7,7 +7,8 @@ use Rattle.cry_base.specs.Listed.{Listed}
 use Rattle.cry_base.specs.declared.client.Bundle.{Bundle}
 use Rattle.script_text.specs.Reading.{bundle_of}
 use Rattle.cryptree_cli.specs.Input.{IsBehindBundle, ReadsInput, TakesLines, bundle_before, bundle_in, input_answer}
-use Rattle.cryptree_cli.specs.Lines.{Gives, InputLine, IsCutOff, IsOneLine, IsUnended, LineState, Takes, bytes_ahead, input_limit, lines_ahead}
+use Rattle.script_text.specs.Cutting.{IsOneLine}
+use Rattle.cryptree_cli.specs.Lines.{Gives, InputLine, IsCutOff, IsUnended, LineState, Takes, bytes_ahead, input_limit, lines_ahead}
 use Rattle.cryptree_cli.specs.Lines.InputLine.{Whole, TooLong}
 use Rattle.cryptree_cli.specs.declared.lines.Next.{Next}
 use Rattle.cryptree_cli.specs.declared.lines.Next.TheVariants.{Line, End, PastLimit}
@@ -55,7 +56,7 @@ taken_one (PastLimit number) old new before left takes = record {
   front = new.line;
   ahead = new.piece;
   taken = sym takes.same;
-  of_lines = inl takes.one;
+  of_lines = takes.one;
   few = takes.few;
 }
 

@@ -1,9 +1,14 @@
 -- The lines of bytes that are cut at a newline, or go past the limit.
-use Rattle.std.proofs.Common.{◌≡◌, ◌≢◌, inl, inr, length-drop, ℕ, zero, suc, ◌+◌, ◌-◌, ◌<◌, ◌≤◌, true, false, cond, List, [], ◌∷◌, ◌++◌, length, take, drop, append_assoc, arith, refl, sym, ap, subst, ◌∙◌, length-append}
+use Rattle.std.proofs.Common.{Bool, nat_lt, Result, Ok, Err, Option, Some, None, ◌≡◌, ◌≢◌, inl, inr, ℕ, zero, suc, ◌+◌, ◌-◌, ◌<◌, ◌≤◌, true, false, cond, List, [], ◌∷◌, ◌++◌, length, take, append_assoc, arith, refl, sym, ap, subst, ◌∙◌, length-append}
 use Rattle.std.proofs.lemmas.Bool.Decides.{nat_tests}
-use Rattle.std.proofs.lemmas.List.{append-nil, length-take-le}
-use Rattle.std.proofs.lemmas.List.Elements.{All-head, All-tail, All-append}
-use Rattle.cryptree_cli.specs.Lines.{InputLine, IsCutOff, IsOneLine, LineState, Takes, TakesOff, is_newline, read_ahead, Gives, GivesFrom, Numbers, Within, IsLine, IsUnended, begun_with, lines_of, bytes_ahead, lines_ahead}
+use Rattle.std.proofs.lemmas.List.{append-nil}
+use Rattle.std.proofs.lemmas.List.Elements.{All-head, All-tail}
+use Rattle.std.specs.Prelude.{IfOk, OnErr, is_some}
+use Rattle.std.specs.List.{count_by}
+use Rattle.cry_base.specs.Listed.{Listed}
+use Rattle.cry_base.specs.declared.memory.OutOfMemory.{OutOfMemory}
+use Rattle.script_text.specs.Cutting.{EndsLine, IsOneLine, is_newline, line_over}
+use Rattle.cryptree_cli.specs.Lines.{InputLine, IsCutOff, LineState, Takes, TakesOff, read_ahead, Gives, GivesFrom, GivesCut, GivesHeld, FeedsLine, KeepsAhead, AreOfLines, Numbers, Within, IsUnended, begun_with, lines_of, bytes_ahead, lines_ahead}
 use Rattle.cryptree_cli.specs.declared.lines.Next.{Next}
 use Rattle.cryptree_cli.specs.declared.lines.Next.TheVariants.{Line, End, PastLimit}
 use Rattle.cryptree_cli.specs.Lines.InputLine.{Whole, TooLong}
@@ -66,58 +71,93 @@ full_lines (suc room) (byte ∷ line) last rest one long =
     more room byte (line ++ last ∷ rest) (All-head Other byte line one)
     ∙ ap (begun_with byte) (full_lines room line last rest (All-tail Other byte line one) (omega (arith, long)))
 
--- what is held, with a newline in it
-pub cut_held : (line piece front behind left : List ℕ) → piece ≡ front ++ 10 ∷ behind
-    → line ++ (piece ++ left) ≡ (line ++ front) ++ 10 ∷ (behind ++ left)
-cut_held line piece front behind left is =
-    ap (λ p. line ++ (p ++ left)) is
-    ∙ ap (λ p. line ++ p) (append_assoc front (10 ∷ behind) left)
-    ∙ sym (append_assoc line front (10 ∷ (behind ++ left)))
+-- the first newline of bytes is one place
+
+newline_apart : (line rest : List ℕ) → IsOneLine (line ++ 10 ∷ rest) → ⊥
+newline_apart [] rest one = All-head Other 10 rest one refl
+newline_apart (byte ∷ line) rest one = newline_apart line rest (All-tail Other byte (line ++ 10 ∷ rest) one)
+
+same_rest : (line other rest more : List ℕ) → IsOneLine line → IsOneLine other → line ++ 10 ∷ rest ≡ other ++ 10 ∷ more → rest ≡ more
+same_rest [] [] rest more one two is = cc
+same_rest [] (byte ∷ other) rest more one two is =
+    let ten : byte ≡ 10 = cc in
+    absurd (All-head Other byte other two ten)
+same_rest (byte ∷ line) [] rest more one two is =
+    let ten : byte ≡ 10 = cc in
+    absurd (All-head Other byte line one ten)
+same_rest (byte ∷ line) (next ∷ other) rest more one two is =
+    same_rest line other rest more (All-tail Other byte line one) (All-tail Other next other two) cc
+
+-- bytes of one line have no more behind its newline
+pub nothing_behind : (bytes line rest : List ℕ) → AreOfLines 1 bytes → IsOneLine line → bytes ≡ line ++ 10 ∷ rest → rest ≡ []
+nothing_behind bytes line rest lines one is =
+    elim lines [
+      | inl whole ↦ absurd (newline_apart line rest (subst IsOneLine is whole))
+      | inr cut ↦ same_rest line cut.0 rest cut.1 one cut.2 (sym is ∙ cut.3) ∙ cut.4
+    ]
+
+back_one : (front back : List ℕ) → IsOneLine (front ++ back) → IsOneLine back
+back_one [] back one = one
+back_one (byte ∷ front) back one = back_one front back (All-tail Other byte (front ++ back) one)
+
+-- the front of one line doesn't end
+pub no_line_ends : (front back : List ℕ) → IsOneLine (front ++ back) → EndsLine front → front ≡ []
+no_line_ends [] back one ends = refl
+no_line_ends (byte ∷ []) back one ends = absurd (All-head Other byte back one ends)
+no_line_ends (byte ∷ next ∷ front) back one ends =
+    let none : next ∷ front ≡ [] = no_line_ends (next ∷ front) back (All-tail Other byte (next ∷ (front ++ back)) one) ends in
+    absurd (omega (arith, ap length none))
+
+pub some_bytes : (bytes : List ℕ) → bytes ≢ [] → 1 ≤ length bytes
+some_bytes [] some = absurd (some refl)
+some_bytes (byte ∷ bytes) some = omega arith
+
+-- how much was fed
+
+tells_if : (b : Bool) (line : ℕ) → is_some (cond b (Some line) None) ≡ b
+tells_if true line = refl
+tells_if false line = refl
+
+pub fed_past : (limit : ℕ) (fed : List ℕ) → is_some (line_over limit fed) ≡ true → limit < length fed
+fed_past limit fed is =
+    let test : nat_lt limit (length fed) ≡ true = sym (tells_if (nat_lt limit (length fed)) (count_by is_newline (take limit fed) + 1)) ∙ is in
+    grind (arith, nat_tests)
+
+pub fed_within : (limit : ℕ) (fed : List ℕ) → is_some (line_over limit fed) ≡ false → length fed ≤ limit
+fed_within limit fed is =
+    let test : nat_lt limit (length fed) ≡ false = sym (tells_if (nat_lt limit (length fed)) (count_by is_newline (take limit fed) + 1)) ∙ is in
+    grind (arith, nat_tests)
+
+-- of the state before, the room alone matters to what is taken
+pub takes_same_room : (next : Next) (old other new : LineState) (before after : List ℕ) → old.room ≡ other.room → Takes next old new before after → Takes next other new before after
+takes_same_room (Line number bytes) old other new before after same takes = record {
+  one = takes.one;
+  begins = takes.begins;
+  few = takes.few;
+  cut = subst (λ room. IsCutOff bytes.items room new.room before after) same takes.cut;
+}
+takes_same_room End old other new before after same takes = takes
+takes_same_room (PastLimit number) old other new before after same takes = takes
 
 -- what a reader gives
 
--- a newline behind the limit
-pub past_at_newline : (s : LineState) (place : ℕ) → IsOneLine s.line → IsOneLine (take place s.piece) → place < length s.piece
-    → s.piece ≡ take place s.piece ++ 10 ∷ drop (place + 1) s.piece → s.room ≤ length s.line + place → length s.piece ≤ read_ahead → GivesFrom (PastLimit (s.given + 1)) s s
-past_at_newline s place one first within ends full few =
-    let front : List ℕ = take place s.piece in
-    let behind : List ℕ = drop (place + 1) s.piece in
-    let long : s.room ≤ length (s.line ++ front) = omega (arith, full, length-append s.line front, length-take-le place s.piece (omega (arith, within))) in
-    record {
-      gives = λ left. (
-        ap (lines_of s.room) (cut_held s.line s.piece front behind left ends)
-            ∙ full_lines s.room (s.line ++ front) 10 (behind ++ left) (All-append Other s.line front one first) long,
-        refl,
-      );
-      takes = λ left. record { same = refl; one = one; few = few };
-      number = (refl, refl);
-      room = refl;
-    }
-
--- bytes without a newline that go past the limit
-pub past_without_newline : (s : LineState) → IsOneLine s.line → IsOneLine s.piece → s.room < length s.line + length s.piece → length s.piece ≤ read_ahead → GivesFrom (PastLimit (s.given + 1)) s s
-past_without_newline s one piece full few = record {
+-- a line that goes past the limit
+pub past_limit : (s : LineState) → AreOfLines 1 s.line → s.room < length s.line → length s.piece ≤ read_ahead → GivesFrom (PastLimit (s.given + 1)) s s
+past_limit s lines past few = record {
   gives = λ left. (
-    ap (lines_of s.room) (sym (append_assoc s.line s.piece left))
-        ∙ long_lines s.room (s.line ++ s.piece) left (All-append Other s.line s.piece one piece) (omega (arith, full, length-append s.line s.piece)),
+    elim lines [
+      | inl one ↦ long_lines s.room s.line (s.piece ++ left) one past
+      | inr cut ↦ ap (λ l. lines_of s.room (l ++ (s.piece ++ left))) cut.3
+          ∙ ap (λ b. lines_of s.room b) (append_assoc cut.0 (10 ∷ cut.1) (s.piece ++ left))
+          ∙ full_lines s.room cut.0 10 (cut.1 ++ (s.piece ++ left)) cut.2
+          (omega (arith, past, ap length cut.3, length-append cut.0 (10 ∷ cut.1), ap length cut.4))
+    ],
     refl,
   );
-  takes = λ left. record { same = refl; one = one; few = few };
+  takes = λ left. record { same = refl; one = lines; few = few };
   number = (refl, refl);
   room = refl;
 }
-
-given_line : (s new : LineState) (next : Next) (line : List ℕ) → IsLine next (s.given + 1) line → new.given ≡ s.given + 1 → length line + new.room ≤ s.room → new.room < s.room
-    → ((left : List ℕ) → lines_ahead s left ≡ Whole line ∷ lines_ahead new left)
-    → ((left : List ℕ) → TakesOff line s new (bytes_ahead s left) (bytes_ahead new left)) → GivesFrom next s new
-given_line s new (Line number bytes) line is given room less lines takes = record {
-  gives = λ left. lines left ∙ ap (λ b. Whole b ∷ lines_ahead new left) (sym is.1);
-  takes = λ left. subst (λ l. TakesOff l s new (bytes_ahead s left) (bytes_ahead new left)) (sym is.1) (takes left);
-  number = (is.0, given ∙ sym is.0);
-  room = (rw is.1 room, less);
-}
-given_line s new End line is given room less lines takes = absurd is
-given_line s new (PastLimit number) line is given room less lines takes = absurd is
 
 pub same_state : (line bytes piece other : List ℕ) (room same given too : ℕ) → line ≡ bytes → piece ≡ other → room ≡ same → given ≡ too
     → ◌≡◌ {A = LineState} (record { line = line; piece = piece; room = room; given = given }) (record { line = bytes; piece = other; room = same; given = too })
@@ -127,44 +167,71 @@ same_state line bytes piece other room same given too is_line is_piece is_room i
     ∙ ap (λ (x : ℕ). let state : LineState = record { line = bytes; piece = other; room = x; given = given } in state) is_room
     ∙ ap (λ (x : ℕ). let state : LineState = record { line = bytes; piece = other; room = same; given = x } in state) is_given
 
-same_line : (next : Next) (n m : ℕ) (line other : List ℕ) → n ≡ m → line ≡ other → IsLine next n line → IsLine next m other
-same_line next n m line other is_number is_line is =
-    subst (λ x. IsLine next x other) is_number (subst (λ l. IsLine next n l) is_line is)
+-- a line that ended is cut off
+pub line_cut : (s new : LineState) (bytes : Listed ℕ) → AreOfLines 1 s.line → IsOneLine bytes.items → s.line ≡ bytes.items ++ 10 ∷ new.line
+    → s.room ≡ new.room + (length bytes.items + 1) → new.piece ≡ s.piece → new.given ≡ s.given + 1 → length s.piece ≤ read_ahead
+    → GivesFrom (Line (s.given + 1) bytes) s new
+line_cut s new bytes lines one is room piece given few =
+    let line : List ℕ = bytes.items in
+    let ahead : (left : List ℕ) → bytes_ahead s left ≡ line ++ 10 ∷ bytes_ahead new left =
+    λ left. ap (λ l. l ++ (s.piece ++ left)) is ∙ append_assoc line (10 ∷ new.line) (s.piece ++ left)
+    ∙ ap (λ p. line ++ 10 ∷ (new.line ++ (p ++ left))) (sym piece)
+    in
+    record {
+      gives = λ left. ap (λ b. lines_of s.room b) (ahead left) ∙ cut_lines s.room line (bytes_ahead new left) new.room one room;
+      takes = λ left. record {
+        one = one;
+        begins = nothing_behind s.line line new.line lines one is;
+        few = omega (arith, few, ap length piece);
+        cut = inl (ahead left, room);
+      };
+      number = (refl, given);
+      room = (omega (arith, room), omega (arith, room));
+    }
 
--- a line that ends in the piece
-pub line_at_newline : (s new : LineState) (next : Next) (place : ℕ) (line piece : List ℕ) (room given : ℕ)
-    → IsOneLine s.line → IsOneLine (take place s.piece) → place < length s.piece
-    → s.piece ≡ take place s.piece ++ 10 ∷ drop (place + 1) s.piece → s.room ≡ room + (length s.line + (place + 1))
-    → line ≡ s.line ++ take place s.piece → piece ≡ drop (place + 1) s.piece → given ≡ s.given
-    → IsLine next (given + 1) line → new ≡ record { line = []; piece = piece; room = room; given = given + 1 } → length s.piece ≤ read_ahead → GivesFrom next s new
-line_at_newline s new next place line piece room given one first within ends is_room is_line is_piece is_given is new_is few =
-    let front : List ℕ = take place s.piece in
-    let behind : List ℕ = drop (place + 1) s.piece in
-    let len : length (s.line ++ front) ≡ length s.line + place = length-append s.line front ∙ ap (λ n. length s.line + n) (length-take-le place s.piece (omega (arith, within))) in
-    let end : LineState = record { line = []; piece = behind; room = room; given = s.given + 1 } in
-    let end_is : new ≡ end = new_is ∙ same_state [] [] piece behind room room (given + 1) (s.given + 1) refl is_piece refl (omega (arith, is_given)) in
-    let is_next : IsLine next (s.given + 1) (s.line ++ front) = same_line next (given + 1) (s.given + 1) line (s.line ++ front) (omega (arith, is_given)) is_line is in
-    subst (λ x. GivesFrom next s x) (sym end_is) (given_line s end next (s.line ++ front) is_next refl (omega (arith, len, is_room)) (omega (arith, is_room)) (λ left.
-    ap (lines_of s.room) (cut_held s.line s.piece front behind left ends)
-    ∙ cut_lines s.room (s.line ++ front) (behind ++ left) room (All-append Other s.line front one first) (omega (arith, len, is_room)))
-    (λ left. record {
-      one = All-append Other s.line front one first;
-      begins = refl;
-      few = omega (arith, few, length-drop (place + 1) s.piece);
-      cut = inl (cut_held s.line s.piece front behind left ends, omega (arith, len, is_room));
-    }))
+-- the front of the piece was fed
 
--- the piece is kept behind the line
-pub piece_kept : (s new : LineState) → IsOneLine s.line → IsOneLine s.piece → length s.line + length s.piece ≤ s.room
-    → new ≡ record { line = s.line ++ s.piece; piece = []; room = s.room; given = s.given } → IsUnended new
-piece_kept s new one piece within is =
-    let end : LineState = record { line = s.line ++ s.piece; piece = []; room = s.room; given = s.given } in
-    let unended : IsUnended end = record {
-      all = refl;
-      one = All-append Other s.line s.piece one piece;
-      within = omega (arith, within, length-append s.line s.piece);
-    } in
-    subst (λ x. IsUnended x) (sym is) unended
+pub fed_keeps : (s m : LineState) → FeedsLine s m → KeepsAhead s m
+fed_keeps s m feeds = record {
+  bytes = λ left. ap (λ l. l ++ (m.piece ++ left)) feeds.line ∙ append_assoc s.line feeds.front (m.piece ++ left)
+      ∙ ap (λ p. s.line ++ p) (sym (append_assoc feeds.front m.piece left)) ∙ ap (λ p. s.line ++ (p ++ left)) (sym feeds.piece);
+  room = feeds.room;
+  given = feeds.given;
+}
+
+gives_fed : (next : Next) (s m new : LineState) → KeepsAhead s m → GivesFrom next m new → GivesFrom next s new
+gives_fed next s m new keeps gives = record {
+  gives = λ left. subst (λ before. Gives next before (lines_ahead new left))
+      (ap (λ b. lines_of m.room b) (keeps.bytes left) ∙ ap (λ n. lines_of n (bytes_ahead s left)) keeps.room) (gives.gives left);
+  takes = λ left. takes_same_room next m s new (bytes_ahead s left) (bytes_ahead new left) keeps.room
+      (subst (λ before. Takes next m new before (bytes_ahead new left)) (keeps.bytes left) (gives.takes left));
+  number = subst (λ n. Numbers next n new.given) keeps.given gives.number;
+  room = subst (λ n. Within next n new.room) keeps.room gives.room;
+}
+
+nothing_cut : (s m new : LineState) → FeedsLine s m → GivesCut None m new → GivesHeld None s new
+nothing_cut s m new feeds cut =
+    let same : m.line ≡ new.line = ap (λ x. x.line) (sym cut.2) in
+    let one : IsOneLine feeds.front = back_one s.line feeds.front (subst IsOneLine feeds.line (subst IsOneLine (sym same) cut.0)) in
+    let none : m.piece ≡ [] = feeds.whole one in
+    let all : feeds.front ≡ s.piece = sym (append-nil feeds.front) ∙ ap (λ p. feeds.front ++ p) (sym none) ∙ sym feeds.piece in (
+      record { all = ap (λ x. x.piece) cut.2 ∙ none; one = cut.0; within = cut.1 },
+      cut.2 ∙ same_state m.line (s.line ++ s.piece) m.piece [] m.room s.room m.given s.given
+          (feeds.line ∙ ap (λ f. s.line ++ f) all) none feeds.room feeds.given,
+    )
+
+held_fed : (held : Option Next) (s m new : LineState) → FeedsLine s m → GivesCut held m new → GivesHeld held s new
+held_fed (Some next) s m new feeds cut = gives_fed next s m new (fed_keeps s m feeds) cut
+held_fed None s m new feeds cut = nothing_cut s m new feeds cut
+
+pub held_after : (result : Result (Option Next) OutOfMemory) (s m new : LineState) → FeedsLine s m → IfOk result (λ cut. GivesCut cut m new)
+    → IfOk result (λ held. GivesHeld held s new)
+held_after (Ok held) s m new feeds cut = held_fed held s m new feeds cut
+held_after (Err fault) s m new feeds cut = cut
+
+pub kept_after : (result : Result (Option Next) OutOfMemory) (s m new : LineState) → FeedsLine s m → OnErr result (new ≡ m) → OnErr result (KeepsAhead s new)
+kept_after (Ok held) s m new feeds same = same
+kept_after (Err fault) s m new feeds same = subst (λ x. KeepsAhead s x) (sym same) (fed_keeps s m feeds)
 
 -- a line that ends with the input
 no_bytes_ahead : (s : LineState) → s.piece ≡ [] → s.line ≡ [] → bytes_ahead s [] ≡ []
@@ -190,9 +257,9 @@ pub record GivesLast (next : Next) (old new : LineState) : Type 0 where
   pub number : Numbers next old.given new.given
   pub room : Within next old.room new.room
 
-pub line_at_end : (s new : LineState) (next : Next) → IsUnended s → 1 ≤ length s.line → IsLine next (s.given + 1) s.line
-    → new ≡ record { line = []; piece = s.piece; room = s.room - length s.line; given = s.given + 1 } → GivesLast next s new
-line_at_end s new (Line number bytes) unended some is new_is =
+pub line_at_end : (s new : LineState) (bytes : Listed ℕ) → IsUnended s → 1 ≤ length s.line → bytes.items ≡ s.line
+    → new ≡ record { line = []; piece = s.piece; room = s.room - length s.line; given = s.given + 1 } → GivesLast (Line (s.given + 1) bytes) s new
+line_at_end s new bytes unended some is new_is =
     let lines : lines_ahead s [] ≡ Whole s.line ∷ [] =
     ap (λ p. lines_of s.room (s.line ++ (p ++ []))) unended.all ∙ ap (lines_of s.room) (append-nil s.line)
     ∙ lines_of_whole s.room s.line unended.one some unended.within
@@ -202,18 +269,16 @@ line_at_end s new (Line number bytes) unended some is new_is =
     let no_piece_left : new.piece ≡ [] = ap (λ x. x.piece) new_is ∙ unended.all in
     let left : new.room ≡ s.room - length s.line = ap (λ x. x.room) new_is in
     record {
-      gives = lines ∙ ap (λ b. Whole b ∷ []) (sym is.1) ∙ ap (λ ls. Whole bytes.items ∷ ls) (sym none);
-      takes = subst (λ l. TakesOff l s new (bytes_ahead s []) (bytes_ahead new [])) (sym is.1) (record {
+      gives = lines ∙ ap (λ b. Whole b ∷ []) (sym is) ∙ ap (λ ls. Whole bytes.items ∷ ls) (sym none);
+      takes = subst (λ l. TakesOff l s new (bytes_ahead s []) (bytes_ahead new [])) (sym is) (record {
         one = unended.one;
         begins = ap (λ x. x.line) new_is;
         few = omega (arith, ap length no_piece_left);
         cut = inr (whole, no_bytes_ahead new no_piece_left (ap (λ x. x.line) new_is), unended.within);
       });
-      number = (is.0, ap (λ x. x.given) new_is ∙ sym is.0);
-      room = (omega (arith, ap length is.1, left, unended.within), omega (arith, left, some, unended.within));
+      number = (refl, ap (λ x. x.given) new_is);
+      room = (omega (arith, ap length is, left, unended.within), omega (arith, left, some, unended.within));
     }
-line_at_end s new End unended some is new_is = absurd is
-line_at_end s new (PastLimit number) unended some is new_is = absurd is
 
 -- no lines, no bytes
 
@@ -258,14 +323,3 @@ nothing_read (byte ∷ piece) m y none gone is = absurd (omega (arith, none))
 pub no_piece : (piece : List ℕ) → length piece ≡ 0 → piece ≡ []
 no_piece [] none = refl
 no_piece (byte ∷ piece) none = absurd (omega (arith, none))
-
--- of the state before, the room alone matters to what is taken
-pub takes_same_room : (next : Next) (old other new : LineState) (before after : List ℕ) → old.room ≡ other.room → Takes next old new before after → Takes next other new before after
-takes_same_room (Line number bytes) old other new before after same takes = record {
-  one = takes.one;
-  begins = takes.begins;
-  few = takes.few;
-  cut = subst (λ room. IsCutOff bytes.items room new.room before after) same takes.cut;
-}
-takes_same_room End old other new before after same takes = takes
-takes_same_room (PastLimit number) old other new before after same takes = takes

@@ -4,7 +4,8 @@ use Rattle.std.proofs.lemmas.List.{append-nil}
 use Rattle.std.proofs.lemmas.List.Elements.{All-append, All-nil}
 use Rattle.cry_base.specs.Listed.{Listed}
 use Rattle.cryptree_cli.specs.Input.{TakesLines}
-use Rattle.cryptree_cli.specs.Lines.{AreOfLines, IsOneLine, LineState, Takes, bytes_ahead}
+use Rattle.script_text.specs.Cutting.{IsOneLine}
+use Rattle.cryptree_cli.specs.Lines.{AreOfLines, LineState, Takes, bytes_ahead}
 use Rattle.cryptree_cli.specs.Taking.{AreTaken, HoldsFew}
 use Rattle.cryptree_cli.specs.declared.lines.Next.TheVariants.{Line}
 
@@ -22,7 +23,7 @@ of_more_lines (suc n) (suc k) bytes less lines =
     ]
 
 -- a line is begun before them
-of_lines_begun : (m k : ℕ) (begun bytes : List ℕ) → m ≤ suc k → IsOneLine begun → AreOfLines m bytes → AreOfLines (suc k) (begun ++ bytes)
+pub of_lines_begun : (m k : ℕ) (begun bytes : List ℕ) → m ≤ suc k → IsOneLine begun → AreOfLines m bytes → AreOfLines (suc k) (begun ++ bytes)
 of_lines_begun zero k begun bytes less one lines = inl (subst (λ b. IsOneLine (begun ++ b)) (sym lines) (subst IsOneLine (sym (append-nil begun)) one))
 of_lines_begun (suc m) k begun bytes less one lines =
     elim lines [

@@ -2,7 +2,8 @@
 use Rattle.std.specs.Prelude.{◌≡◌, ◌<◌, ◌≤◌, ◌⊎◌, ℕ, List, [], ◌∷◌, ◌++◌, length, Option, Some, None, Result, Ok, Err, IsSome}
 use Rattle.cry_base.specs.declared.client.Bundle.{Bundle}
 use Rattle.script_text.specs.Reading.{bundle_of}
-use Rattle.cryptree_cli.specs.Lines.{AreOfLines, InputLine, IsCutOff, IsOneLine, LineState, input_limit, lines_ahead, lines_of, read_ahead}
+use Rattle.script_text.specs.Cutting.{IsOneLine}
+use Rattle.cryptree_cli.specs.Lines.{AreOfLines, InputLine, IsCutOff, LineState, input_limit, lines_ahead, lines_of, read_ahead}
 use Rattle.cryptree_cli.specs.Lines.InputLine.{Whole, TooLong}
 use Rattle.cryptree_cli.specs.declared.input.InputFault.{InputFault}
 use Rattle.cryptree_cli.specs.declared.input.InputFault.TheVariants.{BadLine, Failed, OutOfMemory}

@@ -1,21 +1,14 @@
 -- The lines of an input, one after another. This project's own, docs/FORMAT.md, "Lines".
-use Rattle.std.specs.Prelude.{◌≡◌, ◌≢◌, ◌<◌, ◌≤◌, ◌⊎◌, ℕ, zero, suc, ◌+◌, Bool, ◌==◌, List, [], ◌∷◌, ◌++◌, length, All, Option, Some, None, Result, Ok, Err, if◌then◌else◌}
+use Rattle.std.specs.Prelude.{◌≡◌, ◌<◌, ◌≤◌, ◌⊎◌, ℕ, zero, suc, ◌+◌, List, [], ◌∷◌, ◌++◌, length, Option, Some, None, Result, Ok, Err, if◌then◌else◌}
+use Rattle.script_text.specs.Cutting.{IsOneLine, is_newline}
 use Rattle.cryptree_cli.specs.declared.lines.Next.{Next}
 use Rattle.cryptree_cli.specs.declared.lines.Next.TheVariants.{Line, End, PastLimit}
 use Rattle.cryptree_cli.specs.declared.lines.NextFault.{NextFault}
 use Rattle.cryptree_cli.specs.declared.lines.NextFault.TheVariants.{Failed}
 
--- the byte that ends a line
-abbrev pub is_newline : ℕ → Bool
-is_newline byte = byte == 10
-
 -- the most bytes that an input may have
 abbrev pub input_limit : ℕ
 input_limit = 67108864
-
--- no line ends in these bytes
-abbrev pub IsOneLine : List ℕ → Type 0
-IsOneLine bytes = All (λ byte. byte ≢ 10) bytes
 
 -- these bytes are of no more than so many lines
 abbrev pub AreOfLines : ℕ → List ℕ → Type 0
@@ -40,7 +33,7 @@ lines_of room [] = []
 lines_of zero (byte ∷ bytes) = TooLong ∷ []
 lines_of (suc room) (byte ∷ bytes) = if is_newline byte then Whole [] ∷ lines_of room bytes else begun_with byte (lines_of room bytes)
 
--- what a reader of lines holds: the first bytes of the line that is begun, the bytes read behind them, how many bytes
+-- what a reader of lines holds: the first bytes of the line that is begun, or that line with its newline, the bytes read behind them, how many bytes
 -- this line and those behind it may have, and how many lines were given
 pub record LineState : Type 0 where
   pub line : List ℕ
@@ -104,10 +97,10 @@ pub record TakesOff (line : List ℕ) (old new : LineState) (before after : List
   pub few : length new.piece ≤ read_ahead
   pub cut : IsCutOff line old.room new.room before after
 
--- All bytes are still to come; and those that are held are the front of one line, and few behind it.
+-- All bytes are still to come; and those that are held are of one line, and few behind it.
 pub record TakesNone (new : LineState) (before after : List ℕ) : Type 0 where
   pub same : after ≡ before
-  pub one : IsOneLine new.line
+  pub one : AreOfLines 1 new.line
   pub few : length new.piece ≤ read_ahead
 
 -- the bytes that were to come, and those that still are
@@ -133,10 +126,25 @@ abbrev pub GivesHeld : Option Next → LineState → LineState → Type 0
 GivesHeld (Some next) old new = GivesFrom next old new
 GivesHeld None old new = IsUnended new × (new ≡ record old { line = old.line ++ old.piece; piece = [] })
 
--- it is this line
-abbrev pub IsLine : Next → ℕ → List ℕ → Type 0
-IsLine (Line number bytes) wanted line = (number ≡ wanted) × (bytes.items ≡ line)
-IsLine _ wanted line = ⊥
+-- so it is where nothing more is fed; where no line ends, the front of one stays as it is
+abbrev pub GivesCut : Option Next → LineState → LineState → Type 0
+GivesCut (Some next) old new = GivesFrom next old new
+GivesCut None old new = IsOneLine new.line × (length new.line ≤ new.room) × (new ≡ old)
+
+-- The front of the piece is put behind the line that is held: to the line's end, or all of it.
+pub record FeedsLine (old new : LineState) : Type 0 where
+  pub front : List ℕ
+  pub line : new.line ≡ old.line ++ front
+  pub piece : old.piece ≡ front ++ new.piece
+  pub whole : IsOneLine front → new.piece ≡ []
+  pub room : new.room ≡ old.room
+  pub given : new.given ≡ old.given
+
+-- All that was to come still is.
+pub record KeepsAhead (old new : LineState) : Type 0 where
+  pub bytes : (left : List ℕ) → bytes_ahead new left ≡ bytes_ahead old left
+  pub room : new.room ≡ old.room
+  pub given : new.given ≡ old.given
 
 -- the count of faults never falls, and Failed comes only where it rose
 abbrev pub NextFailsByCount : Result Next NextFault → ℕ → ℕ → Type 0

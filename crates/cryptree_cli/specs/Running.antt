@@ -19,7 +19,8 @@ use Rattle.journal_bytes.specs.Script.{answer, draws_of, journal_then, opened, s
 use Rattle.store_owner.specs.Drawing.{AreKeys, joined}
 use Rattle.cryptree_cli.specs.KeyLine.{owner_key}
 use Rattle.cryptree_cli.specs.Input.{TakesLines}
-use Rattle.cryptree_cli.specs.Lines.{AreOfLines, InputLine, IsOneLine, input_limit, lines_of}
+use Rattle.script_text.specs.Cutting.{IsOneLine}
+use Rattle.cryptree_cli.specs.Lines.{AreOfLines, InputLine, input_limit, lines_of}
 use Rattle.cryptree_cli.specs.Lines.InputLine.{Whole, TooLong}
 use Rattle.cryptree_cli.specs.Script.{Asks, IsBadFirst, PrintsCut, spell_replies}
 use Rattle.commit_journal.specs.declared.fault.OpenFault.{OpenFault}

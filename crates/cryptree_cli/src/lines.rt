@@ -1,17 +1,18 @@
 //! The lines of an input, one after another: none is read before it is asked for.
-ghost use Rattle.std.specs.Prelude.{◌≡◌, ◌+◌, ◌-◌, ◌<◌, ◌≤◌, ◌∷◌, ◌++◌, [], Ok, Err, length, take, drop, is_some, IfOk, IfSome, IsNone, OnErr};
+ghost use Rattle.std.specs.Prelude.{◌≡◌, ◌≤◌, ◌++◌, [], Ok, Err, length, take, is_some, IfOk, OnOk, OnErr};
 ghost use Rattle.cry_io.specs.Counts.{CountsFault};
 ghost use Rattle.cry_io.specs.Told.{WhereTold, WhereBothTold};
-ghost use Rattle.cryptree_cli.specs.Lines.{bytes_ahead, input_limit, lines_ahead, IsLine, IsOneLine, Takes, TakesNext, IsUnended, Gives, GivesFrom, GivesNext, GivesHeld, Numbers, NumbersNext, NextFailsByCount, Within};
+ghost use Rattle.script_text.specs.Cutting.{IsOneLine};
+ghost use Rattle.cryptree_cli.specs.Lines.{AreOfLines, bytes_ahead, input_limit, lines_ahead, FeedsLine, Takes, TakesNext, IsUnended, KeepsAhead, Gives, GivesCut, GivesNext, GivesHeld, Numbers, NumbersNext, NextFailsByCount, Within};
 
 use crate::piece::Piece;
-use cry_base::{List, Mem, Text};
+use cry_base::{Mem, Text};
 use cry_io::{Failed, Source};
+use script_text::{Cutter, first_newline};
 use std::alloc::Global;
 use std::marker::Model;
-use std::mem;
 
-const INPUT_LIMIT: usize = 67_108_864;
+const INPUT_LIMIT: u64 = 67_108_864;
 
 /// What comes next of an input.
 #[derive(Debug, Drop)]
@@ -33,24 +34,25 @@ pub(crate) enum NextFault {
     OutOfMemory,
 }
 
-/// A reader of lines. It takes a piece of the source only where what it holds has no whole line.
+/// A reader of lines. It takes a piece of the source only where what it holds has no whole line, and of a piece it feeds to the
+/// cutter one line at a time.
 #[derive(Drop)]
 pub(crate) struct LineReader {
-    line: Text,
+    cutter: Cutter,
     piece: Piece,
-    spare: usize,
     given: u64,
 }
 
 impl Model for LineReader {
-    ghost use Rattle.std.specs.Prelude.{◌+◌, ◌≤◌, length};
-    ghost use Rattle.cryptree_cli.specs.Lines.{IsOneLine, LineState};
+    ghost use Rattle.std.specs.Prelude.{◌≡◌, ◌+◌, ◌-◌, ◌≤◌, length};
+    ghost use Rattle.cryptree_cli.specs.Lines.{AreOfLines, LineState, input_limit};
 
     ghost Value = { LineState };
 
-    ghost view = { λ r. record { line = r.line.items; piece = r.piece; room = r.spare + length r.line.items; given = r.given } };
+    ghost view = { λ r. record { line = r.cutter.held; piece = r.piece; room = (input_limit + length r.cutter.held) - length r.cutter.fed; given = r.given } };
 
-    ghost invariant = { λ r. IsOneLine r.line.items × (r.given + (r.spare + length r.line.items) ≤ 67108864) × (length r.piece ≤ 4096) };
+    ghost invariant = { λ r. AreOfLines 1 r.cutter.held × (r.given + length r.cutter.held ≤ length r.cutter.fed)
+        × (length r.cutter.fed ≤ input_limit + length r.cutter.held) × (r.cutter.limit ≡ input_limit) × (length r.piece ≤ 4096) };
 }
 
 impl LineReader {
@@ -59,9 +61,8 @@ impl LineReader {
         ensures { result ≡ record { line = []; piece = []; room = input_limit; given = 0 } }
     {
         LineReader {
-            line: List::new(alloc),
+            cutter: Cutter::new(alloc, INPUT_LIMIT),
             piece: Piece::empty(),
-            spare: INPUT_LIMIT,
             given: 0,
         }
     }
@@ -100,48 +101,45 @@ impl LineReader {
     /// What ends in the bytes that are held. At `None` they are all of one line.
     fn held_line(&mut self, alloc: Global) -> Mem<Option<Next>>
         ensures held { IfOk result (λ held. GivesHeld held self.old self.new) }
-        ensures err { OnErr result (self.new ≡ self.old) }
+        ensures err { OnErr result (KeepsAhead self.old self.new) }
     {
-        match first_newline(self.piece.as_slice()) {
-            Some(place) => {
-                let next = self.end_line(alloc, place)?;
-                Ok(Some(next))
-            }
-            None => self.keep_piece(),
+        if let Some(next) = self.cut_line(alloc)? {
+            return Ok(Some(next));
         }
+        self.feed_line(alloc)?;
+        self.cut_line(alloc)
     }
 
-    /// The line that ends at this place of the piece.
-    fn end_line(&mut self, alloc: Global, place: usize) -> Mem<Next>
-        requires within { place < length self.old.piece }
-        requires ends { self.old.piece ≡ take place self.old.piece ++ 10 ∷ drop (place + 1) self.old.piece }
-        requires first { IsOneLine (take place self.old.piece) }
-        ensures gives { IfOk result (λ next. GivesFrom next self.old self.new) }
+    /// What ends in the bytes that were fed. At `None` they are the front of a line.
+    fn cut_line(&mut self, alloc: Global) -> Mem<Option<Next>>
+        ensures cut { IfOk result (λ cut. GivesCut cut self.old self.new) }
         ensures err { OnErr result (self.new ≡ self.old) }
     {
-        if self.spare <= place {
-            return Ok(self.past_limit());
+        if self.cutter.over().is_some() {
+            return Ok(Some(Next::PastLimit {
+                number: self.given + 1,
+            }));
         }
-        self.line.append(&self.piece.as_slice()[..place])?;
-        self.piece.skip(place + 1);
-        self.spare -= place + 1;
-        Ok(self.give(alloc))
+        let Some(bytes) = self.cutter.line(alloc)? else {
+            return Ok(None);
+        };
+        self.given += 1;
+        Ok(Some(Next::Line {
+            number: self.given,
+            bytes,
+        }))
     }
 
-    /// Puts the piece behind the line that is begun, unless that goes past the limit.
-    fn keep_piece(&mut self) -> Mem<Option<Next>>
-        requires one { IsOneLine self.old.piece }
-        ensures held { IfOk result (λ held. GivesHeld held self.old self.new) }
+    /// Feeds what the piece has of the line that is begun.
+    fn feed_line(&mut self, alloc: Global) -> Mem<()>
+        requires { IsOneLine self.old.line }
+        ensures feeds { OnOk result (FeedsLine self.old self.new) }
         ensures err { OnErr result (self.new ≡ self.old) }
     {
-        let count = self.piece.as_slice().len();
-        if self.spare < count {
-            return Ok(Some(self.past_limit()));
-        }
-        self.line.append(self.piece.as_slice())?;
+        let count = line_len(self.piece.as_slice());
+        self.cutter.feed(alloc, &self.piece.as_slice()[..count])?;
         self.piece.skip(count);
-        self.spare -= count;
-        Ok(None)
+        Ok(())
     }
 
     /// Reads a piece more, and says how many bytes came: 0 is the end of the source.
@@ -166,42 +164,25 @@ impl LineReader {
         ensures number { Numbers result self.old.given self.new.given }
         ensures room { Within result self.old.room self.new.room }
     {
-        if self.line.as_slice().is_empty() {
+        let Some(bytes) = self.cutter.rest(alloc) else {
             return Next::End;
-        }
-        self.give(alloc)
-    }
-
-    /// The line that was begun, as a whole one.
-    fn give(&mut self, alloc: Global) -> Next
-        requires { self.old.given + self.old.room < 67108864 + length self.old.line }
-        ensures line { IsLine result (self.old.given + 1) self.old.line }
-        ensures rest { self.new ≡ record { line = []; piece = self.old.piece; room = self.old.room - length self.old.line; given = self.old.given + 1 } }
-    {
-        let bytes = mem::replace(&mut self.line, List::new(alloc));
+        };
         self.given += 1;
         Next::Line {
             number: self.given,
             bytes,
         }
     }
-
-    /// The line that was begun, as one that goes past the limit.
-    fn past_limit(&self) -> Next
-        ensures { result ≡ Next.PastLimit (self.now.given + 1) }
-    {
-        Next::PastLimit {
-            number: self.given + 1,
-        }
-    }
 }
 
-/// Where the first newline is.
-fn first_newline(bytes: &[u8]) -> Option<usize>
-    ensures within { IfSome result (λ place. place < length bytes.now) }
-    ensures found { IfSome result (λ place. bytes.now ≡ take place bytes.now ++ 10 ∷ drop (place + 1) bytes.now) }
-    ensures first { IfSome result (λ place. IsOneLine (take place bytes.now)) }
-    ensures none { IsNone result → IsOneLine bytes.now }
+/// How many of these bytes are of the first line, with its newline.
+fn line_len(bytes: &[u8]) -> usize
+    ensures within { result ≤ length bytes.now }
+    ensures line { AreOfLines 1 (take result bytes.now) }
+    ensures whole { IsOneLine (take result bytes.now) → result ≡ length bytes.now }
 {
-    bytes.iter().position(|byte| *byte == b'\n')
+    match first_newline(bytes) {
+        Some(place) => place + 1,
+        None => bytes.len(),
+    }
 }

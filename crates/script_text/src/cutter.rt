@@ -9,7 +9,7 @@ use std::marker::Model;
 use std::mem;
 
 /// Takes bytes as they come, and gives the lines in them. The time is that of the bytes, however they are cut: no byte is
-/// looked at again for a line that it isn't in. What was taken is let go once no whole line is left.
+/// looked at again for a line that it isn't in. What was taken is let go as soon as no whole line is left.
 #[derive(Drop)]
 pub struct Cutter {
     whole: Text,
@@ -69,6 +69,7 @@ impl Cutter {
         let mut line = List::new(alloc);
         line.append(&lines[..place])?;
         self.at += place + 1;
+        self.let_go(alloc);
         Ok(Some(line))
     }
 
@@ -119,7 +120,8 @@ impl Cutter {
     }
 }
 
-fn first_newline(bytes: &[u8]) -> Option<usize>
+/// Where the first newline is: `None` exactly where there is none.
+pub fn first_newline(bytes: &[u8]) -> Option<usize>
     ensures within { IfSome result (λ place. place < length bytes.now) }
     ensures found { IfSome result (λ place. bytes.now ≡ take place bytes.now ++ 10 ∷ drop (place + 1) bytes.now) }
     ensures first { IfSome result (λ place. IsOneLine (take place bytes.now)) }

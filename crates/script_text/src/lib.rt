@@ -13,7 +13,7 @@ mod reading;
 mod seen_lines;
 
 pub use commands::read_line;
-pub use cutter::Cutter;
+pub use cutter::{Cutter, first_newline};
 pub use fault::LineFault;
 pub use printing::{print_line, print_owner, print_reply};
 pub use reading::read_bundle;
