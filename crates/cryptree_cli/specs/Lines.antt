@@ -33,8 +33,8 @@ lines_of room [] = []
 lines_of zero (byte ∷ bytes) = TooLong ∷ []
 lines_of (suc room) (byte ∷ bytes) = if is_newline byte then Whole [] ∷ lines_of room bytes else begun_with byte (lines_of room bytes)
 
--- what a reader of lines holds: the first bytes of the line that is begun, or that line with its newline, the bytes read behind them, how many bytes
--- this line and those behind it may have, and how many lines were given
+-- what a reader of lines holds: the first bytes of the line that is begun, or that line with its newline; the bytes read behind them;
+-- how many bytes this line and those behind it may have; and how many lines were given
 pub record LineState : Type 0 where
   pub line : List ℕ
   pub piece : List ℕ

@@ -1,5 +1,5 @@
 -- Bytes that come in pieces, and the lines in them. This project's own, docs/FORMAT.md, "Lines".
-use Rattle.std.specs.Prelude.{◌≡◌, ◌≢◌, ◌+◌, ◌==◌, nat_lt, ℕ, Bool, List, [], ◌∷◌, ◌++◌, length, take, All, Option, Some, None, if◌then◌else◌}
+use Rattle.std.specs.Prelude.{◌≡◌, ◌≢◌, ◌+◌, ◌==◌, nat_lt, ℕ, Bool, true, false, List, [], ◌∷◌, ◌++◌, length, take, All, Option, Some, None, if◌then◌else◌}
 use Rattle.std.specs.List.{count_by}
 use Rattle.cry_base.specs.Listed.{Listed}
 
@@ -16,6 +16,11 @@ abbrev pub EndsLine : List ℕ → Type 0
 EndsLine [] = Unit {0}
 EndsLine (byte ∷ []) = byte ≡ 10
 EndsLine (byte ∷ next ∷ bytes) = EndsLine (next ∷ bytes)
+
+-- lines with the newline of the last, where there are any
+abbrev pub with_newline : Bool → List ℕ → List ℕ
+with_newline true lines = lines ++ 10 ∷ []
+with_newline false lines = []
 
 -- what a cutter was fed, all of it; what it holds of that, which is what was not taken; and the limit that it watches
 pub record CutterState : Type 0 where

@@ -1,5 +1,5 @@
 //! Bytes that come in pieces, cut into lines.
-ghost use Rattle.std.specs.Prelude.{◌≡◌, ◌<◌, ◌+◌, ◌++◌, ◌∷◌, [], length, take, drop, IfOk, IfSome, IsNone, OnOk, OnErr};
+ghost use Rattle.std.specs.Prelude.{◌≡◌, ◌<◌, ◌≤◌, ◌+◌, ◌++◌, ◌∷◌, [], length, take, drop, IfOk, IfSome, IsNone, OnOk, OnErr};
 ghost use Rattle.script_text.specs.Cutting.{EndsLine, IsOneLine, TakesLine, TakesRest, line_over};
 
 use crate::gauge::Gauge;
@@ -9,9 +9,12 @@ use std::marker::Model;
 use std::mem;
 
 /// Takes bytes as they come, and gives the lines in them. The time is that of the bytes, however they are cut: no byte is
-/// looked at again for a line that it isn't in. What was taken is let go as soon as no whole line is left.
+/// looked at again for a line that it isn't in. What was taken is let go as soon as no whole line is left, and the only whole
+/// line is moved out.
 #[derive(Drop)]
 pub struct Cutter {
+    // Whether whole lines are left; they stand in `whole` from `at` on, the last one without its newline.
+    has_whole: bool,
     whole: Text,
     at: usize,
     rest: Text,
@@ -20,13 +23,13 @@ pub struct Cutter {
 
 impl Model for Cutter {
     ghost use Rattle.std.specs.Prelude.{◌≤◌, ◌++◌, length, drop};
-    ghost use Rattle.script_text.specs.Cutting.{CutterState, EndsLine, IsOneLine};
+    ghost use Rattle.script_text.specs.Cutting.{CutterState, IsOneLine, with_newline};
 
     ghost Value = { CutterState };
 
-    ghost view = { λ c. record { fed = c.gauge.fed; held = drop c.at c.whole.items ++ c.rest.items; limit = c.gauge.limit } };
+    ghost view = { λ c. record { fed = c.gauge.fed; held = with_newline c.has_whole (drop c.at c.whole.items) ++ c.rest.items; limit = c.gauge.limit } };
 
-    ghost invariant = { λ c. (c.at ≤ length c.whole.items) × EndsLine (drop c.at c.whole.items) × IsOneLine c.rest.items };
+    ghost invariant = { λ c. (c.at ≤ length c.whole.items) × IsOneLine c.rest.items };
 }
 
 impl Cutter {
@@ -36,6 +39,7 @@ impl Cutter {
         ensures { result ≡ record { fed = []; held = []; limit = limit } }
     {
         Cutter {
+            has_whole: false,
             whole: List::new(alloc),
             at: 0,
             rest: List::new(alloc),
@@ -62,15 +66,23 @@ impl Cutter {
         ensures takes { IfOk result (TakesLine self.old self.new) }
         ensures err { OnErr result (self.new ≡ self.old) }
     {
-        let lines = &self.whole.as_slice()[self.at..];
-        let Some(place) = first_newline(lines) else {
+        if !self.has_whole {
             return Ok(None);
-        };
-        let mut line = List::new(alloc);
-        line.append(&lines[..place])?;
-        self.at += place + 1;
-        self.let_go(alloc);
-        Ok(Some(line))
+        }
+        match first_newline(&self.whole.as_slice()[self.at..]) {
+            Some(place) => {
+                let mut line = List::new(alloc);
+                line.append(&self.whole.as_slice()[self.at..][..place])?;
+                self.at += place + 1;
+                Ok(Some(line))
+            }
+            None => {
+                let line = take_behind(alloc, &mut self.whole, self.at)?;
+                self.at = 0;
+                self.has_whole = false;
+                Ok(Some(line))
+            }
+        }
     }
 
     /// Takes out what stands behind the last whole line: `None` exactly where that is empty. It takes no memory.
@@ -99,25 +111,45 @@ impl Cutter {
     {
         let mut begun = List::new(alloc);
         begun.append(begins)?;
-        self.let_go(alloc);
-        self.whole
-            .reserve(self.rest.as_slice().len() + ends.len() + 1)?;
-        self.whole.put_all(self.rest.as_slice());
-        self.whole.put_all(ends);
-        self.whole.put(b'\n');
-        self.rest = begun;
+        if self.has_whole {
+            add_line(&mut self.whole, self.rest.as_slice(), ends)?;
+            self.rest = begun;
+            return Ok(());
+        }
+        self.rest.append(ends)?;
+        self.whole = mem::replace(&mut self.rest, begun);
+        self.at = 0;
+        self.has_whole = true;
         Ok(())
     }
+}
 
-    /// Lets go what was taken, where no whole line is left.
-    fn let_go(&mut self, alloc: Global)
-        ensures { self.new ≡ self.old }
-    {
-        if self.at == self.whole.as_slice().len() {
-            self.whole = List::new(alloc);
-            self.at = 0;
-        }
+/// Takes out all bytes behind this place, and lets those before it go.
+fn take_behind(alloc: Global, bytes: &mut Text, at: usize) -> Mem<Text>
+    requires { at ≤ length bytes.old.items }
+    ensures taken { IfOk result (λ taken. taken.items ≡ drop at bytes.old.items) }
+    ensures none { OnOk result (bytes.new.items ≡ []) }
+    ensures err { OnErr result (bytes.new ≡ bytes.old) }
+{
+    if at == 0 {
+        return Ok(mem::replace(bytes, List::new(alloc)));
     }
+    let mut taken = List::new(alloc);
+    taken.append(&bytes.as_slice()[at..])?;
+    *bytes = List::new(alloc);
+    Ok(taken)
+}
+
+/// Puts a newline and a line of two parts behind others.
+fn add_line(lines: &mut Text, front: &[u8], back: &[u8]) -> Mem<()>
+    ensures added { OnOk result (lines.new.items ≡ lines.old.items ++ 10 ∷ (front.now ++ back.now)) }
+    ensures err { OnErr result (lines.new.items ≡ lines.old.items) }
+{
+    lines.reserve(front.len() + back.len() + 1)?;
+    lines.put(b'\n');
+    lines.put_all(front);
+    lines.put_all(back);
+    Ok(())
 }
 
 /// Where the first newline is: `None` exactly where there is none.
