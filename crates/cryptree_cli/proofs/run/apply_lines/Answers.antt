@@ -1,6 +1,7 @@
-use Rattle.std.proofs.Common.{◌≡◌, ◌≤◌, false, Ok, Err, sym, ap, subst, ◌∙◌}
+use Rattle.std.proofs.Common.{◌≡◌, ◌≤◌, IsTrue, false, length, Ok, Err, sym, ap, subst, ◌∙◌}
 use Rattle.cryptree_cli.specs.Lines.{bytes_ahead, lines_ahead}
-use Rattle.cryptree_cli.specs.Running.{Ends, RanLines, RanTaking, TakesBehindFirst, version_limits}
+use Rattle.cryptree_cli.specs.Running.{Ends, Judges, RanLines, RanTaking, TakesBehindFirst, is_before_opening, is_run_answer, version_limits}
+use Rattle.cryptree_cli.proofs.FaultedRuns.{after_no_disk_fault, faulted_answers, faulted_behind, faulted_judges}
 use Rattle.cryptree_cli.proofs.LinesRun.{ran_lines, ran_taking}
 use Rattle.cryptree_cli.proofs.ReadFaults.{cut_lines}
 use Rattle.cryptree_cli.proofs.RunLemmas.{Fails, Step, calm_but, calm_is, disk_fault, ends_so, goes_on, random_fault, random_short}
@@ -196,3 +197,18 @@ returns-clause-read_whole_lines g c = λ is.
     c.args.reader c.run_lines.new.reader (g.S.Source.left c.args.input.now) (g.S.Source.left c.run_lines.new.input)
     (g.W.Sink.written c.args.out.now) (g.W.Sink.written c.run_lines.new.out) c.in-Err.ensures.ran
     (λ e. c.in-Err.ensures.unended (ap Err e)) (sym c.script_status.ensures ∙ is)
+
+pub returns-clause-answers : goal.returns-clause-answers
+returns-clause-answers g c = subst (λ status. IsTrue (is_run_answer status)) (sym c.script_status.ensures) (faulted_answers c.in-Err.fault)
+
+pub returns-clause-none_of_bytes : goal.returns-clause-none_of_bytes
+returns-clause-none_of_bytes g c = λ verdict none.
+    subst (λ status. Judges status verdict) (sym c.script_status.ensures) (faulted_judges c.in-Err.fault verdict none)
+
+pub returns-clause-stays : goal.returns-clause-stays
+returns-clause-stays g c = λ after. returns-clause-calm g c (after_no_disk_fault c.script_status.result after)
+
+pub returns-clause-not_first : goal.returns-clause-not_first
+returns-clause-not_first g c =
+    subst (λ status. is_before_opening status ≡ false) (sym c.script_status.ensures)
+    (faulted_behind c.in-Err.fault c.args.reader.given (length c.in-Err.ensures.ran.asked) c.requires.second c.in-Err.ensures.ran.number)

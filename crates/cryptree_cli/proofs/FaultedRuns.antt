@@ -1,0 +1,49 @@
+-- How `run` ends where its lines met a fault.
+use Rattle.std.proofs.Common.{◌≡◌, ◌≢◌, ◌+◌, ℕ, Option, None, Err, false, arith, refl, subst}
+use Rattle.std.specs.Prelude.{IsTrue}
+use Rattle.std.proofs.lemmas.Bool.{false≢true, ne_eqb}
+use Rattle.cryptree_cli.specs.Running.{Judges, is_after_opening, is_before_opening, is_run_answer, script_status}
+use Rattle.cryptree_cli.specs.Script.{NumbersBad}
+use Rattle.cryptree_cli.specs.declared.script.ScriptFault.{ScriptFault}
+use Rattle.cryptree_cli.specs.declared.script.ScriptFault.TheVariants.{BadLine, ReadFault, WriteFault, OutOfMemory, Applying}
+use Rattle.cryptree_cli.specs.declared.status.Status.{Status}
+use Rattle.cryptree_cli.specs.declared.status.Status.TheVariants as statuses
+use Rattle.holder_client.specs.Judging.{Failure}
+use Rattle.store_owner.specs.declared.apply_fault.ApplyFault.TheVariants as faults
+
+pub faulted_answers : (fault : ScriptFault) → IsTrue (is_run_answer (script_status fault))
+faulted_answers (BadLine line) = refl
+faulted_answers ReadFault = refl
+faulted_answers WriteFault = refl
+faulted_answers OutOfMemory = refl
+faulted_answers (Applying faults.RandomFault) = refl
+faulted_answers (Applying (faults.RandomShort given need)) = refl
+faulted_answers (Applying faults.DiskFault) = refl
+faulted_answers (Applying faults.Closed) = refl
+faulted_answers (Applying faults.OutOfMemory) = refl
+
+pub faulted_judges : (fault : ScriptFault) (verdict : Option Failure) → verdict ≡ None → Judges (script_status fault) verdict
+faulted_judges (BadLine line) verdict none = none
+faulted_judges ReadFault verdict none = tt
+faulted_judges WriteFault verdict none = none
+faulted_judges OutOfMemory verdict none = tt
+faulted_judges (Applying faults.RandomFault) verdict none = none
+faulted_judges (Applying (faults.RandomShort given need)) verdict none = none
+faulted_judges (Applying faults.DiskFault) verdict none = tt
+faulted_judges (Applying faults.Closed) verdict none = tt
+faulted_judges (Applying faults.OutOfMemory) verdict none = tt
+
+-- a bad line behind the first isn't the first
+pub faulted_behind : (fault : ScriptFault) (given asked : ℕ) → given ≡ 1 → NumbersBad (Err fault) (given + asked + 1) → is_before_opening (script_status fault) ≡ false
+faulted_behind (BadLine line) given asked first number = ne_eqb line 1 (λ is. omega (arith, number, first, is))
+faulted_behind ReadFault given asked first number = refl
+faulted_behind WriteFault given asked first number = refl
+faulted_behind OutOfMemory given asked first number = refl
+faulted_behind (Applying faults.RandomFault) given asked first number = refl
+faulted_behind (Applying (faults.RandomShort had need)) given asked first number = refl
+faulted_behind (Applying faults.DiskFault) given asked first number = refl
+faulted_behind (Applying faults.Closed) given asked first number = refl
+faulted_behind (Applying faults.OutOfMemory) given asked first number = refl
+
+pub after_no_disk_fault : (status : Status) → IsTrue (is_after_opening status) → status ≢ statuses.DiskFault
+after_no_disk_fault status after is = false≢true (subst (λ s. IsTrue (is_after_opening s)) is after)
