@@ -41,10 +41,10 @@ answered_more P Q more (statuses.NoHolder known) before after said = more (Err (
 answered_more P Q more statuses.Unseen before after said = more (Err statuses.Unseen) said
 
 -- a list that says so
-listed : List ℕ → Listed ℕ
+abbrev listed : List ℕ → Listed ℕ
 listed xs = record { items = xs; spare = 0 }
 
-as_seen : PlainSeen → Seen
+abbrev as_seen : PlainSeen → Seen
 as_seen s = record { batch = s.batch; node = s.node; name = listed s.name; bytes = listed s.bytes }
 
 plain_again : (seen : List PlainSeen) → map plain_seen (map as_seen seen) ≡ seen
