@@ -7,6 +7,4 @@ mod changes;
 #[cfg(test)]
 mod paths;
 #[cfg(test)]
-mod refusals;
-#[cfg(test)]
 mod trees;

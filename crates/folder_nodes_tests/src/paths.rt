@@ -1,7 +1,7 @@
-//! What is a name or a path, and what a path finds.
+//! What a path finds, and how long a name is told.
 use crate::trees::{Given, Tree, name_node, tree_of};
 use cry_base::{FileId, FolderId, Mem, Node};
-use folder_nodes::{Names, find, name_ok, path_ok};
+use folder_nodes::{Names, find};
 
 /// `/`, `/a`, `/a/b`, `/b`, `/b/a`, and a second `/a/b` with a folder `/a/b/c`.
 const FOLDERS: [Given; 7] = [
@@ -31,14 +31,6 @@ const FOUND: [(&[u8], Option<Node>); 9] = [
     (b"/a/x/x", None),
     (b"/a/", None),
 ];
-
-#[test]
-fn names_and_paths_are_those_of_the_grammar(rt: HostRuntime) {
-    assert!(rt; name_ok(b"a.B_c-9"));
-    assert!(rt; !name_ok(b".."));
-    assert!(rt; path_ok(b"/a/b"));
-    assert!(rt; !path_ok(b"//a"));
-}
 
 fn found(tree: &Option<Tree>, path: &[u8]) -> Option<Node> {
     match tree {

@@ -12,7 +12,7 @@ pub(crate) struct Tree {
     pub(crate) names: Names,
 }
 
-pub(crate) fn text(alloc: Global, bytes: &[u8]) -> Mem<Text> {
+fn text(alloc: Global, bytes: &[u8]) -> Mem<Text> {
     let mut text = List::new(alloc);
     text.append(bytes)?;
     Ok(text)
