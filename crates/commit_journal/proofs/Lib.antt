@@ -8,6 +8,7 @@ pub mod Judged
 pub mod KeptLemmas
 pub mod MayHaveJoined
 pub mod OpenedJournals
+pub mod OpenedMoments
 pub mod OwnedLemmas
 pub mod Pieces
 pub mod Spelled

@@ -14,6 +14,7 @@ pub mod Holding
 pub mod Publishing
 pub mod Standing
 pub mod Stopping
+pub mod Moments
 pub mod Journals
 pub mod Opening
 pub mod WholeLogs

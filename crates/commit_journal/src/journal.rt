@@ -102,6 +102,8 @@ impl Journal {
         ensures durable { OnOk result (IsDurable (D.may_leave disk.new) (D.shown disk.new)) }
         ensures size { OnOk result (D.size_of disk.new ≡ 42) }
         ensures told { is_some (D.shown disk.new) ≡ is_some (D.shown disk.old) }
+        ensures later { D.moment disk.old ≤ D.moment disk.new }
+        ensures time { GoesOn (D.moment disk.old) (D.since disk.old) (D.since disk.new) }
         ensures fault { IfErr result (λ fault. fault ≡ CommitFault.DiskFault) }
         ensures counts { CountsFault result (D.faults disk.old) (D.faults disk.new) }
     {
@@ -150,6 +152,8 @@ impl Journal {
         ensures durable { OnOk result (IsDurable (D.may_leave disk.new) (D.shown disk.new)) }
         ensures size { OnOk result (D.size_of disk.new ≡ 42) }
         ensures told { is_some (D.shown disk.new) ≡ is_some (D.shown disk.old) }
+        ensures later { D.moment disk.old ≤ D.moment disk.new }
+        ensures time { GoesOn (D.moment disk.old) (D.since disk.old) (D.since disk.new) }
         ensures fault { IfErr result (λ fault. fault ≡ CommitFault.DiskFault) }
         ensures counts { CountsFault result (D.faults disk.old) (D.faults disk.new) }
     {

@@ -4,9 +4,11 @@ ghost use Rattle.std.specs.Prelude.{◌≡◌, ◌≢◌, ◌⊎◌, ◌<◌, �
 ghost use Rattle.cry_io.specs.Counts.{CountsFault};
 ghost use Rattle.cry_io.specs.Stops.{IsDurable};
 ghost use Rattle.cry_io.specs.Told.{WhereTold, WhereBothTold};
+ghost use Rattle.batch_log.specs.Moments.{GoesOn, Throughout};
 ghost use Rattle.chacha_seal.specs.Sealing.{veil_of};
 ghost use Rattle.commit_journal.specs.Answering.{Answers};
 ghost use Rattle.commit_journal.specs.Logs.{AreInEpochs, epoch_behind};
+ghost use Rattle.commit_journal.specs.Moments.{FillsSlot, FillsThroughout, IsSameThroughout, KeepsHeld, OpensThroughout};
 ghost use Rattle.commit_journal.specs.Opening as opening;
 ghost use Rattle.commit_journal.specs.Placed.{plain_log, plain_placed};
 ghost use Rattle.commit_journal.specs.Places.{IsStanding};
@@ -54,6 +56,7 @@ fn read_owned_head<D: Disk>(disk: &mut D, limit: u64, past: &Past) -> Result<Hea
     ensures small { IfOk result (λ head. past.now.at + (110 + head.size) ≤ 268435456) }
     ensures next { IfOk result (opening.IsNext past.now) }
     ensures read_only { IsOnlyRead D.shown D.size_of D.may_leave disk.old disk.new }
+    ensures moments { IsSameThroughout D.shown D.may_leave D.moment D.since disk.old disk.new }
     ensures counts { D.faults disk.old ≤ D.faults disk.new }
     ensures disk_fault { result ≡ Err OpenFault.DiskFault → D.faults disk.old < D.faults disk.new }
 {
@@ -81,6 +84,7 @@ fn read_owned<D: Disk>(
     ensures in_epoch { IfOk result (λ turn. opening.IsTurnIn past.now (plain_turn turn)) }
     ensures stands { IfOk result (λ turn. IsStanding turn.placed) }
     ensures read_only { IsOnlyRead D.shown D.size_of D.may_leave disk.old disk.new }
+    ensures moments { IsSameThroughout D.shown D.may_leave D.moment D.since disk.old disk.new }
     ensures counts { D.faults disk.old ≤ D.faults disk.new }
     ensures disk_fault { result ≡ Err OpenFault.DiskFault → D.faults disk.old < D.faults disk.new }
 {
@@ -106,6 +110,7 @@ fn walk<D: Disk>(
     ensures count { IfOk result (λ w. w.past.number ≡ length w.placed.items) }
     ensures last { IfOk result (λ w. w.past.epoch.0 ≡ epoch_behind 0 (plain_log w.placed)) }
     ensures read_only { IsOnlyRead D.shown D.size_of D.may_leave disk.old disk.new }
+    ensures moments { IsSameThroughout D.shown D.may_leave D.moment D.since disk.old disk.new }
     ensures counts { D.faults disk.old ≤ D.faults disk.new }
     ensures disk_fault { result ≡ Err OpenFault.DiskFault → D.faults disk.old < D.faults disk.new }
 {
@@ -124,11 +129,15 @@ fn walk<D: Disk>(
 fn fill_slot<D: Disk>(disk: &mut D, owner: &Key<OwnerK>, placed: &Placed) -> Result<(), Failed>
     requires behind { 87 ≤ placed.now.place }
     requires inside { placed.now.place ≤ D.size_of disk.old }
+    requires nothing_pending { IsDurable (D.may_leave disk.old) (D.shown disk.old) }
     ensures filled { OnOk result (WhereBothTold (D.shown disk.old) (D.shown disk.new)
         (λ x y. y ≡ opening.written_at (placed.now.place - 32) (veil_of owner.now.bytes placed.now.epoch.0 placed.now.batch) x)) }
     ensures left { OnErr result (WhereBothTold (D.shown disk.old) (D.shown disk.new)
         (opening.LeavesSlot (placed.now.place - 32) (veil_of owner.now.bytes placed.now.epoch.0 placed.now.batch))) }
-    ensures durable { IsDurable (D.may_leave disk.old) (D.shown disk.old) → OnOk result (IsDurable (D.may_leave disk.new) (D.shown disk.new)) }
+    ensures durable { OnOk result (IsDurable (D.may_leave disk.new) (D.shown disk.new)) }
+    ensures later { D.moment disk.old ≤ D.moment disk.new }
+    ensures time { GoesOn (D.moment disk.old) (D.since disk.old) (D.since disk.new) }
+    ensures stops { WhereTold (D.shown disk.old) (λ x. Throughout (FillsSlot owner.now.bytes placed.now x) (D.since disk.new (D.moment disk.old))) }
     ensures told { is_some (D.shown disk.new) ≡ is_some (D.shown disk.old) }
     ensures size { D.size_of disk.new ≡ D.size_of disk.old }
     ensures counts { CountsFault result (D.faults disk.old) (D.faults disk.new) }
@@ -147,10 +156,14 @@ fn fill_slot<D: Disk>(disk: &mut D, owner: &Key<OwnerK>, placed: &Placed) -> Res
 fn fill_slots<D: Disk>(disk: &mut D, owner: &Key<OwnerK>, log: &[Placed]) -> Result<(), Failed>
     requires stands { All IsStanding log.now }
     requires inside { All (λ p. p.place ≤ D.size_of disk.old) log.now }
+    requires nothing_pending { IsDurable (D.may_leave disk.old) (D.shown disk.old) }
     ensures filled { OnOk result (WhereBothTold (D.shown disk.old) (D.shown disk.new)
         (λ x y. y ≡ opening.slots_filled owner.now.bytes (map plain_placed log.now) x)) }
     ensures left { OnErr result (WhereBothTold (D.shown disk.old) (D.shown disk.new) (opening.LeavesSlots owner.now.bytes (map plain_placed log.now))) }
-    ensures durable { IsDurable (D.may_leave disk.old) (D.shown disk.old) → OnOk result (IsDurable (D.may_leave disk.new) (D.shown disk.new)) }
+    ensures durable { OnOk result (IsDurable (D.may_leave disk.new) (D.shown disk.new)) }
+    ensures later { D.moment disk.old ≤ D.moment disk.new }
+    ensures time { GoesOn (D.moment disk.old) (D.since disk.old) (D.since disk.new) }
+    ensures stops { FillsThroughout owner.now.bytes (map plain_placed log.now) (D.shown disk.old) (D.since disk.new (D.moment disk.old)) }
     ensures told { is_some (D.shown disk.new) ≡ is_some (D.shown disk.old) }
     ensures size { D.size_of disk.new ≡ D.size_of disk.old }
     ensures counts { CountsFault result (D.faults disk.old) (D.faults disk.new) }
@@ -194,6 +207,11 @@ impl Journal {
         ensures refused { IfErr result (λ fault. (fault ≡ OpenFault.DiskFault) ⊎ IsUntouched D.shown D.size_of D.may_leave disk.old disk.new) }
         ensures interrupted { OnErr result (WhereBothTold (D.shown disk.old) (D.shown disk.new) (opening.LeavesGated limits.store_bytes owner.now.bytes)) }
         ensures left { OnErr result (WhereBothTold (D.shown disk.old) (D.shown disk.new) (StillStand limits.store_bytes owner.now.bytes)) }
+        ensures later { D.moment disk.old ≤ D.moment disk.new }
+        ensures time { GoesOn (D.moment disk.old) (D.since disk.old) (D.since disk.new) }
+        ensures stops { OpensThroughout limits.store_bytes owner.now.bytes (D.shown disk.old) (D.may_leave disk.old)
+            (D.since disk.new (D.moment disk.old)) }
+        ensures kept { KeepsHeld limits.store_bytes owner.now.bytes (D.shown disk.old) (D.may_leave disk.old) (D.since disk.new (D.moment disk.old)) }
         ensures counts { D.faults disk.old ≤ D.faults disk.new }
         ensures disk_fault { result ≡ Err OpenFault.DiskFault → D.faults disk.old < D.faults disk.new }
     {

@@ -3,6 +3,7 @@ ghost use Rattle.std.specs.Prelude.{◌≡◌, ◌≢◌, ◌<◌, ◌≤◌, �
 ghost use Rattle.cry_io.specs.Told.{WhereTold};
 ghost use Rattle.commit_journal.specs.Answering.{Answers};
 ghost use Rattle.commit_journal.specs.Log as log;
+ghost use Rattle.commit_journal.specs.Moments.{IsSameThroughout};
 ghost use Rattle.commit_journal.specs.Opening as opening;
 ghost use Rattle.commit_journal.specs.Reading.{IsOnlyRead};
 
@@ -56,6 +57,7 @@ pub(crate) fn read_start<D: Disk>(disk: &mut D, owner: &Key<OwnerK>) -> Result<P
     ensures fresh { IfOk result (λ past. (past.number ≡ 0) × (past.epoch.0 ≡ 0)) }
     ensures inside { OnOk result (42 ≤ D.size_of disk.old) }
     ensures read_only { IsOnlyRead D.shown D.size_of D.may_leave disk.old disk.new }
+    ensures moments { IsSameThroughout D.shown D.may_leave D.moment D.since disk.old disk.new }
     ensures counts { D.faults disk.old ≤ D.faults disk.new }
     ensures disk_fault { result ≡ Err OpenFault.DiskFault → D.faults disk.old < D.faults disk.new }
 {
@@ -75,6 +77,7 @@ pub(crate) fn read_head<D: Disk>(disk: &mut D, past: &Past) -> Result<Head, Open
     ensures small { IfOk result (λ head. past.now.at + (110 + head.size) ≤ 268435456) }
     ensures next { IfOk result (opening.IsNext past.now) }
     ensures read_only { IsOnlyRead D.shown D.size_of D.may_leave disk.old disk.new }
+    ensures moments { IsSameThroughout D.shown D.may_leave D.moment D.since disk.old disk.new }
     ensures counts { D.faults disk.old ≤ D.faults disk.new }
     ensures disk_fault { result ≡ Err OpenFault.DiskFault → D.faults disk.old < D.faults disk.new }
     ensures no_key { result ≢ Err OpenFault.WrongKey }

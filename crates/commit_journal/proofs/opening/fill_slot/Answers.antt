@@ -1,10 +1,11 @@
-use Rattle.std.proofs.Common.{◌≡◌, ◌≢◌, ◌+◌, ◌-◌, false, true, slice_range, arith, sym, ap, ◌∙◌}
+use Rattle.std.proofs.Common.{◌≡◌, ◌+◌, ◌-◌, arith, sym, ap, ◌∙◌}
+use Rattle.cry_io.specs.Stops.{IsDurable}
 use Rattle.std.proofs.lemmas.Result.{on_err_weaker, on_ok_weaker}
 use Rattle.chacha_seal.specs.Sealing.{veil_of}
 use Rattle.chacha_seal.proofs.SealingLemmas.{length-veil_of}
 use Rattle.commit_journal.specs.Opening.{written_at}
 use Rattle.commit_journal.proofs.OwnedLemmas.{same_slot}
-use Rattle.commit_journal.proofs.SlotsLeft.{slot_torn}
+use Rattle.commit_journal.proofs.OpenedMoments.{fills_then, same_bytes, same_in_call, torn_unfilled}
 use Rattle.commit_journal.proofs.opening.fill_slot.Goals as goal
 
 pub returns-then-tags_equal-clause-filled : goal.returns-then-tags_equal-clause-filled
@@ -29,18 +30,28 @@ pub returns-clause-left : goal.returns-clause-left
 returns-clause-left g c =
     let placed = c.args.placed.now in
     let place = placed.place - 32 in
-    let owner = c.args.owner.now.bytes in
-    let veil = veil_of owner placed.epoch.0 placed.batch in
     on_err_weaker c.refill_slot.result
     (λ torn. λ x y x_is y_is.
     let size = g.met.D.Disk.size_is_shown c.args.disk.now x x_is in
-    let read = c.in_ok-read_at.ensures.bytes x x_is in
-    let differ : slice_range x place (place + 32) ≢ veil = λ same.
-    let equal = c.tags_equal.ensures.1 (read ∙ same ∙ sym c.veil_key-veil.ensures) in
-    let wrong : true ≡ false = sym equal ∙ c.if-tags_equal.false in
-    let none : ⊥ = cc in
-    none
-    in
-    slot_torn place veil x y (omega (arith, size, c.requires.behind, c.requires.inside)) differ
+    torn_unfilled c.tags_equal.result place (veil_of c.args.owner.now.bytes placed.epoch.0 placed.batch) c.veil_key-veil.result c.read_at.new.buf x y
+    (omega (arith, size, c.requires.behind, c.requires.inside)) (c.in_ok-read_at.ensures.bytes x x_is) c.veil_key-veil.ensures c.tags_equal.ensures.1 c.if-tags_equal.false
     (torn x y (c.in_ok-read_at.ensures.shown ∙ x_is) y_is))
     c.refill_slot.ensures.torn
+
+pub returns-clause-stops : goal.returns-clause-stops
+returns-clause-stops g c x x_is =
+    let D = g.D.Disk in
+    let a = c.args.disk.now in
+    let b = c.read_at.new.self in
+    let e = c.refill_slot.new.disk in
+    let placed = c.args.placed.now in
+    let place = placed.place - 32 in
+    let size = g.met.D.Disk.size_is_shown a x x_is in
+    let durable : IsDurable (D.may_leave b) (D.shown b) = λ left leaves. c.in_ok-read_at.ensures.shown ∙ c.requires.nothing_pending left ((c.in_ok-read_at.ensures.stops left).0 leaves) in
+    fills_then c.args.owner.now.bytes placed x (D.moment a) (D.moment b) (D.since b) (D.since e) c.in_ok-read_at.ensures.time.later c.refill_slot.ensures.time
+    (same_bytes (D.shown a) (D.may_leave a) x (D.since b (D.moment a)) c.requires.nothing_pending x_is
+    (same_in_call D.shown D.may_leave D.moment D.since a b (λ s left at. g.met.D.Disk.only_now a s left at) c.in_ok-read_at.ensures.shown
+    (λ left. (c.in_ok-read_at.ensures.stops left).0) c.in_ok-read_at.ensures.time))
+    (λ y torn. torn_unfilled c.tags_equal.result place (veil_of c.args.owner.now.bytes placed.epoch.0 placed.batch) c.veil_key-veil.result c.read_at.new.buf x y
+    (omega (arith, size, c.requires.behind, c.requires.inside)) (c.in_ok-read_at.ensures.bytes x x_is) c.veil_key-veil.ensures c.tags_equal.ensures.1 c.if-tags_equal.false torn)
+    (c.refill_slot.ensures.stops durable x (c.in_ok-read_at.ensures.shown ∙ x_is))

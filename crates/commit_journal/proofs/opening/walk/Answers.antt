@@ -12,6 +12,7 @@ use Rattle.commit_journal.specs.Turns.{plain_turn}
 use Rattle.commit_journal.proofs.Counted.{as_many, counts_all, counts_more, counts_start, ends_more, ends_start}
 use Rattle.commit_journal.proofs.Judged.{fault_first}
 use Rattle.commit_journal.proofs.OwnedLemmas.{owned_before-fault, owned_before-end, owned_closed, owned_fails, owned_starts, owned_more}
+use Rattle.commit_journal.proofs.OpenedMoments.{same_twice}
 use Rattle.commit_journal.proofs.Walked.{only_read_twice}
 use Rattle.commit_journal.proofs.opening.walk.Goals as goal
 
@@ -35,6 +36,7 @@ loop-past-init g c =
       stands = rw c.new-log.ensures (All-nil IsStanding);
       on_disk = rw c.new-log.ensures (All-nil on_disk);
       read_only = c.in_ok-past.ensures.read_only;
+      moments = c.in_ok-past.ensures.moments;
       counted = rw c.new-log.ensures (counts_start c.in_ok-past.past c.in_ok-past.ensures.fresh.1);
       ends = rw c.new-log.ensures (ends_start c.in_ok-past.past c.in_ok-past.ensures.fresh.0 c.in_ok-past.ensures.fresh.1);
       counts = c.in_ok-past.ensures.counts;
@@ -58,6 +60,7 @@ loop-past-preserved g c =
     let past = c.loop-past.past in
     let turn = c.in_ok-turn.turn in
     let front = map plain_placed c.loop-past.log.items in
+    let D = g.D.Disk in
     let read = c.in_ok-turn.ensures.read_only in
     let next = c.in_ok-turn.ensures.next in
     let room = c.loop-past.invariant.room in
@@ -77,6 +80,8 @@ loop-past-preserved g c =
       stands = rw c.in_ok-push.ensures.items (All-append IsStanding c.loop-past.log.items (turn.placed ∷ []) c.loop-past.invariant.stands (All-cons IsStanding turn.placed [] c.in_ok-turn.ensures.stands (All-nil IsStanding)));
       on_disk = rw c.in_ok-push.ensures.items (All-append on_disk c.loop-past.log.items (turn.placed ∷ []) c.loop-past.invariant.on_disk (All-cons on_disk turn.placed [] there (All-nil on_disk)));
       read_only = only_read_twice g.D.Disk.shown g.D.Disk.size_of g.D.Disk.may_leave c.args.disk.now c.loop-past.disk c.read_owned.new.disk c.loop-past.invariant.read_only read;
+      moments = same_twice D.shown D.may_leave D.moment D.since c.args.disk.now c.loop-past.disk c.read_owned.new.disk c.loop-past.invariant.read_only.same_bytes
+          (λ left. (c.loop-past.invariant.read_only.same_stops left).0) c.loop-past.invariant.moments c.in_ok-turn.ensures.moments;
       counted = rw pushed (counts_more front past (plain_turn turn) c.in_ok-turn.ensures.in_epoch c.loop-past.invariant.counted);
       ends = rw pushed (ends_more front past (plain_turn turn) c.in_ok-turn.ensures.in_epoch next.number c.loop-past.invariant.ends);
       counts = omega (arith, c.loop-past.invariant.counts, c.in_ok-turn.ensures.counts);

@@ -1,5 +1,6 @@
 use Rattle.std.specs.Prelude.{All}
 use Rattle.std.proofs.Common.{◌≡◌, ◌≤◌, ◌-◌, ℕ, List, Some, map}
+use Rattle.commit_journal.specs.Moments.{IsSameThroughout}
 use Rattle.commit_journal.specs.Opening.{HasRoom}
 use Rattle.commit_journal.specs.Placed.{plain_placed}
 use Rattle.commit_journal.specs.Places.{IsStanding}
@@ -15,6 +16,7 @@ invariant-loop-past g l = record {
   stands : All IsStanding l.log.items;
   on_disk : All (λ p. p.place ≤ g.D.Disk.size_of l.fn.disk) l.log.items;
   read_only : IsOnlyRead g.D.Disk.shown g.D.Disk.size_of g.D.Disk.may_leave l.fn.disk l.disk;
+  moments : IsSameThroughout g.D.Disk.shown g.D.Disk.may_leave g.D.Disk.moment g.D.Disk.since l.fn.disk l.disk;
   counted : CountsOn (map plain_placed l.log.items) l.past;
   ends : EndsAt (map plain_placed l.log.items) l.past;
   counts : g.D.Disk.faults l.fn.disk ≤ g.D.Disk.faults l.disk;

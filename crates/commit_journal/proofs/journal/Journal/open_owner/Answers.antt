@@ -3,6 +3,8 @@ use Rattle.commit_journal.specs.declared.placed.Placed.{Placed}
 use Rattle.commit_journal.specs.Opening.{LeavesSlots, plain_walked, slots_filled}
 use Rattle.commit_journal.specs.Placed.{plain_placed}
 use Rattle.commit_journal.proofs.CommitLemmas.{on_err}
+use Rattle.commit_journal.specs.Moments.{FillsThroughout}
+use Rattle.commit_journal.proofs.OpenedMoments.{keeps_held, opens_all, opens_read, opens_same, same_in_call, time_in_all}
 use Rattle.commit_journal.proofs.SlotsLeft.{still_left, still_same}
 use Rattle.commit_journal.proofs.journal.Journal.open_owner.Goals as goal
 
@@ -55,3 +57,92 @@ returns-in_err-placed-clause-left g c =
     let both = sym y_is ∙ (c.in_err-placed.ensures.read_only.same_bytes ∙ c.in-Ok.ensures.shown ∙ x_is) in
     let same : y ≡ x = cc in
     still_same c.args.limits.store_bytes c.args.owner.now.bytes x y same)
+
+pub returns-in_default-clause-stops : goal.returns-in_default-clause-stops
+returns-in_default-clause-stops g c =
+    let D = g.D.Disk in
+    let a = c.args.disk.now in
+    let b = c.sync.new.self in
+    opens_same c.args.limits.store_bytes c.args.owner.now.bytes (D.shown a) (D.may_leave a) (D.since b (D.moment a))
+    (same_in_call D.shown D.may_leave D.moment D.since a b (λ s left at. g.met.D.Disk.only_now a s left at) c.sync.ensures.shown c.sync.ensures.stops c.sync.ensures.time)
+
+pub returns-in_default-clause-kept : goal.returns-in_default-clause-kept
+returns-in_default-clause-kept g c =
+    let D = g.D.Disk in
+    let a = c.args.disk.now in
+    keeps_held c.args.limits.store_bytes c.args.owner.now.bytes (D.shown a) (D.may_leave a) (D.since c.sync.new.self (D.moment a)) c.requires.known
+    (returns-in_default-clause-stops g c)
+
+pub returns-in_err-placed-clause-stops : goal.returns-in_err-placed-clause-stops
+returns-in_err-placed-clause-stops g c =
+    let D = g.D.Disk in
+    let a = c.args.disk.now in
+    let b = c.sync.new.self in
+    let e = c.walk.new.disk in
+    opens_read D.shown D.may_leave D.moment D.since a b e c.args.limits.store_bytes c.args.owner.now.bytes (λ s left at. g.met.D.Disk.only_now a s left at)
+    c.sync.ensures.shown c.sync.ensures.stops c.sync.ensures.time c.walk.ensures.moments
+
+pub returns-in_err-placed-clause-kept : goal.returns-in_err-placed-clause-kept
+returns-in_err-placed-clause-kept g c =
+    let D = g.D.Disk in
+    let a = c.args.disk.now in
+    keeps_held c.args.limits.store_bytes c.args.owner.now.bytes (D.shown a) (D.may_leave a) (D.since c.walk.new.disk (D.moment a)) c.requires.known
+    (returns-in_err-placed-clause-stops g c)
+
+pub returns-in_default-fill_slots-clause-time : goal.returns-in_default-fill_slots-clause-time
+returns-in_default-fill_slots-clause-time g c =
+    let D = g.D.Disk in
+    time_in_all D.shown D.may_leave D.moment D.since c.args.disk.now c.sync.new.self c.walk.new.disk c.fill_slots.new.disk
+    (λ d s left at. g.met.D.Disk.only_now d s left at) (λ d t s left early is leaves. g.met.D.Disk.counts_now d t s left early is leaves)
+    c.sync.ensures.time c.walk.ensures.moments c.fill_slots.ensures.time
+
+pub returns-in_default-fill_slots-clause-stops : goal.returns-in_default-fill_slots-clause-stops
+returns-in_default-fill_slots-clause-stops g c =
+    let D = g.D.Disk in
+    let a = c.args.disk.now in
+    let b = c.sync.new.self in
+    let e = c.walk.new.disk in
+    let f = c.fill_slots.new.disk in
+    let owner = c.args.owner.now.bytes in
+    let walked = c.in_ok-placed.field-0 in
+    let listed : c.as_slice.result.now ≡ walked.placed.items = cc in
+    opens_all D.shown D.may_leave D.moment D.since a b e f c.args.limits.store_bytes owner (plain_walked walked) (λ s left at. g.met.D.Disk.only_now a s left at)
+    c.sync.ensures.shown c.sync.ensures.stops c.sync.ensures.time c.walk.ensures.moments c.in_ok-placed.ensures.read_only.same_bytes c.fill_slots.ensures.time
+    c.in_ok-placed.ensures.verdict
+    (subst (λ (log : List Placed). FillsThroughout owner (map plain_placed log) (D.shown e) (D.since f (D.moment e))) listed c.fill_slots.ensures.stops)
+
+pub returns-in_default-fill_slots-clause-kept : goal.returns-in_default-fill_slots-clause-kept
+returns-in_default-fill_slots-clause-kept g c =
+    let D = g.D.Disk in
+    let a = c.args.disk.now in
+    keeps_held c.args.limits.store_bytes c.args.owner.now.bytes (D.shown a) (D.may_leave a) (D.since c.fill_slots.new.disk (D.moment a)) c.requires.known
+    (returns-in_default-fill_slots-clause-stops g c)
+
+pub returns-clause-time : goal.returns-clause-time
+returns-clause-time g c =
+    let D = g.D.Disk in
+    time_in_all D.shown D.may_leave D.moment D.since c.args.disk.now c.sync.new.self c.walk.new.disk c.fill_slots.new.disk
+    (λ d s left at. g.met.D.Disk.only_now d s left at) (λ d t s left early is leaves. g.met.D.Disk.counts_now d t s left early is leaves)
+    c.sync.ensures.time c.walk.ensures.moments c.fill_slots.ensures.time
+
+pub returns-clause-stops : goal.returns-clause-stops
+returns-clause-stops g c =
+    let D = g.D.Disk in
+    let a = c.args.disk.now in
+    let b = c.sync.new.self in
+    let e = c.walk.new.disk in
+    let f = c.fill_slots.new.disk in
+    let owner = c.args.owner.now.bytes in
+    let walked = c.in_ok-placed.field-0 in
+    let listed : c.as_slice.result.now ≡ walked.placed.items = cc in
+    opens_all D.shown D.may_leave D.moment D.since a b e f c.args.limits.store_bytes owner (plain_walked walked) (λ s left at. g.met.D.Disk.only_now a s left at)
+    c.sync.ensures.shown c.sync.ensures.stops c.sync.ensures.time c.walk.ensures.moments c.in_ok-placed.ensures.read_only.same_bytes c.fill_slots.ensures.time
+    c.in_ok-placed.ensures.verdict
+    (subst (λ (log : List Placed). FillsThroughout owner (map plain_placed log) (D.shown e) (D.since f (D.moment e))) listed c.fill_slots.ensures.stops)
+
+pub returns-clause-kept : goal.returns-clause-kept
+returns-clause-kept g c =
+    let D = g.D.Disk in
+    let a = c.args.disk.now in
+    keeps_held c.args.limits.store_bytes c.args.owner.now.bytes (D.shown a) (D.may_leave a) (D.since c.fill_slots.new.disk (D.moment a)) c.requires.known
+    (returns-clause-stops g c)

@@ -1,0 +1,176 @@
+-- The moments of calls that read a store, and of opening it for writing.
+use Rattle.std.proofs.Common.{◌≡◌, ◌≢◌, ◌≤◌, ◌-◌, Bool, true, false, slice_range, ◌⊎◌, ⊎_elim, inl, inr, ◌+◌, ◌<◌, ℕ, List, [], ◌∷◌, Option, Some, Ok, length, map, drop, get_or, arith, refl, sym, subst, ◌∙◌}
+use Rattle.std.specs.Prelude.{◌↔◌}
+use Rattle.cry_io.specs.Stops.{Elapses, IsDurable, Torn}
+use Rattle.cry_io.specs.Told.{WhereTold}
+use Rattle.chacha_seal.specs.Sealing.{veil_of}
+use Rattle.batch_log.specs.Moments.{GoesOn, Throughout, TornInto}
+use Rattle.batch_log.proofs.Moments.{goes_on_elapsed, goes_on_then, in_both, in_one_call}
+use Rattle.batch_log.proofs.WrittenMoments.{told_one}
+use Rattle.commit_journal.specs.declared.placed.Placed.{Placed}
+use Rattle.commit_journal.specs.Holding.{IsKept}
+use Rattle.commit_journal.specs.Laws.{batches_from}
+use Rattle.commit_journal.specs.Moments.{FillsSlot, FillsThroughout, IsSameThroughout, KeepsHeld, OpensThroughout}
+use Rattle.commit_journal.specs.Opening.{LeavesGated, LeavesSlot, LeavesSlots, OwnedLog, opening_verdict}
+use Rattle.commit_journal.specs.Placed.{PlainPlaced, plain_placed}
+use Rattle.commit_journal.specs.Reading.{IsOnlyRead}
+use Rattle.commit_journal.specs.Standing.{StandsFor}
+use Rattle.commit_journal.specs.WholeLogs.{StillStand}
+use Rattle.commit_journal.proofs.SlotsLeft.{left_here, slot_torn, still_left, still_same}
+use Rattle.commit_journal.proofs.StoppedCommits.{stays}
+
+-- ---- calls that only read
+
+-- two such calls
+pub same_twice : {D : Type 0} (shown : D → Option (List ℕ)) (may_leave : D → List ℕ → Type 0) (moment : D → ℕ) (since : D → ℕ → List ℕ → List ℕ → Type 0)
+    (a b e : D) → shown b ≡ shown a → ((c : List ℕ) → may_leave b c → may_leave a c) →
+    IsSameThroughout shown may_leave moment since a b → IsSameThroughout shown may_leave moment since b e → IsSameThroughout shown may_leave moment since a e
+same_twice shown may_leave moment since a b e same no_more first second =
+    let one = first.later in
+    let two = second.later in
+    record {
+      later = omega (arith, one, two);
+      time = goes_on_then (moment a) (moment b) (since a) (since b) (since e) one first.time second.time;
+      same = in_both (moment a) (moment b) (since b) (since e) (λ s c. (shown a ≡ Some s) × may_leave a c) one second.time first.same
+          (λ s c at. let is = second.same s c at in (sym same ∙ is.0, no_more c is.1));
+    }
+
+-- a call that only read, where nothing was pending
+pub same_bytes : (was : Option (List ℕ)) (left : List ℕ → Type 0) (x : List ℕ) (since : List ℕ → List ℕ → Type 0) → IsDurable left was → was ≡ Some x →
+    Throughout (λ s c. (was ≡ Some s) × left c) since → Throughout (λ s c. (s ≡ x) × (c ≡ x)) since
+same_bytes was left x since durable x_is same s c at =
+    let is = same s c at in (told_one was s x is.0 x_is, told_one was c x (durable c is.1) x_is)
+
+-- one call of the disk that only reads
+pub same_in_call : {D : Type 0} (shown : D → Option (List ℕ)) (may_leave : D → List ℕ → Type 0) (moment : D → ℕ) (since : D → ℕ → List ℕ → List ℕ → Type 0)
+    (a b : D) → ((s c : List ℕ) → since a (moment a) s c → (shown a ≡ Some s) × may_leave a c) → shown b ≡ shown a → ((c : List ℕ) → may_leave b c → may_leave a c) →
+    Elapses (moment a) (moment b) (since a) (since b) (shown b) (may_leave b) → Throughout (λ s c. (shown a ≡ Some s) × may_leave a c) (since b (moment a))
+same_in_call shown may_leave moment since a b only same no_more time =
+    in_one_call (moment a) (moment b) (since a) (since b) (shown a) (shown b) (may_leave a) (may_leave b) (λ s c. (shown a ≡ Some s) × may_leave a c)
+    only time (λ s c is leaves. (is, leaves)) (λ s c is leaves. (sym same ∙ is, no_more c leaves))
+
+-- ---- slots
+
+-- nothing is written yet
+pub none_left : (owner : List ℕ) (placed : List PlainPlaced) (x : List ℕ) → LeavesSlots owner placed x x
+unfolding LeavesSlots
+none_left owner [] x = refl
+none_left owner (p ∷ placed) x = inl (inl refl)
+
+-- a slot that was found without its veil key, with a write of it that was done in part
+pub torn_unfilled : (equal : Bool) (place : ℕ) (veil key slot x y : List ℕ) → place + 32 ≤ length x → slot ≡ slice_range x place (place + 32) → key ≡ veil →
+    (slot ≡ key → equal ≡ true) → equal ≡ false → Torn place 32 x y → LeavesSlot place veil x y
+torn_unfilled equal place veil key slot x y inside read key_is found unequal torn =
+    let differ : slice_range x place (place + 32) ≢ veil = λ same.
+    let wrong : true ≡ false = sym (found (read ∙ same ∙ sym key_is)) ∙ unequal in
+    let none : ⊥ = cc in
+    none
+    in
+    slot_torn place veil x y inside differ torn
+
+-- the moments of the slot's look-up, and of its write behind that
+pub fills_then : (owner : List ℕ) (p : Placed) (x : List ℕ) (first start : ℕ) (past since : ℕ → List ℕ → List ℕ → Type 0) → first ≤ start → GoesOn start past since →
+    Throughout (λ s c. (s ≡ x) × (c ≡ x)) (past first) → ((y : List ℕ) → Torn (p.place - 32) 32 x y → LeavesSlot (p.place - 32) (veil_of owner p.epoch.0 p.batch) x y) →
+    Throughout (TornInto (p.place - 32) 32 x) (since start) → Throughout (FillsSlot owner p x) (since first)
+fills_then owner p x first start past since order goes same torn after =
+    in_both first start past since (FillsSlot owner p x) order goes (λ s c at. let is = same s c at in (inl is.0, inl is.1))
+    (λ s c at. let both = after s c at in (torn s both.0, torn c both.1))
+
+-- the moments of one slot behind those of the slots before it
+pub fills_one : (owner : List ℕ) (log : List Placed) (i : ℕ) (p : Placed) (x y : List ℕ) (first start : ℕ) (past since : ℕ → List ℕ → List ℕ → Type 0) →
+    first ≤ start → GoesOn start past since → i < length log → p ≡ get_or log i p →
+    ((z : List ℕ) → LeavesSlots owner (map plain_placed (drop i log)) y z → LeavesSlots owner (map plain_placed log) x z) →
+    Throughout (λ s c. LeavesSlots owner (map plain_placed log) x s × LeavesSlots owner (map plain_placed log) x c) (past first) →
+    Throughout (FillsSlot owner p y) (since start) →
+    Throughout (λ s c. LeavesSlots owner (map plain_placed log) x s × LeavesSlots owner (map plain_placed log) x c) (since first)
+fills_one owner log i p x y first start past since order goes within is front before fills =
+    in_both first start past since (λ s c. LeavesSlots owner (map plain_placed log) x s × LeavesSlots owner (map plain_placed log) x c) order goes before
+    (λ s c at. let both = fills s c at in
+    (front s (left_here owner log i p y s within is both.0), front c (left_here owner log i p y c within is both.1)))
+
+-- at the start nothing is written
+pub fills_start : (owner : List ℕ) (placed : List PlainPlaced) (was : Option (List ℕ)) (left : List ℕ → Type 0) (since : List ℕ → List ℕ → Type 0) →
+    IsDurable left was → ((s c : List ℕ) → since s c → (was ≡ Some s) × left c) → FillsThroughout owner placed was since
+fills_start owner placed was left since durable only x x_is s c at =
+    let is = same_bytes was left x since durable x_is only s c at in
+    (subst (λ r. LeavesSlots owner placed x r) (sym is.0) (none_left owner placed x), subst (λ r. LeavesSlots owner placed x r) (sym is.1) (none_left owner placed x))
+
+-- ---- the whole opening
+
+still_gated : (limit : ℕ) (owner x c : List ℕ) → limit ≤ 268435456 → LeavesGated limit owner x c → StillStand limit owner x c
+still_gated limit owner x c known gated =
+    ⊎_elim (λ same. still_same limit owner x c same) (λ some. still_left limit owner x c some.0 known some.1 some.2) gated
+
+pub keeps_held : (limit : ℕ) (owner : List ℕ) (was : Option (List ℕ)) (left : List ℕ → Type 0) (since : List ℕ → List ℕ → Type 0) → limit ≤ 268435456 →
+    OpensThroughout limit owner was left since → KeepsHeld limit owner was left since
+keeps_held limit owner was left since known stops low high bodies holds within from to s c at =
+    let x = holds.shows in
+    ⊎_elim
+    (λ old. let b = holds.leaves c old in
+    (let is : IsKept (StandsFor owner) low high high c = record { held = b.held; from = b.from; to = inl b.to; stands_for = b.stands_for } in is))
+    (λ gated.
+    (let is : IsKept (StandsFor owner) low high high c = record {
+      held = batches_from 0 0 bodies;
+      from = from;
+      to = inl to;
+      stands_for = still_gated limit owner x.0 c known gated bodies (within x.0 x.1);
+    } in is))
+    (stops x.0 x.1 s c at).1
+
+-- while nothing is written
+pub opens_same : (limit : ℕ) (owner : List ℕ) (was : Option (List ℕ)) (left : List ℕ → Type 0) (since : List ℕ → List ℕ → Type 0) →
+    Throughout (λ s c. (was ≡ Some s) × left c) since → OpensThroughout limit owner was left since
+opens_same limit owner was left since same x x_is s c at =
+    let is = same s c at in (inl (told_one was s x is.0 x_is), inl is.1)
+
+-- and once slots are
+pub opens_filled : (limit : ℕ) (owner : List ℕ) (log : OwnedLog) (was : Option (List ℕ)) (left : List ℕ → Type 0) (since : List ℕ → List ℕ → Type 0) →
+    WhereTold was (λ x. opening_verdict limit owner x ≡ Ok log) → FillsThroughout owner log.placed was since → OpensThroughout limit owner was left since
+opens_filled limit owner log was left since verdict fills x x_is s c at =
+    let both = fills x x_is s c at in (inr (log, verdict x x_is, both.0), inr (inr (log, verdict x x_is, both.1)))
+
+-- the second of these behind the first
+pub opens_both : (limit : ℕ) (owner : List ℕ) (was : Option (List ℕ)) (left : List ℕ → Type 0) (first start : ℕ) (past since : ℕ → List ℕ → List ℕ → Type 0) →
+    first ≤ start → GoesOn start past since → OpensThroughout limit owner was left (past first) → OpensThroughout limit owner was left (since start) →
+    OpensThroughout limit owner was left (since first)
+opens_both limit owner was left first start past since order goes before after x x_is =
+    in_both first start past since (λ s c. LeavesGated limit owner x s × (left c ⊎ LeavesGated limit owner x c)) order goes (before x x_is) (after x x_is)
+
+-- while the disk was only synced and read
+pub opens_read : {D : Type 0} (shown : D → Option (List ℕ)) (may_leave : D → List ℕ → Type 0) (moment : D → ℕ) (since : D → ℕ → List ℕ → List ℕ → Type 0)
+    (a b e : D) (limit : ℕ) (owner : List ℕ) → ((s c : List ℕ) → since a (moment a) s c → (shown a ≡ Some s) × may_leave a c) → shown b ≡ shown a →
+    ((c : List ℕ) → may_leave b c → may_leave a c) → Elapses (moment a) (moment b) (since a) (since b) (shown b) (may_leave b) →
+    IsSameThroughout shown may_leave moment since b e → OpensThroughout limit owner (shown a) (may_leave a) (since e (moment a))
+opens_read shown may_leave moment since a b e limit owner only same no_more time moments =
+    opens_same limit owner (shown a) (may_leave a) (since e (moment a))
+    (in_both (moment a) (moment b) (since b) (since e) (λ s c. (shown a ≡ Some s) × may_leave a c) time.later moments.time
+    (same_in_call shown may_leave moment since a b only same no_more time)
+    (λ s c at. let is = moments.same s c at in (sym same ∙ is.0, no_more c is.1)))
+
+-- and then slots were filled
+pub opens_all : {D : Type 0} (shown : D → Option (List ℕ)) (may_leave : D → List ℕ → Type 0) (moment : D → ℕ) (since : D → ℕ → List ℕ → List ℕ → Type 0)
+    (a b e f : D) (limit : ℕ) (owner : List ℕ) (log : OwnedLog) → ((s c : List ℕ) → since a (moment a) s c → (shown a ≡ Some s) × may_leave a c) → shown b ≡ shown a →
+    ((c : List ℕ) → may_leave b c → may_leave a c) → Elapses (moment a) (moment b) (since a) (since b) (shown b) (may_leave b) →
+    IsSameThroughout shown may_leave moment since b e → shown e ≡ shown b → GoesOn (moment e) (since e) (since f) →
+    WhereTold (shown b) (λ x. opening_verdict limit owner x ≡ Ok log) → FillsThroughout owner log.placed (shown e) (since f (moment e)) →
+    OpensThroughout limit owner (shown a) (may_leave a) (since f (moment a))
+opens_all shown may_leave moment since a b e f limit owner log only same no_more time moments read goes verdict fills =
+    let first = time.later in
+    let second = moments.later in
+    opens_both limit owner (shown a) (may_leave a) (moment a) (moment e) (since e) (since f) (omega (arith, first, second)) goes
+    (opens_read shown may_leave moment since a b e limit owner only same no_more time moments)
+    (opens_filled limit owner log (shown a) (may_leave a) (since f (moment e)) (λ x is. verdict x (same ∙ is)) (λ x is. fills x (read ∙ (same ∙ is))))
+
+-- time in all of it
+pub time_in_all : {D : Type 0} (shown : D → Option (List ℕ)) (may_leave : D → List ℕ → Type 0) (moment : D → ℕ) (since : D → ℕ → List ℕ → List ℕ → Type 0)
+    (a b e f : D) → ((d : D) (s c : List ℕ) → since d (moment d) s c → (shown d ≡ Some s) × may_leave d c) →
+    ((d : D) (t : ℕ) (s c : List ℕ) → t ≤ moment d → shown d ≡ Some s → may_leave d c → since d t s c) →
+    Elapses (moment a) (moment b) (since a) (since b) (shown b) (may_leave b) → IsSameThroughout shown may_leave moment since b e →
+    GoesOn (moment e) (since e) (since f) → GoesOn (moment a) (since a) (since f)
+time_in_all shown may_leave moment since a b e f only counts time moments goes =
+    let first = time.later in
+    let second = moments.later in
+    goes_on_then (moment a) (moment e) (since a) (since e) (since f) (omega (arith, first, second))
+    (goes_on_then (moment a) (moment b) (since a) (since b) (since e) first
+    (goes_on_elapsed (moment a) (moment b) (since a) (since b) (shown a) (shown b) (may_leave a) (may_leave b) (only a) (counts a) (counts b) time) moments.time)
+    goes
