@@ -1,6 +1,5 @@
 -- The moments of calls that read a store, and of opening it for writing.
 use Rattle.std.proofs.Common.{◌≡◌, ◌≢◌, ◌≤◌, ◌-◌, Bool, true, false, slice_range, ◌⊎◌, ⊎_elim, inl, inr, ◌+◌, ◌<◌, ℕ, List, [], ◌∷◌, Option, Some, Ok, length, map, drop, get_or, arith, refl, sym, subst, ◌∙◌}
-use Rattle.std.specs.Prelude.{◌↔◌}
 use Rattle.cry_io.specs.Stops.{Elapses, IsDurable, Torn}
 use Rattle.cry_io.specs.Told.{WhereTold}
 use Rattle.chacha_seal.specs.Sealing.{veil_of}
@@ -13,11 +12,9 @@ use Rattle.commit_journal.specs.Laws.{batches_from}
 use Rattle.commit_journal.specs.Moments.{FillsSlot, FillsThroughout, IsSameThroughout, KeepsHeld, OpensThroughout}
 use Rattle.commit_journal.specs.Opening.{LeavesGated, LeavesSlot, LeavesSlots, OwnedLog, opening_verdict}
 use Rattle.commit_journal.specs.Placed.{PlainPlaced, plain_placed}
-use Rattle.commit_journal.specs.Reading.{IsOnlyRead}
 use Rattle.commit_journal.specs.Standing.{StandsFor}
 use Rattle.commit_journal.specs.WholeLogs.{StillStand}
 use Rattle.commit_journal.proofs.SlotsLeft.{left_here, slot_torn, still_left, still_same}
-use Rattle.commit_journal.proofs.StoppedCommits.{stays}
 
 -- ---- calls that only read
 
@@ -97,7 +94,7 @@ fills_start owner placed was left since durable only x x_is s c at =
 
 -- ---- the whole opening
 
-still_gated : (limit : ℕ) (owner x c : List ℕ) → limit ≤ 268435456 → LeavesGated limit owner x c → StillStand limit owner x c
+pub still_gated : (limit : ℕ) (owner x c : List ℕ) → limit ≤ 268435456 → LeavesGated limit owner x c → StillStand limit owner x c
 still_gated limit owner x c known gated =
     ⊎_elim (λ same. still_same limit owner x c same) (λ some. still_left limit owner x c some.0 known some.1 some.2) gated
 
