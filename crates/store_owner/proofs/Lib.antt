@@ -15,6 +15,7 @@ pub mod NotesKeyed
 pub mod NotesTold
 pub mod OpenedBehind
 pub mod OpenedContents
+pub mod OpenedKept
 pub mod OpenedOwners
 pub mod OpenedRings
 pub mod OwnerGoesOn

@@ -3,6 +3,7 @@ ghost use Rattle.std.specs.Prelude.{◌≡◌, ◌≢◌, ◌⊎◌, ◌<◌, �
 ghost use Rattle.cry_base.specs.declared.roles.Role.TheVariants.{Owner as OwnerRole};
 ghost use Rattle.cry_io.specs.Stops.{IsDurable};
 ghost use Rattle.cry_io.specs.Told.{WhereTold, WhereBothTold};
+ghost use Rattle.commit_journal.specs.Holding.{GoesOn};
 ghost use Rattle.commit_journal.specs.Logs.{AreInEpochs, epoch_behind};
 ghost use Rattle.commit_journal.specs.Opening.{IsOpened, LeavesGated, opening_verdict};
 ghost use Rattle.commit_journal.specs.Placed.{plain_log, plain_placed};
@@ -15,7 +16,7 @@ ghost use Rattle.public_fold.specs.Journal.{Journal as AnyJournal, Stand};
 ghost use Rattle.public_fold.specs.Lengths.{end_of};
 ghost use Rattle.public_fold.specs.Standing.{IsSeenAs};
 ghost use Rattle.journal_bytes.specs.Bytes.{image_of};
-ghost use Rattle.journal_bytes.specs.Journals.{IsSettled, StandsForJournal};
+ghost use Rattle.journal_bytes.specs.Journals.{HoldsBetween, IsSettled, Kept, StandsForJournal};
 ghost use Rattle.store_owner.specs.Opened.{AreContents, IsFilled, IsFresh, LeavesRefused, OpensAs, opened_of, placed_in};
 ghost use Rattle.store_owner.specs.Owned.{IsOwnerOf};
 
@@ -124,6 +125,9 @@ impl Owner {
     /// A store that is refused by its header or its log is left as it was, but for the sync. One that is refused by its payloads or
     /// records has its slots filled, and nothing else written. After any fault a journal for which the disk's bytes stood stands
     /// still, and after none is anything else written than slots of batches that passed their tests.
+    ///
+    /// A stop at any moment of the call leaves a journal between two, where the disk held between these at its start and showed one
+    /// whose log ends within the store limit.
     pub fn open_store<D: Disk>(
         alloc: Global,
         disk: &mut D,
@@ -153,6 +157,11 @@ impl Owner {
             end_of m ≤ limits.store_bytes → let end = length (image_of key m) in drop end y ≡ drop end x)) }
         ensures left { OnErr result ((m : AnyJournal) → WhereBothTold (D.shown disk.old) (D.shown disk.new)
             (λ x y. StandsForJournal key m x → end_of m ≤ limits.store_bytes → StandsForJournal key m y)) }
+        ensures later { D.moment disk.old ≤ D.moment disk.new }
+        ensures time { GoesOn (D.moment disk.old) (D.since disk.old) (D.since disk.new) }
+        ensures kept { (m m1 m2 : AnyJournal) → HoldsBetween key m1 m2 (D.shown disk.old) (D.may_leave disk.old) →
+            WhereTold (D.shown disk.old) (StandsForJournal key m) → end_of m ≤ limits.store_bytes →
+            Kept key m1 m2 m2 (D.since disk.new (D.moment disk.old)) }
         ensures counts { D.faults disk.old ≤ D.faults disk.new }
         ensures disk_fault { result ≡ Err OpenFault.DiskFault → D.faults disk.old < D.faults disk.new }
     {

@@ -3,12 +3,14 @@ use Rattle.std.proofs.lemmas.Result.{err_from_is_err_and}
 use Rattle.chacha_seal.specs.Keys.{KeyParts}
 use Rattle.cry_io.specs.Told.{WhereTold, WhereBothTold}
 use Rattle.commit_journal.specs.Answering.{IsFault}
+use Rattle.commit_journal.specs.Moments.{OpensThroughout}
 use Rattle.commit_journal.specs.Opening.{IsOpened, LeavesGated, opening_verdict, plain_opened, slots_filled}
 use Rattle.commit_journal.specs.Placed.{plain_log}
 use Rattle.commit_journal.specs.WholeLogs.{StillStand}
 use Rattle.commit_journal.proofs.CommitLemmas.{on_err}
 use Rattle.store_owner.proofs.OpenedBehind.{journal_filled, journal_left, journal_never, journal_settled, journal_stands, largest_verdict, same_verdict}
 use Rattle.store_owner.proofs.OpenedContents.{log_fails}
+use Rattle.store_owner.proofs.OpenedKept.{journals_kept}
 use Rattle.store_owner.proofs.RefusedStores.{behind_kept, is_filled, is_gated, on_each, on_ok, untouched_refused}
 use Rattle.store_owner.proofs.owner.Owner.open_store.Goals as goal
 
@@ -155,3 +157,23 @@ returns-clause-behind g c =
     (behind_kept limit c.args.key o was shows
     (subst (λ b. WhereTold was (λ s. opening_verdict limit b s ≡ Ok (plain_opened o))) bytes c.in_ok-opened.ensures.verdict)
     (subst (λ b. WhereBothTold was shows (λ x y. y ≡ slots_filled b (plain_log o.placed) x)) bytes c.in_ok-opened.ensures.filled) c.requires.known)
+
+pub returns-in_err-opened-clause-kept : goal.returns-in_err-opened-clause-kept
+returns-in_err-opened-clause-kept g c =
+    let D = g.D.Disk in
+    let a = c.args.disk.now in
+    let limit = c.args.limits.store_bytes in
+    let since = D.since c.open_owner.new.disk (D.moment a) in
+    let bytes = ap (λ (k : KeyParts). k.bytes) c.owner-owner.ensures in
+    journals_kept limit c.args.key (D.shown a) (D.may_leave a) since c.requires.known
+    (subst (λ b. OpensThroughout limit b (D.shown a) (D.may_leave a) since) bytes c.open_owner.ensures.stops)
+
+pub returns-clause-kept : goal.returns-clause-kept
+returns-clause-kept g c =
+    let D = g.D.Disk in
+    let a = c.args.disk.now in
+    let limit = c.args.limits.store_bytes in
+    let since = D.since c.open_owner.new.disk (D.moment a) in
+    let bytes = ap (λ (k : KeyParts). k.bytes) c.owner-owner.ensures in
+    journals_kept limit c.args.key (D.shown a) (D.may_leave a) since c.requires.known
+    (subst (λ b. OpensThroughout limit b (D.shown a) (D.may_leave a) since) bytes c.open_owner.ensures.stops)
