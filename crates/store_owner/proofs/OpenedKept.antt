@@ -1,5 +1,5 @@
 -- What opening a store kept at each moment, of journals.
-use Rattle.std.proofs.Common.{◌≡◌, ◌≤◌, ⊎_elim, inl, ℕ, List, Option, sym, subst, ◌∙◌}
+use Rattle.std.proofs.Common.{◌≤◌, ⊎_elim, inl, ℕ, List, Option, sym, subst, ◌∙◌}
 use Rattle.cry_io.specs.Told.{WhereTold}
 use Rattle.commit_journal.specs.Holding.{IsKept}
 use Rattle.commit_journal.specs.Image.{Batch}
