@@ -119,7 +119,6 @@ standing owner m = record {
   tag = last_tag owner (batches_of owner m);
   limit = 0;
   is_closed = false;
-  spare = 0;
   room = 0;
 }
 

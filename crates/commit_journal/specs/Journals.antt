@@ -11,7 +11,7 @@ use Rattle.commit_journal.specs.Standing.{StandsFor, StandsWhole, last_tag}
 
 -- the owner's key; how many batches the log has, the epoch that was begun last (0 for none), whether this session began it,
 -- where the next batch would begin, the last owner tag; the most bytes that the store may have; whether a disk fault closed
--- the journal; how many batches and how many bytes of a payload it has room for
+-- the journal; how many bytes of a payload it has room for
 pub record JournalState : Type 0 where
   pub owner : List ℕ
   pub batches : ℕ
@@ -21,7 +21,6 @@ pub record JournalState : Type 0 where
   pub tag : List ℕ
   pub limit : ℕ
   pub is_closed : Bool
-  pub spare : ℕ
   pub room : ℕ
 
 -- the batch that begins this epoch
@@ -100,6 +99,5 @@ empty_journal owner limit j = record {
   tag = check_of owner;
   limit = limit;
   is_closed = false;
-  spare = j.spare;
   room = j.room;
 }

@@ -113,7 +113,6 @@ journal_behind owner limit past j = record {
   tag = past.tag;
   limit = limit;
   is_closed = false;
-  spare = j.spare;
   room = j.room;
 }
 

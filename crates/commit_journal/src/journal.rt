@@ -1,5 +1,5 @@
 //! A journal that is open for writing: it knows what its next batch follows, and commits it.
-ghost use Rattle.std.specs.Prelude.{◌≡◌, ◌↔◌, ◌+◌, ◌-◌, ◌*◌, ◌<◌, ◌≤◌, ◌^◌, [], ◌∷◌, ◌++◌, codes, false, if◌then◌else◌, is_some, max, None, Some, Err, IfOk, IfErr, OnErr, OnOk, MatchResult, IsTrue};
+ghost use Rattle.std.specs.Prelude.{◌≡◌, ◌↔◌, ◌+◌, ◌-◌, ◌*◌, ◌<◌, ◌≤◌, ◌^◌, [], ◌∷◌, ◌++◌, codes, false, if◌then◌else◌, is_some, max, None, Some, Err, IfOk, IfErr, OnErr, OnOk, IsTrue};
 ghost use Rattle.cry_io.specs.Counts.{CountsFault};
 ghost use Rattle.cry_io.specs.Stops.{IsDurable};
 ghost use Rattle.cry_io.specs.Told.{WhereTold};
@@ -39,7 +39,6 @@ pub struct Journal {
     begun: bool,
     closed: bool,
     limit: u64,
-    starts: List<u64>,
     batch: Text,
 }
 
@@ -58,7 +57,6 @@ impl Model for Journal {
       tag = j.past.tag;
       limit = j.limit;
       is_closed = j.closed;
-      spare = j.starts.spare;
       room = j.batch.spare - 110;
     } };
 
@@ -132,7 +130,6 @@ impl Journal {
             begun: false,
             closed: true,
             limit: limits.store_bytes,
-            starts: List::new(alloc),
             batch: List::new(alloc),
         }
     }
@@ -175,7 +172,6 @@ impl Journal {
             begun: false,
             closed: false,
             limit: self.limit,
-            starts: mem::replace(&mut self.starts, List::new(self.alloc)),
             batch: mem::replace(&mut self.batch, List::new(self.alloc)),
         };
         Ok(())
@@ -199,7 +195,6 @@ impl Journal {
             begun: false,
             closed: false,
             limit: store_bytes,
-            starts: List::new(alloc),
             batch: List::new(alloc),
         }
     }
@@ -252,18 +247,15 @@ impl Journal {
         least <= self.limit && payload <= self.limit - least
     }
 
-    /// Takes the memory for two batches, of which one has a payload of so many bytes.
+    /// Takes the memory for a batch with a payload of so many bytes. One that begins an epoch takes none.
     pub fn prepare(&mut self, payload: u64) -> Mem<()>
-        ensures state { self.new ≡ record self.old { spare = self.new.spare; room = self.new.room } }
-        ensures spare { OnOk result (2 ≤ self.new.spare) }
+        ensures state { self.new ≡ record self.old { room = self.new.room } }
         ensures room { OnOk result (payload ≤ self.new.room) }
-        ensures spare_kept { self.old.spare ≤ self.new.spare }
         ensures room_kept { self.old.room ≤ self.new.room }
     {
         let Some(bytes) = payload.checked_add(BATCH_LEN) else {
             return Err(OutOfMemory);
         };
-        self.starts.reserve(2)?;
         self.batch.reserve(bytes as usize)
     }
 
@@ -294,7 +286,6 @@ impl Journal {
     /// Where nothing was pending, a stop at any moment of the call leaves the log with this batch or without, and none takes back what
     /// was published.
     pub fn begin_epoch<D: Disk>(&mut self, disk: &mut D) -> Result<Epoch, CommitFault>
-        requires spare { 1 ≤ self.old.spare }
         requires inside { self.old.is_closed ≡ false → self.old.end ≤ D.size_of disk.old }
         ensures refused { (fault : CommitFault) → journals.refusal self.old 0 ≡ Some fault →
             (result ≡ Err fault) × (self.new ≡ self.old) × (disk.new ≡ disk.old) }
@@ -314,7 +305,6 @@ impl Journal {
             (D.shown disk.old) (D.may_leave disk.old) (D.shown disk.new) (D.may_leave disk.new) }
         ensures epoch { IfOk result (λ epoch. epoch.0 ≡ self.old.epoch + 1) }
         ensures begun { OnOk result (IsTrue self.new.has_epoch) }
-        ensures spare { MatchResult result (λ _. self.old.spare ≤ self.new.spare + 1) (λ _. self.new.spare ≡ self.old.spare) }
         ensures room { self.new.room ≡ self.old.room }
         ensures owner { self.new.owner ≡ self.old.owner }
         ensures durable { OnOk result (IsDurable (D.may_leave disk.new) (D.shown disk.new)) }
@@ -342,7 +332,6 @@ impl Journal {
             self.closed = true;
             return Err(CommitFault::DiskFault);
         };
-        self.starts.put(end);
         self.past = Past {
             at: end + EPOCH_BATCH_LEN as u64,
             number,
@@ -366,7 +355,6 @@ impl Journal {
     pub fn commit<D: Disk>(&mut self, disk: &mut D, payload: &Payload) -> Result<(), CommitFault>
         requires begun { IsTrue self.old.has_epoch }
         requires spellable { IsSpellable (plain_payload payload.now) }
-        requires spare { 1 ≤ self.old.spare }
         requires room { payload_size (plain_payload payload.now) ≤ self.old.room }
         requires inside { self.old.is_closed ≡ false → self.old.end ≤ D.size_of disk.old }
         ensures refused { (fault : CommitFault) → journals.refusal self.old (payload_size (plain_payload payload.now)) ≡ Some fault →
@@ -389,7 +377,6 @@ impl Journal {
         ensures holds { stopping.HoldsLog (journals.next_command self.old (spell_payload (plain_payload payload.now))) self.old
             (D.shown disk.old) (D.may_leave disk.old) (D.shown disk.new) (D.may_leave disk.new) }
         ensures begun { self.new.has_epoch ≡ self.old.has_epoch }
-        ensures spare { MatchResult result (λ _. self.old.spare ≤ self.new.spare + 1) (λ _. self.new.spare ≡ self.old.spare) }
         ensures owner { self.new.owner ≡ self.old.owner }
         ensures durable { OnOk result (IsDurable (D.may_leave disk.new) (D.shown disk.new)) }
         ensures inside { OnOk result (self.new.end ≤ D.size_of disk.new) }
@@ -420,7 +407,6 @@ impl Journal {
             self.closed = true;
             return Err(CommitFault::DiskFault);
         };
-        self.starts.put(end);
         self.past = Past {
             at: end + (BATCH_LEN + size),
             number,

@@ -64,7 +64,7 @@ module _ (m : Journal) (r : Request) (drawn : List (List ℕ)) (old : OwnerView)
   }
 
   -- the session wasn't begun, as far as is known
-  early : old.journal.has_epoch ≡ false → (ready : JournalState) → ready ≡ record old.journal { spare = ready.spare; room = ready.room } → MayJoin (next_epoch ready) ready was shows
+  early : old.journal.has_epoch ≡ false → (ready : JournalState) → ready ≡ record old.journal { room = ready.room } → MayJoin (next_epoch ready) ready was shows
       → WhereBothTold was shows (λ x y. StandsWhole old.key (batches_of old.key m) x → Left y)
   unfolding entry_body
   early none ready room may = λ x y e f whole.

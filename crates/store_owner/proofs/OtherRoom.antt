@@ -29,10 +29,10 @@ use Rattle.store_owner.specs.declared.change.Change.{Change}
 use Rattle.store_owner.specs.declared.retitling.Retitling.{Retitling}
 
 -- the owner with this room
-abbrev with_room : OwnerView → ℕ → ℕ → ℕ → ℕ → ℕ → ℕ → OwnerView
-with_room o a b c d e f = record {
+abbrev with_room : OwnerView → ℕ → ℕ → ℕ → ℕ → ℕ → OwnerView
+with_room o b c d e f = record {
   key = o.key;
-  journal = record o.journal { spare = a; room = b };
+  journal = record o.journal { room = b };
   state = record o.state { spare = e; key_spare = f };
   names = record { folders = o.names.folders; files = o.names.files; spare = c };
   ring = record { keys = o.ring.keys; spare = d };
@@ -51,16 +51,16 @@ owner key journal state folders files c keys d counter file_bytes = record {
   file_bytes = file_bytes;
 }
 
-has_room : (old new : OwnerView) → HasOtherRoom old new → new ≡ with_room old new.journal.spare new.journal.room new.names.spare new.ring.spare new.state.spare new.state.key_spare
+has_room : (old new : OwnerView) → HasOtherRoom old new → new ≡ with_room old new.journal.room new.names.spare new.ring.spare new.state.spare new.state.key_spare
 has_room old new h =
     ap (λ x. owner x new.journal new.state new.names.folders new.names.files new.names.spare new.ring.keys new.ring.spare new.counter new.file_bytes) h.key
     ∙ ap (λ x. owner old.key x new.state new.names.folders new.names.files new.names.spare new.ring.keys new.ring.spare new.counter new.file_bytes) h.journal
-    ∙ ap (λ x. owner old.key (record old.journal { spare = new.journal.spare; room = new.journal.room }) x new.names.folders new.names.files new.names.spare new.ring.keys new.ring.spare new.counter new.file_bytes) h.state
-    ∙ ap (λ x. owner old.key (record old.journal { spare = new.journal.spare; room = new.journal.room }) (with_room_of old.state new.state) x new.names.files new.names.spare new.ring.keys new.ring.spare new.counter new.file_bytes) h.folder_names
-    ∙ ap (λ x. owner old.key (record old.journal { spare = new.journal.spare; room = new.journal.room }) (with_room_of old.state new.state) old.names.folders x new.names.spare new.ring.keys new.ring.spare new.counter new.file_bytes) h.file_names
-    ∙ ap (λ x. owner old.key (record old.journal { spare = new.journal.spare; room = new.journal.room }) (with_room_of old.state new.state) old.names.folders old.names.files new.names.spare x new.ring.spare new.counter new.file_bytes) h.ring_keys
-    ∙ ap (λ x. owner old.key (record old.journal { spare = new.journal.spare; room = new.journal.room }) (with_room_of old.state new.state) old.names.folders old.names.files new.names.spare old.ring.keys new.ring.spare x new.file_bytes) h.counter
-    ∙ ap (λ x. owner old.key (record old.journal { spare = new.journal.spare; room = new.journal.room }) (with_room_of old.state new.state) old.names.folders old.names.files new.names.spare old.ring.keys new.ring.spare old.counter x) h.file_bytes
+    ∙ ap (λ x. owner old.key (record old.journal { room = new.journal.room }) x new.names.folders new.names.files new.names.spare new.ring.keys new.ring.spare new.counter new.file_bytes) h.state
+    ∙ ap (λ x. owner old.key (record old.journal { room = new.journal.room }) (with_room_of old.state new.state) x new.names.files new.names.spare new.ring.keys new.ring.spare new.counter new.file_bytes) h.folder_names
+    ∙ ap (λ x. owner old.key (record old.journal { room = new.journal.room }) (with_room_of old.state new.state) old.names.folders x new.names.spare new.ring.keys new.ring.spare new.counter new.file_bytes) h.file_names
+    ∙ ap (λ x. owner old.key (record old.journal { room = new.journal.room }) (with_room_of old.state new.state) old.names.folders old.names.files new.names.spare x new.ring.spare new.counter new.file_bytes) h.ring_keys
+    ∙ ap (λ x. owner old.key (record old.journal { room = new.journal.room }) (with_room_of old.state new.state) old.names.folders old.names.files new.names.spare old.ring.keys new.ring.spare x new.file_bytes) h.counter
+    ∙ ap (λ x. owner old.key (record old.journal { room = new.journal.room }) (with_room_of old.state new.state) old.names.folders old.names.files new.names.spare old.ring.keys new.ring.spare old.counter x) h.file_bytes
 
 held_still : (keys : List KeyParts) (k : KeyState) (ring : Ringed) (d : ℕ) (counter : Counting) → HoldsKeys keys k ring counter → HoldsKeys keys k (record { keys = ring.keys; spare = d }) counter
 unfolding key_of
@@ -70,9 +70,9 @@ held_before : (keys : List KeyParts) (k : KeyState) (ring : Ringed) (d : ℕ) (c
 unfolding key_of
 held_before keys k ring d counter h = record { has_present = h.has_present; drawn_below = h.drawn_below; present_below = h.present_below; is_counted = h.is_counted }
 
-sound_with : (o : OwnerView) (a b c d e f : ℕ) → IsSound o → IsSound (with_room o a b c d e f)
+sound_with : (o : OwnerView) (b c d e f : ℕ) → IsSound o → IsSound (with_room o b c d e f)
 unfolding tree_store
-sound_with o a b c d e f s = record {
+sound_with o b c d e f s = record {
   turns = s.turns;
   keys = s.keys;
   fit = s.fit;
@@ -86,7 +86,7 @@ sound_with o a b c d e f s = record {
 }
 
 pub sound_still : (old new : OwnerView) → HasOtherRoom old new → IsSound old → IsSound new
-sound_still old new h s = subst IsSound (sym (has_room old new h)) (sound_with old _ _ _ _ _ _ s)
+sound_still old new h s = subst IsSound (sym (has_room old new h)) (sound_with old _ _ _ _ _ s)
 
 pub seen_still : (old new : OwnerView) → HasOtherRoom old new → (at : Stand) → IsSeenAs old.state at → IsSeenAs new.state at
 seen_still old new h at seen = subst (λ (o : OwnerView). IsSeenAs o.state at) (sym (has_room old new h)) seen
@@ -158,9 +158,9 @@ titles_before s (Revoke holder path) n new c h = kept_before n new c h
 pub store_still : (s : Store) (old new : OwnerView) → HasOtherRoom old new → IsStoreOf old.state.tree old.names (granted_in old) s → IsStoreOf new.state.tree new.names (granted_in new) s
 store_still s old new h is = subst (λ (o : OwnerView). IsStoreOf o.state.tree o.names (granted_in o) s) (sym (has_room old new h)) (store_with old.state.tree s old.names _ (granted_in old) is)
 
-drafted_with : (r : Request) (o : OwnerView) (p : Change) (a b c d e f : ℕ) → IsDrafted r o p → IsDrafted r (with_room o a b c d e f) p
+drafted_with : (r : Request) (o : OwnerView) (p : Change) (b c d e f : ℕ) → IsDrafted r o p → IsDrafted r (with_room o b c d e f) p
 unfolding tree_store
-drafted_with r o p a b c d e f h = record {
+drafted_with r o p b c d e f h = record {
   told = λ s is. h.told s (store_before o.state.tree s o.names c (granted_in o) is);
   same_note = h.same_note;
   is_skeleton = h.is_skeleton;
@@ -173,11 +173,11 @@ drafted_with r o p a b c d e f h = record {
 }
 
 pub drafted_still : (r : Request) (old new : OwnerView) (p : Change) → HasOtherRoom old new → IsDrafted r old p → IsDrafted r new p
-drafted_still r old new p h d = subst (λ (o : OwnerView). IsDrafted r o p) (sym (has_room old new h)) (drafted_with r old p _ _ _ _ _ _ d)
+drafted_still r old new p h d = subst (λ (o : OwnerView). IsDrafted r o p) (sym (has_room old new h)) (drafted_with r old p _ _ _ _ _ d)
 
-sealed_before : (r : Request) (drawn : List (List ℕ)) (o : OwnerView) (was : Option (List ℕ)) (a b c d e f : ℕ) → IsSealed r drawn (with_room o a b c d e f) was → IsSealed r drawn o was
+sealed_before : (r : Request) (drawn : List (List ℕ)) (o : OwnerView) (was : Option (List ℕ)) (b c d e f : ℕ) → IsSealed r drawn (with_room o b c d e f) was → IsSealed r drawn o was
 unfolding tree_store
-sealed_before r drawn o was a b c d e f h = record {
+sealed_before r drawn o was b c d e f h = record {
   note = h.note;
   skeleton = h.skeleton;
   payload = h.payload;
@@ -196,10 +196,10 @@ sealed_before r drawn o was a b c d e f h = record {
   payload_is = λ keys at other after held is. h.payload_is keys at other after (held_still keys at.keys o.ring d h.starts held) is;
 }
 
-carried_before : (r : Request) (drawn : List (List ℕ)) (o new : OwnerView) (was shows : Option (List ℕ)) (a b c d e f : ℕ) → IsCarriedOut r drawn (with_room o a b c d e f) new was shows → IsCarriedOut r drawn o new was shows
+carried_before : (r : Request) (drawn : List (List ℕ)) (o new : OwnerView) (was shows : Option (List ℕ)) (b c d e f : ℕ) → IsCarriedOut r drawn (with_room o b c d e f) new was shows → IsCarriedOut r drawn o new was shows
 unfolding tree_store sealed_before
-carried_before r drawn o new was shows a b c d e f h = record {
-  sealed = sealed_before r drawn o was a b c d e f h.sealed;
+carried_before r drawn o new was shows b c d e f h = record {
+  sealed = sealed_before r drawn o was b c d e f h.sealed;
   ends = h.ends;
   same_key = h.same_key;
   same_bound = h.same_bound;
@@ -214,16 +214,16 @@ carried_before r drawn o new was shows a b c d e f h = record {
   titles_then = λ s tree. titles_before s r o.names new.names c (h.titles_then s tree);
 }
 
-interrupted_before : (r : Request) (drawn : List (List ℕ)) (o : OwnerView) (was shows : Option (List ℕ)) (a b c d e f : ℕ) → IsInterrupted r drawn (with_room o a b c d e f) was shows → IsInterrupted r drawn o was shows
+interrupted_before : (r : Request) (drawn : List (List ℕ)) (o : OwnerView) (was shows : Option (List ℕ)) (b c d e f : ℕ) → IsInterrupted r drawn (with_room o b c d e f) was shows → IsInterrupted r drawn o was shows
 unfolding sealed_before
-interrupted_before r drawn o was shows a b c d e f (inl early) = inl early
-interrupted_before r drawn o was shows a b c d e f (inr late) = inr (sealed_before r drawn o was a b c d e f late.0, late.1)
+interrupted_before r drawn o was shows b c d e f (inl early) = inl early
+interrupted_before r drawn o was shows b c d e f (inr late) = inr (sealed_before r drawn o was b c d e f late.0, late.1)
 
 pub interrupted_from : (r : Request) (drawn : List (List ℕ)) (old between : OwnerView) (was shows : Option (List ℕ)) → HasOtherRoom old between → IsInterrupted r drawn between was shows → IsInterrupted r drawn old was shows
-interrupted_from r drawn old between was shows h c = interrupted_before r drawn old was shows _ _ _ _ _ _ (subst (λ (o : OwnerView). IsInterrupted r drawn o was shows) (has_room old between h) c)
+interrupted_from r drawn old between was shows h c = interrupted_before r drawn old was shows _ _ _ _ _ (subst (λ (o : OwnerView). IsInterrupted r drawn o was shows) (has_room old between h) c)
 
 pub carried_from : (r : Request) (drawn : List (List ℕ)) (old between new : OwnerView) (was shows : Option (List ℕ)) → HasOtherRoom old between → IsCarriedOut r drawn between new was shows → IsCarriedOut r drawn old new was shows
-carried_from r drawn old between new was shows h c = carried_before r drawn old new was shows _ _ _ _ _ _ (subst (λ (o : OwnerView). IsCarriedOut r drawn o new was shows) (has_room old between h) c)
+carried_from r drawn old between new was shows h c = carried_before r drawn old new was shows _ _ _ _ _ (subst (λ (o : OwnerView). IsCarriedOut r drawn o new was shows) (has_room old between h) c)
 
 pub accepted_still : (r : Request) (old new : OwnerView) → HasOtherRoom old new → refusal_of (own_store old) r old.file_bytes ≡ None → refusal_of (own_store new) r new.file_bytes ≡ None
 unfolding tree_store

@@ -45,7 +45,7 @@ sealed_text o r drawn = due_text (tree_store o.state.tree o.names) r ++ due_key 
 -- the owner once more, with other room for what is to come
 pub record HasOtherRoom (old new : OwnerView) : Type 0 where
   pub key : new.key ≡ old.key
-  pub journal : new.journal ≡ record old.journal { spare = new.journal.spare; room = new.journal.room }
+  pub journal : new.journal ≡ record old.journal { room = new.journal.room }
   pub state : new.state ≡ with_room_of old.state new.state
   pub folder_names : new.names.folders ≡ old.names.folders
   pub file_names : new.names.files ≡ old.names.files
@@ -68,7 +68,7 @@ pub record IsSealed (r : Request) (drawn : List (List ℕ)) (old : OwnerView) (w
   pub told : (s : Store) → IsStoreOf old.state.tree old.names (granted_in old) s → told_note note ≡ note_of s r (check_of (first_key drawn))
   pub is_skeleton : (at : Stand) (s : Store) → IsSeenAs old.state at → IsStoreOf old.state.tree old.names (granted_in old) s
       → IsSkeleton (told_step (begun (not old.journal.has_epoch) at) (note_of s r (replicate 32 0))) skeleton
-  pub has_room : ready ≡ record old.journal { spare = ready.spare; room = ready.room }
+  pub has_room : ready ≡ record old.journal { room = ready.room }
   pub begins : cond old.journal.has_epoch ((between ≡ ready) × (showed ≡ was)) (Joins (next_epoch ready) ready between was showed × (between.owner ≡ ready.owner))
   pub stays_told : is_some showed ≡ is_some was
   pub starts_as : cond old.journal.has_epoch (old.counter ≡ Some starts) (starts ≡ record { epoch = between.epoch; count = 0 })
@@ -98,7 +98,7 @@ pub record IsCarriedOut (r : Request) (drawn : List (List ℕ)) (old new : Owner
 -- committed, as far as is known.
 abbrev pub IsInterrupted : Request → List (List ℕ) → OwnerView → Option (List ℕ) → Option (List ℕ) → Type 0
 IsInterrupted r drawn old was shows =
-    ((old.journal.has_epoch ≡ false) × ((ready : JournalState) × (ready ≡ record old.journal { spare = ready.spare; room = ready.room }) × MayJoin (next_epoch ready) ready was shows))
+    ((old.journal.has_epoch ≡ false) × ((ready : JournalState) × (ready ≡ record old.journal { room = ready.room }) × MayJoin (next_epoch ready) ready was shows))
     ⊎ ((sealed : IsSealed r drawn old was) × MayJoin (next_command sealed.between (spell_payload sealed.payload)) sealed.between sealed.showed shows)
 
 -- An accepted command of an owner who stands for a journal: it drew keys from the next random bytes, its reply has them in their

@@ -76,7 +76,6 @@ pub record IsFurnished (r : Request) (o : OwnerView) (p : Change) (space : Space
   pub state_room : HasRoomFor o.state p.ready
   pub ring_room : length p.ready.skeleton.keys.items ≤ o.ring.spare
   pub names_room : 1 ≤ o.names.spare
-  pub journal_spare : 2 ≤ o.journal.spare
   pub journal_room : planned_size r p ≤ o.journal.room
   pub ends_within : end_with o.journal (planned_size r p) ≤ o.journal.limit
 
@@ -103,7 +102,6 @@ pub record HasBegun (old new : JournalState) (counter : Option Counting) (starts
   pub starts_as : cond old.has_epoch (counter ≡ Some starts) (starts ≡ record { epoch = new.epoch; count = 0 })
   pub has_begun : new.has_epoch ≡ true
   pub open_still : new.is_closed ≡ old.is_closed
-  pub spare : 1 ≤ new.spare
   pub room : new.room ≡ old.room
   pub owner : new.owner ≡ old.owner
   pub limit : new.limit ≡ old.limit

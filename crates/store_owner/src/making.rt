@@ -96,7 +96,6 @@ impl Blank {
         ensures records_room { IfOk result (λ room. IsSpaceFor room ready.now.skeleton) }
         ensures ring_room { OnOk result (6 ≤ self.new.ring.spare) }
         ensures names_room { OnOk result (1 ≤ self.new.names.spare) }
-        ensures journal_spare { OnOk result (2 ≤ self.new.journal.spare) }
         ensures journal_room { OnOk result (557 ≤ self.new.journal.room) }
     {
         self.journal.prepare(ROOT_PAYLOAD_LEN)?;
@@ -127,7 +126,6 @@ impl Blank {
         requires ring_room { 6 ≤ self.old.ring.spare }
         requires records_room { IsSpaceFor room ready.skeleton }
         requires names_room { 1 ≤ self.old.names.spare }
-        requires journal_spare { 2 ≤ self.old.journal.spare }
         requires journal_room { 557 ≤ self.old.journal.room }
         requires least { 819 ≤ self.old.journal.limit }
         requires five { length keys.now ≡ 5 }
@@ -179,7 +177,6 @@ impl Making {
         ensures ring_room { IfOk result (λ making. 6 ≤ making.blank.ring.spare) }
         ensures records_room { IfOk result (λ making. IsSpaceFor making.room making.ready.skeleton) }
         ensures names_room { IfOk result (λ making. 1 ≤ making.blank.names.spare) }
-        ensures journal_spare { IfOk result (λ making. 2 ≤ making.blank.journal.spare) }
         ensures journal_room { IfOk result (λ making. 557 ≤ making.blank.journal.room) }
         ensures limit { IfOk result (λ making. making.blank.journal.limit ≡ limits.store_bytes) }
     {
@@ -203,7 +200,6 @@ fn with_room(alloc: Global, mut blank: Blank, ready: Prepared) -> Mem<Making>
     ensures ring_room { IfOk result (λ making. 6 ≤ making.blank.ring.spare) }
     ensures records_room { IfOk result (λ making. IsSpaceFor making.room making.ready.skeleton) }
     ensures names_room { IfOk result (λ making. 1 ≤ making.blank.names.spare) }
-    ensures journal_spare { IfOk result (λ making. 2 ≤ making.blank.journal.spare) }
     ensures journal_room { IfOk result (λ making. 557 ≤ making.blank.journal.room) }
     ensures limit { IfOk result (λ making. making.blank.journal.limit ≡ blank.journal.limit) }
 {
@@ -230,7 +226,6 @@ fn made<D: Disk>(
     requires ring_room { 6 ≤ making.blank.ring.spare }
     requires records_room { IsSpaceFor making.room making.ready.skeleton }
     requires names_room { 1 ≤ making.blank.names.spare }
-    requires journal_spare { 2 ≤ making.blank.journal.spare }
     requires journal_room { 557 ≤ making.blank.journal.room }
     requires limit { making.blank.journal.limit ≡ limits.store_bytes }
     requires least { 819 ≤ limits.store_bytes }
@@ -356,7 +351,6 @@ fn write_store<D: Disk>(
     payload: &Payload,
 ) -> Result<(), CommitFault>
     requires blank { D.size_of disk.old ≡ 0 }
-    requires spare { 2 ≤ journal.old.spare }
     requires room { 557 ≤ journal.old.room }
     requires least { 819 ≤ journal.old.limit }
     requires spellable { IsSpellable (plain_payload payload.now) }

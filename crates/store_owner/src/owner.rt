@@ -285,7 +285,6 @@ impl Owner {
         ensures state { OnOk result (HasRoomFor self.new.state change.now.ready) }
         ensures ring { OnOk result (length change.now.ready.skeleton.keys.items ≤ self.new.ring.spare) }
         ensures names { OnOk result (1 ≤ self.new.names.spare) }
-        ensures spare { OnOk result (2 ≤ self.new.journal.spare) }
         ensures payload { OnOk result (size ≤ self.new.journal.room) }
     {
         self.journal.prepare(size)?;
@@ -368,7 +367,6 @@ fn begin<D: Disk>(
 ) -> Result<Counter, CommitFault>
     requires open { journal.old.is_closed ≡ false }
     requires inside { journal.old.end ≤ D.size_of disk.old }
-    requires spare { 2 ≤ journal.old.spare }
     requires room { journal.old.end + 110 ≤ journal.old.limit }
     requires counts { is_some counter ≡ journal.old.has_epoch }
     ensures begun { IfOk result (λ starts. HasBegun journal.old journal.new counter starts (D.shown disk.old) (D.shown disk.new)) }
@@ -399,7 +397,6 @@ fn commit_within<D: Disk>(
     requires inside { journal.old.end ≤ D.size_of disk.old }
     requires begun { IsTrue journal.old.has_epoch }
     requires spellable { IsSpellable (plain_payload payload.now) }
-    requires spare { 1 ≤ journal.old.spare }
     requires room { payload_size (plain_payload payload.now) ≤ journal.old.room }
     requires ends { journal.old.end + (110 + payload_size (plain_payload payload.now)) ≤ journal.old.limit }
     ensures behind { OnOk result (IsBehind (next_command journal.old (spell_payload (plain_payload payload.now))) journal.old journal.new) }

@@ -24,7 +24,6 @@ returns-clause-joined g c =
       begun = true;
       closed = inside.closed;
       limit = inside.limit;
-      starts = c.put.new.self;
       batch = inside.batch;
     }) in
     let behind : IsBehind (next_epoch old) old new = record {

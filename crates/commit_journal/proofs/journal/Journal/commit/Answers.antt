@@ -31,7 +31,6 @@ returns-clause-joined g c =
       begun = inside.begun;
       closed = inside.closed;
       limit = inside.limit;
-      starts = c.put.new.self;
       batch = c.replace-batch.new.dest;
     }) in
     let behind : IsBehind (next_command old payload) old new = record {

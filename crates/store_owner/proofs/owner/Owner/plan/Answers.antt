@@ -91,7 +91,6 @@ returns-clause-answers c =
         state_room = c.in_ok-room.ensures.state;
         ring_room = c.in_ok-room.ensures.ring;
         names_room = c.in_ok-room.ensures.names;
-        journal_spare = c.in_ok-room.ensures.spare;
         journal_room = subst (λ n. n ≤ c.furnish.new.self.journal.room) sized c.in_ok-room.ensures.payload;
         ends_within = subst (λ (j : JournalState). end_with j (planned_size r change) ≤ j.limit) (sym c.furnish.ensures.room.journal) within;
       },
