@@ -16,18 +16,27 @@ const FOR_CHECK: u8 = 4;
 
 const FOR_OWNER_TAG: u8 = 5;
 
-#[tactic(auto, unfolding(crate::specs::Sealing::cipher_key))]
-pub(crate) fn cipher_key(key: &[u8; 32]) -> [u8; 32]
-    ensures { result ≡ spec.cipher_key key.now }
-{
-    hmac(key, &[FOR_CIPHER], &[])
+/// The two keys that one seals with: that of its stream, and that of its tags.
+#[derive(Drop)]
+pub(crate) struct SealingKeys {
+    pub(crate) cipher: [u8; 32],
+    pub(crate) tag: [u8; 32],
 }
 
-#[tactic(auto, unfolding(crate::specs::Sealing::tag_key))]
-pub(crate) fn tag_key(key: &[u8; 32]) -> [u8; 32]
-    ensures { result ≡ spec.tag_key key.now }
+/// Derives both from one start, since HMAC takes the key in first.
+#[tactic(auto, unfolding(crate::specs::Sealing::cipher_key, crate::specs::Sealing::tag_key))]
+pub(crate) fn sealing_keys(key: &[u8; 32]) -> SealingKeys
+    ensures cipher { result.cipher ≡ spec.cipher_key key.now }
+    ensures tag { result.tag ≡ spec.tag_key key.now }
 {
-    hmac(key, &[FOR_TAG], &[])
+    let mut tag = Hmac::start(key);
+    let mut cipher = tag.copy();
+    cipher.add(&[FOR_CIPHER]);
+    tag.add(&[FOR_TAG]);
+    SealingKeys {
+        cipher: cipher.end(),
+        tag: tag.end(),
+    }
 }
 
 /// The key that the payload of batch `number` is masked under, in this epoch (docs/FORMAT.md).

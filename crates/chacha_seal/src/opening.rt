@@ -3,7 +3,7 @@ ghost use Rattle.std.specs.Prelude.{◌≡◌, ℕ, List, ◌↔◌, IsOk, IfOk,
 ghost use Rattle.chacha_seal.specs.Sealing.{sealed, seal_tag};
 
 use crate::Key;
-use crate::derived::{cipher_key, tag_key};
+use crate::derived::sealing_keys;
 use crate::stream::xor_stream;
 use cry_base::Serial;
 use hmac_seal::{hmac, tags_equal};
@@ -30,10 +30,11 @@ pub fn open_in_place<K>(
         → OnOk result (text.new ≡ plain) }
     ensures bad_tag { OnErr result (text.new ≡ text.old) }
 {
-    if !tags_equal(&hmac(&tag_key(key.bytes()), header, text), tag) {
+    let keys = sealing_keys(key.bytes());
+    if !tags_equal(&hmac(&keys.tag, header, text), tag) {
         return Err(BadTag);
     }
-    xor_stream(cipher_key(key.bytes()), nonce, text);
+    xor_stream(keys.cipher, nonce, text);
     Ok(())
 }
 

@@ -2,7 +2,7 @@
 ghost use Rattle.std.specs.Prelude.{◌≡◌, ℕ, List};
 ghost use Rattle.chacha_seal.specs.Sealing.{sealed, seal_tag, masked};
 
-use crate::derived::{cipher_key, tag_key};
+use crate::derived::sealing_keys;
 use crate::stream::xor_stream;
 use crate::{Key, Nonce};
 use hmac_seal::hmac;
@@ -14,8 +14,9 @@ pub fn seal_in_place<K>(key: &Key<K>, nonce: Nonce, header: &[u8], text: &mut [u
     ensures cipher { text.new ≡ sealed key.now.bytes nonce text.old }
     ensures tag { result ≡ seal_tag key.now.bytes header.now text.new }
 {
-    xor_stream(cipher_key(key.bytes()), nonce.spend(), text);
-    hmac(&tag_key(key.bytes()), header, text)
+    let keys = sealing_keys(key.bytes());
+    xor_stream(keys.cipher, nonce.spend(), text);
+    hmac(&keys.tag, header, text)
 }
 
 /// Lays the veil over a payload, or takes it away (docs/FORMAT.md): it is its own inverse.

@@ -30,6 +30,16 @@ impl Hmac {
         Hmac { inner, outer }
     }
 
+    /// The same key and the same message so far, once more.
+    pub fn copy(&self) -> Hmac
+        ensures { (key message : List ℕ) → Holds self.now key message → Holds result key message }
+    {
+        Hmac {
+            inner: same(&self.inner),
+            outer: same(&self.outer),
+        }
+    }
+
     /// Adds `part` at the end of the message.
     pub fn add(&mut self, part: &[u8])
         ensures { (key message : List ℕ) → Holds self.old key message
@@ -45,5 +55,15 @@ impl Hmac {
         let mut outer = self.outer;
         outer.update(self.inner.finalize());
         outer.finalize()
+    }
+}
+
+/// The hash as it stands, once more. A copy takes no memory, so that it can't fail.
+fn same(hash: &Sha256) -> Sha256
+    ensures { result ≡ hash.now }
+{
+    match hash.clone() {
+        Ok(copy) => copy,
+        Err(_) => unreachable!(),
     }
 }
