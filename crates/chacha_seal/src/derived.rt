@@ -17,7 +17,7 @@ const FOR_CHECK: u8 = 4;
 const FOR_OWNER_TAG: u8 = 5;
 
 /// The two keys that one seals with: that of its stream, and that of its tags.
-#[derive(Drop)]
+#[derive(Clone, Copy)]
 pub(crate) struct SealingKeys {
     pub(crate) cipher: [u8; 32],
     pub(crate) tag: [u8; 32],

@@ -1,27 +1,38 @@
 //! Keys, and keys whose serial isn't settled yet.
 ghost use Rattle.std.specs.Prelude.{◌≡◌, length};
+ghost use Rattle.chacha_seal.specs.Sealing.{cipher_key, seal_tag};
 
+use crate::derived::{SealingKeys, sealing_keys};
 use crate::{HolderK, Nonce, OwnerK};
 use cry_base::{HolderId, Serial};
+use hmac_seal::Hmac;
 use std::fmt;
 use std::marker::{Model, PhantomData};
 
 /// 32 secret bytes of one kind, with the number of the folder, file or holder whose key they are (0
-/// for the owner's), and with the key's serial.
+/// for the owner's), and with the key's serial. What it seals and tags with is derived once, when the key is made: a folder's
+/// key seals many records.
 #[derive(Drop)]
 pub struct Key<K> {
     id: u32,
     serial: Serial,
     bytes: [u8; 32],
+    cipher: [u8; 32],
+    tag: Hmac,
     kind: PhantomData<K>,
 }
 
 impl<K> Model for Key<K> {
+    ghost use Rattle.std.specs.Prelude.{◌≡◌, []};
+    ghost use Rattle.hmac_seal.specs.Holding.{Holds};
     ghost use Rattle.chacha_seal.specs.Keys.{KeyParts};
+    ghost use Rattle.chacha_seal.specs.Sealing.{cipher_key, tag_key};
 
     ghost Value = { KeyParts };
 
     ghost view = { λ key. record { id = key.id; serial = key.serial.0; bytes = key.bytes } };
+
+    ghost invariant = { λ key. (key.cipher ≡ cipher_key key.bytes) × Holds key.tag (tag_key key.bytes) [] };
 }
 
 impl Key<OwnerK> {
@@ -46,10 +57,13 @@ impl<K> Key<K> {
     pub(crate) fn of_parts(id: u32, serial: Serial, bytes: [u8; 32]) -> Key<K>
         ensures { result ≡ record { id = id; serial = serial.0; bytes = bytes } }
     {
+        let SealingKeys { cipher, tag } = sealing_keys(&bytes);
         Key {
             id,
             serial,
             bytes,
+            cipher,
+            tag: Hmac::start(&tag),
             kind: PhantomData,
         }
     }
@@ -66,6 +80,24 @@ impl<K> Key<K> {
         ensures { result.0 ≡ self.now.serial }
     {
         self.serial
+    }
+
+    /// The key of the stream that it seals with.
+    pub(crate) fn cipher(&self) -> [u8; 32]
+        ensures { result ≡ cipher_key self.now.bytes }
+    {
+        self.cipher
+    }
+
+    /// The tag that it makes of a header and the cipher bytes behind it.
+    #[tactic(auto, unfolding(crate::specs::Sealing::seal_tag))]
+    pub(crate) fn tag(&self, header: &[u8], cipher: &[u8]) -> [u8; 32]
+        ensures { result ≡ seal_tag self.now.bytes header.now cipher.now }
+    {
+        let mut tag = self.tag.copy();
+        tag.add(header);
+        tag.add(cipher);
+        tag.end()
     }
 
     /// The secret bytes.

@@ -3,10 +3,9 @@ ghost use Rattle.std.specs.Prelude.{◌≡◌, ℕ, List, ◌↔◌, IsOk, IfOk,
 ghost use Rattle.chacha_seal.specs.Sealing.{sealed, seal_tag};
 
 use crate::Key;
-use crate::derived::sealing_keys;
 use crate::stream::xor_stream;
 use cry_base::Serial;
-use hmac_seal::{hmac, tags_equal};
+use hmac_seal::tags_equal;
 use thiserror::Error;
 
 /// The tag isn't the one that the key makes of the header and the cipher bytes.
@@ -16,7 +15,7 @@ pub struct BadTag;
 
 /// Makes cipher bytes the text that was sealed, where `tag` is the one of `header` and these
 /// (docs/FORMAT.md). `BadTag` comes exactly where it isn't; the bytes are then as they were.
-#[tactic(auto, unfolding(crate::specs::Sealing::sealed, crate::specs::Sealing::seal_tag))]
+#[tactic(auto, unfolding(crate::specs::Sealing::sealed))]
 pub fn open_in_place<K>(
     key: &Key<K>,
     nonce: u64,
@@ -30,11 +29,10 @@ pub fn open_in_place<K>(
         → OnOk result (text.new ≡ plain) }
     ensures bad_tag { OnErr result (text.new ≡ text.old) }
 {
-    let keys = sealing_keys(key.bytes());
-    if !tags_equal(&hmac(&keys.tag, header, text), tag) {
+    if !tags_equal(&key.tag(header, text), tag) {
         return Err(BadTag);
     }
-    xor_stream(keys.cipher, nonce, text);
+    xor_stream(key.cipher(), nonce, text);
     Ok(())
 }
 

@@ -2,21 +2,18 @@
 ghost use Rattle.std.specs.Prelude.{◌≡◌, ℕ, List};
 ghost use Rattle.chacha_seal.specs.Sealing.{sealed, seal_tag, masked};
 
-use crate::derived::sealing_keys;
 use crate::stream::xor_stream;
 use crate::{Key, Nonce};
-use hmac_seal::hmac;
 
 /// Makes the text its cipher bytes, and answers the tag of `header` and these (docs/FORMAT.md). It
 /// spends the nonce.
-#[tactic(auto, unfolding(crate::specs::Sealing::sealed, crate::specs::Sealing::seal_tag))]
+#[tactic(auto, unfolding(crate::specs::Sealing::sealed))]
 pub fn seal_in_place<K>(key: &Key<K>, nonce: Nonce, header: &[u8], text: &mut [u8]) -> [u8; 32]
     ensures cipher { text.new ≡ sealed key.now.bytes nonce text.old }
     ensures tag { result ≡ seal_tag key.now.bytes header.now text.new }
 {
-    let keys = sealing_keys(key.bytes());
-    xor_stream(keys.cipher, nonce.spend(), text);
-    hmac(&keys.tag, header, text)
+    xor_stream(key.cipher(), nonce.spend(), text);
+    key.tag(header, text)
 }
 
 /// Lays the veil over a payload, or takes it away (docs/FORMAT.md): it is its own inverse.

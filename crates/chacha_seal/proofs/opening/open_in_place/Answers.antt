@@ -6,4 +6,4 @@ use Rattle.chacha_seal.proofs.opening.open_in_place.Goals as goal
 pub returns-clause-inverse : goal.returns-clause-inverse
 unfolding sealed
 returns-clause-inverse g c = λ plain was_sealed.
-    rw (c.xor_stream.ensures, was_sealed, c.sealing_keys-keys.ensures.cipher, c.bytes.ensures.bytes, xor_stream-xor_stream) refl
+    rw (c.xor_stream.ensures, was_sealed, c.cipher.ensures, xor_stream-xor_stream) refl
