@@ -3,14 +3,11 @@ ghost use Rattle.std.specs.Prelude.{◌≡◌};
 ghost use Rattle.chacha_seal.specs.Sealing as spec;
 
 use crate::{Key, OwnerK};
-use cry_base::Epoch;
 use hmac_seal::{Hmac, hmac};
 
 const FOR_CIPHER: u8 = 1;
 
 const FOR_TAG: u8 = 2;
-
-const FOR_VEIL: u8 = 3;
 
 const FOR_CHECK: u8 = 4;
 
@@ -39,18 +36,6 @@ pub(crate) fn sealing_keys(key: &[u8; 32]) -> SealingKeys
     }
 }
 
-/// The key that the payload of batch `number` is masked under, in this epoch (docs/FORMAT.md).
-#[tactic(auto, unfolding(crate::specs::Sealing::veil_of))]
-pub fn veil_key(owner: &Key<OwnerK>, epoch: Epoch, number: u32) -> [u8; 32]
-    ensures { result ≡ spec.veil_of owner.now.bytes epoch.0 number }
-{
-    let mut state = Hmac::start(owner.bytes());
-    state.add(&[FOR_VEIL]);
-    state.add(&epoch.0.to_be_bytes());
-    state.add(&number.to_be_bytes());
-    state.end()
-}
-
 /// What is published of an owner's or a holder's key, to tell a wrong one by (docs/FORMAT.md).
 #[tactic(auto, unfolding(crate::specs::Sealing::check_of))]
 pub fn check_of(key: &[u8; 32]) -> [u8; 32]
@@ -61,7 +46,7 @@ pub fn check_of(key: &[u8; 32]) -> [u8; 32]
 
 /// The key of the tags that chain the batches (docs/FORMAT.md).
 #[tactic(auto, unfolding(crate::specs::Sealing::owner_tag_key))]
-pub fn owner_tag_key(owner: &Key<OwnerK>) -> [u8; 32]
+pub(crate) fn owner_tag_key(owner: &Key<OwnerK>) -> [u8; 32]
     ensures { result ≡ spec.owner_tag_key owner.now.bytes }
 {
     hmac(owner.bytes(), &[FOR_OWNER_TAG], &[])

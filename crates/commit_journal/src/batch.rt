@@ -19,9 +19,9 @@ ghost use Rattle.commit_journal.specs.Journals as journals;
 
 use crate::BatchType;
 use crate::head::HEAD_LEN;
-use chacha_seal::{Key, OwnerK, mask_in_place, owner_tag_key};
+use chacha_seal::{LogKey, mask_in_place};
 use cry_base::{Epoch, Text};
-use hmac_seal::{Hmac, hmac};
+use hmac_seal::hmac;
 use record_format::{Payload, payload_len, put_payload};
 
 /// The bytes of a batch without a payload.
@@ -79,7 +79,7 @@ fn mask(veil: &[u8; 32], batch: &mut Text)
 
 /// The tag of a batch with this head, masked payload and check, behind a batch with the tag before.
 fn owner_tag(
-    owner: &Key<OwnerK>,
+    owner: &LogKey,
     previous: &[u8; 32],
     head: &[u8],
     payload: &[u8],
@@ -88,7 +88,7 @@ fn owner_tag(
     ensures { result ≡ mac.hmac (sealing.owner_tag_key owner.now.bytes)
         (previous.now ++ (head.now ++ (payload.now ++ check.now))) }
 {
-    let mut tag = Hmac::start(&owner_tag_key(owner));
+    let mut tag = owner.tag_start();
     tag.add(previous);
     tag.add(head);
     tag.add(payload);
@@ -96,7 +96,7 @@ fn owner_tag(
     tag.end()
 }
 
-fn put_tags(owner: &Key<OwnerK>, previous: &[u8; 32], veil: &[u8; 32], batch: &mut Text) -> [u8; 32]
+fn put_tags(owner: &LogKey, previous: &[u8; 32], veil: &[u8; 32], batch: &mut Text) -> [u8; 32]
     requires whole { 45 ≤ length batch.old.items }
     requires room { 65 ≤ batch.old.spare }
     ensures tag { let payload = drop 45 batch.old.items in
@@ -123,7 +123,7 @@ fn put_tags(owner: &Key<OwnerK>, previous: &[u8; 32], veil: &[u8; 32], batch: &m
 /// Masks the payload of a batch that ends with it, and puts the check, the owner tag and a closed gate behind it.
 /// The result is the owner tag.
 pub(crate) fn finish(
-    owner: &Key<OwnerK>,
+    owner: &LogKey,
     previous: &[u8; 32],
     veil: &[u8; 32],
     batch: &mut Text,
@@ -176,7 +176,7 @@ fn join_parts(front: &[u8; PAYLOAD], back: &[u8; BACK_LEN], batch: &mut [u8; EPO
 
 /// The batch that begins an epoch, with an empty slot and a closed gate behind it. It takes no memory.
 pub(crate) fn epoch_batch(
-    owner: &Key<OwnerK>,
+    owner: &LogKey,
     previous: &[u8; 32],
     veil: &[u8; 32],
     number: u32,
@@ -198,7 +198,7 @@ pub(crate) fn epoch_batch(
 /// Makes an empty text the batch of a payload, with an empty slot and a closed gate behind it. The result is its owner
 /// tag. It takes no memory.
 pub(crate) fn command_batch(
-    owner: &Key<OwnerK>,
+    owner: &LogKey,
     previous: &[u8; 32],
     veil: &[u8; 32],
     number: u32,

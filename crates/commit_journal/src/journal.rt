@@ -18,7 +18,7 @@ use crate::batch::{EPOCH_BATCH_LEN, EpochBatch, command_batch, epoch_batch};
 use crate::head::BATCH_LEN;
 use crate::past::Past;
 use batch_log::{append, write_header};
-use chacha_seal::{Key, OwnerK, check_of, veil_key};
+use chacha_seal::{Key, LogKey, OwnerK, check_of};
 use cry_base::{Epoch, Limits, List, Mem, OutOfMemory, Text};
 use cry_io::Disk;
 use record_format::{Payload, payload_len};
@@ -34,7 +34,7 @@ const CLOSED: u8 = 0;
 #[derive(Drop)]
 pub struct Journal {
     alloc: Global,
-    owner: Key<OwnerK>,
+    owner: LogKey,
     past: Past,
     begun: bool,
     closed: bool,
@@ -119,7 +119,7 @@ impl Journal {
     {
         Journal {
             alloc,
-            owner: Key::owner([0; 32]),
+            owner: LogKey::of(&Key::owner([0; 32])),
             past: Past {
                 at: HEADER_LEN as u64,
                 number: 0,
@@ -161,7 +161,7 @@ impl Journal {
         };
         *self = Journal {
             alloc: self.alloc,
-            owner: Key::owner(*owner.bytes()),
+            owner: LogKey::of(owner),
             past: Past {
                 at: HEADER_LEN as u64,
                 number: 0,
@@ -178,19 +178,14 @@ impl Journal {
     }
 
     /// A journal that goes on behind a log. It takes no memory.
-    pub(crate) fn behind(
-        alloc: Global,
-        owner: &Key<OwnerK>,
-        past: Past,
-        store_bytes: u64,
-    ) -> Journal
+    pub(crate) fn behind(alloc: Global, owner: LogKey, past: Past, store_bytes: u64) -> Journal
         requires room { opening.HasRoom past }
         requires known { store_bytes ≤ 268435456 }
-        ensures { result ≡ opening.journal_behind owner.now.bytes store_bytes past result }
+        ensures { result ≡ opening.journal_behind owner.bytes store_bytes past result }
     {
         Journal {
             alloc,
-            owner: Key::owner(*owner.bytes()),
+            owner,
             past,
             begun: false,
             closed: false,
@@ -320,7 +315,7 @@ impl Journal {
         let end = self.past.at;
         let number = self.past.number + 1;
         let epoch = Epoch(self.past.epoch.0 + 1);
-        let veil = veil_key(&self.owner, epoch, number);
+        let veil = self.owner.veil_key(epoch, number);
         let EpochBatch { bytes, tag } = epoch_batch(
             &self.owner,
             &self.past.tag,
@@ -392,7 +387,7 @@ impl Journal {
         let end = self.past.at;
         let number = self.past.number + 1;
         let epoch = self.past.epoch;
-        let veil = veil_key(&self.owner, epoch, number);
+        let veil = self.owner.veil_key(epoch, number);
         let mut batch = mem::replace(&mut self.batch, List::new(self.alloc));
         let tag = command_batch(
             &self.owner,

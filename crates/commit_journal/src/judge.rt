@@ -18,8 +18,8 @@ ghost use Rattle.commit_journal.specs.Turns.{plain_option, plain_turn, GoesOnAt}
 use crate::head::{BATCH_LEN, HEAD_LEN, Head};
 use crate::past::Past;
 use crate::{Body, OpenFault, Placed};
-use chacha_seal::{Key, OwnerK, mask_in_place, owner_tag_key};
-use hmac_seal::{Hmac, hmac, tags_equal};
+use chacha_seal::{LogKey, mask_in_place};
+use hmac_seal::{hmac, tags_equal};
 use record_format::{PayloadFault, read_payload};
 use std::alloc::Global;
 
@@ -49,16 +49,11 @@ pub(crate) fn array_at(bytes: &[u8], from: usize) -> [u8; 32]
 }
 
 #[tactic(auto, unfolding(crate::specs::Log::tag_due))]
-pub(crate) fn tag_due(
-    owner: &Key<OwnerK>,
-    previous: &[u8; 32],
-    size: usize,
-    batch: &[u8],
-) -> [u8; 32]
+pub(crate) fn tag_due(owner: &LogKey, previous: &[u8; 32], size: usize, batch: &[u8]) -> [u8; 32]
     requires { length batch.now ≡ 110 + size }
     ensures { result ≡ log.tag_due owner.now.bytes previous.now size batch.now }
 {
-    let mut tag = Hmac::start(&owner_tag_key(owner));
+    let mut tag = owner.tag_start();
     tag.add(previous);
     tag.add(&batch[..HEAD_LEN]);
     tag.add(&batch[PAYLOAD..PAYLOAD + size]);
@@ -198,7 +193,7 @@ pub(crate) fn turn_of(past: &Past, head: &Head, body: Body, tag: [u8; 32], gate:
 
 /// Whether the owner tag of a batch is the one that is due. Without the owner's key it isn't tested.
 #[tactic(auto, unfolding(crate::specs::Readers::has_tag))]
-pub(crate) fn has_tag(owner: Option<&Key<OwnerK>>, past: &Past, head: &Head, batch: &[u8]) -> bool
+pub(crate) fn has_tag(owner: Option<&LogKey>, past: &Past, head: &Head, batch: &[u8]) -> bool
     requires whole { length batch.now ≡ 110 + head.now.size }
     ensures { result ≡ readers.has_tag (readers.key_bytes (option_copied owner.entry)) past.now head.now batch.now }
 {
@@ -230,7 +225,7 @@ pub(crate) fn wrong_tag(past: &Past, head: &Head) -> OpenFault
 #[tactic(auto, unfolding(crate::specs::Readers::read_turn))]
 pub(crate) fn judge_read(
     alloc: Global,
-    owner: Option<&Key<OwnerK>>,
+    owner: Option<&LogKey>,
     past: &Past,
     head: &Head,
     batch: &mut [u8],
@@ -255,7 +250,7 @@ pub(crate) fn judge_read(
 #[tactic(auto, unfolding(crate::specs::Readers::again_turn))]
 pub(crate) fn judge_again(
     alloc: Global,
-    owner: Option<&Key<OwnerK>>,
+    owner: Option<&LogKey>,
     past: &Past,
     head: &Head,
     batch: &mut [u8],

@@ -23,7 +23,7 @@ use crate::past::Past;
 use crate::reading::{read_head, read_start};
 use crate::{Journal, OpenFault, Placed};
 use batch_log::refill_slot;
-use chacha_seal::{Key, OwnerK, veil_key};
+use chacha_seal::{Key, LogKey, OwnerK};
 use cry_base::{Limits, List};
 use cry_io::{Disk, Failed};
 use hmac_seal::tags_equal;
@@ -71,7 +71,7 @@ fn read_owned_head<D: Disk>(disk: &mut D, limit: u64, past: &Past) -> Result<Hea
 fn read_owned<D: Disk>(
     alloc: Global,
     disk: &mut D,
-    owner: &Key<OwnerK>,
+    owner: &LogKey,
     limit: u64,
     past: &Past,
 ) -> Result<Turn, OpenFault>
@@ -97,7 +97,7 @@ fn read_owned<D: Disk>(
 fn walk<D: Disk>(
     alloc: Global,
     disk: &mut D,
-    owner: &Key<OwnerK>,
+    owner: &LogKey,
     limit: u64,
 ) -> Result<Walked, OpenFault>
     ensures verdict { WhereTold (D.shown disk.old)
@@ -126,7 +126,7 @@ fn walk<D: Disk>(
 }
 
 /// Writes the veil key of a batch into its slot, if it doesn't stand there.
-fn fill_slot<D: Disk>(disk: &mut D, owner: &Key<OwnerK>, placed: &Placed) -> Result<(), Failed>
+fn fill_slot<D: Disk>(disk: &mut D, owner: &LogKey, placed: &Placed) -> Result<(), Failed>
     requires behind { 87 ≤ placed.now.place }
     requires inside { placed.now.place ≤ D.size_of disk.old }
     requires nothing_pending { IsDurable (D.may_leave disk.old) (D.shown disk.old) }
@@ -144,7 +144,7 @@ fn fill_slot<D: Disk>(disk: &mut D, owner: &Key<OwnerK>, placed: &Placed) -> Res
 {
     let _size = disk.size();
     let place = placed.place - SLOT_LEN;
-    let veil = veil_key(owner, placed.epoch, placed.batch);
+    let veil = owner.veil_key(placed.epoch, placed.batch);
     let mut slot = [0; 32];
     disk.read_at(place, &mut slot)?;
     if tags_equal(&slot, &veil) {
@@ -153,7 +153,7 @@ fn fill_slot<D: Disk>(disk: &mut D, owner: &Key<OwnerK>, placed: &Placed) -> Res
     refill_slot(disk, place, &veil)
 }
 
-fn fill_slots<D: Disk>(disk: &mut D, owner: &Key<OwnerK>, log: &[Placed]) -> Result<(), Failed>
+fn fill_slots<D: Disk>(disk: &mut D, owner: &LogKey, log: &[Placed]) -> Result<(), Failed>
     requires stands { All IsStanding log.now }
     requires inside { All (λ p. p.place ≤ D.size_of disk.old) log.now }
     requires nothing_pending { IsDurable (D.may_leave disk.old) (D.shown disk.old) }
@@ -215,11 +215,12 @@ impl Journal {
         ensures counts { D.faults disk.old ≤ D.faults disk.new }
         ensures disk_fault { result ≡ Err OpenFault.DiskFault → D.faults disk.old < D.faults disk.new }
     {
+        let owner = LogKey::of(owner);
         let Ok(()) = disk.sync() else {
             return Err(OpenFault::DiskFault);
         };
-        let Walked { placed, past } = walk(alloc, disk, owner, limits.store_bytes)?;
-        let Ok(()) = fill_slots(disk, owner, placed.as_slice()) else {
+        let Walked { placed, past } = walk(alloc, disk, &owner, limits.store_bytes)?;
+        let Ok(()) = fill_slots(disk, &owner, placed.as_slice()) else {
             return Err(OpenFault::DiskFault);
         };
         Ok(Opened {

@@ -9,14 +9,14 @@ use crate::OpenFault;
 use crate::head::Head;
 use crate::judge::{Turn, has_tag, unmask, wrong_tag};
 use crate::past::Past;
-use chacha_seal::{Key, OwnerK, veil_key};
+use chacha_seal::LogKey;
 use std::alloc::Global;
 
 /// Judges the bytes of a batch behind an open gate, and leaves its payload unmasked in them.
 #[tactic(auto, unfolding(crate::specs::Opening::owned_turn, crate::specs::Readers::has_tag))]
 pub(crate) fn judge_owned(
     alloc: Global,
-    owner: &Key<OwnerK>,
+    owner: &LogKey,
     past: &Past,
     head: &Head,
     batch: &mut [u8],
@@ -32,6 +32,6 @@ pub(crate) fn judge_owned(
     if !has_tag(Some(owner), past, head, batch) {
         return Err(wrong_tag(past, head));
     }
-    let veil = veil_key(owner, head.epoch, head.number);
+    let veil = owner.veil_key(head.epoch, head.number);
     unmask(alloc, past, head, &veil, batch)
 }

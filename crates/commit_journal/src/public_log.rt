@@ -19,7 +19,7 @@ use crate::judge::{OPEN, Turn, judge_again, judge_read};
 use crate::past::Past;
 use crate::reading::{HEADER_LEN, MAGIC, array_at, read_head};
 use crate::{OpenFault, Placed};
-use chacha_seal::{Key, OwnerK, check_of};
+use chacha_seal::{Key, LogKey, OwnerK, check_of};
 use cry_base::{Epoch, List, Mem};
 use cry_io::Disk;
 use hmac_seal::tags_equal;
@@ -84,7 +84,7 @@ fn read_header<D: Disk>(disk: &mut D, owner: Option<&Key<OwnerK>>) -> Result<Pas
 fn read_turn<D: Disk>(
     alloc: Global,
     disk: &mut D,
-    owner: Option<&Key<OwnerK>>,
+    owner: Option<&LogKey>,
     past: &Past,
 ) -> Result<Option<Turn>, OpenFault>
     requires behind { 42 ≤ past.now.at }
@@ -109,7 +109,7 @@ fn read_turn<D: Disk>(
 fn read_again<D: Disk>(
     alloc: Global,
     disk: &mut D,
-    owner: Option<&Key<OwnerK>>,
+    owner: Option<&LogKey>,
     past: &Past,
 ) -> Result<Turn, OpenFault>
     requires behind { 42 ≤ past.now.at }
@@ -129,11 +129,11 @@ fn read_again<D: Disk>(
     judge_again(alloc, owner, past, &head, &mut batch)
 }
 
-fn copy_of(owner: Option<&Key<OwnerK>>) -> Option<Key<OwnerK>>
+fn log_key_of(owner: Option<&Key<OwnerK>>) -> Option<LogKey>
     ensures { readers.key_bytes result ≡ readers.key_bytes (option_copied owner.entry) }
 {
     match owner {
-        Some(key) => Some(Key::owner(*key.bytes())),
+        Some(key) => Some(LogKey::of(key)),
         None => None,
     }
 }
@@ -142,7 +142,7 @@ fn copy_of(owner: Option<&Key<OwnerK>>) -> Option<Key<OwnerK>>
 /// gave it keeps what was known before it, which is 56 bytes.
 #[derive(Drop)]
 pub struct PublicLog {
-    owner: Option<Key<OwnerK>>,
+    owner: Option<LogKey>,
     past: Past,
     starts: List<Past>,
     given: Given,
@@ -184,10 +184,10 @@ impl PublicLog {
         ensures disk_fault { result ≡ Err OpenFault.DiskFault → D.faults disk.old < D.faults disk.new }
     {
         let past = read_header(disk, owner)?;
-        Ok(PublicLog::behind_header(alloc, copy_of(owner), past))
+        Ok(PublicLog::behind_header(alloc, log_key_of(owner), past))
     }
 
-    fn behind_header(alloc: Global, owner: Option<Key<OwnerK>>, past: Past) -> PublicLog
+    fn behind_header(alloc: Global, owner: Option<LogKey>, past: Past) -> PublicLog
         requires { (past.at ≡ 42) × (past.number ≡ 0) × (past.epoch.0 ≡ 0) }
         ensures { result ≡ record { owner = readers.key_bytes owner; given = []; starts = []; past = past } }
     {
@@ -199,7 +199,7 @@ impl PublicLog {
         }
     }
 
-    fn key(&self) -> Option<&Key<OwnerK>>
+    fn key(&self) -> Option<&LogKey>
         ensures { readers.key_bytes (option_copied result) ≡ self.now.owner }
     {
         self.owner.as_ref()

@@ -10,7 +10,7 @@ ghost use Rattle.commit_journal.specs.Reading.{IsOnlyRead};
 use crate::OpenFault;
 use crate::head::{BATCH_LEN, HEAD_LEN, Head, head_of, is_batch};
 use crate::past::Past;
-use chacha_seal::{Key, OwnerK, check_of};
+use chacha_seal::{LogKey, check_of};
 use cry_base::Epoch;
 use cry_io::Disk;
 use hmac_seal::tags_equal;
@@ -29,7 +29,7 @@ pub(crate) fn array_at(bytes: &[u8; HEADER_LEN]) -> [u8; 32]
 
 /// What is known behind the header.
 #[tactic(auto, unfolding(crate::specs::Log::start_of))]
-fn start_of(owner: &Key<OwnerK>, header: &[u8; HEADER_LEN]) -> Result<Past, OpenFault>
+fn start_of(owner: &LogKey, header: &[u8; HEADER_LEN]) -> Result<Past, OpenFault>
     ensures answer { Answers (λ past. past) result (log.start_of owner.now.bytes header.now) }
     ensures place { IfOk result (λ past. past.at ≡ 42) }
     ensures fresh { IfOk result (λ past. (past.number ≡ 0) × (past.epoch.0 ≡ 0)) }
@@ -51,7 +51,7 @@ fn start_of(owner: &Key<OwnerK>, header: &[u8; HEADER_LEN]) -> Result<Past, Open
     })
 }
 
-pub(crate) fn read_start<D: Disk>(disk: &mut D, owner: &Key<OwnerK>) -> Result<Past, OpenFault>
+pub(crate) fn read_start<D: Disk>(disk: &mut D, owner: &LogKey) -> Result<Past, OpenFault>
     ensures answer { WhereTold (D.shown disk.old) (λ s. Answers (λ past. past) result (log.start_at owner.now.bytes s)) }
     ensures place { IfOk result (λ past. past.at ≡ 42) }
     ensures fresh { IfOk result (λ past. (past.number ≡ 0) × (past.epoch.0 ≡ 0)) }

@@ -12,9 +12,9 @@ unfolding tag_behind
 returns-clause-stands g c = record {
   batches = refl;
   epoch = refl;
-  end = length-nothing c.owner.result.bytes;
+  end = length-nothing c.of.result.bytes;
   tag = c.check_of-check.ensures
-      ∙ ap check_of (c.bytes.ensures.bytes ∙ sym (ap (λ (key : KeyParts). key.bytes) c.owner.ensures ∙ c.bytes-2.ensures.bytes));
+      ∙ ap check_of (c.bytes.ensures.bytes ∙ sym (ap (λ (key : KeyParts). key.bytes) c.of.ensures));
 }
 
 pub returns-clause-shows : goal.returns-clause-shows

@@ -1,28 +1,35 @@
-use Rattle.std.proofs.Common.{◌≡◌, List, inl, inr, map, sym, ap, subst, ◌∙◌}
+use Rattle.std.proofs.Common.{◌≡◌, ℕ, List, inl, inr, map, sym, ap, subst, ◌∙◌}
 use Rattle.commit_journal.specs.declared.placed.Placed.{Placed}
-use Rattle.commit_journal.specs.Opening.{LeavesSlots, plain_walked, slots_filled}
+use Rattle.chacha_seal.specs.Keys.{KeyParts}
+use Rattle.commit_journal.specs.Opening.{LeavesGated, LeavesSlots, plain_walked, slots_filled}
+use Rattle.commit_journal.specs.WholeLogs.{StillStand}
 use Rattle.commit_journal.specs.Placed.{plain_placed}
+use Rattle.batch_log.proofs.Moments.{goes_on_elapsed}
 use Rattle.commit_journal.proofs.CommitLemmas.{on_err}
-use Rattle.commit_journal.specs.Moments.{FillsThroughout}
+use Rattle.commit_journal.specs.Moments.{FillsThroughout, OpensThroughout}
 use Rattle.commit_journal.proofs.OpenedMoments.{keeps_held, opens_all, opens_read, opens_same, same_in_call, time_in_all}
 use Rattle.commit_journal.proofs.SlotsLeft.{still_left, still_same}
 use Rattle.commit_journal.proofs.journal.Journal.open_owner.Goals as goal
 
 pub returns-clause-filled : goal.returns-clause-filled
 returns-clause-filled g c = λ x y x_is y_is.
-    let owner = c.args.owner.now.bytes in
+    let key : c.of-owner.result.bytes ≡ c.args.owner.now.bytes = ap (λ (k : KeyParts). k.bytes) c.of-owner.ensures in
+    let owner = c.of-owner.result.bytes in
     let listed : c.as_slice.result.now ≡ c.in_ok-placed.field-0.placed.items = cc in
     c.in-Ok-fill_slots.ensures.filled x y (c.in_ok-placed.ensures.read_only.same_bytes ∙ c.in-Ok.ensures.shown ∙ x_is) y_is
     ∙ ap (λ (log : List Placed). slots_filled owner (map plain_placed log) x) listed
+    ∙ ap (λ (k : List ℕ). slots_filled k (map plain_placed c.in_ok-placed.field-0.placed.items) x) key
 
 pub returns-in_default-fill_slots-clause-interrupted : goal.returns-in_default-fill_slots-clause-interrupted
 returns-in_default-fill_slots-clause-interrupted g c = λ x y x_is y_is.
-    let owner = c.args.owner.now.bytes in
+    let key : c.of-owner.result.bytes ≡ c.args.owner.now.bytes = ap (λ (k : KeyParts). k.bytes) c.of-owner.ensures in
+    let owner = c.of-owner.result.bytes in
     let walked = c.in_ok-placed.field-0 in
     let read = c.in-Ok.ensures.shown ∙ x_is in
     let listed : c.as_slice.result.now ≡ walked.placed.items = cc in
     let leaves = c.in_default-fill_slots.ensures.left x y (c.in_ok-placed.ensures.read_only.same_bytes ∙ read) y_is in
-    inr (plain_walked walked, c.in_ok-placed.ensures.verdict x read, subst (λ (log : List Placed). LeavesSlots owner (map plain_placed log) x y) listed leaves)
+    subst (λ (k : List ℕ). LeavesGated c.args.limits.store_bytes k x y) key
+    (inr (plain_walked walked, c.in_ok-placed.ensures.verdict x read, subst (λ (log : List Placed). LeavesSlots owner (map plain_placed log) x y) listed leaves))
 
 pub returns-in_default-clause-interrupted : goal.returns-in_default-clause-interrupted
 returns-in_default-clause-interrupted g c = λ x y x_is y_is.
@@ -37,13 +44,15 @@ returns-in_err-placed-clause-interrupted g c =
 
 pub returns-in_default-fill_slots-clause-left : goal.returns-in_default-fill_slots-clause-left
 returns-in_default-fill_slots-clause-left g c = λ x y x_is y_is.
-    let owner = c.args.owner.now.bytes in
+    let key : c.of-owner.result.bytes ≡ c.args.owner.now.bytes = ap (λ (k : KeyParts). k.bytes) c.of-owner.ensures in
+    let owner = c.of-owner.result.bytes in
     let walked = c.in_ok-placed.field-0 in
     let read = c.in-Ok.ensures.shown ∙ x_is in
     let listed : c.as_slice.result.now ≡ walked.placed.items = cc in
     let leaves = c.in_default-fill_slots.ensures.left x y (c.in_ok-placed.ensures.read_only.same_bytes ∙ read) y_is in
-    still_left c.args.limits.store_bytes owner x y (plain_walked walked) c.requires.known (c.in_ok-placed.ensures.verdict x read)
-    (subst (λ (log : List Placed). LeavesSlots owner (map plain_placed log) x y) listed leaves)
+    subst (λ (k : List ℕ). StillStand c.args.limits.store_bytes k x y) key
+    (still_left c.args.limits.store_bytes owner x y (plain_walked walked) c.requires.known (c.in_ok-placed.ensures.verdict x read)
+    (subst (λ (log : List Placed). LeavesSlots owner (map plain_placed log) x y) listed leaves))
 
 pub returns-in_default-clause-left : goal.returns-in_default-clause-left
 returns-in_default-clause-left g c = λ x y x_is y_is.
@@ -57,6 +66,15 @@ returns-in_err-placed-clause-left g c =
     let both = sym y_is ∙ (c.in_err-placed.ensures.read_only.same_bytes ∙ c.in-Ok.ensures.shown ∙ x_is) in
     let same : y ≡ x = cc in
     still_same c.args.limits.store_bytes c.args.owner.now.bytes x y same)
+
+pub returns-in_default-clause-time : goal.returns-in_default-clause-time
+returns-in_default-clause-time g c =
+    let D = g.D.Disk in
+    let a = c.args.disk.now in
+    let b = c.sync.new.self in
+    goes_on_elapsed (D.moment a) (D.moment b) (D.since a) (D.since b) (D.shown a) (D.shown b) (D.may_leave a) (D.may_leave b)
+    (λ s left at. g.met.D.Disk.only_now a s left at) (λ t s left early is leaves. g.met.D.Disk.counts_now a t s left early is leaves)
+    (λ t s left early is leaves. g.met.D.Disk.counts_now b t s left early is leaves) c.sync.ensures.time
 
 pub returns-in_default-clause-stops : goal.returns-in_default-clause-stops
 returns-in_default-clause-stops g c =
@@ -103,13 +121,15 @@ returns-in_default-fill_slots-clause-stops g c =
     let b = c.sync.new.self in
     let e = c.walk.new.disk in
     let f = c.fill_slots.new.disk in
-    let owner = c.args.owner.now.bytes in
+    let key : c.of-owner.result.bytes ≡ c.args.owner.now.bytes = ap (λ (k : KeyParts). k.bytes) c.of-owner.ensures in
+    let owner = c.of-owner.result.bytes in
     let walked = c.in_ok-placed.field-0 in
     let listed : c.as_slice.result.now ≡ walked.placed.items = cc in
-    opens_all D.shown D.may_leave D.moment D.since a b e f c.args.limits.store_bytes owner (plain_walked walked) (λ s left at. g.met.D.Disk.only_now a s left at)
+    subst (λ (k : List ℕ). OpensThroughout c.args.limits.store_bytes k (D.shown a) (D.may_leave a) (D.since f (D.moment a))) key
+    (opens_all D.shown D.may_leave D.moment D.since a b e f c.args.limits.store_bytes owner (plain_walked walked) (λ s left at. g.met.D.Disk.only_now a s left at)
     c.sync.ensures.shown c.sync.ensures.stops c.sync.ensures.time c.walk.ensures.moments c.in_ok-placed.ensures.read_only.same_bytes c.fill_slots.ensures.time
     c.in_ok-placed.ensures.verdict
-    (subst (λ (log : List Placed). FillsThroughout owner (map plain_placed log) (D.shown e) (D.since f (D.moment e))) listed c.fill_slots.ensures.stops)
+    (subst (λ (log : List Placed). FillsThroughout owner (map plain_placed log) (D.shown e) (D.since f (D.moment e))) listed c.fill_slots.ensures.stops))
 
 pub returns-in_default-fill_slots-clause-kept : goal.returns-in_default-fill_slots-clause-kept
 returns-in_default-fill_slots-clause-kept g c =
@@ -132,13 +152,15 @@ returns-clause-stops g c =
     let b = c.sync.new.self in
     let e = c.walk.new.disk in
     let f = c.fill_slots.new.disk in
-    let owner = c.args.owner.now.bytes in
+    let key : c.of-owner.result.bytes ≡ c.args.owner.now.bytes = ap (λ (k : KeyParts). k.bytes) c.of-owner.ensures in
+    let owner = c.of-owner.result.bytes in
     let walked = c.in_ok-placed.field-0 in
     let listed : c.as_slice.result.now ≡ walked.placed.items = cc in
-    opens_all D.shown D.may_leave D.moment D.since a b e f c.args.limits.store_bytes owner (plain_walked walked) (λ s left at. g.met.D.Disk.only_now a s left at)
+    subst (λ (k : List ℕ). OpensThroughout c.args.limits.store_bytes k (D.shown a) (D.may_leave a) (D.since f (D.moment a))) key
+    (opens_all D.shown D.may_leave D.moment D.since a b e f c.args.limits.store_bytes owner (plain_walked walked) (λ s left at. g.met.D.Disk.only_now a s left at)
     c.sync.ensures.shown c.sync.ensures.stops c.sync.ensures.time c.walk.ensures.moments c.in_ok-placed.ensures.read_only.same_bytes c.fill_slots.ensures.time
     c.in_ok-placed.ensures.verdict
-    (subst (λ (log : List Placed). FillsThroughout owner (map plain_placed log) (D.shown e) (D.since f (D.moment e))) listed c.fill_slots.ensures.stops)
+    (subst (λ (log : List Placed). FillsThroughout owner (map plain_placed log) (D.shown e) (D.since f (D.moment e))) listed c.fill_slots.ensures.stops))
 
 pub returns-clause-kept : goal.returns-clause-kept
 returns-clause-kept g c =

@@ -19,4 +19,4 @@ pub returns-clause-log : goal.returns-clause-log
 unfolding log_in
 returns-clause-log g c = λ s is.
     let who = key_bytes (option_copied c.args.owner) in
-    rw (c.behind_header.ensures, c.copy_of.ensures) (sym (read_starts who s c.in_ok-past.past (c.in_ok-past.ensures.answer s is) c.in_ok-past.ensures.place))
+    rw (c.behind_header.ensures, c.log_key_of.ensures) (sym (read_starts who s c.in_ok-past.past (c.in_ok-past.ensures.answer s is) c.in_ok-past.ensures.place))

@@ -1,0 +1,72 @@
+//! An owner's key as a log uses it.
+ghost use Rattle.std.specs.Prelude.{◌≡◌, []};
+ghost use Rattle.hmac_seal.specs.Holding.{Holds};
+ghost use Rattle.chacha_seal.specs.Sealing.{owner_tag_key, veil_of};
+
+use crate::derived::owner_tag_key;
+use crate::{Key, OwnerK};
+use cry_base::Epoch;
+use hmac_seal::Hmac;
+use std::marker::Model;
+
+const FOR_VEIL: u8 = 3;
+
+/// An owner's key, with what its veil keys and its owner tags begin with: each batch of a log takes both. Contracts see the key.
+#[derive(Drop)]
+pub struct LogKey {
+    key: Key<OwnerK>,
+    veils: Hmac,
+    tags: Hmac,
+}
+
+impl Model for LogKey {
+    ghost use Rattle.std.specs.Prelude.{[]};
+    ghost use Rattle.hmac_seal.specs.Holding.{Holds};
+    ghost use Rattle.chacha_seal.specs.Keys.{KeyParts};
+    ghost use Rattle.chacha_seal.specs.Sealing.{owner_tag_key};
+
+    ghost Value = { KeyParts };
+
+    ghost view = { λ k. k.key };
+
+    ghost invariant = { λ k. Holds k.veils k.key.bytes [] × Holds k.tags (owner_tag_key k.key.bytes) [] };
+}
+
+impl LogKey {
+    /// That of an owner's key.
+    pub fn of(owner: &Key<OwnerK>) -> LogKey
+        ensures { result ≡ owner.now }
+    {
+        LogKey {
+            key: Key::of_parts(owner.id(), owner.serial(), *owner.bytes()),
+            veils: Hmac::start(owner.bytes()),
+            tags: Hmac::start(&owner_tag_key(owner)),
+        }
+    }
+
+    /// The secret bytes.
+    pub fn bytes(&self) -> &[u8; 32]
+        ensures { result.now ≡ self.now.bytes }
+    {
+        self.key.bytes()
+    }
+
+    /// The start of a tag by which the owner chains a batch to those before it (docs/FORMAT.md).
+    pub fn tag_start(&self) -> Hmac
+        ensures { Holds result (owner_tag_key self.now.bytes) [] }
+    {
+        self.tags.copy()
+    }
+
+    /// The key that the payload of batch `number` is masked under, in this epoch (docs/FORMAT.md).
+    #[tactic(auto, unfolding(crate::specs::Sealing::veil_of))]
+    pub fn veil_key(&self, epoch: Epoch, number: u32) -> [u8; 32]
+        ensures { result ≡ veil_of self.now.bytes epoch.0 number }
+    {
+        let mut veil = self.veils.copy();
+        veil.add(&[FOR_VEIL]);
+        veil.add(&epoch.0.to_be_bytes());
+        veil.add(&number.to_be_bytes());
+        veil.end()
+    }
+}
