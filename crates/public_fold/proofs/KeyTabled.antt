@@ -1,5 +1,5 @@
 -- What a table of keys finds when keys come or go.
-use Rattle.std.proofs.Common.{◌≡◌, ℕ, ◌+◌, ◌*◌, ◌<◌, ◌≤◌, Bool, true, false, cond, ◌==◌, ◌&&◌, ◌||◌, List, ◌∷◌, ◌++◌, length, get_or, drop, Some, None, refl, sym, ap, ◌∙◌, arith}
+use Rattle.std.proofs.Common.{◌≡◌, ℕ, ◌+◌, ◌*◌, ◌<◌, ◌≤◌, Bool, true, false, cond, ◌==◌, ◌&&◌, ◌||◌, List, ◌∷◌, ◌++◌, length, get_or, drop, Some, None, refl, sym, ap, ◌∙◌, subst, ◌⊎◌, ⊎_elim, arith}
 use Rattle.std.specs.Prelude.{Option, IsSome, unwrap_or}
 use Rattle.std.specs.Option.{option_map}
 use Rattle.std.proofs.lemmas.Bool.{false≢true}
@@ -14,7 +14,9 @@ use Rattle.role_graph.specs.Roles.{variant_of, role_id, same_role}
 use Rattle.role_graph.proofs.Comparing.{same_role_tells}
 use Rattle.sorted_table.specs.Rows.{row_at, with_row, without, replaced}
 use Rattle.public_fold.specs.KeyStep.{keys_without, newest, present}
-use Rattle.public_fold.specs.KeyTables.{IsTableOf, key_rank, role_rank, serial_at}
+use Rattle.public_fold.specs.KeyTables.{IsTableOf, KeyRows, bearer_of, key_rank, role_rank, rows_for, serial_at, serial_in}
+use Rattle.public_fold.specs.declared.bearers.Bearer.{Bearer}
+use Rattle.public_fold.specs.declared.bearers.Bearer.TheVariants.{OfHolders, OfFolders, OfFiles}
 use Rattle.public_fold.proofs.KeepingKeys.{newest-first, newest-later, without-gone, without-kept}
 use Rattle.folder_nodes.proofs.Placing.{found_with, found_without, found_replaced}
 
@@ -66,8 +68,53 @@ module _ (rows : List (Role × ℕ)) where
       ∙ map_cond (λ (k : Role × ℕ). k.1) (role_rank gone == role_rank role) None (row_at key_rank rows (role_rank role))
       ∙ ap (λ b. cond b None (serial_at rows role)) (eq_turned (role_rank gone) (role_rank role) ∙ same_rank role gone)
 
+-- where one table changes, what is found changes at the roles of its bearers alone
+pub one_changed : (f g : Bearer → List (Role × ℕ)) (b : Bearer) (p : Role → Bool) (v : Option ℕ)
+    → ((role : Role) → p role ≡ true → bearer_of role ≡ b)
+    → ((role : Role) → serial_at (g b) role ≡ cond (p role) v (serial_at (f b) role))
+    → ((c : Bearer) → (c ≡ b) ⊎ (g c ≡ f c))
+    → (role : Role) → serial_at (g (bearer_of role)) role ≡ cond (p role) v (serial_at (f (bearer_of role)) role)
+one_changed f g b p v only came others role =
+    ⊎_elim
+    (λ (e : bearer_of role ≡ b). subst (λ c. serial_at (g c) role ≡ cond (p role) v (serial_at (f c) role)) (sym e) (came role))
+    (λ (e : g (bearer_of role) ≡ f (bearer_of role)).
+    (elim (p role) as (λ t. p role ≡ t → serial_at (g (bearer_of role)) role ≡ cond t v (serial_at (f (bearer_of role)) role)) [
+      | true ↦ λ t. subst (λ c. serial_at (g c) role ≡ v) (sym (only role t)) (came role ∙ ap (λ z. cond z v (serial_at (f b) role)) t)
+      | false ↦ λ t. ap (λ l. serial_at l role) e
+    ]) refl)
+    (others (bearer_of role))
+
+module _ (t u : KeyRows) (b : Bearer) (others : (c : Bearer) → (c ≡ b) ⊎ (rows_for u c ≡ rows_for t c)) where
+  -- a key that comes into the table of its bearers
+  pub put_in : (key : Role × ℕ) → bearer_of key.0 ≡ b
+      → ((role : Role) → serial_at (rows_for u b) role ≡ cond (same_role key.0 role) (Some key.1) (serial_at (rows_for t b) role))
+      → (role : Role) → serial_in u role ≡ cond (same_role key.0 role) (Some key.1) (serial_in t role)
+  unfolding serial_in
+  put_in key is came =
+      one_changed (rows_for t) (rows_for u) b (same_role key.0) (Some key.1)
+      (λ role same. ap bearer_of (sym ((same_role_tells key.0 role).0 same)) ∙ is) came others
+
+  -- and one that goes from it
+  pub gone_from : (gone : Role) → bearer_of gone ≡ b
+      → ((role : Role) → serial_at (rows_for u b) role ≡ cond (same_role role gone) None (serial_at (rows_for t b) role))
+      → (role : Role) → serial_in u role ≡ cond (same_role role gone) None (serial_in t role)
+  unfolding serial_in
+  gone_from gone is went =
+      one_changed (rows_for t) (rows_for u) b (λ role. same_role role gone) None
+      (λ role same. ap bearer_of ((same_role_tells role gone).0 same) ∙ is) went others
+
+-- from the same rows the same is found
+pub same_rows : (t u : KeyRows) → u.holders ≡ t.holders → u.folders ≡ t.folders → u.files ≡ t.files → (role : Role) → serial_in u role ≡ serial_in t role
+unfolding serial_in rows_for
+same_rows t u holders folders files role =
+    (elim (bearer_of role) as (λ b. serial_at (rows_for u b) role ≡ serial_at (rows_for t b) role) [
+      | OfHolders ↦ ap (λ l. serial_at l role) holders
+      | OfFolders ↦ ap (λ l. serial_at l role) folders
+      | OfFiles ↦ ap (λ l. serial_at l role) files
+    ])
+
 -- a key that came stands before the others
-pub with_key : (keys rows after : List (Role × ℕ)) (key : Role × ℕ) → ((role : Role) → serial_at after role ≡ cond (same_role key.0 role) (Some key.1) (serial_at rows role)) → IsTableOf keys rows → IsTableOf (key ∷ keys) after
+pub with_key : (keys : List (Role × ℕ)) (rows after : KeyRows) (key : Role × ℕ) → ((role : Role) → serial_in after role ≡ cond (same_role key.0 role) (Some key.1) (serial_in rows role)) → IsTableOf keys rows → IsTableOf (key ∷ keys) after
 unfolding newest
 with_key keys rows after key came is = λ role. came role ∙ ap (λ o. cond (same_role key.0 role) (Some key.1) o) (is role)
 
@@ -77,18 +124,19 @@ cond_twice true false o x = refl
 cond_twice false b o x = refl
 
 -- the keys of one role go, and then those of the others
-pub gone_more : (gone : List Role) (rows : List (Role × ℕ)) (i : ℕ) (d role : Role) → i < length gone
-    → cond (has same_role (drop (i + 1) gone) role) None (serial_at (without key_rank rows (role_rank (get_or gone i d))) role) ≡ cond (has same_role (drop i gone) role) None (serial_at rows role)
+pub gone_more : (gone : List Role) (rows after : KeyRows) (i : ℕ) (d role : Role) → i < length gone
+    → serial_in after role ≡ cond (same_role role (get_or gone i d)) None (serial_in rows role)
+    → cond (has same_role (drop (i + 1) gone) role) None (serial_in after role) ≡ cond (has same_role (drop i gone) role) None (serial_in rows role)
 unfolding has
-gone_more gone rows i d role h =
+gone_more gone rows after i d role h went =
     let rest : Bool = has same_role (drop (i + 1) gone) role in
-    ap (λ o. cond rest None o) (serial-without rows (get_or gone i d) role)
-    ∙ cond_twice (same_role role (get_or gone i d)) rest None (serial_at rows role)
-    ∙ sym (at_drop_more (λ l. cond (has same_role l role) None (serial_at rows role)) gone i d h)
+    ap (λ o. cond rest None o) went
+    ∙ cond_twice (same_role role (get_or gone i d)) rest None (serial_in rows role)
+    ∙ sym (at_drop_more (λ l. cond (has same_role l role) None (serial_in rows role)) gone i d h)
 
-pub gone_all : (gone : List Role) (rows : List (Role × ℕ)) (i : ℕ) (role : Role) → length gone ≤ i → cond (has same_role (drop i gone) role) None (serial_at rows role) ≡ serial_at rows role
+pub gone_all : (gone : List Role) (rows : KeyRows) (i : ℕ) (role : Role) → length gone ≤ i → cond (has same_role (drop i gone) role) None (serial_in rows role) ≡ serial_in rows role
 unfolding has
-gone_all gone rows i role h = at_drop_all (λ l. cond (has same_role l role) None (serial_at rows role)) gone i h
+gone_all gone rows i role h = at_drop_all (λ l. cond (has same_role l role) None (serial_in rows role)) gone i h
 
 -- the newest key among those whose role isn't gone
 pub newest-left : (gone : List Role) (keys : List (Role × ℕ)) (role : Role) → newest (keys_without gone keys) role ≡ cond (has same_role gone role) None (newest keys role)

@@ -1,11 +1,11 @@
 //! Keys as rows of a table, in the order of their roles.
-ghost use Rattle.std.specs.Prelude.{◌≡◌, ℕ, ◌+◌, ◌≤◌, ◌∷◌, ◌++◌, List, length};
+ghost use Rattle.std.specs.Prelude.{◌≡◌, ◌+◌, ◌≤◌, cond, option_map, Some, None};
 ghost use Rattle.cry_base.specs.declared.roles.Role.{Role as AnyRole};
-ghost use Rattle.public_fold.specs.KeyStep.{keys_without};
-ghost use Rattle.public_fold.specs.KeyTables.{IsTableOf, key_rank, role_rank};
+ghost use Rattle.public_fold.specs.KeyTables.{key_rank, role_rank, serial_at};
+ghost use Rattle.role_graph.specs.Roles.{same_role};
 
 use crate::KeyHead;
-use cry_base::Role;
+use cry_base::{Role, Serial};
 use sorted_table::{Key, Ranked, Table};
 use std::cmp::Ordering;
 
@@ -58,31 +58,20 @@ impl Key<KeyHead> for RolePlace {
     }
 }
 
-/// Takes the keys of some roles out.
-pub(crate) fn remove_keys(rows: &mut Table<KeyHead>, gone: &[Role])
-    ensures keys { (keys : List (AnyRole × ℕ)) → IsTableOf keys rows.old.rows → IsTableOf (keys_without gone.now keys) rows.new.rows }
-    ensures spare { rows.old.spare ≤ rows.new.spare }
+/// The serial of the role's key among the rows.
+pub(crate) fn serial_among(rows: &Table<KeyHead>, role: Role) -> Option<Serial>
+    ensures { option_map (λ serial. serial.0) result ≡ serial_at rows.now.rows role }
 {
-    for role in gone {
-        rows.remove(&RolePlace::of(*role));
-    }
-}
-
-/// Puts these keys before those that are there: of two for one role the first one counts.
-pub(crate) fn set_keys(rows: &mut Table<KeyHead>, given: &[KeyHead])
-    requires { length given.now ≤ rows.old.spare }
-    ensures keys { (keys : List (AnyRole × ℕ)) → IsTableOf keys rows.old.rows → IsTableOf (given.now ++ keys) rows.new.rows }
-    ensures spare { rows.old.spare ≤ rows.new.spare + length given.now }
-{
-    for key in given.iter().rev() {
-        set_key(rows, *key);
+    match rows.find(&RolePlace::of(role)) {
+        Some(key) => Some(key.serial),
+        None => None,
     }
 }
 
 /// Puts the key into the place of its role's, or beside the others where the role has none.
-fn set_key(rows: &mut Table<KeyHead>, key: KeyHead)
+pub(crate) fn put_row(rows: &mut Table<KeyHead>, key: KeyHead)
     requires { 1 ≤ rows.old.spare }
-    ensures keys { (keys : List (AnyRole × ℕ)) → IsTableOf keys rows.old.rows → IsTableOf (key ∷ keys) rows.new.rows }
+    ensures serials { (role : AnyRole) → serial_at rows.new.rows role ≡ cond (same_role key.0 role) (Some key.1) (serial_at rows.old.rows role) }
     ensures spare { rows.old.spare ≤ rows.new.spare + 1 }
 {
     if rows.find(&key.place()).is_some() {
@@ -90,4 +79,12 @@ fn set_key(rows: &mut Table<KeyHead>, key: KeyHead)
     } else {
         rows.insert(key);
     }
+}
+
+/// Takes out the role's key, where it has one.
+pub(crate) fn remove_row(rows: &mut Table<KeyHead>, gone: Role)
+    ensures serials { (role : AnyRole) → serial_at rows.new.rows role ≡ cond (same_role role gone) None (serial_at rows.old.rows role) }
+    ensures spare { rows.old.spare ≤ rows.new.spare }
+{
+    rows.remove(&RolePlace::of(gone));
 }

@@ -4,11 +4,10 @@ ghost use Rattle.public_fold.specs.KeyStep.{keys_without, newest, present};
 ghost use Rattle.public_fold.specs.KeysAfter.{keys_then_of};
 
 use crate::KeyHead;
+use crate::by_bearer::{KeysByBearer, remove_keys, set_keys};
 use crate::key_order::KeyOrder;
-use crate::key_rows::{RolePlace, remove_keys, set_keys};
 use crate::lists::{has_role, is_same_role};
 use cry_base::{Mem, Role, Serial};
-use sorted_table::Table;
 use std::alloc::Global;
 use std::marker::Model;
 
@@ -17,7 +16,7 @@ use std::marker::Model;
 /// was asked for.
 #[derive(Drop)]
 pub(crate) struct KeyTable {
-    rows: Table<KeyHead>,
+    rows: KeysByBearer,
     order: KeyOrder,
 }
 
@@ -28,7 +27,7 @@ impl Model for KeyTable {
 
     ghost view = { λ t. record { keys = t.order.keys; spare = t.rows.spare } };
 
-    ghost invariant = { λ t. IsTableOf t.order.keys t.rows.rows };
+    ghost invariant = { λ t. IsTableOf t.order.keys t.rows };
 }
 
 impl KeyTable {
@@ -37,7 +36,7 @@ impl KeyTable {
         ensures { result.keys ≡ [] }
     {
         KeyTable {
-            rows: Table::new(alloc),
+            rows: KeysByBearer::new(alloc),
             order: KeyOrder::new(),
         }
     }
@@ -46,10 +45,7 @@ impl KeyTable {
     pub(crate) fn newest(&self, role: Role) -> Option<Serial>
         ensures { option_map (λ serial. serial.0) result ≡ newest self.now.keys role }
     {
-        match self.rows.find(&RolePlace::of(role)) {
-            Some(key) => Some(key.serial),
-            None => None,
-        }
+        self.rows.serial(role)
     }
 
     /// Makes room for at least so many keys beside those that are there.

@@ -2,6 +2,8 @@
 #![tactic(auto)]
 
 mod advance;
+mod bearers;
+mod by_bearer;
 mod changing;
 mod counter;
 mod fault;

@@ -1,6 +1,6 @@
 use Rattle.std.proofs.Common.{◌≡◌, [], refl, sym, ap, ◌∙◌}
 use Rattle.public_fold.specs.KeyStep.{newest}
-use Rattle.public_fold.specs.KeyTables.{KeyList, serial_at}
+use Rattle.public_fold.specs.KeyTables.{KeyList}
 use Rattle.public_fold.proofs.DueMade.{none_gone}
 use Rattle.public_fold.proofs.keys.KeyTable.copy.Goals as goal
 
@@ -9,7 +9,7 @@ same_keys c = c.giving.ensures ∙ none_gone [] c.self.inside.order.keys refl
 
 pub invariant_of-result : goal.invariant_of-result
 invariant_of-result c = λ role.
-    ap (λ rows. serial_at rows role) c.in_ok-copy.ensures
+    c.in_ok-copy.ensures role
     ∙ c.self.invariant role
     ∙ sym (ap (λ keys. newest keys role) (same_keys c))
 

@@ -1,8 +1,7 @@
 use Rattle.std.proofs.Common.{sym, ap, ◌∙◌}
 use Rattle.public_fold.specs.KeyStep.{newest}
-use Rattle.public_fold.specs.KeyTables.{serial_at}
 use Rattle.public_fold.proofs.keys.KeyTable.new.Goals as goal
 
 pub invariant_of-result : goal.invariant_of-result
-unfolding newest serial_at
-invariant_of-result c = λ role. ap (λ rows. serial_at rows role) c.new.ensures ∙ sym (ap (λ keys. newest keys role) c.new-2.ensures)
+unfolding newest
+invariant_of-result c = λ role. c.new.ensures role ∙ sym (ap (λ keys. newest keys role) c.new-2.ensures)
