@@ -80,8 +80,19 @@ impl Reader {
         self.index.note(placed.batch as usize - 1, placed)
     }
 
-    /// Whether the bundle's key may read the batches that were added: first all of them have to fit.
-    pub(crate) fn admit(&self, bundle: &Bundle) -> Result<(), ClientFault>
+    /// What stands in public after the batches that were added, where all of them fit.
+    pub fn state(&self) -> &PublicState
+        ensures { result.now ≡ self.now.state }
+    {
+        &self.state
+    }
+
+    /// Whether the bundle's key may read the batches that were added.
+    ///
+    /// `Damaged` comes first, at the first byte of the first payload that doesn't fit what stands before it. Then, for a holder, come
+    /// `NoHolder` exactly where no batch made the holder, with the number of those that were made, and `WrongKey` exactly where the
+    /// key's check isn't the one that was published for the holder. The owner's key was tested with the header.
+    pub fn admit(&self, bundle: &Bundle) -> Result<(), ClientFault>
         ensures answer { (log : List PlainPlaced) → HasRead self.now log →
             AnswersAsBy (λ _ r. IsReadingIn self.now.state log r × GrantsStand r.stand.store) result (spec.read_with bundle.now (Ok log)) }
         ensures folded { OnOk result ((log : List PlainPlaced) → HasRead self.now log → HasFolded self.now log) }
