@@ -4,3 +4,5 @@ pub mod Invariants
 pub mod Secrecy
 pub mod Seen
 pub mod WorkedHistories
+pub mod Keeping
+pub mod Found
