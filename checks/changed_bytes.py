@@ -107,6 +107,17 @@ class Original:
             changed[n] = kind, epoch, payload[:at] + part + payload[at + length:]
         return rebuilt(changed, self.owner)
 
+    def with_either_tags(self, what, *parts):
+        """The store with other parts, checks and owner tags made anew; of a whole one also with the tags that it had, as whoever has the
+        disk alone could make it."""
+        image = self.with_parts(*parts)
+        yield Copy(what, image)
+        if self.whole and len(image) == len(self.image):
+            image = bytearray(image)
+            for batch, _ in self.layout:
+                image[batch.end - 33:batch.end - 1] = batch.tag
+            yield Copy(f"{what}, with the owner tags that it had", bytes(image))
+
     def with_bytes_turned(self):
         """One byte turned: of the fields of frames, of all that is sealed, and of notes and heads."""
         chosen = self.layout if self.whole else [self.layout[0], self.layout[2], self.layout[-1]]
@@ -150,9 +161,12 @@ class Original:
                 yield Copy(f"batch {n + 1} once more at the end, as bytes", self.image[:-1] + spans[n] + b"\0")
         for one, other in itertools.combinations(range(len(log)), 2):
             if self.whole or other == one + 1:
-                changed = list(log)
-                changed[one], changed[other] = log[other], log[one]
-                yield Copy(f"batches {one + 1} and {other + 1} exchanged", rebuilt(changed, self.owner))
+                order = list(range(len(log)))
+                order[one], order[other] = other, one
+                what = f"batches {one + 1} and {other + 1} exchanged"
+                yield Copy(what, rebuilt([log[n] for n in order], self.owner))
+                if self.whole:
+                    yield Copy(f"{what}, as bytes", self.image[:41] + b"".join(spans[n] for n in order) + b"\0")
 
     def with_links_exchanged(self):
         """Two links that follow one another in the log exchanged, or the second in the place of the first too; two of one payload; and the
@@ -166,9 +180,9 @@ class Original:
                 parts = [(here, at + skipped, 98 - skipped, bytes_of(other)[skipped:]),
                          (there, its_at + skipped, 98 - skipped, bytes_of(link)[skipped:])]
                 names = f"{what} {at} of batch {here + 1}", f"{its_at} of batch {there + 1}"
-                yield Copy(" and ".join(names) + " exchanged", self.with_parts(*parts))
+                yield from self.with_either_tags(" and ".join(names) + " exchanged", *parts)
                 if second == first + 1:
-                    yield Copy(" is ".join(names), self.with_parts(parts[0]))
+                    yield from self.with_either_tags(" is ".join(names), parts[0])
 
     def with_older_records(self):
         """Each record, and what is sealed in it alone, in the place of a later one of its edge, or of its text."""
@@ -178,8 +192,8 @@ class Original:
             for old in before[name]:
                 cut = len(record.header) - 4 * (len(name[1]) == 1)  # a content's length goes with its text
                 length, place = len(bytes_of(record)), f"record {name} of batch {n + 1}, nonce {old.head.nonce}"
-                yield Copy(f"{place}, is older", self.with_parts((n, at, length, bytes_of(old))))
-                yield Copy(f"{place}, is older under its head", self.with_parts((n, at + cut, length - cut, bytes_of(old)[cut:])))
+                yield from self.with_either_tags(f"{place}, is older", (n, at, length, bytes_of(old)))
+                yield from self.with_either_tags(f"{place}, is older under its head", (n, at + cut, length - cut, bytes_of(old)[cut:]))
             before[name].append(record)
 
     def with_other_texts(self):

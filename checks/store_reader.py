@@ -387,6 +387,7 @@ class Audit:
 
     def __init__(self, payloads, own):
         self.keys, self.faults, self.lines = {own}, [], []
+        self.texts = set()  # the names and files that it shows, each with its kind and id
         links, beyond = defaultdict(list), [own]
         for batch, payload in payloads:
             for link in payload.links:
@@ -422,6 +423,8 @@ class Audit:
     def open(self, batch, content, key):
         kind, (number,) = content.head[:2]
         text = tested(content, opened_with(key.bytes, batch, content))
+        if kind != KEY_OF_HOLDER:
+            self.texts.add((kind, number, text))
         if kind == NAME_OF_FOLDER:
             self.lines.append(b"folder %d %d %s\n" % (batch, number, text))
         elif kind == BYTES_OF_FILE:
@@ -459,13 +462,18 @@ def admitted(image, bundle):
 
 def audits(image, bundle):
     """Each answer that `audit` may give: with several bad records any one's."""
+    return audits_with_texts(image, bundle)[0]
+
+
+def audits_with_texts(image, bundle):
+    """The same, and the names and files that it shows, each with its kind and id."""
     try:
         batches, state, _, _ = admitted(image, bundle)
     except Fault as fault:
-        return frozenset([fault.answer])
+        return frozenset([fault.answer]), set()
     serial = state.serials[HOLDER, bundle.holder] if bundle.holder else 0
     audit = Audit([row for row in batches if row[1] is not None], Key(bundle.holder, serial, bundle.key))
-    return frozenset(audit.faults or [(0, b"".join(audit.lines), b"")])
+    return frozenset(audit.faults or [(0, b"".join(audit.lines), b"")]), audit.texts
 
 
 def answer(reading, path):
