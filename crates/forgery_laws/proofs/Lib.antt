@@ -1,0 +1,9 @@
+pub mod Audits
+pub mod Authentic
+pub mod Bytes
+pub mod InImage
+pub mod Lines
+pub mod Own
+pub mod Readers
+pub mod Refused
+pub mod Visited
