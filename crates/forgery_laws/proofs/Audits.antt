@@ -1,6 +1,6 @@
 -- What an audit shows of any bytes to a reader with a key of the journal: names and files that it wrote, or a forged record stands in
 -- the bytes.
-use Rattle.std.proofs.Common.{◌≡◌, ◌≢◌, ⊎_elim, inl, inr, ◌==◌, ℕ, Bool, true, false, IsTrue, List, [], ◌∷◌, ◌++◌, filter, length, map, Ok, refl, sym, ap, subst, ◌∙◌, arith}
+use Rattle.std.proofs.Common.{◌≡◌, ◌≢◌, ⊎_elim, inl, inr, ◌==◌, ℕ, true, false, List, [], ◌∷◌, filter, map, Ok, refl, sym, ap, subst, ◌∙◌, arith}
 use Rattle.std.specs.Prelude.{◌⊎◌}
 use Rattle.std.proofs.Math.Dec.{eqb}
 use Rattle.std.proofs.lemmas.Bool.{and_parts, eqb-true}
@@ -16,7 +16,7 @@ use Rattle.cry_base.specs.declared.client.Seen.{Seen}
 use Rattle.cry_base.specs.declared.roles.Node.TheVariants.{Folder, File}
 use Rattle.cry_base.proofs.Members.{In-filter, In-flat_map, In-map}
 use Rattle.holder_client.specs.Asking.{audited}
-use Rattle.holder_client.specs.Judging.{Failure, OfBytes, first_key}
+use Rattle.holder_client.specs.Judging.{OfBytes, first_key}
 use Rattle.holder_client.specs.Placing.{PlacedContent, PlacedLink, log_contents, log_links}
 use Rattle.holder_client.specs.Visiting.{Reading}
 use Rattle.commit_journal.specs.Answering.{Tampered}
@@ -27,14 +27,13 @@ use Rattle.public_fold.specs.Valid.{IsValid}
 use Rattle.record_format.specs.Plain.{PlainContent}
 use Rattle.record_format.specs.Spelling.{content_head}
 use Rattle.record_format.specs.declared.link.LinkRecord.{LinkRecord}
-use Rattle.trail_audit.specs.Auditing.{RecordFault, bundle_key, links_read, sealing_id}
+use Rattle.trail_audit.specs.Auditing.{bundle_key, links_read, sealing_id}
 use Rattle.trail_audit.specs.Auditing.RecordFault.{WrongContent}
 use Rattle.trail_audit.specs.Derived.{MayAnswer, Passes, PlainSeen, audit_of, content_shown, is_sealed_by, plain_seen, seen_of_sight, shown_by, text_shown, text_with}
 use Rattle.record_format.specs.Spellable.{IsLink}
-use Rattle.trail_audit.specs.Records.{ALink, AContent, IsTagged, records_in}
+use Rattle.trail_audit.specs.Records.{ALink, records_in}
 use Rattle.trail_audit.specs.Right.{IsRight}
 use Rattle.trail_audit.specs.Right.IsRight.{OfBundle, Behind}
-use Rattle.trail_audit.specs.Trails.{records_of_links}
 use Rattle.trail_audit.proofs.Revealed.{file_seen, folder_seen, other_seen}
 use Rattle.forgery_laws.specs.Written.{AreBytes, HasForged, HasKeyOf, IsWrittenSeen}
 use Rattle.forgery_laws.proofs.Authentic.{AreRecords, IsKeyOf, IsTextOf, content_opens, link_leads, same_or_not}

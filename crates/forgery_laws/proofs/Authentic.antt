@@ -1,10 +1,8 @@
 -- A record of the bytes with a right tag under a key of the journal is one that the journal published, or forged.
-use Rattle.std.proofs.Common.{◌≡◌, ◌≢◌, ⊎_elim, inl, inr, ℕ, Bool, true, false, List, [], ◌∷◌, ◌++◌, Ok, refl, sym, ap, subst, ◌∙◌}
+use Rattle.std.proofs.Common.{◌≡◌, ◌≢◌, ⊎_elim, inl, inr, ℕ, true, false, List, [], ◌∷◌, ◌++◌, Ok, refl, sym, ap, subst, ◌∙◌}
 use Rattle.std.specs.Prelude.{◌⊎◌}
-use Rattle.std.specs.List.{flat_map}
 use Rattle.std.specs.Str.{bytes_eq}
 use Rattle.std.proofs.lemmas.Bool.{false≢true}
-use Rattle.std.proofs.lemmas.List.{append-nil}
 use Rattle.std.proofs.lemmas.Slice.Eq.{bytes_eq-Decides}
 use Rattle.chacha_seal.specs.Keys.{KeyParts}
 use Rattle.chacha_seal.specs.Sealing.{seal_tag, sealed}
@@ -14,7 +12,7 @@ use Rattle.cry_base.specs.declared.client.Bundle.{Bundle}
 use Rattle.cry_base.proofs.Members.{In-flat_map}
 use Rattle.holder_client.specs.Judging.{bundle_log}
 use Rattle.holder_client.specs.Placing.{PlacedContent, PlacedLink, log_contents, log_links}
-use Rattle.journal_bytes.specs.Keys.{AreWhole, all_keys, bytes_in, key_bytes}
+use Rattle.journal_bytes.specs.Keys.{AreWhole, all_keys, key_bytes}
 use Rattle.public_fold.specs.Journal.{Journal}
 use Rattle.public_fold.specs.Records.{Content, text_of}
 use Rattle.public_fold.specs.Valid.{IsValid}
@@ -28,8 +26,8 @@ use Rattle.record_format.proofs.RecordLaws.{content_field, link_field}
 use Rattle.trail_audit.specs.Forged.{IsForged, records_of}
 use Rattle.trail_audit.specs.Records.{ALink, AContent, IsTagged, PlainRecord, payload_records, payloads_in, records_in, sealing_serial, spell_record}
 use Rattle.forgery_laws.specs.Written.{AreBytes, HasForged, IsPublishedUnder, WasPublished}
-use Rattle.forgery_laws.proofs.InImage.{IsPayloadIn, log_payloads}
-use Rattle.forgery_laws.proofs.Own.{All-In, IsOwnContent, IsOwnLink, content_payload, in_contents, in_links, link_payload, own_content, own_link}
+use Rattle.forgery_laws.proofs.InImage.{log_payloads}
+use Rattle.forgery_laws.proofs.Own.{All-In, content_payload, in_contents, in_links, link_payload, own_content, own_link}
 
 -- ---- bytes tell records apart
 

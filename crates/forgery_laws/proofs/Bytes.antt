@@ -1,5 +1,5 @@
 -- Bytes that are cut out of bytes, or masked, are bytes.
-use Rattle.std.proofs.Common.{◌≡◌, ⊎_elim, inl, inr, ℕ, zero, suc, ◌+◌, ◌<◌, List, [], ◌∷◌, get_or, take, drop, arith, refl, sym, subst}
+use Rattle.std.proofs.Common.{⊎_elim, inl, inr, ℕ, zero, suc, ◌+◌, ◌<◌, List, [], ◌∷◌, get_or, take, drop, arith, refl, sym, subst}
 use Rattle.std.specs.Int.{w32, to_le_bytes}
 use Rattle.std.proofs.lemmas.Nat.{xor_of_8}
 use Rattle.std.specs.Prelude.{◌/◌, ◌%◌, slice_range}

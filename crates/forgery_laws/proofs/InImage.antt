@@ -1,12 +1,10 @@
 -- What a reader reads of bytes stands in their payloads, as the slots unmask them.
-use Rattle.std.proofs.Common.{◌≡◌, ⊎_elim, inl, inr, ℕ, zero, suc, ◌+◌, ◌-◌, ◌<◌, ◌≤◌, Bool, true, false, cond, eqb, List, [], ◌∷◌, ◌++◌, get_or, length, take, drop, map, Option, None, Some, Result, Ok, Err, refl, sym, ap, subst, ◌∙◌, arith}
+use Rattle.std.proofs.Common.{◌≡◌, ⊎_elim, inl, inr, ℕ, zero, suc, ◌+◌, ◌-◌, ◌≤◌, Bool, true, false, cond, eqb, List, [], ◌∷◌, ◌++◌, get_or, length, take, drop, Option, None, Some, Result, Ok, Err, refl, sym, ap, subst, ◌∙◌, arith}
 use Rattle.std.specs.Prelude.{codes, nat_le, slice_index, slice_range}
-use Rattle.std.specs.List.{flat_map}
 use Rattle.std.specs.Str.{bytes_eq}
-use Rattle.std.proofs.lemmas.Bool.{eqb-true, eq-eqb}
 use Rattle.std.proofs.lemmas.List.{drop_more, get_or-take}
 use Rattle.chacha_seal.specs.Sealing.{check_of, masked}
-use Rattle.commit_journal.specs.Answering.{Fault, NotAStore, WrongKey, Damaged, Tampered, and_then}
+use Rattle.commit_journal.specs.Answering.{Fault, NotAStore, WrongKey, Damaged, and_then}
 use Rattle.commit_journal.specs.Gates.{gated, gated_at, head_in, size_in, slot_payload}
 use Rattle.commit_journal.specs.Log.{PlainTurn, as_commands, body_of, goes_on, head_at, head_of, is_batch, log_verdict, payload_in, placed_body, published_turn, slot_in, start_at, start_of, tagged_turn, turn_at, turn_of}
 use Rattle.commit_journal.specs.Logs.{holder_log, turn_by, unowned_start, unowned_start_of, walk_at}

@@ -15,9 +15,9 @@ use Rattle.cry_base.proofs.Finding.{find-found}
 use Rattle.cry_base.proofs.Members.{In-append, In-filter, In-flat_map, In-map, filter-In}
 use Rattle.holder_client.specs.Asking.{audited, file_with, folder_lines, is_beside, line_at, line_shown, line_with, lines_beside, or_else}
 use Rattle.holder_client.specs.Folding.{folded}
-use Rattle.holder_client.specs.Judging.{Failure, NoHolder, OfBytes, Unseen, bundle_log, first_key, holder_reads, may_read, of_bytes, opened_first, published_check, read_through, read_with, shown_with, then_on, view_with, who_of}
+use Rattle.holder_client.specs.Judging.{Failure, OfBytes, Unseen, bundle_log, first_key, holder_reads, may_read, of_bytes, opened_first, published_check, read_through, read_with, shown_with, then_on, view_with, who_of}
 use Rattle.holder_client.specs.View.{Line, file_line, folder_line, line_path, view}
-use Rattle.holder_client.specs.Visiting.{Opened, Reading, key_of, visit, visit_all}
+use Rattle.holder_client.specs.Visiting.{Opened, Reading, visit_all}
 use Rattle.holder_client.specs.Visits.{Visit, all_visits, allowed_visits, entry_visits, file_visits, files_that, folders_that, lower_visits, name_visits, upper_visits, visits_to_names}
 use Rattle.holder_client.specs.Visits.Visit.{ToKey, ToName, ToFile}
 use Rattle.holder_client.proofs.Viewing.{view_told}
@@ -28,7 +28,7 @@ use Rattle.move_plan.specs.Change.{folder_of_file}
 use Rattle.move_plan.specs.Fitting.{public_of}
 use Rattle.public_fold.specs.Journal.{Journal, Stand, nothing}
 use Rattle.public_fold.specs.Valid.{IsValid}
-use Rattle.role_graph.specs.Edges.{edge, file_edge, in_order}
+use Rattle.role_graph.specs.Edges.{edge, file_edge}
 use Rattle.role_graph.specs.Rights.{Who, allowed_to, named_to}
 use Rattle.role_graph.specs.RightsByReach.{HasFolder}
 use Rattle.role_graph.specs.Roles.{back_of, data_of}
@@ -39,7 +39,7 @@ use Rattle.reader_laws.proofs.Readers.{allowed_public}
 use Rattle.reader_laws.proofs.Seen.{named_seen}
 use Rattle.reader_laws.proofs.Rights.{HasShape, allowed_is_named, named_above, passes}
 use Rattle.forgery_laws.specs.Written.{AreBytes, AreWritten, HasForged, HasKeyOf, IsWrittenLine, WereNamed}
-use Rattle.forgery_laws.proofs.Authentic.{AreRecords, IsKeyOf, log_records}
+use Rattle.forgery_laws.proofs.Authentic.{AreRecords, log_records}
 use Rattle.forgery_laws.proofs.Visited.{IsSound, folders_stay, one_key_first, visits_sound}
 
 -- ---- what was read

@@ -1,7 +1,5 @@
 -- Whoever reads a journal with the own key has one of its keys.
-use Rattle.std.proofs.Common.{◌≡◌, inl, ℕ, ◌==◌, List, Some, refl, sym, ap, subst, ◌∙◌}
-use Rattle.chacha_seal.specs.Keys.{KeyParts}
-use Rattle.cry_base.specs.Sets.{In}
+use Rattle.std.proofs.Common.{inl, ℕ, ◌==◌, List, refl, sym, ◌∙◌}
 use Rattle.cry_base.specs.Store.{HolderEntry, holder_entry}
 use Rattle.cry_base.specs.declared.client.Bundle.{Bundle}
 use Rattle.cry_base.specs.declared.client.Bundle.TheVariants as bundles

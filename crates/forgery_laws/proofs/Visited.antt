@@ -1,6 +1,6 @@
 -- What visits of any bytes open with a key of the journal: its keys, and names and files that it wrote, or a forged record stands in
 -- the bytes.
-use Rattle.std.proofs.Common.{◌≡◌, ⊎_elim, inl, inr, ℕ, Bool, true, false, cond, ◌==◌, List, [], ◌∷◌, ◌++◌, length, take, drop, map, Option, Some, None, Result, Ok, Err, refl, sym, ap, subst, ◌∙◌}
+use Rattle.std.proofs.Common.{◌≡◌, ⊎_elim, inl, inr, ℕ, Bool, true, false, cond, ◌==◌, List, [], ◌∷◌, ◌++◌, length, take, drop, map, Option, Some, None, Result, Ok, refl, sym, ap, subst, ◌∙◌}
 use Rattle.std.specs.Prelude.{◌⊎◌, ◌&&◌, if◌then◌else◌}
 use Rattle.std.specs.Str.{bytes_eq}
 use Rattle.std.proofs.Math.Seq.{drop-append_seam, take-append_seam}
@@ -16,7 +16,6 @@ use Rattle.cry_base.specs.declared.roles.Edge.{Edge}
 use Rattle.cry_base.specs.declared.roles.Role.{Role}
 use Rattle.cry_base.specs.declared.roles.Role.TheVariants.{Owner}
 use Rattle.cry_base.proofs.Members.{In-map}
-use Rattle.holder_client.specs.Found.{is_of}
 use Rattle.holder_client.specs.Placing.{PlacedContent, PlacedLink, content_for, is_for_edge, last_one, link_for, log_contents, log_links}
 use Rattle.holder_client.specs.Verdict.{open_content, open_link}
 use Rattle.holder_client.specs.Visiting.{Opened, Reading, is_file_text, key_of, needed, visit, visit_all, visit_edge, with_holder_key, with_key, with_name_at, with_parts, with_text_at}
@@ -26,7 +25,7 @@ use Rattle.holder_client.proofs.Following.{last_passes}
 use Rattle.journal_bytes.proofs.OpenedKeys.{IsTextRead, holder_told, key_told, name_told, needed_told, parts_told, same_ok, text_told, then_told}
 use Rattle.move_plan.specs.Fitting.{public_of}
 use Rattle.public_fold.specs.Journal.{Journal}
-use Rattle.public_fold.specs.Records.{Content, Piece, text_of}
+use Rattle.public_fold.specs.Records.{Piece, text_of}
 use Rattle.public_fold.specs.Valid.{IsValid}
 use Rattle.record_format.specs.Plain.{PlainContent}
 use Rattle.record_format.specs.Spelling.{content_head, link_head}
