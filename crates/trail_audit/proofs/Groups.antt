@@ -1,11 +1,11 @@
 -- Groups as items are added, and what is found in them.
-use Rattle.std.proofs.Common.{◌≡◌, ◌+◌, ◌<◌, ◌≤◌, ⊎_elim, ℕ, Bool, true, false, ◌==◌, List, [], ◌∷◌, ◌++◌, cond, filter, get_or, length, take, refl, sym, ap, subst, ◌∙◌}
+use Rattle.std.proofs.Common.{◌≡◌, ⊎_elim, ℕ, Bool, true, false, ◌==◌, List, [], ◌∷◌, ◌++◌, cond, filter, refl, sym, ap, subst, ◌∙◌}
 use Rattle.std.specs.HashMap.{HashMap, get}
 use Rattle.std.specs.List.{flat_map}
 use Rattle.std.specs.Map.{lookup}
 use Rattle.std.specs.Cmp.Derive.{both_true}
 use Rattle.std.proofs.lemmas.Bool.{and_parts, cases_Bool, eq-eqb, eqb-true, false_from_ne_true, false≢true}
-use Rattle.std.proofs.lemmas.List.{append-nil, take_all, take_more}
+use Rattle.std.proofs.lemmas.List.{append-nil}
 use Rattle.std.proofs.lemmas.List.Elements.{filter-append}
 use Rattle.chacha_seal.specs.Keys.{KeyParts}
 use Rattle.cry_base.specs.Listed.{Listed}
@@ -57,16 +57,6 @@ group_added source old new items x of is has updates = record {
       ∙ (λ i. cond (same_sources (source x) s) (has.found (source x) i ++ x ∷ []) (has.found s i))
       ∙ added source items x s (same_sources (source x) s) refl;
 }
-
--- the next item of a list
-pub group_more : {T S : Type 0} (source : T → Source) (groups new : HashMap Source (Listed T) S) (items : List T) (i : ℕ) (x y : T) (of : Source) → i < length items → x ≡ get_or items i x → of ≡ source x → y ≡ x → HasGroups source groups (take i items)
-    → ((s : Source) → items_of (get same_sources new s) ≡ cond (same_sources of s) (items_of (get same_sources groups of) ++ y ∷ []) (items_of (get same_sources groups s))) → HasGroups source new (take (i + 1) items)
-group_more source groups new items i x y of within is named same has updates =
-    subst (HasGroups source new) (sym (take_more items i x within ∙ ap (λ z. take i items ++ z ∷ []) (sym is)))
-    (group_added source groups new (take i items) x of named has (λ s. updates s ∙ ap (λ z. cond (same_sources of s) (items_of (get same_sources groups of) ++ z ∷ []) (items_of (get same_sources groups s))) same))
-
-pub group_all : {T S : Type 0} (source : T → Source) (groups : HashMap Source (Listed T) S) (items : List T) (i : ℕ) → length items ≤ i → HasGroups source groups (take i items) → HasGroups source groups items
-group_all source groups items i past has = subst (HasGroups source groups) (take_all i items past) has
 
 -- ---- links
 

@@ -7,4 +7,6 @@ pub mod Groups
 pub mod Leading
 pub mod Listed
 pub mod OwnRecords
+pub mod Reread
 pub mod Revealed
+pub mod Sealings

@@ -1,11 +1,10 @@
 -- The links and contents of a log, as a walk over it goes on.
-use Rattle.std.proofs.Common.{◌≡◌, ◌+◌, ◌*◌, ◌<◌, ℕ, zero, suc, List, [], ◌∷◌, ◌++◌, get_or, length, take, map, sym, ap, ◌∙◌, add-one, append_assoc, arith}
+use Rattle.std.proofs.Common.{◌≡◌, ◌+◌, ◌*◌, ◌<◌, ℕ, zero, suc, List, [], ◌∷◌, ◌++◌, get_or, length, take, refl, sym, ap, subst, ◌∙◌, add-one, append_assoc, arith}
 use Rattle.std.specs.List.{flat_map, sum_by}
 use Rattle.std.proofs.lemmas.Grind.{flat_map-append}
-use Rattle.std.proofs.lemmas.List.{append-nil, map-append, take_more}
+use Rattle.std.proofs.lemmas.List.{append-nil}
 use Rattle.std.proofs.lemmas.List.Sums.{sum_by-cons}
-use Rattle.commit_journal.specs.declared.placed.Placed.{Placed}
-use Rattle.commit_journal.specs.Placed.{PlainPlaced, plain_placed}
+use Rattle.commit_journal.specs.Placed.{PlainPlaced}
 use Rattle.record_format.specs.declared.link.LinkRecord.{LinkRecord}
 use Rattle.record_format.specs.Plain.{PlainContent}
 use Rattle.record_format.specs.Sizes.{content_size}
@@ -36,6 +35,13 @@ more_links found new so_far batch first at links i link within place is has next
     ∙ ap (λ ls. so_far ++ ls) (sym (links_with_next batch first links i link within))
     ∙ ap (λ n. so_far ++ links_at batch first (take n links)) (sym (add-one i))
 
+-- what holds of them with the next one holds of one more
+pub links_on : (Has : List PlacedLink → Type 0) (before : List PlacedLink) (batch first at : ℕ) (links : List LinkRecord) (i : ℕ) (link : LinkRecord) → i < length links → at ≡ first + 98 * i → link ≡ get_or links i link →
+    Has ((before ++ links_at batch first (take i links)) ++ link_here batch at link ∷ []) → Has (before ++ links_at batch first (take (i + 1) links))
+links_on Has before batch first at links i link within place is has =
+    let so_far = before ++ links_at batch first (take i links) in
+    subst Has (more_links so_far (so_far ++ link_here batch at link ∷ []) before batch first at links i link within place is refl refl) has
+
 contents_with_next : (batch at : ℕ) (contents : List PlainContent) (i : ℕ) (d : PlainContent) → i < length contents →
     contents_at batch at (take (suc i) contents) ≡ contents_at batch at (take i contents) ++ content_here batch (at + sum_by content_size (take i contents)) (get_or contents i d) ∷ []
 unfolding contents_at
@@ -64,15 +70,6 @@ more_contents found new so_far batch first at contents i content within place is
     ∙ ap (λ cs. so_far ++ cs) (sym (contents_with_next batch first contents i content within))
     ∙ ap (λ n. so_far ++ contents_at batch first (take n contents)) (sym (add-one i))
 
--- the parts of the batches so far, and of the next one
-pub log_with_next : {X : Type 0} (parts : PlainPlaced → List X) (log : List Placed) (i : ℕ) (p : Placed) → i < length log → p ≡ get_or log i p →
-    flat_map parts (map plain_placed (take i log)) ++ parts (plain_placed p) ≡ flat_map parts (map plain_placed (take (i + 1) log))
-log_with_next {X} parts log i p within is =
-    let before = map plain_placed (take i log) in
-    let last = plain_placed p ∷ [] in
-    let more : map plain_placed (take (i + 1) log) ≡ before ++ last =
-    ap (map plain_placed) (take_more log i p within) ∙ map-append plain_placed (take i log) (get_or log i p ∷ []) ∙ ap (λ (q : Placed). before ++ plain_placed q ∷ []) (sym is)
-    in
-    ap (λ (xs : List X). flat_map parts before ++ xs) (sym (append-nil (parts (plain_placed p))))
-    ∙ sym (flat_map-append parts before last)
-    ∙ ap (flat_map parts) (sym more)
+-- the parts of a log's batches, and those of one more
+pub parts_added : {X : Type 0} (parts : PlainPlaced → List X) (log : List PlainPlaced) (p : PlainPlaced) → flat_map parts log ++ parts p ≡ flat_map parts (log ++ p ∷ [])
+parts_added {X} parts log p = ap (λ (xs : List X). flat_map parts log ++ xs) (sym (append-nil (parts p))) ∙ sym (flat_map-append parts log (p ∷ []))

@@ -1,7 +1,6 @@
 -- What keys show of contents, as they are opened one after another, and the faults on the way.
-use Rattle.std.proofs.Common.{◌≡◌, ◌≢◌, ◌+◌, ◌<◌, ◌&&◌, ℕ, Bool, true, false, List, [], ◌∷◌, ◌++◌, filter, get_or, length, map, take, Result, Ok, Err, inl, ⊎_elim, refl, sym, ap, subst, ◌∙◌, append_assoc}
+use Rattle.std.proofs.Common.{◌≡◌, ◌≢◌, ◌+◌, ◌<◌, ◌&&◌, ℕ, Bool, true, false, List, [], ◌∷◌, ◌++◌, filter, get_or, length, map, take, inl, ⊎_elim, refl, sym, ap, subst, ◌∙◌, append_assoc}
 use Rattle.std.specs.List.{flat_map}
-use Rattle.std.specs.Prelude.{IfErr, IfOk, MatchResult}
 use Rattle.std.specs.Cmp.Derive.{both_true}
 use Rattle.std.proofs.Math.Seq.{take-append_seam, drop-append_seam}
 use Rattle.std.proofs.lemmas.Bool.{eq-eqb, eqb-true, ne_eqb, false≢true}
@@ -9,7 +8,6 @@ use Rattle.std.proofs.lemmas.Grind.{flat_map-append}
 use Rattle.std.proofs.lemmas.List.{append-nil, map-append, take_more}
 use Rattle.std.proofs.lemmas.List.Elements.{filter-append}
 use Rattle.chacha_seal.specs.Keys.{KeyParts}
-use Rattle.cry_base.specs.Listed.{Listed}
 use Rattle.cry_base.specs.Sets.{In}
 use Rattle.cry_base.proofs.Members.{In-append}
 use Rattle.cry_base.specs.declared.client.Bundle.{Bundle}
@@ -29,7 +27,7 @@ use Rattle.record_format.specs.Plain.{PlainContent}
 use Rattle.role_graph.proofs.Rising.{get_or-In}
 use Rattle.trail_audit.specs.Auditing.{RecordFault, bundle_key, is_text, links_read, sealing_id}
 use Rattle.trail_audit.specs.Auditing.RecordFault.{WrongLink, WrongContent, WrongText}
-use Rattle.trail_audit.specs.Derived.{ContentFault, FormFault, IsOpened, IsOpenedBy, IsToldOf, Passes, PlainSeen, audit_of, content_shown, file_shown, is_sealed_by, plain_seen, shown_by, text_shown, text_with}
+use Rattle.trail_audit.specs.Derived.{AreSeen, ContentFault, FormFault, IsOpened, IsOpenedBy, IsToldOf, Passes, PlainSeen, audit_of, content_shown, file_shown, is_sealed_by, plain_seen, shown_by, text_shown, text_with}
 use Rattle.trail_audit.specs.Records.{AContent, IsTagged}
 use Rattle.trail_audit.specs.Trails.{AreRightKeys, LinkFault}
 use Rattle.cry_base.specs.declared.client.Seen.{Seen}
@@ -143,15 +141,32 @@ all_opened_next contents i c keys within is so_far here = λ d j. ⊎_elim
     (λ (k : In d (c ∷ [])). ⊎_elim (λ (e : d ≡ c). subst (IsOpened keys) (sym e) here) (λ n. absurd n) k)
     ((In-append PlacedContent d (take i contents) (c ∷ [])).0 (subst (λ (cs : List PlacedContent). In d cs) (next_taken contents i c within is) j))
 
-pub audit_next : (contents : List PlacedContent) (i : ℕ) (c : PlacedContent) (keys : List KeyParts) (before after : List PlainSeen) → i < length contents → c ≡ get_or contents i c → before ≡ audit_of keys (take i contents) →
-    after ≡ before ++ content_shown keys c → after ≡ audit_of keys (take (i + 1) contents)
+pub audit_next : (contents : List PlacedContent) (i : ℕ) (c : PlacedContent) (keys : List KeyParts) (start before after : List PlainSeen) → i < length contents → c ≡ get_or contents i c → before ≡ start ++ audit_of keys (take i contents) →
+    after ≡ before ++ content_shown keys c → after ≡ start ++ audit_of keys (take (i + 1) contents)
 unfolding audit_of
-audit_next contents i c keys before after within is so_far next =
+audit_next contents i c keys start before after within is so_far next =
     next
     ∙ ap (λ (s : List PlainSeen). s ++ content_shown keys c) so_far
-    ∙ ap (λ (s : List PlainSeen). flat_map (content_shown keys) (take i contents) ++ s) (sym (append-nil (content_shown keys c)))
-    ∙ sym (flat_map-append (content_shown keys) (take i contents) (c ∷ []))
-    ∙ ap (flat_map (content_shown keys)) (sym (next_taken contents i c within is))
+    ∙ append_assoc start (audit_of keys (take i contents)) (content_shown keys c)
+    ∙ ap (λ (s : List PlainSeen). start ++ (flat_map (content_shown keys) (take i contents) ++ s)) (sym (append-nil (content_shown keys c)))
+    ∙ ap (λ (s : List PlainSeen). start ++ s) (sym (flat_map-append (content_shown keys) (take i contents) (c ∷ [])))
+    ∙ ap (λ (cs : List PlacedContent). start ++ flat_map (content_shown keys) cs) (sym (next_taken contents i c within is))
+
+-- contents behind others
+pub seen_on : (first next : List PlacedContent) (keys : List KeyParts) (start middle end : List PlainSeen) → AreSeen keys first start middle → AreSeen keys next middle end → AreSeen keys (first ++ next) start end
+unfolding audit_of
+seen_on first next keys start middle end one two = record {
+  opened = λ c i. ⊎_elim (λ (j : In c first). one.opened c j) (λ (j : In c next). two.opened c j) ((In-append PlacedContent c first next).0 i);
+  shown =
+      two.shown
+          ∙ ap (λ (s : List PlainSeen). s ++ audit_of keys next) one.shown
+          ∙ append_assoc start (audit_of keys first) (audit_of keys next)
+          ∙ ap (λ (s : List PlainSeen). start ++ s) (sym (flat_map-append (content_shown keys) first next));
+}
+
+pub none_seen : (keys : List KeyParts) (start : List PlainSeen) → AreSeen keys [] start start
+unfolding audit_of
+none_seen keys start = record { opened = λ c i. absurd i; shown = sym (append-nil start) }
 
 -- ---- a whole audit
 
@@ -174,16 +189,12 @@ none_bad r bundle keys right opened failure (WrongText c there seal tagged form)
     let by = opened c there seal.key ((right.right seal.key).1 seal.right) (names_key c.content seal.key seal.id seal.serial) in
     false≢true (sym form ∙ by.form)
 
-pub passes : (r : Reading) (bundle : Bundle) (links : List PlacedLink) (contents : List PlacedContent) (key : KeyParts) (keys : List KeyParts) (answer : List PlainSeen) → links ≡ log_links r.log → contents ≡ log_contents r.log → key ≡ bundle_key bundle r →
-    AreRightKeys links key keys → ((c : PlacedContent) → In c contents → IsOpened keys c) → answer ≡ audit_of keys contents → Passes r bundle answer
-passes r bundle links contents key keys answer of_links of_contents of_key right opened seen =
-    let are : AreRightKeys (log_links r.log) (bundle_key bundle r) keys =
-    subst (λ (k : KeyParts). AreRightKeys (log_links r.log) k keys) of_key (subst (λ (ls : List PlacedLink). AreRightKeys ls key keys) of_links right)
-    in
-    record {
-      none_bad = none_bad r bundle keys are (subst (λ (cs : List PlacedContent). (c : PlacedContent) → In c cs → IsOpened keys c) of_contents opened);
-      audit = record { keys = keys; right = are; seen = seen ∙ ap (audit_of keys) of_contents };
-    }
+pub passes : (r : Reading) (bundle : Bundle) (keys : List KeyParts) (answer : List PlainSeen) → AreRightKeys (log_links r.log) (bundle_key bundle r) keys →
+    ((c : PlacedContent) → In c (log_contents r.log) → IsOpened keys c) → answer ≡ audit_of keys (log_contents r.log) → Passes r bundle answer
+passes r bundle keys answer right opened seen = record {
+  none_bad = none_bad r bundle keys right opened;
+  audit = record { keys = keys; right = right; seen = seen };
+}
 
 wrong_link : (r : Reading) (bundle : Bundle) (batch at : ℕ) → LinkFault (log_links r.log) (bundle_key bundle r) (faults.Tampered batch at) → RecordFault r bundle (OfBytes (Tampered batch at))
 unfolding links_read
@@ -225,27 +236,12 @@ wrong_text r bundle keys at right w =
     subst (λ a. RecordFault r bundle (OfBytes (Damaged a))) w.2
     (WrongText c w.1 (record { key = w.3.0; right = (right.right w.3.0).0 w.3.1; id = eqb-true (sealing_id c.content) w.3.0.id both.0; serial = eqb-true c.content.key_serial.0 w.3.0.serial both.1 }) w.3.3 w.3.4)
 
-told : (r : Reading) (bundle : Bundle) (keys : List KeyParts) (fault : ClientFault) → AreRightKeys (log_links r.log) (bundle_key bundle r) keys → ContentFault (log_contents r.log) keys fault → IsToldOf (RecordFault r bundle) fault
-told r bundle keys (faults.Tampered batch at) right w = wrong_content r bundle keys batch at right w
-told r bundle keys (faults.Damaged at) right w = wrong_text r bundle keys at right w
-told r bundle keys faults.OutOfMemory right w = tt
-told r bundle keys faults.NotAStore right w = absurd w
-told r bundle keys faults.WrongKey right w = absurd w
-told r bundle keys (faults.NoHolder known) right w = absurd w
-told r bundle keys faults.Unseen right w = absurd w
-told r bundle keys faults.DiskFault right w = tt
-
-pub content_told : (r : Reading) (bundle : Bundle) (links : List PlacedLink) (contents : List PlacedContent) (key : KeyParts) (keys : List KeyParts) (fault : ClientFault) → links ≡ log_links r.log → contents ≡ log_contents r.log → key ≡ bundle_key bundle r →
-    AreRightKeys links key keys → ContentFault contents keys fault → IsToldOf (RecordFault r bundle) fault
-content_told r bundle links contents key keys fault of_links of_contents of_key right w =
-    told r bundle keys fault
-    (subst (λ (k : KeyParts). AreRightKeys (log_links r.log) k keys) of_key (subst (λ (ls : List PlacedLink). AreRightKeys ls key keys) of_links right))
-    (subst (λ (cs : List PlacedContent). ContentFault cs keys fault) of_contents w)
-
--- all that keys show of contents, or the first fault
-pub contents_told : (r : Reading) (bundle : Bundle) (links : List PlacedLink) (contents : List PlacedContent) (key : KeyParts) (keys : List KeyParts) (result : Result (Listed Seen) ClientFault) →
-    links ≡ log_links r.log → contents ≡ log_contents r.log → key ≡ bundle_key bundle r → AreRightKeys links key keys → IfOk result (λ (_ : Listed Seen). (c : PlacedContent) → In c contents → IsOpened keys c) →
-    IfOk result (λ (seen : Listed Seen). map plain_seen seen.items ≡ audit_of keys contents) → IfErr result (ContentFault contents keys) →
-    MatchResult result (λ (seen : Listed Seen). Passes r bundle (map plain_seen seen.items)) (IsToldOf (RecordFault r bundle))
-contents_told r bundle links contents key keys (Ok seen) of_links of_contents of_key right opened shown fault = passes r bundle links contents key keys (map plain_seen seen.items) of_links of_contents of_key right opened shown
-contents_told r bundle links contents key keys (Err other) of_links of_contents of_key right opened shown fault = content_told r bundle links contents key keys other of_links of_contents of_key right fault
+pub content_told : (r : Reading) (bundle : Bundle) (keys : List KeyParts) (fault : ClientFault) → AreRightKeys (log_links r.log) (bundle_key bundle r) keys → ContentFault (log_contents r.log) keys fault → IsToldOf (RecordFault r bundle) fault
+content_told r bundle keys (faults.Tampered batch at) right w = wrong_content r bundle keys batch at right w
+content_told r bundle keys (faults.Damaged at) right w = wrong_text r bundle keys at right w
+content_told r bundle keys faults.OutOfMemory right w = tt
+content_told r bundle keys faults.NotAStore right w = absurd w
+content_told r bundle keys faults.WrongKey right w = absurd w
+content_told r bundle keys (faults.NoHolder known) right w = absurd w
+content_told r bundle keys faults.Unseen right w = absurd w
+content_told r bundle keys faults.DiskFault right w = tt

@@ -1,11 +1,12 @@
 -- What an audit gives: the names and files that a bundle's key leads to. This project's own, docs/FORMAT.md, "Records" and
 -- "Lines".
-use Rattle.std.specs.Prelude.{◌≡◌, ◌⊎◌, ℕ, Bool, true, false, ◌&&◌, ◌==◌, cond, IsTrue, List, [], ◌∷◌, filter, map, take, drop, Result, Ok, Err}
+use Rattle.std.specs.Prelude.{◌≡◌, ◌⊎◌, ℕ, Bool, true, false, ◌&&◌, ◌==◌, cond, IsTrue, List, [], ◌∷◌, ◌++◌, filter, map, take, drop, Result, Ok, Err}
 use Rattle.std.specs.List.{flat_map}
 use Rattle.chacha_seal.specs.Keys.{KeyParts}
 use Rattle.chacha_seal.specs.Sealing.{sealed}
 use Rattle.closure_laws.specs.Seen.{Sight}
 use Rattle.commit_journal.specs.Answering.{NotAStore, WrongKey, Damaged, Tampered}
+use Rattle.commit_journal.specs.Placed.{PlainPlaced}
 use Rattle.cry_base.specs.Listed.{Listed}
 use Rattle.cry_base.specs.Sets.{In}
 use Rattle.cry_base.specs.declared.client.Bundle.{Bundle}
@@ -21,6 +22,7 @@ use Rattle.record_format.specs.Plain.{PlainContent}
 use Rattle.trail_audit.specs.Auditing.{MayFail, RecordFault, bundle_key, is_text, sealing_id}
 use Rattle.trail_audit.specs.Records.{AContent, IsTagged}
 use Rattle.trail_audit.specs.Trails.{AreRightKeys}
+use Rattle.trail_audit.specs.declared.trails.KnownKeys.{KnownKeys}
 use Rattle.cry_base.specs.declared.client.Seen.{Seen}
 
 -- a name, or a file's name and bytes, without the room beside the bytes
@@ -96,6 +98,11 @@ abbrev pub AnswersAudit : Result Reading Failure → Bundle → Result (Listed S
 AnswersAudit read bundle (Ok answer) = (r : Reading) × (read ≡ Ok r) × Passes r bundle (map plain_seen answer.items)
 AnswersAudit read bundle (Err fault) = IsToldOf (λ failure. (read ≡ Err failure) ⊎ ((r : Reading) × (read ≡ Ok r) × RecordFault r bundle failure)) fault
 
+-- the same of a log that was read so, as far as the right keys: they were found, or the fault is that of the reading or of a link
+abbrev pub AnswersKeys : Result Reading Failure → Bundle → List PlainPlaced → Result KnownKeys ClientFault → Type 0
+AnswersKeys read bundle log (Ok known) = (r : Reading) × (read ≡ Ok r) × (r.log ≡ log) × AreRightKeys (log_links r.log) (bundle_key bundle r) known.keys.items
+AnswersKeys read bundle log (Err fault) = AnswersAudit read bundle (Err fault)
+
 -- a name or a file of a history, as an audit gives it
 unfoldable pub seen_of_sight : Sight → PlainSeen
 seen_of_sight s = record {
@@ -133,3 +140,12 @@ pub record IsOpenedBy (c : PlainContent) (key : KeyParts) : Type 0 where
 -- each of the keys that the content says it is sealed under opens it
 abbrev pub IsOpened : List KeyParts → PlacedContent → Type 0
 IsOpened keys c = (key : KeyParts) → In key keys → IsTrue (is_sealed_by c.content key) → IsOpenedBy c.content key
+
+-- contents were opened with all keys that they say they are sealed under, and what they show was added, in their order
+pub record AreSeen (keys : List KeyParts) (contents : List PlacedContent) (old new : List PlainSeen) : Type 0 where
+  pub opened : (c : PlacedContent) → In c contents → IsOpened keys c
+  pub shown : new ≡ old ++ audit_of keys contents
+
+-- the fault is that of a content, or of a disk from which its batch was read once more
+abbrev pub RereadFault : List PlacedContent → List KeyParts → ClientFault → Type 0
+RereadFault contents keys fault = (fault ≡ faults.DiskFault) ⊎ ContentFault contents keys fault

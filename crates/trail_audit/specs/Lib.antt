@@ -5,3 +5,5 @@ pub mod Trails
 pub mod Auditing
 pub mod Derived
 pub mod Grouped
+pub mod Seals
+pub mod Kept

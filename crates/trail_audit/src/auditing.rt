@@ -1,28 +1,27 @@
 //! All that a bundle's key leads to.
-ghost use Rattle.std.specs.Prelude.{◌≡◌, ◌≢◌, ◌<◌, ◌≤◌, All, Err, MatchResult, Ok, map};
+ghost use Rattle.std.specs.Prelude.{◌≡◌, ◌≢◌, ◌<◌, ◌≤◌, Err, IfOk, List as TheList, Ok};
 ghost use Rattle.cry_io.specs.Told.{WhereTold};
-ghost use Rattle.commit_journal.specs.Logs.{AreInEpochs};
-ghost use Rattle.commit_journal.specs.Placed.{plain_placed};
-ghost use Rattle.commit_journal.specs.Places.{IsStanding};
+ghost use Rattle.commit_journal.specs.Placed.{PlainPlaced};
 ghost use Rattle.commit_journal.specs.Reading.{IsOnlyRead};
-ghost use Rattle.cry_base.specs.declared.client.Bundle.{Bundle as TheBundle};
 ghost use Rattle.holder_client.specs.Judging.{read_with};
+ghost use Rattle.holder_client.specs.Placing.{log_links};
+ghost use Rattle.holder_client.specs.Reads.{HasRead};
 ghost use Rattle.holder_client.specs.Visiting.{Reading};
 ghost use Rattle.public_fold.specs.KeyStep.{present};
-ghost use Rattle.trail_audit.specs.Auditing.{RecordFault, bundle_key as the_bundle_key};
-ghost use Rattle.trail_audit.specs.Derived.{AnswersAudit, IsToldOf, MayAnswer, Passes, plain_seen};
+ghost use Rattle.trail_audit.specs.Auditing.{bundle_key as the_bundle_key};
+ghost use Rattle.trail_audit.specs.Derived.{AnswersKeys, MayAnswer};
+ghost use Rattle.trail_audit.specs.Grouped.{HasGroups, key_source, source_of_link};
 
 use crate::Seen;
-use crate::admission::read_through;
-use crate::contents::see_contents;
-use crate::log_reading::read_log;
-use crate::placed_records::{contents_of, links_of};
+use crate::kept::Kept;
+use crate::log_reading::{ReadLog, read_log};
+use crate::placed_records::Links;
 use crate::right_key::RightKey;
-use crate::trails::right_keys;
-use commit_journal::Placed;
+use crate::seen_log::see_log;
+use crate::trails::{KnownKeys, right_keys};
 use cry_base::{Bundle, HolderId, List, Role, Serial};
 use cry_io::Disk;
-use holder_client::ClientFault;
+use holder_client::{ClientFault, Reader};
 use public_fold::PublicState;
 use std::alloc::Global;
 
@@ -56,30 +55,22 @@ fn bundle_key(bundle: &Bundle, state: &PublicState) -> RightKey
     }
 }
 
-/// All that the key leads to in a log.
-fn audit_records(alloc: Global, log: &[Placed], key: RightKey) -> Result<List<Seen>, ClientFault>
-    requires stands { All IsStanding log.now }
-    ensures answer { (r : Reading) (bundle : TheBundle) → r.log ≡ map plain_placed log.now → key ≡ the_bundle_key bundle r →
-        MatchResult result (λ seen. Passes r bundle (map plain_seen seen.items)) (IsToldOf (RecordFault r bundle)) }
+/// The keys to which the bundle's leads in a log that it may read. The reader and the links are let go.
+fn known_keys(
+    alloc: Global,
+    bundle: &Bundle,
+    reader: Reader,
+    links: Links,
+) -> Result<KnownKeys, ClientFault>
+    requires kept { (log : TheList PlainPlaced) × HasRead reader log × HasGroups source_of_link links (log_links log) }
+    ensures answer { (log : TheList PlainPlaced) → HasRead reader log → HasGroups source_of_link links (log_links log) → AnswersKeys (read_with bundle.now (Ok log)) bundle.now log result }
+    ensures grouped { IfOk result (λ known. HasGroups key_source known.groups known.keys.items) }
     ensures no_disk { result ≢ Err ClientFault.DiskFault }
     ensures seen { result ≢ Err ClientFault.Unseen }
 {
-    let links = links_of(alloc, log)?;
-    let keys = right_keys(alloc, links.as_slice(), key)?;
-    let contents = contents_of(alloc, log)?;
-    see_contents(alloc, contents.as_slice(), keys.as_slice())
-}
-
-/// All that the bundle's key leads to in a log that it may read.
-fn audit_log(alloc: Global, bundle: &Bundle, log: &[Placed]) -> Result<List<Seen>, ClientFault>
-    requires stands { All IsStanding log.now }
-    requires epochs { AreInEpochs 0 (map plain_placed log.now) }
-    ensures answer { AnswersAudit (read_with bundle.now (Ok (map plain_placed log.now))) bundle.now result }
-    ensures no_disk { result ≢ Err ClientFault.DiskFault }
-    ensures seen { result ≢ Err ClientFault.Unseen }
-{
-    let state = read_through(alloc, bundle, log)?;
-    audit_records(alloc, log, bundle_key(bundle, &state))
+    reader.admit(bundle)?;
+    let own = bundle_key(bundle, reader.state());
+    right_keys(alloc, &links, own)
 }
 
 /// The names and files that the bundle's key leads to in a store, by the batches that wrote them: each content that the log has
@@ -103,6 +94,13 @@ pub fn audit<D: Disk>(
     ensures counts { D.faults disk.old ≤ D.faults disk.new }
     ensures disk_fault { result ≡ Err ClientFault.DiskFault → D.faults disk.old < D.faults disk.new }
 {
-    let log = read_log(alloc, disk, bundle)?;
-    audit_log(alloc, bundle, log.as_slice())
+    let ReadLog { log, kept } = read_log(alloc, disk, bundle)?;
+    let Kept {
+        reader,
+        links,
+        seals,
+        last,
+    } = kept;
+    let known = known_keys(alloc, bundle, reader, links)?;
+    see_log(alloc, disk, &log, last, seals.as_slice(), &known)
 }

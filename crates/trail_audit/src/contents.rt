@@ -1,7 +1,6 @@
 //! The contents of a log, opened with all right keys (docs/FORMAT.md, "Records").
 ghost use Rattle.std.specs.Prelude.{◌≡◌, ◌++◌, [], ◌∷◌, IfErr, IfOk, IsTrue, List as TheList, MatchOption, OnOk, false, map, true};
 ghost use Rattle.chacha_seal.specs.Keys.{KeyParts};
-ghost use Rattle.cry_base.specs.Sets.{In};
 ghost use Rattle.holder_client.specs.Holding.{HasParts};
 ghost use Rattle.holder_client.specs.Placing.{PlacedContent};
 ghost use Rattle.holder_client.specs.Visiting.{is_file_text as the_file_text, is_folder_text as the_folder_text};
@@ -12,9 +11,10 @@ ghost use Rattle.trail_audit.specs.Records.{IsTagged};
 ghost use Rattle.trail_audit.specs.Records.PlainRecord.{AContent};
 
 use crate::Seen;
-use crate::grouped::{Source, add_under, group_of};
+use crate::grouped::{Source, group_of};
 use crate::placed_records::ContentAt;
 use crate::right_key::RightKey;
+use crate::trails::KnownKeys;
 use chacha_seal::{BadTag, open_in_place};
 use cry_base::{FileId, FolderId, List, Mem, Node, Text};
 use folder_nodes::name_ok;
@@ -222,19 +222,8 @@ fn see_content(
     Ok(())
 }
 
-/// The keys by their numbers and serials.
-fn by_source(alloc: Global, keys: &[RightKey]) -> Mem<HashMap<Source, List<RightKey>>>
-    ensures { IfOk result (λ groups. HasGroups key_source groups keys.now) }
-{
-    let mut groups = HashMap::new(alloc);
-    for key in keys {
-        add_under(&mut groups, alloc, key.source(), *key)?;
-    }
-    Ok(groups)
-}
-
 /// What the content says that it is sealed under.
-fn source_of(found: &ContentAt<'_>) -> Source
+pub(crate) fn source_of(found: &ContentAt<'_>) -> Source
     ensures { result ≡ content_source found.now.content }
 {
     Source {
@@ -258,22 +247,21 @@ fn see_under(
     see_content(alloc, found, group_of(groups, source_of(found)), seen)
 }
 
-/// Opens each content with each of the keys that it says it is sealed under, in order. `Tampered` comes only for a content with a
-/// wrong tag under such a key, and `Damaged` only for one with a right tag and a text that isn't of its form; where there is such
-/// a content, the answer isn't Ok.
+/// Opens each content with each of the keys that it says it is sealed under, in order, and adds what they show. `Tampered` comes
+/// only for a content with a wrong tag under such a key, and `Damaged` only for one with a right tag and a text that isn't of its
+/// form; where there is such a content, the answer isn't Ok.
 pub(crate) fn see_contents(
     alloc: Global,
     contents: &[ContentAt<'_>],
-    keys: &[RightKey],
-) -> Result<List<Seen>, ClientFault>
-    ensures opened { IfOk result (λ _. (c : PlacedContent) → In c contents.now → spec.IsOpened keys.now c) }
-    ensures seen { IfOk result (λ seen. map spec.plain_seen seen.items ≡ spec.audit_of keys.now contents.now) }
-    ensures fault { IfErr result (spec.ContentFault contents.now keys.now) }
+    known: &KnownKeys,
+    seen: &mut List<Seen>,
+) -> Result<(), ClientFault>
+    requires grouped { HasGroups key_source known.now.groups known.now.keys.items }
+    ensures seen { OnOk result (spec.AreSeen known.now.keys.items contents.now (map spec.plain_seen seen.old.items) (map spec.plain_seen seen.new.items)) }
+    ensures fault { IfErr result (spec.ContentFault contents.now known.now.keys.items) }
 {
-    let groups = by_source(alloc, keys)?;
-    let mut seen = List::new(alloc);
     for found in contents {
-        see_under(alloc, found, &groups, &mut seen)?;
+        see_under(alloc, found, &known.groups, seen)?;
     }
-    Ok(seen)
+    Ok(())
 }

@@ -1,14 +1,16 @@
 //! What an audit may derive from a store: the keys that right links lead to, and the records that nobody but the owner made.
 #![tactic(auto)]
 
-mod admission;
 mod auditing;
 mod contents;
 mod grouped;
+mod kept;
 pub mod laws;
 mod log_reading;
 mod placed_records;
 mod right_key;
+mod seals;
+mod seen_log;
 mod trails;
 
 pub use auditing::audit;

@@ -1,69 +1,69 @@
 //! The log as a bundle's reader reads it (docs/FORMAT.md, "Reading").
-ghost use Rattle.std.specs.Prelude.{◌≡◌, ◌≢◌, ◌<◌, ◌≤◌, All, Err, IfOk};
+ghost use Rattle.std.specs.Prelude.{◌≡◌, ◌≢◌, ◌<◌, ◌≤◌, Err, IfOk, option_copied};
 ghost use Rattle.cry_io.specs.Told.{WhereTold};
-ghost use Rattle.commit_journal.specs.Log.{log_verdict};
-ghost use Rattle.commit_journal.specs.Logs.{AreInEpochs, holder_log};
-ghost use Rattle.commit_journal.specs.Placed.{plain_log};
-ghost use Rattle.commit_journal.specs.Places.{IsStanding};
+ghost use Rattle.commit_journal.specs.Readers as readers;
 ghost use Rattle.commit_journal.specs.Reading.{IsOnlyRead};
+ghost use Rattle.commit_journal.specs.Streaming.{ShowsGiven};
 ghost use Rattle.holder_client.specs.Answering.{Answers};
 ghost use Rattle.holder_client.specs.Judging as spec;
+ghost use Rattle.trail_audit.specs.Kept.{HasKept};
 
-use chacha_seal::Key;
-use commit_journal::{Placed, read_owner, read_public};
-use cry_base::{Bundle, List};
+use crate::kept::Kept;
+use chacha_seal::{Key, OwnerK};
+use commit_journal::PublicLog;
+use cry_base::Bundle;
 use cry_io::Disk;
 use holder_client::ClientFault;
 use std::alloc::Global;
 
-/// The batches of the log as the owner's key reads them.
-fn owners_log<D: Disk>(
+/// A log that was read to its end, and what was kept of it.
+#[derive(Drop)]
+pub(crate) struct ReadLog {
+    pub(crate) log: PublicLog,
+    pub(crate) kept: Kept,
+}
+
+/// Reads a log batch by batch up to its end, with the owner's key or without one.
+fn read_batches<D: Disk>(
     alloc: Global,
     disk: &mut D,
-    key: [u8; 32],
-) -> Result<List<Placed>, ClientFault>
-    ensures verdict { WhereTold (D.shown disk.old) (λ s. Answers plain_log result (log_verdict key s)) }
+    owner: Option<&Key<OwnerK>>,
+) -> Result<ReadLog, ClientFault>
+    ensures verdict { WhereTold (D.shown disk.old) (λ s. Answers (λ read. read.log.given) result (readers.read_log (readers.key_bytes (option_copied owner.entry)) s)) }
+    ensures kept { IfOk result (λ read. HasKept read.kept read.log.given) }
+    ensures shows { WhereTold (D.shown disk.old) (λ s. IfOk result (λ read. ShowsGiven read.log s)) }
     ensures seen { result ≢ Err ClientFault.Unseen }
-    ensures stands { IfOk result (λ log. All IsStanding log.items) }
-    ensures epochs { IfOk result (λ log. AreInEpochs 0 (plain_log log)) }
     ensures read_only { IsOnlyRead D.shown D.size_of D.may_leave disk.old disk.new }
     ensures counts { D.faults disk.old ≤ D.faults disk.new }
     ensures disk_fault { result ≡ Err ClientFault.DiskFault → D.faults disk.old < D.faults disk.new }
 {
-    let log = read_owner(alloc, disk, &Key::owner(key))?;
-    Ok(log)
+    let mut log = PublicLog::begin(alloc, disk, owner)?;
+    let mut kept = Kept::new(alloc)?;
+    while let Some(placed) = log.next(alloc, disk)? {
+        kept.add(alloc, &placed)?;
+    }
+    Ok(ReadLog { log, kept })
 }
 
-/// The batches of the log that are published.
-fn holders_log<D: Disk>(alloc: Global, disk: &mut D) -> Result<List<Placed>, ClientFault>
-    ensures verdict { WhereTold (D.shown disk.old) (λ s. Answers plain_log result (holder_log s)) }
-    ensures seen { result ≢ Err ClientFault.Unseen }
-    ensures stands { IfOk result (λ log. All IsStanding log.items) }
-    ensures epochs { IfOk result (λ log. AreInEpochs 0 (plain_log log)) }
-    ensures read_only { IsOnlyRead D.shown D.size_of D.may_leave disk.old disk.new }
-    ensures counts { D.faults disk.old ≤ D.faults disk.new }
-    ensures disk_fault { result ≡ Err ClientFault.DiskFault → D.faults disk.old < D.faults disk.new }
-{
-    let log = read_public(alloc, disk)?;
-    Ok(log)
-}
-
-/// The batches of the log as the bundle's reader reads them.
+/// Reads the log as the bundle's reader reads it.
 pub(crate) fn read_log<D: Disk>(
     alloc: Global,
     disk: &mut D,
     bundle: &Bundle,
-) -> Result<List<Placed>, ClientFault>
-    ensures verdict { WhereTold (D.shown disk.old) (λ s. Answers plain_log result (spec.bundle_log bundle.now s)) }
+) -> Result<ReadLog, ClientFault>
+    ensures verdict { WhereTold (D.shown disk.old) (λ s. Answers (λ read. read.log.given) result (spec.bundle_log bundle.now s)) }
+    ensures kept { IfOk result (λ read. HasKept read.kept read.log.given) }
+    ensures shows { WhereTold (D.shown disk.old) (λ s. IfOk result (λ read. ShowsGiven read.log s)) }
     ensures seen { result ≢ Err ClientFault.Unseen }
-    ensures stands { IfOk result (λ log. All IsStanding log.items) }
-    ensures epochs { IfOk result (λ log. AreInEpochs 0 (plain_log log)) }
     ensures read_only { IsOnlyRead D.shown D.size_of D.may_leave disk.old disk.new }
     ensures counts { D.faults disk.old ≤ D.faults disk.new }
     ensures disk_fault { result ≡ Err ClientFault.DiskFault → D.faults disk.old < D.faults disk.new }
 {
     match bundle {
-        Bundle::Owner { key } => owners_log(alloc, disk, *key),
-        Bundle::Holder { .. } => holders_log(alloc, disk),
+        Bundle::Owner { key } => {
+            let owner = Key::owner(*key);
+            read_batches(alloc, disk, Some(&owner))
+        }
+        Bundle::Holder { .. } => read_batches(alloc, disk, None),
     }
 }

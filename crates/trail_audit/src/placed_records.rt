@@ -1,19 +1,21 @@
 //! The links and contents of a log, and where they stand (docs/FORMAT.md, "Records").
-ghost use Rattle.std.specs.Prelude.{◌≡◌, ◌+◌, ◌*◌, ◌<◌, ◌^◌, ◌++◌, All, IfOk, OnOk, length, map};
+ghost use Rattle.std.specs.Prelude.{◌≡◌, ◌+◌, ◌*◌, ◌<◌, ◌^◌, ◌++◌, [], ◌∷◌, All, IfOk, List as TheList, OnOk, length, map};
 ghost use Rattle.std.specs.List.{sum_by};
-ghost use Rattle.commit_journal.specs.Placed.{plain_body, plain_placed};
+ghost use Rattle.commit_journal.specs.Placed.{plain_body};
 ghost use Rattle.commit_journal.specs.Places.{IsStanding};
 ghost use Rattle.holder_client.specs.Placing as spec;
+ghost use Rattle.holder_client.specs.Placing.{PlacedLink};
 ghost use Rattle.record_format.specs.Plain.{plain_content};
 ghost use Rattle.record_format.specs.Sizes.{content_size};
 ghost use Rattle.record_format.specs.Spellable.{IsContent};
-ghost use Rattle.trail_audit.specs.Grouped.{source_of_link};
+ghost use Rattle.trail_audit.specs.Grouped.{HasGroups, link_source, source_of_link};
 
-use crate::grouped::Source;
+use crate::grouped::{Source, add_under};
 use commit_journal::{Body, Placed, content_place, link_place};
 use cry_base::{List, Mem};
 use record_format::{ContentRecord, LinkRecord};
 use std::alloc::Global;
+use std::collections::HashMap;
 use std::marker::Model;
 
 const LINK_LEN: u64 = 98;
@@ -21,45 +23,27 @@ const LINK_LEN: u64 = 98;
 /// The bytes of a content beside its text.
 const HEAD_AND_TAG: u64 = 58;
 
+/// Links by where they begin.
+pub(crate) type Links = HashMap<Source, List<LinkAt>>;
+
 /// A link, and where it stands.
-#[derive(Drop)]
-pub(crate) struct LinkAt<'a> {
+#[derive(Clone, Copy)]
+pub(crate) struct LinkAt {
     /// The number of its batch.
     pub(crate) batch: u32,
     /// The place of its first byte in the file.
     pub(crate) at: u64,
-    pub(crate) link: &'a LinkRecord,
+    pub(crate) link: LinkRecord,
 }
 
-impl<'a> Model for LinkAt<'a> {
+impl Model for LinkAt {
     ghost use Rattle.holder_client.specs.Placing.{PlacedLink};
 
     ghost Value = { PlacedLink };
 
-    ghost view = { λ l. record { batch = l.batch; at = l.at; link = l.link.now } };
-}
+    ghost view = { λ l. record { batch = l.batch; at = l.at; link = l.link } };
 
-impl<'a> LinkAt<'a> {
-    /// The same link at the same place.
-    pub(crate) fn again(&self) -> LinkAt<'a>
-        ensures { result ≡ self.now }
-    {
-        LinkAt {
-            batch: self.batch,
-            at: self.at,
-            link: self.link,
-        }
-    }
-
-    /// Where it begins.
-    pub(crate) fn source(&self) -> Source
-        ensures { result ≡ source_of_link self.now }
-    {
-        Source {
-            id: self.link.from_id,
-            serial: self.link.from_serial.0,
-        }
-    }
+    ghost inverse = { λ l. record { batch = l.batch; at = l.at; link = l.link } };
 }
 
 /// A content that has the format's form, and where it stands.
@@ -84,28 +68,53 @@ impl<'a> Model for ContentAt<'a> {
     ghost invariant = { λ c. IsContent (plain_content c.content.now) };
 }
 
+/// Where a link begins.
+fn source_of(link: &LinkRecord) -> Source
+    ensures { result ≡ link_source link.now }
+{
+    Source {
+        id: link.from_id,
+        serial: link.from_serial.0,
+    }
+}
+
+/// Adds a link to those that begin where it does.
+fn add_link(links: &mut Links, alloc: Global, found: LinkAt) -> Mem<()>
+    ensures { OnOk result ((before : TheList PlacedLink) → HasGroups source_of_link links.old before → HasGroups source_of_link links.new (before ++ found ∷ [])) }
+{
+    add_under(links, alloc, source_of(&found.link), found)
+}
+
 /// Adds the links of a batch, of which the first stands at the place.
-fn add_links<'a>(
-    found: &mut List<LinkAt<'a>>,
+fn add_links(
+    found: &mut Links,
+    alloc: Global,
     batch: u32,
     first: u64,
-    links: &'a [LinkRecord],
+    links: &[LinkRecord],
 ) -> Mem<()>
     requires { first + 98 * length links.now < 2 ^ 64 }
-    ensures { OnOk result (found.new.items ≡ found.old.items ++ spec.links_at batch first links.now) }
+    ensures { OnOk result ((before : TheList PlacedLink) → HasGroups source_of_link found.old before →
+        HasGroups source_of_link found.new (before ++ spec.links_at batch first links.now)) }
 {
     let mut at = first;
     for link in links {
-        found.push(LinkAt { batch, at, link })?;
+        let placed = LinkAt {
+            batch,
+            at,
+            link: *link,
+        };
+        add_link(found, alloc, placed)?;
         at += LINK_LEN;
     }
     Ok(())
 }
 
 /// Adds the links that a batch carries.
-fn add_links_of<'a>(found: &mut List<LinkAt<'a>>, placed: &'a Placed) -> Mem<()>
+pub(crate) fn add_links_of(found: &mut Links, alloc: Global, placed: &Placed) -> Mem<()>
     requires { IsStanding placed.now }
-    ensures { OnOk result (found.new.items ≡ found.old.items ++ spec.body_links placed.now.batch placed.now.place (plain_body placed.now.body)) }
+    ensures { OnOk result ((before : TheList PlacedLink) → HasGroups source_of_link found.old before →
+        HasGroups source_of_link found.new (before ++ spec.body_links placed.now.batch placed.now.place (plain_body placed.now.body))) }
 {
     let Body::Commands(payload) = &placed.body else {
         return Ok(());
@@ -114,19 +123,7 @@ fn add_links_of<'a>(found: &mut List<LinkAt<'a>>, placed: &'a Placed) -> Mem<()>
     if links.is_empty() {
         return Ok(());
     }
-    add_links(found, placed.batch, link_place(placed, 0), links)
-}
-
-/// The links of a log, in order.
-pub(crate) fn links_of<'a>(alloc: Global, log: &'a [Placed]) -> Mem<List<LinkAt<'a>>>
-    requires { All IsStanding log.now }
-    ensures { IfOk result (λ found. found.items ≡ spec.log_links (map plain_placed log.now)) }
-{
-    let mut found = List::new(alloc);
-    for placed in log {
-        add_links_of(&mut found, placed)?;
-    }
-    Ok(found)
+    add_links(found, alloc, placed.batch, link_place(placed, 0), links)
 }
 
 /// Adds the contents of a batch, of which the first stands at the place.
@@ -163,14 +160,12 @@ fn add_contents_of<'a>(found: &mut List<ContentAt<'a>>, placed: &'a Placed) -> M
     add_contents(found, placed.batch, content_place(placed, 0), contents)
 }
 
-/// The contents of a log, in order.
-pub(crate) fn contents_of<'a>(alloc: Global, log: &'a [Placed]) -> Mem<List<ContentAt<'a>>>
-    requires { All IsStanding log.now }
-    ensures { IfOk result (λ found. found.items ≡ spec.log_contents (map plain_placed log.now)) }
+/// The contents of a batch, in order.
+pub(crate) fn contents_of<'a>(alloc: Global, placed: &'a Placed) -> Mem<List<ContentAt<'a>>>
+    requires { IsStanding placed.now }
+    ensures { IfOk result (λ found. found.items ≡ spec.body_contents placed.now.batch placed.now.place (plain_body placed.now.body)) }
 {
     let mut found = List::new(alloc);
-    for placed in log {
-        add_contents_of(&mut found, placed)?;
-    }
+    add_contents_of(&mut found, placed)?;
     Ok(found)
 }

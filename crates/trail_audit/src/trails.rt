@@ -9,7 +9,7 @@ ghost use Rattle.trail_audit.specs.Right.{target_of};
 ghost use Rattle.trail_audit.specs.Trails.{AreRightKeys, BeginsAt, IsGrown, IsKept, LinkFault, TagFault};
 
 use crate::grouped::{Source, add_under, group_of};
-use crate::placed_records::LinkAt;
+use crate::placed_records::{LinkAt, Links};
 use crate::right_key::RightKey;
 use chacha_seal::{BadTag, HolderK, Key, open_key};
 use cry_base::{List, Mem};
@@ -20,9 +20,9 @@ use std::collections::HashMap;
 
 /// The keys found so far, in the order in which they were found, and again in groups by their numbers and serials.
 #[derive(Drop)]
-struct KnownKeys {
-    keys: List<RightKey>,
-    groups: HashMap<Source, List<RightKey>>,
+pub(crate) struct KnownKeys {
+    pub(crate) keys: List<RightKey>,
+    pub(crate) groups: HashMap<Source, List<RightKey>>,
 }
 
 /// Whether the key stands among the keys, with the same bytes.
@@ -52,13 +52,13 @@ fn keep_key(alloc: Global, known: &mut KnownKeys, key: RightKey) -> Mem<()>
 }
 
 /// The key that a link leads to from the key at which it begins. `Tampered` comes exactly where its tag is wrong.
-fn open_link(found: &LinkAt<'_>, key: &RightKey) -> Result<RightKey, ClientFault>
+fn open_link(found: &LinkAt, key: &RightKey) -> Result<RightKey, ClientFault>
     requires begins { BeginsAt found.now.link key.now }
     ensures tagged { IfOk result (λ _. IsTagged key.now.bytes (ALink found.now.link)) }
     ensures target { IfOk result (λ target. target ≡ target_of key.now found.now.link) }
     ensures fault { IfErr result (TagFault (found.now ∷ []) key.now) }
 {
-    let link = found.link;
+    let link = &found.link;
     let header = link_header(link);
     let opened: Result<Key<HolderK>, BadTag> = open_key(
         &key.opener(),
@@ -81,7 +81,7 @@ fn open_link(found: &LinkAt<'_>, key: &RightKey) -> Result<RightKey, ClientFault
 /// Follows a link from a key, where it begins there.
 fn follow_link(
     alloc: Global,
-    found: &LinkAt<'_>,
+    found: &LinkAt,
     key: &RightKey,
     known: &mut KnownKeys,
 ) -> Result<(), ClientFault>
@@ -90,7 +90,7 @@ fn follow_link(
     ensures grouped { OnOk result (HasGroups key_source known.new.groups known.new.keys.items) }
     ensures fault { IfErr result (TagFault (found.now ∷ []) key.now) }
 {
-    if !key.begins(found.link) {
+    if !key.begins(&found.link) {
         return Ok(());
     }
     let target = open_link(found, key)?;
@@ -101,7 +101,7 @@ fn follow_link(
 /// Follows each of the links that begins at a key.
 fn follow_links(
     alloc: Global,
-    links: &[LinkAt<'_>],
+    links: &[LinkAt],
     key: &RightKey,
     known: &mut KnownKeys,
 ) -> Result<(), ClientFault>
@@ -116,21 +116,10 @@ fn follow_links(
     Ok(())
 }
 
-/// The links by where they begin.
-fn by_source<'a>(alloc: Global, links: &[LinkAt<'a>]) -> Mem<HashMap<Source, List<LinkAt<'a>>>>
-    ensures { IfOk result (λ groups. HasGroups source_of_link groups links.now) }
-{
-    let mut groups = HashMap::new(alloc);
-    for found in links {
-        add_under(&mut groups, alloc, found.source(), found.again())?;
-    }
-    Ok(groups)
-}
-
 /// Follows each link that begins at a key, and walks over no other.
 fn follow_from(
     alloc: Global,
-    groups: &HashMap<Source, List<LinkAt<'_>>>,
+    groups: &Links,
     key: &RightKey,
     known: &mut KnownKeys,
 ) -> Result<(), ClientFault>
@@ -148,13 +137,13 @@ fn follow_from(
 /// begins at such a key and has a wrong tag under it, and where there is such a link, the answer isn't Ok.
 pub(crate) fn right_keys(
     alloc: Global,
-    links: &[LinkAt<'_>],
+    groups: &Links,
     bundle: RightKey,
-) -> Result<List<RightKey>, ClientFault>
-    ensures keys { IfOk result (λ keys. AreRightKeys links.now bundle keys.items) }
-    ensures fault { IfErr result (LinkFault links.now bundle) }
+) -> Result<KnownKeys, ClientFault>
+    ensures keys { IfOk result (λ known. (links : TheList PlacedLink) → HasGroups source_of_link groups.now links → AreRightKeys links bundle known.keys.items) }
+    ensures grouped { IfOk result (λ known. HasGroups key_source known.groups known.keys.items) }
+    ensures fault { IfErr result (λ fault. (links : TheList PlacedLink) → HasGroups source_of_link groups.now links → LinkFault links bundle fault) }
 {
-    let groups = by_source(alloc, links)?;
     let mut known = KnownKeys {
         keys: List::new(alloc),
         groups: HashMap::new(alloc),
@@ -163,8 +152,8 @@ pub(crate) fn right_keys(
     let mut done = 0;
     while done < known.keys.as_slice().len() {
         let key = known.keys.as_slice()[done];
-        follow_from(alloc, &groups, &key, &mut known)?;
+        follow_from(alloc, groups, &key, &mut known)?;
         done += 1;
     }
-    Ok(known.keys)
+    Ok(known)
 }

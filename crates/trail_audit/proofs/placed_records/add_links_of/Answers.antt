@@ -7,37 +7,38 @@ use Rattle.commit_journal.specs.Places.{IsLinkPlace, link_offset}
 use Rattle.record_format.specs.declared.link.LinkRecord.{LinkRecord}
 use Rattle.record_format.specs.Plain.{plain_payload}
 use Rattle.holder_client.specs.Placing.{body_links, links_at}
+use Rattle.trail_audit.specs.Grouped.{HasGroups, source_of_link}
 use Rattle.trail_audit.proofs.placed_records.add_links_of.Goals as goal
 
 pub returns-in_default : goal.returns-in_default
 unfolding body_links
-returns-in_default c =
+returns-in_default c = λ before has.
     let placed = c.args.placed.now in
-    sym (ap (λ b. c.args.found.now.items ++ body_links placed.batch placed.place (plain_body b)) c.in_default.is ∙ append-nil c.args.found.now.items)
+    subst (HasGroups source_of_link c.args.found.now) (sym (ap (λ b. before ++ body_links placed.batch placed.place (plain_body b)) c.in_default.is ∙ append-nil before)) has
 
 pub returns-then-is_empty : goal.returns-then-is_empty
 unfolding body_links links_at
-returns-then-is_empty c =
+returns-then-is_empty c = λ before has.
     let placed = c.args.placed.now in
-    let so_far = c.args.found.now.items in
     let payload = c.in-Commands.payload in
     let first = placed.place + link_offset (plain_payload payload) 0 in
     let empty : payload.links.items ≡ [] = sym c.as_slice-links.ensures ∙ nil_from_length c.as_slice-links.result.now (eqb-true (length c.as_slice-links.result.now) 0 (sym c.if-is_empty.ensures)) in
-    sym (ap (λ b. so_far ++ body_links placed.batch placed.place (plain_body b)) c.in-Commands.is
-    ∙ ap (λ (ls : List LinkRecord). so_far ++ links_at placed.batch first ls) empty
-    ∙ append-nil so_far)
+    subst (HasGroups source_of_link c.args.found.now)
+    (sym (ap (λ b. before ++ body_links placed.batch placed.place (plain_body b)) c.in-Commands.is
+    ∙ ap (λ (ls : List LinkRecord). before ++ links_at placed.batch first ls) empty
+    ∙ append-nil before)) has
 
 pub returns : goal.returns
 unfolding body_links
 returns c =
     let placed = c.args.placed.now in
-    let so_far = c.args.found.now.items in
     let payload = c.in-Commands.payload in
     let is_place : c.link_place.result ≡ placed.place + link_offset (plain_payload payload) 0 = subst (IsLinkPlace placed.place 0 c.link_place.result) c.in-Commands.is c.link_place.ensures in
     on_ok_weaker c.add_links.result
-    (λ added.
-    added
-    ∙ ap (λ n. so_far ++ links_at placed.batch n c.as_slice-links.result.now) is_place
-    ∙ ap (λ (ls : List LinkRecord). so_far ++ links_at placed.batch (placed.place + link_offset (plain_payload payload) 0) ls) c.as_slice-links.ensures
-    ∙ ap (λ b. so_far ++ body_links placed.batch placed.place (plain_body b)) (sym c.in-Commands.is))
+    (λ added before has.
+    subst (HasGroups source_of_link c.add_links.new.found)
+    (ap (λ n. before ++ links_at placed.batch n c.as_slice-links.result.now) is_place
+    ∙ ap (λ (ls : List LinkRecord). before ++ links_at placed.batch (placed.place + link_offset (plain_payload payload) 0) ls) c.as_slice-links.ensures
+    ∙ ap (λ b. before ++ body_links placed.batch placed.place (plain_body b)) (sym c.in-Commands.is))
+    (added before has))
     c.add_links.ensures

@@ -6,7 +6,7 @@ use Rattle.trail_audit.proofs.trails.right_keys.Goals as goal
 
 pub loop-done-init : goal.loop-done-init
 loop-done-init c = record {
-  found = found_first c.args.links.now c.args.bundle c.keep_key.new.known.keys.items
+  found = λ links has. found_first links c.args.bundle c.keep_key.new.known.keys.items
       (first_kept c.args.bundle c.new.result.items c.keep_key.new.known.keys.items c.new.ensures c.in_ok-keep_key.ensures.kept);
   grouped = c.in_ok-keep_key.ensures.grouped;
 }
@@ -19,7 +19,7 @@ returns-in_err-follow_from-clause-fault c =
     let key = c.index-as_slice-done.result in
     let within : done < length keys = omega (arith, c.loop-done-test.true, ap length c.as_slice.ensures) in
     let is : key ≡ get_or keys done key = c.index-as_slice-done.is ∙ ap (λ (ks : List KeyParts). get_or ks done key) c.as_slice-in-loop-done.ensures in
-    rw (p.1, p.2) (link_fault_under c.args.links.now c.args.bundle key done keys c.in_err-follow_from.field-0.0 within is c.loop-done.invariant.found (c.in_err-follow_from.ensures.fault c.args.links.now c.in_ok-groups.ensures))
+    rw (p.1, p.2) (λ links has. link_fault_under links c.args.bundle key done keys c.in_err-follow_from.field-0.0 within is (c.loop-done.invariant.found links has) (c.in_err-follow_from.ensures.fault links has))
 
 pub loop-done-preserved : goal.loop-done-preserved
 loop-done-preserved c =
@@ -29,11 +29,11 @@ loop-done-preserved c =
     let within : done < length keys = omega (arith, c.loop-done-test.true, ap length c.as_slice.ensures) in
     let is : key ≡ get_or keys done key = c.index-as_slice-done.is ∙ ap (λ (ks : List KeyParts). get_or ks done key) c.as_slice-in-loop-done.ensures in
     record {
-      found = found_next c.args.links.now c.args.bundle done keys c.follow_from.new.known.keys.items key within is c.loop-done.invariant.found (c.in_ok-follow_from.ensures.grown c.args.links.now c.in_ok-groups.ensures);
+      found = λ links has. found_next links c.args.bundle done keys c.follow_from.new.known.keys.items key within is (c.loop-done.invariant.found links has) (c.in_ok-follow_from.ensures.grown links has);
       grouped = c.in_ok-follow_from.ensures.grouped;
     }
 
 pub returns-clause-keys : goal.returns-clause-keys
-returns-clause-keys c =
+returns-clause-keys c = λ links has.
     let past : length c.loop-done.known.keys.items ≤ c.loop-done.done = omega (arith, c.loop-done-test.false, ap length c.as_slice.ensures) in
-    found_all c.args.links.now c.args.bundle c.loop-done.done c.loop-done.known.keys.items past c.loop-done.invariant.found
+    found_all links c.args.bundle c.loop-done.done c.loop-done.known.keys.items past (c.loop-done.invariant.found links has)

@@ -1,11 +1,12 @@
-use Rattle.std.proofs.Common.{◌-◌, ◌^◌}
-use Rattle.trail_audit.specs.Grouped.{HasGroups, key_source}
+use Rattle.std.proofs.Common.{◌-◌, ◌^◌, List}
+use Rattle.holder_client.specs.Placing.{PlacedLink}
+use Rattle.trail_audit.specs.Grouped.{HasGroups, key_source, source_of_link}
 use Rattle.trail_audit.proofs.Followed.{AreFoundSoFar}
 use Rattle.trail_audit.proofs.trails.right_keys.Given as goal
 
 abbrev pub invariant-loop-done : goal.invariant-loop-done
 invariant-loop-done l = record {
-  found : AreFoundSoFar l.links l.fn.bundle l.done l.known.keys.items;
+  found : (links : List PlacedLink) → HasGroups source_of_link l.groups links → AreFoundSoFar links l.fn.bundle l.done l.known.keys.items;
   grouped : HasGroups key_source l.known.groups l.known.keys.items;
 }
 

@@ -1,0 +1,79 @@
+//! What right keys show of a log: its batches are read once more, one at a time (docs/FORMAT.md, "Reading").
+ghost use Rattle.std.specs.Prelude.{◌≡◌, ◌≢◌, ◌<◌, ◌≤◌, [], Err, MatchResult, Ok, length, map};
+ghost use Rattle.cry_io.specs.Told.{WhereTold};
+ghost use Rattle.commit_journal.specs.Placed.{PlainPlaced};
+ghost use Rattle.commit_journal.specs.Reading.{IsOnlyRead};
+ghost use Rattle.commit_journal.specs.Streaming.{ShowsGiven, again_in};
+ghost use Rattle.holder_client.specs.Placing.{body_contents, log_contents};
+ghost use Rattle.trail_audit.specs.Derived.{AreSeen, RereadFault, plain_seen};
+ghost use Rattle.trail_audit.specs.Grouped.{HasGroups, key_source};
+ghost use Rattle.trail_audit.specs.Seals.{AreSeals, AreSealsOf};
+
+use crate::Seen;
+use crate::contents::see_contents;
+use crate::placed_records::contents_of;
+use crate::seals::{Seals, may_show, seals_at};
+use crate::trails::KnownKeys;
+use commit_journal::PublicLog;
+use cry_base::List;
+use cry_io::Disk;
+use holder_client::ClientFault;
+use std::alloc::Global;
+
+/// Reads a batch once more, opens its contents, and adds what they show. Where they can show nothing, it isn't read.
+fn see_batch<D: Disk>(
+    alloc: Global,
+    disk: &mut D,
+    log: &PublicLog,
+    batch: u32,
+    seals: &Seals,
+    known: &KnownKeys,
+    seen: &mut List<Seen>,
+) -> Result<(), ClientFault>
+    requires given { (1 ≤ batch) × (batch ≤ length log.now.given) }
+    requires grouped { HasGroups key_source known.now.groups known.now.keys.items }
+    ensures answer { WhereTold (D.shown disk.old) (λ s. (p : PlainPlaced) → again_in log.now batch s ≡ Ok p → AreSeals seals.now (body_contents p.batch p.place p.body) →
+        MatchResult result (λ _. AreSeen known.now.keys.items (body_contents p.batch p.place p.body) (map plain_seen seen.old.items) (map plain_seen seen.new.items))
+        (RereadFault (body_contents p.batch p.place p.body) known.now.keys.items)) }
+    ensures unseen { result ≢ Err ClientFault.Unseen }
+    ensures read_only { IsOnlyRead D.shown D.size_of D.may_leave disk.old disk.new }
+    ensures counts { D.faults disk.old ≤ D.faults disk.new }
+    ensures disk_fault { result ≡ Err ClientFault.DiskFault → D.faults disk.old < D.faults disk.new }
+{
+    if !may_show(&known.groups, seals) {
+        return Ok(());
+    }
+    let placed = log.again(alloc, disk, batch)?;
+    let contents = contents_of(alloc, &placed)?;
+    see_contents(alloc, contents.as_slice(), known, seen)
+}
+
+/// Opens the contents of a log of so many batches, which are sealed so, and gives what they show.
+pub(crate) fn see_log<D: Disk>(
+    alloc: Global,
+    disk: &mut D,
+    log: &PublicLog,
+    last: u32,
+    seals: &[Seals],
+    known: &KnownKeys,
+) -> Result<List<Seen>, ClientFault>
+    requires last { last ≡ length log.now.given }
+    requires seals { AreSealsOf seals.now log.now.given }
+    requires grouped { HasGroups key_source known.now.groups known.now.keys.items }
+    ensures answer { WhereTold (D.shown disk.old) (λ s. ShowsGiven log.now s →
+        MatchResult result (λ seen. AreSeen known.now.keys.items (log_contents log.now.given) [] (map plain_seen seen.items))
+        (RereadFault (log_contents log.now.given) known.now.keys.items)) }
+    ensures unseen { result ≢ Err ClientFault.Unseen }
+    ensures read_only { IsOnlyRead D.shown D.size_of D.may_leave disk.old disk.new }
+    ensures counts { D.faults disk.old ≤ D.faults disk.new }
+    ensures disk_fault { result ≡ Err ClientFault.DiskFault → D.faults disk.old < D.faults disk.new }
+{
+    let mut seen = List::new(alloc);
+    let mut done = 0;
+    while done < last {
+        let sealed = seals_at(seals, done);
+        see_batch(alloc, disk, log, done + 1, &sealed, known, &mut seen)?;
+        done += 1;
+    }
+    Ok(seen)
+}
