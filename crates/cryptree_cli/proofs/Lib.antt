@@ -1,5 +1,6 @@
 pub mod AnsweredScripts
 pub mod AuditAnswers
+pub mod ChangedAnswers
 pub mod FaultedRuns
 pub mod InputLemmas
 pub mod JournalAnswers

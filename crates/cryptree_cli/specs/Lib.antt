@@ -1,3 +1,4 @@
+pub mod Changed
 pub mod Input
 pub mod Journals
 pub mod KeyLine

@@ -2,6 +2,7 @@
 ghost use Rattle.std.specs.Prelude.{◌≡◌, ◌≢◌, ◌<◌, ◌≤◌, ◌⊎◌, ◌↔◌, ℕ, [], length, is_some, None, IsTrue, IsSome};
 ghost use Rattle.cry_io.specs.Stops.{IsDurable};
 ghost use Rattle.cry_io.specs.Told.{WhereTold, WhereBothTold};
+ghost use Rattle.cryptree_cli.specs.Changed.{AreLinesOf, AreSightsOf, PrintsWritten};
 ghost use Rattle.cryptree_cli.specs.Journals.{AnswersJournal, AuditsJournal, line_of, view_of};
 ghost use Rattle.cryptree_cli.specs.Listing.{AuditAnswers, ListAnswers, OpenAnswers, Reads, is_before_read, is_list_answer, is_open_answer};
 ghost use Rattle.cryptree_cli.specs.Refusing.{Refuses, is_refusal};
@@ -116,6 +117,15 @@ pub fn top<S: Source, R: Source, D: Disk, W: Sink>(
         AnswersJournal (line_of (path_in_words words.now.items)) result typed image (W.written out.old) (W.written out.new))) }
     ensures audited_journal { IsAudit words.now.items → WhereTold (S.left input.old) (λ typed. WhereTold (D.shown disk.old) (λ image.
         AuditsJournal result typed image (W.written out.old) (W.written out.new))) }
+
+    // Whatever the disk shows, whoever has a key of a journal is shown what the journal once wrote, each name and each file for the very
+    // folder or file, or a forged record stands there: one with a right tag under a key of the journal that it did not publish.
+    ensures listed_written { IsList words.now.items → WhereTold (S.left input.old) (λ typed. WhereTold (D.shown disk.old) (λ image.
+        PrintsWritten AreLinesOf result typed image (W.written out.old) (W.written out.new))) }
+    ensures opened_written { IsOpen words.now.items → WhereTold (S.left input.old) (λ typed. WhereTold (D.shown disk.old) (λ image.
+        PrintsWritten AreLinesOf result typed image (W.written out.old) (W.written out.new))) }
+    ensures audited_written { IsAudit words.now.items → WhereTold (S.left input.old) (λ typed. WhereTold (D.shown disk.old) (λ image.
+        PrintsWritten AreSightsOf result typed image (W.written out.old) (W.written out.new))) }
 
     // What the texts do: nothing but print.
     ensures text { WhereTold (text_of (form_of_words words.now.items)) (λ text.

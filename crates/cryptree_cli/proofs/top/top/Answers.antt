@@ -7,6 +7,7 @@ use Rattle.cryptree_cli.specs.Journals.{AnswersJournal, line_of}
 use Rattle.cryptree_cli.specs.Top.{text_of, PrintsAll, PrintsFront}
 use Rattle.cryptree_cli.specs.Words.{form_of_words}
 use Rattle.cryptree_cli.proofs.AuditAnswers.{audit_as_journal}
+use Rattle.cryptree_cli.proofs.ChangedAnswers.{audit_written, line_written, view_written}
 use Rattle.cryptree_cli.proofs.JournalAnswers.{line_as_journal, view_as_journal}
 use Rattle.cryptree_cli.proofs.MakeLemmas.{done_or_no_memory}
 use Rattle.cryptree_cli.proofs.top.top.Goals as goal
@@ -60,3 +61,16 @@ returns-in-Some-Open-clause-opened_journal g c = λ is typed was image now.
 pub returns-in-Some-Audit-clause-audited_journal : goal.returns-in-Some-Audit-clause-audited_journal
 returns-in-Some-Audit-clause-audited_journal g c = λ is typed was image now.
     audit_as_journal c.audit.result typed image (g.W.Sink.written c.args.out.now) (g.W.Sink.written c.audit.new.out) (c.audit.ensures.reads.answered typed was image now)
+
+pub returns-in-Some-List-clause-listed_written : goal.returns-in-Some-List-clause-listed_written
+returns-in-Some-List-clause-listed_written g c = λ is typed was image now.
+    view_written c.list.result typed image (g.W.Sink.written c.args.out.now) (g.W.Sink.written c.list.new.out) (c.list.ensures.reads.answered typed was image now)
+
+pub returns-in-Some-Open-clause-opened_written : goal.returns-in-Some-Open-clause-opened_written
+returns-in-Some-Open-clause-opened_written g c = λ is typed was image now.
+    line_written c.path_in.result.now c.open.result typed image (g.W.Sink.written c.args.out.now) (g.W.Sink.written c.open.new.out)
+    (c.open.ensures.reads.answered typed was image now)
+
+pub returns-in-Some-Audit-clause-audited_written : goal.returns-in-Some-Audit-clause-audited_written
+returns-in-Some-Audit-clause-audited_written g c = λ is typed was image now.
+    audit_written c.audit.result typed image (g.W.Sink.written c.args.out.now) (g.W.Sink.written c.audit.new.out) (c.audit.ensures.reads.answered typed was image now)
