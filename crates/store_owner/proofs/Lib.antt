@@ -1,5 +1,6 @@
 pub mod Applied
 pub mod CarriedOut
+pub mod Counts
 pub mod CutShort
 pub mod DrawLemmas
 pub mod Faulted
@@ -34,4 +35,5 @@ pub mod SoundStores
 pub mod SoundTexts
 pub mod SoundVisits
 pub mod Taken
+mod Tallies
 pub mod TextsTold

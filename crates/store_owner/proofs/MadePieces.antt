@@ -14,6 +14,7 @@ use Rattle.store_owner.specs.declared.apply_fault.ApplyFault.{ApplyFault}
 use Rattle.store_owner.specs.declared.apply_fault.ApplyFault.TheVariants as answers
 use Rattle.store_owner.specs.Drawing.{AreKeys, DrawsKeys, IsFillFault, joined}
 use Rattle.store_owner.specs.Making.{IsMade, IsMadeJournal, Makes, made_batches, made_with, root_keys, root_payload}
+use Rattle.store_owner.specs.Counted.{root_counted}
 use Rattle.store_owner.specs.Owned.{IsOwnerOf, OwnerView}
 use Rattle.store_owner.proofs.MadeOwner.{batches_are}
 
@@ -116,14 +117,15 @@ module _ (owner : List ℕ) (rest keys : List (List ℕ)) (six : length keys ≡
   rest_pieces = rest_is ∙ (six_pieces keys six sizes).rest
 
   pub is_made : (limits : Limits) (o : OwnerView) → o.key ≡ owner → IsOwnerOf (made_with rest) o → IsMadeJournal owner limits.store_bytes o.journal → o.counter ≡ None
-      → o.file_bytes ≡ limits.file_bytes → IsMade (joined keys) limits o
-  is_made limits o key_is is journal none bounded = record {
+      → o.file_bytes ≡ limits.file_bytes → o.tally ≡ root_counted → IsMade (joined keys) limits o
+  is_made limits o key_is is journal none bounded counted = record {
     all_drawn = (six_pieces keys six sizes).long;
     same_key = key_is ∙ owner_piece;
     owner = subst (λ (ks : List (List ℕ)). IsOwnerOf (made_with ks) o) rest_pieces is;
     journal = subst (λ (k : List ℕ). IsMadeJournal k limits.store_bytes o.journal) owner_piece journal;
     not_counted = none;
     same_file_bytes = bounded;
+    counted = counted;
   }
 
   pub shows_fresh : image_of (piece (joined keys) 0) (Session ∷ Made (root_keys (joined keys)) ∷ []) ++ 0 ∷ [] ≡ fresh_image (joined keys)

@@ -49,6 +49,7 @@ use Rattle.journal_bytes.proofs.Sealable.{begun_sound}
 use Rattle.journal_bytes.proofs.Spelled.{journal_spelled}
 use Rattle.journal_bytes.proofs.Weighed.{valid_weighs}
 use Rattle.store_owner.specs.Opened.{AreContents, IsFresh, IsKept, IsOpenFault, Keeps, OpensAs, opened_of, placed_in, reading_with, starts_with, visits_of}
+use Rattle.store_owner.specs.Counted.{none_counted}
 use Rattle.store_owner.specs.Owned.{IsOwnerOf, OwnerView, owner_at}
 use Rattle.store_owner.specs.Sound.{IsSound}
 use Rattle.store_owner.specs.declared.opening.Contents.{Contents}
@@ -78,12 +79,12 @@ tree_sized t names sized x i =
 pub behind_sound : (key : List ℕ) (o : OpenedLog) (contents : Contents) (store_bytes file_bytes : ℕ) (s : OpenStore) → IsOpened key store_bytes o.journal → AreInEpochs 0 (plain_log o.placed)
     → o.journal.batches ≡ length o.placed.items → o.journal.epoch ≡ epoch_behind 0 (plain_log o.placed) → file_bytes ≤ 1048576
     → opened_of key (plain_log o.placed) ≡ Ok s → AreContents contents s → ArePresent contents.state.keys.keys contents.view.ring → AreSized contents.view.names
-    → IsSound (owner_at key o.journal contents.state contents.view.names contents.view.ring file_bytes)
+    → IsSound (owner_at key o.journal contents.state contents.view.names contents.view.ring file_bytes none_counted)
 behind_sound key o contents store_bytes file_bytes s opened epochs count last low is are present sized =
     let log = plain_log o.placed in
     let at = s.reading.stand in
     let were = contents_told key log s is in
-    opened_sound log at (owner_at key o.journal contents.state contents.view.names contents.view.ring file_bytes) (record {
+    opened_sound log at (owner_at key o.journal contents.state contents.view.names contents.view.ring file_bytes none_counted) (record {
       epochs = epochs;
       folds = were.folds;
       has_root = were.stands;

@@ -23,6 +23,7 @@ use Rattle.journal_bytes.specs.Texting.{AreKept, AreTitlesAfter, IsRemoved, IsRe
 use Rattle.store_owner.specs.Applying.{HasOtherRoom, IsCarriedOut, IsInterrupted, IsSealed}
 use Rattle.store_owner.specs.Owned.{OwnerView}
 use Rattle.store_owner.specs.Planning.{IsDrafted}
+use Rattle.store_owner.specs.declared.counted.Counted.{Counted}
 use Rattle.store_owner.specs.Retitled.{IsRenaming, IsRetitlingOf}
 use Rattle.store_owner.specs.Sound.{IsSound, granted_in, own_store}
 use Rattle.store_owner.specs.declared.change.Change.{Change}
@@ -38,10 +39,11 @@ with_room o b c d e f = record {
   ring = record { keys = o.ring.keys; spare = d };
   counter = o.counter;
   file_bytes = o.file_bytes;
+  tally = o.tally;
 }
 
-abbrev owner : List ℕ → JournalState → PublicView → List Title → List Title → ℕ → List AnyKey → ℕ → Option Counting → ℕ → OwnerView
-owner key journal state folders files c keys d counter file_bytes = record {
+abbrev owner : List ℕ → JournalState → PublicView → List Title → List Title → ℕ → List AnyKey → ℕ → Option Counting → ℕ → Counted → OwnerView
+owner key journal state folders files c keys d counter file_bytes tally = record {
   key = key;
   journal = journal;
   state = state;
@@ -49,18 +51,20 @@ owner key journal state folders files c keys d counter file_bytes = record {
   ring = record { keys = keys; spare = d };
   counter = counter;
   file_bytes = file_bytes;
+  tally = tally;
 }
 
 has_room : (old new : OwnerView) → HasOtherRoom old new → new ≡ with_room old new.journal.room new.names.spare new.ring.spare new.state.spare new.state.key_spare
 has_room old new h =
-    ap (λ x. owner x new.journal new.state new.names.folders new.names.files new.names.spare new.ring.keys new.ring.spare new.counter new.file_bytes) h.key
-    ∙ ap (λ x. owner old.key x new.state new.names.folders new.names.files new.names.spare new.ring.keys new.ring.spare new.counter new.file_bytes) h.journal
-    ∙ ap (λ x. owner old.key (record old.journal { room = new.journal.room }) x new.names.folders new.names.files new.names.spare new.ring.keys new.ring.spare new.counter new.file_bytes) h.state
-    ∙ ap (λ x. owner old.key (record old.journal { room = new.journal.room }) (with_room_of old.state new.state) x new.names.files new.names.spare new.ring.keys new.ring.spare new.counter new.file_bytes) h.folder_names
-    ∙ ap (λ x. owner old.key (record old.journal { room = new.journal.room }) (with_room_of old.state new.state) old.names.folders x new.names.spare new.ring.keys new.ring.spare new.counter new.file_bytes) h.file_names
-    ∙ ap (λ x. owner old.key (record old.journal { room = new.journal.room }) (with_room_of old.state new.state) old.names.folders old.names.files new.names.spare x new.ring.spare new.counter new.file_bytes) h.ring_keys
-    ∙ ap (λ x. owner old.key (record old.journal { room = new.journal.room }) (with_room_of old.state new.state) old.names.folders old.names.files new.names.spare old.ring.keys new.ring.spare x new.file_bytes) h.counter
-    ∙ ap (λ x. owner old.key (record old.journal { room = new.journal.room }) (with_room_of old.state new.state) old.names.folders old.names.files new.names.spare old.ring.keys new.ring.spare old.counter x) h.file_bytes
+    ap (λ x. owner x new.journal new.state new.names.folders new.names.files new.names.spare new.ring.keys new.ring.spare new.counter new.file_bytes new.tally) h.key
+    ∙ ap (λ x. owner old.key x new.state new.names.folders new.names.files new.names.spare new.ring.keys new.ring.spare new.counter new.file_bytes new.tally) h.journal
+    ∙ ap (λ x. owner old.key (record old.journal { room = new.journal.room }) x new.names.folders new.names.files new.names.spare new.ring.keys new.ring.spare new.counter new.file_bytes new.tally) h.state
+    ∙ ap (λ x. owner old.key (record old.journal { room = new.journal.room }) (with_room_of old.state new.state) x new.names.files new.names.spare new.ring.keys new.ring.spare new.counter new.file_bytes new.tally) h.folder_names
+    ∙ ap (λ x. owner old.key (record old.journal { room = new.journal.room }) (with_room_of old.state new.state) old.names.folders x new.names.spare new.ring.keys new.ring.spare new.counter new.file_bytes new.tally) h.file_names
+    ∙ ap (λ x. owner old.key (record old.journal { room = new.journal.room }) (with_room_of old.state new.state) old.names.folders old.names.files new.names.spare x new.ring.spare new.counter new.file_bytes new.tally) h.ring_keys
+    ∙ ap (λ x. owner old.key (record old.journal { room = new.journal.room }) (with_room_of old.state new.state) old.names.folders old.names.files new.names.spare old.ring.keys new.ring.spare x new.file_bytes new.tally) h.counter
+    ∙ ap (λ x. owner old.key (record old.journal { room = new.journal.room }) (with_room_of old.state new.state) old.names.folders old.names.files new.names.spare old.ring.keys new.ring.spare old.counter x new.tally) h.file_bytes
+    ∙ ap (λ x. owner old.key (record old.journal { room = new.journal.room }) (with_room_of old.state new.state) old.names.folders old.names.files new.names.spare old.ring.keys new.ring.spare old.counter old.file_bytes x) h.tally
 
 held_still : (keys : List KeyParts) (k : KeyState) (ring : Ringed) (d : ℕ) (counter : Counting) → HoldsKeys keys k ring counter → HoldsKeys keys k (record { keys = ring.keys; spare = d }) counter
 unfolding key_of

@@ -18,6 +18,10 @@ use Rattle.store_owner.specs.Applying.{Answers, IsDone}
 use Rattle.store_owner.specs.Drawing.{joined}
 use Rattle.store_owner.specs.Owned.{IsOwnerOf, OwnerView, limits_in}
 use Rattle.store_owner.specs.Sessions.{AnswersBehind, GoesOn, StandsAt, with_draws}
+use Rattle.store_owner.specs.Tallied.{CountsCommand, CountsOne, KeepsCount, counted_in}
+use Rattle.store_owner.specs.declared.apply_fault.ApplyFault.{ApplyFault}
+use Rattle.store_owner.proofs.OwnerGoesOn.{not_refused}
+use Rattle.store_owner.proofs.Tallies.{counts_on}
 
 abbrev Whole : List ℕ → Type 0
 Whole key = length key ≡ 32
@@ -62,7 +66,7 @@ module _ (limits : Limits) (key : List ℕ) (g : Going) (r : Request) (old new :
   limited o e = subst (λ (l : Limits). answer l g.journal g.begun r ≡ o) stands.has_limits (subst (λ b. answer (limits_in old) g.journal b r ≡ o) stands.has_begun e)
 
   abbrev Goes : Reply → Type 0
-  Goes reply = (h : Going) × GoesOn limits g h r reply left_before left_after × StandsAt limits key h new shows × AnswersBehind g h old new was shows
+  Goes reply = (h : Going) × GoesOn limits g h r reply left_before left_after × StandsAt limits key h new shows × AnswersBehind g h old new was shows × KeepsCount r reply old new g.journal h.journal
 
   same_bytes : (x y : List ℕ) → left_after ≡ left_before → left_before ≡ Some x → left_after ≡ Some y → x ≡ y
   same_bytes x y left before after = let both = sym before ∙ sym left ∙ after in cc
@@ -89,11 +93,16 @@ module _ (limits : Limits) (key : List ℕ) (g : Going) (r : Request) (old new :
           no_shorter = omega arith;
           unchanged = inl shown;
         },
+        λ kept all. kept ∙ all,
       )
 
-  done : (reply : Reply) → IsDone g.journal r reply old new left_before left_after was shows → is_some shows ≡ is_some was → Goes reply
+  -- one who was asked a command that is accepted counts it
+  abbrev Counting : Reply → Type 0
+  Counting reply = CountsCommand (Ok reply) r old new → CountsOne r old new
+
+  done : (reply : Reply) → IsDone g.journal r reply old new left_before left_after was shows → is_some shows ≡ is_some was → Counting reply → Goes reply
   unfolding line_reply line_going accepted_going
-  done reply is disk_told =
+  done reply is disk_told counting =
       let e = limited None is.accepted in
       let disk = still_told shows was stands.disk_stands.0 disk_told stands.disk_stands.1 in
       let then : List (List ℕ) → List ℕ → Going = λ keys draws. record { journal = journal_then g.journal g.begun r keys; begun = true; draws = draws } in
@@ -136,15 +145,23 @@ module _ (limits : Limits) (key : List ℕ) (g : Going) (r : Request) (old new :
           no_shorter = omega (arith, longer);
           unchanged = inr longer;
         },
+        λ counts all. counts_on g.journal r is.drawn old new stands.owner_is (not_refused g.journal r old is.accepted).0 (counting counts) all ∙ ap counted_in journal,
       )
+
+pub answered_counting : (limits : Limits) (key : List ℕ) (g : Going) (r : Request) (reply : Reply) (old new : OwnerView) (left_before left_after was shows : Option (List ℕ))
+    → StandsAt limits key g old was → Answers (Ok reply) g.journal r old new left_before left_after was shows
+    → is_some shows ≡ is_some was → ((why : Refusal) → reply ≡ replies.Refused why → (left_after ≡ left_before) × (shows ≡ was))
+    → (h : Going) × GoesOn limits g h r reply left_before left_after × StandsAt limits key h new shows × AnswersBehind g h old new was shows × KeepsCount r reply old new g.journal h.journal
+answered_counting limits key g r replies.Done old new left_before left_after was shows stands is disk_told kept =
+    done limits key g r old new left_before left_after was shows stands replies.Done is disk_told (λ one. one)
+answered_counting limits key g r (replies.Made holder drawn) old new left_before left_after was shows stands is disk_told kept =
+    done limits key g r old new left_before left_after was shows stands (replies.Made holder drawn) is disk_told (λ one. one)
+answered_counting limits key g r (replies.Refused why) old new left_before left_after was shows stands is disk_told kept =
+    refused limits key g r old new left_before left_after was shows stands why is.0 is.1 (kept why refl).0 (kept why refl).1
 
 pub answered : (limits : Limits) (key : List ℕ) (g : Going) (r : Request) (reply : Reply) (old new : OwnerView) (left_before left_after was shows : Option (List ℕ))
     → StandsAt limits key g old was → Answers (Ok reply) g.journal r old new left_before left_after was shows
     → is_some shows ≡ is_some was → ((why : Refusal) → reply ≡ replies.Refused why → (left_after ≡ left_before) × (shows ≡ was))
     → (h : Going) × GoesOn limits g h r reply left_before left_after × StandsAt limits key h new shows × AnswersBehind g h old new was shows
-answered limits key g r replies.Done old new left_before left_after was shows stands is disk_told kept =
-    done limits key g r old new left_before left_after was shows stands replies.Done is disk_told
-answered limits key g r (replies.Made holder drawn) old new left_before left_after was shows stands is disk_told kept =
-    done limits key g r old new left_before left_after was shows stands (replies.Made holder drawn) is disk_told
-answered limits key g r (replies.Refused why) old new left_before left_after was shows stands is disk_told kept =
-    refused limits key g r old new left_before left_after was shows stands why is.0 is.1 (kept why refl).0 (kept why refl).1
+answered limits key g r reply old new left_before left_after was shows stands is disk_told kept =
+    let all = answered_counting limits key g r reply old new left_before left_after was shows stands is disk_told kept in (all.0, all.1, all.2, all.3)

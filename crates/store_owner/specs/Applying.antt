@@ -52,6 +52,7 @@ pub record HasOtherRoom (old new : OwnerView) : Type 0 where
   pub ring_keys : new.ring.keys ≡ old.ring.keys
   pub counter : new.counter ≡ old.counter
   pub file_bytes : new.file_bytes ≡ old.file_bytes
+  pub tally : new.tally ≡ old.tally
 
 -- What is sealed for a command, whatever the owner stands for, once the session has its epoch: the note with the check of the drawn
 -- key; the skeleton of its step; the payload; the journal with its room, and with its epoch; what the disk showed then; the counter.

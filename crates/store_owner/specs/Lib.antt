@@ -1,4 +1,5 @@
 pub mod Applying
+pub mod Counted
 pub mod Drawing
 pub mod Making
 pub mod Opened
@@ -8,3 +9,4 @@ pub mod Retitled
 pub mod Sessions
 pub mod Sound
 pub mod Taking
+pub mod Tallied

@@ -16,6 +16,7 @@ use Rattle.public_fold.specs.KeyStep.{Stepped}
 use Rattle.public_fold.specs.Preparing.{begun}
 use Rattle.journal_bytes.specs.Bytes.{step_payload}
 use Rattle.journal_bytes.specs.Keys.{all_keys}
+use Rattle.store_owner.specs.Counted.{root_counted}
 use Rattle.store_owner.specs.Owned.{IsOwnerOf, OwnerView}
 
 -- the journal that makes a store under five keys
@@ -58,6 +59,7 @@ pub record IsMade (drawn : List ℕ) (limits : Limits) (o : OwnerView) : Type 0 
   pub journal : IsMadeJournal (piece drawn 0) limits.store_bytes o.journal
   pub not_counted : o.counter ≡ None
   pub same_file_bytes : o.file_bytes ≡ limits.file_bytes
+  pub counted : o.tally ≡ root_counted
 
 -- the bytes drawn were the next ones of the source, and the disk shows the fresh store that they make
 abbrev pub Makes : Limits → Option (List ℕ) → Option (List ℕ) → Option (List ℕ) → OwnerView → Type 0

@@ -14,9 +14,10 @@ use Rattle.journal_bytes.specs.Folds.{public_stand}
 use Rattle.journal_bytes.specs.Keys.{AreWhole, all_keys}
 use Rattle.journal_bytes.specs.Owning.{IsTreeOf}
 use Rattle.journal_bytes.specs.Sealing.{HoldsKeys}
+use Rattle.store_owner.specs.declared.counted.Counted.{Counted}
 
 -- the owner's key; the journal; what everyone may see; the names and bytes; the present keys; the counter of this session's
--- epoch, where it has begun one; the most bytes that a file may have
+-- epoch, where it has begun one; the most bytes that a file may have; what it counted
 pub record OwnerView : Type 0 where
   pub key : List ℕ
   pub journal : JournalState
@@ -25,11 +26,12 @@ pub record OwnerView : Type 0 where
   pub ring : Ringed
   pub counter : Option Counting
   pub file_bytes : ℕ
+  pub tally : Counted
 
 -- what an owner keeps who has begun no epoch
-abbrev pub owner_at : List ℕ → JournalState → PublicView → Titles → Ringed → ℕ → OwnerView
-owner_at key journal state names ring file_bytes =
-    record { key = key; journal = journal; state = state; names = names; ring = ring; counter = None; file_bytes = file_bytes }
+abbrev pub owner_at : List ℕ → JournalState → PublicView → Titles → Ringed → ℕ → Counted → OwnerView
+owner_at key journal state names ring file_bytes tally =
+    record { key = key; journal = journal; state = state; names = names; ring = ring; counter = None; file_bytes = file_bytes; tally = tally }
 
 -- the sizes that the owner keeps to
 abbrev pub limits_in : OwnerView → Limits

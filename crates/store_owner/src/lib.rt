@@ -5,6 +5,7 @@ mod apply_fault;
 pub mod apply_laws;
 mod change;
 mod command_notes;
+mod counted;
 mod drawing;
 mod key_room;
 mod making;
@@ -21,7 +22,10 @@ mod sizing;
 pub mod sound_laws;
 mod step_records;
 mod step_room;
+mod tally;
+pub mod tally_laws;
 mod texts;
 
 pub use apply_fault::ApplyFault;
 pub use owner::Owner;
+pub use tally::Tally;

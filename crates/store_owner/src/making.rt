@@ -21,11 +21,13 @@ ghost use Rattle.public_fold.specs.Preparing.{CanSettle, HasRoomFor, settled};
 ghost use Rattle.public_fold.specs.Standing.{IsSeenAs, with_room_of};
 ghost use Rattle.journal_bytes.specs.Keys.{all_keys};
 ghost use Rattle.journal_bytes.specs.Sealing.{HoldsKeys, IsSpaceFor};
+ghost use Rattle.store_owner.specs.Counted.{root_counted};
 ghost use Rattle.store_owner.specs.Drawing.{AreKeys, FillsByCount, joined};
 ghost use Rattle.store_owner.specs.Making.{IsMade, IsMadeJournal, Makes, first_stand, made_batches, made_with, root_payload};
 ghost use Rattle.store_owner.specs.Owned.{counting, owner_at};
 ghost use Rattle.store_owner.specs.Sound.{IsSound};
 
+use crate::counted::ROOT;
 use crate::key_room::KeyRoom;
 use crate::making_laws::makers_own_the_store;
 use crate::step_records::seal_step;
@@ -152,8 +154,9 @@ impl Blank {
 
     /// The owner of what was written under this key.
     fn into_owner(self, key: [u8; 32], limits: Limits) -> Owner
-        requires sound { IsSound (owner_at key self.journal self.state self.names self.ring limits.file_bytes) }
-        ensures { result ≡ owner_at key self.journal self.state self.names self.ring limits.file_bytes }
+        requires sound { IsSound (owner_at key self.journal self.state self.names self.ring limits.file_bytes root_counted) }
+        requires end { 819 ≤ self.journal.end }
+        ensures { result ≡ owner_at key self.journal self.state self.names self.ring limits.file_bytes root_counted }
     {
         let Blank {
             journal,
@@ -161,7 +164,7 @@ impl Blank {
             names,
             ring,
         } = self;
-        Owner::at(key, journal, state, names, ring, limits)
+        Owner::at(key, journal, state, names, ring, limits, ROOT)
     }
 }
 

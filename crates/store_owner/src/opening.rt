@@ -20,6 +20,7 @@ ghost use Rattle.journal_bytes.specs.Journals.{HoldsBetween, IsSettled, Kept, St
 ghost use Rattle.store_owner.specs.Opened.{AreContents, IsFilled, IsFresh, LeavesRefused, OpensAs, opened_of, placed_in};
 ghost use Rattle.store_owner.specs.Owned.{IsOwnerOf};
 
+use crate::counted::NONE;
 use crate::owner::Owner;
 use chacha_seal::{Key, OwnerK};
 use commit_journal::{Journal, OpenFault, Opened, Placed};
@@ -105,7 +106,15 @@ fn owner_behind(
     match open_contents(alloc, placed.as_slice(), Key::owner(key)) {
         Ok(contents) => {
             let OwnersView { ring, names } = contents.view;
-            Ok(Owner::at(key, journal, contents.state, names, ring, limits))
+            Ok(Owner::at(
+                key,
+                journal,
+                contents.state,
+                names,
+                ring,
+                limits,
+                NONE,
+            ))
         }
         Err(fault) => Err(open_fault(fault)),
     }

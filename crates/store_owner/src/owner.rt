@@ -15,17 +15,20 @@ ghost use Rattle.public_fold.specs.Preparing.{HasRoomFor};
 ghost use Rattle.journal_bytes.specs.Owning.{IsStoreOf};
 ghost use Rattle.journal_bytes.specs.Sealing.{IsSpaceFor};
 ghost use Rattle.store_owner.specs.Applying.{Answers, DiskCounts, HasOtherRoom, IsCarriedOut, IsDoneThen, IsInterrupted, IsKeptBy, UnlessDiskFault};
+ghost use Rattle.store_owner.specs.Counted.{IsWithin, counted_with};
 ghost use Rattle.store_owner.specs.Drawing.{AreKeys, FillsByCount};
 ghost use Rattle.store_owner.specs.Owned.{IsOwnerOf, owner_at};
 ghost use Rattle.store_owner.specs.Planning.{AnswersPlan, HasBegun, IsDrafted, IsFurnished, IsUnfit, reply_for};
 ghost use Rattle.store_owner.specs.Sound.{IsSound, granted_in, own_store};
 ghost use Rattle.store_owner.specs.Taking.{FallsShort, TakesKeys};
+ghost use Rattle.store_owner.specs.Tallied.{CountsCommand, tally_in};
 
 use crate::ApplyFault;
 use crate::apply_laws::{
     commands_are_measured, interrupted_commands_leave_a_journal, owners_go_on,
 };
 use crate::change::Change;
+use crate::counted::Counted;
 use crate::command_notes::note_for;
 use crate::key_room::KeyRoom;
 use crate::owner_laws::{owners_keep_the_store, retitlings_leave_the_titles};
@@ -38,6 +41,7 @@ use crate::sound_laws::{
 };
 use crate::step_records::seal_step;
 use crate::step_room::StepRoom;
+use crate::tally::Tally;
 use crate::texts::text_for;
 use chacha_seal::{Counter, Key, OwnerK};
 use commit_journal::{CommitFault, Journal};
@@ -60,10 +64,12 @@ pub struct Owner {
     ring: KeyRing,
     counter: Option<Counter>,
     limits: Limits,
+    tally: Counted,
 }
 
 impl Model for Owner {
     ghost use Rattle.std.specs.Prelude.{◌≡◌, false};
+    ghost use Rattle.store_owner.specs.Counted.{IsWithin};
     ghost use Rattle.store_owner.specs.Owned.{OwnerView};
     ghost use Rattle.store_owner.specs.Sound.{IsSound};
 
@@ -77,6 +83,7 @@ impl Model for Owner {
       ring = o.ring;
       counter = o.counter;
       file_bytes = o.limits.file_bytes;
+      tally = o.tally;
     } };
 
     ghost invariant = { λ o. o.journal.is_closed ≡ false → IsSound (record {
@@ -87,7 +94,8 @@ impl Model for Owner {
       ring = o.ring;
       counter = o.counter;
       file_bytes = o.limits.file_bytes;
-    }) };
+      tally = o.tally;
+    }) × IsWithin o.tally o.journal.end };
 }
 
 /// What becomes of a command that the store itself doesn't refuse.
@@ -100,7 +108,7 @@ enum Verdict {
 }
 
 impl Owner {
-    /// The owner of what was opened. It has begun no epoch.
+    /// The owner of what was made or opened. It has begun no epoch.
     pub(crate) fn at(
         key: [u8; 32],
         journal: Journal,
@@ -108,9 +116,11 @@ impl Owner {
         names: Names,
         ring: KeyRing,
         limits: Limits,
+        tally: Counted,
     ) -> Owner
-        requires sound { IsSound (owner_at key journal state names ring limits.file_bytes) }
-        ensures { result ≡ owner_at key journal state names ring limits.file_bytes }
+        requires sound { IsSound (owner_at key journal state names ring limits.file_bytes tally) }
+        requires within { IsWithin tally journal.end }
+        ensures { result ≡ owner_at key journal state names ring limits.file_bytes tally }
     {
         Owner {
             key: Key::owner(key),
@@ -120,6 +130,7 @@ impl Owner {
             ring,
             counter: None,
             limits,
+            tally,
         }
     }
 
@@ -143,6 +154,20 @@ impl Owner {
         ensures { result ≡ self.now.journal.is_closed }
     {
         self.journal.is_closed()
+    }
+
+    /// What this owner accepted and published since it made or opened the store, and where the store stands. It takes no memory.
+    pub fn tally(&self) -> Tally
+        ensures { result ≡ tally_in self.now }
+    {
+        let dirty = self.state.dirty().as_slice().len();
+        Tally {
+            commands: self.tally.commands,
+            links: self.tally.links,
+            contents: self.tally.contents,
+            dirty: dirty as u64,
+            bytes: self.journal.end(),
+        }
     }
 
     /// Does a command, or refuses it.
@@ -169,6 +194,7 @@ impl Owner {
         ensures durable { IsDoneThen result (IsDurable (D.may_leave disk.new) (D.shown disk.new)) }
         ensures calm { IsDurable (D.may_leave disk.old) (D.shown disk.old) → UnlessDiskFault result (IsDurable (D.may_leave disk.new) (D.shown disk.new)) }
         ensures inside { self.old.journal.end ≤ D.size_of disk.old → UnlessDiskFault result (self.new.journal.end ≤ D.size_of disk.new) }
+        ensures counts { CountsCommand result (request_of command.now) self.old self.new }
         ensures key { self.new.key ≡ self.old.key }
         ensures limit { UnlessDiskFault result (self.new.journal.limit ≡ self.old.journal.limit) }
         ensures file_bytes { self.new.file_bytes ≡ self.old.file_bytes }
@@ -322,6 +348,8 @@ impl Owner {
         ensures inside { OnOk result (self.new.journal.end ≤ D.size_of disk.new) }
         ensures key { self.new.key ≡ self.old.key }
         ensures file_bytes { self.new.file_bytes ≡ self.old.file_bytes }
+        ensures counted { OnOk result (self.new.tally ≡ counted_with self.old.tally change.ready.skeleton) }
+        ensures uncounted { OnErr result (self.new.tally ≡ self.old.tally) }
         ensures told { is_some (D.shown disk.new) ≡ is_some (D.shown disk.old) }
         ensures counts { CountsFault result (D.faults disk.old) (D.faults disk.new) }
     {
@@ -330,6 +358,8 @@ impl Owner {
         carried_out_owners_stay_sound();
         retitlings_leave_the_titles();
         self.state.is_seen();
+        self.journal.journal_is_within();
+        let tally = self.tally.with(&change);
         let reply = change.take_key(drawn);
         let Change {
             note,
@@ -353,6 +383,7 @@ impl Owner {
             return Err(ApplyFault::DiskFault);
         };
         self.counter = Some(counter);
+        self.tally = tally;
         self.state.settle(ready);
         retitle(&mut self.names, titles);
         Ok(reply)

@@ -1,6 +1,7 @@
-use Rattle.std.proofs.Common.{ℕ, [], ◌-◌, drop, length, slice_index_or, take, refl, sym, subst, ◌∙◌}
+use Rattle.std.proofs.Common.{ℕ, [], arith, ◌-◌, drop, length, slice_index_or, take, refl, sym, subst, ◌∙◌}
 use Rattle.std.proofs.lemmas.List.{take_rest}
 use Rattle.store_owner.specs.Drawing.{joined}
+use Rattle.store_owner.specs.Counted.{root_counted}
 use Rattle.store_owner.specs.Making.{IsMade, IsMadeJournal}
 use Rattle.store_owner.specs.Owned.{OwnerView, owner_at}
 use Rattle.store_owner.proofs.MadePieces.{five_left, is_made, rest_keys, shows_fresh, six_pieces}
@@ -20,9 +21,10 @@ into_owner-requires g c =
     let behind = take_rest drawn 1 in
     let blank = c.write.new.self in
     record {
-      sound = c.makers_own_the_store.ensures.sound (owner_at owner blank.journal blank.state blank.names blank.ring c.args.limits.file_bytes) owner rest c.args.making.blank.journal.limit
+      sound = c.makers_own_the_store.ensures.sound (owner_at owner blank.journal blank.state blank.names blank.ring c.args.limits.file_bytes root_counted) owner rest c.args.making.blank.journal.limit
           (six_pieces drawn c.requires.six c.requires.sizes).first_long (five_left owner rest drawn c.requires.six c.requires.sizes refl behind) (rest_keys owner rest drawn c.requires.six c.requires.sizes refl behind) refl
           c.in-Ok.ensures.journal c.in-Ok.ensures.stands c.in-Ok.ensures.root c.in-Ok.ensures.seen c.in-Ok.ensures.held refl c.requires.files;
+      end = let e = c.in-Ok.ensures.journal.ends_at in omega (arith, e);
     }
 
 pub returns-clause-made : goal.returns-clause-made
@@ -32,13 +34,13 @@ returns-clause-made g c =
     let rest = take (length drawn - 1) (drop 1 drawn) in
     let behind = take_rest drawn 1 in
     let blank = c.write.new.self in
-    let o : OwnerView = owner_at owner blank.journal blank.state blank.names blank.ring c.args.limits.file_bytes in
+    let o : OwnerView = owner_at owner blank.journal blank.state blank.names blank.ring c.args.limits.file_bytes root_counted in
     subst (λ (x : OwnerView). IsMade (joined drawn) c.args.limits x) (sym c.into_owner.ensures)
     (is_made owner rest drawn c.requires.six c.requires.sizes refl behind c.args.limits o refl
     (c.makers_own_the_store.ensures.owner o owner rest c.args.making.blank.journal.limit
     (six_pieces drawn c.requires.six c.requires.sizes).first_long (five_left owner rest drawn c.requires.six c.requires.sizes refl behind) (rest_keys owner rest drawn c.requires.six c.requires.sizes refl behind) refl
     c.in-Ok.ensures.journal c.in-Ok.ensures.stands c.in-Ok.ensures.root c.in-Ok.ensures.seen c.in-Ok.ensures.held refl c.requires.files)
-    (subst (λ (n : ℕ). IsMadeJournal owner n blank.journal) c.requires.limit c.in-Ok.ensures.journal) refl refl)
+    (subst (λ (n : ℕ). IsMadeJournal owner n blank.journal) c.requires.limit c.in-Ok.ensures.journal) refl refl refl)
 
 pub returns-clause-shows : goal.returns-clause-shows
 returns-clause-shows g c = λ s is.

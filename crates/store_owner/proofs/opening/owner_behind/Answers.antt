@@ -1,4 +1,4 @@
-use Rattle.std.proofs.Common.{◌≡◌, map, Ok, sym, ap, subst, ◌∙◌}
+use Rattle.std.proofs.Common.{◌≡◌, arith, map, Ok, sym, ap, subst, ◌∙◌}
 use Rattle.chacha_seal.specs.Keys.{KeyParts}
 use Rattle.commit_journal.specs.Placed.{plain_log, plain_placed}
 use Rattle.holder_client.specs.Answering.{IsFault}
@@ -19,6 +19,7 @@ at-requires c =
     record {
       sound = behind_sound key c.args.opened c.in-Ok.contents c.args.limits.store_bytes c.args.limits.file_bytes a.0 c.requires.opened c.requires.epochs c.requires.count c.requires.last
           c.requires.files is a.2 c.in-Ok.ensures.present c.in-Ok.ensures.sized;
+      within = omega arith;
     }
 
 pub returns-in-Ok-clause-answer : goal.returns-in-Ok-clause-answer

@@ -18,6 +18,7 @@ use Rattle.store_owner.proofs.Applied.{carried_answer, reply_due, undrawn_answer
 use Rattle.store_owner.proofs.OtherRoom.{accepted_still, carried_from, limit_still, sound_still, store_still, interrupted_from}
 use Rattle.std.proofs.lemmas.Result.{on_err_weaker}
 use Rattle.store_owner.proofs.Planned.{is_refused}
+use Rattle.store_owner.proofs.Tallies.{carried_counts}
 use Rattle.store_owner.proofs.Taken.{are_planned, err_is, falls_short, never_short, takes_filled, takes_none}
 use Rattle.store_owner.proofs.owner.Owner.apply.Goals as goal
 
@@ -58,7 +59,7 @@ returns-clause-answers g c = λ m is.
     let before = g.R.Source.left c.args.random.now in
     let after = g.R.Source.left c.fill.new.random in
     let limit : o.journal.limit ≤ 268435456 = subst (λ (x : OwnerView). x.journal.limit ≤ 268435456) c.self.view_is c.journal_is_within.ensures.bound in
-    let bounded : o.file_bytes ≤ 1048576 = subst (λ (x : OwnerView). x.file_bytes ≤ 1048576) c.self.view_is (c.self.invariant (sym c.is_closed.ensures ∙ c.if-is_closed.false)).bounded in
+    let bounded : o.file_bytes ≤ 1048576 = subst (λ (x : OwnerView). x.file_bytes ≤ 1048576) c.self.view_is (c.self.invariant (sym c.is_closed.ensures ∙ c.if-is_closed.false)).0.bounded in
     let store = c.owners_keep_the_store.ensures m o is in
     let refused = sym (c.refused.ensures.cause (store_of m) store) ∙ c.in_default.is in
     let done : IsCarriedOut r drawn mid new was shows → IsDone m r (reply_for note drawn) o new before after was shows = λ h.
@@ -89,6 +90,15 @@ returns-clause-answers g c = λ m is.
     carried_answer c.carry_out.result note drawn m r o new before after was shows (IsCarriedOut r drawn mid new was shows) (planned.2 m is) c.carry_out.ensures.fault c.carry_out.ensures.closed
     (on_err_weaker c.carry_out.result left c.carry_out.ensures.interrupted) c.carry_out.ensures.reply c.carry_out.ensures.done done
 
+pub returns-clause-counts : goal.returns-clause-counts
+returns-clause-counts g c =
+    let o : OwnerView = c.args.self.now in
+    let r = request_of c.args.command.now in
+    let planned : AnswersPlan {E = OutOfMemory} (Ok (verdicts.Planned c.in-Ok-Planned.change c.in-Ok-Planned.room)) r o c.plan.new.self =
+    subst (λ (v : Verdict). AnswersPlan {E = OutOfMemory} (Ok v) r o c.plan.new.self) c.in-Ok-Planned.field-0-is c.in-Ok-Planned.ensures.answers in
+    carried_counts c.carry_out.result c.in-Ok-Planned.change.note c.as_slice.result.now r o c.plan.new.self c.carry_out.new.self c.in-Ok-Planned.change c.plan.ensures.room planned.0
+    c.carry_out.ensures.reply c.carry_out.ensures.counted c.carry_out.ensures.uncounted
+
 pub returns-in-Some-clause-draws : goal.returns-in-Some-clause-draws
 returns-in-Some-clause-draws g c = takes_none (g.R.Source.left c.args.random.now)
 
@@ -110,7 +120,7 @@ returns-in-Err-fill-clause-short g c = λ left need is.
     let p = c.in-Ok-Planned.change in
     let planned : AnswersPlan {E = OutOfMemory} (Ok (verdicts.Planned p c.in-Ok-Planned.room)) r o mid =
     subst (λ (v : Verdict). AnswersPlan {E = OutOfMemory} (Ok v) r o mid) c.in-Ok-Planned.field-0-is c.in-Ok-Planned.ensures.answers in
-    let sound : IsSound o = subst IsSound c.self.view_is (c.self.invariant (sym c.is_closed.ensures ∙ c.if-is_closed.false)) in
+    let sound : IsSound o = subst IsSound c.self.view_is (c.self.invariant (sym c.is_closed.ensures ∙ c.if-is_closed.false)).0 in
     let limit : o.journal.limit ≤ 268435456 = subst (λ (x : OwnerView). x.journal.limit ≤ 268435456) c.self.view_is c.journal_is_within.ensures.bound in
     let few = c.sound_owners_draw_few_keys.ensures mid (told_note p.note) p.ready.skeleton (length (p.text.items ++ due_key r (replicate 32 0)))
     (sound_still o mid c.plan.ensures.room sound) (limit_still o mid c.plan.ensures.room 268435456 limit)

@@ -1,4 +1,4 @@
-use Rattle.std.proofs.Common.{inl, inr, ◌≡◌, ◌≤◌, ◌∙◌, List, None, Option, Some, ap, arith, length, refl, subst, sym, ℕ}
+use Rattle.std.proofs.Common.{inl, inr, ◌≡◌, ◌≤◌, ◌∙◌, ◌++◌, List, None, Option, Some, ap, arith, length, refl, replicate, subst, sym, ℕ}
 use Rattle.chacha_seal.specs.Serials.{Counting}
 use Rattle.cry_base.specs.Refusing.{refusal_of}
 use Rattle.cry_base.specs.Requests.{request_of}
@@ -6,17 +6,23 @@ use Rattle.cry_base.specs.Store.{Store}
 use Rattle.folder_nodes.specs.Titles.{tree_store}
 use Rattle.record_format.specs.Plain.{plain_payload}
 use Rattle.record_format.specs.Sizes.{payload_size}
+use Rattle.record_format.specs.Spelling.{spell_payload}
+use Rattle.record_format.specs.Told.{told_note}
+use Rattle.record_format.proofs.Lengths.{length-spell_payload}
 use Rattle.public_fold.specs.Standing.{IsSeenAs, stand_of}
 use Rattle.public_fold.specs.declared.heads.Skeleton.{Skeleton}
 use Rattle.journal_bytes.specs.Owning.{IsTreeOf}
 use Rattle.journal_bytes.specs.Sealing.{CanSeal}
-use Rattle.journal_bytes.specs.Texting.{AreTitlesAfter}
+use Rattle.journal_bytes.specs.Texting.{AreTitlesAfter, due_key}
 use Rattle.store_owner.specs.Applying.{IsCarriedOut, IsInterrupted}
+use Rattle.store_owner.specs.Counted.{IsWithin}
 use Rattle.store_owner.specs.Owned.{OwnerView}
 use Rattle.store_owner.specs.Planning.{HasBegun, IsDrafted, IsFurnished, planned_size}
 use Rattle.store_owner.specs.Retitled.{IsRetitlingOf}
 use Rattle.store_owner.specs.Sound.{own_store}
+use Rattle.store_owner.specs.declared.counted.Counted.{Counted}
 use Rattle.store_owner.specs.declared.retitling.Retitling.{Retitling}
+use Rattle.store_owner.proofs.Counts.{within_limit, within_on}
 use Rattle.store_owner.proofs.CarriedOut.{batches_for, carried, ends_for, fits_for, sealed_for, size_for, skeleton_for, starts_for, text_for}
 use Rattle.store_owner.proofs.NotesKeyed.{adds_holder, holder_drawn}
 use Rattle.store_owner.proofs.owner.Owner.carry_out.Goals as goal
@@ -33,7 +39,7 @@ take_key-reply-requires-clause-holder g c = λ is.
 pub seal_step-payload-requires-clause-can_seal : goal.seal_step-payload-requires-clause-can_seal
 seal_step-payload-requires-clause-can_seal g c =
     let i = c.self.inside in
-    let old : OwnerView = record { key = i.key.bytes; journal = i.journal; state = i.state; names = i.names; ring = i.ring; counter = i.counter; file_bytes = i.limits.file_bytes } in
+    let old : OwnerView = record { key = i.key.bytes; journal = i.journal; state = i.state; names = i.names; ring = i.ring; counter = i.counter; file_bytes = i.limits.file_bytes; tally = i.tally } in
     let r = request_of c.args.command.now in
     let drawn = c.args.drawn.now in
     let before = c.args.change in
@@ -43,7 +49,7 @@ seal_step-payload-requires-clause-can_seal g c =
     let drafted : IsDrafted r old before = subst (λ (o : OwnerView). IsDrafted r o before) (sym c.self.view_is) c.requires.drafted in
     let furnished : IsFurnished r old before c.args.room = subst (λ (o : OwnerView). IsFurnished r o before c.args.room) (sym c.self.view_is) c.requires.furnished in
     let own = c.sound_owners_keep_a_store.ensures.store old in
-    let sound = c.self.invariant (ap (λ (o : OwnerView). o.journal.is_closed) c.self.view_is ∙ c.requires.open) in
+    let sound = (c.self.invariant (ap (λ (o : OwnerView). o.journal.is_closed) c.self.view_is ∙ c.requires.open)).0 in
     let accepted : refusal_of (own_store old) r old.file_bytes ≡ None = subst (λ (o : OwnerView). refusal_of (own_store o) r o.file_bytes ≡ None) (sym c.self.view_is) c.requires.accepted in
     let fits = fits_for r drawn old before after at drafted keyed c.requires.count c.requires.sizes own c.is_seen.ensures in
     let has : HasBegun i.journal c.begin.new.journal i.counter c.in-Ok.counter (g.D.Disk.shown c.args.disk.now) (g.D.Disk.shown c.begin.new.disk) =
@@ -58,7 +64,7 @@ seal_step-payload-requires-clause-can_seal g c =
 pub commit_within-requires-clause-room : goal.commit_within-requires-clause-room
 commit_within-requires-clause-room g c =
     let i = c.self.inside in
-    let old : OwnerView = record { key = i.key.bytes; journal = i.journal; state = i.state; names = i.names; ring = i.ring; counter = i.counter; file_bytes = i.limits.file_bytes } in
+    let old : OwnerView = record { key = i.key.bytes; journal = i.journal; state = i.state; names = i.names; ring = i.ring; counter = i.counter; file_bytes = i.limits.file_bytes; tally = i.tally } in
     let r = request_of c.args.command.now in
     let drawn = c.args.drawn.now in
     let before = c.args.change in
@@ -77,7 +83,7 @@ commit_within-requires-clause-room g c =
 pub commit_within-requires-clause-ends : goal.commit_within-requires-clause-ends
 commit_within-requires-clause-ends g c =
     let i = c.self.inside in
-    let old : OwnerView = record { key = i.key.bytes; journal = i.journal; state = i.state; names = i.names; ring = i.ring; counter = i.counter; file_bytes = i.limits.file_bytes } in
+    let old : OwnerView = record { key = i.key.bytes; journal = i.journal; state = i.state; names = i.names; ring = i.ring; counter = i.counter; file_bytes = i.limits.file_bytes; tally = i.tally } in
     let r = request_of c.args.command.now in
     let drawn = c.args.drawn.now in
     let before = c.args.change in
@@ -96,7 +102,7 @@ commit_within-requires-clause-ends g c =
 pub settle-requires-clause-can : goal.settle-requires-clause-can
 settle-requires-clause-can g c =
     let i = c.self.inside in
-    let old : OwnerView = record { key = i.key.bytes; journal = i.journal; state = i.state; names = i.names; ring = i.ring; counter = i.counter; file_bytes = i.limits.file_bytes } in
+    let old : OwnerView = record { key = i.key.bytes; journal = i.journal; state = i.state; names = i.names; ring = i.ring; counter = i.counter; file_bytes = i.limits.file_bytes; tally = i.tally } in
     let r = request_of c.args.command.now in
     let drafted : IsDrafted r old c.args.change = subst (λ (o : OwnerView). IsDrafted r o c.args.change) (sym c.self.view_is) c.requires.drafted in
     c.take_key-reply.ensures.keyed.can i.state drafted.can_settle
@@ -104,15 +110,27 @@ settle-requires-clause-can g c =
 pub settle-requires-clause-room : goal.settle-requires-clause-room
 settle-requires-clause-room g c =
     let i = c.self.inside in
-    let old : OwnerView = record { key = i.key.bytes; journal = i.journal; state = i.state; names = i.names; ring = i.ring; counter = i.counter; file_bytes = i.limits.file_bytes } in
+    let old : OwnerView = record { key = i.key.bytes; journal = i.journal; state = i.state; names = i.names; ring = i.ring; counter = i.counter; file_bytes = i.limits.file_bytes; tally = i.tally } in
     let r = request_of c.args.command.now in
     let furnished : IsFurnished r old c.args.change c.args.room = subst (λ (o : OwnerView). IsFurnished r o c.args.change c.args.room) (sym c.self.view_is) c.requires.furnished in
     subst (λ (s : Skeleton). (1 ≤ i.state.spare) × (length s.keys.items ≤ i.state.key_spare)) (sym c.take_key-reply.ensures.keyed.skeleton) furnished.state_room
 
+pub with-tally-requires : goal.with-tally-requires
+with-tally-requires g c =
+    let i = c.self.inside in
+    let before = c.args.change in
+    let both = c.self.invariant (ap (λ (o : OwnerView). o.journal.is_closed) c.self.view_is ∙ c.requires.open) in
+    let old : OwnerView = record { key = i.key.bytes; journal = i.journal; state = i.state; names = i.names; ring = i.ring; counter = i.counter; file_bytes = i.limits.file_bytes; tally = i.tally } in
+    let r = request_of c.args.command.now in
+    let furnished : IsFurnished r old before c.args.room = subst (λ (o : OwnerView). IsFurnished r o before c.args.room) (sym c.self.view_is) c.requires.furnished in
+    record {
+      within = within_limit i.tally (told_note before.note) before.ready.skeleton (length (before.text.items ++ due_key r (replicate 32 0))) i.journal both.1 furnished.ends_within c.journal_is_within.ensures.bound;
+    }
+
 pub invariant_of-self-2 : goal.invariant_of-self-2
 invariant_of-self-2 g c = λ still.
     let i = c.self.inside in
-    let old : OwnerView = record { key = i.key.bytes; journal = i.journal; state = i.state; names = i.names; ring = i.ring; counter = i.counter; file_bytes = i.limits.file_bytes } in
+    let old : OwnerView = record { key = i.key.bytes; journal = i.journal; state = i.state; names = i.names; ring = i.ring; counter = i.counter; file_bytes = i.limits.file_bytes; tally = i.tally } in
     let r = request_of c.args.command.now in
     let drawn = c.args.drawn.now in
     let before = c.args.change in
@@ -122,7 +140,8 @@ invariant_of-self-2 g c = λ still.
     let drafted : IsDrafted r old before = subst (λ (o : OwnerView). IsDrafted r o before) (sym c.self.view_is) c.requires.drafted in
     let furnished : IsFurnished r old before c.args.room = subst (λ (o : OwnerView). IsFurnished r o before c.args.room) (sym c.self.view_is) c.requires.furnished in
     let own = c.sound_owners_keep_a_store.ensures.store old in
-    let sound = c.self.invariant (ap (λ (o : OwnerView). o.journal.is_closed) c.self.view_is ∙ c.requires.open) in
+    let both = c.self.invariant (ap (λ (o : OwnerView). o.journal.is_closed) c.self.view_is ∙ c.requires.open) in
+    let sound = both.0 in
     let accepted : refusal_of (own_store old) r old.file_bytes ≡ None = subst (λ (o : OwnerView). refusal_of (own_store o) r o.file_bytes ≡ None) (sym c.self.view_is) c.requires.accepted in
     let fits = fits_for r drawn old before after at drafted keyed c.requires.count c.requires.sizes own c.is_seen.ensures in
     let has : HasBegun i.journal c.begin.new.journal i.counter c.in-Ok.counter (g.D.Disk.shown c.args.disk.now) (g.D.Disk.shown c.begin.new.disk) =
@@ -130,7 +149,7 @@ invariant_of-self-2 g c = λ still.
     let titles : (s : Store) → IsTreeOf (tree_store i.state.tree i.names) s → AreTitlesAfter s r i.names c.retitle.new.names = λ s tree.
     c.retitlings_leave_the_titles.ensures.titles (tree_store i.state.tree i.names) s r i.names c.retitle.new.names after.titles tree
     (subst (λ (t : Retitling). IsRetitlingOf (tree_store i.state.tree i.names) r i.names t) (sym keyed.titles) drafted.titles_are) c.retitle.ensures in
-    let new : OwnerView = record { key = i.key.bytes; journal = c.commit_within.new.journal; state = c.settle.new.self; names = c.retitle.new.names; ring = c.seal_step-payload.new.ring; counter = Some c.seal_step-payload.new.counter; file_bytes = i.limits.file_bytes } in
+    let new : OwnerView = record { key = i.key.bytes; journal = c.commit_within.new.journal; state = c.settle.new.self; names = c.retitle.new.names; ring = c.seal_step-payload.new.ring; counter = Some c.seal_step-payload.new.counter; file_bytes = i.limits.file_bytes; tally = c.with-tally.result } in
     let was = g.D.Disk.shown c.args.disk.now in
     let shows = g.D.Disk.shown c.commit_within.new.disk in
     let done : IsCarriedOut r drawn old new was shows =
@@ -138,13 +157,19 @@ invariant_of-self-2 g c = λ still.
     c.skeleton.result.now (plain_payload c.seal_step-payload.result) has c.in-Ok.ensures.told refl refl c.settle.ensures c.skeleton.ensures c.seal_step-payload.ensures.payload c.seal_step-payload.ensures.keys refl
     c.in-Ok-commit_within.ensures.joined c.in-Ok-commit_within.ensures.behind c.in-Ok-commit_within.ensures.begun titles in
     let behind = c.in-Ok-commit_within.ensures.behind in
-    c.carried_out_owners_stay_sound.ensures r drawn old new was shows sound c.requires.form accepted fits done
-    (batches_for i.journal.has_epoch new.journal.batches c.begin.new.journal.batches i.journal.batches behind.batches has.batches) (behind.epoch ∙ has.epoch)
+    let spelled = length-spell_payload (plain_payload c.seal_step-payload.result) c.seal_step-payload.ensures.spellable in
+    let size : payload_size (plain_payload c.seal_step-payload.result) ≡ planned_size r before =
+    c.seal_step-payload.ensures.skeleton_size ∙ size_for r drawn old before after at drafted keyed c.requires.count c.requires.sizes own c.is_seen.ensures c.skeleton.result.now c.skeleton.ensures in
+    (c.carried_out_owners_stay_sound.ensures r drawn old new was shows sound c.requires.form accepted fits done
+    (batches_for i.journal.has_epoch new.journal.batches c.begin.new.journal.batches i.journal.batches behind.batches has.batches) (behind.epoch ∙ has.epoch),
+    subst (λ (t : Counted). IsWithin t new.journal.end) (sym c.with-tally.ensures)
+    (within_on i.tally (told_note before.note) before.ready.skeleton (length (before.text.items ++ due_key r (replicate 32 0))) i.journal.end c.begin.new.journal.end (length (spell_payload (plain_payload c.seal_step-payload.result))) new.journal.end i.journal.has_epoch
+    both.1 has.end (spelled ∙ size) behind.end))
 
 pub returns-clause-done : goal.returns-clause-done
 returns-clause-done g c =
     let i = c.self.inside in
-    let old : OwnerView = record { key = i.key.bytes; journal = i.journal; state = i.state; names = i.names; ring = i.ring; counter = i.counter; file_bytes = i.limits.file_bytes } in
+    let old : OwnerView = record { key = i.key.bytes; journal = i.journal; state = i.state; names = i.names; ring = i.ring; counter = i.counter; file_bytes = i.limits.file_bytes; tally = i.tally } in
     let r = request_of c.args.command.now in
     let drawn = c.args.drawn.now in
     let before = c.args.change in
@@ -159,7 +184,7 @@ returns-clause-done g c =
     let titles : (s : Store) → IsTreeOf (tree_store i.state.tree i.names) s → AreTitlesAfter s r i.names c.retitle.new.names = λ s tree.
     c.retitlings_leave_the_titles.ensures.titles (tree_store i.state.tree i.names) s r i.names c.retitle.new.names after.titles tree
     (subst (λ (t : Retitling). IsRetitlingOf (tree_store i.state.tree i.names) r i.names t) (sym keyed.titles) drafted.titles_are) c.retitle.ensures in
-    let new : OwnerView = record { key = i.key.bytes; journal = c.commit_within.new.journal; state = c.settle.new.self; names = c.retitle.new.names; ring = c.seal_step-payload.new.ring; counter = Some c.seal_step-payload.new.counter; file_bytes = i.limits.file_bytes } in
+    let new : OwnerView = record { key = i.key.bytes; journal = c.commit_within.new.journal; state = c.settle.new.self; names = c.retitle.new.names; ring = c.seal_step-payload.new.ring; counter = Some c.seal_step-payload.new.counter; file_bytes = i.limits.file_bytes; tally = c.with-tally.result } in
     let was = g.D.Disk.shown c.args.disk.now in
     let shows = g.D.Disk.shown c.commit_within.new.disk in
     let done : IsCarriedOut r drawn old new was shows =
@@ -171,7 +196,7 @@ returns-clause-done g c =
 pub returns-in_default-clause-interrupted : goal.returns-in_default-clause-interrupted
 returns-in_default-clause-interrupted g c =
     let i = c.self.inside in
-    let old : OwnerView = record { key = i.key.bytes; journal = i.journal; state = i.state; names = i.names; ring = i.ring; counter = i.counter; file_bytes = i.limits.file_bytes } in
+    let old : OwnerView = record { key = i.key.bytes; journal = i.journal; state = i.state; names = i.names; ring = i.ring; counter = i.counter; file_bytes = i.limits.file_bytes; tally = i.tally } in
     let fault = c.in_default.ensures.interrupted in
     subst (λ (o : OwnerView). IsInterrupted (request_of c.args.command.now) c.args.drawn.now o (g.D.Disk.shown c.args.disk.now) (g.D.Disk.shown c.begin.new.disk)) c.self.view_is
     (inl (fault.0, (old.journal, refl, fault.1)))
@@ -180,7 +205,7 @@ pub returns-in_default-commit_within-clause-interrupted : goal.returns-in_defaul
 unfolding sealed_for
 returns-in_default-commit_within-clause-interrupted g c =
     let i = c.self.inside in
-    let old : OwnerView = record { key = i.key.bytes; journal = i.journal; state = i.state; names = i.names; ring = i.ring; counter = i.counter; file_bytes = i.limits.file_bytes } in
+    let old : OwnerView = record { key = i.key.bytes; journal = i.journal; state = i.state; names = i.names; ring = i.ring; counter = i.counter; file_bytes = i.limits.file_bytes; tally = i.tally } in
     let r = request_of c.args.command.now in
     let drawn = c.args.drawn.now in
     let before = c.args.change in

@@ -1,5 +1,6 @@
-use Rattle.std.proofs.Common.{◌∙◌, ap, refl, sym}
+use Rattle.std.proofs.Common.{◌∙◌, ap, refl, subst, sym}
 use Rattle.commit_journal.specs.Journals.{JournalState}
+use Rattle.store_owner.specs.Counted.{IsWithin}
 use Rattle.store_owner.specs.Owned.{OwnerView}
 use Rattle.store_owner.proofs.OtherRoom.{sound_still}
 use Rattle.store_owner.proofs.owner.Owner.furnish.Goals as goal
@@ -7,8 +8,9 @@ use Rattle.store_owner.proofs.owner.Owner.furnish.Goals as goal
 pub invariant_of-self-in_err-reserve : goal.invariant_of-self-in_err-reserve
 invariant_of-self-in_err-reserve c = λ still.
     let i = c.self.inside in
-    let old : OwnerView = record { key = i.key.bytes; journal = i.journal; state = i.state; names = i.names; ring = i.ring; counter = i.counter; file_bytes = i.limits.file_bytes } in
-    sound_still old _ (record {
+    let both = c.self.invariant (sym (ap (λ (j : JournalState). j.is_closed) c.prepare.ensures.state) ∙ still) in
+    let old : OwnerView = record { key = i.key.bytes; journal = i.journal; state = i.state; names = i.names; ring = i.ring; counter = i.counter; file_bytes = i.limits.file_bytes; tally = i.tally } in
+    (sound_still old _ (record {
       key = refl;
       journal = c.prepare.ensures.state;
       state = c.reserve.ensures.content;
@@ -17,13 +19,15 @@ invariant_of-self-in_err-reserve c = λ still.
       ring_keys = refl;
       counter = refl;
       file_bytes = refl;
-    }) (c.self.invariant (sym (ap (λ (j : JournalState). j.is_closed) c.prepare.ensures.state) ∙ still))
+      tally = refl;
+    }) both.0, subst (λ (j : JournalState). IsWithin i.tally j.end) (sym c.prepare.ensures.state) both.1)
 
 pub invariant_of-self-in_err-reserve-2 : goal.invariant_of-self-in_err-reserve-2
 invariant_of-self-in_err-reserve-2 c = λ still.
     let i = c.self.inside in
-    let old : OwnerView = record { key = i.key.bytes; journal = i.journal; state = i.state; names = i.names; ring = i.ring; counter = i.counter; file_bytes = i.limits.file_bytes } in
-    sound_still old _ (record {
+    let both = c.self.invariant (sym (ap (λ (j : JournalState). j.is_closed) c.prepare.ensures.state) ∙ still) in
+    let old : OwnerView = record { key = i.key.bytes; journal = i.journal; state = i.state; names = i.names; ring = i.ring; counter = i.counter; file_bytes = i.limits.file_bytes; tally = i.tally } in
+    (sound_still old _ (record {
       key = refl;
       journal = c.prepare.ensures.state;
       state = c.reserve.ensures.content;
@@ -32,13 +36,15 @@ invariant_of-self-in_err-reserve-2 c = λ still.
       ring_keys = refl;
       counter = refl;
       file_bytes = refl;
-    }) (c.self.invariant (sym (ap (λ (j : JournalState). j.is_closed) c.prepare.ensures.state) ∙ still))
+      tally = refl;
+    }) both.0, subst (λ (j : JournalState). IsWithin i.tally j.end) (sym c.prepare.ensures.state) both.1)
 
 pub invariant_of-self-2 : goal.invariant_of-self-2
 invariant_of-self-2 c = λ still.
     let i = c.self.inside in
-    let old : OwnerView = record { key = i.key.bytes; journal = i.journal; state = i.state; names = i.names; ring = i.ring; counter = i.counter; file_bytes = i.limits.file_bytes } in
-    sound_still old _ (record {
+    let both = c.self.invariant (sym (ap (λ (j : JournalState). j.is_closed) c.prepare.ensures.state) ∙ still) in
+    let old : OwnerView = record { key = i.key.bytes; journal = i.journal; state = i.state; names = i.names; ring = i.ring; counter = i.counter; file_bytes = i.limits.file_bytes; tally = i.tally } in
+    (sound_still old _ (record {
       key = refl;
       journal = c.prepare.ensures.state;
       state = c.reserve.ensures.content;
@@ -47,4 +53,5 @@ invariant_of-self-2 c = λ still.
       ring_keys = c.reserve-3.ensures.keys;
       counter = refl;
       file_bytes = refl;
-    }) (c.self.invariant (sym (ap (λ (j : JournalState). j.is_closed) c.prepare.ensures.state) ∙ still))
+      tally = refl;
+    }) both.0, subst (λ (j : JournalState). IsWithin i.tally j.end) (sym c.prepare.ensures.state) both.1)

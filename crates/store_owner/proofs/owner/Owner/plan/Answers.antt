@@ -19,7 +19,7 @@ returns-in-Err-Unfit-clause-answers c =
     let o : OwnerView = c.args.self.now in
     let r = request_of c.args.command.now in
     let limit : o.journal.limit ≤ 268435456 = subst (λ (x : OwnerView). x.journal.limit ≤ 268435456) c.self.view_is c.journal_is_within.ensures.bound in
-    let bounded : o.file_bytes ≤ 1048576 = subst (λ (x : OwnerView). x.file_bytes ≤ 1048576) c.self.view_is (c.self.invariant (ap (λ (x : OwnerView). x.journal.is_closed) c.self.view_is ∙ c.requires.open)).bounded in (
+    let bounded : o.file_bytes ≤ 1048576 = subst (λ (x : OwnerView). x.file_bytes ≤ 1048576) c.self.view_is (c.self.invariant (ap (λ (x : OwnerView). x.journal.is_closed) c.self.view_is ∙ c.requires.open)).0.bounded in (
       refl,
       λ m is.
           let store = c.owners_keep_the_store.ensures m o is in
@@ -75,7 +75,7 @@ returns-clause-answers c =
     let o : OwnerView = c.args.self.now in
     let r = request_of c.args.command.now in
     let limit : o.journal.limit ≤ 268435456 = subst (λ (x : OwnerView). x.journal.limit ≤ 268435456) c.self.view_is c.journal_is_within.ensures.bound in
-    let bounded : o.file_bytes ≤ 1048576 = subst (λ (x : OwnerView). x.file_bytes ≤ 1048576) c.self.view_is (c.self.invariant (ap (λ (x : OwnerView). x.journal.is_closed) c.self.view_is ∙ c.requires.open)).bounded in
+    let bounded : o.file_bytes ≤ 1048576 = subst (λ (x : OwnerView). x.file_bytes ≤ 1048576) c.self.view_is (c.self.invariant (ap (λ (x : OwnerView). x.journal.is_closed) c.self.view_is ∙ c.requires.open)).0.bounded in
     let change = c.in-Ok.change in
     let size : skeleton_size (told_note change.note) c.skeleton.result.now c.sealed_len-text.result ≡ planned_size r change =
     ap (λ (s : Skeleton). skeleton_size (told_note change.note) s c.sealed_len-text.result) c.skeleton.ensures

@@ -1,0 +1,74 @@
+-- The figures of a journal, and how an owner comes to them. This project's own, docs/MODEL.md.
+use Rattle.std.specs.Prelude.{◌≡◌, ℕ, Bool, true, false, not, List, filter, length, replicate, sum_by, Result, Ok, Err}
+use Rattle.cry_base.specs.Requests.{Request}
+use Rattle.cry_base.specs.Store.{Store}
+use Rattle.cry_base.specs.declared.commands.Reply.{Reply}
+use Rattle.cry_base.specs.declared.commands.Reply.TheVariants as replies
+use Rattle.move_plan.specs.Noting.{note_of}
+use Rattle.public_fold.specs.Fitted.{told_step}
+use Rattle.public_fold.specs.Journal.{Entry, Journal, Stand, keys_of, steps_of}
+use Rattle.public_fold.specs.Journal.Entry.{Session, Made, Did}
+use Rattle.public_fold.specs.Keyed.{links_of}
+use Rattle.public_fold.specs.KeyStep.{Stepped}
+use Rattle.public_fold.specs.Lengths.{end_of}
+use Rattle.public_fold.specs.Preparing.{begun}
+use Rattle.public_fold.specs.Standing.{IsSeenAs}
+use Rattle.journal_bytes.specs.Owning.{IsStoreOf}
+use Rattle.store_owner.specs.Counted.{with_command}
+use Rattle.store_owner.specs.Owned.{OwnerView}
+use Rattle.store_owner.specs.Sound.{granted_in}
+use Rattle.store_owner.specs.declared.apply_fault.ApplyFault.{ApplyFault}
+use Rattle.store_owner.specs.declared.counted.Counted.{Counted}
+use Rattle.store_owner.specs.declared.tally.Tally.{Tally}
+
+-- ---- of a journal
+
+abbrev pub is_command : Entry → Bool
+is_command Session = false
+is_command (Made keys) = false
+is_command (Did request keys) = true
+
+-- its commands, and all links and contents that its entries publish
+unfoldable pub counted_in : Journal → Counted
+counted_in m = record {
+  commands = length (filter is_command m);
+  links = length (links_of (steps_of m));
+  contents = sum_by (λ (step : Stepped). length step.contents) (steps_of m);
+}
+
+-- with the dirty roles behind it, and the end of its log
+abbrev pub tally_of : Journal → Tally
+tally_of m = record {
+  commands = (counted_in m).commands;
+  links = (counted_in m).links;
+  contents = (counted_in m).contents;
+  dirty = length (keys_of m).dirty;
+  bytes = end_of m;
+}
+
+-- ---- of an owner
+
+abbrev pub tally_in : OwnerView → Tally
+tally_in o = record {
+  commands = o.tally.commands;
+  links = o.tally.links;
+  contents = o.tally.contents;
+  dirty = length o.state.keys.dirty;
+  bytes = o.journal.end;
+}
+
+-- one command more is counted, with the records of its step in whatever stand and store the owner keeps
+abbrev pub CountsOne : Request → OwnerView → OwnerView → Type 0
+CountsOne r old new = (at : Stand) (s : Store) → IsSeenAs old.state at → IsStoreOf old.state.tree old.names (granted_in old) s
+    → let step = told_step (begun (not old.journal.has_epoch) at) (note_of s r (replicate 32 0)) in
+    new.tally ≡ with_command old.tally (length step.links) (length step.contents)
+
+-- only a command that was accepted is counted
+abbrev pub CountsCommand : Result Reply ApplyFault → Request → OwnerView → OwnerView → Type 0
+CountsCommand (Ok (replies.Refused why)) r old new = new.tally ≡ old.tally
+CountsCommand (Ok reply) r old new = CountsOne r old new
+CountsCommand (Err fault) r old new = new.tally ≡ old.tally
+
+-- the owner who counted all of the journal before a command is answered counts all of that after it
+abbrev pub KeepsCount : Request → Reply → OwnerView → OwnerView → Journal → Journal → Type 0
+KeepsCount r reply old new before after = CountsCommand (Ok reply) r old new → old.tally ≡ counted_in before → new.tally ≡ counted_in after
