@@ -22,6 +22,7 @@ use Rattle.store_owner.specs.Applying.{Answers, HasOtherRoom, IsCutShort, IsDone
 use Rattle.store_owner.specs.Drawing.{DrawsKeys, IsFillFault}
 use Rattle.store_owner.specs.Owned.{OwnerView, limits_in}
 use Rattle.store_owner.specs.Planning.{reply_for}
+use Rattle.store_owner.specs.Stopping.{ComesToRest}
 use Rattle.store_owner.specs.declared.apply_fault.ApplyFault.{ApplyFault}
 use Rattle.store_owner.specs.declared.apply_fault.ApplyFault.TheVariants as faults
 use Rattle.store_owner.proofs.NotesKeyed.{is_holder, move_no_holder, remove_no_holder, rename_no_holder, write_no_holder}
@@ -80,35 +81,45 @@ reply_due m r note check drawn told = reply_told note drawn ∙ ap (λ n. reply_
 -- ---- the answer
 
 done_answer : (note : Declared) (drawn : List (List ℕ)) (m : Journal) (r : Request) (old new : OwnerView) (left_before left_after was shows : Option (List ℕ))
-    → IsDone m r (reply_for note drawn) old new left_before left_after was shows → Answers (Ok (reply_for note drawn)) m r old new left_before left_after was shows
-done_answer declared.Root drawn m r old new left_before left_after was shows d = d
-done_answer (declared.NewHolder h check) drawn m r old new left_before left_after was shows d = d
-done_answer (declared.NewFolder f p) drawn m r old new left_before left_after was shows d = d
-done_answer (declared.NewFile x f) drawn m r old new left_before left_after was shows d = d
-done_answer (declared.Rewrite x) drawn m r old new left_before left_after was shows d = d
-done_answer (declared.NameFile x) drawn m r old new left_before left_after was shows d = d
-done_answer (declared.NameFolder f) drawn m r old new left_before left_after was shows d = d
-done_answer (declared.DropFile x) drawn m r old new left_before left_after was shows d = d
-done_answer (declared.DropFolder f) drawn m r old new left_before left_after was shows d = d
-done_answer (declared.ShiftFile x g) drawn m r old new left_before left_after was shows d = d
-done_answer (declared.ShiftFolder g q) drawn m r old new left_before left_after was shows d = d
-done_answer (declared.Give h f) drawn m r old new left_before left_after was shows d = d
-done_answer (declared.Take h f) drawn m r old new left_before left_after was shows d = d
+    (might may : List ℕ → Type 0) (since : List ℕ → List ℕ → Type 0)
+    → IsDone m r (reply_for note drawn) old new left_before left_after was shows might may since
+    → Answers (Ok (reply_for note drawn)) m r old new left_before left_after was shows might may since
+done_answer declared.Root drawn m r old new left_before left_after was shows might may since d = d
+done_answer (declared.NewHolder h check) drawn m r old new left_before left_after was shows might may since d = d
+done_answer (declared.NewFolder f p) drawn m r old new left_before left_after was shows might may since d = d
+done_answer (declared.NewFile x f) drawn m r old new left_before left_after was shows might may since d = d
+done_answer (declared.Rewrite x) drawn m r old new left_before left_after was shows might may since d = d
+done_answer (declared.NameFile x) drawn m r old new left_before left_after was shows might may since d = d
+done_answer (declared.NameFolder f) drawn m r old new left_before left_after was shows might may since d = d
+done_answer (declared.DropFile x) drawn m r old new left_before left_after was shows might may since d = d
+done_answer (declared.DropFolder f) drawn m r old new left_before left_after was shows might may since d = d
+done_answer (declared.ShiftFile x g) drawn m r old new left_before left_after was shows might may since d = d
+done_answer (declared.ShiftFolder g q) drawn m r old new left_before left_after was shows might may since d = d
+done_answer (declared.Give h f) drawn m r old new left_before left_after was shows might may since d = d
+done_answer (declared.Take h f) drawn m r old new left_before left_after was shows might may since d = d
 
-pub carried_answer : (result : Result Reply ApplyFault) (note : Declared) (drawn : List (List ℕ)) (m : Journal) (r : Request) (old new : OwnerView) (left_before left_after was shows : Option (List ℕ)) (C : Type 0)
+pub both_ok : (result : Result Reply ApplyFault) (A B : Type 0) → OnOk result A → OnOk result B → OnOk result (A × B)
+both_ok (Ok reply) A B a b = (a, b)
+both_ok (Err fault) A B a b = tt
+
+pub carried_answer : (result : Result Reply ApplyFault) (note : Declared) (drawn : List (List ℕ)) (m : Journal) (r : Request) (old new : OwnerView) (left_before left_after was shows : Option (List ℕ))
+    (might may : List ℕ → Type 0) (since : List ℕ → List ℕ → Type 0) (C : Type 0)
     → answer (limits_in old) m old.journal.has_epoch r ≡ None → IfErr result (λ fault. fault ≡ faults.DiskFault) → OnErr result (IsTrue new.journal.is_closed)
-    → OnErr result (IsCutShort m r old left_before left_after was shows) → IfOk result (λ reply. reply ≡ reply_for note drawn) → OnOk result C → (C → IsDone m r (reply_for note drawn) old new left_before left_after was shows)
-    → Answers result m r old new left_before left_after was shows
-carried_answer (Ok reply) note drawn m r old new left_before left_after was shows C accepted fault closed left is carried done =
-    subst (λ (x : Reply). Answers (Ok x) m r old new left_before left_after was shows) (sym is) (done_answer note drawn m r old new left_before left_after was shows (done carried))
-carried_answer (Err why) note drawn m r old new left_before left_after was shows C accepted fault closed left is carried done =
-    subst (λ (x : ApplyFault). Answers (Err x) m r old new left_before left_after was shows) (sym fault) (accepted, closed, left)
+    → OnErr result (IsCutShort m r old left_before left_after was shows might may since) → IfOk result (λ reply. reply ≡ reply_for note drawn) → OnOk result C
+    → (C → IsDone m r (reply_for note drawn) old new left_before left_after was shows might may since) → Answers result m r old new left_before left_after was shows might may since
+carried_answer (Ok reply) note drawn m r old new left_before left_after was shows might may since C accepted fault closed left is carried done =
+    subst (λ (x : Reply). Answers (Ok x) m r old new left_before left_after was shows might may since) (sym is)
+    (done_answer note drawn m r old new left_before left_after was shows might may since (done carried))
+carried_answer (Err why) note drawn m r old new left_before left_after was shows might may since C accepted fault closed left is carried done =
+    subst (λ (x : ApplyFault). Answers (Err x) m r old new left_before left_after was shows might may since) (sym fault) (accepted, closed, left)
 
 pub undrawn_answer : (fault : ApplyFault) (keys : ℕ) (m : Journal) (r : Request) (old new : OwnerView) (left_before left_after was shows : Option (List ℕ))
+    (might may : List ℕ → Type 0) (since : List ℕ → List ℕ → Type 0)
     → answer (limits_in old) m old.journal.has_epoch r ≡ None → HasOtherRoom old new → keys ≡ draws_of m r → 32 * draws_of m r < 2 ^ 32 → IsFillFault {T = Listed (List ℕ)} keys (Err fault)
-    → WhereBothTold left_before left_after (DrawsKeys keys (Err fault)) → is_some left_after ≡ is_some left_before → Answers (Err fault) m r old new left_before left_after was shows
-undrawn_answer faults.RandomFault keys m r old new left_before left_after was shows accepted room count few fault bytes tells = (accepted, room)
-undrawn_answer (faults.RandomShort left need) keys m r old new left_before left_after was shows accepted room count few fault bytes tells =
+    → WhereBothTold left_before left_after (DrawsKeys keys (Err fault)) → is_some left_after ≡ is_some left_before → ComesToRest old.key m m was shows might may since
+    → Answers (Err fault) m r old new left_before left_after was shows might may since
+undrawn_answer faults.RandomFault keys m r old new left_before left_after was shows might may since accepted room count few fault bytes tells rests = (accepted, room, rests)
+undrawn_answer (faults.RandomShort left need) keys m r old new left_before left_after was shows might may since accepted room count few fault bytes tells rests =
     let small : 32 * keys < 2 ^ 32 = subst (λ n. 32 * n < 2 ^ 32) (sym count) few in
     let f = fault small in (
       accepted,
@@ -117,7 +128,8 @@ undrawn_answer (faults.RandomShort left need) keys m r old new left_before left_
       f.1,
       λ x is. let y = told_again left_before left_after x tells is in (bytes x y.0 is y.1).0 small,
       λ y is. let x = told_again left_after left_before y (sym tells) is in (bytes x.0 y x.1 is).1,
+      rests,
     )
-undrawn_answer faults.DiskFault keys m r old new left_before left_after was shows accepted room count few fault bytes tells = absurd fault
-undrawn_answer faults.Closed keys m r old new left_before left_after was shows accepted room count few fault bytes tells = absurd fault
-undrawn_answer faults.OutOfMemory keys m r old new left_before left_after was shows accepted room count few fault bytes tells = absurd fault
+undrawn_answer faults.DiskFault keys m r old new left_before left_after was shows might may since accepted room count few fault bytes tells rests = absurd fault
+undrawn_answer faults.Closed keys m r old new left_before left_after was shows might may since accepted room count few fault bytes tells rests = absurd fault
+undrawn_answer faults.OutOfMemory keys m r old new left_before left_after was shows might may since accepted room count few fault bytes tells rests = absurd fault

@@ -34,6 +34,7 @@ pub mod SoundStays
 pub mod SoundStores
 pub mod SoundTexts
 pub mod SoundVisits
+pub mod StoppedCommands
 pub mod Taken
 mod Tallies
 pub mod TextsTold

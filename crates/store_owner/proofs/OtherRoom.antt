@@ -14,18 +14,20 @@ use Rattle.folder_nodes.specs.Titles.{Title, Titles, bytes_in, is_node, new_titl
 use Rattle.grant_book.specs.Granted.{Granted}
 use Rattle.key_links.specs.Ringed.{Ringed, key_of}
 use Rattle.key_links.specs.declared.any_key.AnyKey.{AnyKey}
-use Rattle.public_fold.specs.Journal.{Stand}
+use Rattle.public_fold.specs.Journal.{Journal, Stand, keys_of}
 use Rattle.public_fold.specs.KeyStep.{KeyState}
 use Rattle.public_fold.specs.Standing.{IsSeenAs, PublicView, with_room_of}
+use Rattle.journal_bytes.specs.Keys.{all_keys}
 use Rattle.journal_bytes.specs.Owning.{IsStoreOf}
 use Rattle.journal_bytes.specs.Sealing.{HoldsKeys}
 use Rattle.journal_bytes.specs.Texting.{AreKept, AreTitlesAfter, IsRemoved, IsRenamed, IsWritten, name_at}
 use Rattle.store_owner.specs.Applying.{HasOtherRoom, IsCarriedOut, IsInterrupted, IsSealed}
-use Rattle.store_owner.specs.Owned.{OwnerView}
+use Rattle.store_owner.specs.Owned.{IsOwnerOf, OwnerView, counting}
 use Rattle.store_owner.specs.Planning.{IsDrafted}
 use Rattle.store_owner.specs.declared.counted.Counted.{Counted}
 use Rattle.store_owner.specs.Retitled.{IsRenaming, IsRetitlingOf}
 use Rattle.store_owner.specs.Sound.{IsSound, granted_in, own_store}
+use Rattle.store_owner.specs.Stopping.{StopsWithin}
 use Rattle.store_owner.specs.declared.change.Change.{Change}
 use Rattle.store_owner.specs.declared.retitling.Retitling.{Retitling}
 
@@ -232,3 +234,25 @@ carried_from r drawn old between new was shows h c = carried_before r drawn old 
 pub accepted_still : (r : Request) (old new : OwnerView) → HasOtherRoom old new → refusal_of (own_store old) r old.file_bytes ≡ None → refusal_of (own_store new) r new.file_bytes ≡ None
 unfolding tree_store
 accepted_still r old new h accepted = subst (λ (o : OwnerView). refusal_of (own_store o) r o.file_bytes ≡ None) (sym (has_room old new h)) accepted
+
+owner_with : (o : OwnerView) (a b c d e f : ℕ) (m : Journal) → IsOwnerOf m o → IsOwnerOf m (with_room o a b c d e f)
+unfolding tree_store
+owner_with o a b c d e f m is = record {
+  valid = is.valid;
+  whole_keys = is.whole_keys;
+  same_key = is.same_key;
+  stands = record { batches = is.stands.batches; epoch = is.stands.epoch; end = is.stands.end; tag = is.stands.tag };
+  seen = is.seen;
+  tree = is.tree;
+  holds = held_still (all_keys o.key m) (keys_of m) o.ring d (counting (keys_of m)) is.holds;
+  counts = is.counts;
+}
+
+stops_before : (r : Request) (drawn : List (List ℕ)) (o : OwnerView) (was shows : Option (List ℕ)) (might may : List ℕ → Type 0) (since : List ℕ → List ℕ → Type 0) (a b c d e f : ℕ)
+    → StopsWithin r drawn (with_room o a b c d e f) was shows might may since → StopsWithin r drawn o was shows might may since
+stops_before r drawn o was shows might may since a b c d e f h = λ m is low bound fine. h m (owner_with o a b c d e f m is) low bound fine
+
+pub stops_from : (r : Request) (drawn : List (List ℕ)) (old between : OwnerView) (was shows : Option (List ℕ)) (might may : List ℕ → Type 0) (since : List ℕ → List ℕ → Type 0) → HasOtherRoom old between
+    → StopsWithin r drawn between was shows might may since → StopsWithin r drawn old was shows might may since
+stops_from r drawn old between was shows might may since h c =
+    stops_before r drawn old was shows might may since _ _ _ _ _ _ (subst (λ (o : OwnerView). StopsWithin r drawn o was shows might may since) (has_room old between h) c)

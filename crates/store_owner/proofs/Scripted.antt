@@ -22,6 +22,7 @@ use Rattle.store_owner.specs.Tallied.{CountsCommand, CountsOne, KeepsCount, coun
 use Rattle.store_owner.specs.declared.apply_fault.ApplyFault.{ApplyFault}
 use Rattle.store_owner.proofs.OwnerGoesOn.{not_refused}
 use Rattle.store_owner.proofs.Tallies.{counts_on}
+use Rattle.store_owner.specs.Stopping.{ComesToRest}
 
 abbrev Whole : List ℕ → Type 0
 Whole key = length key ≡ 32
@@ -60,21 +61,22 @@ still_told (Some y) before x same e = (y, refl)
 still_told None before x same e = absurd (false≢true (same ∙ ap is_some e))
 
 module _ (limits : Limits) (key : List ℕ) (g : Going) (r : Request) (old new : OwnerView) (left_before left_after was shows : Option (List ℕ))
-    (stands : StandsAt limits key g old was) where
+    (might may : List ℕ → Type 0) (since : List ℕ → List ℕ → Type 0) (stands : StandsAt limits key g old was) where
   -- the owner's answer is the session's
   limited : (o : Option Refusal) → answer (limits_in old) g.journal old.journal.has_epoch r ≡ o → answer limits g.journal g.begun r ≡ o
   limited o e = subst (λ (l : Limits). answer l g.journal g.begun r ≡ o) stands.has_limits (subst (λ b. answer (limits_in old) g.journal b r ≡ o) stands.has_begun e)
 
   abbrev Goes : Reply → Type 0
-  Goes reply = (h : Going) × GoesOn limits g h r reply left_before left_after × StandsAt limits key h new shows × AnswersBehind g h old new was shows × KeepsCount r reply old new g.journal h.journal
+  Goes reply = (h : Going) × GoesOn limits g h r reply left_before left_after × StandsAt limits key h new shows × AnswersBehind g h old new was shows
+      × ComesToRest key g.journal h.journal was shows might may since × KeepsCount r reply old new g.journal h.journal
 
   same_bytes : (x y : List ℕ) → left_after ≡ left_before → left_before ≡ Some x → left_after ≡ Some y → x ≡ y
   same_bytes x y left before after = let both = sym before ∙ sym left ∙ after in cc
 
-  refused : (why : Refusal) → answer (limits_in old) g.journal old.journal.has_epoch r ≡ Some why → new ≡ old → left_after ≡ left_before → shows ≡ was
-      → Goes (replies.Refused why)
+  refused : (why : Refusal) → answer (limits_in old) g.journal old.journal.has_epoch r ≡ Some why → new ≡ old → ComesToRest old.key g.journal g.journal was shows might may since
+      → left_after ≡ left_before → shows ≡ was → Goes (replies.Refused why)
   unfolding line_reply line_going
-  refused why is same left shown =
+  refused why is same rests left shown =
       let e = limited (Some why) is in
       let end = ap (λ (o : OwnerView). o.journal.end) same in
       let at_old : StandsAt limits key g old shows = subst (λ (s : Option (List ℕ)). StandsAt limits key g old s) (sym shown) stands in (
@@ -93,6 +95,7 @@ module _ (limits : Limits) (key : List ℕ) (g : Going) (r : Request) (old new :
           no_shorter = omega arith;
           unchanged = inl shown;
         },
+        subst (λ k. ComesToRest k g.journal g.journal was shows might may since) stands.has_key rests,
         λ kept all. kept ∙ all,
       )
 
@@ -100,7 +103,7 @@ module _ (limits : Limits) (key : List ℕ) (g : Going) (r : Request) (old new :
   abbrev Counting : Reply → Type 0
   Counting reply = CountsCommand (Ok reply) r old new → CountsOne r old new
 
-  done : (reply : Reply) → IsDone g.journal r reply old new left_before left_after was shows → is_some shows ≡ is_some was → Counting reply → Goes reply
+  done : (reply : Reply) → IsDone g.journal r reply old new left_before left_after was shows might may since → is_some shows ≡ is_some was → Counting reply → Goes reply
   unfolding line_reply line_going accepted_going
   done reply is disk_told counting =
       let e = limited None is.accepted in
@@ -145,23 +148,29 @@ module _ (limits : Limits) (key : List ℕ) (g : Going) (r : Request) (old new :
           no_shorter = omega (arith, longer);
           unchanged = inr longer;
         },
+        subst (λ m. ComesToRest key g.journal m was shows might may since) journal
+            (subst (λ k. ComesToRest k g.journal (journal_then g.journal old.journal.has_epoch r is.drawn) was shows might may since) stands.has_key is.comes_to_rest),
         λ counts all. counts_on g.journal r is.drawn old new stands.owner_is (not_refused g.journal r old is.accepted).0 (counting counts) all ∙ ap counted_in journal,
       )
 
 pub answered_counting : (limits : Limits) (key : List ℕ) (g : Going) (r : Request) (reply : Reply) (old new : OwnerView) (left_before left_after was shows : Option (List ℕ))
-    → StandsAt limits key g old was → Answers (Ok reply) g.journal r old new left_before left_after was shows
-    → is_some shows ≡ is_some was → ((why : Refusal) → reply ≡ replies.Refused why → (left_after ≡ left_before) × (shows ≡ was))
-    → (h : Going) × GoesOn limits g h r reply left_before left_after × StandsAt limits key h new shows × AnswersBehind g h old new was shows × KeepsCount r reply old new g.journal h.journal
-answered_counting limits key g r replies.Done old new left_before left_after was shows stands is disk_told kept =
-    done limits key g r old new left_before left_after was shows stands replies.Done is disk_told (λ one. one)
-answered_counting limits key g r (replies.Made holder drawn) old new left_before left_after was shows stands is disk_told kept =
-    done limits key g r old new left_before left_after was shows stands (replies.Made holder drawn) is disk_told (λ one. one)
-answered_counting limits key g r (replies.Refused why) old new left_before left_after was shows stands is disk_told kept =
-    refused limits key g r old new left_before left_after was shows stands why is.0 is.1 (kept why refl).0 (kept why refl).1
-
-pub answered : (limits : Limits) (key : List ℕ) (g : Going) (r : Request) (reply : Reply) (old new : OwnerView) (left_before left_after was shows : Option (List ℕ))
-    → StandsAt limits key g old was → Answers (Ok reply) g.journal r old new left_before left_after was shows
+    (might may : List ℕ → Type 0) (since : List ℕ → List ℕ → Type 0)
+    → StandsAt limits key g old was → Answers (Ok reply) g.journal r old new left_before left_after was shows might may since
     → is_some shows ≡ is_some was → ((why : Refusal) → reply ≡ replies.Refused why → (left_after ≡ left_before) × (shows ≡ was))
     → (h : Going) × GoesOn limits g h r reply left_before left_after × StandsAt limits key h new shows × AnswersBehind g h old new was shows
-answered limits key g r reply old new left_before left_after was shows stands is disk_told kept =
-    let all = answered_counting limits key g r reply old new left_before left_after was shows stands is disk_told kept in (all.0, all.1, all.2, all.3)
+    × ComesToRest key g.journal h.journal was shows might may since × KeepsCount r reply old new g.journal h.journal
+answered_counting limits key g r replies.Done old new left_before left_after was shows might may since stands is disk_told kept =
+    done limits key g r old new left_before left_after was shows might may since stands replies.Done is disk_told (λ one. one)
+answered_counting limits key g r (replies.Made holder drawn) old new left_before left_after was shows might may since stands is disk_told kept =
+    done limits key g r old new left_before left_after was shows might may since stands (replies.Made holder drawn) is disk_told (λ one. one)
+answered_counting limits key g r (replies.Refused why) old new left_before left_after was shows might may since stands is disk_told kept =
+    refused limits key g r old new left_before left_after was shows might may since stands why is.0 is.1 is.2 (kept why refl).0 (kept why refl).1
+
+pub answered : (limits : Limits) (key : List ℕ) (g : Going) (r : Request) (reply : Reply) (old new : OwnerView) (left_before left_after was shows : Option (List ℕ))
+    (might may : List ℕ → Type 0) (since : List ℕ → List ℕ → Type 0)
+    → StandsAt limits key g old was → Answers (Ok reply) g.journal r old new left_before left_after was shows might may since
+    → is_some shows ≡ is_some was → ((why : Refusal) → reply ≡ replies.Refused why → (left_after ≡ left_before) × (shows ≡ was))
+    → (h : Going) × GoesOn limits g h r reply left_before left_after × StandsAt limits key h new shows × AnswersBehind g h old new was shows
+    × ComesToRest key g.journal h.journal was shows might may since
+answered limits key g r reply old new left_before left_after was shows might may since stands is disk_told kept =
+    let all = answered_counting limits key g r reply old new left_before left_after was shows might may since stands is disk_told kept in (all.0, all.1, all.2, all.3, all.4)

@@ -37,6 +37,7 @@ use Rattle.store_owner.specs.declared.apply_fault.ApplyFault.{ApplyFault}
 use Rattle.store_owner.specs.declared.apply_fault.ApplyFault.TheVariants as faults
 use Rattle.store_owner.specs.Owned.{IsOwnerOf, OwnerView, limits_in}
 use Rattle.store_owner.specs.Sound.{granted_in}
+use Rattle.store_owner.specs.Stopping.{ComesToRest, StopsBetween}
 
 -- the text that a command seals, a new holder's key included
 abbrev pub sealed_text : OwnerView → Request → List (List ℕ) → List ℕ
@@ -104,8 +105,9 @@ IsInterrupted r drawn old was shows =
 
 -- An accepted command of an owner who stands for a journal: it drew keys from the next random bytes, its reply has them in their
 -- places, the owner stands for the journal with the command, and so does the disk where it showed the journal; behind the log's new end
--- it shows what it showed there.
-pub record IsDone (m : Journal) (r : Request) (reply : Reply) (old new : OwnerView) (left_before left_after was shows : Option (List ℕ)) : Type 0 where
+-- it shows what it showed there. Where the disk rested at the journal, it comes to rest at the journal with the command.
+pub record IsDone (m : Journal) (r : Request) (reply : Reply) (old new : OwnerView) (left_before left_after was shows : Option (List ℕ))
+    (might may : List ℕ → Type 0) (since : List ℕ → List ℕ → Type 0) : Type 0 where
   pub drawn : List (List ℕ)
   pub drawn_count : length drawn ≡ draws_of m r
   pub drawn_sizes : All (λ (key : List ℕ). length key ≡ 32) drawn
@@ -120,6 +122,7 @@ pub record IsDone (m : Journal) (r : Request) (reply : Reply) (old new : OwnerVi
       → StandsWhole old.key (batches_of old.key (journal_then m old.journal.has_epoch r drawn)) y)
   pub further : old.journal.end ≤ new.journal.end
   pub disk_behind : WhereBothTold was shows (λ x y. StandsWhole old.key (batches_of old.key m) x → drop new.journal.end y ≡ drop new.journal.end x)
+  pub comes_to_rest : ComesToRest old.key m (journal_then m old.journal.has_epoch r drawn) was shows might may since
 
 -- why a reply refuses, where it does
 abbrev pub why_refused : Reply → Option Refusal
@@ -127,28 +130,37 @@ why_refused (replies.Refused why) = Some why
 why_refused reply = None
 
 -- A command that met a fault of the disk: it drew keys of 32 bytes from the next random bytes; and where the disk showed the whole of the journal,
--- it shows bytes that stand for the journal, or for it with the session begun, or with the command too.
-pub record IsCutShort (m : Journal) (r : Request) (old : OwnerView) (left_before left_after was shows : Option (List ℕ)) : Type 0 where
+-- it shows bytes that stand for the journal, or for it with the session begun, or with the command too. Where the disk rested at the
+-- journal, a stop left one of the three at each moment.
+pub record IsCutShort (m : Journal) (r : Request) (old : OwnerView) (left_before left_after was shows : Option (List ℕ))
+    (might may : List ℕ → Type 0) (since : List ℕ → List ℕ → Type 0) : Type 0 where
   pub drawn : List (List ℕ)
   pub drawn_count : length drawn ≡ draws_of m r
   pub drawn_sizes : All (λ (key : List ℕ). length key ≡ 32) drawn
   pub next_bytes : WhereBothTold left_before left_after (λ before after. before ≡ flat_map (λ (key : List ℕ). key) drawn ++ after)
   pub disk_stands : WhereBothTold was shows (λ x y. StandsWhole old.key (batches_of old.key m) x
       → IsBetween (StandsForJournal old.key) m (journal_then m old.journal.has_epoch r drawn) y)
+  pub stops : StopsBetween old.key m (journal_then m old.journal.has_epoch r drawn) was shows might may since
 
 -- What a command is answered by an owner who stands for a journal. A refused one changes nothing; after a source that failed
--- or ended, and for want of memory, the owner is as it was; after a disk that failed its journal is closed.
-abbrev pub Answers : Result Reply ApplyFault → Journal → Request → OwnerView → OwnerView → Option (List ℕ) → Option (List ℕ) → Option (List ℕ) → Option (List ℕ) → Type 0
-Answers (Ok (replies.Refused why)) m r old new left_before left_after was shows = (answer (limits_in old) m old.journal.has_epoch r ≡ Some why) × (new ≡ old)
-Answers (Ok reply) m r old new left_before left_after was shows = IsDone m r reply old new left_before left_after was shows
-Answers (Err (faults.RandomShort left need)) m r old new left_before left_after was shows =
+-- or ended, and for want of memory, the owner is as it was; after a disk that failed its journal is closed. A disk that rested at
+-- the journal still rests there, unless the command was done or the disk failed.
+abbrev pub Answers : Result Reply ApplyFault → Journal → Request → OwnerView → OwnerView → Option (List ℕ) → Option (List ℕ) → Option (List ℕ) → Option (List ℕ)
+    → (List ℕ → Type 0) → (List ℕ → Type 0) → (List ℕ → List ℕ → Type 0) → Type 0
+Answers (Ok (replies.Refused why)) m r old new left_before left_after was shows might may since =
+    (answer (limits_in old) m old.journal.has_epoch r ≡ Some why) × (new ≡ old) × ComesToRest old.key m m was shows might may since
+Answers (Ok reply) m r old new left_before left_after was shows might may since = IsDone m r reply old new left_before left_after was shows might may since
+Answers (Err (faults.RandomShort left need)) m r old new left_before left_after was shows might may since =
     (answer (limits_in old) m old.journal.has_epoch r ≡ None) × HasOtherRoom old new × (need ≡ 32 * draws_of m r) × (left < need)
-    × WhereTold left_before (λ before. length before ≡ left) × WhereTold left_after (λ after. after ≡ [])
-Answers (Err faults.RandomFault) m r old new left_before left_after was shows = (answer (limits_in old) m old.journal.has_epoch r ≡ None) × HasOtherRoom old new
-Answers (Err faults.DiskFault) m r old new left_before left_after was shows =
-    (answer (limits_in old) m old.journal.has_epoch r ≡ None) × IsTrue new.journal.is_closed × IsCutShort m r old left_before left_after was shows
-Answers (Err faults.Closed) m r old new left_before left_after was shows = IsTrue old.journal.is_closed × (new ≡ old)
-Answers (Err faults.OutOfMemory) m r old new left_before left_after was shows = HasOtherRoom old new
+    × WhereTold left_before (λ before. length before ≡ left) × WhereTold left_after (λ after. after ≡ []) × ComesToRest old.key m m was shows might may since
+Answers (Err faults.RandomFault) m r old new left_before left_after was shows might may since =
+    (answer (limits_in old) m old.journal.has_epoch r ≡ None) × HasOtherRoom old new × ComesToRest old.key m m was shows might may since
+Answers (Err faults.DiskFault) m r old new left_before left_after was shows might may since =
+    (answer (limits_in old) m old.journal.has_epoch r ≡ None) × IsTrue new.journal.is_closed × IsCutShort m r old left_before left_after was shows might may since
+Answers (Err faults.Closed) m r old new left_before left_after was shows might may since =
+    IsTrue old.journal.is_closed × (new ≡ old) × ComesToRest old.key m m was shows might may since
+Answers (Err faults.OutOfMemory) m r old new left_before left_after was shows might may since =
+    HasOtherRoom old new × ComesToRest old.key m m was shows might may since
 
 -- What no journal is needed for. A refusal, Closed and want of memory touch neither the source nor the disk, and the first two
 -- not the owner; a source that failed or ended touches no disk

@@ -8,5 +8,6 @@ pub mod Planning
 pub mod Retitled
 pub mod Sessions
 pub mod Sound
+pub mod Stopping
 pub mod Taking
 pub mod Tallied

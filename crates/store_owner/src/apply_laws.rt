@@ -27,6 +27,9 @@ ghost use Rattle.journal_bytes.specs.Texting.{due_key, due_text};
 ghost use Rattle.store_owner.specs.Applying.{Answers, IsCarriedOut, IsInterrupted};
 ghost use Rattle.store_owner.specs.Owned.{IsOwnerOf, OwnerView, limits_in};
 ghost use Rattle.store_owner.specs.Sessions.{AnswersBehind, GoesOn, StandsAt};
+ghost use Rattle.store_owner.specs.Stopping.{ComesToRest};
+
+use cry_io::Disk;
 
 /// Law: an owner who stands for a journal, and carries out a command that is accepted there, stands for the journal with that
 /// command; and where the disk showed the whole of the journal, it shows the whole of it with the command, and behind the new end
@@ -76,10 +79,13 @@ pub fn commands_are_measured()
 {}
 
 /// Law: an owner who answers a command goes on as the session does, with the session's reply, where the disk tells what it shows. Where the
-/// source of random bytes doesn't tell what it has, there are keys of 32 bytes with which the session goes so.
-pub fn answered_sessions_go_on()
-    ensures { (limits : Limits) (key : List ℕ) (g : Going) (r : Request) (reply : Reply) (old new : OwnerView) (left_before left_after was shows : Option (List ℕ))
-        → StandsAt limits key g old was → Answers (Ok reply) g.journal r old new left_before left_after was shows
+/// source of random bytes doesn't tell what it has, there are keys of 32 bytes with which the session goes so. A disk that rested at the
+/// session's journal comes to rest at the one that it goes on to.
+pub fn answered_sessions_go_on<D: Disk>(before: &D, after: &D)
+    ensures { (limits : Limits) (key : List ℕ) (g : Going) (r : Request) (reply : Reply) (old new : OwnerView) (left_before left_after was shows : Option (List ℕ)) (start : ℕ)
+        → StandsAt limits key g old was
+        → Answers (Ok reply) g.journal r old new left_before left_after was shows (D.may_leave before.now) (D.may_leave after.now) (D.since after.now start)
         → is_some shows ≡ is_some was → ((why : Refusal) → reply ≡ Refused why → (left_after ≡ left_before) × (shows ≡ was))
-        → (h : Going) × GoesOn limits g h r reply left_before left_after × StandsAt limits key h new shows × AnswersBehind g h old new was shows }
+        → (h : Going) × GoesOn limits g h r reply left_before left_after × StandsAt limits key h new shows × AnswersBehind g h old new was shows
+        × ComesToRest key g.journal h.journal was shows (D.may_leave before.now) (D.may_leave after.now) (D.since after.now start) }
 {}

@@ -24,6 +24,7 @@ mod step_records;
 mod step_room;
 mod tally;
 pub mod tally_laws;
+pub mod stopping_laws;
 mod texts;
 
 pub use apply_fault::ApplyFault;

@@ -1,5 +1,6 @@
 //! The owner of a store, and what the owner's commands do to it.
-ghost use Rattle.std.specs.Prelude.{◌≡◌, ◌<◌, ◌≤◌, ◌+◌, ◌↔◌, ℕ, None, Some, Err, IfErr, IfOk, IsTrue, OnErr, OnOk, false, is_some, length};
+ghost use Rattle.std.specs.Prelude.{◌≡◌, ◌<◌, ◌≤◌, ◌+◌, ◌↔◌, ℕ, [], ◌∷◌, None, Some, Err, IfErr, IfOk, IsTrue, OnErr, OnOk, false, is_some, length};
+ghost use Rattle.commit_journal.specs.Holding.{GoesOn};
 ghost use Rattle.commit_journal.specs.Journals.{IsBehind, Joins, next_command, MayJoin, next_epoch};
 ghost use Rattle.cry_base.specs.Refusing.{has_bad_name, refusal_of};
 ghost use Rattle.cry_base.specs.Requests.{request_of};
@@ -20,6 +21,7 @@ ghost use Rattle.store_owner.specs.Drawing.{AreKeys, FillsByCount};
 ghost use Rattle.store_owner.specs.Owned.{IsOwnerOf, owner_at};
 ghost use Rattle.store_owner.specs.Planning.{AnswersPlan, HasBegun, IsDrafted, IsFurnished, IsUnfit, reply_for};
 ghost use Rattle.store_owner.specs.Sound.{IsSound, granted_in, own_store};
+ghost use Rattle.store_owner.specs.Stopping.{AddsBatches, StopsWithin, epoch_due};
 ghost use Rattle.store_owner.specs.Taking.{FallsShort, TakesKeys};
 ghost use Rattle.store_owner.specs.Tallied.{CountsCommand, tally_in};
 
@@ -42,6 +44,7 @@ use crate::sound_laws::{
 use crate::step_records::seal_step;
 use crate::step_room::StepRoom;
 use crate::tally::Tally;
+use crate::stopping_laws::disk_stands_still;
 use crate::texts::text_for;
 use chacha_seal::{Counter, Key, OwnerK};
 use commit_journal::{CommitFault, Journal};
@@ -178,6 +181,10 @@ impl Owner {
     /// may then stand in the store or not, and all before it stands. After any other answer nothing is pending on a disk where
     /// nothing was before. `RandomShort` comes only where the source has ended, and its numbers are exact: `need` is 32 bytes for
     /// each key that the command draws.
+    ///
+    /// Of a disk that rests at the owner's journal, a stop at any moment of the call leaves bytes that stand for this journal, for it with
+    /// the session begun, or for it with the command too. After any answer but `DiskFault` the disk rests again: with the command where
+    /// it was done, and else as before.
     pub fn apply<D: Disk, R: Source>(
         &mut self,
         alloc: Global,
@@ -187,7 +194,10 @@ impl Owner {
     ) -> Result<Reply, ApplyFault>
         requires inside { self.old.journal.is_closed ≡ false → self.old.journal.end ≤ D.size_of disk.old }
         ensures answers { (m : AnyJournal) → IsOwnerOf m self.old → Answers result m (request_of command.now) self.old self.new
-            (R.left random.old) (R.left random.new) (D.shown disk.old) (D.shown disk.new) }
+            (R.left random.old) (R.left random.new) (D.shown disk.old) (D.shown disk.new)
+            (D.may_leave disk.old) (D.may_leave disk.new) (D.since disk.new (D.moment disk.old)) }
+        ensures later { D.moment disk.old ≤ D.moment disk.new }
+        ensures time { GoesOn (D.moment disk.old) (D.since disk.old) (D.since disk.new) }
         ensures closed { (result ≡ Err ApplyFault.Closed) ↔ IsTrue self.old.journal.is_closed }
         ensures open { UnlessDiskFault result (self.new.journal.is_closed ≡ self.old.journal.is_closed) }
         ensures kept { IsKeptBy result self.old self.new random.old random.new disk.old disk.new }
@@ -212,6 +222,7 @@ impl Owner {
         owners_go_on();
         sound_owners_keep_a_store();
         sound_owners_draw_few_keys();
+        disk_stands_still(disk);
         self.journal.journal_is_within();
         if self.journal.is_closed() {
             return Err(ApplyFault::Closed);
@@ -340,6 +351,10 @@ impl Owner {
         requires sizes { AreKeys drawn.now }
         ensures done { OnOk result (IsCarriedOut (request_of command.now) drawn.now self.old self.new (D.shown disk.old) (D.shown disk.new)) }
         ensures interrupted { OnErr result (IsInterrupted (request_of command.now) drawn.now self.old (D.shown disk.old) (D.shown disk.new)) }
+        ensures later { D.moment disk.old ≤ D.moment disk.new }
+        ensures time { GoesOn (D.moment disk.old) (D.since disk.old) (D.since disk.new) }
+        ensures stops { StopsWithin (request_of command.now) drawn.now self.old (D.shown disk.old) (D.shown disk.new)
+            (D.may_leave disk.old) (D.may_leave disk.new) (D.since disk.new (D.moment disk.old)) }
         ensures reply { IfOk result (λ reply. reply ≡ reply_for change.note drawn.now) }
         ensures fault { IfErr result (λ fault. fault ≡ ApplyFault.DiskFault) }
         ensures closed { OnErr result (IsTrue self.new.journal.is_closed) }
@@ -390,7 +405,7 @@ impl Owner {
     }
 }
 
-/// Begins the session's epoch where it has none yet, and answers its counter.
+/// Begins the session's epoch where it has none yet, and answers its counter. A stop leaves the log with that epoch or without.
 fn begin<D: Disk>(
     journal: &mut Journal,
     disk: &mut D,
@@ -402,6 +417,11 @@ fn begin<D: Disk>(
     requires counts { is_some counter ≡ journal.old.has_epoch }
     ensures begun { IfOk result (λ starts. HasBegun journal.old journal.new counter starts (D.shown disk.old) (D.shown disk.new)) }
     ensures interrupted { OnErr result ((journal.old.has_epoch ≡ false) × MayJoin (next_epoch journal.old) journal.old (D.shown disk.old) (D.shown disk.new)) }
+    ensures later { D.moment disk.old ≤ D.moment disk.new }
+    ensures time { GoesOn (D.moment disk.old) (D.since disk.old) (D.since disk.new) }
+    ensures adds { AddsBatches (epoch_due journal.old) journal.old (D.shown disk.old) (D.shown disk.new)
+        (D.may_leave disk.old) (D.may_leave disk.new) (D.since disk.new (D.moment disk.old)) }
+    ensures calm { IsDurable (D.may_leave disk.old) (D.shown disk.old) → OnOk result (IsDurable (D.may_leave disk.new) (D.shown disk.new)) }
     ensures closed { OnErr result (IsTrue journal.new.is_closed) }
     ensures open { OnOk result (journal.new.is_closed ≡ journal.old.is_closed) }
     ensures owner { journal.new.owner ≡ journal.old.owner }
@@ -433,6 +453,10 @@ fn commit_within<D: Disk>(
     ensures behind { OnOk result (IsBehind (next_command journal.old (spell_payload (plain_payload payload.now))) journal.old journal.new) }
     ensures joined { OnOk result (Joins (next_command journal.old (spell_payload (plain_payload payload.now))) journal.old journal.new (D.shown disk.old) (D.shown disk.new)) }
     ensures interrupted { OnErr result (MayJoin (next_command journal.old (spell_payload (plain_payload payload.now))) journal.old (D.shown disk.old) (D.shown disk.new)) }
+    ensures later { D.moment disk.old ≤ D.moment disk.new }
+    ensures time { GoesOn (D.moment disk.old) (D.since disk.old) (D.since disk.new) }
+    ensures adds { AddsBatches (next_command journal.old (spell_payload (plain_payload payload.now)) ∷ []) journal.old (D.shown disk.old) (D.shown disk.new)
+        (D.may_leave disk.old) (D.may_leave disk.new) (D.since disk.new (D.moment disk.old)) }
     ensures begun { journal.new.has_epoch ≡ journal.old.has_epoch }
     ensures owner { journal.new.owner ≡ journal.old.owner }
     ensures durable { OnOk result (IsDurable (D.may_leave disk.new) (D.shown disk.new)) }

@@ -1,24 +1,29 @@
 use Rattle.std.proofs.Common.{◌≡◌, ◌<◌, ◌≤◌, ◌*◌, ◌^◌, ◌++◌, ◌∙◌, List, Ok, ap, length, refl, replicate, subst, sym, ℕ}
 use Rattle.cry_base.specs.Requests.{request_of}
 use Rattle.cry_base.specs.declared.memory.OutOfMemory.{OutOfMemory}
+use Rattle.cry_io.specs.Stops.{IsDurable}
 use Rattle.record_format.specs.Told.{told_note}
 use Rattle.public_fold.specs.Journal.{store_of}
 use Rattle.public_fold.specs.declared.heads.Skeleton.{Skeleton}
 use Rattle.journal_bytes.specs.Folds.{public_stand}
+use Rattle.journal_bytes.specs.Keys.{AreWhole}
+use Rattle.journal_bytes.specs.Script.{journal_then}
 use Rattle.journal_bytes.specs.Texting.{due_key}
 use Rattle.store_owner.specs.Applying.{IsCarriedOut, IsCutShort, IsDone, IsInterrupted}
 use Rattle.store_owner.specs.Drawing.{AreKeys, joined}
-use Rattle.store_owner.specs.Owned.{OwnerView}
+use Rattle.store_owner.specs.Owned.{IsOwnerOf, OwnerView}
 use Rattle.store_owner.specs.Planning.{AnswersPlan, reply_for}
 use Rattle.store_owner.specs.Sound.{IsSound, own_store}
+use Rattle.store_owner.specs.Stopping.{StopsBetween}
 use Rattle.store_owner.specs.declared.apply_fault.ApplyFault.TheVariants as faults
 use Rattle.store_owner.specs.declared.owner.Verdict.{Verdict}
 use Rattle.store_owner.specs.declared.owner.Verdict.TheVariants as verdicts
-use Rattle.store_owner.proofs.Applied.{carried_answer, reply_due, undrawn_answer}
-use Rattle.store_owner.proofs.OtherRoom.{accepted_still, carried_from, limit_still, sound_still, store_still, interrupted_from}
+use Rattle.store_owner.proofs.Applied.{both_ok, carried_answer, reply_due, undrawn_answer}
+use Rattle.store_owner.proofs.OtherRoom.{accepted_still, carried_from, limit_still, sound_still, stops_from, store_still, interrupted_from}
 use Rattle.std.proofs.lemmas.Result.{on_err_weaker}
 use Rattle.store_owner.proofs.Planned.{is_refused}
 use Rattle.store_owner.proofs.Tallies.{carried_counts}
+use Rattle.store_owner.proofs.StoppedCommands.{rests_then}
 use Rattle.store_owner.proofs.Taken.{are_planned, err_is, falls_short, never_short, takes_filled, takes_none}
 use Rattle.store_owner.proofs.owner.Owner.apply.Goals as goal
 
@@ -26,7 +31,7 @@ pub returns-in-Some-clause-answers : goal.returns-in-Some-clause-answers
 returns-in-Some-clause-answers g c = λ m is.
     let o : OwnerView = c.args.self.now in
     let r = request_of c.args.command.now in
-    (is_refused o m r c.in-Some.why (sym (c.refused.ensures.cause (store_of m) (c.owners_keep_the_store.ensures m o is)) ∙ c.in-Some.is), refl)
+    (is_refused o m r c.in-Some.why (sym (c.refused.ensures.cause (store_of m) (c.owners_keep_the_store.ensures m o is)) ∙ c.in-Some.is), refl, c.disk_stands_still.ensures.rests o.key m)
 
 pub returns-in-Err-fill-clause-answers : goal.returns-in-Err-fill-clause-answers
 returns-in-Err-fill-clause-answers g c = λ m is.
@@ -36,8 +41,12 @@ returns-in-Err-fill-clause-answers g c = λ m is.
     subst (λ (v : Verdict). AnswersPlan {E = OutOfMemory} (Ok v) r o c.plan.new.self) c.in-Ok-Planned.field-0-is c.in-Ok-Planned.ensures.answers in
     let draws = planned.3 m is in
     undrawn_answer c.in-Err-fill.fault c.in-Ok.keys m r o c.plan.new.self (g.R.Source.left c.args.random.now) (g.R.Source.left c.fill.new.random) (g.D.Disk.shown c.args.disk.now) (g.D.Disk.shown c.args.disk.now)
+    (g.D.Disk.may_leave c.args.disk.now) (g.D.Disk.may_leave c.args.disk.now) (g.D.Disk.since c.args.disk.now (g.D.Disk.moment c.args.disk.now))
     (planned.2 m is) c.plan.ensures.room (c.in-Ok.ensures ∙ ap length c.as_slice-count.ensures ∙ ap (λ (s : Skeleton). length s.keys.items) c.skeleton.ensures ∙ draws.0) draws.1
-    c.in-Err-fill.ensures.faults c.in-Err-fill.ensures.bytes c.in-Err-fill.ensures.told
+    c.in-Err-fill.ensures.faults c.in-Err-fill.ensures.bytes c.in-Err-fill.ensures.told (c.disk_stands_still.ensures.rests o.key m)
+
+pub returns-in_default-reserve-clause-answers : goal.returns-in_default-reserve-clause-answers
+returns-in_default-reserve-clause-answers g c = λ m is. (c.plan.ensures.room, c.disk_stands_still.ensures.rests c.args.self.now.key m)
 
 pub carry_out-requires-clause-accepted : goal.carry_out-requires-clause-accepted
 carry_out-requires-clause-accepted g c =
@@ -62,33 +71,47 @@ returns-clause-answers g c = λ m is.
     let bounded : o.file_bytes ≤ 1048576 = subst (λ (x : OwnerView). x.file_bytes ≤ 1048576) c.self.view_is (c.self.invariant (sym c.is_closed.ensures ∙ c.if-is_closed.false)).0.bounded in
     let store = c.owners_keep_the_store.ensures m o is in
     let refused = sym (c.refused.ensures.cause (store_of m) store) ∙ c.in_default.is in
-    let done : IsCarriedOut r drawn mid new was shows → IsDone m r (reply_for note drawn) o new before after was shows = λ h.
-    let full : IsCarriedOut r drawn o new was shows = carried_from r drawn o mid new was shows c.plan.ensures.room h in
+    let might = g.D.Disk.may_leave c.args.disk.now in
+    let may = g.D.Disk.may_leave c.carry_out.new.disk in
+    let since = g.D.Disk.since c.carry_out.new.disk (g.D.Disk.moment c.args.disk.now) in
+    let then = journal_then m o.journal.has_epoch r drawn in
+    let stops : StopsBetween o.key m then was shows might may since =
+    stops_from r drawn o mid was shows might may since c.plan.ensures.room c.carry_out.ensures.stops m is limit bounded (planned.2 m is) in
+    let done : IsCarriedOut r drawn mid new was shows × IsDurable may shows → IsDone m r (reply_for note drawn) o new before after was shows might may since = λ h.
+    let full : IsCarriedOut r drawn o new was shows = carried_from r drawn o mid new was shows c.plan.ensures.room h.0 in
+    let owner : IsOwnerOf then new = c.owners_go_on.ensures.owner m r drawn o new was shows is limit bounded (planned.2 m is) full in
+    let disk = c.owners_go_on.ensures.disk m r drawn o new was shows is limit bounded (planned.2 m is) full in
     record {
       drawn = drawn;
       drawn_count = full.sealed.drawn_count ∙ c.commands_are_measured.ensures.draws m r o full.sealed.skeleton is refused (full.sealed.is_skeleton (public_stand m) (store_of m) is.seen store);
       drawn_sizes = full.sealed.drawn_sizes;
       accepted = planned.2 m is;
       reply_is = reply_due m r note (replicate 32 0) drawn (planned.0.told (store_of m) (store_still (store_of m) o mid c.plan.ensures.room store));
-      owner_is = c.owners_go_on.ensures.owner m r drawn o new was shows is limit bounded (planned.2 m is) full;
+      owner_is = owner;
       has_begun = full.has_begun;
       same_key = full.same_key;
       same_limits = ap (λ n. record { store_bytes = n; file_bytes = new.file_bytes }) full.same_limit ∙ ap (λ n. record { store_bytes = o.journal.limit; file_bytes = n }) full.same_bound;
       next_bytes = λ x y a b. c.in-Ok-fill.ensures.bytes x y a b ∙ ap (λ (d : List (List ℕ)). joined d ++ y) (sym c.as_slice.ensures);
-      disk_stands = c.owners_go_on.ensures.disk m r drawn o new was shows is limit bounded (planned.2 m is) full;
+      disk_stands = disk;
       further = c.owners_go_on.ensures.further r drawn o new was shows full;
       disk_behind = c.owners_go_on.ensures.behind m r drawn o new was shows is limit bounded (planned.2 m is) full;
+      comes_to_rest = record {
+        stops = stops;
+        rests = rests_then o.key m then was shows might may owner.valid (subst (λ key. AreWhole key then) full.same_key owner.whole_keys) c.carry_out.ensures.told disk h.1;
+      };
     } in
-    let left : IsInterrupted r drawn mid was shows → IsCutShort m r o before after was shows = λ h. record {
+    let left : IsInterrupted r drawn mid was shows → IsCutShort m r o before after was shows might may since = λ h. record {
       drawn = drawn;
       drawn_count = ap length c.as_slice.ensures ∙ c.in-Ok-fill.ensures.count ∙ c.in-Ok.ensures ∙ ap length c.as_slice-count.ensures
           ∙ ap (λ (s : Skeleton). length s.keys.items) c.skeleton.ensures ∙ (planned.3 m is).0;
       drawn_sizes = subst AreKeys (sym c.as_slice.ensures) c.in-Ok-fill.ensures.sizes;
       next_bytes = λ x y a b. c.in-Ok-fill.ensures.bytes x y a b ∙ ap (λ (d : List (List ℕ)). joined d ++ y) (sym c.as_slice.ensures);
       disk_stands = c.interrupted_commands_leave_a_journal.ensures m r drawn o was shows is limit bounded (planned.2 m is) (interrupted_from r drawn o mid was shows c.plan.ensures.room h);
+      stops = stops;
     } in
-    carried_answer c.carry_out.result note drawn m r o new before after was shows (IsCarriedOut r drawn mid new was shows) (planned.2 m is) c.carry_out.ensures.fault c.carry_out.ensures.closed
-    (on_err_weaker c.carry_out.result left c.carry_out.ensures.interrupted) c.carry_out.ensures.reply c.carry_out.ensures.done done
+    carried_answer c.carry_out.result note drawn m r o new before after was shows might may since (IsCarriedOut r drawn mid new was shows × IsDurable may shows) (planned.2 m is) c.carry_out.ensures.fault c.carry_out.ensures.closed
+    (on_err_weaker c.carry_out.result left c.carry_out.ensures.interrupted) c.carry_out.ensures.reply
+    (both_ok c.carry_out.result (IsCarriedOut r drawn mid new was shows) (IsDurable may shows) c.carry_out.ensures.done c.carry_out.ensures.durable) done
 
 pub returns-clause-counts : goal.returns-clause-counts
 returns-clause-counts g c =

@@ -1,0 +1,40 @@
+//! Laws of what a stop leaves of an owner's calls: what a disk at rest holds, and how calls one after another add up.
+ghost use Rattle.std.specs.Prelude.{◌≤◌, ℕ, List};
+ghost use Rattle.cry_io.specs.Stops.{IsDurable};
+ghost use Rattle.commit_journal.specs.Holding.{GoesOn, IsPrefix};
+ghost use Rattle.public_fold.specs.Journal.{Journal};
+ghost use Rattle.journal_bytes.specs.Journals.{HoldsBetween, IsSettled};
+ghost use Rattle.store_owner.specs.Stopping.{ComesToRest, RestsAt, StopsBetween};
+
+use cry_io::Disk;
+
+/// Law: a disk that rests at a journal is settled at it, and holds it and no other; and it rests where it is settled and nothing is
+/// pending.
+pub fn resting_disk_is_settled<D: Disk>(disk: &D)
+    ensures settled { (key : List ℕ) (m : Journal) → RestsAt key m (D.shown disk.now) (D.may_leave disk.now) → IsSettled key m (D.shown disk.now) (D.may_leave disk.now) }
+    ensures holds { (key : List ℕ) (m : Journal) → RestsAt key m (D.shown disk.now) (D.may_leave disk.now) → HoldsBetween key m m (D.shown disk.now) (D.may_leave disk.now) }
+    ensures rests { (key : List ℕ) (m : Journal) → IsSettled key m (D.shown disk.now) (D.may_leave disk.now) → IsDurable (D.may_leave disk.now) (D.shown disk.now)
+        → RestsAt key m (D.shown disk.now) (D.may_leave disk.now) }
+{}
+
+/// Law: a call that does nothing lets no time pass, and a disk that rests still rests.
+pub fn disk_stands_still<D: Disk>(disk: &D)
+    ensures time { GoesOn (D.moment disk.now) (D.since disk.now) (D.since disk.now) }
+    ensures rests { (key : List ℕ) (m : Journal) → ComesToRest key m m (D.shown disk.now) (D.shown disk.now)
+        (D.may_leave disk.now) (D.may_leave disk.now) (D.since disk.now (D.moment disk.now)) }
+{}
+
+/// Law: of two calls one after the other, the first came to rest at a journal, from which the second went on. Together a stop leaves what
+/// lies between the first one's journal and the second one's; and the disk comes to rest where the second one does.
+pub fn stops_of_two_calls<D: Disk>(before: &D, between: &D, after: &D)
+    ensures stops { (key : List ℕ) (low middle high : Journal) → D.moment before.now ≤ D.moment between.now
+        → GoesOn (D.moment between.now) (D.since between.now) (D.since after.now) → IsPrefix low middle → IsPrefix middle high
+        → ComesToRest key low middle (D.shown before.now) (D.shown between.now) (D.may_leave before.now) (D.may_leave between.now) (D.since between.now (D.moment before.now))
+        → StopsBetween key middle high (D.shown between.now) (D.shown after.now) (D.may_leave between.now) (D.may_leave after.now) (D.since after.now (D.moment between.now))
+        → StopsBetween key low high (D.shown before.now) (D.shown after.now) (D.may_leave before.now) (D.may_leave after.now) (D.since after.now (D.moment before.now)) }
+    ensures rests { (key : List ℕ) (low middle high : Journal) → D.moment before.now ≤ D.moment between.now
+        → GoesOn (D.moment between.now) (D.since between.now) (D.since after.now) → IsPrefix low middle → IsPrefix middle high
+        → ComesToRest key low middle (D.shown before.now) (D.shown between.now) (D.may_leave before.now) (D.may_leave between.now) (D.since between.now (D.moment before.now))
+        → ComesToRest key middle high (D.shown between.now) (D.shown after.now) (D.may_leave between.now) (D.may_leave after.now) (D.since after.now (D.moment between.now))
+        → ComesToRest key low high (D.shown before.now) (D.shown after.now) (D.may_leave before.now) (D.may_leave after.now) (D.since after.now (D.moment before.now)) }
+{}
