@@ -1,5 +1,6 @@
-//! The steps of a commit. A batch that was staged is a `Staged`, which `open_gate` alone makes a `Gated`, and `unveil` takes
-//! a `Gated` alone: no slot is written before its gate is open on the disk.
+//! The steps of a commit. A batch that was staged is a `Staged`, of which `open_gate` makes a `Gated`, and `unveil` takes
+//! a `Gated` alone: no slot is written before its gate is open on the disk. When a store is opened, `gated_at` makes a `Gated` of a
+//! batch that stands behind an open gate.
 ghost use Rattle.std.specs.Prelude.{◌≡◌, ◌+◌, ◌-◌, ◌<◌, ◌≤◌, ◌^◌, ℕ, List, [], ◌∷◌, length, max, is_some, IfOk, OnErr, OnOk};
 ghost use Rattle.cry_io.specs.Counts.{CountsFault};
 ghost use Rattle.cry_io.specs.Told.{WhereTold, WhereBothTold};
@@ -111,6 +112,20 @@ pub fn open_gate<D: Disk>(disk: &mut D, staged: Staged<'_>) -> Result<Gated, Fai
     })
 }
 
+/// A batch that was found behind the open gate before the place `end`, where a store is opened: `unveil` may write its slot. Every list
+/// that a stop may leave has that gate and so many bytes behind it, since nothing is pending.
+pub fn gated_at<D: Disk>(disk: &D, end: u64, len: u64) -> Gated
+    requires gate { 1 ≤ end }
+    requires whole { 45 ≤ len }
+    requires nothing_pending { IsDurable (D.may_leave disk.now) (D.shown disk.now) }
+    requires opened { WhereTold (D.shown disk.now) (steps.IsGatedAt end len) }
+    requires inside { end + len ≤ D.size_of disk.now }
+    ensures gated { result ≡ record { end = end; len = len } }
+{
+    let _size = disk.size();
+    Gated { end, len }
+}
+
 /// Publishes a batch by its veil key, and makes that stay. Every list that a stop may leave has the open gate and the batch behind
 /// it by then: what was published is not taken back.
 pub fn unveil<D: Disk>(disk: &mut D, gated: Gated, veil: &[u8; 32]) -> Result<(), Failed>
@@ -133,23 +148,4 @@ pub fn unveil<D: Disk>(disk: &mut D, gated: Gated, veil: &[u8; 32]) -> Result<()
     let Gated { end, len: _ } = gated;
     let _size = disk.size();
     write_and_sync(disk, end + SLOT, veil)
-}
-
-/// Writes a slot anew that a stop left without its veil key, in a batch whose gate was found open when the store was opened. It makes
-/// that stay.
-pub fn refill_slot<D: Disk>(disk: &mut D, place: u64, veil: &[u8; 32]) -> Result<(), Failed>
-    requires inside { place + 32 ≤ D.size_of disk.old }
-    ensures told { is_some (D.shown disk.new) ≡ is_some (D.shown disk.old) }
-    ensures written { OnOk result (WhereBothTold (D.shown disk.old) (D.shown disk.new) (Written place veil.now)) }
-    ensures torn { OnErr result (WhereBothTold (D.shown disk.old) (D.shown disk.new) (Torn place 32)) }
-    ensures durable { OnOk result (IsDurable (D.may_leave disk.new) (D.shown disk.new)) }
-    ensures size { D.size_of disk.new ≡ D.size_of disk.old }
-    ensures later { D.moment disk.old ≤ D.moment disk.new }
-    ensures time { GoesOn (D.moment disk.old) (D.since disk.old) (D.since disk.new) }
-    ensures stops { IsDurable (D.may_leave disk.old) (D.shown disk.old) → WhereTold (D.shown disk.old)
-        (λ x. Throughout (TornInto place 32 x) (D.since disk.new (D.moment disk.old))) }
-    ensures counts { CountsFault result (D.faults disk.old) (D.faults disk.new) }
-{
-    let _size = disk.size();
-    write_and_sync(disk, place, veil)
 }

@@ -14,6 +14,7 @@ pub mod Pieces
 pub mod Spelled
 pub mod Refilled
 pub mod Reopened
+pub mod SlotsGated
 pub mod SlotsLeft
 pub mod Standings
 pub mod Stepped

@@ -1,8 +1,9 @@
 -- The moments of calls that read a store, and of opening it for writing.
-use Rattle.std.proofs.Common.{◌≡◌, ◌≢◌, ◌≤◌, ◌-◌, Bool, true, false, slice_range, ◌⊎◌, ⊎_elim, inl, inr, ◌+◌, ◌<◌, ℕ, List, [], ◌∷◌, Option, Some, Ok, length, map, drop, get_or, arith, refl, sym, subst, ◌∙◌}
+use Rattle.std.proofs.Common.{◌≡◌, ◌≢◌, ◌≤◌, ◌-◌, Bool, true, false, slice_range, ◌⊎◌, ⊎_elim, inl, inr, ◌+◌, ◌<◌, ℕ, List, [], ◌∷◌, Option, Some, Ok, length, map, drop, get_or, arith, refl, sym, ap, subst, ◌∙◌}
 use Rattle.cry_io.specs.Stops.{Elapses, IsDurable, Torn}
 use Rattle.cry_io.specs.Told.{WhereTold}
 use Rattle.chacha_seal.specs.Sealing.{veil_of}
+use Rattle.batch_log.specs.Tokens.{GatedBatch}
 use Rattle.batch_log.specs.Moments.{GoesOn, Throughout, TornInto}
 use Rattle.batch_log.proofs.Moments.{goes_on_elapsed, goes_on_then, in_both, in_one_call}
 use Rattle.batch_log.proofs.WrittenMoments.{told_one}
@@ -64,6 +65,10 @@ torn_unfilled equal place veil key slot x y inside read key_is found unequal tor
     none
     in
     slot_torn place veil x y inside differ torn
+
+-- where the slot of a batch stands behind its gate
+pub slot_place : (gated : GatedBatch) (place len : ℕ) → 87 ≤ place → gated ≡ record { end = place - 45; len = len } → gated.end + 13 ≡ place - 32
+slot_place gated place len behind is = let end : gated.end ≡ place - 45 = ap (λ (g : GatedBatch). g.end) is in omega (arith, end, behind)
 
 -- the moments of the slot's look-up, and of its write behind that
 pub fills_then : (owner : List ℕ) (p : Placed) (x : List ℕ) (first start : ℕ) (past since : ℕ → List ℕ → List ℕ → Type 0) → first ≤ start → GoesOn start past since →

@@ -1,7 +1,7 @@
 -- What the owner's key reads of a store that is opened for writing, and the slots that are then filled. This project's own,
 -- docs/FORMAT.md, "Opening for writing".
 use Rattle.std.specs.Prelude.{◌≡◌, ◌≢◌, ◌⊎◌, ◌≤◌, ℕ, zero, suc, ◌+◌, ◌-◌, ◌*◌, true, false, ◌==◌, nat_le, if◌then◌else◌, List, [], ◌∷◌, ◌++◌, length, take, drop, slice_range, Option, None, Some, Result, Ok, Err}
-pub use Rattle.batch_log.specs.Steps.{written_at}
+pub use Rattle.batch_log.specs.Steps.{IsGatedAt, written_at}
 use Rattle.std.specs.Str.{bytes_eq}
 use Rattle.chacha_seal.specs.Sealing.{veil_of, masked}
 use Rattle.commit_journal.specs.declared.head.Head.{Head}
@@ -88,6 +88,11 @@ LeavesSlots owner (p ∷ ps) old new =
 -- with their veil keys, and the next one with any bytes
 abbrev pub LeavesGated : ℕ → List ℕ → List ℕ → List ℕ → Type 0
 LeavesGated limit owner old new = (new ≡ old) ⊎ ((log : OwnedLog) × (opening_verdict limit owner old ≡ Ok log) × LeavesSlots owner log.placed old new)
+
+-- from this place on the batches stand in the bytes one behind another, each behind its open gate
+abbrev pub AreGated : ℕ → List PlainPlaced → List ℕ → Type 0
+AreGated from [] bytes = Unit {0}
+AreGated from (p ∷ ps) bytes = (from + 45 ≤ p.place) × IsGatedAt (p.place - 45) 110 bytes × AreGated (p.place + 65) ps bytes
 
 -- a log that was walked, and a journal that was opened on it, without the room that they have
 abbrev pub plain_walked : Walked → OwnedLog

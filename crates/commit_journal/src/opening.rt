@@ -17,12 +17,12 @@ ghost use Rattle.commit_journal.specs.Turns.{plain_turn};
 ghost use Rattle.commit_journal.specs.WholeLogs.{StillStand};
 
 use crate::head::{BATCH_LEN, Head};
-use crate::judge::{OPEN, Turn};
+use crate::judge::{OPEN, PAYLOAD, Turn};
 use crate::owned::judge_owned;
 use crate::past::Past;
 use crate::reading::{read_head, read_start};
 use crate::{Journal, OpenFault, Placed};
-use batch_log::refill_slot;
+use batch_log::{gated_at, unveil};
 use chacha_seal::{Key, LogKey, OwnerK};
 use cry_base::{Limits, List};
 use cry_io::{Disk, Failed};
@@ -103,7 +103,8 @@ fn walk<D: Disk>(
     ensures verdict { WhereTold (D.shown disk.old)
         (λ s. Answers opening.plain_walked result (opening.opening_verdict limit owner.now.bytes s)) }
     ensures stands { IfOk result (λ w. All IsStanding w.placed.items) }
-    ensures inside { IfOk result (λ w. All (λ p. p.place ≤ D.size_of disk.old) w.placed.items) }
+    ensures inside { IfOk result (λ w. All (λ p. p.place + 65 ≤ D.size_of disk.old) w.placed.items) }
+    ensures gated { IfOk result (λ w. WhereTold (D.shown disk.old) (opening.AreGated 42 (plain_log w.placed))) }
     ensures room { IfOk result (λ w. opening.HasRoom w.past) }
     ensures end { IfOk result (λ w. w.past.at ≤ D.size_of disk.old) }
     ensures epochs { IfOk result (λ w. AreInEpochs 0 (plain_log w.placed)) }
@@ -128,7 +129,8 @@ fn walk<D: Disk>(
 /// Writes the veil key of a batch into its slot, if it doesn't stand there.
 fn fill_slot<D: Disk>(disk: &mut D, owner: &LogKey, placed: &Placed) -> Result<(), Failed>
     requires behind { 87 ≤ placed.now.place }
-    requires inside { placed.now.place ≤ D.size_of disk.old }
+    requires inside { placed.now.place + 65 ≤ D.size_of disk.old }
+    requires gated { WhereTold (D.shown disk.old) (opening.IsGatedAt (placed.now.place - 45) 110) }
     requires nothing_pending { IsDurable (D.may_leave disk.old) (D.shown disk.old) }
     ensures filled { OnOk result (WhereBothTold (D.shown disk.old) (D.shown disk.new)
         (λ x y. y ≡ opening.written_at (placed.now.place - 32) (veil_of owner.now.bytes placed.now.epoch.0 placed.now.batch) x)) }
@@ -150,12 +152,14 @@ fn fill_slot<D: Disk>(disk: &mut D, owner: &LogKey, placed: &Placed) -> Result<(
     if tags_equal(&slot, &veil) {
         return Ok(());
     }
-    refill_slot(disk, place, &veil)
+    let gated = gated_at(disk, placed.place - PAYLOAD as u64, BATCH_LEN);
+    unveil(disk, gated, &veil)
 }
 
 fn fill_slots<D: Disk>(disk: &mut D, owner: &LogKey, log: &[Placed]) -> Result<(), Failed>
     requires stands { All IsStanding log.now }
-    requires inside { All (λ p. p.place ≤ D.size_of disk.old) log.now }
+    requires inside { All (λ p. p.place + 65 ≤ D.size_of disk.old) log.now }
+    requires gated { WhereTold (D.shown disk.old) (opening.AreGated 42 (map plain_placed log.now)) }
     requires nothing_pending { IsDurable (D.may_leave disk.old) (D.shown disk.old) }
     ensures filled { OnOk result (WhereBothTold (D.shown disk.old) (D.shown disk.new)
         (λ x y. y ≡ opening.slots_filled owner.now.bytes (map plain_placed log.now) x)) }
@@ -184,6 +188,9 @@ impl Journal {
     /// slot is written, and leaves the disk as it was but for the sync. `DiskFault` comes only where the disk's faults rose in
     /// this call, and then slots alone may have been written, of a log that passes every test. After any fault bytes that stood
     /// for batches stand for them still.
+    ///
+    /// A stop at any moment of the call leaves what it could leave at the start, or the bytes that were shown then with some of these
+    /// slots filled. So what the disk held between two lists of batches, it holds between them throughout.
     pub fn open_owner<D: Disk>(
         alloc: Global,
         disk: &mut D,

@@ -1,5 +1,5 @@
 //! Reads the header of a store file, and the head of a batch. The file is never written.
-ghost use Rattle.std.specs.Prelude.{◌≡◌, ◌≢◌, ◌<◌, ◌≤◌, ◌+◌, ◌^◌, Err, drop, slice_range, IfOk, OnOk};
+ghost use Rattle.std.specs.Prelude.{◌≡◌, ◌≢◌, ◌<◌, ◌≤◌, ◌+◌, ◌^◌, Err, drop, slice_index, slice_range, IfOk, OnOk};
 ghost use Rattle.cry_io.specs.Told.{WhereTold};
 ghost use Rattle.commit_journal.specs.Answering.{Answers};
 ghost use Rattle.commit_journal.specs.Log as log;
@@ -33,6 +33,7 @@ fn start_of(owner: &LogKey, header: &[u8; HEADER_LEN]) -> Result<Past, OpenFault
     ensures answer { Answers (λ past. past) result (log.start_of owner.now.bytes header.now) }
     ensures place { IfOk result (λ past. past.at ≡ 42) }
     ensures fresh { IfOk result (λ past. (past.number ≡ 0) × (past.epoch.0 ≡ 0)) }
+    ensures gate { IfOk result (λ past. past.gate ≡ slice_index header.now 41) }
     ensures no_disk { result ≢ Err OpenFault.DiskFault }
 {
     if header[..9] != MAGIC[..] {
@@ -56,6 +57,7 @@ pub(crate) fn read_start<D: Disk>(disk: &mut D, owner: &LogKey) -> Result<Past, 
     ensures place { IfOk result (λ past. past.at ≡ 42) }
     ensures fresh { IfOk result (λ past. (past.number ≡ 0) × (past.epoch.0 ≡ 0)) }
     ensures inside { OnOk result (42 ≤ D.size_of disk.old) }
+    ensures gate { IfOk result (λ past. WhereTold (D.shown disk.old) (λ s. slice_index s 41 ≡ past.gate)) }
     ensures read_only { IsOnlyRead D.shown D.size_of D.may_leave disk.old disk.new }
     ensures moments { IsSameThroughout D.shown D.may_leave D.moment D.since disk.old disk.new }
     ensures counts { D.faults disk.old ≤ D.faults disk.new }

@@ -1,4 +1,4 @@
-use Rattle.std.proofs.Common.{◌≤◌, ◌<◌, length, map, refl, sym, ap, subst, ◌∙◌, arith}
+use Rattle.std.proofs.Common.{◌≤◌, ◌<◌, ◌+◌, length, map, refl, sym, ap, subst, ◌∙◌, arith}
 use Rattle.cry_io.proofs.ToldLemmas.{told_again}
 use Rattle.commit_journal.specs.declared.placed.Placed.{Placed}
 use Rattle.commit_journal.specs.Places.{IsStanding}
@@ -9,6 +9,9 @@ use Rattle.commit_journal.specs.Opening.{LeavesSlots, slots_filled}
 use Rattle.commit_journal.specs.Placed.{plain_placed}
 use Rattle.commit_journal.proofs.OpenedMoments.{fills_one, fills_start}
 use Rattle.commit_journal.proofs.OwnedLemmas.{filled_more, filled_all}
+use Rattle.chacha_seal.specs.Sealing.{veil_of}
+use Rattle.chacha_seal.proofs.SealingLemmas.{length-veil_of}
+use Rattle.commit_journal.proofs.SlotsGated.{gated_here, gated_next}
 use Rattle.commit_journal.proofs.SlotsLeft.{left_here, left_later}
 use Rattle.commit_journal.proofs.StoppedCommits.{stays}
 use Rattle.commit_journal.proofs.opening.fill_slots.Goals as goal
@@ -26,9 +29,15 @@ fill_slot-requires-clause-inside g c =
     let log = c.args.log.now in
     let placed = c.placed-item.result in
     let within : c.loop-placed.placed-index < length log = omega (arith, c.loop-placed-test.true) in
-    let on_disk : Placed → Type 0 = λ p. p.place ≤ g.D.Disk.size_of c.args.disk.now in
+    let on_disk : Placed → Type 0 = λ p. p.place + 65 ≤ g.D.Disk.size_of c.args.disk.now in
     let there : on_disk placed = subst on_disk (sym c.placed-item.is) (c.requires.inside c.loop-placed.placed-index placed within) in
     omega (arith, there, c.loop-placed.invariant.size)
+
+pub fill_slot-requires-clause-gated : goal.fill_slot-requires-clause-gated
+fill_slot-requires-clause-gated g c = λ y y_is.
+    let log = c.args.log.now in
+    let within : c.loop-placed.placed-index < length log = omega (arith, c.loop-placed-test.true) in
+    gated_here log c.loop-placed.placed-index c.placed-item.result y within c.placed-item.is (c.loop-placed.invariant.gated y y_is)
 
 pub loop-placed-init : goal.loop-placed-init
 loop-placed-init g c =
@@ -46,6 +55,7 @@ loop-placed-init g c =
       stops = fills_start owner (map plain_placed log) (D.shown a) (D.may_leave a) (D.since a (D.moment a)) c.requires.nothing_pending
           (λ s left at. g.met.D.Disk.only_now a s left at);
       counts = omega arith;
+      gated = c.requires.gated;
       so_far = λ x y x_is y_is. ap (λ r. slots_filled owner (map plain_placed log) r) (told_one (D.shown a) x y x_is y_is);
       left = λ x y z x_is y_is leaves. subst (λ r. LeavesSlots owner (map plain_placed log) r z) (told_one (D.shown a) y x y_is x_is) leaves;
     }
@@ -72,6 +82,11 @@ loop-placed-preserved g c =
           fills_one c.args.owner.now.bytes log c.loop-placed.placed-index placed x again.0 (D.moment a) (D.moment b) (D.since b) (D.since e) before.later c.in_ok-fill_slot.ensures.time
           within c.placed-item.is (λ z leaves. before.left x again.0 z x_is again.1 leaves) (before.stops x x_is) (c.in_ok-fill_slot.ensures.stops again.0 again.1);
       counts = omega (arith, before.counts, c.in_ok-fill_slot.ensures.counts);
+      gated = λ z z_is.
+          let again = told_again (shown e) (shown b) z (sym c.in_ok-fill_slot.ensures.told) z_is in
+          gated_next log c.loop-placed.placed-index placed (veil_of c.args.owner.now.bytes placed.epoch.0 placed.batch) again.0 z within c.placed-item.is
+          (subst IsStanding (sym c.placed-item.is) (c.requires.stands c.loop-placed.placed-index placed within)).behind
+          (length-veil_of c.args.owner.now.bytes placed.epoch.0 placed.batch) (c.in_ok-fill_slot.ensures.filled again.0 z again.1 z_is) (before.gated again.0 again.1);
       so_far = λ x z x_is z_is.
           let again = told_again (shown c.fill_slot.new.disk) (shown c.loop-placed.disk) z (sym c.in_ok-fill_slot.ensures.told) z_is in
           before.so_far x again.0 x_is again.1

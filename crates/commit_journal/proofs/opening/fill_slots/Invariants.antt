@@ -3,7 +3,7 @@ use Rattle.std.specs.Prelude.{is_some}
 use Rattle.cry_io.specs.Stops.{IsDurable}
 use Rattle.batch_log.specs.Moments.{GoesOn}
 use Rattle.commit_journal.specs.Moments.{FillsThroughout}
-use Rattle.commit_journal.specs.Opening.{LeavesSlots, slots_filled}
+use Rattle.commit_journal.specs.Opening.{AreGated, LeavesSlots, slots_filled}
 use Rattle.commit_journal.specs.Placed.{plain_placed}
 use Rattle.commit_journal.proofs.opening.fill_slots.Given as goal
 
@@ -16,6 +16,7 @@ invariant-loop-placed g l = record {
   time : GoesOn (g.D.Disk.moment l.fn.disk) (g.D.Disk.since l.fn.disk) (g.D.Disk.since l.disk);
   stops : FillsThroughout l.owner.bytes (map plain_placed l.log) (g.D.Disk.shown l.fn.disk) (g.D.Disk.since l.disk (g.D.Disk.moment l.fn.disk));
   counts : g.D.Disk.faults l.fn.disk ≤ g.D.Disk.faults l.disk;
+  gated : (y : List ℕ) → g.D.Disk.shown l.disk ≡ Some y → AreGated 42 (map plain_placed (drop l.placed-index l.log)) y;
   so_far : (x y : List ℕ) → g.D.Disk.shown l.fn.disk ≡ Some x → g.D.Disk.shown l.disk ≡ Some y →
       slots_filled l.owner.bytes (map plain_placed l.log) x ≡ slots_filled l.owner.bytes (map plain_placed (drop l.placed-index l.log)) y;
   left : (x y z : List ℕ) → g.D.Disk.shown l.fn.disk ≡ Some x → g.D.Disk.shown l.disk ≡ Some y

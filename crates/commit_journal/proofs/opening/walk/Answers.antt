@@ -1,4 +1,4 @@
-use Rattle.std.proofs.Common.{◌≡◌, ◌≤◌, [], ◌∷◌, ◌++◌, false, eqb, eq-eqb, map, drop, Ok, ap, ◌∙◌, arith}
+use Rattle.std.proofs.Common.{◌≡◌, ◌≤◌, [], ◌∷◌, ◌++◌, false, eqb, eq-eqb, ◌+◌, length, map, drop, Ok, ap, ◌∙◌, arith}
 use Rattle.std.proofs.lemmas.Bool.Decides.{nat_tests}
 use Rattle.std.proofs.lemmas.List.{map_push}
 use Rattle.std.proofs.lemmas.List.Elements.{All-nil, All-cons, All-append}
@@ -13,6 +13,7 @@ use Rattle.commit_journal.proofs.Counted.{as_many, counts_all, counts_more, coun
 use Rattle.commit_journal.proofs.Judged.{fault_first}
 use Rattle.commit_journal.proofs.OwnedLemmas.{owned_before-fault, owned_before-end, owned_closed, owned_fails, owned_starts, owned_more}
 use Rattle.commit_journal.proofs.OpenedMoments.{same_twice}
+use Rattle.commit_journal.proofs.SlotsGated.{gated_all, gated_start, gated_turn}
 use Rattle.commit_journal.proofs.Walked.{only_read_twice}
 use Rattle.commit_journal.proofs.opening.walk.Goals as goal
 
@@ -25,7 +26,7 @@ returns-in_err-past-clause-verdict g c = λ s is.
 
 pub loop-past-init : goal.loop-past-init
 loop-past-init g c =
-    let on_disk : Placed → Type 0 = λ p. p.place ≤ g.D.Disk.size_of c.args.disk.now in
+    let on_disk : Placed → Type 0 = λ p. p.place + 65 ≤ g.D.Disk.size_of c.args.disk.now in
     record {
       room = record {
         behind = omega (arith, c.in_ok-past.ensures.place, c.in_ok-past.ensures.fresh.0);
@@ -35,6 +36,7 @@ loop-past-init g c =
       inside = omega (arith, c.in_ok-past.ensures.place, c.in_ok-past.ensures.inside, c.in_ok-past.ensures.read_only.same_size);
       stands = rw c.new-log.ensures (All-nil IsStanding);
       on_disk = rw c.new-log.ensures (All-nil on_disk);
+      gated = λ s is. rw c.new-log.ensures (gated_start c.in_ok-past.past s c.in_ok-past.ensures.place (c.in_ok-past.ensures.gate s is));
       read_only = c.in_ok-past.ensures.read_only;
       moments = c.in_ok-past.ensures.moments;
       counted = rw c.new-log.ensures (counts_start c.in_ok-past.past c.in_ok-past.ensures.fresh.1);
@@ -68,7 +70,7 @@ loop-past-preserved g c =
     rw c.in_ok-push.ensures.items (map_push plain_placed c.loop-past.log.items turn.placed)
     in
     let gate = eq-eqb past.gate 1 c.loop-past-test.true in
-    let on_disk : Placed → Type 0 = λ p. p.place ≤ g.D.Disk.size_of c.args.disk.now in
+    let on_disk : Placed → Type 0 = λ p. p.place + 65 ≤ g.D.Disk.size_of c.args.disk.now in
     let there : on_disk turn.placed = omega (arith, next.place, next.ahead, next.inside, c.loop-past.invariant.read_only.same_size) in
     record {
       room = record {
@@ -80,6 +82,11 @@ loop-past-preserved g c =
       stands = rw c.in_ok-push.ensures.items (All-append IsStanding c.loop-past.log.items (turn.placed ∷ []) c.loop-past.invariant.stands (All-cons IsStanding turn.placed [] c.in_ok-turn.ensures.stands (All-nil IsStanding)));
       on_disk = rw c.in_ok-push.ensures.items (All-append on_disk c.loop-past.log.items (turn.placed ∷ []) c.loop-past.invariant.on_disk (All-cons on_disk turn.placed [] there (All-nil on_disk)));
       read_only = only_read_twice g.D.Disk.shown g.D.Disk.size_of g.D.Disk.may_leave c.args.disk.now c.loop-past.disk c.read_owned.new.disk c.loop-past.invariant.read_only read;
+      gated = λ s is.
+          let judged = c.in_ok-turn.ensures.answer s (c.loop-past.invariant.read_only.same_bytes ∙ is) in
+          let sized = g.met.D.Disk.size_is_shown c.args.disk.now s is in
+          let inside : turn.past.at ≤ length s = omega (arith, next.inside, c.loop-past.invariant.read_only.same_size, sized) in
+          rw pushed (gated_turn c.args.limit owner s front past (plain_turn turn) gate judged next.place next.ahead inside room.behind (c.loop-past.invariant.gated s is));
       moments = same_twice D.shown D.may_leave D.moment D.since c.args.disk.now c.loop-past.disk c.read_owned.new.disk c.loop-past.invariant.read_only.same_bytes
           (λ left. (c.loop-past.invariant.read_only.same_stops left).0) c.loop-past.invariant.moments c.in_ok-turn.ensures.moments;
       counted = rw pushed (counts_more front past (plain_turn turn) c.in_ok-turn.ensures.in_epoch c.loop-past.invariant.counted);
@@ -100,6 +107,10 @@ returns-clause-verdict g c = λ s is.
     let shut = c.loop-past-test.false in
     let gate : eqb past.gate 1 ≡ false = grind (arith, nat_tests) in
     c.loop-past.invariant.so_far s is ∙ ap (owned_before front) (owned_closed c.args.limit owner past (drop past.at s) gate) ∙ owned_before-end front past
+
+pub returns-clause-gated : goal.returns-clause-gated
+returns-clause-gated g c = λ s is.
+    gated_all (map plain_placed c.loop-past.log.items) 42 c.loop-past.past.at s (c.loop-past.invariant.gated s is).0
 
 pub returns-clause-epochs : goal.returns-clause-epochs
 returns-clause-epochs g c = counts_all (map plain_placed c.loop-past.log.items) c.loop-past.past c.loop-past.invariant.counted

@@ -1,5 +1,5 @@
-use Rattle.std.specs.Prelude.{All}
-use Rattle.std.proofs.Common.{◌≡◌, ◌≤◌, ◌-◌, ℕ, List, Some, map}
+use Rattle.std.specs.Prelude.{All, slice_index}
+use Rattle.std.proofs.Common.{◌≡◌, ◌≤◌, ◌+◌, ◌-◌, ℕ, List, Some, map}
 use Rattle.commit_journal.specs.Moments.{IsSameThroughout}
 use Rattle.commit_journal.specs.Opening.{HasRoom}
 use Rattle.commit_journal.specs.Placed.{plain_placed}
@@ -7,6 +7,7 @@ use Rattle.commit_journal.specs.Places.{IsStanding}
 use Rattle.commit_journal.specs.Reading.{IsOnlyRead}
 use Rattle.commit_journal.proofs.Counted.{CountsOn, EndsAt}
 use Rattle.commit_journal.proofs.OwnedLemmas.{IsSoFarOwned}
+use Rattle.commit_journal.proofs.SlotsGated.{AreGatedTo}
 use Rattle.commit_journal.proofs.opening.walk.Given as goal
 
 abbrev pub invariant-loop-past : goal.invariant-loop-past
@@ -14,7 +15,8 @@ invariant-loop-past g l = record {
   room : HasRoom l.past;
   inside : l.past.at ≤ g.D.Disk.size_of l.disk;
   stands : All IsStanding l.log.items;
-  on_disk : All (λ p. p.place ≤ g.D.Disk.size_of l.fn.disk) l.log.items;
+  on_disk : All (λ p. p.place + 65 ≤ g.D.Disk.size_of l.fn.disk) l.log.items;
+  gated : (s : List ℕ) → g.D.Disk.shown l.fn.disk ≡ Some s → AreGatedTo 42 (map plain_placed l.log.items) l.past.at s × (slice_index s (l.past.at - 1) ≡ l.past.gate);
   read_only : IsOnlyRead g.D.Disk.shown g.D.Disk.size_of g.D.Disk.may_leave l.fn.disk l.disk;
   moments : IsSameThroughout g.D.Disk.shown g.D.Disk.may_leave g.D.Disk.moment g.D.Disk.since l.fn.disk l.disk;
   counted : CountsOn (map plain_placed l.log.items) l.past;
