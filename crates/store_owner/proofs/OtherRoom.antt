@@ -235,9 +235,9 @@ pub accepted_still : (r : Request) (old new : OwnerView) → HasOtherRoom old ne
 unfolding tree_store
 accepted_still r old new h accepted = subst (λ (o : OwnerView). refusal_of (own_store o) r o.file_bytes ≡ None) (sym (has_room old new h)) accepted
 
-owner_with : (o : OwnerView) (a b c d e f : ℕ) (m : Journal) → IsOwnerOf m o → IsOwnerOf m (with_room o a b c d e f)
+owner_with : (o : OwnerView) (b c d e f : ℕ) (m : Journal) → IsOwnerOf m o → IsOwnerOf m (with_room o b c d e f)
 unfolding tree_store
-owner_with o a b c d e f m is = record {
+owner_with o b c d e f m is = record {
   valid = is.valid;
   whole_keys = is.whole_keys;
   same_key = is.same_key;
@@ -248,11 +248,11 @@ owner_with o a b c d e f m is = record {
   counts = is.counts;
 }
 
-stops_before : (r : Request) (drawn : List (List ℕ)) (o : OwnerView) (was shows : Option (List ℕ)) (might may : List ℕ → Type 0) (since : List ℕ → List ℕ → Type 0) (a b c d e f : ℕ)
-    → StopsWithin r drawn (with_room o a b c d e f) was shows might may since → StopsWithin r drawn o was shows might may since
-stops_before r drawn o was shows might may since a b c d e f h = λ m is low bound fine. h m (owner_with o a b c d e f m is) low bound fine
+stops_before : (r : Request) (drawn : List (List ℕ)) (o : OwnerView) (was shows : Option (List ℕ)) (might may : List ℕ → Type 0) (since : List ℕ → List ℕ → Type 0) (b c d e f : ℕ)
+    → StopsWithin r drawn (with_room o b c d e f) was shows might may since → StopsWithin r drawn o was shows might may since
+stops_before r drawn o was shows might may since b c d e f h = λ m is low bound fine. h m (owner_with o b c d e f m is) low bound fine
 
 pub stops_from : (r : Request) (drawn : List (List ℕ)) (old between : OwnerView) (was shows : Option (List ℕ)) (might may : List ℕ → Type 0) (since : List ℕ → List ℕ → Type 0) → HasOtherRoom old between
     → StopsWithin r drawn between was shows might may since → StopsWithin r drawn old was shows might may since
 stops_from r drawn old between was shows might may since h c =
-    stops_before r drawn old was shows might may since _ _ _ _ _ _ (subst (λ (o : OwnerView). StopsWithin r drawn o was shows might may since) (has_room old between h) c)
+    stops_before r drawn old was shows might may since _ _ _ _ _ (subst (λ (o : OwnerView). StopsWithin r drawn o was shows might may since) (has_room old between h) c)
