@@ -10,7 +10,7 @@ use Rattle.store_owner.specs.Counted.{IsWithin, counted_with}
 use Rattle.store_owner.specs.declared.counted.Counted.{Counted}
 
 scaled : (n k : ℕ) → k ≤ (58 + n) * k
-scaled n k = let h : 1 * k ≤ (58 + n) * k = mul-le-mul_right {1} {58 + n} k (omega arith) in omega (arith, h)
+scaled n k = let h : 1 * k ≤ (58 + n) * k = mul-le-mul_right {m = 1} {n = 58 + n} k (omega arith) in omega (arith, h)
 
 added : (a b c d e n : ℕ) → b ≤ d → a + 8 + 98 * c + d ≤ n → c + b ≤ n
 added a b c d e n low at = omega (arith, low, at)

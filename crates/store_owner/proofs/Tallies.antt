@@ -1,10 +1,10 @@
 -- What an owner counts is what its journal's entries publish.
-use Rattle.std.proofs.Common.{◌≡◌, ℕ, ◌+◌, ◌*◌, ◌≤◌, Bool, true, false, cond, not, List, [], ◌∷◌, ◌++◌, filter, length, map, replicate, Option, None, Result, Ok, Err, append-nil, append_assoc, arith, refl, sym, ap, subst, ◌∙◌, length-append, length-map}
-use Rattle.std.specs.List.{flat_map, sum_by}
+use Rattle.std.proofs.Common.{◌≡◌, ℕ, ◌+◌, ◌*◌, ◌≤◌, Bool, true, false, cond, not, List, [], ◌∷◌, ◌++◌, filter, length, map, replicate, Option, None, Result, Ok, Err, append-nil, arith, refl, sym, ap, subst, ◌∙◌, length-append}
+use Rattle.std.proofs.lemmas.List.{length-map}
+use Rattle.std.specs.List.{flat_map}
 use Rattle.std.specs.Prelude.{IfOk, OnErr, OnOk}
 use Rattle.std.proofs.lemmas.Grind.{flat_map-append}
 use Rattle.std.proofs.lemmas.List.Elements.{filter-append}
-use Rattle.std.proofs.lemmas.List.Sums.{sum_by-append}
 use Rattle.commit_journal.specs.Image.{image}
 use Rattle.commit_journal.specs.Journals.{JournalState}
 use Rattle.cry_base.specs.Refusing.{refusal_of}
@@ -24,7 +24,7 @@ use Rattle.public_fold.specs.KeyStep.{Stepped}
 use Rattle.public_fold.specs.Keyed.{links_of}
 use Rattle.public_fold.specs.Lengths.{end_of}
 use Rattle.public_fold.specs.Preparing.{begun}
-use Rattle.public_fold.specs.Records.{Link}
+use Rattle.public_fold.specs.Records.{Content, Link}
 use Rattle.public_fold.specs.Standing.{IsSeenAs}
 use Rattle.public_fold.specs.declared.heads.Skeleton.{Skeleton}
 use Rattle.public_fold.proofs.Prefixes.{steps_grow}
@@ -63,8 +63,8 @@ counts a b c = record { commands = a; links = b; contents = c }
 abbrev links_published : Stepped → List Link
 links_published s = s.links
 
-abbrev many_contents : Stepped → ℕ
-many_contents s = length s.contents
+abbrev contents_published : Stepped → List Content
+contents_published s = s.contents
 
 none_more : (n : ℕ) → n + 0 ≡ n
 none_more n = omega arith
@@ -85,11 +85,12 @@ module _ (m : Journal) (e : Entry) where
       ∙ length-append (flat_map links_published (steps_of m)) (flat_map links_published (entry_step (stand_after nothing m) e ∷ []))
       ∙ ap (λ ls. length (flat_map links_published (steps_of m)) + length ls) (append-nil (entry_step (stand_after nothing m) e).links)
 
-  contents_more : sum_by many_contents (steps_of (m ++ e ∷ [])) ≡ sum_by many_contents (steps_of m) + length (entry_step (stand_after nothing m) e).contents
+  contents_more : length (flat_map contents_published (steps_of (m ++ e ∷ []))) ≡ length (flat_map contents_published (steps_of m)) + length (entry_step (stand_after nothing m) e).contents
   contents_more =
-      ap (sum_by many_contents) steps_more
-      ∙ sum_by-append many_contents (steps_of m) (entry_step (stand_after nothing m) e ∷ [])
-      ∙ ap (λ n. sum_by many_contents (steps_of m) + n) (none_more (length (entry_step (stand_after nothing m) e).contents))
+      ap (λ s. length (flat_map contents_published s)) steps_more
+      ∙ ap length (flat_map-append contents_published (steps_of m) (entry_step (stand_after nothing m) e ∷ []))
+      ∙ length-append (flat_map contents_published (steps_of m)) (flat_map contents_published (entry_step (stand_after nothing m) e ∷ []))
+      ∙ ap (λ cs. length (flat_map contents_published (steps_of m)) + length cs) (append-nil (entry_step (stand_after nothing m) e).contents)
 
 did_more : (m : Journal) (r : Request) (drawn : List (List ℕ)) → counted_in (m ++ Did r drawn ∷ [])
     ≡ with_command (counted_in m) (length (entry_step (stand_after nothing m) (Did r drawn)).links) (length (entry_step (stand_after nothing m) (Did r drawn)).contents)
@@ -100,7 +101,7 @@ session_more : (m : Journal) → counted_in (m ++ Session ∷ []) ≡ counted_in
 unfolding counted_in entry_step
 session_more m =
     (λ i. counts (commands_more m Session i) (links_more m Session i) (contents_more m Session i))
-    ∙ (λ i. counts (none_more (length (filter is_command m)) i) (none_more (length (links_of (steps_of m))) i) (none_more (sum_by many_contents (steps_of m)) i))
+    ∙ (λ i. counts (none_more (length (filter is_command m)) i) (none_more (length (links_of (steps_of m))) i) (none_more (length (flat_map contents_published (steps_of m))) i))
 
 between_same : (m : Journal) (has_begun : Bool) → counted_in (between m has_begun) ≡ counted_in m
 between_same m true = ap counted_in (append-nil m)
@@ -110,8 +111,7 @@ between_same m false = session_more m
 then_more : (m : Journal) (has_begun : Bool) (r : Request) (drawn : List (List ℕ)) → counted_in (journal_then m has_begun r drawn)
     ≡ with_command (counted_in m) (length (entry_step (begun (not has_begun) (stand_after nothing m)) (Did r drawn)).links) (length (entry_step (begun (not has_begun) (stand_after nothing m)) (Did r drawn)).contents)
 then_more m has_begun r drawn =
-    ap counted_in (sym (append_assoc m (cond has_begun [] (Session ∷ [])) (Did r drawn ∷ [])))
-    ∙ did_more (between m has_begun) r drawn
+    did_more (between m has_begun) r drawn
     ∙ ap (λ (c : Counted). with_command c (length (entry_step (stand_after nothing (between m has_begun)) (Did r drawn)).links) (length (entry_step (stand_after nothing (between m has_begun)) (Did r drawn)).contents)) (between_same m has_begun)
     ∙ ap (λ (at : Stand). with_command (counted_in m) (length (entry_step at (Did r drawn)).links) (length (entry_step at (Did r drawn)).contents)) (stand_between m has_begun)
 
@@ -132,7 +132,7 @@ told_counts m new r drawn file_bytes c fine =
     let told = told_step (begun new (public_stand m)) (note_of (store_of m) r (replicate 32 0)) in
     let is = skeleton_is m new r (replicate 32 0) drawn file_bytes fine (skeleton_of told) (record { keys = refl; links = refl; contents = refl }) in
     let long : length told.contents ≡ length (entry_step (begun new (stand_after nothing m)) (Did r drawn)).contents =
-    sym (length-map content_head told.contents) ∙ ap length is.contents ∙ length-map content_head (entry_step (begun new (stand_after nothing m)) (Did r drawn)).contents in
+    sym (length-map told.contents content_head) ∙ ap length is.contents ∙ length-map (entry_step (begun new (stand_after nothing m)) (Did r drawn)).contents content_head in
     (λ i. with_command c (length (is.links i)) (long i))
 
 pub counts_on : (m : Journal) (r : Request) (drawn : List (List ℕ)) (old new : OwnerView) → IsOwnerOf m old → refusal_of (store_of m) r old.file_bytes ≡ None → CountsOne r old new
@@ -161,7 +161,7 @@ one_counted r o mid new p room drafted counted = λ at s seen store.
     let step = told_step (begun (not mid.journal.has_epoch) at) (note_of s r (replicate 32 0)) in
     let same : IsSkeleton step p.ready.skeleton = subst (λ (n : Note). IsSkeleton (told_step (begun (not mid.journal.has_epoch) at) n) p.ready.skeleton) told is in
     counted
-    ∙ (λ i. with_command (room.tally i) (length (same.links i)) ((ap length same.contents ∙ length-map content_head step.contents) i))
+    ∙ (λ i. with_command (room.tally i) (length (same.links i)) ((ap length same.contents ∙ length-map step.contents content_head) i))
     ∙ ap (λ (j : JournalState). with_command o.tally (length (told_step (begun (not j.has_epoch) at) (note_of s r (replicate 32 0))).links) (length (told_step (begun (not j.has_epoch) at) (note_of s r (replicate 32 0))).contents)) room.journal
 
 done_counts : (note : Declared) (drawn : List (List ℕ)) (r : Request) (old new : OwnerView) → CountsOne r old new → CountsCommand (Ok (reply_for note drawn)) r old new

@@ -1,5 +1,6 @@
 -- The figures of a journal, and how an owner comes to them. This project's own, docs/MODEL.md.
-use Rattle.std.specs.Prelude.{◌≡◌, ℕ, Bool, true, false, not, List, filter, length, replicate, sum_by, Result, Ok, Err}
+use Rattle.std.specs.Prelude.{◌≡◌, ℕ, Bool, true, false, not, List, filter, length, replicate, Result, Ok, Err}
+use Rattle.std.specs.List.{flat_map}
 use Rattle.cry_base.specs.Requests.{Request}
 use Rattle.cry_base.specs.Store.{Store}
 use Rattle.cry_base.specs.declared.commands.Reply.{Reply}
@@ -33,7 +34,7 @@ unfoldable pub counted_in : Journal → Counted
 counted_in m = record {
   commands = length (filter is_command m);
   links = length (links_of (steps_of m));
-  contents = sum_by (λ (step : Stepped). length step.contents) (steps_of m);
+  contents = length (flat_map (λ (step : Stepped). step.contents) (steps_of m));
 }
 
 -- with the dirty roles behind it, and the end of its log
