@@ -15,9 +15,8 @@ use Rattle.cryptree_cli.specs.Script.Answered.{Begun, Then}
 use Rattle.store_owner.specs.Drawing.{AreKeys, joined}
 use Rattle.store_owner.specs.Sessions.{AnswersBehind, GoesOn, StandsAt, with_draws}
 use Rattle.store_owner.specs.Taking.{TakesKeys}
-use Rattle.store_owner.specs.Tallied.{counted_in}
 use Rattle.store_owner.proofs.OwnerGoesOn.{drops_more}
-use Rattle.store_owner.proofs.Scripted.{answered_counting}
+use Rattle.store_owner.proofs.Scripted.{answered}
 use Rattle.store_owner.proofs.Taken.{takes_more, takes_none}
 
 -- one command more at the end of a script
@@ -115,7 +114,6 @@ module _ (X : Type 0) (scene : X → Scene) (Step : X → Request → Reply → 
   pub answered_script : (limits : Limits) (key : List ℕ) (g : Going) → IsScene limits key g (scene start) → (asked : List Request) (given : List Reply) (end : X)
       → Answered Step start asked given end → (h : Going) × Goes limits g asked given h (scene start).left (scene end).left × IsScene limits key h (scene end)
       × AnswersBehind g h (scene start).owner (scene end).owner (scene start).shown (scene end).shown
-      × ((scene start).owner.tally ≡ counted_in g.journal → (scene end).owner.tally ≡ counted_in h.journal)
   answered_script limits key g stands asked given end Begun = (
     g,
     goes_nowhere limits g (scene start).left,
@@ -126,7 +124,6 @@ module _ (X : Type 0) (scene : X → Scene) (Step : X → Request → Reply → 
       no_shorter = omega arith;
       unchanged = inl refl;
     },
-    λ all. all,
   )
   answered_script limits key g stands asked given end (Then {asked = rs} {replies = told} {x = x} {y = y} {request = r} {reply = reply} before step) =
       let so_far = answered_script limits key g stands rs told x before in
@@ -134,7 +131,7 @@ module _ (X : Type 0) (scene : X → Scene) (Step : X → Request → Reply → 
       let there = so_far.2 in
       let tail = so_far.3 in
       let one = is x r reply y step in
-      let more = answered_counting limits key h r reply (scene x).owner (scene y).owner (scene x).left (scene y).left (scene x).shown (scene y).shown there
+      let more = answered limits key h r reply (scene x).owner (scene y).owner (scene x).left (scene y).left (scene x).shown (scene y).shown there
       (one.answers h.journal there.owner_is) one.shown_told one.kept in
       let next = more.3 in (
         more.0,
@@ -149,5 +146,4 @@ module _ (X : Type 0) (scene : X → Scene) (Step : X → Request → Reply → 
               (λ (same : (scene y).shown ≡ (scene x).shown). ⊎_elim (λ first. inl (same ∙ first)) (λ longer. inr (omega (arith, longer, next.no_shorter))) tail.unchanged)
               (λ longer. inr (omega (arith, longer, tail.no_shorter))) next.unchanged;
         },
-        λ all. more.4 one.counts (so_far.4 all),
       )

@@ -8,7 +8,6 @@ use Rattle.public_fold.specs.Journal.{Journal}
 use Rattle.store_owner.specs.Applying.{Answers}
 use Rattle.store_owner.specs.Owned.{IsOwnerOf, OwnerView}
 use Rattle.store_owner.specs.Taking.{FallsShort, TakesKeys}
-use Rattle.store_owner.specs.Tallied.{CountsCommand}
 use Rattle.store_owner.specs.declared.apply_fault.ApplyFault.{ApplyFault}
 use Rattle.store_owner.specs.declared.apply_fault.ApplyFault.TheVariants as faults
 
@@ -20,14 +19,13 @@ pub record Scene : Type 0 where
   pub random_faults : ℕ
   pub disk_faults : ℕ
 
--- a command that is answered: as the journal says for which the owner stands; it takes whole keys and is counted, and a refused one draws
--- and writes nothing
+-- a command that is answered: as the journal says for which the owner stands; it takes whole keys, and a refused one draws and writes
+-- nothing
 pub record AnswersIn (before : Scene) (request : Request) (reply : Reply) (after : Scene) : Type 0 where
   pub answers : (m : Journal) → IsOwnerOf m before.owner → Answers (Ok reply) m request before.owner after.owner before.left after.left before.shown after.shown
   pub left_told : is_some after.left ≡ is_some before.left
   pub shown_told : is_some after.shown ≡ is_some before.shown
   pub draws : TakesKeys before.left after.left
-  pub counts : CountsCommand (Ok reply) request before.owner after.owner
   pub kept : (why : Refusal) → reply ≡ Refused why → (after.left ≡ before.left) × (after.shown ≡ before.shown)
   pub random_counts : before.random_faults ≤ after.random_faults
   pub disk_counts : before.disk_faults ≤ after.disk_faults
