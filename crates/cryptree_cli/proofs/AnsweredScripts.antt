@@ -1,6 +1,8 @@
 -- What an owner answers to commands, one after another, is what the session's script replies.
 use Rattle.std.proofs.Common.{◌≡◌, ◌≤◌, ⊎_elim, inl, inr, ℕ, List, [], ◌∷◌, ◌++◌, drop, length, Option, Some, append_assoc, arith, refl, sym, ap, ◌∙◌}
 use Rattle.std.specs.Prelude.{is_some}
+use Rattle.batch_log.proofs.Moments.{goes_on_then}
+use Rattle.commit_journal.specs.Holding.{GoesOn as TimeGoesOn}
 use Rattle.std.proofs.lemmas.Grind.{flat_map-append}
 use Rattle.std.proofs.lemmas.List.Elements.{All-append, All-nil}
 use Rattle.cry_base.specs.Requests.{Request}
@@ -12,8 +14,10 @@ use Rattle.journal_bytes.specs.Script.{Going, answer, line_going, line_reply, sc
 use Rattle.cryptree_cli.specs.OwnerSteps.{AnswersIn, Scene}
 use Rattle.cryptree_cli.specs.Script.{Answered}
 use Rattle.cryptree_cli.specs.Script.Answered.{Begun, Then}
+use Rattle.cryptree_cli.proofs.StopLemmas.{Stays, goes_grow, stays_begun, stays_on, time_still}
 use Rattle.store_owner.specs.Drawing.{AreKeys, joined}
 use Rattle.store_owner.specs.Sessions.{AnswersBehind, GoesOn, StandsAt, with_draws}
+use Rattle.store_owner.specs.Stopping.{RestsAt}
 use Rattle.store_owner.specs.Taking.{TakesKeys}
 use Rattle.store_owner.proofs.OwnerGoesOn.{drops_more}
 use Rattle.store_owner.proofs.Scripted.{answered}
@@ -83,8 +87,8 @@ goes_further limits g h k rs given r reply first middle last told some more = re
       ∙ ap (λ last. given ++ last ∷ []) (more.replied rest);
 }
 
-module _ (X : Type 0) (scene : X → Scene) (Step : X → Request → Reply → X → Type 0)
-    (is : (x : X) (r : Request) (reply : Reply) (y : X) → Step x r reply y → AnswersIn (scene x) r reply (scene y)) (start : X) where
+module _ (X : Type 0) (scene : X → Scene) (leaves : X → List ℕ → Type 0) (since : X → ℕ → List ℕ → List ℕ → Type 0) (Step : X → Request → Reply → X → Type 0)
+    (is : (x : X) (r : Request) (reply : Reply) (y : X) → Step x r reply y → AnswersIn (scene x) r reply (scene y) (leaves x) (leaves y) (since x) (since y)) (start : X) where
   -- the counts of faults never fall
   pub counts_rise : (asked : List Request) (given : List Reply) (end : X) → Answered Step start asked given end
       → ((scene start).random_faults ≤ (scene end).random_faults) × ((scene start).disk_faults ≤ (scene end).disk_faults)
@@ -109,12 +113,31 @@ module _ (X : Type 0) (scene : X → Scene) (Step : X → Request → Reply → 
   keys_taken asked given end (Then {asked = rs} {replies = told} {x = x} {y = y} {request = r} {reply = reply} before step) =
       takes_more (scene start).left (scene x).left (scene y).left (told_stays rs told x before).0 (keys_taken rs told x before) (is x r reply y step).draws
 
+  -- what is so at a start: since this moment there is no other
+  abbrev pub IsNow : Type 0
+  IsNow = (s c : List ℕ) → since start (scene start).moment s c → ((scene start).shown ≡ Some s) × leaves start c
+
+  -- and the moment is one since an earlier one
+  abbrev pub CountsNow : Type 0
+  CountsNow = (t : ℕ) (s c : List ℕ) → t ≤ (scene start).moment → (scene start).shown ≡ Some s → leaves start c → since start t s c
+
+  -- time goes on
+  pub time_goes : IsNow → CountsNow → (asked : List Request) (given : List Reply) (end : X) → Answered Step start asked given end
+      → ((scene start).moment ≤ (scene end).moment) × TimeGoesOn (scene start).moment (since start) (since end)
+  time_goes now counts asked given end Begun = (omega arith, time_still (scene start).moment (since start) (scene start).shown (leaves start) now counts)
+  time_goes now counts asked given end (Then {asked = rs} {replies = told} {x = x} {y = y} {request = r} {reply = reply} before step) =
+      let so_far = time_goes now counts rs told x before in
+      let one = is x r reply y step in
+      (omega (arith, so_far.0, one.later), goes_on_then (scene start).moment (scene x).moment (since start) (since x) (since y) so_far.0 so_far.1 one.time)
+
   -- the session goes so, and stands where the owner does; what stands behind the log stays, and all that is shown where the journal grew
-  -- no longer
-  pub answered_script : (limits : Limits) (key : List ℕ) (g : Going) → IsScene limits key g (scene start) → (asked : List Request) (given : List Reply) (end : X)
+  -- no longer; and the disk rests there, if it rested at the start
+  pub answered_script : (limits : Limits) (key : List ℕ) (g : Going) → IsScene limits key g (scene start) → IsNow → RestsAt key g.journal (scene start).shown (leaves start)
+      → (asked : List Request) (given : List Reply) (end : X)
       → Answered Step start asked given end → (h : Going) × Goes limits g asked given h (scene start).left (scene end).left × IsScene limits key h (scene end)
       × AnswersBehind g h (scene start).owner (scene end).owner (scene start).shown (scene end).shown
-  answered_script limits key g stands asked given end Begun = (
+      × Stays key g.journal h.journal (scene start).moment (scene end).moment (scene end).shown (leaves end) (since end)
+  answered_script limits key g stands now rests asked given end Begun = (
     g,
     goes_nowhere limits g (scene start).left,
     stands,
@@ -124,15 +147,16 @@ module _ (X : Type 0) (scene : X → Scene) (Step : X → Request → Reply → 
       no_shorter = omega arith;
       unchanged = inl refl;
     },
+    stays_begun key g.journal (scene start).moment (scene start).shown (leaves start) (since start) now rests,
   )
-  answered_script limits key g stands asked given end (Then {asked = rs} {replies = told} {x = x} {y = y} {request = r} {reply = reply} before step) =
-      let so_far = answered_script limits key g stands rs told x before in
+  answered_script limits key g stands now rests asked given end (Then {asked = rs} {replies = told} {x = x} {y = y} {request = r} {reply = reply} before step) =
+      let so_far = answered_script limits key g stands now rests rs told x before in
       let h : Going = so_far.0 in
       let there = so_far.2 in
       let tail = so_far.3 in
       let one = is x r reply y step in
-      let more = answered limits key h r reply (scene x).owner (scene y).owner (scene x).left (scene y).left (scene x).shown (scene y).shown there
-      (one.answers h.journal there.owner_is) one.shown_told one.kept in
+      let more = answered limits key h r reply (scene x).owner (scene y).owner (scene x).left (scene y).left (scene x).shown (scene y).shown
+      (leaves x) (leaves y) (since y (scene x).moment) there (one.answers h.journal there.owner_is) one.shown_told one.kept in
       let next = more.3 in (
         more.0,
         goes_further limits g h more.0 rs told r reply (scene start).left (scene x).left (scene y).left (told_stays rs told x before).0 so_far.1 more.1,
@@ -146,4 +170,6 @@ module _ (X : Type 0) (scene : X → Scene) (Step : X → Request → Reply → 
               (λ (same : (scene y).shown ≡ (scene x).shown). ⊎_elim (λ first. inl (same ∙ first)) (λ longer. inr (omega (arith, longer, next.no_shorter))) tail.unchanged)
               (λ longer. inr (omega (arith, longer, tail.no_shorter))) next.unchanged;
         },
+        stays_on key g.journal h.journal more.0.journal (scene start).moment (scene x).moment (scene y).moment (scene x).shown (scene y).shown (leaves x) (leaves y) (since x) (since y)
+            so_far.4 (goes_grow limits h more.0 r (joined more.1.drawn ++ []) [] (more.1.goes [])) more.4 one.later one.time,
       )

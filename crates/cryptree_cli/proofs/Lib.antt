@@ -1,6 +1,7 @@
 pub mod AnsweredScripts
 pub mod AuditAnswers
 pub mod ChangedAnswers
+pub mod EndsMapped
 pub mod FaultedRuns
 pub mod InputLemmas
 pub mod JournalAnswers
@@ -15,4 +16,5 @@ pub mod RunEnds
 pub mod RunLemmas
 pub mod RunOpening
 pub mod ScriptLemmas
+pub mod StopLemmas
 pub mod Takings

@@ -1,12 +1,18 @@
 -- How `make` ends where the making of its store does.
-use Rattle.std.proofs.Common.{◌≡◌, ◌≢◌, ◌+◌, ◌<◌, ◌⊎◌, ℕ, List, [], Option, length, arith, refl, sym, ap, subst, inl, inr, length-append}
+use Rattle.std.proofs.Common.{◌≡◌, ◌≢◌, ◌+◌, ◌<◌, ◌⊎◌, ◌++◌, ◌∷◌, ℕ, List, [], Option, length, arith, refl, sym, ap, subst, ◌∙◌, inl, inr, length-append}
 use Rattle.std.specs.Prelude.{is_some, true, false, IsTrue}
+use Rattle.cry_io.specs.Stops.{IsDurable}
 use Rattle.cry_io.specs.Told.{WhereTold, WhereBothTold}
+use Rattle.key_links.specs.Fresh.{fresh_image, piece}
+use Rattle.journal_bytes.specs.Bytes.{image_of}
+use Rattle.journal_bytes.specs.Journals.{StandsWholeForJournal}
+use Rattle.journal_bytes.specs.Keys.{AreWhole}
+use Rattle.journal_bytes.specs.WorkedBytes.{journal_bytes}
 use Rattle.cry_io.proofs.ToldLemmas.{told_again}
 use Rattle.cry_base.specs.declared.limits.Limits.{Limits}
 use Rattle.script_text.specs.Printing.{owner_line}
 use Rattle.store_owner.specs.Making as making
-use Rattle.store_owner.specs.Owned.{OwnerView}
+use Rattle.store_owner.specs.Owned.{IsOwnerOf, OwnerView}
 use Rattle.store_owner.specs.declared.apply_fault.ApplyFault.{ApplyFault}
 use Rattle.store_owner.specs.declared.apply_fault.ApplyFault.TheVariants as faults
 use Rattle.cryptree_cli.specs.declared.status.Status.{Status}
@@ -15,15 +21,38 @@ use Rattle.cryptree_cli.specs.Running.{apply_status}
 use Rattle.cryptree_cli.specs.Status.{is_make_answer}
 use Rattle.cryptree_cli.specs.Top.{EndsShort, IsShort, Makes}
 
+-- the image of a fresh store is that of its journal
+fresh_is : (drawn : List ℕ) → image_of (piece drawn 0) (making.made_with (making.root_keys drawn)) ++ 0 ∷ [] ≡ fresh_image drawn
+unfolding journal_bytes
+fresh_is drawn = refl
+
+-- so it stands for it, with each slot filled
+fresh_stands : (drawn : List ℕ) (o : OwnerView) → IsOwnerOf (making.made_with (making.root_keys drawn)) o → o.key ≡ piece drawn 0 → (s : List ℕ) → s ≡ fresh_image drawn
+    → StandsWholeForJournal (piece drawn 0) (making.made_with (making.root_keys drawn)) s
+unfolding image_of
+fresh_stands drawn o is same s fresh = record {
+  valid = is.valid;
+  whole_keys = subst (λ k. AreWhole k (making.made_with (making.root_keys drawn))) same is.whole_keys;
+  stands = record { gate = 0; behind = []; closed = λ e. absurd cc; bytes_are = fresh ∙ sym (fresh_is drawn) };
+}
+
 -- a store whose owner's line was printed as `Prints` says
-pub makes : (Prints : List ℕ → List ℕ → List ℕ → Type 0) (limits : Limits) (o : OwnerView) (left_before left_after shown written_before written_after : Option (List ℕ))
-    → making.Makes limits left_before left_after shown o → WhereBothTold written_before written_after (Prints (owner_line o.key))
-    → Makes Prints left_before left_after shown written_before written_after
-makes Prints limits o left_before left_after shown written_before written_after store printed = record {
+pub makes : (Prints : List ℕ → List ℕ → List ℕ → Type 0) (limits : Limits) (o : OwnerView) (left_before left_after shown : Option (List ℕ)) (may_leave : List ℕ → Type 0)
+    (written_before written_after : Option (List ℕ)) → making.Makes limits left_before left_after shown o → IsDurable may_leave shown
+    → WhereBothTold written_before written_after (Prints (owner_line o.key)) → Makes Prints left_before left_after shown may_leave written_before written_after
+makes Prints limits o left_before left_after shown may_leave written_before written_after store durable printed = record {
   drawn = store.0;
   drawn_length = store.1.all_drawn;
   next = store.2;
   shows = store.3;
+  settled = λ s told.
+      let whole = fresh_stands store.0 o store.1.owner store.1.same_key s (store.3 s told) in
+      record {
+        shows = (s, told, whole);
+        leaves = λ c left.
+            let same : s ≡ c = let both = sym told ∙ durable c left in cc in
+            subst (StandsWholeForJournal (piece store.0 0) (making.made_with (making.root_keys store.0))) same whole;
+      };
   printed = subst (λ (key : List ℕ). WhereBothTold written_before written_after (Prints (owner_line key))) store.1.same_key printed;
 }
 

@@ -1,11 +1,11 @@
 -- How the lines of a run end, on a disk that shows a journal.
-use Rattle.std.proofs.Common.{◌≡◌, ◌≢◌, ⊎_elim, ℕ, drop, List, [], ◌∷◌, ◌++◌, length, map, ◌+◌, ◌*◌, Option, Some, None, Result, Ok, Err, inr, append_assoc, arith, refl, sym, ap, subst, ◌∙◌}
+use Rattle.std.proofs.Common.{◌≡◌, ◌≢◌, ⊎_elim, ℕ, Bool, cond, drop, List, [], ◌∷◌, ◌++◌, length, map, ◌+◌, ◌*◌, Option, Some, None, Result, Ok, Err, inr, append_assoc, arith, refl, sym, ap, subst, ◌∙◌}
 use Rattle.std.specs.Prelude.{is_some}
 use Rattle.std.proofs.lemmas.Bool.{false≢true}
 use Rattle.std.proofs.lemmas.List.{map-append}
-use Rattle.commit_journal.specs.Holding.{IsBetween}
+use Rattle.commit_journal.specs.Holding.{IsPrefix}
+use Rattle.commit_journal.proofs.KeptLemmas.{prefix_same}
 use Rattle.commit_journal.specs.Image.{image}
-use Rattle.commit_journal.specs.Standing.{StandsWhole}
 use Rattle.cry_base.specs.Requests.{Request}
 use Rattle.cry_base.specs.declared.commands.Reply.{Reply}
 use Rattle.cry_base.specs.declared.limits.Limits.{Limits}
@@ -13,7 +13,6 @@ use Rattle.cry_io.specs.Stops.{IsDurable}
 use Rattle.cry_io.specs.Told.{WhereBothTold}
 use Rattle.cry_io.proofs.ToldLemmas.{both_told_through}
 use Rattle.journal_bytes.specs.Bytes.{batches_of, image_of}
-use Rattle.journal_bytes.specs.Journals.{StandsForJournal}
 use Rattle.journal_bytes.specs.Script.{Going, answer, draws_of, journal_then, opened}
 use Rattle.script_text.specs.Commands.{request_in}
 use Rattle.cryptree_cli.specs.Lines.{InputLine, LineState, lines_ahead}
@@ -21,12 +20,16 @@ use Rattle.cryptree_cli.specs.Lines.InputLine.{Whole}
 use Rattle.cryptree_cli.specs.OwnerSteps.{AnswersIn, FailsIn, Scene}
 use Rattle.cryptree_cli.specs.Running.{Ends, HasRun, KeepsBehind, KeepsFrom, LeavesAt, PrintsThese, RanCut, RanShort, RanTo, RanUndrawn, RanUnwritten, Seen, SessionOver, ended_status}
 use Rattle.cryptree_cli.specs.Script.{Answered, Asks, IsBadFirst, PrintsCut, Ran, spell_replies}
+use Rattle.cryptree_cli.specs.Stopping.{LinesKeepUpTo}
 use Rattle.cryptree_cli.specs.declared.script.ScriptFault.{ScriptFault}
 use Rattle.cryptree_cli.specs.declared.script.ScriptFault.TheVariants.{BadLine, ReadFault, WriteFault, OutOfMemory, Applying}
-use Rattle.cryptree_cli.proofs.AnsweredScripts.{IsScene, answered_script, joined_more, told_stays}
+use Rattle.cryptree_cli.proofs.AnsweredScripts.{IsNow, IsScene, answered_script, joined_more, told_stays}
+use Rattle.cryptree_cli.proofs.StopLemmas.{Stays, rests_settled, stays_on, stops_on}
 use Rattle.cryptree_cli.proofs.ScriptLemmas.{whole_is_cut}
 use Rattle.public_fold.specs.Journal.{Journal}
+use Rattle.public_fold.specs.Journal.Entry.{Session, Did}
 use Rattle.store_owner.proofs.OwnerGoesOn.{drops_more}
+use Rattle.store_owner.specs.Stopping.{ComesToRest, RestsAt, StopsBetween}
 use Rattle.store_owner.specs.Applying.{Answers}
 use Rattle.store_owner.specs.Drawing.{joined}
 use Rattle.store_owner.specs.Owned.{limits_in}
@@ -82,11 +85,13 @@ abbrev pub IsCalm : (List ℕ → Type 0) → Option (List ℕ) → Result (Unit
 IsCalm may_leave shown (Err (Applying faults.DiskFault)) = Unit {0}
 IsCalm may_leave shown result = IsDurable may_leave shown
 
-module _ (X : Type 0) (scene : X → Scene) (Step : X → Request → Reply → X → Type 0) (Fails : X → Request → ApplyFault → X → Type 0)
-    (is : (x : X) (r : Request) (reply : Reply) (y : X) → Step x r reply y → AnswersIn (scene x) r reply (scene y))
-    (fails : (x : X) (r : Request) (fault : ApplyFault) (y : X) → Fails x r fault y → FailsIn (scene x) r fault (scene y))
+module _ (X : Type 0) (scene : X → Scene) (leaves : X → List ℕ → Type 0) (since : X → ℕ → List ℕ → List ℕ → Type 0)
+    (Step : X → Request → Reply → X → Type 0) (Fails : X → Request → ApplyFault → X → Type 0)
+    (is : (x : X) (r : Request) (reply : Reply) (y : X) → Step x r reply y → AnswersIn (scene x) r reply (scene y) (leaves x) (leaves y) (since x) (since y))
+    (fails : (x : X) (r : Request) (fault : ApplyFault) (y : X) → Fails x r fault y → FailsIn (scene x) r fault (scene y) (leaves x) (leaves y) (since x) (since y))
     (limits : Limits) (key : List ℕ) (m : Journal) (start end : X) (stands : IsScene limits key (opened m []) (scene start))
-    (first_shown : Option (List ℕ)) (first_kept : KeepsFrom (length (image_of key m)) first_shown (scene start).shown) (may_leave : List ℕ → Type 0)
+    (at_first : IsNow X scene leaves since Step is start) (rests_first : RestsAt key m (scene start).shown (leaves start))
+    (first_shown : Option (List ℕ)) (first_kept : KeepsFrom (length (image_of key m)) first_shown (scene start).shown)
     (old new : LineState) (left_before left_after out_before out_after : Option (List ℕ)) (b a : List ℕ) (was : left_before ≡ Some b) (now : left_after ≡ Some a) where
   abbrev HasRan : Result (Unit {0}) ScriptFault → Type 0
   HasRan result = Ran Step Fails result start end old new left_before left_after out_before out_after
@@ -102,7 +107,14 @@ module _ (X : Type 0) (scene : X → Scene) (Step : X → Request → Reply → 
   }
 
   abbrev Calm : Type 0
-  Calm = IsDurable may_leave (scene end).shown
+  Calm = IsDurable (leaves end) (scene end).shown
+
+  -- the journals up to which the lines kept what they found
+  abbrev KeepsTo : Journal → Type 0
+  KeepsTo = LinesKeepUpTo key m (since end (scene start).moment)
+
+  abbrev StaysAt : Journal → X → Type 0
+  StaysAt j x = Stays key m j (scene start).moment (scene x).moment (scene x).shown (leaves x) (since x)
 
   -- where the session stands once this was answered
   pub record StandsThere (asked : List Request) (given : List Reply) (x : X) : Type 0 where
@@ -115,11 +127,12 @@ module _ (X : Type 0) (scene : X → Scene) (Step : X → Request → Reply → 
     pub there : IsScene limits key at (scene x)
     pub keeps : KeepsBehind key m session.now first_shown (scene x).shown
     pub left_told : is_some (scene x).left ≡ is_some (scene start).left
+    pub stays : StaysAt session.now x
 
   stands_there : (asked : List Request) (given : List Reply) (x : X) → Answered Step start asked given x → StandsThere asked given x
   unfolding opened
   stands_there asked given x answered =
-      let went = answered_script X scene Step is start limits key (opened m []) stands asked given x answered in
+      let went = answered_script X scene leaves since Step is start limits key (opened m []) stands at_first rests_first asked given x answered in
       let g : Going = went.0 in
       let there = went.2 in
       let tail = went.3 in
@@ -153,21 +166,25 @@ module _ (X : Type 0) (scene : X → Scene) (Step : X → Request → Reply → 
               (λ (shown : (scene x).shown ≡ (scene start).shown). subst (λ o. KeepsFrom n first_shown o) (sym shown) first_kept)
               (λ longer. absurd (let none : ⊥ = omega (arith, longer, long) in none)) tail.unchanged;
         };
-        left_told = (told_stays X scene Step is start asked given x answered).0;
+        left_told = (told_stays X scene leaves since Step is start asked given x answered).0;
+        stays = went.4;
       }
 
-  leaves : (asked : List Request) (given : List Reply) (s : StandsThere asked given end) → Calm → LeavesAt key m s.session.now ended may_leave
-  leaves asked given s calm = record {
-    shows_whole = (s.there.disk_stands.0, s.there.disk_stands.1, subst (λ (j : Journal). StandsWhole key (batches_of key j) s.there.disk_stands.0) (sym s.same_now) s.there.disk_stands.2);
+  leaves_settled : (asked : List Request) (given : List Reply) (s : StandsThere asked given end) → Calm → LeavesAt key m s.session.now ended (leaves end)
+  leaves_settled asked given s calm = record {
+    settled = rests_settled key s.session.now (scene end).shown (leaves end) s.stays.rests;
     none_pending = calm;
     keeps = s.keeps;
   }
+
+  kept_to : (asked : List Request) (given : List Reply) (s : StandsThere asked given end) → KeepsTo s.session.now
+  kept_to asked given s = (s.stays.grown, s.stays.kept)
 
   printed : (asked : List Request) (given : List Reply) (x : X) (s : StandsThere asked given x) → WhereBothTold out_before out_after (λ y z. z ≡ y ++ spell_replies given)
       → PrintsThese s.session.replies ended
   printed asked given x s prints = subst (λ (rs : List Reply). PrintsThese rs ended) (sym s.same_replies) prints
 
-  pub ran_all : HasRan (Ok tt) → Calm → HasRun limits key m (lines_ahead old b) [] ended may_leave
+  pub ran_all : HasRan (Ok tt) → Calm → HasRun limits key m (lines_ahead old b) [] ended (leaves end) KeepsTo
   ran_all ran calm =
       let s = stands_there ran.asked ran.replies end ran.stands in
       record {
@@ -175,12 +192,13 @@ module _ (X : Type 0) (scene : X → Scene) (Step : X → Request → Reply → 
         asks = (ran.lines b a was now).0;
         session = s.session;
         draws = s.drew;
-        leaves = leaves ran.asked ran.replies s calm;
+        leaves = leaves_settled ran.asked ran.replies s calm;
+        kept = kept_to ran.asked ran.replies s;
         prints = printed ran.asked ran.replies end s ran.printed;
       }
 
   pub ran_to_bad : (line : ℕ) → HasRan (Err (BadLine line)) → old.given ≡ 1 → Calm
-      → (rest : List InputLine) × IsBadFirst rest × (run : HasRun limits key m (lines_ahead old b) rest ended may_leave) × (line ≡ length run.asked + 2)
+      → (rest : List InputLine) × IsBadFirst rest × (run : HasRun limits key m (lines_ahead old b) rest ended (leaves end) KeepsTo) × (line ≡ length run.asked + 2)
   ran_to_bad line ran first calm =
       let s = stands_there ran.asked ran.replies end ran.stands in
       let taken = ran.lines b a was now in (
@@ -191,13 +209,14 @@ module _ (X : Type 0) (scene : X → Scene) (Step : X → Request → Reply → 
           asks = taken.1;
           session = s.session;
           draws = s.drew;
-          leaves = leaves ran.asked ran.replies s calm;
+          leaves = leaves_settled ran.asked ran.replies s calm;
+          kept = kept_to ran.asked ran.replies s;
           prints = printed ran.asked ran.replies end s ran.printed;
         },
         omega (arith, ran.number, first),
       )
 
-  pub ran_to_fault : HasRan (Err ReadFault) → Calm → (rest : List InputLine) × HasRun limits key m (lines_ahead old b) rest ended may_leave
+  pub ran_to_fault : HasRan (Err ReadFault) → Calm → (rest : List InputLine) × HasRun limits key m (lines_ahead old b) rest ended (leaves end) KeepsTo
   ran_to_fault ran calm =
       let s = stands_there ran.asked ran.replies end ran.stands in (
         lines_ahead new a,
@@ -206,7 +225,8 @@ module _ (X : Type 0) (scene : X → Scene) (Step : X → Request → Reply → 
           asks = ran.lines b a was now;
           session = s.session;
           draws = s.drew;
-          leaves = leaves ran.asked ran.replies s calm;
+          leaves = leaves_settled ran.asked ran.replies s calm;
+          kept = kept_to ran.asked ran.replies s;
           prints = printed ran.asked ran.replies end s ran.printed;
         },
       )
@@ -215,7 +235,7 @@ module _ (X : Type 0) (scene : X → Scene) (Step : X → Request → Reply → 
       → WhereBothTold out_before out_after (PrintsCut s.session.replies)
   cut asked given x s prints = λ y z before after. subst (λ rs. PrintsCut rs y z) (sym s.same_replies) (prints y z before after)
 
-  pub ran_cut : HasRan (Err WriteFault) → Calm → RanCut limits key m (lines_ahead old b) ended may_leave
+  pub ran_cut : HasRan (Err WriteFault) → Calm → RanCut limits key m (lines_ahead old b) ended (leaves end) KeepsTo
   ran_cut ran calm =
       let s = stands_there ran.asked ran.replies end ran.stands in
       record {
@@ -224,11 +244,12 @@ module _ (X : Type 0) (scene : X → Scene) (Step : X → Request → Reply → 
         asks = ran.lines b a was now;
         session = s.session;
         draws = s.drew;
-        leaves = leaves ran.asked ran.replies s calm;
+        leaves = leaves_settled ran.asked ran.replies s calm;
+        kept = kept_to ran.asked ran.replies s;
         prints = cut ran.asked ran.replies end s ran.printed;
       }
 
-  pub ran_out : HasRan (Err OutOfMemory) → Calm → RanCut limits key m (lines_ahead old b) ended may_leave
+  pub ran_out : HasRan (Err OutOfMemory) → Calm → RanCut limits key m (lines_ahead old b) ended (leaves end) KeepsTo
   ran_out ran calm =
       let s = stands_there ran.asked ran.replies end ran.stands in
       let taken = ran.lines b a was now in
@@ -238,7 +259,8 @@ module _ (X : Type 0) (scene : X → Scene) (Step : X → Request → Reply → 
         asks = taken.1;
         session = s.session;
         draws = s.drew;
-        leaves = leaves ran.asked ran.replies s calm;
+        leaves = leaves_settled ran.asked ran.replies s calm;
+        kept = kept_to ran.asked ran.replies s;
         prints = cut ran.asked ran.replies end s ran.printed;
       }
 
@@ -249,7 +271,7 @@ module _ (X : Type 0) (scene : X → Scene) (Step : X → Request → Reply → 
     pub next : Request
     pub x : X
     pub s : StandsThere asked given x
-    pub failed : FailsIn (scene x) next fault (scene end)
+    pub failed : FailsIn (scene x) next fault (scene end) (leaves x) (leaves end) (since x) (since end)
     pub asks : Asks (asked ++ next ∷ []) (lines_ahead old b) (lines_ahead new a)
     pub prints : PrintsThese s.session.replies ended
 
@@ -290,22 +312,33 @@ module _ (X : Type 0) (scene : X → Scene) (Step : X → Request → Reply → 
     prints = t.prints;
   }
 
-  -- a fault that isn't the disk's leaves what is shown
-  leaves_still : (fault : ApplyFault) (t : Stopped fault) → fault ≢ faults.DiskFault → Calm → LeavesAt key m t.s.session.now ended may_leave
-  leaves_still fault t other calm =
-      let same = t.failed.unwritten other in
-      let stood = t.s.there.disk_stands in
-      record {
-        shows_whole = (stood.0, same ∙ stood.1, subst (λ (j : Journal). StandsWhole key (batches_of key j) stood.0) (sym t.s.same_now) stood.2);
-        none_pending = calm;
-        keeps = subst (λ o. KeepsBehind key m t.s.session.now first_shown o) (sym same) t.s.keeps;
-      }
-
   answers_there : (fault : ApplyFault) (t : Stopped fault)
       → Answers (Err fault) t.s.at.journal t.next (scene t.x).owner (scene end).owner (scene t.x).left (scene end).left (scene t.x).shown (scene end).shown
+      (leaves t.x) (leaves end) (since end (scene t.x).moment)
   answers_there fault t = t.failed.answers t.s.at.journal t.s.there.owner_is
 
-  pub ran_short : (given need : ℕ) → HasRan (Err (Applying (faults.RandomShort given need))) → Calm → RanShort limits key m (lines_ahead old b) given need ended may_leave
+  -- a fault that isn't the disk's leaves it at rest
+  abbrev RestsStill : (fault : ApplyFault) (t : Stopped fault) → Type 0
+  RestsStill fault t = ComesToRest (scene t.x).owner.key t.s.at.journal t.s.at.journal (scene t.x).shown (scene end).shown (leaves t.x) (leaves end) (since end (scene t.x).moment)
+
+  stays_there : (fault : ApplyFault) (t : Stopped fault) → RestsStill fault t → StaysAt t.s.session.now end
+  stays_there fault t comes =
+      let Comes : List ℕ → Journal → Type 0 = λ k j. ComesToRest k j j (scene t.x).shown (scene end).shown (leaves t.x) (leaves end) (since end (scene t.x).moment) in
+      let here : Comes key t.s.session.now = subst (λ j. Comes key j) (sym t.s.same_now) (subst (λ k. Comes k t.s.at.journal) t.s.there.has_key comes) in
+      stays_on key m t.s.session.now t.s.session.now (scene start).moment (scene t.x).moment (scene end).moment (scene t.x).shown (scene end).shown (leaves t.x) (leaves end)
+      (since t.x) (since end) t.s.stays (prefix_same t.s.session.now) here t.failed.later t.failed.time
+
+  leaves_still : (fault : ApplyFault) (t : Stopped fault) → RestsStill fault t → fault ≢ faults.DiskFault → Calm → LeavesAt key m t.s.session.now ended (leaves end)
+  leaves_still fault t comes other calm = record {
+    settled = rests_settled key t.s.session.now (scene end).shown (leaves end) (stays_there fault t comes).rests;
+    none_pending = calm;
+    keeps = subst (λ o. KeepsBehind key m t.s.session.now first_shown o) (sym (t.failed.unwritten other)) t.s.keeps;
+  }
+
+  kept_still : (fault : ApplyFault) (t : Stopped fault) → RestsStill fault t → KeepsTo t.s.session.now
+  kept_still fault t comes = let stays = stays_there fault t comes in (stays.grown, stays.kept)
+
+  pub ran_short : (given need : ℕ) → HasRan (Err (Applying (faults.RandomShort given need))) → Calm → RanShort limits key m (lines_ahead old b) given need ended (leaves end) KeepsTo
   ran_short given need ran calm =
       let t = stopped (faults.RandomShort given need) ran in
       let told = answers_there (faults.RandomShort given need) t in
@@ -317,32 +350,38 @@ module _ (X : Type 0) (scene : X → Scene) (Step : X → Request → Reply → 
             let middle = still_told (scene t.x).left (scene start).left x t.s.left_told first in
             (middle.0, t.s.drew x middle.0 first middle.1, told.4 middle.0 middle.1);
         nothing_left = told.5;
-        leaves = leaves_still (faults.RandomShort given need) t (λ e. absurd cc) calm;
+        leaves = leaves_still (faults.RandomShort given need) t told.6 (λ e. absurd cc) calm;
+        kept = kept_still (faults.RandomShort given need) t told.6;
       }
 
-  pub ran_undrawn : HasRan (Err (Applying faults.RandomFault)) → Calm → RanUndrawn limits key m (lines_ahead old b) ended may_leave
+  pub ran_undrawn : HasRan (Err (Applying faults.RandomFault)) → Calm → RanUndrawn limits key m (lines_ahead old b) ended (leaves end) KeepsTo
   ran_undrawn ran calm =
       let t = stopped faults.RandomFault ran in
+      let told = answers_there faults.RandomFault t in
       record {
-        ran = ran_to faults.RandomFault t (answers_there faults.RandomFault t).0;
+        ran = ran_to faults.RandomFault t told.0;
         drew = λ x first.
             let middle = still_told (scene t.x).left (scene start).left x t.s.left_told first in
             (middle.0, t.s.drew x middle.0 first middle.1);
-        leaves = leaves_still faults.RandomFault t (λ e. absurd cc) calm;
+        leaves = leaves_still faults.RandomFault t told.2 (λ e. absurd cc) calm;
+        kept = kept_still faults.RandomFault t told.2;
       }
 
-  pub ran_unwritten : HasRan (Err (Applying faults.DiskFault)) → RanUnwritten limits key m (lines_ahead old b) ended
+  pub ran_unwritten : HasRan (Err (Applying faults.DiskFault)) → RanUnwritten limits key m (lines_ahead old b) ended (leaves end) KeepsTo
   ran_unwritten ran =
       let t = stopped faults.DiskFault ran in
       let met = answers_there faults.DiskFault t in
       let cut_short = met.2 in
-      let bytes = still_told (scene end).shown (scene t.x).shown t.s.there.disk_stands.0 t.failed.shown_told t.s.there.disk_stands.1 in
-      let owner = (scene t.x).owner in
-      let whole : StandsWhole owner.key (batches_of owner.key t.s.at.journal) t.s.there.disk_stands.0 =
-      subst (λ k. StandsWhole k (batches_of k t.s.at.journal) t.s.there.disk_stands.0) (sym t.s.there.has_key) t.s.there.disk_stands.2 in
-      let between = cut_short.disk_stands t.s.there.disk_stands.0 bytes.0 t.s.there.disk_stands.1 bytes.1 whole in
-      let keyed = subst (λ k. IsBetween (StandsForJournal k) t.s.at.journal (journal_then t.s.at.journal owner.journal.has_epoch t.next cut_short.drawn) bytes.0) t.s.there.has_key between in
-      let went = subst (λ h. IsBetween (StandsForJournal key) t.s.at.journal (journal_then t.s.at.journal h t.next cut_short.drawn) bytes.0) (t.s.there.has_begun ∙ sym t.s.same_begun) keyed in
+      let Stops : List ℕ → Journal → Bool → Type 0 = λ k j b.
+      StopsBetween k j (journal_then j b t.next cut_short.drawn) (scene t.x).shown (scene end).shown (leaves t.x) (leaves end) (since end (scene t.x).moment) in
+      let keyed : Stops key t.s.at.journal (scene t.x).owner.journal.has_epoch = subst (λ k. Stops k t.s.at.journal (scene t.x).owner.journal.has_epoch) t.s.there.has_key cut_short.stops in
+      let begun : Stops key t.s.at.journal t.s.session.begun = subst (λ b. Stops key t.s.at.journal b) (t.s.there.has_begun ∙ sym t.s.same_begun) keyed in
+      let stops : Stops key t.s.session.now t.s.session.begun = subst (λ j. Stops key j t.s.session.begun) (sym t.s.same_now) begun in
+      let session = cond t.s.session.begun [] (Session ∷ []) in
+      let more : IsPrefix t.s.session.now (journal_then t.s.session.now t.s.session.begun t.next cut_short.drawn) =
+      (session ++ Did t.next cut_short.drawn ∷ [], sym (append_assoc t.s.session.now session (Did t.next cut_short.drawn ∷ []))) in
+      let left = stops_on key m t.s.session.now (journal_then t.s.session.now t.s.session.begun t.next cut_short.drawn) (scene start).moment (scene t.x).moment (scene t.x).shown (scene end).shown
+      (leaves t.x) (leaves end) (since t.x) (since end) t.s.stays more stops t.failed.time in
       record {
         ran = ran_to faults.DiskFault t met.0;
         last = cut_short.drawn;
@@ -351,16 +390,14 @@ module _ (X : Type 0) (scene : X → Scene) (Step : X → Request → Reply → 
         draws = both_told_through (scene start).left (scene t.x).left (scene end).left (λ x y. x ≡ joined t.s.session.drawn ++ y) (λ y z. y ≡ joined cut_short.drawn ++ z)
             (λ x z. x ≡ joined (t.s.session.drawn ++ cut_short.drawn) ++ z) t.s.left_told t.s.drew cut_short.next_bytes
             (λ x y z here then. here ∙ ap (λ rest. joined t.s.session.drawn ++ rest) then ∙ sym (joined_more t.s.session.drawn cut_short.drawn z));
-        shows_between = (
-          bytes.0,
-          bytes.1,
-          subst (λ (j : Journal). IsBetween (StandsForJournal key) j (journal_then j t.s.session.begun t.next cut_short.drawn) bytes.0) (sym t.s.same_now) went,
-        );
+        holds = left.0;
+        kept = left.1;
       }
 
-  pub ran_without : HasRan (Err (Applying faults.OutOfMemory)) → Calm → RanCut limits key m (lines_ahead old b) ended may_leave
+  pub ran_without : HasRan (Err (Applying faults.OutOfMemory)) → Calm → RanCut limits key m (lines_ahead old b) ended (leaves end) KeepsTo
   ran_without ran calm =
       let t = stopped faults.OutOfMemory ran in
+      let told = answers_there faults.OutOfMemory t in
       let fewer = asks_fewer t.asked t.next (lines_ahead old b) (lines_ahead new a) t.asks in
       record {
         asked = t.asked;
@@ -368,7 +405,8 @@ module _ (X : Type 0) (scene : X → Scene) (Step : X → Request → Reply → 
         asks = fewer.1;
         session = t.s.session;
         draws = subst (λ left. WhereBothTold (scene start).left left (λ y z. y ≡ joined t.s.session.drawn ++ z)) (sym (t.failed.undrawn refl)) t.s.drew;
-        leaves = leaves_still faults.OutOfMemory t (λ e. absurd cc) calm;
+        leaves = leaves_still faults.OutOfMemory t told.1 (λ e. absurd cc) calm;
+        kept = kept_still faults.OutOfMemory t told.1;
         prints = λ x y before after. whole_is_cut t.s.session.replies x y (t.prints x y before after);
       }
 
@@ -376,8 +414,8 @@ module _ (X : Type 0) (scene : X → Scene) (Step : X → Request → Reply → 
   never_closed ran = (stopped faults.Closed ran).failed.never_closed refl
 
   -- all of it by the status
-  pub ends_as : (result : Result (Unit {0}) ScriptFault) → HasRan result → old.given ≡ 1 → IsCalm may_leave (scene end).shown result
-      → Ends (ended_status result) limits key m (lines_ahead old b) ended may_leave
+  pub ends_as : (result : Result (Unit {0}) ScriptFault) → HasRan result → old.given ≡ 1 → IsCalm (leaves end) (scene end).shown result
+      → Ends (ended_status result) limits key m (lines_ahead old b) ended (leaves end) KeepsTo
   ends_as (Ok tt) ran first calm = ran_all ran calm
   ends_as (Err (BadLine line)) ran first calm = ran_to_bad line ran first calm
   ends_as (Err ReadFault) ran first calm = inr (ran_to_fault ran calm)

@@ -2,35 +2,66 @@
 use Rattle.std.proofs.Common.{◌≡◌, ◌≢◌, ◌≤◌, ◌<◌, ℕ, List, [], length, Option, Some, Result, Ok, Err, arith, refl, subst, ◌∙◌}
 use Rattle.std.specs.Prelude.{is_some}
 use Rattle.cry_base.specs.Requests.{Request}
+use Rattle.batch_log.proofs.Moments.{goes_on_then}
+use Rattle.commit_journal.specs.Holding.{GoesOn as TimeGoesOn}
 use Rattle.cry_base.specs.declared.commands.Reply.{Reply}
+use Rattle.cry_base.specs.declared.limits.Limits.{Limits}
 use Rattle.cry_io.specs.Stops.{IsDurable}
 use Rattle.journal_bytes.specs.Bytes.{image_of}
+use Rattle.journal_bytes.specs.Journals.{StandsWholeForJournal}
+use Rattle.journal_bytes.specs.Keys.{AreWhole}
 use Rattle.journal_bytes.specs.Script.{opened}
 use Rattle.cryptree_cli.specs.Lines.{LineState, lines_ahead}
 use Rattle.cryptree_cli.specs.OwnerSteps.{AnswersIn, FailsIn, Scene}
 use Rattle.cryptree_cli.specs.Running.{Ends, KeepsFrom, RanDry, ended_status, script_status, version_limits}
 use Rattle.cryptree_cli.specs.Script.{Answered, Ran, StaysReady}
+use Rattle.cryptree_cli.specs.Stopping.{LinesKeepUpTo}
 use Rattle.cryptree_cli.specs.declared.script.ScriptFault.{ScriptFault}
 use Rattle.cryptree_cli.specs.declared.script.ScriptFault.TheVariants.{BadLine, ReadFault, WriteFault, OutOfMemory, Applying}
 use Rattle.cryptree_cli.specs.declared.status.Status.TheVariants as statuses
-use Rattle.cryptree_cli.proofs.AnsweredScripts.{counts_rise, keys_taken, told_stays}
+use Rattle.cryptree_cli.proofs.AnsweredScripts.{counts_rise, keys_taken, time_goes, told_stays}
 use Rattle.cryptree_cli.proofs.RunEnds.{IsCalm, ends_as, still_told}
 use Rattle.public_fold.specs.Journal.{Journal}
 use Rattle.store_owner.specs.Owned.{OwnerView}
 use Rattle.store_owner.specs.Sessions.{StandsAt}
+use Rattle.store_owner.specs.Stopping.{RestsAt}
 use Rattle.store_owner.specs.Taking.{TakesKeys, keys_planned}
 use Rattle.store_owner.specs.declared.apply_fault.ApplyFault.{ApplyFault}
 use Rattle.store_owner.specs.declared.apply_fault.ApplyFault.TheVariants as faults
 
-module _ (R D : Type 0) (left : R → Option (List ℕ)) (random_faults : R → ℕ) (shown : D → Option (List ℕ)) (disk_faults : D → ℕ) (may_leave : D → List ℕ → Type 0) where
+-- an owner and a disk that stand where a session over m begins
+rests_there : (limits : Limits) (key : List ℕ) (m : Journal) (o : OwnerView) (shown : Option (List ℕ)) (may_leave : List ℕ → Type 0) → StandsAt limits key (opened m []) o shown
+    → IsDurable may_leave shown → RestsAt key m shown may_leave
+unfolding opened
+rests_there limits key m o shown may_leave stands durable =
+    let whole : StandsWholeForJournal key m stands.disk_stands.0 =
+    record { valid = stands.owner_is.valid; whole_keys = subst (λ k. AreWhole k m) stands.has_key stands.owner_is.whole_keys; stands = stands.disk_stands.2 } in
+    record { shows = (stands.disk_stands.0, stands.disk_stands.1, whole); durable = durable }
+
+module _ (R D : Type 0) (left : R → Option (List ℕ)) (random_faults : R → ℕ) (shown : D → Option (List ℕ)) (disk_faults : D → ℕ)
+    (may_leave : D → List ℕ → Type 0) (moment : D → ℕ) (since : D → ℕ → List ℕ → List ℕ → Type 0) where
   abbrev pub scene : OwnerView × R × D → Scene
-  scene x = record { owner = x.0; left = left x.1; shown = shown x.2; random_faults = random_faults x.1; disk_faults = disk_faults x.2 }
+  scene x = record { owner = x.0; left = left x.1; shown = shown x.2; moment = moment x.2; random_faults = random_faults x.1; disk_faults = disk_faults x.2 }
+
+  abbrev pub leaves : OwnerView × R × D → List ℕ → Type 0
+  leaves x = may_leave x.2
+
+  abbrev pub moments : OwnerView × R × D → ℕ → List ℕ → List ℕ → Type 0
+  moments x = since x.2
 
   abbrev pub Step : OwnerView × R × D → Request → Reply → OwnerView × R × D → Type 0
-  Step x request reply y = AnswersIn (scene x) request reply (scene y)
+  Step x request reply y = AnswersIn (scene x) request reply (scene y) (may_leave x.2) (may_leave y.2) (since x.2) (since y.2)
 
   abbrev pub Fails : OwnerView × R × D → Request → ApplyFault → OwnerView × R × D → Type 0
-  Fails x request fault y = FailsIn (scene x) request fault (scene y) × (fault ≢ faults.DiskFault → IsDurable (may_leave y.2) (shown y.2))
+  Fails x request fault y = FailsIn (scene x) request fault (scene y) (may_leave x.2) (may_leave y.2) (since x.2) (since y.2)
+      × (fault ≢ faults.DiskFault → IsDurable (may_leave y.2) (shown y.2))
+
+  -- what the disk tells of its present moment
+  abbrev pub IsPresent : Type 0
+  IsPresent = (d : D) (s c : List ℕ) → since d (moment d) s c → (shown d ≡ Some s) × may_leave d c
+
+  abbrev pub IsCounted : Type 0
+  IsCounted = (d : D) (t : ℕ) (s c : List ℕ) → t ≤ moment d → shown d ≡ Some s → may_leave d c → since d t s c
 
   module _ (start end : OwnerView × R × D) (old new : LineState) (left_before left_after out_before out_after : Option (List ℕ)) where
     abbrev HasRan : Result (Unit {0}) ScriptFault → Type 0
@@ -41,10 +72,19 @@ module _ (R D : Type 0) (left : R → Option (List ℕ)) (random_faults : R → 
     GoesOn = (is_some (left end.1) ≡ is_some (left start.1)) × (is_some (shown end.2) ≡ is_some (shown start.2))
         × (random_faults start.1 ≤ random_faults end.1) × (disk_faults start.2 ≤ disk_faults end.2)
 
+    -- time goes on
+    abbrev TimeGoes : Type 0
+    TimeGoes = (moment start.2 ≤ moment end.2) × TimeGoesOn (moment start.2) (since start.2) (since end.2)
+
+    time_to : IsPresent → IsCounted → (asked : List Request) (given : List Reply) (x : OwnerView × R × D) → Answered Step start asked given x
+        → (moment start.2 ≤ moment x.2) × TimeGoesOn (moment start.2) (since start.2) (since x.2)
+    time_to present counted asked given x answers =
+        time_goes (OwnerView × R × D) scene leaves moments Step (λ z r reply y step. step) start (present start.2) (counted start.2) asked given x answers
+
     answered_on : (asked : List Request) (given : List Reply) → Answered Step start asked given end → GoesOn
     answered_on asked given answers =
-        let told = told_stays (OwnerView × R × D) scene Step (λ x r reply y step. step) start asked given end answers in
-        let counts = counts_rise (OwnerView × R × D) scene Step (λ x r reply y step. step) start asked given end answers in
+        let told = told_stays (OwnerView × R × D) scene leaves moments Step (λ x r reply y step. step) start asked given end answers in
+        let counts = counts_rise (OwnerView × R × D) scene leaves moments Step (λ x r reply y step. step) start asked given end answers in
         (told.0, told.1, counts.0, counts.1)
 
     -- the last command met a fault
@@ -56,13 +96,13 @@ module _ (R D : Type 0) (left : R → Option (List ℕ)) (random_faults : R → 
       pub random_counts : random_faults start.1 ≤ random_faults x.1
       pub disk_counts : disk_faults start.2 ≤ disk_faults x.2
       pub taken : TakesKeys (left start.1) (left x.1)
-      pub failed : FailsIn (scene x) request fault (scene end)
+      pub failed : FailsIn (scene x) request fault (scene end) (may_leave x.2) (may_leave end.2) (since x.2) (since end.2)
 
     stops : (fault : ApplyFault) → HasRan (Err (Applying fault)) → Stops fault
     stops fault ran =
         let x : OwnerView × R × D = ran.stands.0 in
-        let told = told_stays (OwnerView × R × D) scene Step (λ z r reply y step. step) start ran.stands.1 ran.replies x ran.stands.4 in
-        let counts = counts_rise (OwnerView × R × D) scene Step (λ z r reply y step. step) start ran.stands.1 ran.replies x ran.stands.4 in
+        let told = told_stays (OwnerView × R × D) scene leaves moments Step (λ z r reply y step. step) start ran.stands.1 ran.replies x ran.stands.4 in
+        let counts = counts_rise (OwnerView × R × D) scene leaves moments Step (λ z r reply y step. step) start ran.stands.1 ran.replies x ran.stands.4 in
         record {
           x = x;
           request = ran.stands.2;
@@ -70,7 +110,7 @@ module _ (R D : Type 0) (left : R → Option (List ℕ)) (random_faults : R → 
           shown_told = told.1;
           random_counts = counts.0;
           disk_counts = counts.1;
-          taken = keys_taken (OwnerView × R × D) scene Step (λ z r reply y step. step) start ran.stands.1 ran.replies x ran.stands.4;
+          taken = keys_taken (OwnerView × R × D) scene leaves moments Step (λ z r reply y step. step) start ran.stands.1 ran.replies x ran.stands.4;
           failed = ran.stands.5.0;
         }
 
@@ -87,6 +127,18 @@ module _ (R D : Type 0) (left : R → Option (List ℕ)) (random_faults : R → 
           omega (arith, s.random_counts, s.failed.random_counts),
           omega (arith, s.disk_counts, s.failed.disk_counts),
         )
+
+    pub time_goes_on : IsPresent → IsCounted → (result : Result (Unit {0}) ScriptFault) → HasRan result → TimeGoes
+    time_goes_on present counted (Ok tt) ran = time_to present counted ran.asked ran.replies end ran.stands
+    time_goes_on present counted (Err (BadLine line)) ran = time_to present counted ran.asked ran.replies end ran.stands
+    time_goes_on present counted (Err ReadFault) ran = time_to present counted ran.asked ran.replies end ran.stands
+    time_goes_on present counted (Err WriteFault) ran = time_to present counted ran.asked ran.replies end ran.stands
+    time_goes_on present counted (Err OutOfMemory) ran = time_to present counted ran.asked ran.replies end ran.stands
+    time_goes_on present counted (Err (Applying fault)) ran =
+        let x : OwnerView × R × D = ran.stands.0 in
+        let before = time_to present counted ran.stands.1 ran.replies x ran.stands.4 in
+        let failed = ran.stands.5.0 in
+        (omega (arith, before.0, failed.later), goes_on_then (moment start.2) (moment x.2) (since start.2) (since x.2) (since end.2) before.0 before.1 failed.time)
 
     random_rose : HasRan (Err (Applying faults.RandomFault)) → random_faults start.1 < random_faults end.1
     random_rose ran = let s = stops faults.RandomFault ran in omega (arith, s.random_counts, s.failed.random_fault refl)
@@ -175,13 +227,15 @@ module _ (R D : Type 0) (left : R → Option (List ℕ)) (random_faults : R → 
     calm_but (Applying faults.OutOfMemory) calm other = calm
 
     -- on a disk that shows a journal, where the input tells
-    pub ends_so : (result : Result (Unit {0}) ScriptFault) → HasRan result → IsCalm (may_leave end.2) (shown end.2) result → old.given ≡ 1 → is_some left_after ≡ is_some left_before
+    pub ends_so : IsPresent → (result : Result (Unit {0}) ScriptFault) → HasRan result → IsCalm (may_leave end.2) (shown end.2) result → old.given ≡ 1 → is_some left_after ≡ is_some left_before
         → (b : List ℕ) → left_before ≡ Some b → (key : List ℕ) (m : Journal) (first_shown : Option (List ℕ)) → StandsAt version_limits key (opened m []) start.0 (shown start.2)
-        → KeepsFrom (length (image_of key m)) first_shown (shown start.2)
+        → IsDurable (may_leave start.2) (shown start.2) → KeepsFrom (length (image_of key m)) first_shown (shown start.2)
         → Ends (ended_status result) version_limits key m (lines_ahead old b)
         (record { left_before = left start.1; left_after = left end.1; was = first_shown; shown = shown end.2; written_before = out_before; written_after = out_after })
-        (may_leave end.2)
-    ends_so result ran calm first told b was key m first_shown stands kept =
+        (may_leave end.2) (LinesKeepUpTo key m (since end.2 (moment start.2)))
+    ends_so present result ran calm first told b was key m first_shown stands durable kept =
         let after = still_told left_after left_before b told was in
-        ends_as (OwnerView × R × D) scene Step Fails (λ x r reply y step. step) (λ x r fault y failed. failed.0) version_limits key m start end stands first_shown kept (may_leave end.2)
+        let rests = rests_there version_limits key m start.0 (shown start.2) (may_leave start.2) stands durable in
+        ends_as (OwnerView × R × D) scene leaves moments Step Fails (λ x r reply y step. step) (λ x r fault y failed. failed.0) version_limits key m start end stands
+        (present start.2) rests first_shown kept
         old new left_before left_after out_before out_after b after.0 was after.1 result ran first calm

@@ -52,17 +52,18 @@ bad_first_is_unjudged (Applying fault) reading before after gives key hands v = 
 abbrev pub seen_unopened : Option (List ℕ) → Option (List ℕ) → Option (List ℕ) → Option (List ℕ) → Seen
 seen_unopened left was shown written = record { left_before = left; left_after = left; was = was; shown = shown; written_before = written; written_after = written }
 
-unopened : (key : List ℕ) (m : Journal) (left was shown written : Option (List ℕ)) → ShowsJournal key m shown → IsUnopened key m (seen_unopened left was shown written)
-unopened key m left was shown written shows = record { undrawn = refl; shows_still = shows; unprinted = refl }
+unopened : (key : List ℕ) (m : Journal) (left was shown written : Option (List ℕ)) (KeepsTo : Journal → Type 0) → ShowsJournal key m shown → KeepsTo m
+    → IsUnopened key m (seen_unopened left was shown written) KeepsTo
+unopened key m left was shown written KeepsTo shows kept = record { undrawn = refl; shows_still = shows; unprinted = refl; kept = kept }
 
 pub first_ends : (fault : ScriptFault) → IsReading fault → (before after : List InputLine) → GivesOwner (Err fault) before after
     → (key : List ℕ) → key_in_lines before ≡ Some key → (limits : Limits) (m : Journal) (lines : List InputLine) (left was shown written : Option (List ℕ)) (may_leave : List ℕ → Type 0)
-    → ShowsJournal key m shown → Ends (script_status fault) limits key m lines (seen_unopened left was shown written) may_leave
-first_ends (BadLine line) reading before after gives key hands limits m lines left was shown written may_leave shows = absurd (none_is_none key (key_in_lines before) gives.0 hands)
-first_ends ReadFault reading before after gives key hands limits m lines left was shown written may_leave shows = inl (unopened key m left was shown written shows)
-first_ends OutOfMemory reading before after gives key hands limits m lines left was shown written may_leave shows = inl (unopened key m left was shown written shows)
-first_ends WriteFault reading before after gives key hands limits m lines left was shown written may_leave shows = absurd reading
-first_ends (Applying fault) reading before after gives key hands limits m lines left was shown written may_leave shows = absurd reading
+    (KeepsTo : Journal → Type 0) → ShowsJournal key m shown → KeepsTo m → Ends (script_status fault) limits key m lines (seen_unopened left was shown written) may_leave KeepsTo
+first_ends (BadLine line) reading before after gives key hands limits m lines left was shown written may_leave KeepsTo shows kept = absurd (none_is_none key (key_in_lines before) gives.0 hands)
+first_ends ReadFault reading before after gives key hands limits m lines left was shown written may_leave KeepsTo shows kept = inl (unopened key m left was shown written KeepsTo shows kept)
+first_ends OutOfMemory reading before after gives key hands limits m lines left was shown written may_leave KeepsTo shows kept = inl (unopened key m left was shown written KeepsTo shows kept)
+first_ends WriteFault reading before after gives key hands limits m lines left was shown written may_leave KeepsTo shows kept = absurd reading
+first_ends (Applying fault) reading before after gives key hands limits m lines left was shown written may_leave KeepsTo shows kept = absurd reading
 
 pub first_is_before : (fault : ScriptFault) → IsReading fault → (old new : ℕ) → CountsOwner (Err fault) old new → is_after_opening (script_status fault) ≡ false
 first_is_before (BadLine line) reading old new count = subst (λ n. is_after_opening (script_status (BadLine n)) ≡ false) (sym count) refl
@@ -98,12 +99,13 @@ opened_has_no_verdict key image s is = ap failure_of is
 
 -- a store that shows a journal isn't opened where the disk failed, or memory was wanting
 pub unopened_ends : (fault : OpenFault) → (fault ≡ opening.DiskFault) ⊎ (fault ≡ opening.OutOfMemory)
-    → (limits : Limits) (key : List ℕ) (m : Journal) (lines : List InputLine) (left was shown written : Option (List ℕ)) (may_leave : List ℕ → Type 0) → ShowsJournal key m shown
-    → Ends (open_status fault) limits key m lines (seen_unopened left was shown written) may_leave
-unopened_ends fault why limits key m lines left was shown written may_leave shows =
+    → (limits : Limits) (key : List ℕ) (m : Journal) (lines : List InputLine) (left was shown written : Option (List ℕ)) (may_leave : List ℕ → Type 0)
+    (KeepsTo : Journal → Type 0) → ShowsJournal key m shown → KeepsTo m
+    → Ends (open_status fault) limits key m lines (seen_unopened left was shown written) may_leave KeepsTo
+unopened_ends fault why limits key m lines left was shown written may_leave KeepsTo shows kept =
     ⊎_elim
-    (λ (e : fault ≡ opening.DiskFault). subst (λ (f : OpenFault). Ends (open_status f) limits key m lines (seen_unopened left was shown written) may_leave) (sym e) (inl (unopened key m left was shown written shows)))
-    (λ (e : fault ≡ opening.OutOfMemory). subst (λ (f : OpenFault). Ends (open_status f) limits key m lines (seen_unopened left was shown written) may_leave) (sym e) (inl (unopened key m left was shown written shows)))
+    (λ (e : fault ≡ opening.DiskFault). subst (λ (f : OpenFault). Ends (open_status f) limits key m lines (seen_unopened left was shown written) may_leave KeepsTo) (sym e) (inl (unopened key m left was shown written KeepsTo shows kept)))
+    (λ (e : fault ≡ opening.OutOfMemory). subst (λ (f : OpenFault). Ends (open_status f) limits key m lines (seen_unopened left was shown written) may_leave KeepsTo) (sym e) (inl (unopened key m left was shown written KeepsTo shows kept)))
     why
 
 -- an owner who opened a journal's store stands where a session begins

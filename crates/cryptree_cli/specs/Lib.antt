@@ -10,6 +10,7 @@ pub mod Refusing
 pub mod Running
 pub mod Script
 pub mod Status
+pub mod Stopping
 pub mod Taking
 pub mod Top
 pub mod Words

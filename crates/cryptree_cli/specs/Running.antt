@@ -1,8 +1,6 @@
 -- What `run` answers, prints and leaves: on every disk, and on one that shows a journal. This project's own, docs/FORMAT.md, "The program".
 use Rattle.std.specs.Prelude.{◌≡◌, ◌≤◌, ◌<◌, ◌⊎◌, ℕ, ◌+◌, ◌*◌, ◌==◌, nat_lt, Bool, true, false, List, [], ◌∷◌, ◌++◌, drop, length, Option, Some, None, Result, Ok, Err}
 use Rattle.commit_journal.specs.Answering.{Damaged, NotAStore, Tampered, WrongKey}
-use Rattle.commit_journal.specs.Holding.{IsBetween}
-use Rattle.commit_journal.specs.Standing.{StandsWhole}
 use Rattle.cry_base.specs.Requests.{Request}
 use Rattle.cry_base.specs.declared.commands.Reply.{Reply}
 use Rattle.cry_base.specs.declared.limits.Limits.{Limits}
@@ -13,8 +11,8 @@ use Rattle.holder_client.specs.Asking.Asking.{ToWrite}
 use Rattle.holder_client.specs.Judging.{Failure, OfBytes}
 use Rattle.public_fold.specs.Journal.{Journal}
 use Rattle.script_text.specs.Reading.{bundle_of}
-use Rattle.journal_bytes.specs.Bytes.{batches_of, image_of}
-use Rattle.journal_bytes.specs.Journals.{ShowsJournal, StandsForJournal}
+use Rattle.journal_bytes.specs.Bytes.{image_of}
+use Rattle.journal_bytes.specs.Journals.{HoldsBetween, IsSettled, ShowsJournal}
 use Rattle.journal_bytes.specs.Script.{answer, draws_of, journal_then, opened, script_going, script_replies}
 use Rattle.store_owner.specs.Drawing.{AreKeys, joined}
 use Rattle.cryptree_cli.specs.KeyLine.{owner_key}
@@ -22,6 +20,7 @@ use Rattle.cryptree_cli.specs.Input.{TakesLines}
 use Rattle.script_text.specs.Cutting.{IsOneLine}
 use Rattle.cryptree_cli.specs.Lines.{AreOfLines, InputLine, input_limit, lines_of}
 use Rattle.cryptree_cli.specs.Lines.InputLine.{Whole, TooLong}
+use Rattle.cryptree_cli.specs.Stopping.{KeepsUpTo}
 use Rattle.cryptree_cli.specs.Script.{Asks, IsBadFirst, PrintsCut, spell_replies}
 use Rattle.commit_journal.specs.declared.fault.OpenFault.{OpenFault}
 use Rattle.commit_journal.specs.declared.fault.OpenFault.TheVariants as opening
@@ -91,9 +90,10 @@ pub record SessionOver (limits : Limits) (m : Journal) (asked : List Request) : 
 abbrev pub DrawsNext : List (List ℕ) → Seen → Type 0
 DrawsNext drawn seen = WhereBothTold seen.left_before seen.left_after (λ x y. x ≡ joined drawn ++ y)
 
--- The disk shows the whole of the journal that a session made of m, with each batch published, and a stop leaves that and nothing else.
+-- The disk is settled at the journal that a session made of m: it shows the whole of it, with each batch published, and a stop leaves that
+-- and nothing else.
 pub record LeavesAt (key : List ℕ) (m now : Journal) (seen : Seen) (may_leave : List ℕ → Type 0) : Type 0 where
-  pub shows_whole : (s : List ℕ) × (seen.shown ≡ Some s) × StandsWhole key (batches_of key now) s
+  pub settled : IsSettled key now seen.shown may_leave
   pub none_pending : IsDurable may_leave seen.shown
   pub keeps : KeepsBehind key m now seen.was seen.shown
 
@@ -101,23 +101,26 @@ pub record LeavesAt (key : List ℕ) (m now : Journal) (seen : Seen) (may_leave 
 abbrev pub PrintsThese : List Reply → Seen → Type 0
 PrintsThese replies seen = WhereBothTold seen.written_before seen.written_after (λ b a. a ≡ b ++ spell_replies replies)
 
--- The first lines were asked, and all of them answered: what was replied is printed, and the disk is where the session stands.
-pub record HasRun (limits : Limits) (key : List ℕ) (m : Journal) (lines rest : List InputLine) (seen : Seen) (may_leave : List ℕ → Type 0) : Type 0 where
+-- The first lines were asked, and all of them answered: what was replied is printed, and the disk is where the session stands. That is the
+-- journal up to which the run kept what it found; so it is in the records behind this one.
+pub record HasRun (limits : Limits) (key : List ℕ) (m : Journal) (lines rest : List InputLine) (seen : Seen) (may_leave : List ℕ → Type 0) (KeepsTo : Journal → Type 0) : Type 0 where
   pub asked : List Request
   pub asks : Asks asked lines rest
   pub session : SessionOver limits m asked
   pub draws : DrawsNext session.drawn seen
   pub leaves : LeavesAt key m session.now seen may_leave
+  pub kept : KeepsTo session.now
   pub prints : PrintsThese session.replies seen
 
 -- The first lines were asked and answered, and what was replied is printed but for some of the last reply.
-pub record RanCut (limits : Limits) (key : List ℕ) (m : Journal) (lines : List InputLine) (seen : Seen) (may_leave : List ℕ → Type 0) : Type 0 where
+pub record RanCut (limits : Limits) (key : List ℕ) (m : Journal) (lines : List InputLine) (seen : Seen) (may_leave : List ℕ → Type 0) (KeepsTo : Journal → Type 0) : Type 0 where
   pub asked : List Request
   pub rest : List InputLine
   pub asks : Asks asked lines rest
   pub session : SessionOver limits m asked
   pub draws : DrawsNext session.drawn seen
   pub leaves : LeavesAt key m session.now seen may_leave
+  pub kept : KeepsTo session.now
   pub prints : WhereBothTold seen.written_before seen.written_after (PrintsCut session.replies)
 
 -- The first lines were asked and answered, and what was replied is printed; and then one was asked that is accepted where the session
@@ -132,50 +135,53 @@ pub record RanTo (limits : Limits) (m : Journal) (lines : List InputLine) (seen 
   pub prints : PrintsThese session.replies seen
 
 -- For that one random bytes were wanting: so many were left of those that it draws. The disk is where the session stood before it.
-pub record RanShort (limits : Limits) (key : List ℕ) (m : Journal) (lines : List InputLine) (left need : ℕ) (seen : Seen) (may_leave : List ℕ → Type 0) : Type 0 where
+pub record RanShort (limits : Limits) (key : List ℕ) (m : Journal) (lines : List InputLine) (left need : ℕ) (seen : Seen) (may_leave : List ℕ → Type 0) (KeepsTo : Journal → Type 0) : Type 0 where
   pub ran : RanTo limits m lines seen
   pub is_need : need ≡ 32 * draws_of ran.session.now ran.next
   pub is_short : left < need
   pub were_left : WhereTold seen.left_before (λ x. (last : List ℕ) × (x ≡ joined ran.session.drawn ++ last) × (length last ≡ left))
   pub nothing_left : WhereTold seen.left_after (λ y. y ≡ [])
   pub leaves : LeavesAt key m ran.session.now seen may_leave
+  pub kept : KeepsTo ran.session.now
 
 -- Or the random source failed in it. The disk is where the session stood before it.
-pub record RanUndrawn (limits : Limits) (key : List ℕ) (m : Journal) (lines : List InputLine) (seen : Seen) (may_leave : List ℕ → Type 0) : Type 0 where
+pub record RanUndrawn (limits : Limits) (key : List ℕ) (m : Journal) (lines : List InputLine) (seen : Seen) (may_leave : List ℕ → Type 0) (KeepsTo : Journal → Type 0) : Type 0 where
   pub ran : RanTo limits m lines seen
   pub drew : WhereTold seen.left_before (λ x. (more : List ℕ) × (x ≡ joined ran.session.drawn ++ more))
   pub leaves : LeavesAt key m ran.session.now seen may_leave
+  pub kept : KeepsTo ran.session.now
 
--- Or it drew its keys and met a fault of the disk: that shows the journal as it was before, or with the session begun, or with the
--- command too.
-pub record RanUnwritten (limits : Limits) (key : List ℕ) (m : Journal) (lines : List InputLine) (seen : Seen) : Type 0 where
+-- Or it drew its keys and met a fault of the disk: what that shows, and whatever a stop may leave, stands for the journal as it was before, or
+-- with the session begun, or with the command too.
+pub record RanUnwritten (limits : Limits) (key : List ℕ) (m : Journal) (lines : List InputLine) (seen : Seen) (may_leave : List ℕ → Type 0) (KeepsTo : Journal → Type 0) : Type 0 where
   pub ran : RanTo limits m lines seen
   pub last : List (List ℕ)
   pub last_count : length last ≡ draws_of ran.session.now ran.next
   pub last_sizes : AreKeys last
   pub draws : DrawsNext (ran.session.drawn ++ last) seen
-  pub shows_between : (s : List ℕ) × (seen.shown ≡ Some s)
-      × IsBetween (StandsForJournal key) ran.session.now (journal_then ran.session.now ran.session.begun ran.next last) s
+  pub holds : HoldsBetween key ran.session.now (journal_then ran.session.now ran.session.begun ran.next last) seen.shown may_leave
+  pub kept : KeepsTo (journal_then ran.session.now ran.session.begun ran.next last)
 
 -- The store wasn't opened: nothing was drawn or printed, and the disk shows the journal still.
-pub record IsUnopened (key : List ℕ) (m : Journal) (seen : Seen) : Type 0 where
+pub record IsUnopened (key : List ℕ) (m : Journal) (seen : Seen) (KeepsTo : Journal → Type 0) : Type 0 where
   pub undrawn : seen.left_after ≡ seen.left_before
   pub shows_still : ShowsJournal key m seen.shown
   pub unprinted : seen.written_after ≡ seen.written_before
+  pub kept : KeepsTo m
 
 -- How `run` ends on a disk that shows a journal, where the input tells: at Done all lines were asked, before a bad line those before it.
 -- What the bytes of a store answer comes on no such disk.
-abbrev pub Ends : Status → Limits → List ℕ → Journal → List InputLine → Seen → (List ℕ → Type 0) → Type 0
-Ends statuses.Done limits key m lines seen may_leave = HasRun limits key m lines [] seen may_leave
-Ends (statuses.BadScript line) limits key m lines seen may_leave =
-    (rest : List InputLine) × IsBadFirst rest × (run : HasRun limits key m lines rest seen may_leave) × (line ≡ length run.asked + 2)
-Ends statuses.ReadFault limits key m lines seen may_leave = IsUnopened key m seen ⊎ ((rest : List InputLine) × HasRun limits key m lines rest seen may_leave)
-Ends (statuses.RandomShort left need) limits key m lines seen may_leave = RanShort limits key m lines left need seen may_leave
-Ends statuses.RandomFault limits key m lines seen may_leave = RanUndrawn limits key m lines seen may_leave
-Ends statuses.WriteFault limits key m lines seen may_leave = RanCut limits key m lines seen may_leave
-Ends statuses.DiskFault limits key m lines seen may_leave = IsUnopened key m seen ⊎ RanUnwritten limits key m lines seen
-Ends statuses.OutOfMemory limits key m lines seen may_leave = IsUnopened key m seen ⊎ RanCut limits key m lines seen may_leave
-Ends _ limits key m lines seen may_leave = ⊥
+abbrev pub Ends : Status → Limits → List ℕ → Journal → List InputLine → Seen → (List ℕ → Type 0) → (Journal → Type 0) → Type 0
+Ends statuses.Done limits key m lines seen may_leave KeepsTo = HasRun limits key m lines [] seen may_leave KeepsTo
+Ends (statuses.BadScript line) limits key m lines seen may_leave KeepsTo =
+    (rest : List InputLine) × IsBadFirst rest × (run : HasRun limits key m lines rest seen may_leave KeepsTo) × (line ≡ length run.asked + 2)
+Ends statuses.ReadFault limits key m lines seen may_leave KeepsTo = IsUnopened key m seen KeepsTo ⊎ ((rest : List InputLine) × HasRun limits key m lines rest seen may_leave KeepsTo)
+Ends (statuses.RandomShort left need) limits key m lines seen may_leave KeepsTo = RanShort limits key m lines left need seen may_leave KeepsTo
+Ends statuses.RandomFault limits key m lines seen may_leave KeepsTo = RanUndrawn limits key m lines seen may_leave KeepsTo
+Ends statuses.WriteFault limits key m lines seen may_leave KeepsTo = RanCut limits key m lines seen may_leave KeepsTo
+Ends statuses.DiskFault limits key m lines seen may_leave KeepsTo = IsUnopened key m seen KeepsTo ⊎ RanUnwritten limits key m lines seen may_leave KeepsTo
+Ends statuses.OutOfMemory limits key m lines seen may_leave KeepsTo = IsUnopened key m seen KeepsTo ⊎ RanCut limits key m lines seen may_leave KeepsTo
+Ends _ limits key m lines seen may_leave KeepsTo = ⊥
 
 -- how `run` may end
 abbrev pub is_run_answer : Status → Bool
@@ -268,10 +274,10 @@ is_after_opening _ = false
 abbrev pub JudgesTyped : Status → List ℕ → List ℕ → Type 0
 JudgesTyped status typed image = (key : List ℕ) → key_in_lines (lines_in typed) ≡ Some key → Judges status (verdict (ToWrite key) image)
 
--- how it ends for each journal with that key that the disk showed
-abbrev pub EndsTyped : Status → List ℕ → Seen → (List ℕ → Type 0) → Type 0
-EndsTyped status typed seen may_leave = (key : List ℕ) (m : Journal) → key_in_lines (lines_in typed) ≡ Some key → ShowsJournal key m seen.was
-    → Ends status version_limits key m (lines_behind (lines_in typed)) seen may_leave
+-- how it ends for each journal with that key that the disk showed, with what a stop might leave before, at each moment since, and after
+abbrev pub EndsTyped : Status → List ℕ → Seen → (List ℕ → Type 0) → (List ℕ → List ℕ → Type 0) → (List ℕ → Type 0) → Type 0
+EndsTyped status typed seen could_leave since may_leave = (key : List ℕ) (m : Journal) → key_in_lines (lines_in typed) ≡ Some key → ShowsJournal key m seen.was
+    → Ends status version_limits key m (lines_behind (lines_in typed)) seen may_leave (KeepsUpTo key m seen.was could_leave since)
 
 -- ---- on every disk
 

@@ -2,6 +2,8 @@
 use Rattle.std.specs.Prelude.{◌≡◌, ◌<◌, ◌≤◌, ◌⊎◌, ℕ, List, [], ◌++◌, length, take, Option, Some, None}
 use Rattle.cry_base.specs.Listed.{Listed}
 use Rattle.cry_io.specs.Told.{WhereTold, WhereBothTold}
+use Rattle.journal_bytes.specs.Journals.{IsSettled}
+use Rattle.store_owner.specs.Making.{made_with, root_keys}
 use Rattle.cryptree_cli.specs.declared.status.Status.{Status}
 use Rattle.cryptree_cli.specs.declared.status.Status.TheVariants.{RandomFault, RandomShort, OutOfMemory}
 use Rattle.cryptree_cli.specs.declared.words.Form.{Form}
@@ -54,13 +56,14 @@ PrintsAll piece before after = after ≡ before ++ piece
 abbrev pub PrintsFront : List ℕ → List ℕ → List ℕ → Type 0
 PrintsFront piece before after = (n : ℕ) × (n ≤ length piece) × (after ≡ before ++ take n piece)
 
--- The next 192 bytes of the random source were drawn, the disk shows the store that they make, and its owner's line
+-- The next 192 bytes of the random source were drawn, the disk shows the store that they make, settled at its journal, and its owner's line
 -- was printed as `Prints` says.
-pub record Makes (Prints : List ℕ → List ℕ → List ℕ → Type 0) (left_before left_after shown written_before written_after : Option (List ℕ)) : Type 0 where
+pub record Makes (Prints : List ℕ → List ℕ → List ℕ → Type 0) (left_before left_after shown : Option (List ℕ)) (may_leave : List ℕ → Type 0) (written_before written_after : Option (List ℕ)) : Type 0 where
   pub drawn : List ℕ
   pub drawn_length : length drawn ≡ 192
   pub next : WhereBothTold left_before left_after (λ before after. before ≡ drawn ++ after)
   pub shows : WhereTold shown (λ s. s ≡ fresh_image drawn)
+  pub settled : WhereTold shown (λ s. IsSettled (piece drawn 0) (made_with (root_keys drawn)) shown may_leave)
   pub printed : WhereBothTold written_before written_after (Prints (line_drawn drawn))
 
 -- the source ended after so many bytes of the 192 that `make` draws, and they are gone

@@ -34,9 +34,9 @@ pub(crate) fn make<R: Source, D: Disk, W: Sink>(
     ensures write_fault { result ≡ Status.WriteFault → W.faults out.old < W.faults out.new }
 
     ensures made { result ≡ Status.Done → Makes PrintsAll
-        (R.left random.old) (R.left random.new) (D.shown disk.new) (W.written out.old) (W.written out.new) }
+        (R.left random.old) (R.left random.new) (D.shown disk.new) (D.may_leave disk.new) (W.written out.old) (W.written out.new) }
     ensures cut_short { result ≡ Status.WriteFault → Makes PrintsFront
-        (R.left random.old) (R.left random.new) (D.shown disk.new) (W.written out.old) (W.written out.new) }
+        (R.left random.old) (R.left random.new) (D.shown disk.new) (D.may_leave disk.new) (W.written out.old) (W.written out.new) }
     ensures stays { (result ≡ Status.Done) ⊎ (result ≡ Status.WriteFault) →
         IsDurable (D.may_leave disk.new) (D.shown disk.new) × (D.size_of disk.new ≡ 819) }
 

@@ -1,6 +1,7 @@
 //! The command `run`: the owner's line, then the store opened for writing, then each command's line answered before the next is
 //! read, in this order.
 ghost use Rattle.std.specs.Prelude.{◌≡◌, ◌≢◌, ◌⊎◌, ◌+◌, ◌<◌, ◌≤◌, ℕ, [], List, Err, IfErr, OnOk, None, Option, Some, false, is_some, length, IsTrue};
+ghost use Rattle.commit_journal.specs.Holding.{GoesOn};
 ghost use Rattle.cry_io.specs.Stops.{IsDurable};
 ghost use Rattle.cry_io.specs.Told.{WhereTold, WhereBothTold};
 ghost use Rattle.holder_client.specs.Judging.{Failure};
@@ -13,6 +14,7 @@ ghost use Rattle.cryptree_cli.specs.Refusing.{Refuses, is_refusal};
 ghost use Rattle.cryptree_cli.specs.Running as running;
 ghost use Rattle.cryptree_cli.specs.Running.{CountsOwner, Ends, EndsTyped, KeepsFrom, FirstIsBad, GivesOwner, HasBadLine, Judges, JudgesTyped, RanDry, RanLines, RanTaking, ReadsWhole, ReadsWholeTyped, TakesBehindFirst, TakesTo, is_after_opening, is_before_opening, is_run_answer, key_in_lines, lines_in, lines_typed, seen_from, version_limits};
 ghost use Rattle.cryptree_cli.specs.Script.{IsReading, ReadsByCount};
+ghost use Rattle.cryptree_cli.specs.Stopping.{LinesKeepUpTo};
 ghost use Rattle.cryptree_cli.specs.Taking.{TakesOne};
 
 use crate::key_line::read_owner;
@@ -43,7 +45,10 @@ pub(crate) fn run<S: Source, R: Source, D: Disk, W: Sink>(
     ensures first_line { WhereTold (S.left input.old) (λ typed. key_in_lines (lines_in typed) ≡ None → FirstIsBad result) }
     ensures judged { WhereTold (S.left input.old) (λ typed. WhereTold (D.shown disk.old) (λ image. JudgesTyped result typed image)) }
     ensures ran { WhereTold (S.left input.old) (λ typed. EndsTyped result typed
-        (seen_from (R.left random.old) (R.left random.new) (D.shown disk.old) (D.shown disk.new) (W.written out.old) (W.written out.new)) (D.may_leave disk.new)) }
+        (seen_from (R.left random.old) (R.left random.new) (D.shown disk.old) (D.shown disk.new) (W.written out.old) (W.written out.new))
+        (D.may_leave disk.old) (D.since disk.new (D.moment disk.old)) (D.may_leave disk.new)) }
+    ensures later { D.moment disk.old ≤ D.moment disk.new }
+    ensures time { GoesOn (D.moment disk.old) (D.since disk.old) (D.since disk.new) }
     ensures lines { RanLines result lines_typed (S.left input.old) (W.written out.old) (W.written out.new) }
     ensures takes { RanTaking result lines_typed TakesTo (S.left input.old) (S.left input.new) (W.written out.old) (W.written out.new) }
     ensures bad_line { WhereTold (S.left input.old) (λ typed. HasBadLine (lines_typed typed) → result ≢ Status.Done) }
@@ -125,7 +130,10 @@ fn apply_lines<S: Source, R: Source, D: Disk, W: Sink>(
     ensures ran { WhereTold (S.left input.old) (λ left. (key : List ℕ) (m : Journal) (was : Option (List ℕ)) →
         StandsAt version_limits key (opened m []) owner (D.shown disk.old) → KeepsFrom (length (image_of key m)) was (D.shown disk.old) →
         Ends result version_limits key m (lines_ahead reader left)
-        (seen_from (R.left random.old) (R.left random.new) was (D.shown disk.new) (W.written out.old) (W.written out.new)) (D.may_leave disk.new)) }
+        (seen_from (R.left random.old) (R.left random.new) was (D.shown disk.new) (W.written out.old) (W.written out.new))
+        (D.may_leave disk.new) (LinesKeepUpTo key m (D.since disk.new (D.moment disk.old)))) }
+    ensures later { D.moment disk.old ≤ D.moment disk.new }
+    ensures time { GoesOn (D.moment disk.old) (D.since disk.old) (D.since disk.new) }
     ensures lines { RanLines result (lines_ahead reader) (S.left input.old) (W.written out.old) (W.written out.new) }
     ensures takes { RanTaking result (lines_ahead reader) (TakesBehindFirst (bytes_ahead reader)) (S.left input.old) (S.left input.new) (W.written out.old) (W.written out.new) }
     ensures short { (left need : ℕ) → result ≡ Status.RandomShort left need → RanDry left need (R.left random.old) (R.left random.new) }

@@ -1,5 +1,6 @@
 //! The call that the program makes.
 ghost use Rattle.std.specs.Prelude.{◌≡◌, ◌≢◌, ◌<◌, ◌≤◌, ◌⊎◌, ◌↔◌, ℕ, [], length, is_some, None, IsTrue, IsSome};
+ghost use Rattle.commit_journal.specs.Holding.{GoesOn};
 ghost use Rattle.cry_io.specs.Stops.{IsDurable};
 ghost use Rattle.cry_io.specs.Told.{WhereTold, WhereBothTold};
 ghost use Rattle.cryptree_cli.specs.Changed.{AreLinesOf, AreSightsOf, PrintsWritten};
@@ -63,9 +64,9 @@ pub fn top<S: Source, R: Source, D: Disk, W: Sink>(
 
     // What `make` does: at a write fault the whole store stands all the same.
     ensures made { IsMake words.now.items → result ≡ Status.Done → Makes PrintsAll
-        (R.left random.old) (R.left random.new) (D.shown disk.new) (W.written out.old) (W.written out.new) }
+        (R.left random.old) (R.left random.new) (D.shown disk.new) (D.may_leave disk.new) (W.written out.old) (W.written out.new) }
     ensures cut_short { IsMake words.now.items → result ≡ Status.WriteFault → Makes PrintsFront
-        (R.left random.old) (R.left random.new) (D.shown disk.new) (W.written out.old) (W.written out.new) }
+        (R.left random.old) (R.left random.new) (D.shown disk.new) (D.may_leave disk.new) (W.written out.old) (W.written out.new) }
     ensures stays { IsMake words.now.items → (result ≡ Status.Done) ⊎ (result ≡ Status.WriteFault) →
         IsDurable (D.may_leave disk.new) (D.shown disk.new) × (D.size_of disk.new ≡ 819) }
 
@@ -84,9 +85,13 @@ pub fn top<S: Source, R: Source, D: Disk, W: Sink>(
     ensures run_short { IsRun words.now.items → (left need : ℕ) → result ≡ Status.RandomShort left need → RanDry left need (R.left random.old) (R.left random.new) }
 
     // On a disk that shows a journal it ends as that journal's session does, whatever it ends with, and whether or not the random
-    // source tells what it has: there are keys for the accepted commands with which the session goes so.
+    // source tells what it has: there are keys for the accepted commands with which the session goes so. With the same keys it says what
+    // a stop may leave at each moment of the call, and behind it (specs/Stopping).
     ensures ran { IsRun words.now.items → WhereTold (S.left input.old) (λ typed. EndsTyped result typed
-        (seen_from (R.left random.old) (R.left random.new) (D.shown disk.old) (D.shown disk.new) (W.written out.old) (W.written out.new)) (D.may_leave disk.new)) }
+        (seen_from (R.left random.old) (R.left random.new) (D.shown disk.old) (D.shown disk.new) (W.written out.old) (W.written out.new))
+        (D.may_leave disk.old) (D.since disk.new (D.moment disk.old)) (D.may_leave disk.new)) }
+    ensures run_later { IsRun words.now.items → D.moment disk.old ≤ D.moment disk.new }
+    ensures run_time { IsRun words.now.items → GoesOn (D.moment disk.old) (D.since disk.old) (D.since disk.new) }
     ensures run_read_to_end { IsRun words.now.items → result ≡ Status.Done → WhereTold (S.left input.new) (λ rest. rest ≡ []) }
     ensures run_read_whole_lines { IsRun words.now.items → result ≡ Status.ReadFault → WhereBothTold (S.left input.old) (S.left input.new) ReadsWholeTyped }
     ensures run_stays { IsRun words.now.items → IsTrue (is_after_opening result) → IsDurable (D.may_leave disk.new) (D.shown disk.new) }

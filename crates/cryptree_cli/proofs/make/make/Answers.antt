@@ -17,16 +17,16 @@ pub returns-in-Ok-make-clause-made : goal.returns-in-Ok-make-clause-made
 returns-in-Ok-make-clause-made g c = λ done.
     let left = g.R.Source.left in
     let written = g.W.Sink.written in
-    makes PrintsAll version_limits c.in-Ok-make.owner (left c.args.random.now) (left c.make.new.random) (g.D.Disk.shown c.make.new.disk)
-    (written c.args.out.now) (written c.tell.new.out) c.in-Ok-make.ensures.made
+    makes PrintsAll version_limits c.in-Ok-make.owner (left c.args.random.now) (left c.make.new.random) (g.D.Disk.shown c.make.new.disk) (g.D.Disk.may_leave c.make.new.disk)
+    (written c.args.out.now) (written c.tell.new.out) c.in-Ok-make.ensures.made c.in-Ok-make.ensures.durable
     (subst (λ (key : List ℕ). WhereBothTold (written c.args.out.now) (written c.tell.new.out) (PrintsAll (owner_line key))) c.key.ensures (c.tell.ensures.printed done))
 
 pub returns-in-Ok-make-clause-cut_short : goal.returns-in-Ok-make-clause-cut_short
 returns-in-Ok-make-clause-cut_short g c = λ failed.
     let left = g.R.Source.left in
     let written = g.W.Sink.written in
-    makes PrintsFront version_limits c.in-Ok-make.owner (left c.args.random.now) (left c.make.new.random) (g.D.Disk.shown c.make.new.disk)
-    (written c.args.out.now) (written c.tell.new.out) c.in-Ok-make.ensures.made
+    makes PrintsFront version_limits c.in-Ok-make.owner (left c.args.random.now) (left c.make.new.random) (g.D.Disk.shown c.make.new.disk) (g.D.Disk.may_leave c.make.new.disk)
+    (written c.args.out.now) (written c.tell.new.out) c.in-Ok-make.ensures.made c.in-Ok-make.ensures.durable
     (subst (λ (key : List ℕ). WhereBothTold (written c.args.out.now) (written c.tell.new.out) (PrintsFront (owner_line key))) c.key.ensures (c.tell.ensures.cut_short failed))
 
 pub returns-in-Err-clause-short : goal.returns-in-Err-clause-short

@@ -1,29 +1,66 @@
 use Rattle.std.proofs.Common.{◌≡◌, ◌≤◌, IsTrue, false, length, Ok, Err, sym, ap, subst, ◌∙◌}
 use Rattle.cryptree_cli.specs.Lines.{bytes_ahead, lines_ahead}
 use Rattle.cryptree_cli.specs.Running.{Ends, Judges, RanLines, RanTaking, TakesBehindFirst, is_before_opening, is_run_answer, version_limits}
+use Rattle.cryptree_cli.specs.Stopping.{LinesKeepUpTo}
 use Rattle.cryptree_cli.proofs.FaultedRuns.{after_no_disk_fault, faulted_answers, faulted_behind, faulted_judges}
 use Rattle.cryptree_cli.proofs.LinesRun.{ran_lines, ran_taking}
 use Rattle.cryptree_cli.proofs.ReadFaults.{cut_lines}
-use Rattle.cryptree_cli.proofs.RunLemmas.{Fails, Step, calm_but, calm_is, disk_fault, ends_so, goes_on, random_fault, random_short}
+use Rattle.cryptree_cli.proofs.RunLemmas.{Fails, Step, calm_but, calm_is, disk_fault, ends_so, goes_on, random_fault, random_short, time_goes_on}
 use Rattle.store_owner.specs.Owned.{OwnerView}
 use Rattle.cryptree_cli.proofs.run.apply_lines.Goals as goal
 
 pub returns-in-Ok-clause-ran : goal.returns-in-Ok-clause-ran
 returns-in-Ok-clause-ran g c = λ x was key m first_shown stands kept.
-    let calm = calm_is g.row.R.Denot g.row.D.Denot g.R.Source.left g.R.Source.faults g.D.Disk.shown g.D.Disk.faults g.D.Disk.may_leave
+    let calm = calm_is g.row.R.Denot g.row.D.Denot g.R.Source.left g.R.Source.faults g.D.Disk.shown g.D.Disk.faults g.D.Disk.may_leave g.D.Disk.moment g.D.Disk.since
     (c.args.owner, c.args.random.now, c.args.disk.now) (c.run_lines.new.owner, c.run_lines.new.random, c.run_lines.new.disk)
     c.args.reader c.run_lines.new.reader (g.S.Source.left c.args.input.now) (g.S.Source.left c.run_lines.new.input)
     (g.W.Sink.written c.args.out.now) (g.W.Sink.written c.run_lines.new.out)
     (c.run_lines.new.owner.journal.is_closed ≡ false) (c.run_lines.new.owner.journal.end ≤ g.D.Disk.size_of c.run_lines.new.disk) (Ok tt) c.in-Ok.ensures.ran c.in-Ok.ensures.ready in
-    ends_so g.row.R.Denot g.row.D.Denot g.R.Source.left g.R.Source.faults g.D.Disk.shown g.D.Disk.faults g.D.Disk.may_leave
+    ends_so g.row.R.Denot g.row.D.Denot g.R.Source.left g.R.Source.faults g.D.Disk.shown g.D.Disk.faults g.D.Disk.may_leave g.D.Disk.moment g.D.Disk.since
     (c.args.owner, c.args.random.now, c.args.disk.now) (c.run_lines.new.owner, c.run_lines.new.random, c.run_lines.new.disk)
     c.args.reader c.run_lines.new.reader (g.S.Source.left c.args.input.now) (g.S.Source.left c.run_lines.new.input)
     (g.W.Sink.written c.args.out.now) (g.W.Sink.written c.run_lines.new.out)
-    (Ok tt) c.in-Ok.ensures.ran calm c.requires.second c.in-Ok.ensures.input_told x was key m first_shown stands kept
+    (λ d s left at. g.met.D.Disk.only_now d s left at) (Ok tt) c.in-Ok.ensures.ran calm c.requires.second c.in-Ok.ensures.input_told x was key m first_shown stands c.requires.durable kept
+
+pub returns-in-Ok-clause-later : goal.returns-in-Ok-clause-later
+returns-in-Ok-clause-later g c =
+    (time_goes_on g.row.R.Denot g.row.D.Denot g.R.Source.left g.R.Source.faults g.D.Disk.shown g.D.Disk.faults g.D.Disk.may_leave g.D.Disk.moment g.D.Disk.since
+    (c.args.owner, c.args.random.now, c.args.disk.now) (c.run_lines.new.owner, c.run_lines.new.random, c.run_lines.new.disk)
+    c.args.reader c.run_lines.new.reader (g.S.Source.left c.args.input.now) (g.S.Source.left c.run_lines.new.input)
+    (g.W.Sink.written c.args.out.now) (g.W.Sink.written c.run_lines.new.out)
+    (λ d s left at. g.met.D.Disk.only_now d s left at)
+    (λ d t s left early shown leaves. g.met.D.Disk.counts_now d t s left early shown leaves) (Ok tt) c.in-Ok.ensures.ran).0
+
+pub returns-in-Ok-clause-time : goal.returns-in-Ok-clause-time
+returns-in-Ok-clause-time g c =
+    (time_goes_on g.row.R.Denot g.row.D.Denot g.R.Source.left g.R.Source.faults g.D.Disk.shown g.D.Disk.faults g.D.Disk.may_leave g.D.Disk.moment g.D.Disk.since
+    (c.args.owner, c.args.random.now, c.args.disk.now) (c.run_lines.new.owner, c.run_lines.new.random, c.run_lines.new.disk)
+    c.args.reader c.run_lines.new.reader (g.S.Source.left c.args.input.now) (g.S.Source.left c.run_lines.new.input)
+    (g.W.Sink.written c.args.out.now) (g.W.Sink.written c.run_lines.new.out)
+    (λ d s left at. g.met.D.Disk.only_now d s left at)
+    (λ d t s left early shown leaves. g.met.D.Disk.counts_now d t s left early shown leaves) (Ok tt) c.in-Ok.ensures.ran).1
+
+pub returns-clause-later : goal.returns-clause-later
+returns-clause-later g c =
+    (time_goes_on g.row.R.Denot g.row.D.Denot g.R.Source.left g.R.Source.faults g.D.Disk.shown g.D.Disk.faults g.D.Disk.may_leave g.D.Disk.moment g.D.Disk.since
+    (c.args.owner, c.args.random.now, c.args.disk.now) (c.run_lines.new.owner, c.run_lines.new.random, c.run_lines.new.disk)
+    c.args.reader c.run_lines.new.reader (g.S.Source.left c.args.input.now) (g.S.Source.left c.run_lines.new.input)
+    (g.W.Sink.written c.args.out.now) (g.W.Sink.written c.run_lines.new.out)
+    (λ d s left at. g.met.D.Disk.only_now d s left at)
+    (λ d t s left early shown leaves. g.met.D.Disk.counts_now d t s left early shown leaves) (Err c.in-Err.fault) c.in-Err.ensures.ran).0
+
+pub returns-clause-time : goal.returns-clause-time
+returns-clause-time g c =
+    (time_goes_on g.row.R.Denot g.row.D.Denot g.R.Source.left g.R.Source.faults g.D.Disk.shown g.D.Disk.faults g.D.Disk.may_leave g.D.Disk.moment g.D.Disk.since
+    (c.args.owner, c.args.random.now, c.args.disk.now) (c.run_lines.new.owner, c.run_lines.new.random, c.run_lines.new.disk)
+    c.args.reader c.run_lines.new.reader (g.S.Source.left c.args.input.now) (g.S.Source.left c.run_lines.new.input)
+    (g.W.Sink.written c.args.out.now) (g.W.Sink.written c.run_lines.new.out)
+    (λ d s left at. g.met.D.Disk.only_now d s left at)
+    (λ d t s left early shown leaves. g.met.D.Disk.counts_now d t s left early shown leaves) (Err c.in-Err.fault) c.in-Err.ensures.ran).1
 
 pub returns-in-Ok-clause-random_told : goal.returns-in-Ok-clause-random_told
 returns-in-Ok-clause-random_told g c =
-    (goes_on g.row.R.Denot g.row.D.Denot g.R.Source.left g.R.Source.faults g.D.Disk.shown g.D.Disk.faults g.D.Disk.may_leave
+    (goes_on g.row.R.Denot g.row.D.Denot g.R.Source.left g.R.Source.faults g.D.Disk.shown g.D.Disk.faults g.D.Disk.may_leave g.D.Disk.moment g.D.Disk.since
     (c.args.owner, c.args.random.now, c.args.disk.now) (c.run_lines.new.owner, c.run_lines.new.random, c.run_lines.new.disk)
     c.args.reader c.run_lines.new.reader (g.S.Source.left c.args.input.now) (g.S.Source.left c.run_lines.new.input)
     (g.W.Sink.written c.args.out.now) (g.W.Sink.written c.run_lines.new.out)
@@ -31,7 +68,7 @@ returns-in-Ok-clause-random_told g c =
 
 pub returns-in-Ok-clause-disk_told : goal.returns-in-Ok-clause-disk_told
 returns-in-Ok-clause-disk_told g c =
-    (goes_on g.row.R.Denot g.row.D.Denot g.R.Source.left g.R.Source.faults g.D.Disk.shown g.D.Disk.faults g.D.Disk.may_leave
+    (goes_on g.row.R.Denot g.row.D.Denot g.R.Source.left g.R.Source.faults g.D.Disk.shown g.D.Disk.faults g.D.Disk.may_leave g.D.Disk.moment g.D.Disk.since
     (c.args.owner, c.args.random.now, c.args.disk.now) (c.run_lines.new.owner, c.run_lines.new.random, c.run_lines.new.disk)
     c.args.reader c.run_lines.new.reader (g.S.Source.left c.args.input.now) (g.S.Source.left c.run_lines.new.input)
     (g.W.Sink.written c.args.out.now) (g.W.Sink.written c.run_lines.new.out)
@@ -39,7 +76,7 @@ returns-in-Ok-clause-disk_told g c =
 
 pub returns-in-Ok-clause-random_counts : goal.returns-in-Ok-clause-random_counts
 returns-in-Ok-clause-random_counts g c =
-    (goes_on g.row.R.Denot g.row.D.Denot g.R.Source.left g.R.Source.faults g.D.Disk.shown g.D.Disk.faults g.D.Disk.may_leave
+    (goes_on g.row.R.Denot g.row.D.Denot g.R.Source.left g.R.Source.faults g.D.Disk.shown g.D.Disk.faults g.D.Disk.may_leave g.D.Disk.moment g.D.Disk.since
     (c.args.owner, c.args.random.now, c.args.disk.now) (c.run_lines.new.owner, c.run_lines.new.random, c.run_lines.new.disk)
     c.args.reader c.run_lines.new.reader (g.S.Source.left c.args.input.now) (g.S.Source.left c.run_lines.new.input)
     (g.W.Sink.written c.args.out.now) (g.W.Sink.written c.run_lines.new.out)
@@ -47,7 +84,7 @@ returns-in-Ok-clause-random_counts g c =
 
 pub returns-in-Ok-clause-disk_counts : goal.returns-in-Ok-clause-disk_counts
 returns-in-Ok-clause-disk_counts g c =
-    (goes_on g.row.R.Denot g.row.D.Denot g.R.Source.left g.R.Source.faults g.D.Disk.shown g.D.Disk.faults g.D.Disk.may_leave
+    (goes_on g.row.R.Denot g.row.D.Denot g.R.Source.left g.R.Source.faults g.D.Disk.shown g.D.Disk.faults g.D.Disk.may_leave g.D.Disk.moment g.D.Disk.since
     (c.args.owner, c.args.random.now, c.args.disk.now) (c.run_lines.new.owner, c.run_lines.new.random, c.run_lines.new.disk)
     c.args.reader c.run_lines.new.reader (g.S.Source.left c.args.input.now) (g.S.Source.left c.run_lines.new.input)
     (g.W.Sink.written c.args.out.now) (g.W.Sink.written c.run_lines.new.out)
@@ -55,7 +92,7 @@ returns-in-Ok-clause-disk_counts g c =
 
 pub returns-clause-ran : goal.returns-clause-ran
 returns-clause-ran g c = λ x was key m first_shown stands kept.
-    let calm = calm_is g.row.R.Denot g.row.D.Denot g.R.Source.left g.R.Source.faults g.D.Disk.shown g.D.Disk.faults g.D.Disk.may_leave
+    let calm = calm_is g.row.R.Denot g.row.D.Denot g.R.Source.left g.R.Source.faults g.D.Disk.shown g.D.Disk.faults g.D.Disk.may_leave g.D.Disk.moment g.D.Disk.since
     (c.args.owner, c.args.random.now, c.args.disk.now) (c.run_lines.new.owner, c.run_lines.new.random, c.run_lines.new.disk)
     c.args.reader c.run_lines.new.reader (g.S.Source.left c.args.input.now) (g.S.Source.left c.run_lines.new.input)
     (g.W.Sink.written c.args.out.now) (g.W.Sink.written c.run_lines.new.out)
@@ -68,24 +105,24 @@ returns-clause-ran g c = λ x was key m first_shown stands kept.
       shown = g.D.Disk.shown c.run_lines.new.disk;
       written_before = g.W.Sink.written c.args.out.now;
       written_after = g.W.Sink.written c.run_lines.new.out;
-    }) (g.D.Disk.may_leave c.run_lines.new.disk)) (sym c.script_status.ensures)
-    (ends_so g.row.R.Denot g.row.D.Denot g.R.Source.left g.R.Source.faults g.D.Disk.shown g.D.Disk.faults g.D.Disk.may_leave
+    }) (g.D.Disk.may_leave c.run_lines.new.disk) (LinesKeepUpTo key m (g.D.Disk.since c.run_lines.new.disk (g.D.Disk.moment c.args.disk.now)))) (sym c.script_status.ensures)
+    (ends_so g.row.R.Denot g.row.D.Denot g.R.Source.left g.R.Source.faults g.D.Disk.shown g.D.Disk.faults g.D.Disk.may_leave g.D.Disk.moment g.D.Disk.since
     (c.args.owner, c.args.random.now, c.args.disk.now) (c.run_lines.new.owner, c.run_lines.new.random, c.run_lines.new.disk)
     c.args.reader c.run_lines.new.reader (g.S.Source.left c.args.input.now) (g.S.Source.left c.run_lines.new.input)
     (g.W.Sink.written c.args.out.now) (g.W.Sink.written c.run_lines.new.out)
-    (Err c.in-Err.fault) c.in-Err.ensures.ran calm c.requires.second c.in-Err.ensures.input_told x was key m first_shown stands kept)
+    (λ d s left at. g.met.D.Disk.only_now d s left at) (Err c.in-Err.fault) c.in-Err.ensures.ran calm c.requires.second c.in-Err.ensures.input_told x was key m first_shown stands c.requires.durable kept)
 
 pub returns-in-Ok-clause-calm : goal.returns-in-Ok-clause-calm
 returns-in-Ok-clause-calm g c = λ other. c.in-Ok.ensures.ready.2
 
 pub returns-clause-calm : goal.returns-clause-calm
 returns-clause-calm g c = λ other.
-    let calm = calm_is g.row.R.Denot g.row.D.Denot g.R.Source.left g.R.Source.faults g.D.Disk.shown g.D.Disk.faults g.D.Disk.may_leave
+    let calm = calm_is g.row.R.Denot g.row.D.Denot g.R.Source.left g.R.Source.faults g.D.Disk.shown g.D.Disk.faults g.D.Disk.may_leave g.D.Disk.moment g.D.Disk.since
     (c.args.owner, c.args.random.now, c.args.disk.now) (c.run_lines.new.owner, c.run_lines.new.random, c.run_lines.new.disk)
     c.args.reader c.run_lines.new.reader (g.S.Source.left c.args.input.now) (g.S.Source.left c.run_lines.new.input)
     (g.W.Sink.written c.args.out.now) (g.W.Sink.written c.run_lines.new.out)
     (c.run_lines.new.owner.journal.is_closed ≡ false) (c.run_lines.new.owner.journal.end ≤ g.D.Disk.size_of c.run_lines.new.disk) (Err c.in-Err.fault) c.in-Err.ensures.ran c.in-Err.ensures.ready in
-    calm_but g.row.R.Denot g.row.D.Denot g.R.Source.left g.R.Source.faults g.D.Disk.shown g.D.Disk.faults g.D.Disk.may_leave
+    calm_but g.row.R.Denot g.row.D.Denot g.R.Source.left g.R.Source.faults g.D.Disk.shown g.D.Disk.faults g.D.Disk.may_leave g.D.Disk.moment g.D.Disk.since
     (c.args.owner, c.args.random.now, c.args.disk.now) (c.run_lines.new.owner, c.run_lines.new.random, c.run_lines.new.disk)
     c.args.reader c.run_lines.new.reader (g.S.Source.left c.args.input.now) (g.S.Source.left c.run_lines.new.input)
     (g.W.Sink.written c.args.out.now) (g.W.Sink.written c.run_lines.new.out)
@@ -93,7 +130,7 @@ returns-clause-calm g c = λ other.
 
 pub returns-clause-random_told : goal.returns-clause-random_told
 returns-clause-random_told g c =
-    (goes_on g.row.R.Denot g.row.D.Denot g.R.Source.left g.R.Source.faults g.D.Disk.shown g.D.Disk.faults g.D.Disk.may_leave
+    (goes_on g.row.R.Denot g.row.D.Denot g.R.Source.left g.R.Source.faults g.D.Disk.shown g.D.Disk.faults g.D.Disk.may_leave g.D.Disk.moment g.D.Disk.since
     (c.args.owner, c.args.random.now, c.args.disk.now) (c.run_lines.new.owner, c.run_lines.new.random, c.run_lines.new.disk)
     c.args.reader c.run_lines.new.reader (g.S.Source.left c.args.input.now) (g.S.Source.left c.run_lines.new.input)
     (g.W.Sink.written c.args.out.now) (g.W.Sink.written c.run_lines.new.out)
@@ -101,7 +138,7 @@ returns-clause-random_told g c =
 
 pub returns-clause-disk_told : goal.returns-clause-disk_told
 returns-clause-disk_told g c =
-    (goes_on g.row.R.Denot g.row.D.Denot g.R.Source.left g.R.Source.faults g.D.Disk.shown g.D.Disk.faults g.D.Disk.may_leave
+    (goes_on g.row.R.Denot g.row.D.Denot g.R.Source.left g.R.Source.faults g.D.Disk.shown g.D.Disk.faults g.D.Disk.may_leave g.D.Disk.moment g.D.Disk.since
     (c.args.owner, c.args.random.now, c.args.disk.now) (c.run_lines.new.owner, c.run_lines.new.random, c.run_lines.new.disk)
     c.args.reader c.run_lines.new.reader (g.S.Source.left c.args.input.now) (g.S.Source.left c.run_lines.new.input)
     (g.W.Sink.written c.args.out.now) (g.W.Sink.written c.run_lines.new.out)
@@ -109,7 +146,7 @@ returns-clause-disk_told g c =
 
 pub returns-clause-random_counts : goal.returns-clause-random_counts
 returns-clause-random_counts g c =
-    (goes_on g.row.R.Denot g.row.D.Denot g.R.Source.left g.R.Source.faults g.D.Disk.shown g.D.Disk.faults g.D.Disk.may_leave
+    (goes_on g.row.R.Denot g.row.D.Denot g.R.Source.left g.R.Source.faults g.D.Disk.shown g.D.Disk.faults g.D.Disk.may_leave g.D.Disk.moment g.D.Disk.since
     (c.args.owner, c.args.random.now, c.args.disk.now) (c.run_lines.new.owner, c.run_lines.new.random, c.run_lines.new.disk)
     c.args.reader c.run_lines.new.reader (g.S.Source.left c.args.input.now) (g.S.Source.left c.run_lines.new.input)
     (g.W.Sink.written c.args.out.now) (g.W.Sink.written c.run_lines.new.out)
@@ -117,7 +154,7 @@ returns-clause-random_counts g c =
 
 pub returns-clause-disk_counts : goal.returns-clause-disk_counts
 returns-clause-disk_counts g c =
-    (goes_on g.row.R.Denot g.row.D.Denot g.R.Source.left g.R.Source.faults g.D.Disk.shown g.D.Disk.faults g.D.Disk.may_leave
+    (goes_on g.row.R.Denot g.row.D.Denot g.R.Source.left g.R.Source.faults g.D.Disk.shown g.D.Disk.faults g.D.Disk.may_leave g.D.Disk.moment g.D.Disk.since
     (c.args.owner, c.args.random.now, c.args.disk.now) (c.run_lines.new.owner, c.run_lines.new.random, c.run_lines.new.disk)
     c.args.reader c.run_lines.new.reader (g.S.Source.left c.args.input.now) (g.S.Source.left c.run_lines.new.input)
     (g.W.Sink.written c.args.out.now) (g.W.Sink.written c.run_lines.new.out)
@@ -125,7 +162,7 @@ returns-clause-disk_counts g c =
 
 pub returns-clause-random_fault : goal.returns-clause-random_fault
 returns-clause-random_fault g c = λ is.
-    random_fault g.row.R.Denot g.row.D.Denot g.R.Source.left g.R.Source.faults g.D.Disk.shown g.D.Disk.faults g.D.Disk.may_leave
+    random_fault g.row.R.Denot g.row.D.Denot g.R.Source.left g.R.Source.faults g.D.Disk.shown g.D.Disk.faults g.D.Disk.may_leave g.D.Disk.moment g.D.Disk.since
     (c.args.owner, c.args.random.now, c.args.disk.now) (c.run_lines.new.owner, c.run_lines.new.random, c.run_lines.new.disk)
     c.args.reader c.run_lines.new.reader (g.S.Source.left c.args.input.now) (g.S.Source.left c.run_lines.new.input)
     (g.W.Sink.written c.args.out.now) (g.W.Sink.written c.run_lines.new.out)
@@ -133,7 +170,7 @@ returns-clause-random_fault g c = λ is.
 
 pub returns-clause-disk_fault : goal.returns-clause-disk_fault
 returns-clause-disk_fault g c = λ is.
-    disk_fault g.row.R.Denot g.row.D.Denot g.R.Source.left g.R.Source.faults g.D.Disk.shown g.D.Disk.faults g.D.Disk.may_leave
+    disk_fault g.row.R.Denot g.row.D.Denot g.R.Source.left g.R.Source.faults g.D.Disk.shown g.D.Disk.faults g.D.Disk.may_leave g.D.Disk.moment g.D.Disk.since
     (c.args.owner, c.args.random.now, c.args.disk.now) (c.run_lines.new.owner, c.run_lines.new.random, c.run_lines.new.disk)
     c.args.reader c.run_lines.new.reader (g.S.Source.left c.args.input.now) (g.S.Source.left c.run_lines.new.input)
     (g.W.Sink.written c.args.out.now) (g.W.Sink.written c.run_lines.new.out)
@@ -142,8 +179,8 @@ returns-clause-disk_fault g c = λ is.
 pub returns-in-Ok-clause-lines : goal.returns-in-Ok-clause-lines
 returns-in-Ok-clause-lines g c =
     ran_lines (OwnerView × g.row.R.Denot × g.row.D.Denot)
-    (Step g.row.R.Denot g.row.D.Denot g.R.Source.left g.R.Source.faults g.D.Disk.shown g.D.Disk.faults g.D.Disk.may_leave)
-    (Fails g.row.R.Denot g.row.D.Denot g.R.Source.left g.R.Source.faults g.D.Disk.shown g.D.Disk.faults g.D.Disk.may_leave)
+    (Step g.row.R.Denot g.row.D.Denot g.R.Source.left g.R.Source.faults g.D.Disk.shown g.D.Disk.faults g.D.Disk.may_leave g.D.Disk.moment g.D.Disk.since)
+    (Fails g.row.R.Denot g.row.D.Denot g.R.Source.left g.R.Source.faults g.D.Disk.shown g.D.Disk.faults g.D.Disk.may_leave g.D.Disk.moment g.D.Disk.since)
     (c.args.owner, c.args.random.now, c.args.disk.now) (c.run_lines.new.owner, c.run_lines.new.random, c.run_lines.new.disk)
     c.args.reader c.run_lines.new.reader (g.S.Source.left c.args.input.now) (g.S.Source.left c.run_lines.new.input)
     (g.W.Sink.written c.args.out.now) (g.W.Sink.written c.run_lines.new.out)
@@ -153,8 +190,8 @@ pub returns-clause-lines : goal.returns-clause-lines
 returns-clause-lines g c =
     subst (λ status. RanLines status (lines_ahead c.args.reader) (g.S.Source.left c.args.input.now) (g.W.Sink.written c.args.out.now) (g.W.Sink.written c.run_lines.new.out)) (sym c.script_status.ensures)
     (ran_lines (OwnerView × g.row.R.Denot × g.row.D.Denot)
-    (Step g.row.R.Denot g.row.D.Denot g.R.Source.left g.R.Source.faults g.D.Disk.shown g.D.Disk.faults g.D.Disk.may_leave)
-    (Fails g.row.R.Denot g.row.D.Denot g.R.Source.left g.R.Source.faults g.D.Disk.shown g.D.Disk.faults g.D.Disk.may_leave)
+    (Step g.row.R.Denot g.row.D.Denot g.R.Source.left g.R.Source.faults g.D.Disk.shown g.D.Disk.faults g.D.Disk.may_leave g.D.Disk.moment g.D.Disk.since)
+    (Fails g.row.R.Denot g.row.D.Denot g.R.Source.left g.R.Source.faults g.D.Disk.shown g.D.Disk.faults g.D.Disk.may_leave g.D.Disk.moment g.D.Disk.since)
     (c.args.owner, c.args.random.now, c.args.disk.now) (c.run_lines.new.owner, c.run_lines.new.random, c.run_lines.new.disk)
     c.args.reader c.run_lines.new.reader (g.S.Source.left c.args.input.now) (g.S.Source.left c.run_lines.new.input)
     (g.W.Sink.written c.args.out.now) (g.W.Sink.written c.run_lines.new.out)
@@ -163,8 +200,8 @@ returns-clause-lines g c =
 pub returns-in-Ok-clause-takes : goal.returns-in-Ok-clause-takes
 returns-in-Ok-clause-takes g c =
     ran_taking (OwnerView × g.row.R.Denot × g.row.D.Denot)
-    (Step g.row.R.Denot g.row.D.Denot g.R.Source.left g.R.Source.faults g.D.Disk.shown g.D.Disk.faults g.D.Disk.may_leave)
-    (Fails g.row.R.Denot g.row.D.Denot g.R.Source.left g.R.Source.faults g.D.Disk.shown g.D.Disk.faults g.D.Disk.may_leave)
+    (Step g.row.R.Denot g.row.D.Denot g.R.Source.left g.R.Source.faults g.D.Disk.shown g.D.Disk.faults g.D.Disk.may_leave g.D.Disk.moment g.D.Disk.since)
+    (Fails g.row.R.Denot g.row.D.Denot g.R.Source.left g.R.Source.faults g.D.Disk.shown g.D.Disk.faults g.D.Disk.may_leave g.D.Disk.moment g.D.Disk.since)
     (c.args.owner, c.args.random.now, c.args.disk.now) (c.run_lines.new.owner, c.run_lines.new.random, c.run_lines.new.disk)
     c.args.reader c.run_lines.new.reader (g.S.Source.left c.args.input.now) (g.S.Source.left c.run_lines.new.input)
     (g.W.Sink.written c.args.out.now) (g.W.Sink.written c.run_lines.new.out)
@@ -174,8 +211,8 @@ pub returns-clause-takes : goal.returns-clause-takes
 returns-clause-takes g c =
     subst (λ status. RanTaking status (lines_ahead c.args.reader) (TakesBehindFirst (bytes_ahead c.args.reader)) (g.S.Source.left c.args.input.now) (g.S.Source.left c.run_lines.new.input) (g.W.Sink.written c.args.out.now) (g.W.Sink.written c.run_lines.new.out)) (sym c.script_status.ensures)
     (ran_taking (OwnerView × g.row.R.Denot × g.row.D.Denot)
-    (Step g.row.R.Denot g.row.D.Denot g.R.Source.left g.R.Source.faults g.D.Disk.shown g.D.Disk.faults g.D.Disk.may_leave)
-    (Fails g.row.R.Denot g.row.D.Denot g.R.Source.left g.R.Source.faults g.D.Disk.shown g.D.Disk.faults g.D.Disk.may_leave)
+    (Step g.row.R.Denot g.row.D.Denot g.R.Source.left g.R.Source.faults g.D.Disk.shown g.D.Disk.faults g.D.Disk.may_leave g.D.Disk.moment g.D.Disk.since)
+    (Fails g.row.R.Denot g.row.D.Denot g.R.Source.left g.R.Source.faults g.D.Disk.shown g.D.Disk.faults g.D.Disk.may_leave g.D.Disk.moment g.D.Disk.since)
     (c.args.owner, c.args.random.now, c.args.disk.now) (c.run_lines.new.owner, c.run_lines.new.random, c.run_lines.new.disk)
     c.args.reader c.run_lines.new.reader (g.S.Source.left c.args.input.now) (g.S.Source.left c.run_lines.new.input)
     (g.W.Sink.written c.args.out.now) (g.W.Sink.written c.run_lines.new.out)
@@ -183,7 +220,7 @@ returns-clause-takes g c =
 
 pub returns-clause-short : goal.returns-clause-short
 returns-clause-short g c = λ given wanted is.
-    random_short g.row.R.Denot g.row.D.Denot g.R.Source.left g.R.Source.faults g.D.Disk.shown g.D.Disk.faults g.D.Disk.may_leave
+    random_short g.row.R.Denot g.row.D.Denot g.R.Source.left g.R.Source.faults g.D.Disk.shown g.D.Disk.faults g.D.Disk.may_leave g.D.Disk.moment g.D.Disk.since
     (c.args.owner, c.args.random.now, c.args.disk.now) (c.run_lines.new.owner, c.run_lines.new.random, c.run_lines.new.disk)
     c.args.reader c.run_lines.new.reader (g.S.Source.left c.args.input.now) (g.S.Source.left c.run_lines.new.input)
     (g.W.Sink.written c.args.out.now) (g.W.Sink.written c.run_lines.new.out)
@@ -191,8 +228,8 @@ returns-clause-short g c = λ given wanted is.
 
 pub returns-clause-read_whole_lines : goal.returns-clause-read_whole_lines
 returns-clause-read_whole_lines g c = λ is.
-    cut_lines (Step g.row.R.Denot g.row.D.Denot g.R.Source.left g.R.Source.faults g.D.Disk.shown g.D.Disk.faults g.D.Disk.may_leave)
-    (Fails g.row.R.Denot g.row.D.Denot g.R.Source.left g.R.Source.faults g.D.Disk.shown g.D.Disk.faults g.D.Disk.may_leave) c.in-Err.fault
+    cut_lines (Step g.row.R.Denot g.row.D.Denot g.R.Source.left g.R.Source.faults g.D.Disk.shown g.D.Disk.faults g.D.Disk.may_leave g.D.Disk.moment g.D.Disk.since)
+    (Fails g.row.R.Denot g.row.D.Denot g.R.Source.left g.R.Source.faults g.D.Disk.shown g.D.Disk.faults g.D.Disk.may_leave g.D.Disk.moment g.D.Disk.since) c.in-Err.fault
     (c.args.owner, c.args.random.now, c.args.disk.now) (c.run_lines.new.owner, c.run_lines.new.random, c.run_lines.new.disk)
     c.args.reader c.run_lines.new.reader (g.S.Source.left c.args.input.now) (g.S.Source.left c.run_lines.new.input)
     (g.W.Sink.written c.args.out.now) (g.W.Sink.written c.run_lines.new.out) c.in-Err.ensures.ran

@@ -1,5 +1,6 @@
-use Rattle.std.proofs.Common.{◌≡◌, inl, inr, length, None, Err, Ok, refl, sym, ap, subst, ◌∙◌}
+use Rattle.std.proofs.Common.{◌≡◌, inl, inr, ℕ, List, length, None, Err, Ok, arith, refl, sym, ap, subst, ◌∙◌}
 use Rattle.std.specs.Prelude.{IsTrue}
+use Rattle.batch_log.proofs.Moments.{goes_on_then}
 use Rattle.journal_bytes.specs.Bytes.{image_of}
 use Rattle.journal_bytes.specs.Journals.{StandsForJournal}
 use Rattle.cryptree_cli.specs.Lines.{lines_ahead}
@@ -9,6 +10,10 @@ use Rattle.cryptree_cli.proofs.LinesRun.{bad_is_never_done, key_taken, lines_as_
 use Rattle.cryptree_cli.proofs.ReadFaults.{cut_first, unopened_reads_none}
 use Rattle.cryptree_cli.proofs.RefusedRuns.{leaves_unopened, opened_refuses_none, reading_refuses_none, refusal_is_other, untouched}
 use Rattle.cryptree_cli.proofs.RunEnds.{still_told}
+use Rattle.cryptree_cli.specs.Stopping.{KeepsUpTo, LinesKeepUpTo}
+use Rattle.cryptree_cli.proofs.EndsMapped.{ends_more}
+use Rattle.cryptree_cli.proofs.StopLemmas.{kept_opened, kept_unopened, kept_unread, time_still, told_stands}
+use Rattle.public_fold.specs.Journal.{Journal}
 use Rattle.cryptree_cli.proofs.RunOpening.{bad_first_is_unjudged, first_alone, first_ends, first_is_bad, fresh_reader, gives_first, key_is_given, not_before, opened_has_no_verdict, opened_stands, reading_draws_none, same_key, seen_unopened, unopened_draws_none, unopened_ends, unopened_is_judged, unopened_is_no_line}
 use Rattle.cryptree_cli.proofs.Takings.{taken_few}
 use Rattle.holder_client.specs.Asking.{verdict}
@@ -36,10 +41,13 @@ returns-in-Err-clause-ran g c = λ x was key m hands shows.
     let left = g.R.Source.left c.args.random.now in
     let shown = g.D.Disk.shown c.args.disk.now in
     let written = g.W.Sink.written c.args.out.now in
-    subst (λ status. Ends status version_limits key m (lines_behind (lines_in x)) (seen_unopened left shown shown written) (g.D.Disk.may_leave c.args.disk.now)) (sym c.script_status.ensures)
+    let Kept : Journal → Type 0 = KeepsUpTo key m shown (g.D.Disk.may_leave c.args.disk.now) (g.D.Disk.since c.args.disk.now (g.D.Disk.moment c.args.disk.now)) in
+    let kept : Kept m = kept_unread key m shown (g.D.Disk.may_leave c.args.disk.now) (g.D.Disk.since c.args.disk.now (g.D.Disk.moment c.args.disk.now))
+    (λ s left at. g.met.D.Disk.only_now c.args.disk.now s left at) in
+    subst (λ status. Ends status version_limits key m (lines_behind (lines_in x)) (seen_unopened left shown shown written) (g.D.Disk.may_leave c.args.disk.now) Kept) (sym c.script_status.ensures)
     (first_ends c.in-Err.fault c.in-Err.ensures.faults (lines_in x) (lines_ahead c.first_owner.new.reader after.0)
     (gives_first (Err c.in-Err.fault) c.new-reader.result x (lines_ahead c.first_owner.new.reader after.0) c.new-reader.ensures (c.in-Err.ensures.gives x after.0 was after.1))
-    key hands version_limits m (lines_behind (lines_in x)) left shown shown written (g.D.Disk.may_leave c.args.disk.now) shows)
+    key hands version_limits m (lines_behind (lines_in x)) left shown shown written (g.D.Disk.may_leave c.args.disk.now) Kept shows kept)
 
 pub returns-in-Ok-open_store-clause-first_line : goal.returns-in-Ok-open_store-clause-first_line
 returns-in-Ok-open_store-clause-first_line g c = λ x was none.
@@ -82,10 +90,14 @@ returns-in-Err-open_store-clause-ran g c = λ x was key m hands shows.
     let first = g.D.Disk.shown c.args.disk.now in
     let shown = g.D.Disk.shown c.open_store.new.disk in
     let written = g.W.Sink.written c.args.out.now in
-    subst (λ status. Ends status version_limits key m (lines_behind (lines_in x)) (seen_unopened left first shown written) (g.D.Disk.may_leave c.open_store.new.disk)) (sym c.open_status.ensures)
+    let could = g.D.Disk.may_leave c.args.disk.now in
+    let since = g.D.Disk.since c.open_store.new.disk (g.D.Disk.moment c.args.disk.now) in
+    let Kept : Journal → Type 0 = KeepsUpTo key m first could since in
+    let kept : Kept m = kept_unopened c.in-Ok.key key m first could since same (c.in-Err-open_store.ensures.kept m) (told_stands c.in-Ok.key m first shows.0 shows.1 stands) stands.valid.1 in
+    subst (λ status. Ends status version_limits key m (lines_behind (lines_in x)) (seen_unopened left first shown written) (g.D.Disk.may_leave c.open_store.new.disk) Kept) (sym c.open_status.ensures)
     (unopened_ends c.in-Err-open_store.fault (c.in-Err-open_store.ensures.never m shows.0 shows.1 stands stands.valid.1)
-    version_limits key m (lines_behind (lines_in x)) left first shown written (g.D.Disk.may_leave c.open_store.new.disk)
-    (now.0, now.1, subst (λ k. StandsForJournal k m now.0) same (c.in-Err-open_store.ensures.left m shows.0 now.0 shows.1 now.1 stands stands.valid.1)))
+    version_limits key m (lines_behind (lines_in x)) left first shown written (g.D.Disk.may_leave c.open_store.new.disk) Kept
+    (now.0, now.1, subst (λ k. StandsForJournal k m now.0) same (c.in-Err-open_store.ensures.left m shows.0 now.0 shows.1 now.1 stands stands.valid.1)) kept)
 
 pub returns-in-Ok-open_store-clause-ran : goal.returns-in-Ok-open_store-clause-ran
 returns-in-Ok-open_store-clause-ran g c = λ x was key m hands shows.
@@ -107,9 +119,19 @@ returns-in-Ok-open_store-clause-ran g c = λ x was key m hands shows.
       written_before = g.W.Sink.written c.args.out.now;
       written_after = g.W.Sink.written c.apply_lines.new.out;
     } in
-    subst (λ lines. Ends c.apply_lines.result version_limits key m lines ended (g.D.Disk.may_leave c.apply_lines.new.disk)) gives.1
-    (subst (λ k. Ends c.apply_lines.result version_limits k m (lines_ahead c.first_owner.new.reader after.0) ended (g.D.Disk.may_leave c.apply_lines.new.disk)) same
-    (c.apply_lines.ensures.ran after.0 after.1 c.in-Ok.key m (g.D.Disk.shown c.args.disk.now) begins keeps))
+    let could = g.D.Disk.may_leave c.args.disk.now in
+    let first = g.D.Disk.moment c.args.disk.now in
+    let middle = g.D.Disk.moment c.open_store.new.disk in
+    let past = g.D.Disk.since c.open_store.new.disk in
+    let since = g.D.Disk.since c.apply_lines.new.disk in
+    let Lines : List ℕ → Journal → Type 0 = λ k. LinesKeepUpTo k m (since middle) in
+    let Kept : Journal → Type 0 = KeepsUpTo key m (g.D.Disk.shown c.args.disk.now) could (since first) in
+    let more : (reached : Journal) → Lines key reached → Kept reached = kept_opened c.in-Ok.key key m (g.D.Disk.shown c.args.disk.now) could first middle past since same
+    (c.in-Ok-open_store.ensures.kept m) (told_stands c.in-Ok.key m (g.D.Disk.shown c.args.disk.now) shows.0 shows.1 stands) stands.valid.1 c.in-Ok-open_store.ensures.later c.apply_lines.ensures.time in
+    subst (λ lines. Ends c.apply_lines.result version_limits key m lines ended (g.D.Disk.may_leave c.apply_lines.new.disk) Kept) gives.1
+    (ends_more version_limits key m (lines_ahead c.first_owner.new.reader after.0) ended (g.D.Disk.may_leave c.apply_lines.new.disk) (Lines key) Kept more c.apply_lines.result
+    (subst (λ k. Ends c.apply_lines.result version_limits k m (lines_ahead c.first_owner.new.reader after.0) ended (g.D.Disk.may_leave c.apply_lines.new.disk) (Lines k)) same
+    (c.apply_lines.ensures.ran after.0 after.1 c.in-Ok.key m (g.D.Disk.shown c.args.disk.now) begins keeps)))
 
 -- ---- the lines, whatever the disk shows
 
@@ -243,3 +265,18 @@ returns-in-Ok-open_store-clause-read_whole_lines g c = λ is x y was now.
     let after = still_told (g.S.Source.left c.first_owner.new.input) (g.S.Source.left c.args.input.now) x c.in-Ok.ensures.told was in
     let behind = (gives_first (Ok c.in-Ok.key) c.new-reader.result x (lines_ahead c.first_owner.new.reader after.0) c.new-reader.ensures (c.in-Ok.ensures.gives x after.0 was after.1)).1 in
     inr (subst (λ lines. ReadsWhole lines y) behind (c.apply_lines.ensures.read_whole_lines is after.0 y after.1 now))
+
+-- ---- time
+
+pub returns-in-Err-clause-time : goal.returns-in-Err-clause-time
+returns-in-Err-clause-time g c =
+    time_still (g.D.Disk.moment c.args.disk.now) (g.D.Disk.since c.args.disk.now) (g.D.Disk.shown c.args.disk.now) (g.D.Disk.may_leave c.args.disk.now)
+    (λ s left at. g.met.D.Disk.only_now c.args.disk.now s left at) (λ t s left early shown leaves. g.met.D.Disk.counts_now c.args.disk.now t s left early shown leaves)
+
+pub returns-in-Ok-open_store-clause-later : goal.returns-in-Ok-open_store-clause-later
+returns-in-Ok-open_store-clause-later g c = let one = c.in-Ok-open_store.ensures.later in let two = c.apply_lines.ensures.later in omega (arith, one, two)
+
+pub returns-in-Ok-open_store-clause-time : goal.returns-in-Ok-open_store-clause-time
+returns-in-Ok-open_store-clause-time g c =
+    goes_on_then (g.D.Disk.moment c.args.disk.now) (g.D.Disk.moment c.open_store.new.disk) (g.D.Disk.since c.args.disk.now) (g.D.Disk.since c.open_store.new.disk)
+    (g.D.Disk.since c.apply_lines.new.disk) c.in-Ok-open_store.ensures.later c.in-Ok-open_store.ensures.time c.apply_lines.ensures.time

@@ -1,0 +1,157 @@
+-- What a stop leaves of commands, one after another.
+use Rattle.std.proofs.Common.{◌≡◌, ◌≤◌, ⊎_elim, inl, inr, ℕ, cond, List, [], ◌∷◌, ◌++◌, Option, Some, None, append_assoc, arith, sym, subst, ◌∙◌}
+use Rattle.commit_journal.specs.Holding.{GoesOn, IsKept, IsPrefix}
+use Rattle.commit_journal.proofs.KeptLemmas.{kept_starts, kept_then, prefix_same, prefix_trans, settled_holds}
+use Rattle.commit_journal.proofs.Standings.{whole_stands}
+use Rattle.journal_bytes.specs.Bytes.{batches_of}
+use Rattle.journal_bytes.specs.Journals.{HoldsBetween, IsSettled, Kept, StandsForJournal, StandsWholeForJournal}
+use Rattle.cry_base.specs.Requests.{Request}
+use Rattle.cry_base.specs.declared.commands.Refusal.{Refusal}
+use Rattle.cry_base.specs.declared.limits.Limits.{Limits}
+use Rattle.cry_io.specs.Told.{WhereTold}
+use Rattle.cryptree_cli.specs.Stopping.{KeepsUpTo, LinesKeepUpTo}
+use Rattle.journal_bytes.specs.Script.{Going, accepted_going, answer, draws_of, keys_from, line_going}
+use Rattle.public_fold.specs.Journal.{Journal}
+use Rattle.public_fold.specs.Journal.Entry.{Did, Session}
+use Rattle.public_fold.specs.Lengths.{end_of}
+use Rattle.store_owner.specs.Sessions.{with_draws}
+use Rattle.store_owner.specs.Stopping.{ComesToRest, RestsAt, StopsBetween}
+
+-- time goes on where nothing is done
+pub time_still : (now : ℕ) (since : ℕ → List ℕ → List ℕ → Type 0) (shown : Option (List ℕ)) (may_leave : List ℕ → Type 0)
+    → ((s c : List ℕ) → since now s c → (shown ≡ Some s) × may_leave c)
+    → ((t : ℕ) (s c : List ℕ) → t ≤ now → shown ≡ Some s → may_leave c → since t s c) → GoesOn now since since
+time_still now since shown may_leave only counts t s c early = (
+  λ at. inl at,
+  λ at. ⊎_elim (λ old. old) (λ new. let is = only s c new in counts t s c early is.0 is.1) at,
+)
+
+-- ---- a session makes its journal longer, and takes nothing away
+
+pub line_grows : (g : Going) (r : Request) (o : Option Refusal) → IsPrefix g.journal (line_going g r o).journal
+unfolding line_going accepted_going
+line_grows g r None =
+    let session = cond g.begun [] (Session ∷ []) in
+    let entry = Did r (keys_from (draws_of g.journal r) g.draws) ∷ [] in
+    (session ++ entry, sym (append_assoc g.journal session entry))
+line_grows g r (Some why) = prefix_same g.journal
+
+pub goes_grow : (limits : Limits) (g h : Going) (r : Request) (draws rest : List ℕ) → line_going (with_draws g draws) r (answer limits g.journal g.begun r) ≡ with_draws h rest
+    → IsPrefix g.journal h.journal
+goes_grow limits g h r draws rest goes = subst (λ (x : Going). IsPrefix g.journal x.journal) goes (line_grows (with_draws g draws) r (answer limits g.journal g.begun r))
+
+-- ---- a disk at rest
+
+-- what is shown then is whole
+whole_stands_for : (owner : List ℕ) (m : Journal) (bytes : List ℕ) → StandsWholeForJournal owner m bytes → StandsForJournal owner m bytes
+whole_stands_for owner m bytes whole = record {
+  valid = whole.valid;
+  whole_keys = whole.whole_keys;
+  stands = whole_stands owner (batches_of owner m) bytes whole.stands;
+}
+
+-- a disk that rests at a journal is settled there
+pub rests_settled : (key : List ℕ) (m : Journal) (shown : Option (List ℕ)) (may_leave : List ℕ → Type 0) → RestsAt key m shown may_leave → IsSettled key m shown may_leave
+rests_settled key m shown may_leave rests = record {
+  shows = rests.shows;
+  leaves = λ c left.
+      let same : rests.shows.0 ≡ c = let both = sym rests.shows.1 ∙ rests.durable c left in cc in
+      subst (StandsWholeForJournal key m) same rests.shows.2;
+}
+
+rests_hold : (key : List ℕ) (m : Journal) (shown : Option (List ℕ)) (may_leave : List ℕ → Type 0) → RestsAt key m shown may_leave → HoldsBetween key m m shown may_leave
+rests_hold key m shown may_leave rests =
+    settled_holds (StandsForJournal key) (StandsWholeForJournal key) m shown may_leave (whole_stands_for key) (rests_settled key m shown may_leave rests)
+
+-- Since the first moment the disk, which rested at m then, was kept between m and j; and it rests at j now.
+pub record Stays (key : List ℕ) (m j : Journal) (first now : ℕ) (shown : Option (List ℕ)) (may_leave : List ℕ → Type 0) (since : ℕ → List ℕ → List ℕ → Type 0) : Type 0 where
+  pub order : first ≤ now
+  pub grown : IsPrefix m j
+  pub rests : RestsAt key j shown may_leave
+  pub kept : Kept key m m j (since first)
+
+pub stays_begun : (key : List ℕ) (m : Journal) (now : ℕ) (shown : Option (List ℕ)) (may_leave : List ℕ → Type 0) (since : ℕ → List ℕ → List ℕ → Type 0)
+    → ((s c : List ℕ) → since now s c → (shown ≡ Some s) × may_leave c) → RestsAt key m shown may_leave → Stays key m m now now shown may_leave since
+stays_begun key m now shown may_leave since only rests = record {
+  order = omega arith;
+  grown = prefix_same m;
+  rests = rests;
+  kept = kept_starts (StandsForJournal key) m m m shown may_leave (since now) (rests_hold key m shown may_leave rests) only;
+}
+
+-- what was kept up to j, and then of j up to what follows it
+kept_on : (key : List ℕ) (m j next : Journal) (first middle : ℕ) (past since : ℕ → List ℕ → List ℕ → Type 0) → first ≤ middle → GoesOn middle past since
+    → IsPrefix m j → IsPrefix j next → Kept key m m j (past first) → Kept key j j next (since middle) → Kept key m m next (since first)
+kept_on key m j next first middle past since order time grown more before after =
+    kept_then (StandsForJournal key) m m j j j next middle first past since order time grown more more before after
+
+-- a command after which the disk rests
+pub stays_on : (key : List ℕ) (m j next : Journal) (first middle now : ℕ) (was shown : Option (List ℕ)) (might may : List ℕ → Type 0)
+    (past since : ℕ → List ℕ → List ℕ → Type 0) → Stays key m j first middle was might past → IsPrefix j next → ComesToRest key j next was shown might may (since middle)
+    → middle ≤ now → GoesOn middle past since → Stays key m next first now shown may since
+stays_on key m j next first middle now was shown might may past since before more step later time =
+    let one = before.order in
+    record {
+      order = omega (arith, one, later);
+      grown = prefix_trans m j next before.grown more;
+      rests = step.rests before.rests;
+      kept = kept_on key m j next first middle past since one time before.grown more before.kept (step.stops.kept before.rests);
+    }
+
+-- one that met a fault of the disk
+pub stops_on : (key : List ℕ) (m j next : Journal) (first middle : ℕ) (was shown : Option (List ℕ)) (might may : List ℕ → Type 0)
+    (past since : ℕ → List ℕ → List ℕ → Type 0) → Stays key m j first middle was might past → IsPrefix j next → StopsBetween key j next was shown might may (since middle)
+    → GoesOn middle past since → HoldsBetween key j next shown may × LinesKeepUpTo key m (since first) next
+stops_on key m j next first middle was shown might may past since before more step time = (
+  step.holds before.rests,
+  (
+    prefix_trans m j next before.grown more,
+    kept_on key m j next first middle past since before.order time before.grown more before.kept (step.kept before.rests),
+  ),
+)
+
+-- a call that kept two journals up to the higher one kept them up to any other
+pub kept_up_to_any : (key : List ℕ) (low high reached : Journal) (since : List ℕ → List ℕ → Type 0) → Kept key low high high since → Kept key low high reached since
+kept_up_to_any key low high reached since kept s c at =
+    let k = kept s c at in
+    (let is : IsKept (StandsForJournal key) low high reached c = record {
+      held = k.held;
+      from = k.from;
+      to = ⊎_elim (λ p. inl p) (λ p. inl p) k.to;
+      stands_for = k.stands_for;
+    } in is)
+
+-- ---- the opening, and the lines behind it
+
+-- bytes that are shown stand for the journal
+pub told_stands : (key : List ℕ) (m : Journal) (shown : Option (List ℕ)) (s : List ℕ) → shown ≡ Some s → StandsForJournal key m s → WhereTold shown (StandsForJournal key m)
+told_stands key m shown s is stands = λ x told. let same : s ≡ x = let both = sym is ∙ told in cc in subst (StandsForJournal key m) same stands
+
+-- what the opening of a store says of its moments
+abbrev pub OpeningKeeps : List ℕ → Journal → Option (List ℕ) → (List ℕ → Type 0) → (List ℕ → List ℕ → Type 0) → Type 0
+OpeningKeeps key m was could_leave since = (m1 m2 : Journal) → HoldsBetween key m1 m2 was could_leave → WhereTold was (StandsForJournal key m) → end_of m ≤ 268435456 → Kept key m1 m2 m2 since
+
+-- the disk wasn't touched
+pub kept_unread : (key : List ℕ) (m : Journal) (was : Option (List ℕ)) (could_leave : List ℕ → Type 0) (since : List ℕ → List ℕ → Type 0)
+    → ((s c : List ℕ) → since s c → (was ≡ Some s) × could_leave c) → KeepsUpTo key m was could_leave since m
+kept_unread key m was could_leave since only m1 m2 holds low = kept_starts (StandsForJournal key) m1 m2 m was could_leave since holds only
+
+-- the store wasn't opened
+pub kept_unopened : (given key : List ℕ) (m : Journal) (was : Option (List ℕ)) (could_leave : List ℕ → Type 0) (since : List ℕ → List ℕ → Type 0)
+    → given ≡ key → OpeningKeeps given m was could_leave since → WhereTold was (StandsForJournal given m) → end_of m ≤ 268435456 → KeepsUpTo key m was could_leave since m
+kept_unopened given key m was could_leave since same keeps stands small m1 m2 holds low =
+    let there = subst (λ k. HoldsBetween k m1 m2 was could_leave) (sym same) holds in
+    kept_up_to_any key m1 m2 m since (subst (λ k. Kept k m1 m2 m2 since) same (keeps m1 m2 there stands small))
+
+-- it was opened, and the lines kept the journal up to what they reached
+pub kept_opened : (given key : List ℕ) (m : Journal) (was : Option (List ℕ)) (could_leave : List ℕ → Type 0) (first middle : ℕ) (past since : ℕ → List ℕ → List ℕ → Type 0)
+    → given ≡ key → OpeningKeeps given m was could_leave (past first) → WhereTold was (StandsForJournal given m) → end_of m ≤ 268435456
+    → first ≤ middle → GoesOn middle past since
+    → (reached : Journal) → LinesKeepUpTo key m (since middle) reached → KeepsUpTo key m was could_leave (since first) reached
+kept_opened given key m was could_leave first middle past since same keeps stands small order time reached lines m1 m2 holds low =
+    kept_then (StandsForJournal key) m1 m2 m m m reached middle first past since order time low lines.0 lines.0
+    (kept_unopened given key m was could_leave (past first) same keeps stands small m1 m2 holds low) lines.1
+
+-- a disk that is settled at a journal holds it and no other
+pub settled_holds_journal : (key : List ℕ) (m : Journal) (shown : Option (List ℕ)) (may_leave : List ℕ → Type 0) → IsSettled key m shown may_leave → HoldsBetween key m m shown may_leave
+settled_holds_journal key m shown may_leave settled = settled_holds (StandsForJournal key) (StandsWholeForJournal key) m shown may_leave (whole_stands_for key) settled
