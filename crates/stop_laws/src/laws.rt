@@ -1,0 +1,27 @@
+//! Laws of runs of the program over one store, with stops in and between them.
+ghost use Rattle.std.specs.Prelude.{ℕ, List, ◌++◌};
+ghost use Rattle.commit_journal.specs.Holding.{IsPrefix};
+ghost use Rattle.cry_base.specs.Requests.{Request};
+ghost use Rattle.cry_base.specs.declared.limits.Limits.{Limits};
+ghost use Rattle.public_fold.specs.Journal.{Journal};
+ghost use Rattle.journal_bytes.specs.Journals.{HoldsBetween};
+ghost use Rattle.journal_bytes.specs.Script.{Going, script_going};
+ghost use Rattle.stop_laws.specs.Runs.{HoldsAll, Runs};
+
+use cry_io::Disk;
+
+/// Law: the journal of a session over some commands begins with that over the first ones: so a journal that has all that were answered has
+/// each that was acknowledged.
+pub fn sessions_take_nothing_back()
+    ensures { (limits : Limits) (g : Going) (first more : List Request) →
+        IsPrefix (script_going limits g first).journal (script_going limits g (first ++ more)).journal }
+{}
+
+/// Law: over every list of runs and stops, whatever is left stands for a journal that begins with the first one, and with each command that
+/// any of the runs acknowledged.
+pub fn stops_leave_what_was_acknowledged<D: Disk>(start: &D, now: &D)
+    ensures { (key : List ℕ) (m1 m2 : Journal) → HoldsBetween key m1 m2 (D.shown start.now) (D.may_leave start.now) →
+        (runs : Runs D.shown D.may_leave D.moment D.since key start.now now.now) →
+        (low high : Journal) × IsPrefix m1 low × HoldsBetween key low high (D.shown now.now) (D.may_leave now.now) ×
+        HoldsAll D.shown D.may_leave D.moment D.since key start.now now.now runs low }
+{}

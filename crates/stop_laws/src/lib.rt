@@ -1,0 +1,4 @@
+//! What a stop leaves of runs of the program, one after another: every command that was acknowledged, and none that wasn't accepted.
+#![tactic(auto)]
+
+pub mod laws;
