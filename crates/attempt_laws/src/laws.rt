@@ -11,7 +11,8 @@ ghost use Rattle.journal_bytes.specs.Script.{Going, script_going};
 ghost use Rattle.attempt_laws.specs.Happenings.{IsCourse};
 ghost use Rattle.attempt_laws.specs.Scripted.{HasDraws, course_of, script_events};
 ghost use Rattle.attempt_laws.specs.Spent.{Differ, all_spenders, number_of};
-ghost use Rattle.attempt_laws.specs.Trials.{Befalls, Happening, MaskOnePayload, ShareWithThemselves, Trial, all_trials, attempt_of, batch_in, course_after, made_course, trials};
+ghost use Rattle.attempt_laws.specs.Trials.{Befalls, Happening, MaskOnePayload, ShareWithThemselves, Trial, all_trials, attempt_of};
+ghost use Rattle.attempt_laws.specs.Trials.{batch_in, course_after, made_course, trials};
 
 /// The attempts of some events are the batches that are written then, as attempts, and before them stand the two of making the
 /// store. A batch has the epoch and the number of its attempt, and the batch of an entry that enters is the next one of its journal.

@@ -28,14 +28,16 @@ pub fn audits_are_the_journals()
         → MayAnswer bundle bytes result → AnswersAs seen_items result (audit_answer (published_journal owner bytes m) bundle) }
     ensures wrong_key { (owner : List ℕ) (m : Journal) (bytes : List ℕ) (bundle : Bundle) (result : Result (Listed Seen) ClientFault)
         → StandsForJournal owner m bytes → IsHonestFor owner bytes m → IsWrongFor owner (published_journal owner bytes m) bundle
-        → MayAnswer bundle bytes result → AnswersAs seen_items result (let x : Result (List PlainSeen) Failure = Err (OfBytes WrongKey) in x) }
+        → MayAnswer bundle bytes result → AnswersAs seen_items result (let x : Result (List PlainSeen) Failure = Err (OfBytes WrongKey)
+        in x) }
 {}
 
 /// Law: each name and file that an audit of such bytes shows a holder was shown to the holder when it was written, or a later gain
 /// for the holder opens it.
 pub fn audits_show_what_was_shown_or_gained()
     ensures { (owner : List ℕ) (m : Journal) (bytes : List ℕ) (h : HolderId) (key : List ℕ) (answer : Listed Seen)
-        → StandsForJournal owner m bytes → IsHonestFor owner bytes m → IsRightFor owner (published_journal owner bytes m) (Bundle.Holder h key)
+        → StandsForJournal owner m bytes → IsHonestFor owner bytes m
+        → IsRightFor owner (published_journal owner bytes m) (Bundle.Holder h key)
         → MayAnswer (Bundle.Holder h key) bytes (Ok answer) → (s : PlainSeen) → In s (seen_items answer)
         → (x : Sight) × IsFairlySeen (published_journal owner bytes m) h.0 x × (s ≡ seen_of_sight x) }
 {}

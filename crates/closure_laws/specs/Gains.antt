@@ -30,13 +30,15 @@ GivesGrant (Revoke holder path) h = ⊥
 -- the node stood in the store before, and is shown or allowed to the holder in the store after it, and wasn't so
 abbrev pub IsGainedNode : Store → Store → ℕ → Node → Type 0
 IsGainedNode before after h node =
-    In node (nodes_of before) × ((IsShown after (TheHolder h) node × ¬ IsShown before (TheHolder h) node) ⊎ (IsOpen after (TheHolder h) node × ¬ IsOpen before (TheHolder h) node))
+    In node (nodes_of before) × ((IsShown after (TheHolder h) node × ¬ IsShown before (TheHolder h) node)
+    ⊎ (IsOpen after (TheHolder h) node × ¬ IsOpen before (TheHolder h) node))
 
 -- the entry gives the holder a grant, or shows or allows a node that stood before
 abbrev pub IsGain : Stand → Entry → ℕ → Type 0
 IsGain at Session h = ⊥
 IsGain at (Made keys) h = ⊥
-IsGain at (Did request keys) h = GivesGrant request h ⊎ ((node : Node) × IsGainedNode at.store (stand_then at (Did request keys)).store h node)
+IsGain at (Did request keys) h = GivesGrant request h
+    ⊎ ((node : Node) × IsGainedNode at.store (stand_then at (Did request keys)).store h node)
 
 -- whether it does
 unfoldable pub gives_grant : Request → ℕ → Bool
@@ -51,7 +53,8 @@ is_gained_node before after h node =
 unfoldable pub gains : Stand → Entry → ℕ → Bool
 gains at Session h = false
 gains at (Made keys) h = false
-gains at (Did request keys) h = gives_grant request h || list_any (is_gained_node at.store (stand_then at (Did request keys)).store h) (nodes_of at.store)
+gains at (Did request keys) h = gives_grant request h
+    || list_any (is_gained_node at.store (stand_then at (Did request keys)).store h) (nodes_of at.store)
 
 -- whether each entry is a gain, one after another
 unfoldable pub gains_from : Stand → List Entry → ℕ → List Bool

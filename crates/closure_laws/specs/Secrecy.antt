@@ -13,7 +13,11 @@ use Rattle.closure_laws.specs.History.{DerivesFor, history, derived, own_serial}
 
 -- the object of a content is shown to the holder in the store. A holder's sealed key is shown to the owner alone
 unfoldable pub node_of_piece : Piece → Option Node
-node_of_piece p = elim (p.kind == 1) [ true ↦ Some (folder_node p.object) | false ↦ elim (p.kind == 2) [ true ↦ Some (file_node p.object) | false ↦ None ] ]
+node_of_piece p = elim (p.kind == 1) [
+  | true ↦ Some (folder_node p.object)
+  | false ↦ elim (p.kind == 2)
+      [ true ↦ Some (file_node p.object) | false ↦ None ]
+]
 
 abbrev pub IsShownNode : Store → ℕ → Option Node → Type 0
 IsShownNode s h None = ⊥

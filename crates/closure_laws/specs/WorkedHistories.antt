@@ -9,5 +9,7 @@ use Rattle.closure_laws.specs.Invariants.{dirt_is_closed, is_linked, edges_are_l
 
 -- every word of a history
 unfoldable pub histories : Unit {0}
-unfolding dirt_is_closed is_linked edges_are_linked links_are_clean holds_from invariants_hold node_of_piece shown_node gains_later kept_content keeps_from known_to keeps_secret digits journals published_from history trails derived own_serial gives_grant is_gained_node gains gains_from sight_of sights_in sights_from seen spell_sight spell_seen
+unfolding dirt_is_closed is_linked edges_are_linked links_are_clean holds_from invariants_hold node_of_piece shown_node gains_later
+    kept_content keeps_from known_to keeps_secret digits journals published_from history trails derived own_serial gives_grant
+    is_gained_node gains gains_from sight_of sights_in sights_from seen spell_sight spell_seen
 histories = tt

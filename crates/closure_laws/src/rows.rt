@@ -4,7 +4,8 @@ ghost use Rattle.cry_base.specs.Requests.Request.{Relocate, Rename, MakeFolder};
 ghost use Rattle.cry_base.specs.Texts.{ended_lines};
 ghost use Rattle.role_graph.specs.Rights.Who.{TheOwner, TheHolder};
 ghost use Rattle.public_fold.specs.Journal.{nothing};
-ghost use Rattle.public_fold.specs.WorkedSteps.{fresh, renaming, rewriting, granting, revoking, writing_again, renaming_again, moving_away, does, dropping, making_again};
+ghost use Rattle.public_fold.specs.WorkedSteps.{fresh, renaming, rewriting, granting, revoking, writing_again, renaming_again, moving_away};
+ghost use Rattle.public_fold.specs.WorkedSteps.{does, dropping, making_again};
 ghost use Rattle.closure_laws.specs.Gains.{gains_from};
 ghost use Rattle.closure_laws.specs.Invariants.{invariants_hold};
 ghost use Rattle.closure_laws.specs.Secrecy.{keeps_secret};
@@ -14,7 +15,8 @@ ghost use Rattle.closure_laws.specs.Seen.{seen, spell_seen};
 #[tactic(auto, unfolding(crate::specs::WorkedHistories::histories))]
 pub fn empty_rewrite_in_a_second_session()
     ensures { spell_seen (seen rewriting TheOwner)
-        ≡ ended_lines (codes "folder 2 1 " ∷ codes "folder 4 2 a" ∷ codes "file 5 1 x 00ff" ∷ codes "file 6 1 y 00ff" ∷ codes "file 8 1 y " ∷ []) }
+        ≡ ended_lines (codes "folder 2 1 " ∷ codes "folder 4 2 a" ∷ codes "file 5 1 x 00ff" ∷ codes "file 6 1 y 00ff" ∷ codes "file 8 1 y "
+        ∷ []) }
 {}
 
 /// What a holder derived before a revocation stays derived; a holder who was never made derives nothing.
@@ -57,7 +59,8 @@ pub fn move_away_from_a_grant()
 pub fn gains_of_a_grant()
     ensures granted { gains_from nothing granting 1 ≡ false ∷ false ∷ false ∷ false ∷ false ∷ false ∷ true ∷ [] }
     ensures others { gains_from nothing granting 2 ≡ false ∷ false ∷ false ∷ false ∷ false ∷ false ∷ false ∷ [] }
-    ensures moved { gains_from nothing (granting ++ (does 5 (MakeFolder (codes "/a/c")) ∷ does 5 (MakeFolder (codes "/b")) ∷ does 0 (Relocate (codes "/b") (codes "/a")) ∷ [])) 1
+    ensures moved { gains_from nothing (granting
+        ++ (does 5 (MakeFolder (codes "/a/c")) ∷ does 5 (MakeFolder (codes "/b")) ∷ does 0 (Relocate (codes "/b") (codes "/a")) ∷ [])) 1
         ≡ false ∷ false ∷ false ∷ false ∷ false ∷ false ∷ true ∷ false ∷ false ∷ true ∷ [] }
 {}
 
@@ -69,12 +72,14 @@ pub fn worked_journals_keep_secrets()
     ensures renamed { map (keeps_secret renaming_again) (1 ∷ 2 ∷ []) ≡ true ∷ true ∷ [] }
     ensures moved { map (keeps_secret moving_away) (1 ∷ []) ≡ true ∷ [] }
     ensures made { map (keeps_secret making_again) (1 ∷ []) ≡ true ∷ [] }
-    ensures gained { map (keeps_secret (granting ++ (does 5 (MakeFolder (codes "/b")) ∷ does 0 (Relocate (codes "/b") (codes "/a")) ∷ []))) (1 ∷ []) ≡ true ∷ [] }
+    ensures gained { map (keeps_secret (granting
+        ++ (does 5 (MakeFolder (codes "/b")) ∷ does 0 (Relocate (codes "/b") (codes "/a")) ∷ []))) (1 ∷ []) ≡ true ∷ [] }
 {}
 
 /// After each entry of the worked journals what is dirty is so with all behind it, each edge has a link between present
 /// keys, and no link leaves a dirty key.
 #[tactic(auto, unfolding(crate::specs::WorkedHistories::histories))]
 pub fn worked_journals_keep_their_keys()
-    ensures { map invariants_hold (rewriting ∷ writing_again ∷ renaming_again ∷ moving_away ∷ making_again ∷ dropping ∷ []) ≡ true ∷ true ∷ true ∷ true ∷ true ∷ true ∷ [] }
+    ensures { map invariants_hold (rewriting ∷ writing_again ∷ renaming_again ∷ moving_away ∷ making_again ∷ dropping ∷ []) ≡ true ∷ true
+        ∷ true ∷ true ∷ true ∷ true ∷ [] }
 {}

@@ -1,5 +1,6 @@
 //! The serials from which links lead to one, and the trails from them.
-ghost use Rattle.std.specs.Prelude.{◌≡◌, ◌<◌, ◌==◌, ◌++◌, ◌∷◌, ℕ, [], List as TheList, cond, get_or, length, map, IfNone, IfOk, IfSome, OnOk};
+ghost use Rattle.std.specs.Prelude.{◌≡◌, ◌<◌, ◌==◌, ◌++◌, ◌∷◌, ℕ, [], List as TheList, cond, get_or, length, map, IfNone, IfOk, IfSome};
+ghost use Rattle.std.specs.Prelude.{OnOk};
 ghost use Rattle.std.specs.HashMap.{get};
 ghost use Rattle.cry_base.specs.Sets.{In};
 ghost use Rattle.closure_laws.specs.Found.{AreAllFound, AreChained, AreOpen, IsClosed, StandsAt, found_by, links_in, serials_of};
@@ -65,9 +66,12 @@ fn add_starts(found: &mut List<Found>, links: &[HeldLink], place: usize) -> Mem<
 /// Adds where each link begins that ends at a serial that was found, and takes these links out.
 fn follow_back(found: &mut List<Found>, groups: &mut ByEnd, place: usize) -> Mem<()>
     requires place { place < length found.old.items }
-    ensures open { OnOk result ((links : TheList TheLink) → AreOpen links found.old.items groups.old → AreOpen links found.new.items groups.new) }
-    ensures chained { OnOk result ((links : TheList TheLink) (b : ℕ) → AreOpen links found.old.items groups.old → AreChained links b found.old.items → AreChained links b found.new.items) }
-    ensures closed { OnOk result ((links : TheList TheLink) → AreOpen links found.old.items groups.old → (x : TheFound) → StandsAt found.old.items place x → IsClosed links found.new.items x.serial.0) }
+    ensures open { OnOk result ((links : TheList TheLink) → AreOpen links found.old.items groups.old
+        → AreOpen links found.new.items groups.new) }
+    ensures chained { OnOk result ((links : TheList TheLink) (b : ℕ) → AreOpen links found.old.items groups.old
+        → AreChained links b found.old.items → AreChained links b found.new.items) }
+    ensures closed { OnOk result ((links : TheList TheLink) → AreOpen links found.old.items groups.old → (x : TheFound)
+        → StandsAt found.old.items place x → IsClosed links found.new.items x.serial.0) }
     ensures kept { OnOk result ((rest : TheList TheFound) × (found.new.items ≡ found.old.items ++ rest)) }
 {
     let serial = found.as_slice()[place].serial;
@@ -119,7 +123,8 @@ pub(crate) fn place_of(found: &[Found], serial: Serial) -> Option<usize>
 pub(crate) fn trail_from(alloc: Global, found: &[Found], place: usize) -> Mem<List<LinkRef>>
     requires place { place < length found.now }
     requires chained { (links : TheList TheLink) × ((b : ℕ) × AreChained links b found.now) }
-    ensures { IfOk result (λ trail. (links : TheList TheLink) (b : ℕ) (x : TheFound) → AreChained links b found.now → StandsAt found.now place x → IsTrail links x.serial.0 b trail.items) }
+    ensures { IfOk result (λ trail. (links : TheList TheLink) (b : ℕ) (x : TheFound) → AreChained links b found.now
+        → StandsAt found.now place x → IsTrail links x.serial.0 b trail.items) }
 {
     let mut trail = List::new(alloc);
     let mut at = place;

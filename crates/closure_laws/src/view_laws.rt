@@ -11,5 +11,6 @@ ghost use Rattle.holder_client.specs.View.{Line, line_path, view};
 /// one path are one.
 pub fn paths_in_every_view_differ()
     ensures names { (m : Journal) → IsValid m → HasOwnNames (store_of m) }
-    ensures paths { (m : Journal) → IsValid m → (who : Who) (a b : Line) → In a (view (store_of m) who) → In b (view (store_of m) who) → line_path a ≡ line_path b → a ≡ b }
+    ensures paths { (m : Journal) → IsValid m → (who : Who) (a b : Line) → In a (view (store_of m) who) → In b (view (store_of m) who)
+        → line_path a ≡ line_path b → a ≡ b }
 {}

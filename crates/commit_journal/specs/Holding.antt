@@ -19,12 +19,14 @@ abbrev pub Shows : {X : Type 0} → (List X → List ℕ → Type 0) → List X 
 Shows stands held shown = (s : List ℕ) × (shown ≡ Some s) × stands held s
 
 -- what the disk shows, and whatever a stop may leave, lies between the two
-pub record HoldsBetween {X : Type 0} (stands : List X → List ℕ → Type 0) (low high : List X) (shown : Option (List ℕ)) (may_leave : List ℕ → Type 0) : Type 0 where
+pub record HoldsBetween {X : Type 0} (stands : List X → List ℕ → Type 0) (low high : List X) (shown : Option (List ℕ)) (may_leave : List ℕ
+    → Type 0) : Type 0 where
   pub shows : (s : List ℕ) × (shown ≡ Some s) × IsBetween stands low high s
   pub leaves : (c : List ℕ) → may_leave c → IsBetween stands low high c
 
 -- what the disk shows, and whatever a stop may leave, stands for the list as a whole: the last slot holds its veil key
-pub record IsSettled {X : Type 0} (stands_whole : List X → List ℕ → Type 0) (held : List X) (shown : Option (List ℕ)) (may_leave : List ℕ → Type 0) : Type 0 where
+pub record IsSettled {X : Type 0} (stands_whole : List X → List ℕ → Type 0) (held : List X) (shown : Option (List ℕ)) (may_leave : List ℕ
+    → Type 0) : Type 0 where
   pub shows : Shows stands_whole held shown
   pub leaves : (c : List ℕ) → may_leave c → stands_whole held c
 

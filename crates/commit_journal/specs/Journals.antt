@@ -1,6 +1,7 @@
 -- A journal that is open for writing, and the log that it stands for. This project's own, docs/FORMAT.md, "The file" and
 -- "Committing".
-use Rattle.std.specs.Prelude.{◌≡◌, ◌⊎◌, ◌≤◌, ◌+◌, ◌-◌, ℕ, Bool, false, nat_lt, if◌then◌else◌, List, [], ◌∷◌, ◌++◌, drop, length, Option, None, Some}
+use Rattle.std.specs.Prelude.{◌≡◌, ◌⊎◌, ◌≤◌, ◌+◌, ◌-◌, ℕ, Bool, false, nat_lt, if◌then◌else◌, List, [], ◌∷◌, ◌++◌, drop, length, Option}
+use Rattle.std.specs.Prelude.{None, Some}
 use Rattle.chacha_seal.specs.Sealing.{check_of}
 use Rattle.cry_io.specs.Told.{WhereBothTold}
 use Rattle.commit_journal.specs.declared.batch_type.BatchType.TheVariants.{Command, NewEpoch}
@@ -66,10 +67,13 @@ pub record IsBehind (b : Batch) (old new : JournalState) : Type 0 where
 -- nothing did
 pub record Joins (b : Batch) (old new : JournalState) (was shows : Option (List ℕ)) : Type 0 where
   pub stands : (bs : List Batch) → IsJournalOf bs old → IsJournalOf (bs ++ b ∷ []) new
-  pub shown : (bs : List Batch) → IsJournalOf bs old → WhereBothTold was shows (λ x y. StandsWhole old.owner bs x → StandsWhole old.owner (bs ++ b ∷ []) y)
-  pub ended : (bs : List Batch) → IsJournalOf bs old → WhereBothTold was shows (λ x y. x ≡ image old.owner bs ++ 0 ∷ [] → y ≡ image old.owner (bs ++ b ∷ []) ++ 0 ∷ [])
+  pub shown : (bs : List Batch) → IsJournalOf bs old
+      → WhereBothTold was shows (λ x y. StandsWhole old.owner bs x → StandsWhole old.owner (bs ++ b ∷ []) y)
+  pub ended : (bs : List Batch) → IsJournalOf bs old
+      → WhereBothTold was shows (λ x y. x ≡ image old.owner bs ++ 0 ∷ [] → y ≡ image old.owner (bs ++ b ∷ []) ++ 0 ∷ [])
   pub further : old.end ≤ new.end
-  pub behind : (bs : List Batch) → IsJournalOf bs old → WhereBothTold was shows (λ x y. StandsWhole old.owner bs x → drop new.end y ≡ drop new.end x)
+  pub behind : (bs : List Batch) → IsJournalOf bs old
+      → WhereBothTold was shows (λ x y. StandsWhole old.owner bs x → drop new.end y ≡ drop new.end x)
 
 -- what a commit leaves that met a fault of the disk: of whatever batches the disk showed the whole image, it now shows bytes that
 -- stand for these, or for these and one more

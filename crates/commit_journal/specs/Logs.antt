@@ -1,12 +1,14 @@
 -- The batches of a log as who reads it may read them: the owner as `log_verdict` says, and a holder, and the owner who
 -- opens it for writing. This project's own, docs/FORMAT.md, "Reading" and "Opening for writing".
-use Rattle.std.specs.Prelude.{◌≡◌, ◌≤◌, ℕ, zero, suc, ◌+◌, ◌-◌, ◌==◌, nat_le, if◌then◌else◌, List, [], ◌∷◌, ◌++◌, length, take, drop, codes, slice_index, slice_range, Option, Some, Result, Ok, Err}
+use Rattle.std.specs.Prelude.{◌≡◌, ◌≤◌, ℕ, zero, suc, ◌+◌, ◌-◌, ◌==◌, nat_le, if◌then◌else◌, List, [], ◌∷◌, ◌++◌, length, take, drop, codes}
+use Rattle.std.specs.Prelude.{slice_index, slice_range, Option, Some, Result, Ok, Err}
 use Rattle.std.specs.Str.{bytes_eq}
 use Rattle.chacha_seal.specs.Sealing.{veil_of, masked}
 use Rattle.commit_journal.specs.declared.head.Head.{Head}
 use Rattle.commit_journal.specs.declared.past.Past.{Past}
 use Rattle.commit_journal.specs.Answering.{Fault, NotAStore, Tampered, and_then}
-use Rattle.commit_journal.specs.Log.{PlainTurn, payload_in, tag_in, tag_due, body_of, placed_body, turn_of, published_turn, head_at, goes_on, start_at}
+use Rattle.commit_journal.specs.Log.{PlainTurn, payload_in, tag_in, tag_due, body_of, placed_body, turn_of, published_turn, head_at}
+use Rattle.commit_journal.specs.Log.{goes_on, start_at}
 use Rattle.commit_journal.specs.Placed.{PlainBody, Commands, NewEpoch, PlainPlaced}
 
 -- the batches behind a gate, as each turn gives them, by the bytes behind it, of which the first so many belong to the

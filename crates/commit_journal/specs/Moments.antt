@@ -14,12 +14,14 @@ use Rattle.commit_journal.specs.Standing.{StandsFor}
 use Rattle.commit_journal.specs.WholeLogs.{StandsWithin}
 
 -- time goes on, and at each moment of the call the disk shows what it showed, and a stop leaves what it left
-pub record IsSameThroughout {D : Type 0} (shown : D → Option (List ℕ)) (may_leave : D → List ℕ → Type 0) (moment : D → ℕ) (since : D → ℕ → List ℕ → List ℕ → Type 0) (old new : D) : Type 0 where
+pub record IsSameThroughout {D : Type 0} (shown : D → Option (List ℕ)) (may_leave : D → List ℕ → Type 0) (moment : D → ℕ) (since : D → ℕ
+    → List ℕ → List ℕ → Type 0) (old new : D) : Type 0 where
   pub later : moment old ≤ moment new
   pub time : GoesOn (moment old) (since old) (since new)
   pub same : Throughout (λ s c. (shown old ≡ Some s) × may_leave old c) (since new (moment old))
 
--- the slot of a batch is filled: what is shown, and what a stop leaves, has it as before, or with any bytes where it didn't hold its veil key
+-- the slot of a batch is filled: what is shown, and what a stop leaves, has it as before, or with any bytes where it didn't hold its veil
+-- key
 abbrev pub FillsSlot : List ℕ → Placed → List ℕ → List ℕ → List ℕ → Type 0
 FillsSlot owner p old s c =
     LeavesSlot (p.place - 32) (veil_of owner p.epoch.0 p.batch) old s × LeavesSlot (p.place - 32) (veil_of owner p.epoch.0 p.batch) old c
@@ -27,7 +29,8 @@ FillsSlot owner p old s c =
 -- Slots of these batches are filled one after another, each made to stay before the next: at each moment some of them are filled, in
 -- what is shown and in what a stop leaves, and one more may hold any bytes
 abbrev pub FillsThroughout : List ℕ → List PlainPlaced → Option (List ℕ) → (List ℕ → List ℕ → Type 0) → Type 0
-FillsThroughout owner placed was since = WhereTold was (λ x. Throughout (λ s c. LeavesSlots owner placed x s × LeavesSlots owner placed x c) since)
+FillsThroughout owner placed was since = WhereTold was (λ x. Throughout (λ s c. LeavesSlots owner placed x s
+    × LeavesSlots owner placed x c) since)
 
 -- A store is opened for writing: at each moment the disk shows what it showed, with slots filled where its log passes every test. What a
 -- stop leaves it left before the call, or is such an image too
@@ -39,5 +42,6 @@ OpensThroughout limit owner was left since =
 -- lie between the two, a stop at each moment leaves bytes that stand for a list between them
 abbrev pub KeepsHeld : ℕ → List ℕ → Option (List ℕ) → (List ℕ → Type 0) → (List ℕ → List ℕ → Type 0) → Type 0
 KeepsHeld limit owner was left since =
-    (low high : List Batch) (bodies : List PlainBody) → HoldsBetween (StandsFor owner) low high was left → WhereTold was (StandsWithin limit owner bodies) →
+    (low high : List Batch) (bodies : List PlainBody) → HoldsBetween (StandsFor owner) low high was left
+    → WhereTold was (StandsWithin limit owner bodies) →
     IsPrefix low (batches_from 0 0 bodies) → IsPrefix (batches_from 0 0 bodies) high → Kept (StandsFor owner) low high high since

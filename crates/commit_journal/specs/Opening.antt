@@ -1,6 +1,7 @@
 -- What the owner's key reads of a store that is opened for writing, and the slots that are then filled. This project's own,
 -- docs/FORMAT.md, "Opening for writing".
-use Rattle.std.specs.Prelude.{◌≡◌, ◌≢◌, ◌⊎◌, ◌≤◌, ℕ, zero, suc, ◌+◌, ◌-◌, ◌*◌, true, false, ◌==◌, nat_le, if◌then◌else◌, List, [], ◌∷◌, ◌++◌, length, take, drop, slice_range, Option, None, Some, Result, Ok, Err}
+use Rattle.std.specs.Prelude.{◌≡◌, ◌≢◌, ◌⊎◌, ◌≤◌, ℕ, zero, suc, ◌+◌, ◌-◌, ◌*◌, true, false, ◌==◌, nat_le, if◌then◌else◌, List, [], ◌∷◌}
+use Rattle.std.specs.Prelude.{◌++◌, length, take, drop, slice_range, Option, None, Some, Result, Ok, Err}
 pub use Rattle.batch_log.specs.Steps.{IsGatedAt, written_at}
 use Rattle.std.specs.Str.{bytes_eq}
 use Rattle.chacha_seal.specs.Sealing.{veil_of, masked}
@@ -87,7 +88,8 @@ LeavesSlots owner (p ∷ ps) old new =
 -- what opening leaves of an image where the disk failed: all of it; or, where every test of its log passes, some slots of that log
 -- with their veil keys, and the next one with any bytes
 abbrev pub LeavesGated : ℕ → List ℕ → List ℕ → List ℕ → Type 0
-LeavesGated limit owner old new = (new ≡ old) ⊎ ((log : OwnedLog) × (opening_verdict limit owner old ≡ Ok log) × LeavesSlots owner log.placed old new)
+LeavesGated limit owner old new = (new ≡ old)
+    ⊎ ((log : OwnedLog) × (opening_verdict limit owner old ≡ Ok log) × LeavesSlots owner log.placed old new)
 
 -- from this place on the batches stand in the bytes one behind another, each behind its open gate
 abbrev pub AreGated : ℕ → List PlainPlaced → List ℕ → Type 0

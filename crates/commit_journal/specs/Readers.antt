@@ -1,6 +1,7 @@
 -- The batches of a log as who reads it reads them, batch by batch: the owner, or anybody without a key. This project's own,
 -- docs/FORMAT.md, "Reading".
-use Rattle.std.specs.Prelude.{ℕ, ◌+◌, Bool, true, nat_le, if◌then◌else◌, List, [], ◌∷◌, ◌++◌, length, take, drop, codes, slice_index, slice_range, Option, None, Some, Result, Ok, Err}
+use Rattle.std.specs.Prelude.{ℕ, ◌+◌, Bool, true, nat_le, if◌then◌else◌, List, [], ◌∷◌, ◌++◌, length, take, drop, codes, slice_index}
+use Rattle.std.specs.Prelude.{slice_range, Option, None, Some, Result, Ok, Err}
 use Rattle.std.specs.Str.{bytes_eq}
 use Rattle.chacha_seal.specs.Keys.{KeyParts}
 use Rattle.hmac_seal.specs.Hmac.{hmac}
@@ -8,7 +9,8 @@ use Rattle.chacha_seal.specs.Sealing.{check_of, masked}
 use Rattle.commit_journal.specs.declared.head.Head.{Head}
 use Rattle.commit_journal.specs.declared.past.Past.{Past}
 use Rattle.commit_journal.specs.Answering.{Fault, NotAStore, WrongKey, Tampered, and_then}
-use Rattle.commit_journal.specs.Log.{PlainTurn, tag_due, slot_in, payload_in, check_in, tag_in, body_of, placed_body, turn_of, published_turn}
+use Rattle.commit_journal.specs.Log.{PlainTurn, tag_due, slot_in, payload_in, check_in, tag_in, body_of, placed_body, turn_of}
+use Rattle.commit_journal.specs.Log.{published_turn}
 use Rattle.commit_journal.specs.Logs.{walk_at, turn_by}
 use Rattle.commit_journal.specs.Placed.{PlainPlaced}
 

@@ -24,8 +24,8 @@ abbrev pub HoldsLog : Batch → JournalState → Option (List ℕ) → (List ℕ
 HoldsLog b old was left shown may_leave = (bs : List Batch) → IsJournalOf bs old → IsDurable left was → Shows (StandsWhole old.owner) bs was
     → HoldsBetween (StandsFor old.owner) bs (bs ++ b ∷ []) shown may_leave
 
--- Where nothing was pending and the log ended with a closed gate: at each moment in which the gate that is shown is open and the slot that is
--- shown isn't zero, a stop leaves the whole batch, its slot aside, behind an open gate
+-- Where nothing was pending and the log ended with a closed gate: at each moment in which the gate that is shown is open and the slot that
+-- is shown isn't zero, a stop leaves the whole batch, its slot aside, behind an open gate
 abbrev pub HoldsPublished : Batch → JournalState → Option (List ℕ) → (List ℕ → Type 0) → (List ℕ → List ℕ → Type 0) → Type 0
 HoldsPublished b old was may_leave since =
     IsDurable may_leave was → WhereTold was (λ x. EndsAt old.end x → Throughout (IsHeldWhereShown old.end (staged_batch old b)) since)

@@ -1,5 +1,6 @@
 -- A log that is read batch by batch. This project's own, docs/FORMAT.md, "Reading".
-use Rattle.std.specs.Prelude.{◌≡◌, ◌<◌, ◌≤◌, ℕ, ◌+◌, ◌-◌, ◌==◌, if◌then◌else◌, List, [], ◌∷◌, ◌++◌, length, drop, take, get_or, Option, None, Some, Result, Ok}
+use Rattle.std.specs.Prelude.{◌≡◌, ◌<◌, ◌≤◌, ℕ, ◌+◌, ◌-◌, ◌==◌, if◌then◌else◌, List, [], ◌∷◌, ◌++◌, length, drop, take, get_or, Option}
+use Rattle.std.specs.Prelude.{None, Some, Result, Ok}
 use Rattle.commit_journal.specs.declared.past.Past.{Past}
 use Rattle.commit_journal.specs.declared.placed.Placed.{Placed}
 use Rattle.commit_journal.specs.Answering.{Fault, and_then}
@@ -43,7 +44,8 @@ again_in log batch bytes = and_then (again_at log.owner (start_of log batch) byt
 
 -- a file of these bytes shows the batches as they were given
 abbrev pub ShowsGiven : LogState → List ℕ → Type 0
-ShowsGiven log bytes = (batch : ℕ) (p : PlainPlaced) → 1 ≤ batch → batch ≤ length log.given → again_in log batch bytes ≡ Ok (get_or log.given (batch - 1) p)
+ShowsGiven log bytes = (batch : ℕ) (p : PlainPlaced) → 1 ≤ batch → batch ≤ length log.given
+    → again_in log batch bytes ≡ Ok (get_or log.given (batch - 1) p)
 
 -- the batch that was given, with what is known behind it; or the end of the log
 abbrev pub given_turn : Past → Option Placed → Option PlainTurn

@@ -26,4 +26,5 @@ StandsWithin limit owner bodies bytes =
 
 -- of whatever batches within the store limit bytes stood, they stand for them still
 abbrev pub StillStand : ℕ → List ℕ → List ℕ → List ℕ → Type 0
-StillStand limit owner old new = (bodies : List PlainBody) → StandsWithin limit owner bodies old → StandsFor owner (batches_from 0 0 bodies) new
+StillStand limit owner old new = (bodies : List PlainBody) → StandsWithin limit owner bodies old
+    → StandsFor owner (batches_from 0 0 bodies) new

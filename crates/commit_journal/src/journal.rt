@@ -1,5 +1,6 @@
 //! A journal that is open for writing: it knows what its next batch follows, and commits it.
-ghost use Rattle.std.specs.Prelude.{◌≡◌, ◌↔◌, ◌+◌, ◌-◌, ◌*◌, ◌<◌, ◌≤◌, ◌^◌, [], ◌∷◌, ◌++◌, codes, false, if◌then◌else◌, is_some, max, None, Some, Err, IfOk, IfErr, OnErr, OnOk, IsTrue};
+ghost use Rattle.std.specs.Prelude.{◌≡◌, ◌↔◌, ◌+◌, ◌-◌, ◌*◌, ◌<◌, ◌≤◌, ◌^◌, [], ◌∷◌, ◌++◌, codes, false, if◌then◌else◌, is_some, max, None};
+ghost use Rattle.std.specs.Prelude.{Some, Err, IfOk, IfErr, OnErr, OnOk, IsTrue};
 ghost use Rattle.cry_io.specs.Counts.{CountsFault};
 ghost use Rattle.cry_io.specs.Stops.{IsDurable};
 ghost use Rattle.cry_io.specs.Told.{WhereTold};
@@ -286,8 +287,10 @@ impl Journal {
             (result ≡ Err fault) × (self.new ≡ self.old) × (disk.new ≡ disk.old) }
         ensures taken { journals.refusal self.old 0 ≡ None → IfErr result (λ fault. fault ≡ CommitFault.DiskFault) }
         ensures behind { OnOk result (journals.IsBehind (journals.next_epoch self.old) self.old self.new) }
-        ensures joined { OnOk result (journals.Joins (journals.next_epoch self.old) self.old self.new (D.shown disk.old) (D.shown disk.new)) }
-        ensures interrupted { result ≡ Err CommitFault.DiskFault → journals.MayJoin (journals.next_epoch self.old) self.old (D.shown disk.old) (D.shown disk.new) }
+        ensures joined { OnOk result (journals.Joins (journals.next_epoch self.old) self.old self.new (D.shown disk.old)
+            (D.shown disk.new)) }
+        ensures interrupted { result ≡ Err CommitFault.DiskFault
+            → journals.MayJoin (journals.next_epoch self.old) self.old (D.shown disk.old) (D.shown disk.new) }
         ensures later { D.moment disk.old ≤ D.moment disk.new }
         ensures time { GoesOn (D.moment disk.old) (D.since disk.old) (D.since disk.new) }
         ensures kept { stopping.KeepsLog (journals.next_epoch self.old) self.old
@@ -356,10 +359,12 @@ impl Journal {
             (result ≡ Err fault) × (self.new ≡ self.old) × (disk.new ≡ disk.old) }
         ensures taken { journals.refusal self.old (payload_size (plain_payload payload.now)) ≡ None →
             IfErr result (λ fault. fault ≡ CommitFault.DiskFault) }
-        ensures behind { OnOk result (journals.IsBehind (journals.next_command self.old (spell_payload (plain_payload payload.now))) self.old self.new) }
+        ensures behind { OnOk result (journals.IsBehind (journals.next_command self.old (spell_payload (plain_payload payload.now)))
+            self.old self.new) }
         ensures joined { OnOk result (journals.Joins (journals.next_command self.old (spell_payload (plain_payload payload.now)))
             self.old self.new (D.shown disk.old) (D.shown disk.new)) }
-        ensures interrupted { result ≡ Err CommitFault.DiskFault → journals.MayJoin (journals.next_command self.old (spell_payload (plain_payload payload.now)))
+        ensures interrupted { result ≡ Err CommitFault.DiskFault
+            → journals.MayJoin (journals.next_command self.old (spell_payload (plain_payload payload.now)))
             self.old (D.shown disk.old) (D.shown disk.new) }
         ensures later { D.moment disk.old ≤ D.moment disk.new }
         ensures time { GoesOn (D.moment disk.old) (D.since disk.old) (D.since disk.new) }
@@ -367,7 +372,8 @@ impl Journal {
             (D.shown disk.old) (D.may_leave disk.old) (D.since disk.new (D.moment disk.old)) }
         ensures held { stopping.HoldsPublished (journals.next_command self.old (spell_payload (plain_payload payload.now))) self.old
             (D.shown disk.old) (D.may_leave disk.old) (D.since disk.new (D.moment disk.old)) }
-        ensures shows { OnOk result (stopping.ShowsFour (journals.next_command self.old (spell_payload (plain_payload payload.now))) self.old
+        ensures shows { OnOk result (stopping.ShowsFour (journals.next_command self.old (spell_payload (plain_payload payload.now)))
+            self.old
             (D.shown disk.old) (D.since disk.new (D.moment disk.old))) }
         ensures holds { stopping.HoldsLog (journals.next_command self.old (spell_payload (plain_payload payload.now))) self.old
             (D.shown disk.old) (D.may_leave disk.old) (D.shown disk.new) (D.may_leave disk.new) }

@@ -172,7 +172,14 @@ pub(crate) fn turn_of(past: &Past, head: &Head, body: Body, tag: [u8; 32], gate:
     requires size { HasSize head.now.size body }
     ensures stands { IsStanding result.placed }
     ensures placed { result.placed ≡ record { batch = head.now.number; epoch = head.now.epoch; place = past.now.at + 45; body = body } }
-    ensures past { result.past ≡ record { at = past.now.at + (110 + head.now.size); number = head.now.number; epoch = head.now.epoch; tag = tag; gate = gate } }
+    ensures past { result.past ≡ record {
+      at = past.now.at + (110 + head.now.size);
+      number = head.now.number;
+      epoch = head.now.epoch;
+      tag =
+          tag;
+      gate = gate;
+    } }
 {
     Turn {
         placed: Placed {
@@ -233,7 +240,8 @@ pub(crate) fn judge_read(
     requires whole { length batch.old ≡ 110 + head.now.size }
     requires behind { 42 ≤ past.now.at }
     requires fits { past.now.at + (110 + head.now.size) ≤ 268435456 }
-    ensures answer { Answers plain_option result (readers.read_turn (readers.key_bytes (option_copied owner.entry)) past.now head.now batch.old) }
+    ensures answer { Answers plain_option result
+        (readers.read_turn (readers.key_bytes (option_copied owner.entry)) past.now head.now batch.old) }
     ensures next { IfOk result (GoesOnAt (past.now.at + (110 + head.now.size))) }
     ensures turn { IfOk result (opening.IsNextOf past.now head.now) }
     ensures stands { IfOk result TurnStands }
@@ -258,7 +266,8 @@ pub(crate) fn judge_again(
     requires whole { length batch.old ≡ 110 + head.now.size }
     requires behind { 42 ≤ past.now.at }
     requires fits { past.now.at + (110 + head.now.size) ≤ 268435456 }
-    ensures answer { Answers plain_turn result (readers.again_turn (readers.key_bytes (option_copied owner.entry)) past.now head.now batch.old) }
+    ensures answer { Answers plain_turn result
+        (readers.again_turn (readers.key_bytes (option_copied owner.entry)) past.now head.now batch.old) }
     ensures turn { IfOk result (opening.IsTurnOf past.now head.now) }
     ensures stands { IfOk result (λ turn. IsStanding turn.placed) }
     ensures no_disk { result ≢ Err OpenFault.DiskFault }

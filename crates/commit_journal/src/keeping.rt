@@ -41,7 +41,8 @@ pub fn kept_by_two_calls<D: Disk>(between: &D, after: &D)
 
 /// Law: time goes on in one call of a disk, and in two calls one after the other.
 pub fn time_goes_on<D: Disk>(before: &D, between: &D, after: &D)
-    ensures one { Elapses (D.moment before.now) (D.moment between.now) (D.since before.now) (D.since between.now) (D.shown between.now) (D.may_leave between.now) →
+    ensures one { Elapses (D.moment before.now) (D.moment between.now) (D.since before.now) (D.since between.now) (D.shown between.now)
+        (D.may_leave between.now) →
         GoesOn (D.moment before.now) (D.since before.now) (D.since between.now) }
     ensures two { D.moment before.now ≤ D.moment between.now →
         GoesOn (D.moment before.now) (D.since before.now) (D.since between.now) →

@@ -11,13 +11,16 @@ ghost use Rattle.commit_journal.specs.Standing.{StandsFor};
 
 /// Law: the walk from gate to gate, by the turns of a reader who has the owner's key, gives that reader's log.
 pub fn owner_walks_the_log()
-    ensures { (owner bytes : List ℕ) → and_then (start_at owner bytes) (λ past. walk_at (turn_at owner) past 0 (drop 42 bytes)) ≡ log_verdict owner bytes }
+    ensures { (owner bytes : List ℕ) → and_then (start_at owner bytes) (λ past. walk_at (turn_at owner) past 0 (drop 42 bytes))
+        ≡ log_verdict owner bytes }
 {}
 
 /// Law: what a holder, or the owner who opens for writing, reads as a log is read as the same log with more bytes behind it.
 pub fn nobody_looks_behind()
-    ensures holder { (front behind : List ℕ) (placed : List PlainPlaced) → holder_log front ≡ Ok placed → holder_log (front ++ behind) ≡ Ok placed }
-    ensures writer { (owner front behind : List ℕ) (placed : List PlainPlaced) → writer_log owner front ≡ Ok placed → writer_log owner (front ++ behind) ≡ Ok placed }
+    ensures holder { (front behind : List ℕ) (placed : List PlainPlaced) → holder_log front ≡ Ok placed
+        → holder_log (front ++ behind) ≡ Ok placed }
+    ensures writer { (owner front behind : List ℕ) (placed : List PlainPlaced) → writer_log owner front ≡ Ok placed
+        → writer_log owner (front ++ behind) ≡ Ok placed }
 {}
 
 /// Law: where the owner reads a log, a holder reads the same.
@@ -38,6 +41,8 @@ pub fn writers_epochs_count_up()
 
 /// Law: bytes that stand for batches are opened for writing as these very batches, whatever the last slot holds.
 pub fn standing_bytes_are_opened_whole()
-    ensures { (owner : List ℕ) (bodies : List PlainBody) (bytes : List ℕ) → StandsFor owner (batches_from 0 0 bodies) bytes → AreBodies 0 bodies →
-        42 + sum_by (λ (b : Batch). 110 + length b.payload) (batches_from 0 0 bodies) ≤ 268435456 → writer_log owner bytes ≡ Ok (placed_from 42 0 0 bodies) }
+    ensures { (owner : List ℕ) (bodies : List PlainBody) (bytes : List ℕ) → StandsFor owner (batches_from 0 0 bodies) bytes
+        → AreBodies 0 bodies →
+        42 + sum_by (λ (b : Batch). 110 + length b.payload) (batches_from 0 0 bodies) ≤ 268435456
+        → writer_log owner bytes ≡ Ok (placed_from 42 0 0 bodies) }
 {}

@@ -51,7 +51,8 @@ struct Walked {
 fn read_owned_head<D: Disk>(disk: &mut D, limit: u64, past: &Past) -> Result<Head, OpenFault>
     requires small { past.now.at ≤ 2 ^ 32 }
     requires inside { past.now.at ≤ D.size_of disk.old }
-    ensures answer { WhereTold (D.shown disk.old) (λ s. Answers (λ head. head) result (opening.owned_head limit past.now (drop past.now.at s))) }
+    ensures answer { WhereTold (D.shown disk.old)
+        (λ s. Answers (λ head. head) result (opening.owned_head limit past.now (drop past.now.at s))) }
     ensures inside { IfOk result (λ head. past.now.at + (110 + head.size) ≤ D.size_of disk.old) }
     ensures small { IfOk result (λ head. past.now.at + (110 + head.size) ≤ 268435456) }
     ensures next { IfOk result (opening.IsNext past.now) }
@@ -139,7 +140,8 @@ fn fill_slot<D: Disk>(disk: &mut D, owner: &LogKey, placed: &Placed) -> Result<(
     ensures durable { OnOk result (IsDurable (D.may_leave disk.new) (D.shown disk.new)) }
     ensures later { D.moment disk.old ≤ D.moment disk.new }
     ensures time { GoesOn (D.moment disk.old) (D.since disk.old) (D.since disk.new) }
-    ensures stops { WhereTold (D.shown disk.old) (λ x. Throughout (FillsSlot owner.now.bytes placed.now x) (D.since disk.new (D.moment disk.old))) }
+    ensures stops { WhereTold (D.shown disk.old)
+        (λ x. Throughout (FillsSlot owner.now.bytes placed.now x) (D.since disk.new (D.moment disk.old))) }
     ensures told { is_some (D.shown disk.new) ≡ is_some (D.shown disk.old) }
     ensures size { D.size_of disk.new ≡ D.size_of disk.old }
     ensures counts { CountsFault result (D.faults disk.old) (D.faults disk.new) }
@@ -163,7 +165,8 @@ fn fill_slots<D: Disk>(disk: &mut D, owner: &LogKey, log: &[Placed]) -> Result<(
     requires nothing_pending { IsDurable (D.may_leave disk.old) (D.shown disk.old) }
     ensures filled { OnOk result (WhereBothTold (D.shown disk.old) (D.shown disk.new)
         (λ x y. y ≡ opening.slots_filled owner.now.bytes (map plain_placed log.now) x)) }
-    ensures left { OnErr result (WhereBothTold (D.shown disk.old) (D.shown disk.new) (opening.LeavesSlots owner.now.bytes (map plain_placed log.now))) }
+    ensures left { OnErr result (WhereBothTold (D.shown disk.old) (D.shown disk.new)
+        (opening.LeavesSlots owner.now.bytes (map plain_placed log.now))) }
     ensures durable { OnOk result (IsDurable (D.may_leave disk.new) (D.shown disk.new)) }
     ensures later { D.moment disk.old ≤ D.moment disk.new }
     ensures time { GoesOn (D.moment disk.old) (D.since disk.old) (D.since disk.new) }
@@ -211,14 +214,17 @@ impl Journal {
         ensures inside { IfOk result (λ o. o.journal.end ≤ D.size_of disk.new) }
         ensures told { is_some (D.shown disk.new) ≡ is_some (D.shown disk.old) }
         ensures size { D.size_of disk.new ≡ D.size_of disk.old }
-        ensures refused { IfErr result (λ fault. (fault ≡ OpenFault.DiskFault) ⊎ IsUntouched D.shown D.size_of D.may_leave disk.old disk.new) }
-        ensures interrupted { OnErr result (WhereBothTold (D.shown disk.old) (D.shown disk.new) (opening.LeavesGated limits.store_bytes owner.now.bytes)) }
+        ensures refused { IfErr result (λ fault. (fault ≡ OpenFault.DiskFault)
+            ⊎ IsUntouched D.shown D.size_of D.may_leave disk.old disk.new) }
+        ensures interrupted { OnErr result (WhereBothTold (D.shown disk.old) (D.shown disk.new)
+            (opening.LeavesGated limits.store_bytes owner.now.bytes)) }
         ensures left { OnErr result (WhereBothTold (D.shown disk.old) (D.shown disk.new) (StillStand limits.store_bytes owner.now.bytes)) }
         ensures later { D.moment disk.old ≤ D.moment disk.new }
         ensures time { GoesOn (D.moment disk.old) (D.since disk.old) (D.since disk.new) }
         ensures stops { OpensThroughout limits.store_bytes owner.now.bytes (D.shown disk.old) (D.may_leave disk.old)
             (D.since disk.new (D.moment disk.old)) }
-        ensures kept { KeepsHeld limits.store_bytes owner.now.bytes (D.shown disk.old) (D.may_leave disk.old) (D.since disk.new (D.moment disk.old)) }
+        ensures kept { KeepsHeld limits.store_bytes owner.now.bytes (D.shown disk.old) (D.may_leave disk.old)
+            (D.since disk.new (D.moment disk.old)) }
         ensures counts { D.faults disk.old ≤ D.faults disk.new }
         ensures disk_fault { result ≡ Err OpenFault.DiskFault → D.faults disk.old < D.faults disk.new }
     {

@@ -1,6 +1,7 @@
 //! Reads the log of a store file, one batch after the other, with the owner's key or without one. The file is never
 //! written (docs/FORMAT.md, "Reading").
-ghost use Rattle.std.specs.Prelude.{◌≡◌, ◌≢◌, ◌⊎◌, ◌<◌, ◌≤◌, ◌+◌, ◌^◌, [], ◌∷◌, ◌++◌, None, Ok, Err, drop, length, option_copied, IfOk, IfErr, OnOk, OnErr, IsTrue, MatchResult, All};
+ghost use Rattle.std.specs.Prelude.{◌≡◌, ◌≢◌, ◌⊎◌, ◌<◌, ◌≤◌, ◌+◌, ◌^◌, [], ◌∷◌, ◌++◌, None, Ok, Err, drop, length, option_copied, IfOk};
+ghost use Rattle.std.specs.Prelude.{IfErr, OnOk, OnErr, IsTrue, MatchResult, All};
 ghost use Rattle.cry_io.specs.Told.{WhereTold};
 ghost use Rattle.commit_journal.specs.Answering.{Answers, IsFault};
 ghost use Rattle.commit_journal.specs.Log.{log_verdict};
@@ -63,7 +64,8 @@ fn header_of(owner: Option<&Key<OwnerK>>, header: &[u8; HEADER_LEN]) -> Result<P
 }
 
 fn read_header<D: Disk>(disk: &mut D, owner: Option<&Key<OwnerK>>) -> Result<Past, OpenFault>
-    ensures answer { WhereTold (D.shown disk.old) (λ s. Answers (λ past. past) result (readers.header_at (readers.key_bytes (option_copied owner.entry)) s)) }
+    ensures answer { WhereTold (D.shown disk.old)
+        (λ s. Answers (λ past. past) result (readers.header_at (readers.key_bytes (option_copied owner.entry)) s)) }
     ensures place { IfOk result (λ past. past.at ≡ 42) }
     ensures fresh { IfOk result (λ past. (past.number ≡ 0) × (past.epoch.0 ≡ 0)) }
     ensures inside { OnOk result (42 ≤ D.size_of disk.old) }
@@ -90,7 +92,8 @@ fn read_turn<D: Disk>(
     requires behind { 42 ≤ past.now.at }
     requires small { past.now.at ≤ 2 ^ 32 }
     ensures answer { WhereTold (D.shown disk.old)
-        (λ s. Answers plain_option result (turn_by (readers.read_turn (readers.key_bytes (option_copied owner.entry))) past.now (drop past.now.at s))) }
+        (λ s. Answers plain_option result (turn_by (readers.read_turn (readers.key_bytes (option_copied owner.entry))) past.now
+        (drop past.now.at s))) }
     ensures next { IfOk result (opening.GoesOnTo past.now (D.size_of disk.old)) }
     ensures in_epoch { IfOk result (opening.GoesOnIn past.now) }
     ensures stands { IfOk result TurnStands }
@@ -173,10 +176,14 @@ impl PublicLog {
         disk: &mut D,
         owner: Option<&Key<OwnerK>>,
     ) -> Result<PublicLog, OpenFault>
-        ensures verdict { WhereTold (D.shown disk.old) (λ s. Answers (λ log. log.past) result (readers.header_at (readers.key_bytes (option_copied owner.entry)) s)) }
-        ensures log { WhereTold (D.shown disk.old) (λ s. IfOk result (λ log. streaming.log_in log s ≡ readers.read_log (readers.key_bytes (option_copied owner.entry)) s)) }
-        ensures failed { WhereTold (D.shown disk.old) (λ s. IfErr result (λ fault. IsFault fault (readers.read_log (readers.key_bytes (option_copied owner.entry)) s))) }
-        ensures fresh { IfOk result (λ log. (log.owner ≡ readers.key_bytes (option_copied owner.entry)) × (log.given ≡ []) × (log.starts ≡ [])) }
+        ensures verdict { WhereTold (D.shown disk.old)
+            (λ s. Answers (λ log. log.past) result (readers.header_at (readers.key_bytes (option_copied owner.entry)) s)) }
+        ensures log { WhereTold (D.shown disk.old) (λ s. IfOk result (λ log. streaming.log_in log s
+            ≡ readers.read_log (readers.key_bytes (option_copied owner.entry)) s)) }
+        ensures failed { WhereTold (D.shown disk.old)
+            (λ s. IfErr result (λ fault. IsFault fault (readers.read_log (readers.key_bytes (option_copied owner.entry)) s))) }
+        ensures fresh { IfOk result (λ log. (log.owner ≡ readers.key_bytes (option_copied owner.entry)) × (log.given ≡ [])
+            × (log.starts ≡ [])) }
         ensures inside { IfOk result (λ log. log.past.at ≤ D.size_of disk.old) }
         ensures no_key { option_copied owner.entry ≡ None → result ≢ Err OpenFault.WrongKey }
         ensures read_only { IsOnlyRead D.shown D.size_of D.may_leave disk.old disk.new }
@@ -260,7 +267,8 @@ impl PublicLog {
         alloc: Global,
         disk: &mut D,
     ) -> Result<Option<Placed>, OpenFault>
-        ensures verdict { WhereTold (D.shown disk.old) (λ s. Answers (streaming.given_turn self.new.past) result (streaming.next_in self.old s)) }
+        ensures verdict { WhereTold (D.shown disk.old)
+            (λ s. Answers (streaming.given_turn self.new.past) result (streaming.next_in self.old s)) }
         ensures gives { IfOk result (λ next. streaming.Gives (D.size_of disk.old) self.old next self.new) }
         ensures unchanged { OnErr result (self.new ≡ self.old) }
         ensures log { WhereTold (D.shown disk.old) (λ s. streaming.log_in self.new s ≡ streaming.log_in self.old s) }
@@ -295,7 +303,8 @@ impl PublicLog {
         requires given { (1 ≤ batch) × (batch ≤ length self.now.given) }
         ensures verdict { WhereTold (D.shown disk.old) (λ s. Answers plain_placed result (streaming.again_in self.now batch s)) }
         ensures same { WhereTold (D.shown disk.old) (λ s. (p : PlainPlaced) → streaming.again_in self.now batch s ≡ Ok p →
-            MatchResult result (λ placed. plain_placed placed ≡ p) (λ fault. (fault ≡ OpenFault.DiskFault) ⊎ (fault ≡ OpenFault.OutOfMemory))) }
+            MatchResult result (λ placed. plain_placed placed ≡ p) (λ fault. (fault ≡ OpenFault.DiskFault)
+            ⊎ (fault ≡ OpenFault.OutOfMemory))) }
         ensures batch { IfOk result (λ placed. placed.batch ≡ batch) }
         ensures place { IfOk result (λ placed. placed.place ≡ (streaming.start_of self.now batch).at + 45) }
         ensures stands { IfOk result IsStanding }
@@ -314,7 +323,8 @@ fn read_log<D: Disk>(
     disk: &mut D,
     owner: Option<&Key<OwnerK>>,
 ) -> Result<List<Placed>, OpenFault>
-    ensures verdict { WhereTold (D.shown disk.old) (λ s. Answers plain_log result (readers.read_log (readers.key_bytes (option_copied owner.entry)) s)) }
+    ensures verdict { WhereTold (D.shown disk.old)
+        (λ s. Answers plain_log result (readers.read_log (readers.key_bytes (option_copied owner.entry)) s)) }
     ensures stands { IfOk result (λ log. All IsStanding log.items) }
     ensures epochs { IfOk result (λ log. AreInEpochs 0 (plain_log log)) }
     ensures no_key { option_copied owner.entry ≡ None → result ≢ Err OpenFault.WrongKey }

@@ -1,5 +1,6 @@
 -- This project's own, docs/FORMAT.md: names and paths.
-use Rattle.std.specs.Prelude.{◌≡◌, ℕ, Bool, false, not, ◌&&◌, ◌||◌, nat_le, ◌==◌, List, [], ◌∷◌, length, flat_map, IsTrue, if◌then◌else◌, bytes_eq, codes}
+use Rattle.std.specs.Prelude.{◌≡◌, ℕ, Bool, false, not, ◌&&◌, ◌||◌, nat_le, ◌==◌, List, [], ◌∷◌, length, flat_map, IsTrue, if◌then◌else◌}
+use Rattle.std.specs.Prelude.{bytes_eq, codes}
 use Rattle.std.specs.List.{list_all}
 
 -- from the one number up to the other
@@ -12,7 +13,8 @@ is_name_byte b = is_between 65 90 b || is_between 97 122 b || is_between 48 57 b
 
 -- 1 to 64 such bytes, and neither "." nor ".."
 unfoldable pub is_name : List ℕ → Bool
-is_name name = is_between 1 64 (length name) && list_all is_name_byte name && not (bytes_eq name (codes ".")) && not (bytes_eq name (codes ".."))
+is_name name = is_between 1 64 (length name) && list_all is_name_byte name && not (bytes_eq name (codes "."))
+    && not (bytes_eq name (codes ".."))
 
 -- a slash before each name, and a slash alone where there is no name
 unfoldable pub spell_path : List (List ℕ) → List ℕ

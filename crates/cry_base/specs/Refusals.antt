@@ -1,7 +1,8 @@
 -- This project's own, docs/FORMAT.md: the words of the refusals.
 use Rattle.std.specs.Prelude.{ℕ, List, codes}
 use Rattle.cry_base.specs.declared.commands.Refusal.{Refusal}
-use Rattle.cry_base.specs.declared.commands.Refusal.TheVariants.{BadName, NoPath, IsRoot, NotFolder, IsFolder, Exists, NotEmpty, InsideItself, TooDeep, NoHolder, HasGrant, NoGrant, TooLong, Full}
+use Rattle.cry_base.specs.declared.commands.Refusal.TheVariants.{BadName, NoPath, IsRoot, NotFolder, IsFolder, Exists, NotEmpty}
+use Rattle.cry_base.specs.declared.commands.Refusal.TheVariants.{InsideItself, TooDeep, NoHolder, HasGrant, NoGrant, TooLong, Full}
 
 -- the word that a reply gives for a refusal
 abbrev pub word_of : Refusal → List ℕ

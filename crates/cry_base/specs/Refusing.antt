@@ -1,12 +1,14 @@
 -- When a command is refused. This project's own, docs/FORMAT.md: the causes are tested in this order.
-use Rattle.std.specs.Prelude.{ℕ, ◌+◌, ◌-◌, max, Bool, true, false, cond, not, ◌&&◌, ◌||◌, nat_lt, ◌==◌, List, [], ◌∷◌, map, length, find, fold, Option, Some, None, option_map, is_some, is_none, bytes_eq}
+use Rattle.std.specs.Prelude.{ℕ, ◌+◌, ◌-◌, max, Bool, true, false, cond, not, ◌&&◌, ◌||◌, nat_lt, ◌==◌, List, [], ◌∷◌, map, length, find}
+use Rattle.std.specs.Prelude.{fold, Option, Some, None, option_map, is_some, is_none, bytes_eq}
 use Rattle.std.specs.List.{list_any, list_all}
 use Rattle.cry_base.specs.Naming.{is_name, is_path, is_root_path, parent_path, names_of}
 use Rattle.cry_base.specs.Requests.{Request, paths_of}
 use Rattle.cry_base.specs.Requests.Request.{AddHolder, MakeFolder, WriteFile, Remove, Rename, Relocate, Grant, Revoke}
 use Rattle.cry_base.specs.Store.{Store, folder_entry, file_entry, holder_entry, has_grant, depth_of, nodes_of, node_at, is_within}
 use Rattle.cry_base.specs.declared.commands.Refusal.{Refusal}
-use Rattle.cry_base.specs.declared.commands.Refusal.TheVariants.{BadName, NoPath, IsRoot, NotFolder, IsFolder, Exists, NotEmpty, InsideItself, TooDeep, NoHolder, HasGrant, NoGrant, TooLong}
+use Rattle.cry_base.specs.declared.commands.Refusal.TheVariants.{BadName, NoPath, IsRoot, NotFolder, IsFolder, Exists, NotEmpty}
+use Rattle.cry_base.specs.declared.commands.Refusal.TheVariants.{InsideItself, TooDeep, NoHolder, HasGrant, NoGrant, TooLong}
 use Rattle.cry_base.specs.declared.roles.Node.{Node}
 use Rattle.cry_base.specs.declared.roles.Node.TheVariants.{Folder, File}
 
@@ -71,7 +73,8 @@ writes_folder s r = false
 
 -- whether a folder or file in the folder has the name
 unfoldable pub holds_name : Store → ℕ → List ℕ → Bool
-holds_name s f name = list_any (λ e. e.parent == f && bytes_eq e.name name) s.folders || list_any (λ e. e.folder == f && bytes_eq e.name name) s.files
+holds_name s f name = list_any (λ e. e.parent == f && bytes_eq e.name name) s.folders
+    || list_any (λ e. e.folder == f && bytes_eq e.name name) s.files
 
 -- the folder that a node is in, and its name
 unfoldable pub parent_of : Store → Option Node → ℕ

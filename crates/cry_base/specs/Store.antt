@@ -1,5 +1,6 @@
 -- The plain store: what a store holds, with no key of a folder in it. This project's own, docs/FORMAT.md.
-use Rattle.std.specs.Prelude.{ℕ, zero, suc, Bool, ◌&&◌, ◌==◌, List, [], ◌∷◌, ◌++◌, map, length, find, drop, Option, Some, None, option_map, unwrap_or, bytes_eq}
+use Rattle.std.specs.Prelude.{ℕ, zero, suc, Bool, ◌&&◌, ◌==◌, List, [], ◌∷◌, ◌++◌, map, length, find, drop, Option, Some, None, option_map}
+use Rattle.std.specs.Prelude.{unwrap_or, bytes_eq}
 use Rattle.std.specs.List.{list_any}
 use Rattle.cry_base.specs.Naming.{spell_path}
 use Rattle.cry_base.specs.declared.roles.Node.{Node}

@@ -18,12 +18,15 @@ pub fn paths_are_spelled()
 
 /// A path finds a node that has it, and it finds one where one has it.
 pub fn paths_find_nodes()
-    ensures found { (s : Store) (path : List ℕ) (node : Node) → node_at s path ≡ Some node → In node (nodes_of s) × (path_of s node ≡ path) }
+    ensures found { (s : Store) (path : List ℕ) (node : Node) → node_at s path ≡ Some node → In node (nodes_of s)
+        × (path_of s node ≡ path) }
     ensures finds { (s : Store) (node : Node) → In node (nodes_of s) → (other : Node) × (node_at s (path_of s node) ≡ Some other) }
 {}
 
 /// A command is refused by the first cause that applies, or else has its effect.
 pub fn step_refuses_or_acts()
-    ensures refused { (s : Store) (r : Request) (key : List ℕ) (file_bytes : ℕ) (why : Refusal) → refusal_of s r file_bytes ≡ Some why → step s r key file_bytes ≡ Err why }
-    ensures accepted { (s : Store) (r : Request) (key : List ℕ) (file_bytes : ℕ) → refusal_of s r file_bytes ≡ None → step s r key file_bytes ≡ Ok (effect s r key) }
+    ensures refused { (s : Store) (r : Request) (key : List ℕ) (file_bytes : ℕ) (why : Refusal) → refusal_of s r file_bytes ≡ Some why
+        → step s r key file_bytes ≡ Err why }
+    ensures accepted { (s : Store) (r : Request) (key : List ℕ) (file_bytes : ℕ) → refusal_of s r file_bytes ≡ None
+        → step s r key file_bytes ≡ Ok (effect s r key) }
 {}

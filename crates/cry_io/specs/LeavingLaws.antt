@@ -7,7 +7,8 @@ use Rattle.cry_io.specs.Stops.{Torn}
 use Rattle.cry_io.specs.Leaving.{shown_of, Leaves, Since}
 
 -- a write that is done in whole is one that was done in part
-pub torn_whole : (place : ℕ) (bytes old : List ℕ) → Torn place (length bytes) old (take place old ++ bytes ++ drop (place + length bytes) old)
+pub torn_whole : (place : ℕ) (bytes old : List ℕ)
+    → Torn place (length bytes) old (take place old ++ bytes ++ drop (place + length bytes) old)
 torn_whole place bytes old = record {
   no_shorter = simp (length-append, length-take, length-drop) (omega arith);
   no_longer = simp (length-append, length-take, length-drop) (omega arith);

@@ -18,7 +18,8 @@ abbrev pub Follows : (List ℕ → List ℕ → Type 0) → (List ℕ → Type 0
 Follows step old bytes = (before : List ℕ) × old before × step before bytes
 
 -- Time goes on in a call: what was shown and left at some moment since t was so before the call, or is so after it.
-pub record Elapses (before now : ℕ) (past since : ℕ → List ℕ → List ℕ → Type 0) (shown : Option (List ℕ)) (may_leave : List ℕ → Type 0) : Type 0 where
+pub record Elapses (before now : ℕ) (past since : ℕ → List ℕ → List ℕ → Type 0) (shown : Option (List ℕ)) (may_leave : List ℕ
+    → Type 0) : Type 0 where
   pub later : before ≤ now
   pub nothing_else : (t : ℕ) (s c : List ℕ) → t ≤ before → since t s c → past t s c ⊎ ((shown ≡ Some s) × may_leave c)
   pub keeps : (t : ℕ) (s c : List ℕ) → t ≤ before → past t s c → since t s c

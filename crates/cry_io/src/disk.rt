@@ -58,7 +58,8 @@ pub trait Disk {
         ensures no_shorter { size_of self.old ≤ size_of self.new }
         ensures no_longer { size_of self.new ≤ max (size_of self.old) (place + length bytes.now) }
         ensures stops { (c : List ℕ) → may_leave self.new c → Follows (Torn place (length bytes.now)) (may_leave self.old) c }
-        ensures all_stops { OnOk result ((c : List ℕ) → Follows (Torn place (length bytes.now)) (may_leave self.old) c → may_leave self.new c) }
+        ensures all_stops { OnOk result ((c : List ℕ) → Follows (Torn place (length bytes.now)) (may_leave self.old) c
+            → may_leave self.new c) }
         ensures time { Elapses (moment self.old) (moment self.new) (since self.old) (since self.new) (shown self.new) (may_leave self.new) }
         ensures counts { CountsFault result (faults self.old) (faults self.new) };
 

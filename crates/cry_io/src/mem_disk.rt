@@ -1,5 +1,6 @@
 //! A disk in memory.
-ghost use Rattle.std.specs.Prelude.{◌≡◌, ◌<◌, ◌≤◌, ◌↔◌, ◌⊎◌, ◌+◌, ◌-◌, ◌^◌, [], ◌∷◌, None, Some, length, slice_range, IfOk, OnOk, OnErr, IsErr};
+ghost use Rattle.std.specs.Prelude.{◌≡◌, ◌<◌, ◌≤◌, ◌↔◌, ◌⊎◌, ◌+◌, ◌-◌, ◌^◌, [], ◌∷◌, None, Some, length, slice_range, IfOk, OnOk, OnErr};
+ghost use Rattle.std.specs.Prelude.{IsErr};
 ghost use Rattle.cry_io.specs.Events.{Stays};
 ghost use Rattle.cry_io.specs.Fakes.{read, wrote, synced, refused};
 ghost use Rattle.cry_io.specs.Leaving.{shown_of, Leaves, Since};
@@ -141,7 +142,8 @@ impl Disk for MemDisk {
     /// It fails exactly where it was told to.
     fn read_at(&mut self, place: u64, buf: &mut [u8]) -> Result<(), Failed>
         requires { place + length buf.old ≤ length (shown_of self.old.events) }
-        ensures bytes { OnOk result (WhereTold (Some (shown_of self.old.events)) (λ s. buf.new ≡ slice_range s place (place + length buf.old))) }
+        ensures bytes { OnOk result (WhereTold (Some (shown_of self.old.events)) (λ s. buf.new
+            ≡ slice_range s place (place + length buf.old))) }
         ensures fails { IsErr result ↔ IsToFail self.old.schedule }
         ensures ok { OnOk result (self.new ≡ read self.old) }
         ensures err { OnErr result (self.new ≡ refused self.old) }

@@ -24,7 +24,8 @@ AreSightsOf m bundle image (Ok text) = (seen : List PlainSeen) × (text ≡ seen
 AreSightsOf m bundle image (Err status) = Unit {0}
 
 -- To whoever hands in a key of a journal nothing is printed but what the journal wrote, or a forged record stands in the image.
-abbrev pub PrintsWritten : (Journal → Bundle → List ℕ → Result (List ℕ) Status → Type 0) → Status → List ℕ → List ℕ → Option (List ℕ) → Option (List ℕ) → Type 0
+abbrev pub PrintsWritten : (Journal → Bundle → List ℕ → Result (List ℕ) Status → Type 0) → Status → List ℕ → List ℕ → Option (List ℕ)
+    → Option (List ℕ) → Type 0
 PrintsWritten AreOf status typed image before after = (owner : List ℕ) (m : Journal) (bundle : Bundle) → input_answer typed ≡ Ok bundle
     → AreBytes image → IsValid m → AreWhole owner m → HasKeyOf owner m bundle
     → AnswersAs status (AreOf m bundle image) before after ⊎ HasForged owner m image

@@ -23,11 +23,14 @@ line_of path s bundle = line_answer (line_shown_of s bundle path)
 
 -- An image that stands for a journal, with an honest last slot, is answered to a reader with a right key as the store of the journal that
 -- it publishes says; and to one whose key has another check than the one that is published, the key is wrong.
-pub record AnswersJournal (wanted : Store → Bundle → Result (List ℕ) Status) (status : Status) (typed image : List ℕ) (before after : Option (List ℕ)) : Type 0 where
-  pub right : (owner : List ℕ) (m : Journal) (bundle : Bundle) → input_answer typed ≡ Ok bundle → StandsForJournal owner m image → IsHonestFor owner image m
+pub record AnswersJournal (wanted : Store → Bundle
+    → Result (List ℕ) Status) (status : Status) (typed image : List ℕ) (before after : Option (List ℕ)) : Type 0 where
+  pub right : (owner : List ℕ) (m : Journal) (bundle : Bundle) → input_answer typed ≡ Ok bundle → StandsForJournal owner m image
+      → IsHonestFor owner image m
       → IsRightFor owner (published_journal owner image m) bundle
       → AnswersAs status (IsExactly (wanted (store_of (published_journal owner image m)) bundle)) before after
-  pub wrong : (owner : List ℕ) (m : Journal) (bundle : Bundle) → input_answer typed ≡ Ok bundle → StandsForJournal owner m image → IsHonestFor owner image m
+  pub wrong : (owner : List ℕ) (m : Journal) (bundle : Bundle) → input_answer typed ≡ Ok bundle → StandsForJournal owner m image
+      → IsHonestFor owner image m
       → IsWrongFor owner (published_journal owner image m) bundle → AnswersAs status (IsExactly (Err statuses.WrongKey)) before after
 
 -- what an audit prints, or how the program ends
@@ -38,8 +41,10 @@ seen_answer (Err failure) = Err (failure_status failure)
 -- To an audit with a right key it is answered what the history of the journal that the image publishes derives from that key, and no
 -- record is told to be bad; and to another key as above.
 pub record AuditsJournal (status : Status) (typed image : List ℕ) (before after : Option (List ℕ)) : Type 0 where
-  pub right : (owner : List ℕ) (m : Journal) (bundle : Bundle) → input_answer typed ≡ Ok bundle → StandsForJournal owner m image → IsHonestFor owner image m
+  pub right : (owner : List ℕ) (m : Journal) (bundle : Bundle) → input_answer typed ≡ Ok bundle → StandsForJournal owner m image
+      → IsHonestFor owner image m
       → IsRightFor owner (published_journal owner image m) bundle
       → AnswersAs status (IsExactly (seen_answer (audit_answer (published_journal owner image m) bundle))) before after
-  pub wrong : (owner : List ℕ) (m : Journal) (bundle : Bundle) → input_answer typed ≡ Ok bundle → StandsForJournal owner m image → IsHonestFor owner image m
+  pub wrong : (owner : List ℕ) (m : Journal) (bundle : Bundle) → input_answer typed ≡ Ok bundle → StandsForJournal owner m image
+      → IsHonestFor owner image m
       → IsWrongFor owner (published_journal owner image m) bundle → AnswersAs status (IsExactly (Err statuses.WrongKey)) before after

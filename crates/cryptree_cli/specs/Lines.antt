@@ -1,5 +1,6 @@
 -- The lines of an input, one after another. This project's own, docs/FORMAT.md, "Lines".
-use Rattle.std.specs.Prelude.{◌≡◌, ◌<◌, ◌≤◌, ◌⊎◌, ℕ, zero, suc, ◌+◌, List, [], ◌∷◌, ◌++◌, length, Option, Some, None, Result, Ok, Err, if◌then◌else◌}
+use Rattle.std.specs.Prelude.{◌≡◌, ◌<◌, ◌≤◌, ◌⊎◌, ℕ, zero, suc, ◌+◌, List, [], ◌∷◌, ◌++◌, length, Option, Some, None, Result, Ok, Err}
+use Rattle.std.specs.Prelude.{if◌then◌else◌}
 use Rattle.script_text.specs.Cutting.{IsOneLine, is_newline}
 use Rattle.cryptree_cli.specs.declared.lines.Next.{Next}
 use Rattle.cryptree_cli.specs.declared.lines.Next.TheVariants.{Line, End, PastLimit}
@@ -13,7 +14,8 @@ input_limit = 67108864
 -- these bytes are of no more than so many lines
 abbrev pub AreOfLines : ℕ → List ℕ → Type 0
 AreOfLines zero bytes = bytes ≡ []
-AreOfLines (suc lines) bytes = IsOneLine bytes ⊎ ((line rest : List ℕ) × IsOneLine line × (bytes ≡ line ++ 10 ∷ rest) × AreOfLines lines rest)
+AreOfLines (suc lines) bytes = IsOneLine bytes
+    ⊎ ((line rest : List ℕ) × IsOneLine line × (bytes ≡ line ++ 10 ∷ rest) × AreOfLines lines rest)
 
 -- a line without its newline, or a line that holds a byte past the limit
 pub data InputLine : Type 0 where

@@ -159,7 +159,8 @@ TakesInput (statuses.BadScript line) typed left = TakesLines line typed left
 TakesInput _ typed left = TakesLines 1 typed left
 
 -- What a reader's command does: it answers and prints what is said of its input and of what the disk shows, and only reads the disk.
-pub record Reads {D : Type 0} (May : List ℕ → List ℕ → Result (List ℕ) Status → Type 0) (shown : D → Option (List ℕ)) (size_of : D → ℕ) (may_leave : D → List ℕ → Type 0)
+pub record Reads {D : Type 0} (May : List ℕ → List ℕ → Result (List ℕ) Status → Type 0) (shown : D → Option (List ℕ)) (size_of : D
+    → ℕ) (may_leave : D → List ℕ → Type 0)
     (status : Status) (typed left : Option (List ℕ)) (disk_old disk_new : D) (before after : Option (List ℕ)) : Type 0 where
   pub decided : WhereTold typed (λ bytes. InputDecides status (input_answer bytes))
   pub answered : WhereTold typed (λ bytes. WhereTold (shown disk_old) (λ image. AnswersAs status (May bytes image) before after))

@@ -21,11 +21,12 @@ pub record Scene : Type 0 where
   pub random_faults : ℕ
   pub disk_faults : ℕ
 
--- a command that is answered: as the journal says for which the owner stands, with what a stop might leave before, at each moment since, and
--- after; it takes whole keys, and a refused one draws and writes nothing
+-- a command that is answered: as the journal says for which the owner stands, with what a stop might leave before, at each moment since,
+-- and after; it takes whole keys, and a refused one draws and writes nothing
 pub record AnswersIn (before : Scene) (request : Request) (reply : Reply) (after : Scene) (might may : List ℕ → Type 0)
     (past since : ℕ → List ℕ → List ℕ → Type 0) : Type 0 where
-  pub answers : (m : Journal) → IsOwnerOf m before.owner → Answers (Ok reply) m request before.owner after.owner before.left after.left before.shown after.shown
+  pub answers : (m : Journal) → IsOwnerOf m before.owner
+      → Answers (Ok reply) m request before.owner after.owner before.left after.left before.shown after.shown
       might may (since before.moment)
   pub later : before.moment ≤ after.moment
   pub time : GoesOn before.moment past since
@@ -40,7 +41,8 @@ pub record AnswersIn (before : Scene) (request : Request) (reply : Reply) (after
 -- source falls short of whole keys
 pub record FailsIn (before : Scene) (request : Request) (fault : ApplyFault) (after : Scene) (might may : List ℕ → Type 0)
     (past since : ℕ → List ℕ → List ℕ → Type 0) : Type 0 where
-  pub answers : (m : Journal) → IsOwnerOf m before.owner → Answers (Err fault) m request before.owner after.owner before.left after.left before.shown after.shown
+  pub answers : (m : Journal) → IsOwnerOf m before.owner
+      → Answers (Err fault) m request before.owner after.owner before.left after.left before.shown after.shown
       might may (since before.moment)
   pub later : before.moment ≤ after.moment
   pub time : GoesOn before.moment past since

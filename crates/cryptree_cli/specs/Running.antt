@@ -1,5 +1,6 @@
 -- What `run` answers, prints and leaves: on every disk, and on one that shows a journal. This project's own, docs/FORMAT.md, "The program".
-use Rattle.std.specs.Prelude.{◌≡◌, ◌≤◌, ◌<◌, ◌⊎◌, ℕ, ◌+◌, ◌*◌, ◌==◌, nat_lt, Bool, true, false, List, [], ◌∷◌, ◌++◌, drop, length, Option, Some, None, Result, Ok, Err}
+use Rattle.std.specs.Prelude.{◌≡◌, ◌≤◌, ◌<◌, ◌⊎◌, ℕ, ◌+◌, ◌*◌, ◌==◌, nat_lt, Bool, true, false, List, [], ◌∷◌, ◌++◌, drop, length, Option}
+use Rattle.std.specs.Prelude.{Some, None, Result, Ok, Err}
 use Rattle.commit_journal.specs.Answering.{Damaged, NotAStore, Tampered, WrongKey}
 use Rattle.cry_base.specs.Requests.{Request}
 use Rattle.cry_base.specs.declared.commands.Reply.{Reply}
@@ -83,7 +84,8 @@ pub record SessionOver (limits : Limits) (m : Journal) (asked : List Request) : 
   pub replies : List Reply
   pub now : Journal
   pub begun : Bool
-  pub goes : (rest : List ℕ) → script_going limits (opened m (joined drawn ++ rest)) asked ≡ record { journal = now; begun = begun; draws = rest }
+  pub goes : (rest : List ℕ) → script_going limits (opened m (joined drawn ++ rest)) asked
+      ≡ record { journal = now; begun = begun; draws = rest }
   pub replied : (rest : List ℕ) → script_replies limits (opened m (joined drawn ++ rest)) asked ≡ replies
 
 -- these keys were the next random bytes, where the source tells
@@ -103,7 +105,8 @@ PrintsThese replies seen = WhereBothTold seen.written_before seen.written_after 
 
 -- The first lines were asked, and all of them answered: what was replied is printed, and the disk is where the session stands. That is the
 -- journal up to which the run kept what it found; so it is in the records behind this one.
-pub record HasRun (limits : Limits) (key : List ℕ) (m : Journal) (lines rest : List InputLine) (seen : Seen) (may_leave : List ℕ → Type 0) (KeepsTo : Journal → Type 0) : Type 0 where
+pub record HasRun (limits : Limits) (key : List ℕ) (m : Journal) (lines rest : List InputLine) (seen : Seen) (may_leave : List ℕ
+    → Type 0) (KeepsTo : Journal → Type 0) : Type 0 where
   pub asked : List Request
   pub asks : Asks asked lines rest
   pub session : SessionOver limits m asked
@@ -113,7 +116,8 @@ pub record HasRun (limits : Limits) (key : List ℕ) (m : Journal) (lines rest :
   pub prints : PrintsThese session.replies seen
 
 -- The first lines were asked and answered, and what was replied is printed but for some of the last reply.
-pub record RanCut (limits : Limits) (key : List ℕ) (m : Journal) (lines : List InputLine) (seen : Seen) (may_leave : List ℕ → Type 0) (KeepsTo : Journal → Type 0) : Type 0 where
+pub record RanCut (limits : Limits) (key : List ℕ) (m : Journal) (lines : List InputLine) (seen : Seen) (may_leave : List ℕ
+    → Type 0) (KeepsTo : Journal → Type 0) : Type 0 where
   pub asked : List Request
   pub rest : List InputLine
   pub asks : Asks asked lines rest
@@ -135,7 +139,8 @@ pub record RanTo (limits : Limits) (m : Journal) (lines : List InputLine) (seen 
   pub prints : PrintsThese session.replies seen
 
 -- For that one random bytes were wanting: so many were left of those that it draws. The disk is where the session stood before it.
-pub record RanShort (limits : Limits) (key : List ℕ) (m : Journal) (lines : List InputLine) (left need : ℕ) (seen : Seen) (may_leave : List ℕ → Type 0) (KeepsTo : Journal → Type 0) : Type 0 where
+pub record RanShort (limits : Limits) (key : List ℕ) (m : Journal) (lines : List InputLine) (left need : ℕ) (seen : Seen)
+    (may_leave : List ℕ → Type 0) (KeepsTo : Journal → Type 0) : Type 0 where
   pub ran : RanTo limits m lines seen
   pub is_need : need ≡ 32 * draws_of ran.session.now ran.next
   pub is_short : left < need
@@ -145,15 +150,17 @@ pub record RanShort (limits : Limits) (key : List ℕ) (m : Journal) (lines : Li
   pub kept : KeepsTo ran.session.now
 
 -- Or the random source failed in it. The disk is where the session stood before it.
-pub record RanUndrawn (limits : Limits) (key : List ℕ) (m : Journal) (lines : List InputLine) (seen : Seen) (may_leave : List ℕ → Type 0) (KeepsTo : Journal → Type 0) : Type 0 where
+pub record RanUndrawn (limits : Limits) (key : List ℕ) (m : Journal) (lines : List InputLine) (seen : Seen) (may_leave : List ℕ
+    → Type 0) (KeepsTo : Journal → Type 0) : Type 0 where
   pub ran : RanTo limits m lines seen
   pub drew : WhereTold seen.left_before (λ x. (more : List ℕ) × (x ≡ joined ran.session.drawn ++ more))
   pub leaves : LeavesAt key m ran.session.now seen may_leave
   pub kept : KeepsTo ran.session.now
 
--- Or it drew its keys and met a fault of the disk: what that shows, and whatever a stop may leave, stands for the journal as it was before, or
--- with the session begun, or with the command too.
-pub record RanUnwritten (limits : Limits) (key : List ℕ) (m : Journal) (lines : List InputLine) (seen : Seen) (may_leave : List ℕ → Type 0) (KeepsTo : Journal → Type 0) : Type 0 where
+-- Or it drew its keys and met a fault of the disk: what that shows, and whatever a stop may leave, stands for the journal as it was before,
+-- or with the session begun, or with the command too.
+pub record RanUnwritten (limits : Limits) (key : List ℕ) (m : Journal) (lines : List InputLine) (seen : Seen) (may_leave : List ℕ
+    → Type 0) (KeepsTo : Journal → Type 0) : Type 0 where
   pub ran : RanTo limits m lines seen
   pub last : List (List ℕ)
   pub last_count : length last ≡ draws_of ran.session.now ran.next
@@ -174,13 +181,18 @@ pub record IsUnopened (key : List ℕ) (m : Journal) (seen : Seen) (KeepsTo : Jo
 abbrev pub Ends : Status → Limits → List ℕ → Journal → List InputLine → Seen → (List ℕ → Type 0) → (Journal → Type 0) → Type 0
 Ends statuses.Done limits key m lines seen may_leave KeepsTo = HasRun limits key m lines [] seen may_leave KeepsTo
 Ends (statuses.BadScript line) limits key m lines seen may_leave KeepsTo =
-    (rest : List InputLine) × IsBadFirst rest × (run : HasRun limits key m lines rest seen may_leave KeepsTo) × (line ≡ length run.asked + 2)
-Ends statuses.ReadFault limits key m lines seen may_leave KeepsTo = IsUnopened key m seen KeepsTo ⊎ ((rest : List InputLine) × HasRun limits key m lines rest seen may_leave KeepsTo)
-Ends (statuses.RandomShort left need) limits key m lines seen may_leave KeepsTo = RanShort limits key m lines left need seen may_leave KeepsTo
+    (rest : List InputLine) × IsBadFirst rest × (run : HasRun limits key m lines rest seen may_leave KeepsTo)
+    × (line ≡ length run.asked + 2)
+Ends statuses.ReadFault limits key m lines seen may_leave KeepsTo = IsUnopened key m seen KeepsTo
+    ⊎ ((rest : List InputLine) × HasRun limits key m lines rest seen may_leave KeepsTo)
+Ends (statuses.RandomShort left need) limits key m lines seen may_leave KeepsTo = RanShort limits key m lines left need seen may_leave
+    KeepsTo
 Ends statuses.RandomFault limits key m lines seen may_leave KeepsTo = RanUndrawn limits key m lines seen may_leave KeepsTo
 Ends statuses.WriteFault limits key m lines seen may_leave KeepsTo = RanCut limits key m lines seen may_leave KeepsTo
-Ends statuses.DiskFault limits key m lines seen may_leave KeepsTo = IsUnopened key m seen KeepsTo ⊎ RanUnwritten limits key m lines seen may_leave KeepsTo
-Ends statuses.OutOfMemory limits key m lines seen may_leave KeepsTo = IsUnopened key m seen KeepsTo ⊎ RanCut limits key m lines seen may_leave KeepsTo
+Ends statuses.DiskFault limits key m lines seen may_leave KeepsTo = IsUnopened key m seen KeepsTo
+    ⊎ RanUnwritten limits key m lines seen may_leave KeepsTo
+Ends statuses.OutOfMemory limits key m lines seen may_leave KeepsTo = IsUnopened key m seen KeepsTo
+    ⊎ RanCut limits key m lines seen may_leave KeepsTo
 Ends _ limits key m lines seen may_leave KeepsTo = ⊥
 
 -- how `run` may end
@@ -276,7 +288,8 @@ JudgesTyped status typed image = (key : List ℕ) → key_in_lines (lines_in typ
 
 -- how it ends for each journal with that key that the disk showed, with what a stop might leave before, at each moment since, and after
 abbrev pub EndsTyped : Status → List ℕ → Seen → (List ℕ → Type 0) → (List ℕ → List ℕ → Type 0) → (List ℕ → Type 0) → Type 0
-EndsTyped status typed seen could_leave since may_leave = (key : List ℕ) (m : Journal) → key_in_lines (lines_in typed) ≡ Some key → ShowsJournal key m seen.was
+EndsTyped status typed seen could_leave since may_leave = (key : List ℕ) (m : Journal) → key_in_lines (lines_in typed) ≡ Some key
+    → ShowsJournal key m seen.was
     → Ends status version_limits key m (lines_behind (lines_in typed)) seen may_leave (KeepsUpTo key m seen.was could_leave since)
 
 -- ---- on every disk
@@ -379,9 +392,11 @@ TakesTo (Some line) typed left = TakesLines line typed left
 
 -- so it is for whatever line was taken before those that were to come
 abbrev pub TakesBehindFirst : (List ℕ → List ℕ) → Option ℕ → List ℕ → List ℕ → Type 0
-TakesBehindFirst ahead end before left = (front typed : List ℕ) → AreOfLines 1 front → typed ≡ front ++ ahead before → TakesTo end typed left
+TakesBehindFirst ahead end before left = (front typed : List ℕ) → AreOfLines 1 front → typed ≡ front ++ ahead before
+    → TakesTo end typed left
 
 -- The lines of a run, and how much was taken: it follows from those that were answered, which the printed replies tell.
-pub record RanTaking (status : Status) (lines : List ℕ → List InputLine) (Takes : Option ℕ → List ℕ → List ℕ → Type 0) (typed left before after : Option (List ℕ)) : Type 0 where
+pub record RanTaking (status : Status) (lines : List ℕ → List InputLine) (Takes : Option ℕ → List ℕ → List ℕ
+    → Type 0) (typed left before after : Option (List ℕ)) : Type 0 where
   pub ran : RanLines status lines typed before after
   pub takes : WhereBothTold typed left (Takes (line_ended status (length ran.asked)))

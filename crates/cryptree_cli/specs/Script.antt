@@ -22,7 +22,8 @@ IsBadFirst (TooLong ∷ lines) = Unit {0}
 
 -- the next line's command is given, or there is no line more; a bad line has the next number
 abbrev pub GivesCommand : Result (Option Command) ScriptFault → List InputLine → List InputLine → Type 0
-GivesCommand (Ok (Some command)) before after = (line : List ℕ) × (before ≡ Whole line ∷ after) × (request_in line ≡ Some (request_of command))
+GivesCommand (Ok (Some command)) before after = (line : List ℕ) × (before ≡ Whole line ∷ after)
+    × (request_in line ≡ Some (request_of command))
 GivesCommand (Ok None) before after = (before ≡ []) × (after ≡ [])
 GivesCommand (Err (script.BadLine line)) before after = IsBadFirst before
 GivesCommand (Err script.ReadFault) before after = after ≡ before
@@ -64,7 +65,8 @@ spell_replies replies = flat_map spell_reply replies
 -- a command was applied and its reply printed; after a write fault a front of it is, and without memory nothing
 abbrev pub AnswersOne : {X : Type 0} → (X → Request → Reply → X → Type 0) → (X → Request → ApplyFault → X → Type 0) →
     Result (Unit {0}) ScriptFault → X → Request → X → Option (List ℕ) → Option (List ℕ) → Type 0
-AnswersOne Step Fails (Ok _) x request y before after = (reply : Reply) × Step x request reply y × WhereBothTold before after (λ b a. a ≡ b ++ spell_reply reply)
+AnswersOne Step Fails (Ok _) x request y before after = (reply : Reply) × Step x request reply y
+    × WhereBothTold before after (λ b a. a ≡ b ++ spell_reply reply)
 AnswersOne Step Fails (Err script.WriteFault) x request y before after =
     (reply : Reply) × Step x request reply y × WhereBothTold before after (λ b a. (n : ℕ) × (a ≡ b ++ take n (spell_reply reply)))
 AnswersOne Step Fails (Err script.OutOfMemory) x request y before after = (reply : Reply) × Step x request reply y × (after ≡ before)
@@ -87,7 +89,8 @@ pub record Asks (asked : List Request) (before after : List InputLine) : Type 0 
 abbrev pub Stands : {X : Type 0} → (X → Request → Reply → X → Type 0) → (X → Request → ApplyFault → X → Type 0) →
     Result (Unit {0}) ScriptFault → X → List Request → List Reply → X → Type 0
 Stands {X} Step Fails (Err (script.Applying fault)) start asked replies end =
-    (x : X) × (first : List Request) × (last : Request) × (asked ≡ first ++ last ∷ []) × Answered Step start first replies x × Fails x last fault end
+    (x : X) × (first : List Request) × (last : Request) × (asked ≡ first ++ last ∷ []) × Answered Step start first replies x
+    × Fails x last fault end
 Stands {X} Step Fails _ start asked replies end = Answered Step start asked replies end
 
 -- which lines were asked: all at the end; those before the bad one; those that were given before a fault
@@ -100,7 +103,8 @@ TakesLines (Err _) asked before after = Asks asked before after
 -- all replies were printed but a last one, of which a front was
 abbrev pub PrintsCut : List Reply → List ℕ → List ℕ → Type 0
 PrintsCut replies before after =
-    (whole cut : List Reply) × (n : ℕ) × (replies ≡ whole ++ cut) × (length cut ≤ 1) × (after ≡ before ++ (spell_replies whole ++ take n (spell_replies cut)))
+    (whole cut : List Reply) × (n : ℕ) × (replies ≡ whole ++ cut) × (length cut ≤ 1)
+    × (after ≡ before ++ (spell_replies whole ++ take n (spell_replies cut)))
 
 -- what was printed: each reply; after a write fault or without memory a front of it, without more than the last reply
 abbrev pub PrintsReplies : Result (Unit {0}) ScriptFault → List Reply → List ℕ → List ℕ → Type 0
@@ -114,12 +118,14 @@ NumbersBad (Err (script.BadLine line)) next = line ≡ next
 NumbersBad _ next = Unit {0}
 
 -- What was asked and answered, how the state came about, what was taken of the input, and what was printed.
-pub record Ran {X : Type 0} (Step : X → Request → Reply → X → Type 0) (Fails : X → Request → ApplyFault → X → Type 0) (result : Result (Unit {0}) ScriptFault)
+pub record Ran {X : Type 0} (Step : X → Request → Reply → X → Type 0) (Fails : X → Request → ApplyFault → X
+    → Type 0) (result : Result (Unit {0}) ScriptFault)
     (start end : X) (old new : LineState) (left_before left_after written_before written_after : Option (List ℕ)) : Type 0 where
   pub asked : List Request
   pub replies : List Reply
   pub stands : Stands Step Fails result start asked replies end
-  pub lines : WhereBothTold left_before left_after (λ before after. TakesLines result asked (lines_ahead old before) (lines_ahead new after))
+  pub lines : WhereBothTold left_before left_after
+      (λ before after. TakesLines result asked (lines_ahead old before) (lines_ahead new after))
   pub number : NumbersBad result (old.given + length asked + 1)
   pub taken : WhereBothTold left_before left_after (TakenBy result (length asked) old)
   pub printed : WhereBothTold written_before written_after (PrintsReplies result replies)

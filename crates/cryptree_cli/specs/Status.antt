@@ -2,7 +2,9 @@
 use Rattle.std.specs.Prelude.{ℕ, List, [], ◌∷◌, ◌++◌, Bool, true, false, codes}
 use Rattle.std.specs.Fmt.{decimal}
 use Rattle.cryptree_cli.specs.declared.status.Status.{Status}
-use Rattle.cryptree_cli.specs.declared.status.Status.TheVariants.{Done, Usage, BadScript, ReadFault, WriteFault, DiskFault, RandomFault, RandomShort, NotAStore, Damaged, WrongKey, Tampered, OutOfMemory, NotBlank, NoHolder, Unseen}
+use Rattle.cryptree_cli.specs.declared.status.Status.TheVariants.{Done, Usage, BadScript, ReadFault, WriteFault, DiskFault, RandomFault}
+use Rattle.cryptree_cli.specs.declared.status.Status.TheVariants.{RandomShort, NotAStore, Damaged, WrongKey, Tampered, OutOfMemory}
+use Rattle.cryptree_cli.specs.declared.status.Status.TheVariants.{NotBlank, NoHolder, Unseen}
 
 -- the exit status
 abbrev pub code_of : Status → ℕ

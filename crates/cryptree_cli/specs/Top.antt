@@ -58,7 +58,8 @@ PrintsFront piece before after = (n : ℕ) × (n ≤ length piece) × (after ≡
 
 -- The next 192 bytes of the random source were drawn, the disk shows the store that they make, settled at its journal, and its owner's line
 -- was printed as `Prints` says.
-pub record Makes (Prints : List ℕ → List ℕ → List ℕ → Type 0) (left_before left_after shown : Option (List ℕ)) (may_leave : List ℕ → Type 0) (written_before written_after : Option (List ℕ)) : Type 0 where
+pub record Makes (Prints : List ℕ → List ℕ → List ℕ → Type 0) (left_before left_after shown : Option (List ℕ)) (may_leave : List ℕ
+    → Type 0) (written_before written_after : Option (List ℕ)) : Type 0 where
   pub drawn : List ℕ
   pub drawn_length : length drawn ≡ 192
   pub next : WhereBothTold left_before left_after (λ before after. before ≡ drawn ++ after)

@@ -2,7 +2,8 @@
 ghost use Rattle.std.specs.Prelude.{◌≡◌, ◌≢◌, ◌<◌, ◌≤◌, Err, IfErr, IfOk, IsTrue, is_some, map};
 ghost use Rattle.cry_io.specs.Told.{WhereTold};
 ghost use Rattle.commit_journal.specs.Reading.{IsOnlyRead};
-ghost use Rattle.cryptree_cli.specs.Listing.{AuditAnswers, AuditGives, GivesText, Reads, is_before_read, is_list_answer, is_store_answer, seen_text as the_seen_text};
+ghost use Rattle.cryptree_cli.specs.Listing.{AuditAnswers, AuditGives, GivesText, Reads, is_before_read, is_list_answer, is_store_answer};
+ghost use Rattle.cryptree_cli.specs.Listing.{seen_text as the_seen_text};
 ghost use Rattle.cryptree_cli.specs.Status.{is_before_print};
 ghost use Rattle.trail_audit.specs.Derived.{plain_seen};
 
@@ -22,7 +23,8 @@ pub(crate) fn audit<S: Source, D: Disk, W: Sink>(
     disk: &mut D,
     out: &mut W,
 ) -> Status
-    ensures reads { Reads AuditAnswers D.shown D.size_of D.may_leave result (S.left input.old) (S.left input.new) disk.old disk.new (W.written out.old) (W.written out.new) }
+    ensures reads { Reads AuditAnswers D.shown D.size_of D.may_leave result (S.left input.old) (S.left input.new) disk.old disk.new
+        (W.written out.old) (W.written out.new) }
     ensures answers { IsTrue (is_list_answer result) }
     ensures read_fault { result ≡ Status.ReadFault → S.faults input.old < S.faults input.new }
     ensures disk_fault { result ≡ Status.DiskFault → D.faults disk.old < D.faults disk.new }

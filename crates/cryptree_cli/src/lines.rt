@@ -3,7 +3,9 @@ ghost use Rattle.std.specs.Prelude.{◌≡◌, ◌≤◌, ◌++◌, [], Ok, Err,
 ghost use Rattle.cry_io.specs.Counts.{CountsFault};
 ghost use Rattle.cry_io.specs.Told.{WhereTold, WhereBothTold};
 ghost use Rattle.script_text.specs.Cutting.{IsOneLine};
-ghost use Rattle.cryptree_cli.specs.Lines.{AreOfLines, bytes_ahead, input_limit, lines_ahead, FeedsLine, Takes, TakesNext, IsUnended, KeepsAhead, Gives, GivesCut, GivesNext, GivesHeld, Numbers, NumbersNext, NextFailsByCount, Within};
+ghost use Rattle.cryptree_cli.specs.Lines.{AreOfLines, bytes_ahead, input_limit, lines_ahead, FeedsLine, Takes, TakesNext, IsUnended};
+ghost use Rattle.cryptree_cli.specs.Lines.{KeepsAhead, Gives, GivesCut, GivesNext, GivesHeld, Numbers, NumbersNext, NextFailsByCount};
+ghost use Rattle.cryptree_cli.specs.Lines.{Within};
 
 use crate::piece::Piece;
 use cry_base::{Mem, Text};
@@ -49,7 +51,12 @@ impl Model for LineReader {
 
     ghost Value = { LineState };
 
-    ghost view = { λ r. record { line = r.cutter.held; piece = r.piece; room = (input_limit + length r.cutter.held) - length r.cutter.fed; given = r.given } };
+    ghost view = { λ r. record {
+      line = r.cutter.held;
+      piece = r.piece;
+      room = (input_limit + length r.cutter.held) - length r.cutter.fed;
+      given = r.given;
+    } };
 
     ghost invariant = { λ r. AreOfLines 1 r.cutter.held × (r.given + length r.cutter.held ≤ length r.cutter.fed)
         × (length r.cutter.fed ≤ input_limit + length r.cutter.held) × (r.cutter.limit ≡ input_limit) × (length r.piece ≤ 4096) };
@@ -74,8 +81,10 @@ impl LineReader {
         input: &mut S,
     ) -> Result<Next, NextFault>
         ensures told { is_some (S.left input.new) ≡ is_some (S.left input.old) }
-        ensures lines { WhereBothTold (S.left input.old) (S.left input.new) (λ before after. GivesNext result (lines_ahead self.old before) (lines_ahead self.new after)) }
-        ensures bytes { WhereBothTold (S.left input.old) (S.left input.new) (λ before after. TakesNext result self.old self.new (bytes_ahead self.old before) (bytes_ahead self.new after)) }
+        ensures lines { WhereBothTold (S.left input.old) (S.left input.new)
+            (λ before after. GivesNext result (lines_ahead self.old before) (lines_ahead self.new after)) }
+        ensures bytes { WhereBothTold (S.left input.old) (S.left input.new)
+            (λ before after. TakesNext result self.old self.new (bytes_ahead self.old before) (bytes_ahead self.new after)) }
         ensures to_end { result ≡ Ok Next.End → WhereTold (S.left input.new) (λ after. after ≡ []) }
         ensures number { NumbersNext result self.old.given self.new.given }
         ensures room { IfOk result (λ next. Within next self.old.room self.new.room) }

@@ -2,7 +2,8 @@
 ghost use Rattle.std.specs.Prelude.{◌≡◌, ◌≢◌, ◌<◌, ◌≤◌, Err, IfOk, IfErr, is_some, IsTrue};
 ghost use Rattle.cry_io.specs.Told.{WhereTold};
 ghost use Rattle.commit_journal.specs.Reading.{IsOnlyRead};
-ghost use Rattle.cryptree_cli.specs.Listing.{GivesText, IsExactly, ListAnswers, Reads, is_before_read, is_list_answer, is_store_answer, view_answer};
+ghost use Rattle.cryptree_cli.specs.Listing.{GivesText, IsExactly, ListAnswers, Reads, is_before_read, is_list_answer, is_store_answer};
+ghost use Rattle.cryptree_cli.specs.Listing.{view_answer};
 ghost use Rattle.cryptree_cli.specs.Status.{is_before_print};
 ghost use Rattle.holder_client.specs.Judging.{shown_with};
 ghost use Rattle.holder_client.specs.Lines.{plain_view};
@@ -25,7 +26,8 @@ pub(crate) fn list<S: Source, D: Disk, W: Sink>(
     disk: &mut D,
     out: &mut W,
 ) -> Status
-    ensures reads { Reads ListAnswers D.shown D.size_of D.may_leave result (S.left input.old) (S.left input.new) disk.old disk.new (W.written out.old) (W.written out.new) }
+    ensures reads { Reads ListAnswers D.shown D.size_of D.may_leave result (S.left input.old) (S.left input.new) disk.old disk.new
+        (W.written out.old) (W.written out.new) }
     ensures answers { IsTrue (is_list_answer result) }
     ensures read_fault { result ≡ Status.ReadFault → S.faults input.old < S.faults input.new }
     ensures disk_fault { result ≡ Status.DiskFault → D.faults disk.old < D.faults disk.new }

@@ -78,7 +78,8 @@ fn tell<W: Sink>(key: &[u8; 32], mut line: Text, out: &mut W) -> Status
     requires room { 71 ≤ line.spare }
     ensures answers { (result ≡ Status.Done) ⊎ (result ≡ Status.WriteFault) }
     ensures printed { result ≡ Status.Done → WhereBothTold (W.written out.old) (W.written out.new) (PrintsAll (owner_line key.now)) }
-    ensures cut_short { result ≡ Status.WriteFault → WhereBothTold (W.written out.old) (W.written out.new) (PrintsFront (owner_line key.now)) }
+    ensures cut_short { result ≡ Status.WriteFault
+        → WhereBothTold (W.written out.old) (W.written out.new) (PrintsFront (owner_line key.now)) }
     ensures write_fault { result ≡ Status.WriteFault → W.faults out.old < W.faults out.new }
     ensures told { is_some (W.written out.new) ≡ is_some (W.written out.old) }
     ensures counts { W.faults out.old ≤ W.faults out.new }

@@ -2,7 +2,8 @@
 ghost use Rattle.std.specs.Prelude.{◌≡◌, ◌<◌, ◌≤◌, Err, IfErr, is_some, IsTrue};
 ghost use Rattle.cry_io.specs.Told.{WhereTold};
 ghost use Rattle.commit_journal.specs.Reading.{IsOnlyRead};
-ghost use Rattle.cryptree_cli.specs.Listing.{GivesText, IsExactly, OpenAnswers, Reads, is_before_read, is_open_answer, is_store_answer, line_answer};
+ghost use Rattle.cryptree_cli.specs.Listing.{GivesText, IsExactly, OpenAnswers, Reads, is_before_read, is_open_answer, is_store_answer};
+ghost use Rattle.cryptree_cli.specs.Listing.{line_answer};
 ghost use Rattle.cryptree_cli.specs.Status.{is_before_print};
 ghost use Rattle.holder_client.specs.Asking.{line_shown};
 
@@ -24,7 +25,8 @@ pub(crate) fn open<S: Source, D: Disk, W: Sink>(
     disk: &mut D,
     out: &mut W,
 ) -> Status
-    ensures reads { Reads (OpenAnswers path.now) D.shown D.size_of D.may_leave result (S.left input.old) (S.left input.new) disk.old disk.new (W.written out.old) (W.written out.new) }
+    ensures reads { Reads (OpenAnswers path.now) D.shown D.size_of D.may_leave result (S.left input.old) (S.left input.new) disk.old
+        disk.new (W.written out.old) (W.written out.new) }
     ensures answers { IsTrue (is_open_answer result) }
     ensures read_fault { result ≡ Status.ReadFault → S.faults input.old < S.faults input.new }
     ensures disk_fault { result ≡ Status.DiskFault → D.faults disk.old < D.faults disk.new }
@@ -54,7 +56,8 @@ fn line_text<D: Disk>(
     bundle: &Bundle,
     path: &[u8],
 ) -> Result<Text, Status>
-    ensures gives { WhereTold (D.shown disk.old) (λ image. GivesText result (IsExactly (line_answer (line_shown bundle.now path.now image)))) }
+    ensures gives { WhereTold (D.shown disk.old)
+        (λ image. GivesText result (IsExactly (line_answer (line_shown bundle.now path.now image)))) }
     ensures ends { IfErr result (λ status. IsTrue (is_store_answer status)) }
     ensures reads_only { IsOnlyRead D.shown D.size_of D.may_leave disk.old disk.new }
     ensures counts { D.faults disk.old ≤ D.faults disk.new }

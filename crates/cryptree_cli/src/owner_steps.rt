@@ -11,16 +11,49 @@ impl<R: Source, D: Disk> Applies<R, D> for Owner {
     ghost use Rattle.cryptree_cli.specs.OwnerSteps.{AnswersIn, FailsIn};
     ghost use Rattle.store_owner.specs.declared.apply_fault.ApplyFault.TheVariants as faults;
 
-    ghost ready = { λ at. (at.0.journal.is_closed ≡ false) × (at.0.journal.end ≤ D.size_of at.2) × IsDurable (D.may_leave at.2) (D.shown at.2) };
+    ghost ready = { λ at. (at.0.journal.is_closed ≡ false) × (at.0.journal.end ≤ D.size_of at.2)
+        × IsDurable (D.may_leave at.2) (D.shown at.2) };
 
     ghost answers = { λ before request reply after. AnswersIn
-        (record { owner = before.0; left = R.left before.1; shown = D.shown before.2; moment = D.moment before.2; random_faults = R.faults before.1; disk_faults = D.faults before.2 }) request reply
-        (record { owner = after.0; left = R.left after.1; shown = D.shown after.2; moment = D.moment after.2; random_faults = R.faults after.1; disk_faults = D.faults after.2 })
+        (record {
+          owner = before.0;
+          left = R.left before.1;
+          shown = D.shown before.2;
+          moment = D.moment before.2;
+          random_faults = R.faults
+              before.1;
+          disk_faults = D.faults before.2;
+        }) request reply
+        (record {
+          owner = after.0;
+          left = R.left after.1;
+          shown = D.shown after.2;
+          moment = D.moment after.2;
+          random_faults = R.faults
+              after.1;
+          disk_faults = D.faults after.2;
+        })
         (D.may_leave before.2) (D.may_leave after.2) (D.since before.2) (D.since after.2) };
 
     ghost fails = { λ before request fault after. FailsIn
-        (record { owner = before.0; left = R.left before.1; shown = D.shown before.2; moment = D.moment before.2; random_faults = R.faults before.1; disk_faults = D.faults before.2 }) request fault
-        (record { owner = after.0; left = R.left after.1; shown = D.shown after.2; moment = D.moment after.2; random_faults = R.faults after.1; disk_faults = D.faults after.2 })
+        (record {
+          owner = before.0;
+          left = R.left before.1;
+          shown = D.shown before.2;
+          moment = D.moment before.2;
+          random_faults = R.faults
+              before.1;
+          disk_faults = D.faults before.2;
+        }) request fault
+        (record {
+          owner = after.0;
+          left = R.left after.1;
+          shown = D.shown after.2;
+          moment = D.moment after.2;
+          random_faults = R.faults
+              after.1;
+          disk_faults = D.faults after.2;
+        })
         (D.may_leave before.2) (D.may_leave after.2) (D.since before.2) (D.since after.2)
         × (fault ≢ faults.DiskFault → IsDurable (D.may_leave after.2) (D.shown after.2)) };
 

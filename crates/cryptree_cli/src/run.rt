@@ -1,6 +1,7 @@
 //! The command `run`: the owner's line, then the store opened for writing, then each command's line answered before the next is
 //! read, in this order.
-ghost use Rattle.std.specs.Prelude.{◌≡◌, ◌≢◌, ◌⊎◌, ◌+◌, ◌<◌, ◌≤◌, ℕ, [], List, Err, IfErr, OnOk, None, Option, Some, false, is_some, length, IsTrue};
+ghost use Rattle.std.specs.Prelude.{◌≡◌, ◌≢◌, ◌⊎◌, ◌+◌, ◌<◌, ◌≤◌, ℕ, [], List, Err, IfErr, OnOk, None, Option, Some, false, is_some};
+ghost use Rattle.std.specs.Prelude.{length, IsTrue};
 ghost use Rattle.commit_journal.specs.Holding.{GoesOn};
 ghost use Rattle.cry_io.specs.Stops.{IsDurable};
 ghost use Rattle.cry_io.specs.Told.{WhereTold, WhereBothTold};
@@ -12,7 +13,10 @@ ghost use Rattle.store_owner.specs.Sessions.{StandsAt};
 ghost use Rattle.cryptree_cli.specs.Lines.{IsUnended, bytes_ahead, lines_ahead};
 ghost use Rattle.cryptree_cli.specs.Refusing.{Refuses, is_refusal};
 ghost use Rattle.cryptree_cli.specs.Running as running;
-ghost use Rattle.cryptree_cli.specs.Running.{CountsOwner, Ends, EndsTyped, KeepsFrom, FirstIsBad, GivesOwner, HasBadLine, Judges, JudgesTyped, RanDry, RanLines, RanTaking, ReadsWhole, ReadsWholeTyped, TakesBehindFirst, TakesTo, is_after_opening, is_before_opening, is_run_answer, key_in_lines, lines_in, lines_typed, seen_from, version_limits};
+ghost use Rattle.cryptree_cli.specs.Running.{CountsOwner, Ends, EndsTyped, KeepsFrom, FirstIsBad, GivesOwner, HasBadLine, Judges};
+ghost use Rattle.cryptree_cli.specs.Running.{JudgesTyped, RanDry, RanLines, RanTaking, ReadsWhole, ReadsWholeTyped, TakesBehindFirst};
+ghost use Rattle.cryptree_cli.specs.Running.{TakesTo, is_after_opening, is_before_opening, is_run_answer, key_in_lines, lines_in};
+ghost use Rattle.cryptree_cli.specs.Running.{lines_typed, seen_from, version_limits};
 ghost use Rattle.cryptree_cli.specs.Script.{IsReading, ReadsByCount};
 ghost use Rattle.cryptree_cli.specs.Stopping.{LinesKeepUpTo};
 ghost use Rattle.cryptree_cli.specs.Taking.{TakesOne};
@@ -60,7 +64,8 @@ pub(crate) fn run<S: Source, R: Source, D: Disk, W: Sink>(
     ensures settled { result ≢ Status.DiskFault →
         Refuses D.shown D.size_of D.may_leave (S.left input.old) random.old random.new disk.old disk.new out.old out.new
         ⊎ IsDurable (D.may_leave disk.new) (D.shown disk.new) }
-    ensures refused { IsTrue (is_refusal result) → Refuses D.shown D.size_of D.may_leave (S.left input.old) random.old random.new disk.old disk.new out.old out.new }
+    ensures refused { IsTrue (is_refusal result)
+        → Refuses D.shown D.size_of D.may_leave (S.left input.old) random.old random.new disk.old disk.new out.old out.new }
     ensures unopened { IsTrue (is_before_opening result) → (random.new ≡ random.old) × (disk.new ≡ disk.old) × (out.new ≡ out.old) }
     ensures read_fault { result ≡ Status.ReadFault → S.faults input.old < S.faults input.new }
     ensures random_fault { result ≡ Status.RandomFault → R.faults random.old < R.faults random.new }
@@ -93,7 +98,8 @@ fn first_owner<S: Source>(
     input: &mut S,
 ) -> Result<[u8; 32], ScriptFault>
     ensures told { is_some (S.left input.new) ≡ is_some (S.left input.old) }
-    ensures gives { WhereBothTold (S.left input.old) (S.left input.new) (λ before after. GivesOwner result (lines_ahead reader.old before) (lines_ahead reader.new after)) }
+    ensures gives { WhereBothTold (S.left input.old) (S.left input.new)
+        (λ before after. GivesOwner result (lines_ahead reader.old before) (lines_ahead reader.new after)) }
     ensures takes { WhereBothTold (S.left input.old) (S.left input.new) (TakesOne result reader.old reader.new) }
     ensures count { CountsOwner result reader.old.given reader.new.given }
     ensures faults { IfErr result IsReading }
@@ -135,11 +141,13 @@ fn apply_lines<S: Source, R: Source, D: Disk, W: Sink>(
     ensures later { D.moment disk.old ≤ D.moment disk.new }
     ensures time { GoesOn (D.moment disk.old) (D.since disk.old) (D.since disk.new) }
     ensures lines { RanLines result (lines_ahead reader) (S.left input.old) (W.written out.old) (W.written out.new) }
-    ensures takes { RanTaking result (lines_ahead reader) (TakesBehindFirst (bytes_ahead reader)) (S.left input.old) (S.left input.new) (W.written out.old) (W.written out.new) }
+    ensures takes { RanTaking result (lines_ahead reader) (TakesBehindFirst (bytes_ahead reader)) (S.left input.old) (S.left input.new)
+        (W.written out.old) (W.written out.new) }
     ensures short { (left need : ℕ) → result ≡ Status.RandomShort left need → RanDry left need (R.left random.old) (R.left random.new) }
     ensures none_of_bytes { (verdict : Option Failure) → verdict ≡ None → Judges result verdict }
     ensures read_to_end { result ≡ Status.Done → WhereTold (S.left input.new) (λ rest. rest ≡ []) }
-    ensures read_whole_lines { result ≡ Status.ReadFault → WhereBothTold (S.left input.old) (S.left input.new) (λ before after. ReadsWhole (lines_ahead reader before) after) }
+    ensures read_whole_lines { result ≡ Status.ReadFault
+        → WhereBothTold (S.left input.old) (S.left input.new) (λ before after. ReadsWhole (lines_ahead reader before) after) }
     ensures stays { IsTrue (is_after_opening result) → IsDurable (D.may_leave disk.new) (D.shown disk.new) }
     ensures calm { result ≢ Status.DiskFault → IsDurable (D.may_leave disk.new) (D.shown disk.new) }
     ensures not_first { is_before_opening result ≡ false }

@@ -4,7 +4,8 @@ ghost use Rattle.cry_base.specs.Requests.{Request, request_of};
 ghost use Rattle.cry_base.specs.declared.commands.Reply.{Reply};
 ghost use Rattle.cry_io.specs.Told.{WhereTold, WhereBothTold};
 ghost use Rattle.cryptree_cli.specs.Lines.{IsUnended, lines_ahead};
-ghost use Rattle.cryptree_cli.specs.Script.{GivesCommand, CountsCommand, ReadsByCount, AnswersOne, IsReading, Ran, StaysReady, WritesByCount};
+ghost use Rattle.cryptree_cli.specs.Script.{GivesCommand, CountsCommand, ReadsByCount, AnswersOne, IsReading, Ran, StaysReady};
+ghost use Rattle.cryptree_cli.specs.Script.{WritesByCount};
 ghost use Rattle.cryptree_cli.specs.Taking.{TakesCommand};
 
 use crate::lines::{LineReader, Next, NextFault};
@@ -98,7 +99,8 @@ fn next_command<S: Source>(
     input: &mut S,
 ) -> Result<Option<Command>, ScriptFault>
     ensures told { is_some (S.left input.new) ≡ is_some (S.left input.old) }
-    ensures gives { WhereBothTold (S.left input.old) (S.left input.new) (λ before after. GivesCommand result (lines_ahead reader.old before) (lines_ahead reader.new after)) }
+    ensures gives { WhereBothTold (S.left input.old) (S.left input.new)
+        (λ before after. GivesCommand result (lines_ahead reader.old before) (lines_ahead reader.new after)) }
     ensures takes { WhereBothTold (S.left input.old) (S.left input.new) (TakesCommand result reader.old reader.new) }
     ensures to_end { result ≡ Ok None → WhereTold (S.left input.new) (λ after. after ≡ []) }
     ensures unended { result ≡ Err ScriptFault.ReadFault → IsUnended reader.new }
@@ -131,7 +133,8 @@ fn answer<O: Applies<R, D>, R, D, W: Sink>(
 ) -> Result<(), ScriptFault>
     requires { O.ready (owner.old, random.old, disk.old) }
     ensures ready { StaysReady (O.ready (owner.new, random.new, disk.new)) result }
-    ensures answers { AnswersOne O.answers O.fails result (owner.old, random.old, disk.old) (request_of command) (owner.new, random.new, disk.new) (W.written out.old) (W.written out.new) }
+    ensures answers { AnswersOne O.answers O.fails result (owner.old, random.old, disk.old) (request_of command)
+        (owner.new, random.new, disk.new) (W.written out.old) (W.written out.new) }
     ensures told { is_some (W.written out.new) ≡ is_some (W.written out.old) }
     ensures counts { WritesByCount result (W.faults out.old) (W.faults out.new) }
 {

@@ -7,9 +7,12 @@ ghost use Rattle.cryptree_cli.specs.Changed.{AreLinesOf, AreSightsOf, PrintsWrit
 ghost use Rattle.cryptree_cli.specs.Journals.{AnswersJournal, AuditsJournal, line_of, view_of};
 ghost use Rattle.cryptree_cli.specs.Listing.{AuditAnswers, ListAnswers, OpenAnswers, Reads, is_before_read, is_list_answer, is_open_answer};
 ghost use Rattle.cryptree_cli.specs.Refusing.{Refuses, is_refusal};
-ghost use Rattle.cryptree_cli.specs.Running.{EndsTyped, FirstIsBad, HasBadLine, JudgesTyped, RanDry, RanLines, RanTaking, ReadsWholeTyped, TakesTo, is_after_opening, is_before_opening, is_run_answer, key_in_lines, lines_in, lines_typed, seen_from};
+ghost use Rattle.cryptree_cli.specs.Running.{EndsTyped, FirstIsBad, HasBadLine, JudgesTyped, RanDry, RanLines, RanTaking, ReadsWholeTyped};
+ghost use Rattle.cryptree_cli.specs.Running.{TakesTo, is_after_opening, is_before_opening, is_run_answer, key_in_lines, lines_in};
+ghost use Rattle.cryptree_cli.specs.Running.{lines_typed, seen_from};
 ghost use Rattle.cryptree_cli.specs.Status.{is_make_answer, is_before_draw, is_before_write, is_before_print};
-ghost use Rattle.cryptree_cli.specs.Top.{IsMake, IsRun, IsList, IsOpen, IsAudit, IsReader, Makes, PrintsAll, PrintsFront, IsShort, EndsShort, text_of};
+ghost use Rattle.cryptree_cli.specs.Top.{IsMake, IsRun, IsList, IsOpen, IsAudit, IsReader, Makes, PrintsAll, PrintsFront, IsShort};
+ghost use Rattle.cryptree_cli.specs.Top.{EndsShort, text_of};
 ghost use Rattle.cryptree_cli.specs.Words.{form_of_words, path_in_words};
 
 use crate::audit::audit;
@@ -76,13 +79,19 @@ pub fn top<S: Source, R: Source, D: Disk, W: Sink>(
     // only where it did, in a command's draw. Of the input no more is taken than to the end of the line at which it ends, and at most
     // 65,536 bytes past it. A store that it refuses for its bytes is as it was, but for slots that a stop had left
     // without their keys.
-    ensures run_first_line { IsRun words.now.items → WhereTold (S.left input.old) (λ typed. key_in_lines (lines_in typed) ≡ None → FirstIsBad result) }
-    ensures run_judged { IsRun words.now.items → WhereTold (S.left input.old) (λ typed. WhereTold (D.shown disk.old) (λ image. JudgesTyped result typed image)) }
-    ensures run_key_line { IsRun words.now.items → result ≡ Status.BadScript 1 → WhereTold (S.left input.old) (λ typed. key_in_lines (lines_in typed) ≡ None) }
+    ensures run_first_line { IsRun words.now.items
+        → WhereTold (S.left input.old) (λ typed. key_in_lines (lines_in typed) ≡ None → FirstIsBad result) }
+    ensures run_judged { IsRun words.now.items
+        → WhereTold (S.left input.old) (λ typed. WhereTold (D.shown disk.old) (λ image. JudgesTyped result typed image)) }
+    ensures run_key_line { IsRun words.now.items → result ≡ Status.BadScript 1
+        → WhereTold (S.left input.old) (λ typed. key_in_lines (lines_in typed) ≡ None) }
     ensures run_lines { IsRun words.now.items → RanLines result lines_typed (S.left input.old) (W.written out.old) (W.written out.new) }
-    ensures run_takes { IsRun words.now.items → RanTaking result lines_typed TakesTo (S.left input.old) (S.left input.new) (W.written out.old) (W.written out.new) }
-    ensures run_bad_line { IsRun words.now.items → WhereTold (S.left input.old) (λ typed. HasBadLine (lines_typed typed) → result ≢ Status.Done) }
-    ensures run_short { IsRun words.now.items → (left need : ℕ) → result ≡ Status.RandomShort left need → RanDry left need (R.left random.old) (R.left random.new) }
+    ensures run_takes { IsRun words.now.items
+        → RanTaking result lines_typed TakesTo (S.left input.old) (S.left input.new) (W.written out.old) (W.written out.new) }
+    ensures run_bad_line { IsRun words.now.items
+        → WhereTold (S.left input.old) (λ typed. HasBadLine (lines_typed typed) → result ≢ Status.Done) }
+    ensures run_short { IsRun words.now.items → (left need : ℕ) → result ≡ Status.RandomShort left need
+        → RanDry left need (R.left random.old) (R.left random.new) }
 
     // On a disk that shows a journal it ends as that journal's session does, whatever it ends with, and whether or not the random
     // source tells what it has: there are keys for the accepted commands with which the session goes so. With the same keys it says what
@@ -93,7 +102,8 @@ pub fn top<S: Source, R: Source, D: Disk, W: Sink>(
     ensures run_later { IsRun words.now.items → D.moment disk.old ≤ D.moment disk.new }
     ensures run_time { IsRun words.now.items → GoesOn (D.moment disk.old) (D.since disk.old) (D.since disk.new) }
     ensures run_read_to_end { IsRun words.now.items → result ≡ Status.Done → WhereTold (S.left input.new) (λ rest. rest ≡ []) }
-    ensures run_read_whole_lines { IsRun words.now.items → result ≡ Status.ReadFault → WhereBothTold (S.left input.old) (S.left input.new) ReadsWholeTyped }
+    ensures run_read_whole_lines { IsRun words.now.items → result ≡ Status.ReadFault
+        → WhereBothTold (S.left input.old) (S.left input.new) ReadsWholeTyped }
     ensures run_stays { IsRun words.now.items → IsTrue (is_after_opening result) → IsDurable (D.may_leave disk.new) (D.shown disk.new) }
     ensures run_settled { IsRun words.now.items → result ≢ Status.DiskFault →
         Refuses D.shown D.size_of D.may_leave (S.left input.old) random.old random.new disk.old disk.new out.old out.new

@@ -17,7 +17,8 @@ is_of_grants why = false
 
 -- the first cause that applies, of those that the tree decides about
 unfoldable pub tree_refusal : Store → Request → ℕ → Option Refusal
-tree_refusal s r file_bytes = option_map (λ cause. cause.1) (find (λ cause. cause.0) (filter (λ cause. not (is_of_grants cause.1)) (causes s r file_bytes)))
+tree_refusal s r file_bytes = option_map (λ cause. cause.1)
+    (find (λ cause. cause.0) (filter (λ cause. not (is_of_grants cause.1)) (causes s r file_bytes)))
 
 -- refused for a cause, where there is one
 abbrev pub refused_by : Option Refusal → Result (Unit {0}) Refusal

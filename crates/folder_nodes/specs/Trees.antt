@@ -11,4 +11,5 @@ pub record IsTree (s : Store) : Type 0 where
   pub root : 1 ≤ s.folders_made → (e : FolderEntry) × (folder_entry s 1 ≡ Some e) × (e.parent ≡ 0)
   pub parents_stand : All (λ (e : FolderEntry). e.id ≢ 1 → (p : FolderEntry) × (folder_entry s e.parent ≡ Some p)) s.folders
   pub ways_end : (f : ℕ) → length (way_up 66 s.folders f) ≤ 65
-  pub files_stand : All (λ (e : FileEntry). (p : FolderEntry) × (folder_entry s e.folder ≡ Some p) × (length (way_to_root s e.folder) ≤ 64)) s.files
+  pub files_stand : All (λ (e : FileEntry). (p : FolderEntry) × (folder_entry s e.folder ≡ Some p)
+      × (length (way_to_root s e.folder) ≤ 64)) s.files

@@ -55,7 +55,8 @@ impl Book {
     pub(crate) fn put(&mut self, id: u32, name: Text, bytes: Text)
         requires room { 1 ≤ self.old.spare }
         requires name { MayBeNamed name.items }
-        ensures titles { (k : ℕ) → title_at self.new.titles k ≡ cond (id == k) (Some (record { id = id; name = name.items; bytes = bytes.items })) (title_at self.old.titles k) }
+        ensures titles { (k : ℕ) → title_at self.new.titles k
+            ≡ cond (id == k) (Some (record { id = id; name = name.items; bytes = bytes.items })) (title_at self.old.titles k) }
         ensures spare { self.old.spare ≤ self.new.spare + 1 }
     {
         let digest = digest_of(name.as_slice());

@@ -1,7 +1,8 @@
 //! Changes of a shape, each of which has its memory from `reserve`.
 ghost use Rattle.std.specs.Prelude.{◌≡◌, ◌≢◌, ◌+◌, ◌<◌, ◌≤◌, [], false, IsSome, Some};
 ghost use Rattle.cry_base.specs.Refusing.{has_child};
-ghost use Rattle.cry_base.specs.Stepping.{with_new_folder, with_new_file, with_folder, with_file, without_folder, without_file, without_node, moved};
+ghost use Rattle.cry_base.specs.Stepping.{with_new_folder, with_new_file, with_folder, with_file, without_folder, without_file};
+ghost use Rattle.cry_base.specs.Stepping.{without_node, moved};
 ghost use Rattle.cry_base.specs.Store.{file_entry};
 ghost use Rattle.folder_nodes.specs.Changing.{HasPlace, HasPlaceFor, number_of, CanRemove, CanShift, CanMove};
 

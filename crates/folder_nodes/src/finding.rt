@@ -51,7 +51,8 @@ pub(crate) fn node_with(shape: &Shape, names: &Names, path: &[u8]) -> Option<Nod
 fn child_with(shape: &Shape, names: &Names, f: u32, path: &[u8]) -> Option<Node>
     requires form { is_path path.now ≡ true }
     requires other { is_root_path path.now ≡ false }
-    requires way { IsWay (λ k. spelling.leads_to_folder (tree_store shape.now.tree names.now) k (spelling.joined (front (names_of path.now)))) (At f) }
+    requires way { IsWay (λ k. spelling.leads_to_folder (tree_store shape.now.tree names.now) k
+        (spelling.joined (front (names_of path.now)))) (At f) }
     ensures { result ≡ node_at (tree_store shape.now.tree names.now) path.now }
 {
     shape.is_tree();
@@ -102,7 +103,8 @@ fn file_node(file: Option<u32>) -> Option<Node>
 
 /// The first of the folders that has the path.
 fn folder_with(spots: &[Spot], shape: &Shape, names: &Names, path: &[u8]) -> Option<u32>
-    ensures { result ≡ option_map (λ (q : TheSpot). q.id) (find (λ q. spelling.leads_to_folder (tree_store shape.now.tree names.now) q.id path.now) spots.now) }
+    ensures { result ≡ option_map (λ (q : TheSpot). q.id)
+        (find (λ q. spelling.leads_to_folder (tree_store shape.now.tree names.now) q.id path.now) spots.now) }
 {
     for spot in spots {
         if leads_to_folder(shape, names, spot.id, path) {
@@ -114,7 +116,8 @@ fn folder_with(spots: &[Spot], shape: &Shape, names: &Names, path: &[u8]) -> Opt
 
 /// The first of the files that has the path.
 fn file_with(spots: &[Spot], shape: &Shape, names: &Names, path: &[u8]) -> Option<u32>
-    ensures { result ≡ option_map (λ (q : TheSpot). q.id) (find (λ q. spelling.leads_to_file (tree_store shape.now.tree names.now) q.id path.now) spots.now) }
+    ensures { result ≡ option_map (λ (q : TheSpot). q.id)
+        (find (λ q. spelling.leads_to_file (tree_store shape.now.tree names.now) q.id path.now) spots.now) }
 {
     for spot in spots {
         if leads_to_file(shape, names, spot.id, path) {

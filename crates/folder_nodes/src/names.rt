@@ -62,7 +62,8 @@ impl Names {
     pub fn set(&mut self, node: Node, name: Text, bytes: Text)
         requires room { 1 ≤ self.old.spare }
         requires name { MayBeNamed name.items }
-        ensures titles { (other : TheNode) → title_of self.new other ≡ cond (is_node node other) (Some (new_title node name.items bytes.items)) (title_of self.old other) }
+        ensures titles { (other : TheNode) → title_of self.new other
+            ≡ cond (is_node node other) (Some (new_title node name.items bytes.items)) (title_of self.old other) }
         ensures spare { self.old.spare ≤ self.new.spare + 1 }
     {
         match node {

@@ -48,7 +48,8 @@ pub(crate) fn has_named(shape: &Shape, names: &Names, f: u32, name: &[u8]) -> bo
 }
 
 fn has_folder_in(spots: &[Spot], shape: &Shape, names: &Names, f: u32, name: &[u8]) -> bool
-    ensures { result ≡ list_any (λ (q : TheSpot). spelling.is_folder_in f name.now (folder_entry (tree_store shape.now.tree names.now) q.id)) spots.now }
+    ensures { result ≡ list_any (λ (q : TheSpot). spelling.is_folder_in f name.now
+        (folder_entry (tree_store shape.now.tree names.now) q.id)) spots.now }
 {
     spots
         .iter()
@@ -56,7 +57,8 @@ fn has_folder_in(spots: &[Spot], shape: &Shape, names: &Names, f: u32, name: &[u
 }
 
 fn has_file_in(spots: &[Spot], shape: &Shape, names: &Names, f: u32, name: &[u8]) -> bool
-    ensures { result ≡ list_any (λ (q : TheSpot). spelling.is_file_in f name.now (file_entry (tree_store shape.now.tree names.now) q.id)) spots.now }
+    ensures { result ≡ list_any (λ (q : TheSpot). spelling.is_file_in f name.now (file_entry (tree_store shape.now.tree names.now) q.id))
+        spots.now }
 {
     spots
         .iter()
@@ -66,7 +68,8 @@ fn has_file_in(spots: &[Spot], shape: &Shape, names: &Names, f: u32, name: &[u8]
 /// Whether another name in the folder of the node is this one.
 pub(crate) fn has_beside(shape: &Shape, names: &Names, node: Node, name: &[u8]) -> bool
     requires { is_name name.now ≡ true }
-    ensures { result ≡ holds_name (tree_store shape.now.tree names.now) (parent_of (tree_store shape.now.tree names.now) (Some node)) name.now }
+    ensures { result ≡ holds_name (tree_store shape.now.tree names.now) (parent_of (tree_store shape.now.tree names.now) (Some node))
+        name.now }
 {
     has_named(shape, names, parent_number(shape, names, node), name)
 }
@@ -86,7 +89,8 @@ pub(crate) fn has_name_of(shape: &Shape, names: &Names, into: FolderId, path: &[
     requires form { is_path path.now ≡ true }
     requires other { is_root_path path.now ≡ false }
     requires found { IsSome (node_at (tree_store shape.now.tree names.now) path.now) }
-    ensures { result ≡ holds_name (tree_store shape.now.tree names.now) into.0 (name_in_store (tree_store shape.now.tree names.now) (node_at (tree_store shape.now.tree names.now) path.now)) }
+    ensures { result ≡ holds_name (tree_store shape.now.tree names.now) into.0
+        (name_in_store (tree_store shape.now.tree names.now) (node_at (tree_store shape.now.tree names.now) path.now)) }
 {
     shape.is_tree();
     names.are_names();
@@ -119,7 +123,8 @@ pub(crate) fn has_within(shape: &Shape, names: &Names, node: Node, into: FolderI
 pub(crate) fn is_too_high(shape: &Shape, names: &Names, node: Node, into: FolderId) -> bool
     requires node { Stands shape.now.tree node }
     requires into { IsSome (folder_entry shape.now.tree into.0) }
-    ensures { result ≡ nat_lt 64 (depth_of (tree_store shape.now.tree names.now) (Folder into) + 1 + height_of (tree_store shape.now.tree names.now) (Some node)) }
+    ensures { result ≡ nat_lt 64 (depth_of (tree_store shape.now.tree names.now) (Folder into) + 1 + height_of
+        (tree_store shape.now.tree names.now) (Some node)) }
 {
     let left = 64 - shape.depth(into);
     match node {

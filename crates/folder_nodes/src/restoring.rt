@@ -24,7 +24,9 @@ impl Shape {
         folders: List<FolderRow>,
         files: List<FileRow>,
     ) -> Mem<Option<Shape>>
-        ensures { IfOk result (λ made. MatchOption made (IsTree (bare_store folders.items files.items folders_made files_made) → ⊥) (λ shape. IsTree (bare_store folders.items files.items folders_made files_made) × (shape.tree ≡ bare_store folders.items files.items folders_made files_made))) }
+        ensures { IfOk result (λ made. MatchOption made (IsTree (bare_store folders.items files.items folders_made files_made)
+            → ⊥) (λ shape. IsTree (bare_store folders.items files.items folders_made files_made)
+            × (shape.tree ≡ bare_store folders.items files.items folders_made files_made))) }
     {
         let Some(folders) = Table::of_rows(alloc, folders.as_slice())? else {
             return Ok(None);

@@ -46,7 +46,9 @@ pub(crate) fn leads_to_file(shape: &Shape, names: &Names, x: u32, bytes: &[u8]) 
 
 /// The bytes before a slash and the node's name, where they end the bytes.
 fn before_name<'a>(names: &Names, node: Node, bytes: &'a [u8]) -> Option<&'a [u8]>
-    ensures { MatchOption result ((front : List ℕ) → bytes.now ≢ front ++ 47 ∷ name_in (title_of names.now node)) (λ front. bytes.now ≡ front.now ++ 47 ∷ name_in (title_of names.now node)) }
+    ensures { MatchOption result ((front : List ℕ)
+        → bytes.now ≢ front ++ 47 ∷ name_in (title_of names.now node)) (λ front. bytes.now ≡ front.now ++ 47
+        ∷ name_in (title_of names.now node)) }
 {
     cut(bytes, name_of(names, node))
 }

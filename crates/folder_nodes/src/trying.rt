@@ -27,7 +27,8 @@ pub(crate) fn folders_to_try<'a>(
 ) -> &'a [Spot]
     requires { is_name name.now ≡ true }
     ensures rising { IsRising (λ (q : TheSpot). q.id) result.now }
-    ensures all { (k : ℕ) → spelling.is_folder_in f name.now (folder_entry (tree_store shape.now.tree names.now) k) ≡ true → In k (map (λ (q : TheSpot). q.id) result.now) }
+    ensures all { (k : ℕ) → spelling.is_folder_in f name.now (folder_entry (tree_store shape.now.tree names.now) k) ≡ true
+        → In k (map (λ (q : TheSpot). q.id) result.now) }
 {
     shape.is_tree();
     let inside = shape.folders_inside(f);
@@ -50,7 +51,8 @@ pub(crate) fn files_to_try<'a>(
 ) -> &'a [Spot]
     requires { is_name name.now ≡ true }
     ensures rising { IsRising (λ (q : TheSpot). q.id) result.now }
-    ensures all { (k : ℕ) → spelling.is_file_in f name.now (file_entry (tree_store shape.now.tree names.now) k) ≡ true → In k (map (λ (q : TheSpot). q.id) result.now) }
+    ensures all { (k : ℕ) → spelling.is_file_in f name.now (file_entry (tree_store shape.now.tree names.now) k) ≡ true
+        → In k (map (λ (q : TheSpot). q.id) result.now) }
 {
     shape.is_tree();
     let inside = shape.files_inside(f);
@@ -98,7 +100,8 @@ pub(crate) fn first_folder(
     f: u32,
     name: &[u8],
 ) -> Option<u32>
-    ensures { result ≡ option_map (λ (q : TheSpot). q.id) (find (λ q. spelling.is_folder_in f name.now (folder_entry (tree_store shape.now.tree names.now) q.id)) spots.now) }
+    ensures { result ≡ option_map (λ (q : TheSpot). q.id)
+        (find (λ q. spelling.is_folder_in f name.now (folder_entry (tree_store shape.now.tree names.now) q.id)) spots.now) }
 {
     for spot in spots {
         if is_folder_in(shape, names, spot.id, f, name) {
@@ -116,7 +119,8 @@ pub(crate) fn first_file(
     f: u32,
     name: &[u8],
 ) -> Option<u32>
-    ensures { result ≡ option_map (λ (q : TheSpot). q.id) (find (λ q. spelling.is_file_in f name.now (file_entry (tree_store shape.now.tree names.now) q.id)) spots.now) }
+    ensures { result ≡ option_map (λ (q : TheSpot). q.id)
+        (find (λ q. spelling.is_file_in f name.now (file_entry (tree_store shape.now.tree names.now) q.id)) spots.now) }
 {
     for spot in spots {
         if is_file_in(shape, names, spot.id, f, name) {
@@ -135,7 +139,8 @@ pub(crate) fn has_another(
     f: u32,
     name: &[u8],
 ) -> bool
-    ensures { result ≡ list_any (λ (q : TheSpot). not (q.id == g) && spelling.is_folder_in f name.now (folder_entry (tree_store shape.now.tree names.now) q.id)) spots.now }
+    ensures { result ≡ list_any (λ (q : TheSpot). not (q.id == g)
+        && spelling.is_folder_in f name.now (folder_entry (tree_store shape.now.tree names.now) q.id)) spots.now }
 {
     spots.iter().any(|spot| spot.id != g && is_folder_in(shape, names, spot.id, f, name))
 }

@@ -38,7 +38,8 @@ pub(crate) fn only_folder(shape: &Shape, names: &Names, f: u32, name: &[u8]) -> 
 pub(crate) fn walk(shape: &Shape, names: &Names, path: &[u8]) -> Way
     requires form { is_path path.now ≡ true }
     requires other { is_root_path path.now ≡ false }
-    ensures { IsWay (λ k. spelling.leads_to_folder (tree_store shape.now.tree names.now) k (spelling.joined (front (names_of path.now)))) result }
+    ensures { IsWay (λ k. spelling.leads_to_folder (tree_store shape.now.tree names.now) k (spelling.joined (front (names_of path.now))))
+        result }
 {
     shape.is_tree();
     names.are_names();

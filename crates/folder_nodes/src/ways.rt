@@ -105,7 +105,8 @@ impl Shape {
 
     /// The depth of the deepest of the folders that are in this one.
     fn deepest_folder(&self, rows: &[FolderRow], f: u32) -> u32
-        ensures { result ≡ fold max 0 (map (λ r. cond (is_within self.now.tree r.id.0 f) (depth_of self.now.tree (folder_node r.id.0)) 0) rows.now) }
+        ensures { result ≡ fold max 0 (map (λ r. cond (is_within self.now.tree r.id.0 f) (depth_of self.now.tree (folder_node r.id.0)) 0)
+            rows.now) }
     {
         let mut deepest = 0;
         for row in rows {
@@ -116,7 +117,8 @@ impl Shape {
 
     /// The depth of the deepest of the files that are in this one, where `above` is less.
     fn deepest_file(&self, rows: &[FileRow], f: u32, above: u32) -> u32
-        ensures { result ≡ fold max above (map (λ r. cond (is_within self.now.tree r.folder.0 f) (depth_of self.now.tree (folder_node r.folder.0) + 1) 0) rows.now) }
+        ensures { result ≡ fold max above (map (λ r. cond (is_within self.now.tree r.folder.0 f)
+            (depth_of self.now.tree (folder_node r.folder.0) + 1) 0) rows.now) }
     {
         let mut deepest = above;
         for row in rows {

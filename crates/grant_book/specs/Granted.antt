@@ -1,5 +1,6 @@
 -- The list of holders and the list of grants. This project's own, docs/MODEL.md.
-use Rattle.std.specs.Prelude.{ℕ, zero, suc, ◌≤◌, Bool, not, ◌&&◌, ◌||◌, ◌==◌, nat_lt, List, ◌∷◌, ◌++◌, map, filter, length, Option, None, IsTrue, AllPairs, slice_get}
+use Rattle.std.specs.Prelude.{ℕ, zero, suc, ◌≤◌, Bool, not, ◌&&◌, ◌||◌, ◌==◌, nat_lt, List, ◌∷◌, ◌++◌, map, filter, length, Option, None}
+use Rattle.std.specs.Prelude.{IsTrue, AllPairs, slice_get}
 use Rattle.cry_base.specs.Store.{GrantEntry}
 use Rattle.cry_base.specs.declared.ids.HolderId.{HolderId}
 use Rattle.cry_base.specs.declared.ids.FolderId.{FolderId}

@@ -3,7 +3,8 @@ ghost use Rattle.std.specs.Prelude.{◌≡◌, [], ◌∷◌, ◌++◌, ◌+◌,
 ghost use Rattle.std.specs.List.{list_any};
 ghost use Rattle.cry_base.specs.Sets.{In};
 ghost use Rattle.cry_base.specs.Store.{GrantEntry};
-ghost use Rattle.grant_book.specs.Granted.{AreOrdered, IsHolder, check_at, is_grant, grant_of, holders_on, folders_of, with_pair, without_pair, without_pairs_on};
+ghost use Rattle.grant_book.specs.Granted.{AreOrdered, IsHolder, check_at, is_grant, grant_of, holders_on, folders_of, with_pair};
+ghost use Rattle.grant_book.specs.Granted.{without_pair, without_pairs_on};
 
 use crate::Grant;
 use cry_base::{FolderId, HolderId, List, Mem};

@@ -16,21 +16,27 @@ pub fn nothing_is_granted_at_first()
 
 /// A new holder, a grant, a grant taken back and a folder's grants dropped each stand for that effect in the store.
 pub fn changes_are_effects()
-    ensures holder { (checks : List (List ℕ)) (pairs : List GrantEntry) (s : Store) (check key : List ℕ) → AreGrantsOf checks pairs s → AreGrantsOf (checks ++ check ∷ []) pairs (with_new_holder s key) }
+    ensures holder { (checks : List (List ℕ)) (pairs : List GrantEntry) (s : Store) (check key : List ℕ) → AreGrantsOf checks pairs s
+        → AreGrantsOf (checks ++ check ∷ []) pairs (with_new_holder s key) }
     ensures grant { (checks : List (List ℕ)) (pairs : List GrantEntry) (s : Store) (h : ℕ) (path key : List ℕ) → AreGrantsOf checks pairs s
         → AreGrantsOf checks (with_pair pairs (grant_of h (id_of (node_at s path)))) (effect s (Grant h path) key) }
     ensures revoke { (checks : List (List ℕ)) (pairs : List GrantEntry) (s : Store) (h : ℕ) (path key : List ℕ) → AreGrantsOf checks pairs s
         → AreGrantsOf checks (without_pair pairs h (id_of (node_at s path))) (effect s (Revoke h path) key) }
-    ensures folder { (checks : List (List ℕ)) (pairs : List GrantEntry) (s : Store) (f : ℕ) → AreGrantsOf checks pairs s → AreGrantsOf checks (without_pairs_on pairs f) (without_folder s f) }
+    ensures folder { (checks : List (List ℕ)) (pairs : List GrantEntry) (s : Store) (f : ℕ) → AreGrantsOf checks pairs s
+        → AreGrantsOf checks (without_pairs_on pairs f) (without_folder s f) }
 {}
 
 /// Any other change of a store leaves its holders and its grants, so the lists stand for those still.
 pub fn other_changes_keep_grants()
-    ensures { (checks : List (List ℕ)) (pairs : List GrantEntry) (s t : Store) → t.holders ≡ s.holders → t.holders_made ≡ s.holders_made → t.grants ≡ s.grants → AreGrantsOf checks pairs s → AreGrantsOf checks pairs t }
+    ensures { (checks : List (List ℕ)) (pairs : List GrantEntry) (s t : Store) → t.holders ≡ s.holders → t.holders_made ≡ s.holders_made
+        → t.grants ≡ s.grants → AreGrantsOf checks pairs s → AreGrantsOf checks pairs t }
 {}
 
 /// A grant is refused, or the taking back of one, by the first of the store's causes that applies.
 pub fn refusals_are_the_stores()
-    ensures { (checks : List (List ℕ)) (pairs : List GrantEntry) (s : Store) (give : Bool) (h : ℕ) (path : List ℕ) → AreGrantsOf checks pairs s
-        → refusal_of_grant checks pairs give h (id_of (node_at s path)) ≡ first_cause ((finds_no_holder s (grant_request give h path), NoHolder) ∷ (grants_again s (grant_request give h path), HasGrant) ∷ (revokes_nothing s (grant_request give h path), NoGrant) ∷ []) }
+    ensures { (checks : List (List ℕ)) (pairs : List GrantEntry) (s : Store) (give : Bool) (h : ℕ) (path : List ℕ)
+        → AreGrantsOf checks pairs s
+        → refusal_of_grant checks pairs give h (id_of (node_at s path))
+        ≡ first_cause ((finds_no_holder s (grant_request give h path), NoHolder)
+        ∷ (grants_again s (grant_request give h path), HasGrant) ∷ (revokes_nothing s (grant_request give h path), NoGrant) ∷ []) }
 {}

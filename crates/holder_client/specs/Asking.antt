@@ -12,7 +12,8 @@ use Rattle.commit_journal.specs.Placed.{PlainPlaced}
 use Rattle.role_graph.specs.Rights.{Who, allowed_to, named_to}
 use Rattle.role_graph.specs.Rights.Who.{TheOwner}
 use Rattle.move_plan.specs.Fitting.{folder_stands}
-use Rattle.holder_client.specs.Judging.{Failure, OfBytes, Unseen, then_on, of_bytes, read_through, bundle_log, read_with, who_of, opened_first, shown_with}
+use Rattle.holder_client.specs.Judging.{Failure, OfBytes, Unseen, then_on, of_bytes, read_through, bundle_log, read_with, who_of}
+use Rattle.holder_client.specs.Judging.{opened_first, shown_with}
 use Rattle.holder_client.specs.View.{Line, line_path, folder_line, file_line}
 use Rattle.holder_client.specs.Visits.{visits_to_names, all_visits, file_visits, files_that, holder_visits}
 use Rattle.holder_client.specs.Visiting.{Reading, Opened, visit_all}
@@ -68,7 +69,8 @@ with_root r = if folder_stands r.stand.store 1 then Ok r else Err (OfBytes (Dama
 unfoldable pub open_with : List ℕ → Result (List PlainPlaced) Fault → Result OpenStore Failure
 open_with owner log =
     then_on (then_on (of_bytes (read_through log)) with_root) (λ r.
-    then_on (of_bytes (visit_all r (all_visits r.stand.store TheOwner ++ holder_visits r.stand.store) (record { keys = (Owner, owner) ∷ []; store = r.stand.store }))) (λ o.
+    then_on (of_bytes (visit_all r (all_visits r.stand.store TheOwner
+    ++ holder_visits r.stand.store) (record { keys = (Owner, owner) ∷ []; store = r.stand.store }))) (λ o.
     Ok (record { reading = r; opened = o })))
 
 -- a store's bytes opened for writing

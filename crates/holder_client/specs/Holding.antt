@@ -51,7 +51,8 @@ pub record HasKind (e : Edge) : Type 0 where
   pub target : role_with (kind_to e.kind) (role_id e.to) ≡ e.to
 
 -- a visit of a text goes on with the text that was opened and the place of its content, or ends with this fault
-abbrev pub GoesOn : Result OpenedText ClientFault → ((ℕ → List ℕ → Result opened.Opened Fault) → Result opened.Opened Fault) → (ℕ → List ℕ → Result opened.Opened Fault) → Type 0
+abbrev pub GoesOn : Result OpenedText ClientFault → ((ℕ → List ℕ → Result opened.Opened Fault) → Result opened.Opened Fault)
+    → (ℕ → List ℕ → Result opened.Opened Fault) → Type 0
 GoesOn (Ok t) visited go_on = visited go_on ≡ go_on t.at t.text.items
 GoesOn (Err fault) visited go_on = IsFault fault (visited go_on)
 
@@ -65,7 +66,8 @@ IsTitledBy bare names o behind = (behind.keys ≡ o.keys) × (behind.store.holde
 
 -- a visit of a file's text left the keys as they were, and the file's entry with this name and these bytes
 abbrev pub IsFiledBy : ℕ → NamedBytes → opened.Opened → opened.Opened → Type 0
-IsFiledBy x parts o behind = behind ≡ record o { store = with_file o.store x (λ e. record e { name = parts.name.items; bytes = parts.bytes.items }) }
+IsFiledBy x parts o behind = behind ≡ record o
+    { store = with_file o.store x (λ e. record e { name = parts.name.items; bytes = parts.bytes.items }) }
 
 -- visits left the store with this name and these bytes for the file, whatever keys they opened
 abbrev pub IsFiled : ℕ → List ℕ → List ℕ → opened.Opened → opened.Opened → Type 0
@@ -74,7 +76,10 @@ IsFiled x name bytes o behind = behind.store ≡ with_file o.store x (λ e. reco
 -- a visit of a holder's key left the store with that key, and the ring has it for the holder
 pub record IsHeldBy (new old : Ringed) (h : ℕ) (o behind : opened.Opened) : Type 0 where
   pub key : List ℕ
-  pub stored : behind ≡ record o { store = record o.store { holders = map (λ (e : HolderEntry). cond (e.number == h) (record e { key = key }) e) o.store.holders } }
+  pub stored : behind ≡ record o {
+    store = record o.store
+        { holders = map (λ (e : HolderEntry). cond (e.number == h) (record e { key = key }) e) o.store.holders };
+  }
   pub ringed : option_map (λ k. k.bytes) (key_of new (Holder (record { 0 = h }))) ≡ Some key
   pub others : (role : Role) → role ≢ Holder (record { 0 = h }) → key_of new role ≡ key_of old role
 

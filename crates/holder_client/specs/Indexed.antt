@@ -51,7 +51,8 @@ IsLastAt log None wanted = wanted ≡ None
 IsLastAt log (Some spot) wanted = (c : PlainContent) × IsContentAt log spot c × (wanted ≡ Some (content_here spot.batch spot.at c))
 
 -- the map has the spot in a log of the last content of each head
-pub record HasLastContents {S : Type 0} (log : List PlainPlaced) (last : HashMap ContentHead ContentSpot S) (contents : List PlacedContent) : Type 0 where
+pub record HasLastContents {S : Type 0} (log : List PlainPlaced) (last : HashMap ContentHead ContentSpot S) (contents : List PlacedContent)
+    : Type 0 where
   pub found : (head : ContentHead) → IsLastAt log (get same_content_heads last head) (last_one (is_of head.kind head.object) contents)
 
 -- both maps have the last ones of a log

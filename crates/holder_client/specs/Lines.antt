@@ -22,7 +22,11 @@ plain_view view = map plain_line view.items
 
 -- the line of a folder that is named, and the list of it or of none; the line of a file that was read
 abbrev pub sight_line : Store → Sight → model.Line
-sight_line t x = elim x.allowed [ true ↦ model.FolderLine (spell_path (folder_names t x.folder.0)) | false ↦ model.AncestorLine (spell_path (folder_names t x.folder.0)) ]
+sight_line t x = elim x.allowed [
+  | true ↦ model.FolderLine (spell_path (folder_names t x.folder.0))
+  | false ↦ model.AncestorLine
+      (spell_path (folder_names t x.folder.0))
+]
 
 abbrev pub lines_of : Store → Sight → List model.Line
 lines_of t x = cond x.named (sight_line t x ∷ []) []

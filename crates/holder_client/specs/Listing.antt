@@ -60,4 +60,5 @@ listed_to_names viewer sights =
     flat_map (part_of viewer Entry) sights
     ++ (map from_parent (in_order is_shallower (filter is_lower sights))
     ++ (flat_map (part_of viewer Ways) sights
-    ++ (flat_map (λ (x : Sight). from_child sights x.folder) (in_order is_deeper (filter is_upper sights)) ++ flat_map (part_of viewer Title) sights)))
+    ++ (flat_map (λ (x : Sight). from_child sights x.folder) (in_order is_deeper (filter is_upper sights))
+    ++ flat_map (part_of viewer Title) sights)))

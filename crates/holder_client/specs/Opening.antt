@@ -66,7 +66,8 @@ HasHolder ring e = option_map (λ k. k.bytes) (key_of ring (Holder (record { 0 =
 pub record IsOpenedTo (told : Role → Bool) (bare : Store) (left : List Visit) (view : OwnersView) (o : Opened) : Type 0 where
   pub keys : HoldsKeys told view.ring o.keys
   pub names : HasNames bare view.names o.store
-  pub holders : (e : HolderEntry) → In e o.store.holders → told (Holder (record { 0 = e.number })) ≡ false → HasHolder view.ring e ⊎ In (ToHolder e.number) left
+  pub holders : (e : HolderEntry) → In e o.store.holders → told (Holder (record { 0 = e.number })) ≡ false → HasHolder view.ring e
+      ⊎ In (ToHolder e.number) left
 
 -- the ring has exactly the keys that were opened, and the key of each holder; the names and bytes are those opened
 pub record IsOpenedBy (bare : Store) (view : OwnersView) (o : Opened) : Type 0 where

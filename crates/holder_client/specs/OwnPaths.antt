@@ -36,19 +36,24 @@ unfoldable pub is_same_file : FileEntry → FileEntry → Bool
 is_same_file a b = (a.id == b.id && a.folder == b.folder) && (bytes_eq a.name b.name && bytes_eq a.bytes b.bytes)
 
 unfoldable pub folders_differ : List FolderEntry → Bool
-folders_differ fs = list_all (λ (a : FolderEntry). list_all (λ (b : FolderEntry). only_if (a.parent == b.parent && bytes_eq a.name b.name) (a.id == b.id)) fs) fs
+folders_differ fs = list_all (λ (a : FolderEntry). list_all (λ (b : FolderEntry). only_if (a.parent == b.parent
+    && bytes_eq a.name b.name) (a.id == b.id)) fs) fs
 
 unfoldable pub files_differ : List FileEntry → Bool
-files_differ xs = list_all (λ (a : FileEntry). list_all (λ (b : FileEntry). only_if (a.folder == b.folder && bytes_eq a.name b.name) (is_same_file a b)) xs) xs
+files_differ xs = list_all (λ (a : FileEntry). list_all (λ (b : FileEntry). only_if (a.folder == b.folder
+    && bytes_eq a.name b.name) (is_same_file a b)) xs) xs
 
 unfoldable pub kinds_differ : List FolderEntry → List FileEntry → Bool
-kinds_differ fs xs = list_all (λ (a : FolderEntry). list_all (λ (b : FileEntry). not (a.parent == b.folder && bytes_eq a.name b.name)) xs) fs
+kinds_differ fs xs = list_all (λ (a : FolderEntry). list_all (λ (b : FileEntry). not (a.parent == b.folder
+    && bytes_eq a.name b.name)) xs) fs
 
 unfoldable pub folders_are_named : List FolderEntry → Bool
 folders_are_named fs = list_all (λ (a : FolderEntry). (a.parent == 0 || is_name a.name) && only_if (a.parent == 0) (a.id == 1)) fs
 
 unfoldable pub ways_are_whole : Store → Bool
-ways_are_whole s = list_all (λ (a : FolderEntry). is_whole (way_to_root s a.id)) s.folders && list_all (λ (b : FileEntry). is_name b.name && is_whole (way_to_root s b.folder)) s.files
+ways_are_whole s = list_all (λ (a : FolderEntry). is_whole (way_to_root s a.id)) s.folders
+    && list_all (λ (b : FileEntry). is_name b.name && is_whole (way_to_root s b.folder)) s.files
 
 unfoldable pub has_own_names : Store → Bool
-has_own_names s = (folders_differ s.folders && (files_differ s.files && kinds_differ s.folders s.files)) && (folders_are_named s.folders && ways_are_whole s)
+has_own_names s = (folders_differ s.folders && (files_differ s.files && kinds_differ s.folders s.files))
+    && (folders_are_named s.folders && ways_are_whole s)

@@ -45,7 +45,8 @@ same_number a b = a == b
 
 -- the set has the folders on which the holder has a grant, and all above them
 abbrev pub HasAbove : {S : Type 0} → Store → List GrantEntry → ℕ → HashSet ℕ S → Type 0
-HasAbove tree pairs h above = (f : ℕ) → contains same_number above f ≡ list_any (λ (g : FolderId). is_within tree g.0 f) (folders_of pairs h)
+HasAbove tree pairs h above = (f : ℕ) → contains same_number above f
+    ≡ list_any (λ (g : FolderId). is_within tree g.0 f) (folders_of pairs h)
 
 -- as code looks it up of a row
 abbrev pub owners_sight : Store → FolderRow → Sight
@@ -59,14 +60,15 @@ owners_sight tree r = record {
 }
 
 abbrev pub holders_sight : Store → List GrantEntry → ℕ → FolderRow → Sight
-holders_sight tree pairs h r = let may = list_any (λ (e : FolderEntry). list_any (is_grant h e.id) pairs) (way_to_root tree r.id.0) in record {
-  folder = r.id;
-  parent = r.parent;
-  depth = depth_of tree (folder_node r.id.0);
-  entry = list_any (is_grant h r.id.0) pairs;
-  allowed = may;
-  named = may || list_any (λ (g : FolderId). is_within tree g.0 r.id.0) (folders_of pairs h);
-}
+holders_sight tree pairs h r = let may = list_any (λ (e : FolderEntry). list_any (is_grant h e.id) pairs) (way_to_root tree r.id.0)
+    in record {
+      folder = r.id;
+      parent = r.parent;
+      depth = depth_of tree (folder_node r.id.0);
+      entry = list_any (is_grant h r.id.0) pairs;
+      allowed = may;
+      named = may || list_any (λ (g : FolderId). is_within tree g.0 r.id.0) (folders_of pairs h);
+    }
 
 -- the folder is come into from the one that it is in; it is named alone
 abbrev pub is_lower : Sight → Bool
@@ -80,7 +82,8 @@ abbrev pub is_shallower : Sight → Sight → Bool
 is_shallower a b = nat_lt a.depth b.depth || ((a.depth == b.depth) && nat_lt a.folder.0 b.folder.0)
 
 abbrev pub is_deeper : Sight → Sight → Bool
-is_deeper a b = nat_lt (4294967295 - a.depth) (4294967295 - b.depth) || ((4294967295 - a.depth == 4294967295 - b.depth) && nat_lt a.folder.0 b.folder.0)
+is_deeper a b = nat_lt (4294967295 - a.depth) (4294967295 - b.depth)
+    || ((4294967295 - a.depth == 4294967295 - b.depth) && nat_lt a.folder.0 b.folder.0)
 
 -- the folder is named, and stands in this one
 abbrev pub is_child : ℕ → Sight → Bool

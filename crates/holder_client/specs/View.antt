@@ -21,7 +21,8 @@ line_path (FileLine path bytes) = path
 
 -- the line of a folder that is named
 unfoldable pub folder_line : Store → Who → FolderEntry → Line
-folder_line s who e = elim (allowed_to s who e.id) [ true ↦ FolderLine (spell_path (folder_names s e.id)) | false ↦ AncestorLine (spell_path (folder_names s e.id)) ]
+folder_line s who e = elim (allowed_to s who e.id)
+    [ true ↦ FolderLine (spell_path (folder_names s e.id)) | false ↦ AncestorLine (spell_path (folder_names s e.id)) ]
 
 -- the line of a file
 unfoldable pub file_line : Store → FileEntry → Line

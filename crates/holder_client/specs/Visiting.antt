@@ -1,5 +1,6 @@
 -- What visits open, each with the keys that those before led to. This project's own, docs/FORMAT.md, "Reading".
-use Rattle.std.specs.Prelude.{ℕ, Bool, false, ◌&&◌, ◌==◌, nat_le, if◌then◌else◌, cond, List, [], ◌∷◌, length, take, drop, map, Option, None, Some, Result, Ok, Err}
+use Rattle.std.specs.Prelude.{ℕ, Bool, false, ◌&&◌, ◌==◌, nat_le, if◌then◌else◌, cond, List, [], ◌∷◌, length, take, drop, map, Option, None}
+use Rattle.std.specs.Prelude.{Some, Result, Ok, Err}
 use Rattle.cry_base.specs.Naming.{is_name}
 use Rattle.cry_base.specs.Store.{Store, HolderEntry}
 use Rattle.cry_base.specs.Stepping.{with_folder, with_file}
@@ -42,12 +43,14 @@ with_key o role key = Ok (record o { keys = (role, key) ∷ o.keys })
 -- the link of an edge, opened with the key of its source
 unfoldable pub visit_edge : Reading → Opened → Edge → Result Opened Fault
 visit_edge r o e =
-    needed (key_of o.keys e.from) (λ key. needed (link_for r.stand.keys r.log e) (λ l. and_then (open_link l.batch l.at key l.link) (with_key o e.to)))
+    needed (key_of o.keys e.from) (λ key. needed (link_for r.stand.keys r.log e)
+    (λ l. and_then (open_link l.batch l.at key l.link) (with_key o e.to)))
 
 -- the text of the last content of a kind for an object, with its place, opened with the key of a role
 unfoldable pub visit_text : Reading → Opened → Role → ℕ → ℕ → (ℕ → List ℕ → Result Opened Fault) → Result Opened Fault
 visit_text r o role kind object go_on =
-    needed (key_of o.keys role) (λ key. needed (content_for r.log kind object) (λ c. and_then (open_content c.batch c.at key c.content) (go_on c.at)))
+    needed (key_of o.keys role) (λ key. needed (content_for r.log kind object)
+    (λ c. and_then (open_content c.batch c.at key c.content) (go_on c.at)))
 
 -- a folder's name is a name; the root's is empty
 unfoldable pub is_folder_text : ℕ → List ℕ → Bool
@@ -74,7 +77,12 @@ with_text_at o x at text = if is_file_text text then Ok (with_parts o x text) el
 -- the key of a holder
 unfoldable pub with_holder_key : Opened → ℕ → ℕ → List ℕ → Result Opened Fault
 with_holder_key o h at text =
-    Ok (record o { store = record o.store { holders = map (λ (e : HolderEntry). cond (e.number == h) (record e { key = text }) e) o.store.holders } })
+    Ok (record o {
+      store = record o.store {
+        holders = map (λ (e : HolderEntry). cond (e.number == h) (record e { key = text }) e)
+            o.store.holders;
+      };
+    })
 
 -- one visit
 unfoldable pub visit : Reading → Visit → Opened → Result Opened Fault

@@ -33,7 +33,8 @@ entry_edge (TheHolder h) f = grant_edge h f
 
 -- 1: each entry folder, ascending: into Clear, and on to Sub
 unfoldable pub entry_visits : Store → Who → List Visit
-entry_visits s who = flat_map (λ f. ToKey (entry_edge who f) ∷ ToKey (edge 3 (clear_of f) (sub_of f)) ∷ []) (folders_that (is_entry s who) s)
+entry_visits s who = flat_map (λ f. ToKey (entry_edge who f) ∷ ToKey (edge 3 (clear_of f) (sub_of f))
+    ∷ []) (folders_that (is_entry s who) s)
 
 -- the folder stands less deep, or as deep with a lower number
 unfoldable pub is_higher : Store → ℕ → ℕ → Bool

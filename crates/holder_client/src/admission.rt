@@ -29,7 +29,8 @@ pub(crate) type Checks = HashMap<u32, [u8; 32]>;
 /// The check that a note publishes.
 #[tactic(auto, unfolding(crate::specs::Judging::body_check, crate::specs::Judging::check_in, record_format::specs::Told::told_note))]
 fn check_in(placed: &Placed) -> Option<NewCheck>
-    ensures { MatchOption result ((h : ℕ) → spec.body_check h (plain_body placed.now.body) ≡ None) (Publishes (plain_body placed.now.body)) }
+    ensures { MatchOption result ((h : ℕ) → spec.body_check h (plain_body placed.now.body)
+        ≡ None) (Publishes (plain_body placed.now.body)) }
 {
     let Body::Commands(payload) = &placed.body else {
         return None;
@@ -45,7 +46,8 @@ fn check_in(placed: &Placed) -> Option<NewCheck>
 
 /// Notes the check that a batch publishes, where its holder has none.
 pub(crate) fn note_check(checks: &mut Checks, placed: &Placed) -> Mem<()>
-    ensures { OnOk result ((log : List PlainPlaced) → HasChecks checks.old log → HasChecks checks.new (log ++ plain_placed placed.now ∷ [])) }
+    ensures { OnOk result ((log : List PlainPlaced) → HasChecks checks.old log
+        → HasChecks checks.new (log ++ plain_placed placed.now ∷ [])) }
 {
     let Some(published) = check_in(placed) else {
         return Ok(());
@@ -70,7 +72,8 @@ fn holder_may(
     h: HolderId,
     key: &[u8; 32],
 ) -> Result<(), ClientFault>
-    ensures answer { (log : List PlainPlaced) (r : Reading) → HasChecks checks.now log → IsReadingIn state.now log r → AnswersAs (λ _. r) result (spec.holder_reads key.now r (spec.published_check h.0 r.log)) }
+    ensures answer { (log : List PlainPlaced) (r : Reading) → HasChecks checks.now log → IsReadingIn state.now log r
+        → AnswersAs (λ _. r) result (spec.holder_reads key.now r (spec.published_check h.0 r.log)) }
     ensures seen { result ≢ Err ClientFault.Unseen }
     ensures no_disk { result ≢ Err ClientFault.DiskFault }
 {
@@ -91,7 +94,8 @@ pub(crate) fn may_read(
     checks: &Checks,
     state: &PublicState,
 ) -> Result<(), ClientFault>
-    ensures answer { (log : List PlainPlaced) (r : Reading) → HasChecks checks.now log → IsReadingIn state.now log r → AnswersAs (λ _. r) result (spec.may_read bundle.now r) }
+    ensures answer { (log : List PlainPlaced) (r : Reading) → HasChecks checks.now log → IsReadingIn state.now log r
+        → AnswersAs (λ _. r) result (spec.may_read bundle.now r) }
     ensures seen { result ≢ Err ClientFault.Unseen }
     ensures no_disk { result ≢ Err ClientFault.DiskFault }
 {

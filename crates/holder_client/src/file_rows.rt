@@ -12,7 +12,8 @@ use std::collections::HashSet;
 
 /// Notes the folder, where all in it may be read.
 fn note_allowed(folders: &mut HashSet<u32>, sight: &Sight) -> Mem<()>
-    ensures { OnOk result ((f : ℕ) → contains spec.same_number folders.new f ≡ (contains spec.same_number folders.old f || spec.opens f sight.now)) }
+    ensures { OnOk result ((f : ℕ) → contains spec.same_number folders.new f
+        ≡ (contains spec.same_number folders.old f || spec.opens f sight.now)) }
 {
     if sight.allowed {
         folders.insert(sight.folder.0)?;

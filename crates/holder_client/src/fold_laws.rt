@@ -17,13 +17,15 @@ ghost use Rattle.holder_client.specs.Placing.{PlacedLink, link_for, log_links};
 /// should be, with links of which each has its record in the log.
 pub fn folded_logs_hold()
     ensures { (first : PlainPlaced) (log : List PlainPlaced) (stand : Stand) → folded nothing (first ∷ log) ≡ Ok stand →
-        (links : List Link) × StandHolds stand links × ((l : Link) → In l links → (p : PlacedLink) × In p (log_links (first ∷ log)) × IsTrue (has_link_head l p.link)) }
+        (links : List Link) × StandHolds stand links
+        × ((l : Link) → In l links → (p : PlacedLink) × In p (log_links (first ∷ log)) × IsTrue (has_link_head l p.link)) }
 {}
 
 /// Law: a log that folds has a record for each edge that stands then, from the present key of its source to the present key
 /// of its target, so no visit to a key lacks its record.
 pub fn each_edge_has_its_record()
-    ensures { (log : List PlainPlaced) (stand : Stand) → folded nothing log ≡ Ok stand → (e : Edge) → In e (edges stand.store) → IsTrue (is_some (link_for stand.keys log e)) }
+    ensures { (log : List PlainPlaced) (stand : Stand) → folded nothing log ≡ Ok stand → (e : Edge) → In e (edges stand.store)
+        → IsTrue (is_some (link_for stand.keys log e)) }
 {}
 
 /// Law: whatever a log folds to, the owner's key has the serial 0: no payload renews it.

@@ -31,7 +31,8 @@ pub(crate) fn take_batch(
     placed: &Placed,
 ) -> Result<(), ClientFault>
     requires next { IsInEpoch state.old.keys.epoch placed.now.epoch.0 (plain_body placed.now.body) }
-    ensures answer { (at : Stand) → IsSeenAs state.old at → AnswersBy (λ _ behind. IsSeenAs state.new behind) result (stand_behind at placed.now.place (plain_body placed.now.body)) }
+    ensures answer { (at : Stand) → IsSeenAs state.old at
+        → AnswersBy (λ _ behind. IsSeenAs state.new behind) result (stand_behind at placed.now.place (plain_body placed.now.body)) }
     ensures no_disk { result ≢ Err ClientFault.DiskFault }
     ensures err { OnErr result (state.new ≡ with_room_of state.old state.new) }
 {

@@ -36,7 +36,8 @@ impl Index {
     /// Notes the next batch, before which so many stand. After `Err` it is the index of no log.
     pub(crate) fn note(&mut self, position: usize, placed: &Placed) -> Mem<()>
         requires { IsStanding placed.now }
-        ensures { OnOk result ((log : List PlainPlaced) → length log ≡ position → IsIndexOf self.old log → IsIndexOf self.new (log ++ plain_placed placed.now ∷ [])) }
+        ensures { OnOk result ((log : List PlainPlaced) → length log ≡ position → IsIndexOf self.old log
+            → IsIndexOf self.new (log ++ plain_placed placed.now ∷ [])) }
     {
         note_links_of(&mut self.links, placed)?;
         note_contents_of(&mut self.contents, position, placed)

@@ -53,7 +53,8 @@ fn head_of(content: &ContentRecord) -> ContentHead
 /// Notes the spot of a content under its head, in the place of an earlier one.
 #[tactic(auto, using(crate::proofs::Lasts::content_noted))]
 fn note_content(last: &mut LastContents, spot: ContentSpot, content: &ContentRecord) -> Mem<()>
-    ensures { OnOk result ((log : List PlainPlaced) (so_far : List spec.PlacedContent) → IsContentAt log spot (plain_content content.now) → HasLastContents log last.old so_far →
+    ensures { OnOk result ((log : List PlainPlaced) (so_far : List spec.PlacedContent) → IsContentAt log spot (plain_content content.now)
+        → HasLastContents log last.old so_far →
         HasLastContents log last.new (so_far ++ content_here spot.batch spot.at (plain_content content.now) ∷ [])) }
 {
     last.insert(head_of(content), spot)?;
@@ -69,8 +70,10 @@ fn note_contents(
     contents: &[ContentRecord],
 ) -> Mem<()>
     requires end { first + sum_by content_size (map plain_content contents.now) < 2 ^ 64 }
-    ensures { OnOk result ((log : List PlainPlaced) (p : PlainPlaced) (so_far : List spec.PlacedContent) → IsAt log position p → contents_in p.body ≡ map plain_content contents.now →
-        HasLastContents log last.old so_far → HasLastContents log last.new (so_far ++ spec.contents_at batch first (map plain_content contents.now))) }
+    ensures { OnOk result ((log : List PlainPlaced) (p : PlainPlaced) (so_far : List spec.PlacedContent) → IsAt log position p
+        → contents_in p.body ≡ map plain_content contents.now →
+        HasLastContents log last.old so_far → HasLastContents log last.new (so_far
+        ++ spec.contents_at batch first (map plain_content contents.now))) }
 {
     let mut at = first;
     let mut index = 0;
@@ -91,7 +94,8 @@ fn note_contents(
 /// Notes the contents that the batch at a position of a log carries, behind those of the batches before it.
 pub(crate) fn note_contents_of(last: &mut LastContents, position: usize, placed: &Placed) -> Mem<()>
     requires { IsStanding placed.now }
-    ensures { OnOk result ((log : List PlainPlaced) (so_far : List spec.PlacedContent) → IsAt log position (plain_placed placed.now) → HasLastContents log last.old so_far →
+    ensures { OnOk result ((log : List PlainPlaced) (so_far : List spec.PlacedContent) → IsAt log position (plain_placed placed.now)
+        → HasLastContents log last.old so_far →
         HasLastContents log last.new (so_far ++ spec.body_contents placed.now.batch placed.now.place (plain_body placed.now.body))) }
 {
     let Body::Commands(payload) = &placed.body else {

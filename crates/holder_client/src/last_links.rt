@@ -99,7 +99,8 @@ fn note_link(last: &mut LastLinks, found: FoundLink) -> Mem<()>
 /// Notes the links of a batch, of which the first stands at the place.
 fn note_links(last: &mut LastLinks, batch: u32, first: u64, links: &[LinkRecord]) -> Mem<()>
     requires { first + 98 * length links.now < 2 ^ 64 }
-    ensures { OnOk result ((so_far : List spec.PlacedLink) → HasLastLinks last.old so_far → HasLastLinks last.new (so_far ++ spec.links_at batch first links.now)) }
+    ensures { OnOk result ((so_far : List spec.PlacedLink) → HasLastLinks last.old so_far
+        → HasLastLinks last.new (so_far ++ spec.links_at batch first links.now)) }
 {
     let mut at = first;
     for link in links {

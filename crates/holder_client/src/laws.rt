@@ -14,7 +14,8 @@ pub fn view_is_what_is_shown()
 
 /// Where the names in each folder differ and each way up ends at the root, two lines of a view with one path are one.
 pub fn paths_in_a_view_differ()
-    ensures { (s : Store) (who : Who) → HasOwnNames s → (a b : Line) → In a (view s who) → In b (view s who) → line_path a ≡ line_path b → a ≡ b }
+    ensures { (s : Store) (who : Who) → HasOwnNames s → (a b : Line) → In a (view s who) → In b (view s who) → line_path a ≡ line_path b
+        → a ≡ b }
 {}
 
 /// A store that passes the computed test has names of its own.

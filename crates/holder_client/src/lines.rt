@@ -56,7 +56,8 @@ fn push_folder(
     names: &Names,
     sight: &Sight,
 ) -> Mem<()>
-    ensures { OnOk result (map plain_line lines.new.items ≡ map plain_line lines.old.items ++ spec.lines_of (tree_store shape.now.tree names.now) sight.now) }
+    ensures { OnOk result (map plain_line lines.new.items ≡ map plain_line lines.old.items
+        ++ spec.lines_of (tree_store shape.now.tree names.now) sight.now) }
 {
     if sight.named {
         lines.push(folder_line(alloc, shape, names, sight)?)?;
@@ -71,7 +72,8 @@ pub(crate) fn folder_lines(
     names: &Names,
     sights: &[Sight],
 ) -> Mem<Vec<Line>>
-    ensures { IfOk result (λ lines. map plain_line lines.items ≡ flat_map (spec.lines_of (tree_store shape.now.tree names.now)) sights.now) }
+    ensures { IfOk result (λ lines. map plain_line lines.items
+        ≡ flat_map (spec.lines_of (tree_store shape.now.tree names.now)) sights.now) }
 {
     let mut lines = Vec::new(alloc);
     for sight in sights {
@@ -88,7 +90,8 @@ pub(crate) fn push_files(
     names: &Names,
     files: Vec<ReadFile>,
 ) -> Mem<()>
-    ensures { OnOk result (map plain_line lines.new.items ≡ map plain_line lines.old.items ++ map (spec.read_line (tree_store shape.now.tree names.now)) files.items) }
+    ensures { OnOk result (map plain_line lines.new.items ≡ map plain_line lines.old.items
+        ++ map (spec.read_line (tree_store shape.now.tree names.now)) files.items) }
 {
     for file in files {
         lines.push(file_line(alloc, shape, names, file)?)?;

@@ -49,8 +49,10 @@ impl Reader {
     /// Adds the next batch. After `Err` the reader is that of no log, and of no more use.
     pub fn add(&mut self, alloc: Global, placed: &Placed) -> Mem<()>
         requires stands { IsStanding placed.now }
-        requires next { (log : List PlainPlaced) × HasRead self.old log × AreInEpochs 0 (log ++ plain_placed placed.now ∷ []) × (placed.now.batch ≡ length log + 1) }
-        ensures { OnOk result ((log : List PlainPlaced) → HasRead self.old log → AreInEpochs 0 (log ++ plain_placed placed.now ∷ []) → placed.now.batch ≡ length log + 1 →
+        requires next { (log : List PlainPlaced) × HasRead self.old log × AreInEpochs 0 (log ++ plain_placed placed.now ∷ [])
+            × (placed.now.batch ≡ length log + 1) }
+        ensures { OnOk result ((log : List PlainPlaced) → HasRead self.old log → AreInEpochs 0 (log ++ plain_placed placed.now ∷ [])
+            → placed.now.batch ≡ length log + 1 →
             HasRead self.new (log ++ plain_placed placed.now ∷ [])) }
     {
         let _number = placed.batch;
@@ -71,8 +73,10 @@ impl Reader {
     fn keep(&mut self, placed: &Placed) -> Mem<()>
         requires stands { IsStanding placed.now }
         requires from_one { 1 ≤ placed.now.batch }
-        ensures kept { OnOk result ((log : List PlainPlaced) → placed.now.batch ≡ length log + 1 → IsIndexOf self.old.index log → HasChecks self.old.checks log →
-            IsIndexOf self.new.index (log ++ plain_placed placed.now ∷ []) × HasChecks self.new.checks (log ++ plain_placed placed.now ∷ [])) }
+        ensures kept { OnOk result ((log : List PlainPlaced) → placed.now.batch ≡ length log + 1 → IsIndexOf self.old.index log
+            → HasChecks self.old.checks log →
+            IsIndexOf self.new.index (log ++ plain_placed placed.now ∷ [])
+            × HasChecks self.new.checks (log ++ plain_placed placed.now ∷ [])) }
         ensures state { self.new.state ≡ self.old.state }
         ensures misfit { self.new.misfit ≡ self.old.misfit }
     {

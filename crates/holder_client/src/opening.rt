@@ -50,7 +50,8 @@ pub(crate) fn visit_link(
     requires found { IfSome found (IsLinkFor state.now.keys edge.now) }
     requires kind { HasKind edge.now }
     requires keys { ArePresent state.now.keys.keys ring.old }
-    ensures answer { (told : TheRole → Bool) (r : Reading) (o : Opened) → plain_link found ≡ link_for r.stand.keys r.log edge.now → IsTrue (told edge.now.from) → HoldsKeys told ring.old o.keys →
+    ensures answer { (told : TheRole → Bool) (r : Reading) (o : Opened) → plain_link found ≡ link_for r.stand.keys r.log edge.now
+        → IsTrue (told edge.now.from) → HoldsKeys told ring.old o.keys →
         AnswersBy (λ _ behind. HoldsKeys told ring.new behind.keys × (behind.store ≡ o.store)) result (spec.visit r (ToKey edge.now) o) }
     ensures keys { OnOk result (ArePresent state.now.keys.keys ring.new) }
     ensures others { OnOk result ((role : TheRole) → role ≢ edge.now.to → key_of ring.new role ≡ key_of ring.old role) }
@@ -74,7 +75,8 @@ fn visit_one<S, R: Records<S>>(
 ) -> Result<(), ClientFault>
     requires kind { HasItsKind (plain_visit visit.now) }
     requires keys { ArePresent state.now.keys.keys view.old.ring }
-    ensures answer { R.shows records.now source.old → (told : TheRole → Bool) (r : Reading) (o : Opened) (left : List PlainVisit) → IsFor told (plain_visit visit.now) →
+    ensures answer { R.shows records.now source.old → (told : TheRole → Bool) (r : Reading) (o : Opened) (left : List PlainVisit)
+        → IsFor told (plain_visit visit.now) →
         IsReadingIn state.now (R.log records.now) r → IsOpenedTo told r.stand.store (plain_visit visit.now ∷ left) view.old o →
         AnswersBy (λ _ behind. IsOpenedTo told r.stand.store left view.new behind) result (spec.visit r (plain_visit visit.now) o) }
     ensures keys { OnOk result (ArePresent state.now.keys.keys view.new.ring) }
@@ -115,7 +117,8 @@ pub(crate) fn visit_each<S, R: Records<S>>(
     requires kinds { AllByRecursion HasItsKind (map plain_visit visits.now) }
     requires keys { ArePresent state.now.keys.keys before.ring }
     requires sized { AreSized before.names }
-    ensures answer { R.shows records.now source.old → (told : TheRole → Bool) (r : Reading) (o : Opened) → AllByRecursion (IsFor told) (map plain_visit visits.now) →
+    ensures answer { R.shows records.now source.old → (told : TheRole → Bool) (r : Reading) (o : Opened)
+        → AllByRecursion (IsFor told) (map plain_visit visits.now) →
         IsReadingIn state.now (R.log records.now) r → IsOpenedTo told r.stand.store (map plain_visit visits.now) before o →
         AnswersBy (λ view behind. IsOpenedTo told r.stand.store [] view behind) result (spec.visit_all r (map plain_visit visits.now) o) }
     ensures keys { IfOk result (λ view. ArePresent state.now.keys.keys view.ring) }
@@ -145,7 +148,8 @@ pub fn open_all(
     requires owner { IsPresent state.now.keys.keys Owner owner }
     ensures answer { (r : Reading) → IsReadingOf state.now log.now r →
         AnswersBy (λ view behind. IsOpenedBy r.stand.store view behind) result
-        (spec.visit_all r (all_visits r.stand.store TheOwner ++ holder_visits r.stand.store) (record { keys = (Owner, owner.bytes) ∷ []; store = r.stand.store })) }
+        (spec.visit_all r (all_visits r.stand.store TheOwner
+        ++ holder_visits r.stand.store) (record { keys = (Owner, owner.bytes) ∷ []; store = r.stand.store })) }
     ensures present { IfOk result (λ view. ArePresent state.now.keys.keys view.ring) }
     ensures sized { IfOk result (λ view. AreSized view.names) }
     ensures no_disk { result ≢ Err ClientFault.DiskFault }

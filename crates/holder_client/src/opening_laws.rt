@@ -19,23 +19,30 @@ ghost use Rattle.role_graph.specs.Rights.Who.{TheOwner};
 /// Law: a store's bytes are opened for writing step by step, and the first step that fails tells why: the log under the
 /// owner's key, what its payloads make, the root, and then the visits of the owner with the holders' keys behind them.
 pub fn opening_goes_by_steps()
-    ensures log { (owner bytes : List ℕ) (fault : Fault) → writer_log owner bytes ≡ Err fault → opened_store owner bytes ≡ Err (OfBytes fault) }
-    ensures fold { (owner bytes : List ℕ) (log : List PlainPlaced) (fault : Fault) → writer_log owner bytes ≡ Ok log → folded nothing log ≡ Err fault →
+    ensures log { (owner bytes : List ℕ) (fault : Fault) → writer_log owner bytes ≡ Err fault
+        → opened_store owner bytes ≡ Err (OfBytes fault) }
+    ensures fold { (owner bytes : List ℕ) (log : List PlainPlaced) (fault : Fault) → writer_log owner bytes ≡ Ok log
+        → folded nothing log ≡ Err fault →
         opened_store owner bytes ≡ Err (OfBytes fault) }
-    ensures root { (owner bytes : List ℕ) (log : List PlainPlaced) (stand : Stand) → writer_log owner bytes ≡ Ok log → folded nothing log ≡ Ok stand → folder_stands stand.store 1 ≡ false →
+    ensures root { (owner bytes : List ℕ) (log : List PlainPlaced) (stand : Stand) → writer_log owner bytes ≡ Ok log
+        → folded nothing log ≡ Ok stand → folder_stands stand.store 1 ≡ false →
         opened_store owner bytes ≡ Err (OfBytes (Damaged 42)) }
-    ensures visits { (owner bytes : List ℕ) (log : List PlainPlaced) (stand : Stand) → writer_log owner bytes ≡ Ok log → folded nothing log ≡ Ok stand → folder_stands stand.store 1 ≡ true →
+    ensures visits { (owner bytes : List ℕ) (log : List PlainPlaced) (stand : Stand) → writer_log owner bytes ≡ Ok log
+        → folded nothing log ≡ Ok stand → folder_stands stand.store 1 ≡ true →
         opened_store owner bytes ≡ opened_by (record { log = log; stand = stand })
-        (visit_all (record { log = log; stand = stand }) (all_visits stand.store TheOwner ++ holder_visits stand.store) (record { keys = (Owner, owner) ∷ []; store = stand.store })) }
+        (visit_all (record { log = log; stand = stand }) (all_visits stand.store TheOwner
+        ++ holder_visits stand.store) (record { keys = (Owner, owner) ∷ []; store = stand.store })) }
 {}
 
 /// Law: where all visits of the owner pass, a key of each role that stands is open, and the holders are those that stand; a
 /// holder's own key is then in the holder's entry.
 pub fn owners_visits_open_each_role()
     ensures keys { (r : Reading) (key : List ℕ) (o : Opened) →
-        visit_all r (all_visits r.stand.store TheOwner ++ holder_visits r.stand.store) (record { keys = (Owner, key) ∷ []; store = r.stand.store }) ≡ Ok o →
+        visit_all r (all_visits r.stand.store TheOwner
+        ++ holder_visits r.stand.store) (record { keys = (Owner, key) ∷ []; store = r.stand.store }) ≡ Ok o →
         (role : Role) → HasRole r.stand.store role → IsTrue (is_no_holders role) → IsSome (key_of o.keys role) }
     ensures holders { (r : Reading) (key : List ℕ) (o : Opened) →
-        visit_all r (all_visits r.stand.store TheOwner ++ holder_visits r.stand.store) (record { keys = (Owner, key) ∷ []; store = r.stand.store }) ≡ Ok o →
+        visit_all r (all_visits r.stand.store TheOwner
+        ++ holder_visits r.stand.store) (record { keys = (Owner, key) ∷ []; store = r.stand.store }) ≡ Ok o →
         map (λ e. e.number) o.store.holders ≡ map (λ e. e.number) r.stand.store.holders }
 {}

@@ -62,7 +62,8 @@ fn folder_at(
     sights: &[Sight],
     path: &[u8],
 ) -> Mem<Option<Line>>
-    ensures { IfOk result (λ line. option_map plain_line line ≡ asking.line_at path.now (flat_map (lines_of (tree_store shape.now.tree names.now)) sights.now)) }
+    ensures { IfOk result (λ line. option_map plain_line line
+        ≡ asking.line_at path.now (flat_map (lines_of (tree_store shape.now.tree names.now)) sights.now)) }
 {
     let lines = folder_lines(alloc, shape, names, sights)?;
     Ok(line_at(lines, path))
@@ -76,7 +77,8 @@ fn file_at(
     files: Vec<ReadFile>,
     path: &[u8],
 ) -> Mem<Option<Line>>
-    ensures { IfOk result (λ line. option_map plain_line line ≡ asking.line_at path.now (map (read_line (tree_store shape.now.tree names.now)) files.items)) }
+    ensures { IfOk result (λ line. option_map plain_line line
+        ≡ asking.line_at path.now (map (read_line (tree_store shape.now.tree names.now)) files.items)) }
 {
     let mut lines = Vec::new(alloc);
     push_files(&mut lines, alloc, shape, names, files)?;
@@ -114,7 +116,8 @@ fn note_open(
     sight: &Sight,
     path: &[u8],
 ) -> Mem<()>
-    ensures { OnOk result ((f : ℕ) → contains same_number folders.new f ≡ (contains same_number folders.old f || spec.opens_at (tree_store shape.now.tree names.now) path.now f sight.now)) }
+    ensures { OnOk result ((f : ℕ) → contains same_number folders.new f
+        ≡ (contains same_number folders.old f || spec.opens_at (tree_store shape.now.tree names.now) path.now f sight.now)) }
 {
     if is_open_at(alloc, shape, names, sight, path)? {
         folders.insert(sight.folder.0)?;
@@ -130,7 +133,8 @@ fn folders_open_at(
     sights: &[Sight],
     path: &[u8],
 ) -> Mem<HashSet<u32>>
-    ensures { IfOk result (λ folders. (f : ℕ) → contains same_number folders f ≡ list_any (spec.opens_at (tree_store shape.now.tree names.now) path.now f) sights.now) }
+    ensures { IfOk result (λ folders. (f : ℕ)
+        → contains same_number folders f ≡ list_any (spec.opens_at (tree_store shape.now.tree names.now) path.now f) sights.now) }
 {
     let mut folders = HashSet::new(alloc);
     for sight in sights {
@@ -167,7 +171,8 @@ fn open_at<S, R: Records<S>>(
     path: &[u8],
 ) -> Result<Line, ClientFault>
     requires owner { present state.now.keys.keys Owner ≡ 0 }
-    ensures answer { R.shows records.now source.old → (r : Reading) → IsReadingIn state.now (R.log records.now) r → MayRead r.stand.store (who_of bundle.now) → AnswersAs plain_line result (spec.path_opened bundle.now path.now r) }
+    ensures answer { R.shows records.now source.old → (r : Reading) → IsReadingIn state.now (R.log records.now) r
+        → MayRead r.stand.store (who_of bundle.now) → AnswersAs plain_line result (spec.path_opened bundle.now path.now r) }
     ensures stays { R.stays source.old source.new }
     ensures disk_fault { result ≡ Err ClientFault.DiskFault → R.faults source.old < R.faults source.new }
 {

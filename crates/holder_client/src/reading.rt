@@ -68,8 +68,10 @@ pub(crate) fn open_names<S, R: Records<S>>(
 ) -> Result<OwnersView, ClientFault>
     requires owner { present state.now.keys.keys Owner ≡ 0 }
     requires nameless { IsNameless state.now.tree }
-    ensures answer { R.shows records.now source.old → (r : Reading) → IsReadingIn state.now (R.log records.now) r → IsTree r.stand.store → AreSights r.stand.store (who_of bundle.now) sights.now →
-        AnswersBy (λ view o. IsNamedBy r.stand.store view o) result (spec.visit_all r (visits.visits_to_names r.stand.store (who_of bundle.now)) (opened_first bundle.now r)) }
+    ensures answer { R.shows records.now source.old → (r : Reading) → IsReadingIn state.now (R.log records.now) r → IsTree r.stand.store
+        → AreSights r.stand.store (who_of bundle.now) sights.now →
+        AnswersBy (λ view o. IsNamedBy r.stand.store view o) result
+        (spec.visit_all r (visits.visits_to_names r.stand.store (who_of bundle.now)) (opened_first bundle.now r)) }
     ensures present { IfOk result (λ view. ArePresent state.now.keys.keys view.ring) }
     ensures seen { result ≢ Err ClientFault.Unseen }
     ensures stays { R.stays source.old source.new }
@@ -112,8 +114,10 @@ fn read_file<S, R: Records<S>>(
     row: &FileRow,
 ) -> Result<ReadFile, ClientFault>
     requires keys { ArePresent state.now.keys.keys ring.old }
-    ensures answer { R.shows records.now source.old → (r : Reading) (o : Opened) → IsReadingIn state.now (R.log records.now) r → HoldsKeys everyone ring.old o.keys →
-        AnswersBy (λ file behind. HoldsKeys everyone ring.new behind.keys × IsReadBy file o behind) result (spec.visit_all r (file_stops row.now) o) }
+    ensures answer { R.shows records.now source.old → (r : Reading) (o : Opened) → IsReadingIn state.now (R.log records.now) r
+        → HoldsKeys everyone ring.old o.keys →
+        AnswersBy (λ file behind. HoldsKeys everyone ring.new behind.keys
+        × IsReadBy file o behind) result (spec.visit_all r (file_stops row.now) o) }
     ensures row { IfOk result (λ file. file.row ≡ row.now) }
     ensures keys { OnOk result (ArePresent state.now.keys.keys ring.new) }
     ensures seen { result ≢ Err ClientFault.Unseen }
@@ -148,8 +152,10 @@ pub(crate) fn read_files<S, R: Records<S>>(
     rows: &[FileRow],
 ) -> Result<Vec<ReadFile>, ClientFault>
     requires keys { ArePresent state.now.keys.keys ring }
-    ensures answer { R.shows records.now source.old → (r : Reading) (o : Opened) (bare : Store) (names : Titles) → IsReadingIn state.now (R.log records.now) r → HoldsKeys everyone ring o.keys → HasNames bare names o.store →
-        AnswersBy (λ files behind. HasNames bare (with_read names files.items) behind.store) result (spec.visit_all r (flat_map file_stops rows.now) o) }
+    ensures answer { R.shows records.now source.old → (r : Reading) (o : Opened) (bare : Store) (names : Titles)
+        → IsReadingIn state.now (R.log records.now) r → HoldsKeys everyone ring o.keys → HasNames bare names o.store →
+        AnswersBy (λ files behind. HasNames bare (with_read names files.items) behind.store) result
+        (spec.visit_all r (flat_map file_stops rows.now) o) }
     ensures rows { IfOk result (λ files. map (λ file. file.row) files.items ≡ rows.now) }
     ensures seen { result ≢ Err ClientFault.Unseen }
     ensures stays { R.stays source.old source.new }

@@ -66,6 +66,7 @@ pub fn move_away_from_a_grant()
 /// The worked stores have names of their own, and one with two nodes of one name hasn't.
 #[tactic(auto, unfolding(crate::specs::WorkedViews::views))]
 pub fn worked_stores_have_own_names()
-    ensures worked { map has_own_names (root_store ∷ granted ∷ moved_away ∷ store_after moved_away (Rename (codes "/s") (codes "t") ∷ []) ∷ []) ≡ true ∷ true ∷ true ∷ true ∷ [] }
+    ensures worked { map has_own_names (root_store ∷ granted ∷ moved_away ∷ store_after moved_away (Rename (codes "/s") (codes "t") ∷ [])
+        ∷ []) ≡ true ∷ true ∷ true ∷ true ∷ [] }
     ensures twice { has_own_names (record granted { files = record { id = 1; folder = 1; name = codes "a"; bytes = [] } ∷ [] }) ≡ false }
 {}

@@ -45,7 +45,8 @@ fn read_batches<D: Disk>(
     disk: &mut D,
     owner: Option<&Key<OwnerK>>,
 ) -> Result<ReadLog, ClientFault>
-    ensures verdict { WhereTold (D.shown disk.old) (λ s. Answers (λ read. read.log.given) result (readers.read_log (readers.key_bytes (option_copied owner.entry)) s)) }
+    ensures verdict { WhereTold (D.shown disk.old)
+        (λ s. Answers (λ read. read.log.given) result (readers.read_log (readers.key_bytes (option_copied owner.entry)) s)) }
     ensures read { IfOk result (λ read. HasRead read.reader read.log.given) }
     ensures shows { WhereTold (D.shown disk.old) (λ s. IfOk result (λ read. ShowsGiven read.log s)) }
     ensures seen { result ≢ Err ClientFault.Unseen }
@@ -93,7 +94,8 @@ fn list_records<S, R: Records<S>>(
     source: &mut S,
 ) -> Result<List<Line>, ClientFault>
     requires owner { present state.now.keys.keys Owner ≡ 0 }
-    ensures answer { R.shows records.now source.old → (r : Reading) → IsReadingIn state.now (R.log records.now) r → MayRead r.stand.store (spec.who_of bundle.now) → AnswersAs plain_view result (viewed bundle.now r) }
+    ensures answer { R.shows records.now source.old → (r : Reading) → IsReadingIn state.now (R.log records.now) r
+        → MayRead r.stand.store (spec.who_of bundle.now) → AnswersAs plain_view result (viewed bundle.now r) }
     ensures seen { result ≢ Err ClientFault.Unseen }
     ensures stays { R.stays source.old source.new }
     ensures disk_fault { result ≡ Err ClientFault.DiskFault → R.faults source.old < R.faults source.new }

@@ -45,7 +45,8 @@ pub(crate) struct Sight {
 
 /// Notes the numbers of the folders.
 fn note_each(above: &mut HashSet<u32>, folders: &[FolderId]) -> Mem<()>
-    ensures { OnOk result ((f : ℕ) → contains spec.same_number above.new f ≡ (contains spec.same_number above.old f || list_any (λ (x : TheFolder). x.0 == f) folders.now)) }
+    ensures { OnOk result ((f : ℕ) → contains spec.same_number above.new f
+        ≡ (contains spec.same_number above.old f || list_any (λ (x : TheFolder). x.0 == f) folders.now)) }
 {
     for folder in folders {
         above.insert(folder.0)?;
@@ -55,7 +56,8 @@ fn note_each(above: &mut HashSet<u32>, folders: &[FolderId]) -> Mem<()>
 
 /// Notes the folder and all above it.
 fn note_way(alloc: Global, above: &mut HashSet<u32>, shape: &Shape, folder: FolderId) -> Mem<()>
-    ensures { OnOk result ((f : ℕ) → contains spec.same_number above.new f ≡ (contains spec.same_number above.old f || is_within shape.now.tree folder.0 f)) }
+    ensures { OnOk result ((f : ℕ) → contains spec.same_number above.new f
+        ≡ (contains spec.same_number above.old f || is_within shape.now.tree folder.0 f)) }
 {
     let way = way_to(alloc, shape, folder)?;
     note_each(above, way.as_slice())
@@ -169,7 +171,8 @@ pub(crate) fn is_nameless(state: &PublicState)
 /// What whoever reads may see of each folder, in the order of their numbers.
 pub(crate) fn all_sights(alloc: Global, state: &PublicState, viewer: Viewer) -> Mem<Vec<Sight>>
     ensures tree { IsTree state.now.tree }
-    ensures sights { IfOk result (λ l. (at : Stand) → IsSeenAs state.now at → spec.MayRead at.store (spec.plain_viewer viewer) → spec.AreSights at.store (spec.plain_viewer viewer) l.items) }
+    ensures sights { IfOk result (λ l. (at : Stand) → IsSeenAs state.now at → spec.MayRead at.store (spec.plain_viewer viewer)
+        → spec.AreSights at.store (spec.plain_viewer viewer) l.items) }
 {
     let shape = state.shape();
     shape.is_tree();

@@ -80,7 +80,8 @@ pub(crate) fn visit_name(
     folder: FolderId,
 ) -> Result<(), ClientFault>
     requires { IfSome found (IsContentFor 1 folder.0) }
-    ensures answer { (told : TheRole → Bool) (r : spec.Reading) (o : spec.Opened) (s : Store) → plain_found found ≡ content_for r.log 1 folder.0 → IsTrue (told (data_of folder.0)) →
+    ensures answer { (told : TheRole → Bool) (r : spec.Reading) (o : spec.Opened) (s : Store)
+        → plain_found found ≡ content_for r.log 1 folder.0 → IsTrue (told (data_of folder.0)) →
         HoldsKeys told ring.now o.keys → HasNames s names.old o.store →
         AnswersBy (λ _ behind. IsTitledBy s names.new o behind) result (spec.visit r (ToName folder.0) o) }
     ensures sized { OnOk result (AreSized names.old → AreSized names.new) }
@@ -113,7 +114,8 @@ pub(crate) fn open_file(
     file: FileId,
 ) -> Result<NamedBytes, ClientFault>
     requires { IfSome found (IsContentFor 2 file.0) }
-    ensures answer { (told : TheRole → Bool) (r : spec.Reading) (o : spec.Opened) → plain_found found ≡ content_for r.log 2 file.0 → IsTrue (told (file_role file.0)) → HoldsKeys told ring.now o.keys →
+    ensures answer { (told : TheRole → Bool) (r : spec.Reading) (o : spec.Opened) → plain_found found ≡ content_for r.log 2 file.0
+        → IsTrue (told (file_role file.0)) → HoldsKeys told ring.now o.keys →
         AnswersBy (λ parts behind. IsFiledBy file.0 parts o behind) result (spec.visit r (ToFile file.0) o) }
     ensures form { IfOk result (λ parts. IsTrue (is_name parts.name.items) × (length parts.bytes.items ≤ 1048576)) }
     ensures seen { result ≢ Err ClientFault.Unseen }
@@ -137,7 +139,8 @@ pub(crate) fn visit_file(
     file: FileId,
 ) -> Result<(), ClientFault>
     requires { IfSome found (IsContentFor 2 file.0) }
-    ensures answer { (told : TheRole → Bool) (r : spec.Reading) (o : spec.Opened) (s : Store) → plain_found found ≡ content_for r.log 2 file.0 → IsTrue (told (file_role file.0)) →
+    ensures answer { (told : TheRole → Bool) (r : spec.Reading) (o : spec.Opened) (s : Store)
+        → plain_found found ≡ content_for r.log 2 file.0 → IsTrue (told (file_role file.0)) →
         HoldsKeys told ring.now o.keys → HasNames s names.old o.store →
         AnswersBy (λ _ behind. IsTitledBy s names.new o behind) result (spec.visit r (ToFile file.0) o) }
     ensures sized { OnOk result (AreSized names.old → AreSized names.new) }
@@ -181,7 +184,8 @@ pub(crate) fn visit_holder(
 ) -> Result<(), ClientFault>
     requires found { IfSome found (IsContentFor 3 holder.0) }
     requires keys { ArePresent state.now.keys.keys ring.old }
-    ensures answer { (told : TheRole → Bool) (r : spec.Reading) (o : spec.Opened) → plain_found found ≡ content_for r.log 3 holder.0 → IsTrue (told Owner) → HoldsKeys told ring.old o.keys →
+    ensures answer { (told : TheRole → Bool) (r : spec.Reading) (o : spec.Opened) → plain_found found ≡ content_for r.log 3 holder.0
+        → IsTrue (told Owner) → HoldsKeys told ring.old o.keys →
         AnswersBy (λ _ behind. IsHeldBy ring.new ring.old holder.0 o behind) result (spec.visit r (ToHolder holder.0) o) }
     ensures keys { OnOk result (ArePresent state.now.keys.keys ring.new) }
     ensures seen { result ≢ Err ClientFault.Unseen }

@@ -22,7 +22,8 @@ pub fn cut_header_is_no_store()
 /// gate, where the log was read, changes nothing.
 pub fn verdict_is_of_the_log()
     ensures log { (asking : Asking) (a b : List ℕ) → asked_log asking a ≡ asked_log asking b → verdict asking a ≡ verdict asking b }
-    ensures behind { (asking : Asking) (front behind : List ℕ) (placed : List PlainPlaced) → asked_log asking front ≡ Ok placed → verdict asking (front ++ behind) ≡ verdict asking front }
+    ensures behind { (asking : Asking) (front behind : List ℕ) (placed : List PlainPlaced) → asked_log asking front ≡ Ok placed
+        → verdict asking (front ++ behind) ≡ verdict asking front }
 {}
 
 /// Law: what ends an audit before it opens a record ends a listing, and the opening of a path, with the same answer.

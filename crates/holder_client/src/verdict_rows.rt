@@ -26,7 +26,8 @@ pub fn visits_of_a_grant()
 pub fn visits_of_the_owner()
     ensures view { all_visits granted TheOwner ≡ ToKey (edge 1 Owner (clear_of 1)) ∷ ToKey (edge 3 (clear_of 1) (sub_of 1))
         ∷ ToKey (edge 1 Owner (clear_of 2)) ∷ ToKey (edge 3 (clear_of 2) (sub_of 2))
-        ∷ ToKey (edge 4 (sub_of 1) (back_of 1)) ∷ ToKey (edge 5 (sub_of 1) (files_of 1)) ∷ ToKey (edge 4 (sub_of 2) (back_of 2)) ∷ ToKey (edge 5 (sub_of 2) (files_of 2))
+        ∷ ToKey (edge 4 (sub_of 1) (back_of 1)) ∷ ToKey (edge 5 (sub_of 1) (files_of 1)) ∷ ToKey (edge 4 (sub_of 2) (back_of 2))
+        ∷ ToKey (edge 5 (sub_of 2) (files_of 2))
         ∷ ToKey (edge 7 (back_of 1) (data_of 1)) ∷ ToName 1 ∷ ToKey (edge 7 (back_of 2) (data_of 2)) ∷ ToName 2
         ∷ ToKey (edge 9 (files_of 2) (file_role 1)) ∷ ToFile 1 ∷ [] }
     ensures writing { holder_visits granted ≡ ToHolder 1 ∷ [] }
@@ -37,17 +38,20 @@ pub fn visits_of_the_owner()
 pub fn visits_of_ancestors()
     ensures { all_visits (store_after root_store
         (MakeFolder (codes "/a") ∷ MakeFolder (codes "/a/b") ∷ MakeFolder (codes "/a/c") ∷ WriteFile (codes "/a/x") (1 ∷ [])
-        ∷ AddHolder ∷ Grant 1 (codes "/a/b") ∷ [])) (TheHolder 1) ≡ ToKey (edge 2 (holder_role 1) (clear_of 3)) ∷ ToKey (edge 3 (clear_of 3) (sub_of 3))
+        ∷ AddHolder ∷ Grant 1 (codes "/a/b") ∷ [])) (TheHolder 1) ≡ ToKey (edge 2 (holder_role 1) (clear_of 3))
+        ∷ ToKey (edge 3 (clear_of 3) (sub_of 3))
         ∷ ToKey (edge 4 (sub_of 3) (back_of 3)) ∷ ToKey (edge 5 (sub_of 3) (files_of 3))
         ∷ ToKey (edge 8 (back_of 3) (back_of 2)) ∷ ToKey (edge 8 (back_of 2) (back_of 1))
-        ∷ ToKey (edge 7 (back_of 1) (data_of 1)) ∷ ToName 1 ∷ ToKey (edge 7 (back_of 2) (data_of 2)) ∷ ToName 2 ∷ ToKey (edge 7 (back_of 3) (data_of 3)) ∷ ToName 3 ∷ [] }
+        ∷ ToKey (edge 7 (back_of 1) (data_of 1)) ∷ ToName 1 ∷ ToKey (edge 7 (back_of 2) (data_of 2)) ∷ ToName 2
+        ∷ ToKey (edge 7 (back_of 3) (data_of 3)) ∷ ToName 3 ∷ [] }
 {}
 
 /// Folders below a grant are opened from above, shallower ones first, whatever their numbers.
 #[tactic(auto, unfolding(crate::specs::WorkedVerdicts::verdicts))]
 pub fn visits_below_a_grant()
     ensures { lower_visits (store_after root_store
-        (MakeFolder (codes "/a") ∷ MakeFolder (codes "/a/b") ∷ MakeFolder (codes "/c") ∷ AddHolder ∷ Grant 1 (codes "/") ∷ [])) (TheHolder 1)
+        (MakeFolder (codes "/a") ∷ MakeFolder (codes "/a/b") ∷ MakeFolder (codes "/c") ∷ AddHolder ∷ Grant 1 (codes "/")
+        ∷ [])) (TheHolder 1)
         ≡ ToKey (edge 6 (sub_of 1) (sub_of 2)) ∷ ToKey (edge 6 (sub_of 1) (sub_of 4)) ∷ ToKey (edge 6 (sub_of 2) (sub_of 3)) ∷ [] }
 {}
 
@@ -67,6 +71,8 @@ pub fn files_beside_a_path()
 #[tactic(auto, unfolding(crate::specs::WorkedVerdicts::verdicts))]
 pub fn forms_of_texts()
     ensures root { map (is_folder_text 1) ([] ∷ codes "a" ∷ []) ≡ true ∷ false ∷ [] }
-    ensures folder { map (is_folder_text 2) ([] ∷ codes "a" ∷ codes ".." ∷ codes "a/b" ∷ replicate 65 97 ∷ []) ≡ false ∷ true ∷ false ∷ false ∷ false ∷ [] }
-    ensures file { map is_file_text ((1 ∷ 97 ∷ []) ∷ (1 ∷ 97 ∷ 0 ∷ []) ∷ (0 ∷ 97 ∷ []) ∷ (2 ∷ 97 ∷ []) ∷ (1 ∷ 47 ∷ []) ∷ (65 ∷ replicate 65 97) ∷ []) ≡ true ∷ true ∷ false ∷ false ∷ false ∷ false ∷ [] }
+    ensures folder { map (is_folder_text 2) ([] ∷ codes "a" ∷ codes ".." ∷ codes "a/b" ∷ replicate 65 97 ∷ []) ≡ false ∷ true ∷ false
+        ∷ false ∷ false ∷ [] }
+    ensures file { map is_file_text ((1 ∷ 97 ∷ []) ∷ (1 ∷ 97 ∷ 0 ∷ []) ∷ (0 ∷ 97 ∷ []) ∷ (2 ∷ 97 ∷ []) ∷ (1 ∷ 47 ∷ [])
+        ∷ (65 ∷ replicate 65 97) ∷ []) ≡ true ∷ true ∷ false ∷ false ∷ false ∷ false ∷ [] }
 {}

@@ -205,7 +205,8 @@ fn first_named(alloc: Global, sights: &[Sight]) -> Mem<FirstNamed>
 
 /// Adds a visit for a folder, from the first in it that is named.
 fn push_from(visits: &mut Vec<Visit>, first: &FirstNamed, f: FolderId) -> Mem<()>
-    ensures { OnOk result ((sights : List TheSight) → list.AreFirst first.now sights → visits.new.items ≡ visits.old.items ++ list.from_child sights f) }
+    ensures { OnOk result ((sights : List TheSight) → list.AreFirst first.now sights
+        → visits.new.items ≡ visits.old.items ++ list.from_child sights f) }
 {
     if let Some(child) = first.get(&f.0) {
         visits.push(link(8, Role::Back(*child), Role::Back(f)))?;
@@ -215,7 +216,8 @@ fn push_from(visits: &mut Vec<Visit>, first: &FirstNamed, f: FolderId) -> Mem<()
 
 /// Adds a visit for each of some folders, from the first in it that is named.
 fn push_upper(visits: &mut Vec<Visit>, first: &FirstNamed, folders: &[Sight]) -> Mem<()>
-    ensures { OnOk result ((sights : List TheSight) → list.AreFirst first.now sights → visits.new.items ≡ visits.old.items ++ flat_map (λ x. list.from_child sights x.folder) folders.now) }
+    ensures { OnOk result ((sights : List TheSight) → list.AreFirst first.now sights
+        → visits.new.items ≡ visits.old.items ++ flat_map (λ x. list.from_child sights x.folder) folders.now) }
 {
     for sight in folders {
         push_from(visits, first, sight.folder)?;
@@ -226,7 +228,8 @@ fn push_upper(visits: &mut Vec<Visit>, first: &FirstNamed, folders: &[Sight]) ->
 /// The visits up to the names of folders: into each entry folder, then into the other folders that are allowed, then to what is
 /// beside each that is allowed, then up into those that are named alone, and last to each name.
 pub(crate) fn visits_to_names(alloc: Global, viewer: Viewer, sights: &[Sight]) -> Mem<Vec<Visit>>
-    ensures visits { IfOk result (λ l. (s : Store) → IsTree s → sight.AreSights s (sight.plain_viewer viewer) sights.now → map plain_visit l.items ≡ spec.visits_to_names s (sight.plain_viewer viewer)) }
+    ensures visits { IfOk result (λ l. (s : Store) → IsTree s → sight.AreSights s (sight.plain_viewer viewer) sights.now
+        → map plain_visit l.items ≡ spec.visits_to_names s (sight.plain_viewer viewer)) }
     ensures told { IfOk result (λ l. (told : TheRole → Bool) → Tells told viewer → AllByRecursion (IsFor told) (map plain_visit l.items)) }
 {
     let mut lower = lower_folders(alloc, sights)?;
@@ -267,10 +270,12 @@ fn push_holders(visits: &mut Vec<Visit>, last: u32) -> Mem<()>
 
 /// All visits of the owner, and then the holders' keys.
 pub(crate) fn owner_visits(alloc: Global, state: &PublicState) -> Mem<Vec<Visit>>
-    ensures visits { IfOk result (λ l. (at : Stand) → IsSeenAs state.now at → map plain_visit l.items ≡ spec.all_visits at.store TheOwner ++ spec.holder_visits at.store) }
+    ensures visits { IfOk result (λ l. (at : Stand) → IsSeenAs state.now at
+        → map plain_visit l.items ≡ spec.all_visits at.store TheOwner ++ spec.holder_visits at.store) }
     ensures nameless { IfOk result (λ _. IsNameless state.now.tree) }
     ensures owners { IfOk result (λ l. AllByRecursion (IsFor is_no_holders) (map plain_visit l.items)) }
-    ensures holders { IfOk result (λ l. (at : Stand) (e : HolderEntry) → IsSeenAs state.now at → In e at.store.holders → In (ToHolder e.number) (map plain_visit l.items)) }
+    ensures holders { IfOk result (λ l. (at : Stand) (e : HolderEntry) → IsSeenAs state.now at → In e at.store.holders
+        → In (ToHolder e.number) (map plain_visit l.items)) }
 {
     is_nameless(state);
     let seen = all_sights(alloc, state, Viewer::Owner)?;

@@ -22,8 +22,8 @@ use public_fold::PublicState;
 /// The place behind the header: of a log that lacks a record.
 const BEHIND_HEADER: u64 = 42;
 
-/// Opens the last link of an edge, as it was found, and keeps the key that it leads to. `Damaged` behind the header comes exactly where there
-/// is no such link, or no key that it leads on from, and else `Tampered` with the link's place exactly where its tag is
+/// Opens the last link of an edge, as it was found, and keeps the key that it leads to. `Damaged` behind the header comes exactly where
+/// there is no such link, or no key that it leads on from, and else `Tampered` with the link's place exactly where its tag is
 /// wrong. At `Err` the keys are as they were.
 pub(crate) fn visit_edge(
     state: &PublicState,
@@ -35,7 +35,8 @@ pub(crate) fn visit_edge(
     requires kind { HasKind edge.now }
     requires keys { ArePresent state.now.keys.keys ring.old }
     requires room { 1 ≤ ring.old.spare }
-    ensures answer { (told : TheRole → Bool) (r : spec.Reading) (o : spec.Opened) → plain_link found ≡ link_for r.stand.keys r.log edge.now → IsTrue (told edge.now.from) → HoldsKeys told ring.old o.keys →
+    ensures answer { (told : TheRole → Bool) (r : spec.Reading) (o : spec.Opened) → plain_link found ≡ link_for r.stand.keys r.log edge.now
+        → IsTrue (told edge.now.from) → HoldsKeys told ring.old o.keys →
         AnswersBy (λ _ behind. HoldsKeys told ring.new behind.keys × (behind.store ≡ o.store)) result (spec.visit_edge r o edge.now) }
     ensures keys { ArePresent state.now.keys.keys ring.new }
     ensures room { ring.old.spare ≤ ring.new.spare + 1 }
@@ -79,8 +80,8 @@ fn sealing_role(kind: u8, object: u32) -> Role
     }
 }
 
-/// Opens the last content of the kind for a folder, file or holder, as it was found. `Damaged` behind the header comes exactly where there is
-/// no such content, or no key that it was sealed under, and else `Tampered` with the content's place exactly where its tag
+/// Opens the last content of the kind for a folder, file or holder, as it was found. `Damaged` behind the header comes exactly where there
+/// is no such content, or no key that it was sealed under, and else `Tampered` with the content's place exactly where its tag
 /// is wrong.
 pub(crate) fn open_text(
     found: Option<FoundContent>,

@@ -20,7 +20,8 @@ fn put_first(way: &mut Vec<FolderId>, folder: FolderId) -> Mem<()>
 
 /// The folders from the root down to the folder, itself the last.
 pub(crate) fn way_to(alloc: Global, shape: &Shape, f: FolderId) -> Mem<Vec<FolderId>>
-    ensures { IfOk result (λ way. map (λ (x : TheFolder). x.0) way.items ≡ backwards (map (λ (e : FolderEntry). e.id) (way_to_root shape.now.tree f.0))) }
+    ensures { IfOk result (λ way. map (λ (x : TheFolder). x.0) way.items
+        ≡ backwards (map (λ (e : FolderEntry). e.id) (way_to_root shape.now.tree f.0))) }
 {
     shape.is_tree();
     let mut way = Vec::new(alloc);
@@ -50,7 +51,8 @@ fn name_of(names: &Names, folder: FolderId) -> &[u8]
 
 /// Adds the folders' names, with a slash before each.
 fn add_each(text: &mut Text, names: &Names, folders: &[FolderId]) -> Mem<()>
-    ensures { OnOk result (text.new.items ≡ text.old.items ++ flat_map (λ (x : TheFolder). 47 ∷ name_in (title_at names.now.folders x.0)) folders.now) }
+    ensures { OnOk result (text.new.items ≡ text.old.items
+        ++ flat_map (λ (x : TheFolder). 47 ∷ name_in (title_at names.now.folders x.0)) folders.now) }
 {
     for folder in folders {
         text.append(b"/")?;

@@ -35,7 +35,12 @@ unfoldable pub epoch_attempt : Course → List Attempt
 epoch_attempt c = cond c.begun [] (record { epoch = (keys_of c.journal).epoch + 1; number = length c.journal + 1; holds = None } ∷ [])
 
 unfoldable pub command_attempt : Journal → Request → List (List ℕ) → Attempt
-command_attempt m r keys = record { epoch = (keys_of m).epoch; number = length m + 1; holds = Some (entry_step (stand_after nothing m) (Did r keys)) }
+command_attempt m r keys = record {
+  epoch = (keys_of m).epoch;
+  number = length m + 1;
+  holds = Some
+      (entry_step (stand_after nothing m) (Did r keys));
+}
 
 -- what an event writes
 unfoldable pub attempts_at : Course → Event → List Attempt

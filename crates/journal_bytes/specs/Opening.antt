@@ -28,7 +28,8 @@ abbrev pub key_with : List KeyParts → Role → ℕ → KeyParts
 key_with keys role serial = record { id = role_id role; serial = serial; bytes = bytes_in keys serial }
 
 -- the last content of the kind for the object is this text, sealed under the present key of the role
-pub record IsLast (keys : List KeyParts) (k : KeyState) (contents : List PlacedContent) (role : Role) (kind object : ℕ) (text : List ℕ) : Type 0 where
+pub record IsLast (keys : List KeyParts) (k : KeyState) (contents : List PlacedContent) (role : Role) (kind object : ℕ) (text : List ℕ) :
+    Type 0 where
   pub placed : PlacedContent
   pub is_last : last_one (is_of kind object) contents ≡ Some placed
   pub serial : ℕ
@@ -55,7 +56,8 @@ owner_starts owner m = record { keys = (Owner, owner) ∷ []; store = (public_st
 
 -- each key that is open is the present one of its role: the bytes that were drawn for its serial
 abbrev pub AreDrawn : List KeyParts → KeyState → List (Role × List ℕ) → Type 0
-AreDrawn keys k opened = (role : Role) (bytes : List ℕ) → key_of opened role ≡ Some bytes → (n : ℕ) × (newest k.keys role ≡ Some n) × (bytes ≡ bytes_in keys n)
+AreDrawn keys k opened = (role : Role) (bytes : List ℕ) → key_of opened role ≡ Some bytes → (n : ℕ) × (newest k.keys role ≡ Some n)
+    × (bytes ≡ bytes_in keys n)
 
 -- the owner visits everything, and each holder's key
 abbrev pub owner_visits : Journal → List Visit

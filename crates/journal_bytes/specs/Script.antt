@@ -1,5 +1,6 @@
 -- What a list of commands is answered, and the journal that it leaves. This project's own, docs/FORMAT.md.
-use Rattle.std.specs.Prelude.{ℕ, zero, suc, ◌+◌, ◌*◌, Bool, true, false, cond, nat_lt, List, [], ◌∷◌, ◌++◌, length, take, drop, replicate, Option, Some, None}
+use Rattle.std.specs.Prelude.{ℕ, zero, suc, ◌+◌, ◌*◌, Bool, true, false, cond, nat_lt, List, [], ◌∷◌, ◌++◌, length, take, drop, replicate}
+use Rattle.std.specs.Prelude.{Option, Some, None}
 use Rattle.cry_base.specs.Requests.{Request}
 use Rattle.cry_base.specs.Requests.Request.{AddHolder, MakeFolder, WriteFile, Remove, Rename, Relocate, Grant, Revoke}
 use Rattle.cry_base.specs.Refusing.{refusal_of}
@@ -31,7 +32,8 @@ answer_with None true = Some Full
 answer_with None false = None
 
 unfoldable pub answer : Limits → Journal → Bool → Request → Option Refusal
-answer limits m begun r = answer_with (refusal_of (stand_after nothing m).store r limits.file_bytes) (nat_lt limits.store_bytes (due_end m begun r))
+answer limits m begun r = answer_with (refusal_of (stand_after nothing m).store r limits.file_bytes)
+    (nat_lt limits.store_bytes (due_end m begun r))
 
 -- the reply to a command that is accepted
 unfoldable pub done_reply : Journal → Request → List (List ℕ) → Reply
@@ -79,7 +81,8 @@ line_reply g r (Some why) = replies.Refused why
 -- the replies to commands one after another, and the session after them
 unfoldable pub script_replies : Limits → Going → List Request → List Reply
 script_replies limits g [] = []
-script_replies limits g (r ∷ rs) = line_reply g r (answer limits g.journal g.begun r) ∷ script_replies limits (line_going g r (answer limits g.journal g.begun r)) rs
+script_replies limits g (r ∷ rs) = line_reply g r (answer limits g.journal g.begun r)
+    ∷ script_replies limits (line_going g r (answer limits g.journal g.begun r)) rs
 
 unfoldable pub script_going : Limits → Going → List Request → Going
 script_going limits g [] = g

@@ -63,7 +63,8 @@ pub record CanSeal (ring : Ringed) (counter : Counting) (s : Skeleton) (drawn : 
 -- the ring has the present key of each role, with the bytes that were drawn for its serial; all keys so far have serials below
 -- the next one, which the counter gives
 pub record HoldsKeys (keys : List KeyParts) (k : KeyState) (ring : Ringed) (counter : Counting) : Type 0 where
-  pub has_present : (r : Role) (n : ℕ) → newest k.keys r ≡ Some n → key_of ring r ≡ Some (record { id = role_id r; serial = n; bytes = bytes_in keys n })
+  pub has_present : (r : Role) (n : ℕ) → newest k.keys r ≡ Some n
+      → key_of ring r ≡ Some (record { id = role_id r; serial = n; bytes = bytes_in keys n })
   pub drawn_below : (key : KeyParts) → In key keys → key.serial < next_serial k
   pub present_below : (r : Role) (n : ℕ) → newest k.keys r ≡ Some n → n < next_serial k
   pub is_counted : counter ≡ record { epoch = k.epoch; count = k.count }
@@ -93,7 +94,8 @@ pub record IsTold (step : Stepped) (s : Skeleton) (text : List ℕ) : Type 0 whe
 
 -- the text has a length in the range of its content's kind
 abbrev pub HasLength : Stepped → List ℕ → Type 0
-HasLength step text = (c : Content) → In c step.contents → (shortest_text c.piece.kind ≤ length text) × (length text ≤ longest_text c.piece.kind)
+HasLength step text = (c : Content) → In c step.contents → (shortest_text c.piece.kind ≤ length text)
+    × (length text ≤ longest_text c.piece.kind)
 
 -- the bytes of a payload with this note and this skeleton, whose one content has a text of so many bytes
 abbrev pub skeleton_size : Note → Skeleton → ℕ → ℕ

@@ -13,7 +13,8 @@ use Rattle.journal_bytes.specs.WorkedBytes.{journal_bytes}
 
 -- a file that is moved into a folder, both dropped
 unfoldable pub dropping_soon : Journal
-dropping_soon = fresh ++ (Session ∷ does 5 (MakeFolder (codes "/a")) ∷ does 1 (WriteFile (codes "/x") (3 ∷ [])) ∷ does 0 (Relocate (codes "/x") (codes "/a"))
+dropping_soon = fresh ++ (Session ∷ does 5 (MakeFolder (codes "/a")) ∷ does 1 (WriteFile (codes "/x") (3 ∷ []))
+    ∷ does 0 (Relocate (codes "/x") (codes "/a"))
     ∷ does 0 (Remove (codes "/a/x")) ∷ does 0 (Remove (codes "/a")) ∷ [])
 
 -- every word of such a fold

@@ -7,11 +7,13 @@ use Rattle.public_fold.specs.Journal.{Journal}
 use Rattle.public_fold.specs.Journal.Entry.{Session}
 use Rattle.public_fold.specs.WorkedSteps.{does, fresh, journals}
 use Rattle.journal_bytes.specs.Attempts.{begun_journal, epoch_attempt, command_attempt, attempts_at, course_then, attempts}
-use Rattle.journal_bytes.specs.Script.{draws_of, due_payload, due_end, answer_with, answer, done_reply, keys_from, accepted_going, line_going, line_reply, script_replies, script_going, opened, script}
+use Rattle.journal_bytes.specs.Script.{draws_of, due_payload, due_end, answer_with, answer, done_reply, keys_from, accepted_going}
+use Rattle.journal_bytes.specs.Script.{line_going, line_reply, script_replies, script_going, opened, script}
 
 -- "grant" without its last batch
 unfoldable pub granting_stopped : Journal
-granting_stopped = fresh ++ (Session ∷ does 5 (MakeFolder (codes "/a")) ∷ does 1 (WriteFile (codes "/a/x") (0 ∷ 255 ∷ [])) ∷ does 1 AddHolder ∷ [])
+granting_stopped = fresh ++ (Session ∷ does 5 (MakeFolder (codes "/a")) ∷ does 1 (WriteFile (codes "/a/x") (0 ∷ 255 ∷ []))
+    ∷ does 1 AddHolder ∷ [])
 
 -- the nonces of a step's links
 unfoldable pub nonces_in : Option Stepped → List ℕ
@@ -32,5 +34,7 @@ limits_now = limited 268435456
 
 -- every word of scripts and attempts
 unfoldable pub scripts : Unit {0}
-unfolding journals granting_stopped nonces_in down_from limited limits_now begun_journal epoch_attempt command_attempt attempts_at course_then attempts draws_of due_payload due_end answer_with answer done_reply keys_from accepted_going line_going line_reply script_replies script_going opened script
+unfolding journals granting_stopped nonces_in down_from limited limits_now begun_journal epoch_attempt command_attempt attempts_at
+    course_then attempts draws_of due_payload due_end answer_with answer done_reply keys_from accepted_going line_going line_reply
+    script_replies script_going opened script
 scripts = tt

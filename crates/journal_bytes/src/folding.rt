@@ -22,7 +22,8 @@ pub fn notes_are_told_as_declared()
 /// Law: a holder reads the journal that the bytes publish, as the owner does, if the last slot is honest; the owner who opens
 /// for writing reads all of the journal, whatever the last slot holds. Needed is that each payload has a spelling.
 pub fn everyone_reads_the_journal()
-    ensures holder { (owner : List ℕ) (m : Journal) (bytes : List ℕ) → StandsForJournal owner m bytes → AreBodies 0 (bodies_of owner m) → IsHonestFor owner bytes m →
+    ensures holder { (owner : List ℕ) (m : Journal) (bytes : List ℕ) → StandsForJournal owner m bytes → AreBodies 0 (bodies_of owner m)
+        → IsHonestFor owner bytes m →
         holder_log bytes ≡ Ok (log_of owner (published_journal owner bytes m)) }
     ensures writer { (owner : List ℕ) (m : Journal) (bytes : List ℕ) → StandsForJournal owner m bytes → AreBodies 0 (bodies_of owner m) →
         writer_log owner bytes ≡ Ok (log_of owner m) }

@@ -20,7 +20,8 @@ ghost use Rattle.journal_bytes.specs.Keys.{AreWhole, all_keys, key_bytes};
 /// Law: the image of the journal that makes a store, with a closed gate behind it, is the image of a fresh store.
 pub fn fresh_journal_has_the_fresh_image()
     ensures { (drawn : List ℕ) →
-        image_of (piece drawn 0) (Session ∷ Made (piece drawn 1 ∷ piece drawn 2 ∷ piece drawn 3 ∷ piece drawn 4 ∷ piece drawn 5 ∷ []) ∷ []) ++ 0 ∷ []
+        image_of (piece drawn 0) (Session ∷ Made (piece drawn 1 ∷ piece drawn 2 ∷ piece drawn 3 ∷ piece drawn 4 ∷ piece drawn 5 ∷ []) ∷ [])
+        ++ 0 ∷ []
         ≡ fresh_image drawn }
 {}
 
@@ -35,7 +36,8 @@ pub fn batches_grow()
     ensures batches { (owner : List ℕ) (low high : Journal) → IsPrefix low high → IsPrefix (batches_of owner low) (batches_of owner high) }
     ensures image { (owner : List ℕ) (low high : Journal) → IsPrefix low high → IsPrefix (image_of owner low) (image_of owner high) }
     ensures next { (owner : List ℕ) (m : Journal) (entry : Entry) →
-        bodies_of owner (m ++ entry ∷ []) ≡ bodies_of owner m ++ entry_body (all_keys owner (m ++ entry ∷ [])) (stand_after nothing m) entry ∷ [] }
+        bodies_of owner (m ++ entry ∷ []) ≡ bodies_of owner m
+        ++ entry_body (all_keys owner (m ++ entry ∷ [])) (stand_after nothing m) entry ∷ [] }
 {}
 
 /// Law: the key of a serial stays, whatever follows.
@@ -46,25 +48,29 @@ pub fn keys_stay()
 
 /// Law: where each note fits, a serial finds the very key that was drawn for it: no two keys have one.
 pub fn serials_find_their_keys()
-    ensures { (owner : List ℕ) (m : Journal) → IsTrue (all_fit nothing m) → (key : KeyParts) → In key (all_keys owner m) → key_bytes owner m key.serial ≡ key.bytes }
+    ensures { (owner : List ℕ) (m : Journal) → IsTrue (all_fit nothing m) → (key : KeyParts) → In key (all_keys owner m)
+        → key_bytes owner m key.serial ≡ key.bytes }
 {}
 
 /// Law: the owner recovers from bytes the batches of the journal that they stand for, and a journal's batches have the
 /// sizes of the format.
 pub fn standing_bytes_tell_their_journal()
-    ensures recovered { (owner : List ℕ) (m : Journal) (bytes : List ℕ) → StandsForJournal owner m bytes → recovered owner bytes ≡ batches_of owner m }
+    ensures recovered { (owner : List ℕ) (m : Journal) (bytes : List ℕ) → StandsForJournal owner m bytes
+        → recovered owner bytes ≡ batches_of owner m }
     ensures sizes { (owner : List ℕ) (m : Journal) → IsValid m → AreWhole owner m → All HasSizes (batches_of owner m) }
 {}
 
 /// Law: bytes that stand for a journal as a whole publish all of it, and their last slot is honest.
 pub fn whole_journal_is_published()
-    ensures published { (owner : List ℕ) (m : Journal) (bytes : List ℕ) → StandsWholeForJournal owner m bytes → published_journal owner bytes m ≡ m }
+    ensures published { (owner : List ℕ) (m : Journal) (bytes : List ℕ) → StandsWholeForJournal owner m bytes
+        → published_journal owner bytes m ≡ m }
     ensures honest { (owner : List ℕ) (m : Journal) (bytes : List ℕ) → StandsWholeForJournal owner m bytes → IsHonestFor owner bytes m }
 {}
 
 /// Law: bytes that stand for a journal are read as the journal that they publish, if their last slot is honest and each of its
 /// payloads has a spelling.
 pub fn standing_bytes_are_read_as_their_journal()
-    ensures { (owner : List ℕ) (m : Journal) (bytes : List ℕ) → StandsForJournal owner m bytes → AreBodies 0 (bodies_of owner m) → IsHonestFor owner bytes m →
+    ensures { (owner : List ℕ) (m : Journal) (bytes : List ℕ) → StandsForJournal owner m bytes → AreBodies 0 (bodies_of owner m)
+        → IsHonestFor owner bytes m →
         log_verdict owner bytes ≡ Ok (placed_from 42 0 0 (bodies_of owner (published_journal owner bytes m))) }
 {}

@@ -27,7 +27,8 @@ pub fn valid_journals_are_followed()
 /// Law: in the log of a valid journal the last content of each folder, file and holder that stands is its present name, or name
 /// and bytes, or key, sealed under the present key of its role.
 pub fn last_contents_are_present()
-    ensures { (owner : List ℕ) (m : Journal) → IsValid m → AreWhole owner m → HoldsPresent (all_keys owner m) (store_of m) (keys_of m) (log_of owner m) }
+    ensures { (owner : List ℕ) (m : Journal) → IsValid m → AreWhole owner m
+        → HoldsPresent (all_keys owner m) (store_of m) (keys_of m) (log_of owner m) }
 {}
 
 /// Law: each key that is opened of a valid journal is the one that was drawn as the present key of its role, whatever is
@@ -36,15 +37,18 @@ pub fn opened_keys_are_the_journals()
     ensures owner { (owner : List ℕ) (m : Journal) → IsValid m → AreWhole owner m → (visits : List Visit) (after : Opened)
         → visit_all (reading_of owner m) visits (owner_starts owner m) ≡ Ok after → AreDrawn (all_keys owner m) (keys_of m) after.keys }
     ensures anyone { (owner : List ℕ) (m : Journal) → IsValid m → AreWhole owner m → (visits : List Visit) (before after : Opened)
-        → AreDrawn (all_keys owner m) (keys_of m) before.keys → visit_all (reading_of owner m) visits before ≡ Ok after → AreDrawn (all_keys owner m) (keys_of m) after.keys }
+        → AreDrawn (all_keys owner m) (keys_of m) before.keys → visit_all (reading_of owner m) visits before ≡ Ok after
+        → AreDrawn (all_keys owner m) (keys_of m) after.keys }
     ensures holder { (owner : List ℕ) (m : Journal) → IsValid m → AreWhole owner m → (e : HolderEntry) → In e (store_of m).holders
         → AreDrawn (all_keys owner m) (keys_of m) ((holder_role e.number, e.key) ∷ []) }
 {}
 
 /// Law: the owner's visits open the present key of every role but the holders'.
 pub fn owners_open_every_key()
-    ensures { (owner : List ℕ) (m : Journal) → IsValid m → AreWhole owner m → (after : Opened) → visit_all (reading_of owner m) (owner_visits m) (owner_starts owner m) ≡ Ok after
-        → (role : Role) (n : ℕ) → newest (keys_of m).keys role ≡ Some n → ((h : ℕ) → role ≢ holder_role h) → key_of after.keys role ≡ Some (bytes_in (all_keys owner m) n) }
+    ensures { (owner : List ℕ) (m : Journal) → IsValid m → AreWhole owner m → (after : Opened)
+        → visit_all (reading_of owner m) (owner_visits m) (owner_starts owner m) ≡ Ok after
+        → (role : Role) (n : ℕ) → newest (keys_of m).keys role ≡ Some n → ((h : ℕ) → role ≢ holder_role h)
+        → key_of after.keys role ≡ Some (bytes_in (all_keys owner m) n) }
 {}
 
 /// Law: what visits show of a valid journal is its store, as far as they go: the names, files and holders' keys that they are
@@ -80,5 +84,6 @@ pub fn standing_bytes_are_read()
         log_verdict owner bytes ≡ Ok (log_of owner (published_journal owner bytes m)) }
     ensures holder { (owner : List ℕ) (m : Journal) (bytes : List ℕ) → StandsForJournal owner m bytes → IsHonestFor owner bytes m →
         holder_log bytes ≡ Ok (log_of owner (published_journal owner bytes m)) }
-    ensures writer { (owner : List ℕ) (m : Journal) (bytes : List ℕ) → StandsForJournal owner m bytes → writer_log owner bytes ≡ Ok (log_of owner m) }
+    ensures writer { (owner : List ℕ) (m : Journal) (bytes : List ℕ) → StandsForJournal owner m bytes
+        → writer_log owner bytes ≡ Ok (log_of owner m) }
 {}

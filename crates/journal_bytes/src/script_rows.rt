@@ -13,9 +13,11 @@ ghost use Rattle.journal_bytes.specs.WorkedScripts.{granting_stopped, nonces_in,
 /// A script's replies and the journal after it, with the keys drawn from 255 down.
 #[tactic(auto, unfolding(crate::specs::WorkedScripts::scripts))]
 pub fn script_of_a_grant()
-    ensures replies { (script limits_now fresh (MakeFolder (codes "/a") ∷ WriteFile (codes "/a/x") (0 ∷ 255 ∷ []) ∷ MakeFolder (codes "/a") ∷ AddHolder ∷ Grant 1 (codes "/a") ∷ []) (down_from 255 224)).0
+    ensures replies { (script limits_now fresh (MakeFolder (codes "/a") ∷ WriteFile (codes "/a/x") (0 ∷ 255 ∷ []) ∷ MakeFolder (codes "/a")
+        ∷ AddHolder ∷ Grant 1 (codes "/a") ∷ []) (down_from 255 224)).0
         ≡ Done ∷ Done ∷ Refused Exists ∷ Made (record { 0 = 1 }) (down_from 63 32) ∷ Done ∷ [] }
-    ensures length { end_of (script limits_now fresh (MakeFolder (codes "/a") ∷ WriteFile (codes "/a/x") (0 ∷ 255 ∷ []) ∷ MakeFolder (codes "/a") ∷ AddHolder ∷ Grant 1 (codes "/a") ∷ []) (down_from 255 224)).1 ≡ 2558 }
+    ensures length { end_of (script limits_now fresh (MakeFolder (codes "/a") ∷ WriteFile (codes "/a/x") (0 ∷ 255 ∷ [])
+        ∷ MakeFolder (codes "/a") ∷ AddHolder ∷ Grant 1 (codes "/a") ∷ []) (down_from 255 224)).1 ≡ 2558 }
 {}
 
 /// A command whose batch would end past the store limit is refused, and one that ends at it is not.
@@ -36,6 +38,7 @@ pub fn stop_in_the_first_write()
     ensures numbers { map (λ a. a.number) (attempts (record { journal = fresh; begun = false })
         (Enters (MakeFolder (codes "/a")) (some_keys 5) ∷ Enters AddHolder (some_keys 1) ∷ IsAbandoned (Grant 1 (codes "/a")) []
         ∷ Reopens ∷ LosesEpoch ∷ Reopens ∷ Enters (Grant 1 (codes "/a")) [] ∷ [])) ≡ 3 ∷ 4 ∷ 5 ∷ 6 ∷ 6 ∷ 6 ∷ 7 ∷ [] }
-    ensures nonces { map (λ a. nonces_in a.holds) (attempts (record { journal = granting_stopped; begun = false }) (Enters (Grant 1 (codes "/a")) [] ∷ []))
+    ensures nonces { map (λ a. nonces_in a.holds)
+        (attempts (record { journal = granting_stopped; begun = false }) (Enters (Grant 1 (codes "/a")) [] ∷ []))
         ≡ [] ∷ (12884901888 ∷ []) ∷ [] }
 {}

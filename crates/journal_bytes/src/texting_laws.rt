@@ -19,8 +19,10 @@ ghost use Rattle.journal_bytes.specs.Texting.{AreTitlesAfter, due_key, due_text}
 /// that text.
 pub fn due_texts_are_sealed()
     ensures tree { (t s : Store) (r : Request) → IsTreeOf t s → due_text t r ≡ due_text s r }
-    ensures sealed { (m : Journal) (r : Request) (key check : List ℕ) (file_bytes : ℕ) → IsValid m → refusal_of (store_of m) r file_bytes ≡ None
-        → (p : Piece) → In p (pieces_of (note_of (store_of m) r check) (effect (store_of m) r key)) → text_of p ≡ due_text (store_of m) r ++ due_key r key }
+    ensures sealed { (m : Journal) (r : Request) (key check : List ℕ) (file_bytes : ℕ) → IsValid m
+        → refusal_of (store_of m) r file_bytes ≡ None
+        → (p : Piece) → In p (pieces_of (note_of (store_of m) r check) (effect (store_of m) r key))
+        → text_of p ≡ due_text (store_of m) r ++ due_key r key }
 {}
 
 /// Law: a tree with the store's names and bytes has those of the store after a command that isn't refused, once its note has

@@ -49,7 +49,8 @@ HasSource ring r = (key : KeyParts) × (key_of ring (source_role r) ≡ Some key
 -- the role whose key seals the contents of this kind for a folder, file or holder: 1 a folder's name, 2 a file, 3 a
 -- holder's key
 abbrev pub sealing_role : ℕ → ℕ → Role
-sealing_role kind object = if kind == 1 then role.Data (record { 0 = object }) else (if kind == 2 then role.File (record { 0 = object }) else role.Owner)
+sealing_role kind object = if kind == 1 then role.Data (record { 0 = object }) else
+    (if kind == 2 then role.File (record { 0 = object }) else role.Owner)
 
 -- the ring has a key for the role whose key seals contents like this one. No serial is asked for: what opens it is the key
 abbrev pub HasSealing : Ringed → ContentRecord → Type 0

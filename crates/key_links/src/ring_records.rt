@@ -82,7 +82,8 @@ impl KeyRing {
             → IsOk result ↔ IsAuthenticContent key (plain_content content.old) }
         ensures opened { (key : KeyParts) → key_of self.now (spec.sealing_role content.old.kind content.old.object) ≡ Some key
             → OnOk result (content.new ≡ with_text content.old (text_of key (plain_content content.old))) }
-        ensures opens { (key : KeyParts) (nonce : ℕ) (text : List ℕ) → key_of self.now (spec.sealing_role content.old.kind content.old.object) ≡ Some key
+        ensures opens { (key : KeyParts) (nonce : ℕ) (text : List ℕ)
+            → key_of self.now (spec.sealing_role content.old.kind content.old.object) ≡ Some key
             → plain_content content.old ≡ sealed_content content.old.kind key content.old.object nonce text
             → IsOk result × (content.new ≡ with_text content.old text) }
         ensures bad_tag { OnErr result (content.new ≡ content.old) }

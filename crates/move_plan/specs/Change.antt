@@ -7,7 +7,8 @@ use Rattle.cry_base.specs.declared.roles.Role.{Role}
 use Rattle.role_graph.specs.Roles.{same_role, holder_role, clear_of, sub_of, back_of, files_of, data_of, file_role, folder_roles}
 use Rattle.role_graph.specs.Edges.{edges, folder_edges, parent_edges, grant_edge, file_edge, in_order, edge_before}
 use Rattle.record_format.specs.Noted.{Note}
-use Rattle.record_format.specs.Noted.Note.{Root, NewHolder, NewFolder, NewFile, Rewrite, NameFile, NameFolder, DropFile, DropFolder, ShiftFile, ShiftFolder, Give, Take}
+use Rattle.record_format.specs.Noted.Note.{Root, NewHolder, NewFolder, NewFile, Rewrite, NameFile, NameFolder, DropFile, DropFolder}
+use Rattle.record_format.specs.Noted.Note.{ShiftFile, ShiftFolder, Give, Take}
 
 -- the edges and roles that go, the roles that must be clean for what is added or written, and the roles and edges that come
 pub record Change : Type 0 where
@@ -40,7 +41,12 @@ edge_into_file s x = file_edge (folder_of_file s x) x
 unfoldable pub change_of : Store → Note → Change
 change_of s Root = record no_change { fresh = folder_roles 1; added = folder_edges 1 }
 change_of s (NewHolder h check) = record no_change { fresh = holder_role h ∷ [] }
-change_of s (NewFolder f p) = record no_change { wanted = sub_of p ∷ []; fresh = folder_roles f; added = in_order edge_before (folder_edges f ++ parent_edges f p) }
+change_of s (NewFolder f p) = record no_change {
+  wanted = sub_of p
+      ∷ [];
+  fresh = folder_roles f;
+  added = in_order edge_before (folder_edges f ++ parent_edges f p);
+}
 change_of s (NewFile x f) = record no_change { wanted = files_of f ∷ []; fresh = file_role x ∷ []; added = file_edge f x ∷ [] }
 change_of s (Rewrite x) = record no_change { wanted = file_role x ∷ [] }
 change_of s (NameFile x) = record no_change { wanted = file_role x ∷ [] }
@@ -48,6 +54,11 @@ change_of s (NameFolder f) = record no_change { wanted = data_of f ∷ [] }
 change_of s (DropFile x) = record no_change { removed = edge_into_file s x ∷ []; gone = file_role x ∷ [] }
 change_of s (DropFolder f) = record no_change { removed = edges_at s f; gone = folder_roles f }
 change_of s (ShiftFile x g) = record no_change { removed = edge_into_file s x ∷ []; wanted = files_of g ∷ []; added = file_edge g x ∷ [] }
-change_of s (ShiftFolder g q) = record no_change { removed = parent_edges g (parent_of_folder s g); wanted = sub_of q ∷ back_of g ∷ []; added = parent_edges g q }
+change_of s (ShiftFolder g q) = record no_change {
+  removed = parent_edges g (parent_of_folder s g);
+  wanted = sub_of q ∷ back_of g
+      ∷ [];
+  added = parent_edges g q;
+}
 change_of s (Give h f) = record no_change { added = grant_edge h f ∷ [] }
 change_of s (Take h f) = record no_change { removed = grant_edge h f ∷ []; wanted = clear_of f ∷ [] }

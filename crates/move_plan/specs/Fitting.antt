@@ -1,9 +1,11 @@
 -- Which notes fit a store. This project's own, docs/FORMAT.md, "The key step".
 use Rattle.std.specs.Prelude.{ℕ, ◌+◌, Bool, true, false, not, ◌&&◌, ◌||◌, nat_lt, nat_le, ◌==◌, is_some, Some, [], map}
 use Rattle.cry_base.specs.Refusing.{has_child, height_of}
-use Rattle.cry_base.specs.Store.{Store, FolderEntry, FileEntry, HolderEntry, folder_node, folder_entry, file_entry, holder_entry, has_grant, depth_of, is_within}
+use Rattle.cry_base.specs.Store.{Store, FolderEntry, FileEntry, HolderEntry, folder_node, folder_entry, file_entry, holder_entry, has_grant}
+use Rattle.cry_base.specs.Store.{depth_of, is_within}
 use Rattle.record_format.specs.Noted.{Note}
-use Rattle.record_format.specs.Noted.Note.{Root, NewHolder, NewFolder, NewFile, Rewrite, NameFile, NameFolder, DropFile, DropFolder, ShiftFile, ShiftFolder, Give, Take}
+use Rattle.record_format.specs.Noted.Note.{Root, NewHolder, NewFolder, NewFile, Rewrite, NameFile, NameFolder, DropFile, DropFolder}
+use Rattle.record_format.specs.Noted.Note.{ShiftFile, ShiftFolder, Give, Take}
 use Rattle.move_plan.specs.Change.{folder_of_file, parent_of_folder}
 
 -- the folder stands, and something may be put into it; the file stands

@@ -8,7 +8,8 @@ use Rattle.cry_base.specs.Refusing.{id_of}
 use Rattle.cry_base.specs.declared.roles.Node.{Node}
 use Rattle.cry_base.specs.declared.roles.Node.TheVariants.{Folder, File}
 use Rattle.record_format.specs.Noted.{Note}
-use Rattle.record_format.specs.Noted.Note.{Root, NewHolder, NewFolder, NewFile, Rewrite, NameFile, NameFolder, DropFile, DropFolder, ShiftFile, ShiftFolder, Give, Take}
+use Rattle.record_format.specs.Noted.Note.{Root, NewHolder, NewFolder, NewFile, Rewrite, NameFile, NameFolder, DropFile, DropFolder}
+use Rattle.record_format.specs.Noted.Note.{ShiftFile, ShiftFolder, Give, Take}
 
 -- for each command on a node, its note where the node is a folder and where it is a file.
 -- For a write nothing found, and so a new file, is the third case; elsewhere none is due

@@ -3,7 +3,8 @@ ghost use Rattle.std.specs.Prelude.{◌≡◌, ℕ, [], ◌∷◌, List as AnyLi
 ghost use Rattle.cry_base.specs.Store.{Store};
 ghost use Rattle.move_plan.specs.Change.{change_of as change_of_note, folder_of_file, no_change, parent_of_folder};
 ghost use Rattle.move_plan.specs.Seen.{plain_change};
-ghost use Rattle.record_format.specs.Noted.Note.{Root, NewHolder, NewFolder, NewFile, Rewrite, NameFile, NameFolder, DropFile, ShiftFile, ShiftFolder, Give, Take};
+ghost use Rattle.record_format.specs.Noted.Note.{Root, NewHolder, NewFolder, NewFile, Rewrite, NameFile, NameFolder, DropFile, ShiftFile};
+ghost use Rattle.record_format.specs.Noted.Note.{ShiftFolder, Give, Take};
 
 use crate::Change;
 use crate::edging::{
@@ -135,7 +136,8 @@ pub(crate) fn move_file(
     folder: FolderId,
     into: FolderId,
 ) -> Mem<Change>
-    ensures { IfOk result (λ c. (s : Store) → folder.0 ≡ folder_of_file s file.0 → plain_change c ≡ change_of_note s (ShiftFile file.0 into.0)) }
+    ensures { IfOk result (λ c. (s : Store) → folder.0 ≡ folder_of_file s file.0
+        → plain_change c ≡ change_of_note s (ShiftFile file.0 into.0)) }
 {
     let removed = edges_of(alloc, &[file_edge(folder, file)])?;
     let wanted = roles_of(alloc, &[Role::Files(into)])?;
@@ -157,7 +159,8 @@ pub(crate) fn move_folder(
     parent: FolderId,
     into: FolderId,
 ) -> Mem<Change>
-    ensures { IfOk result (λ c. (s : Store) → parent.0 ≡ parent_of_folder s folder.0 → plain_change c ≡ change_of_note s (ShiftFolder folder.0 into.0)) }
+    ensures { IfOk result (λ c. (s : Store) → parent.0 ≡ parent_of_folder s folder.0
+        → plain_change c ≡ change_of_note s (ShiftFolder folder.0 into.0)) }
 {
     let removed = edges_of(alloc, &parent_edges(folder, parent))?;
     let wanted = roles_of(alloc, &[Role::Sub(into), Role::Back(folder)])?;

@@ -6,7 +6,8 @@ ghost use Rattle.cry_base.specs.Store.{depth_of, folder_entry, folder_node, is_w
 ghost use Rattle.grant_book.specs.Granted.{is_grant};
 ghost use Rattle.grant_book.specs.Refused.{is_holder};
 ghost use Rattle.move_plan.specs.Change.{folder_of_file, parent_of_folder};
-ghost use Rattle.move_plan.specs.Fitting.{file_stands, folder_stands, fits as fits_store, has_depth_left as has_depth_below, is_other_folder as is_other, needs_root, row_fits as row_of_note};
+ghost use Rattle.move_plan.specs.Fitting.{file_stands, folder_stands, fits as fits_store, has_depth_left as has_depth_below};
+ghost use Rattle.move_plan.specs.Fitting.{is_other_folder as is_other, needs_root, row_fits as row_of_note};
 ghost use Rattle.move_plan.specs.Seen.{seen_store};
 ghost use Rattle.record_format.specs.Told.{told_note};
 
@@ -131,14 +132,16 @@ fn may_drop_folder(shape: &Shape, f: FolderId) -> bool
 }
 
 fn may_move_file(shape: &Shape, x: FileId, into: FolderId) -> bool
-    ensures { result ≡ (file_stands shape.now.tree x.0 && has_depth_below shape.now.tree into.0 && not (folder_of_file shape.now.tree x.0 == into.0)) }
+    ensures { result ≡ (file_stands shape.now.tree x.0 && has_depth_below shape.now.tree into.0
+        && not (folder_of_file shape.now.tree x.0 == into.0)) }
 {
     has_file(shape, x) && has_depth_left(shape, into) && folder_of(shape, x).0 != into.0
 }
 
 /// Whether the folder, with all below it, may go into the other one.
 fn may_move_folder(shape: &Shape, f: FolderId, into: FolderId) -> bool
-    ensures { let t = shape.now.tree in result ≡ (is_other t f.0 && (folder_stands t into.0 && (not (parent_of_folder t f.0 == into.0) && not (is_within t into.0 f.0)
+    ensures { let t = shape.now.tree in result
+        ≡ (is_other t f.0 && (folder_stands t into.0 && (not (parent_of_folder t f.0 == into.0) && not (is_within t into.0 f.0)
         && nat_le (depth_of t (folder_node into.0) + 1 + height_of t (Some (folder_node f.0))) 64))) }
 {
     is_other_folder(shape, f) && may_leave(shape, f, into)
@@ -147,7 +150,8 @@ fn may_move_folder(shape: &Shape, f: FolderId, into: FolderId) -> bool
 /// Whether a folder that stands may go into the other one.
 fn may_leave(shape: &Shape, f: FolderId, into: FolderId) -> bool
     requires { IsSome (folder_entry shape.now.tree f.0) }
-    ensures { let t = shape.now.tree in result ≡ (folder_stands t into.0 && (not (parent_of_folder t f.0 == into.0) && not (is_within t into.0 f.0)
+    ensures { let t = shape.now.tree in result
+        ≡ (folder_stands t into.0 && (not (parent_of_folder t f.0 == into.0) && not (is_within t into.0 f.0)
         && nat_le (depth_of t (folder_node into.0) + 1 + height_of t (Some (folder_node f.0))) 64)) }
 {
     has_folder(shape, into) && may_enter(shape, f, into)
@@ -185,7 +189,8 @@ fn has_levels_left(shape: &Shape, f: FolderId, into: FolderId) -> bool
 }
 
 fn may_give(shape: &Shape, grants: &Grants, h: HolderId, f: FolderId) -> bool
-    ensures { result ≡ (is_holder grants.now.checks h.0 && folder_stands shape.now.tree f.0 && not (list_any (is_grant h.0 f.0) grants.now.pairs)) }
+    ensures { result ≡ (is_holder grants.now.checks h.0 && folder_stands shape.now.tree f.0
+        && not (list_any (is_grant h.0 f.0) grants.now.pairs)) }
 {
     is_made(grants, h) && has_folder(shape, f) && !grants.has(h, f)
 }

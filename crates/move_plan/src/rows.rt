@@ -7,7 +7,8 @@ ghost use Rattle.move_plan.specs.Fitting.{fits};
 ghost use Rattle.role_graph.specs.Edges.{edge};
 ghost use Rattle.role_graph.specs.Roles.{files_of, file_role};
 ghost use Rattle.move_plan.specs.Change.{change_of};
-ghost use Rattle.record_format.specs.Noted.Note.{Root, NewHolder, NewFolder, NewFile, Rewrite, NameFile, NameFolder, DropFile, DropFolder, ShiftFile, ShiftFolder, Give, Take};
+ghost use Rattle.record_format.specs.Noted.Note.{Root, NewHolder, NewFolder, NewFile, Rewrite, NameFile, NameFolder, DropFile, DropFolder};
+ghost use Rattle.record_format.specs.Noted.Note.{ShiftFile, ShiftFolder, Give, Take};
 ghost use Rattle.move_plan.specs.Noting.{note_of};
 
 /// The notes of commands on a store with the folder /a and the file /a/x.
@@ -29,15 +30,17 @@ pub fn notes_of_commands()
 /// no move of a folder into itself or to where it is.
 #[tactic(auto, unfolding(crate::specs::WorkedChanges::changes))]
 pub fn notes_that_fit()
-    ensures fit { map (fits granted) (NewHolder 2 [] ∷ NewFolder 3 2 ∷ NewFile 2 2 ∷ Rewrite 1 ∷ NameFolder 2 ∷ DropFile 1 ∷ ShiftFile 1 1 ∷ Give 1 1 ∷ Take 1 2 ∷ [])
+    ensures fit { map (fits granted) (NewHolder 2 [] ∷ NewFolder 3 2 ∷ NewFile 2 2 ∷ Rewrite 1 ∷ NameFolder 2 ∷ DropFile 1 ∷ ShiftFile 1 1
+        ∷ Give 1 1 ∷ Take 1 2 ∷ [])
         ≡ true ∷ true ∷ true ∷ true ∷ true ∷ true ∷ true ∷ true ∷ true ∷ [] }
-    ensures misfit { map (fits granted) (Root ∷ NewHolder 1 [] ∷ NewFolder 4 2 ∷ NewFile 2 3 ∷ Rewrite 2 ∷ NameFolder 1 ∷ DropFolder 2 ∷ ShiftFile 1 2 ∷ ShiftFolder 2 1 ∷ ShiftFolder 2 2 ∷ ShiftFolder 1 2 ∷ Give 1 2 ∷ Give 2 1 ∷ Take 1 1 ∷ [])
+    ensures misfit { map (fits granted) (Root ∷ NewHolder 1 [] ∷ NewFolder 4 2 ∷ NewFile 2 3 ∷ Rewrite 2 ∷ NameFolder 1 ∷ DropFolder 2
+        ∷ ShiftFile 1 2 ∷ ShiftFolder 2 1 ∷ ShiftFolder 2 2 ∷ ShiftFolder 1 2 ∷ Give 1 2 ∷ Give 2 1 ∷ Take 1 1 ∷ [])
         ≡ false ∷ false ∷ false ∷ false ∷ false ∷ false ∷ false ∷ false ∷ false ∷ false ∷ false ∷ false ∷ false ∷ false ∷ [] }
     ensures no_root { map (fits no_store) (Root ∷ NewHolder 1 [] ∷ []) ≡ true ∷ false ∷ [] }
 {}
 
-/// A file that is removed leaves the edge that led to it, and a folder all edges at its roles: those from the owner and its holder, its own, and
-/// those between it and its parent.
+/// A file that is removed leaves the edge that led to it, and a folder all edges at its roles: those from the owner and its holder, its
+/// own, and those between it and its parent.
 #[tactic(auto, unfolding(crate::specs::WorkedChanges::changes))]
 pub fn edges_that_are_left()
     ensures file { (change_of granted (DropFile 1)).removed ≡ edge 9 (files_of 2) (file_role 1) ∷ [] }

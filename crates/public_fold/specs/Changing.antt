@@ -7,7 +7,8 @@ use Rattle.cry_base.specs.Stepping.{with_new_folder, with_new_file, with_folder,
 use Rattle.folder_nodes.specs.Changing.{CanShift, HasPlace}
 use Rattle.grant_book.specs.Granted.{IsHolder, grant_of, with_pair, without_pair, without_pairs_on}
 use Rattle.record_format.specs.Noted.{Note}
-use Rattle.record_format.specs.Noted.Note.{Root, NewHolder, NewFolder, NewFile, Rewrite, NameFile, NameFolder, DropFile, DropFolder, ShiftFile, ShiftFolder, Give, Take}
+use Rattle.record_format.specs.Noted.Note.{Root, NewHolder, NewFolder, NewFile, Rewrite, NameFile, NameFolder, DropFile, DropFolder}
+use Rattle.record_format.specs.Noted.Note.{ShiftFile, ShiftFolder, Give, Take}
 
 -- the tree after a note
 unfoldable pub tree_then : Store → Note → Store

@@ -1,7 +1,8 @@
 -- What everyone may see of the records of a step: a skeleton's heads. This project's own, docs/FORMAT.md, "Records".
 use Rattle.std.specs.Prelude.{◌≡◌, ℕ, Bool, ◌&&◌, ◌==◌, List, [], ◌∷◌, map}
 use Rattle.record_format.specs.Noted.{Note}
-use Rattle.record_format.specs.Noted.Note.{Root, NewHolder, NewFolder, NewFile, Rewrite, NameFile, NameFolder, DropFile, DropFolder, ShiftFile, ShiftFolder, Give, Take}
+use Rattle.record_format.specs.Noted.Note.{Root, NewHolder, NewFolder, NewFile, Rewrite, NameFile, NameFolder, DropFile, DropFolder}
+use Rattle.record_format.specs.Noted.Note.{ShiftFile, ShiftFolder, Give, Take}
 use Rattle.record_format.specs.Plain.{PlainContent}
 use Rattle.public_fold.specs.Fitted.{has_length}
 use Rattle.public_fold.specs.Records.{Piece, Content}

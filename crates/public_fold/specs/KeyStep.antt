@@ -1,5 +1,6 @@
 -- How a command changes the keys, and what it publishes. This project's own, docs/FORMAT.md, "The key step".
-use Rattle.std.specs.Prelude.{ℕ, ◌+◌, ◌*◌, ◌^◌, Bool, cond, not, ◌||◌, List, [], ◌∷◌, ◌++◌, map, filter, length, Option, Some, None, unwrap_or}
+use Rattle.std.specs.Prelude.{ℕ, ◌+◌, ◌*◌, ◌^◌, Bool, cond, not, ◌||◌, List, [], ◌∷◌, ◌++◌, map, filter, length, Option, Some, None}
+use Rattle.std.specs.Prelude.{unwrap_or}
 use Rattle.cry_base.specs.Sets.{has}
 use Rattle.cry_base.specs.declared.roles.Edge.{Edge}
 use Rattle.cry_base.specs.declared.roles.Role.{Role}
@@ -103,7 +104,13 @@ pub record Stepped : Type 0 where
 -- the step once the keys are numbered: keys first, then the links' nonces, then the contents'
 unfoldable pub published : KeyState → List Role → List Role → List (Role × ℕ) → List (Role × ℕ) → List Edge → List Piece → Stepped
 published k dirty plan new keys es pieces = record {
-  after = record { keys = keys; dirty = without same_role plan dirty; epoch = k.epoch; count = k.count + length new + length es + length pieces };
+  after = record {
+    keys = keys;
+    dirty = without same_role plan dirty;
+    epoch = k.epoch;
+    count = k.count + length new + length es + length
+        pieces;
+  };
   renewals = plan;
   given = new;
   links = links_from keys (next_serial k + length new) es;

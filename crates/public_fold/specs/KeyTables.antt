@@ -1,4 +1,5 @@
--- The keys of a public state, the newest first, and the rows by which a role's key is found. This project's own, docs/FORMAT.md, "The key step".
+-- The keys of a public state, the newest first, and the rows by which a role's key is found. This project's own, docs/FORMAT.md, "The key
+-- step".
 use Rattle.std.specs.Prelude.{◌≡◌, ℕ, ◌+◌, ◌*◌, List, Option}
 use Rattle.std.specs.Option.{option_map}
 use Rattle.cry_base.specs.declared.roles.Role.{Role}

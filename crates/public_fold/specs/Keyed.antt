@@ -33,7 +33,8 @@ pub record KeysHold (s : Store) (k : KeyState) (links : List Link) : Type 0 wher
   pub closed : (e : Edge) → In e (edges s) → In e.from k.dirty → In e.to k.dirty
   pub no_root : (r : Role) → In r k.dirty → is_root_role r ≡ false
   pub dirty_stands : (r : Role) → In r k.dirty → HasRole s r
-  pub linked : (e : Edge) → In e (edges s) → (l : Link) × In l links × (l.edge ≡ e) × (l.from_serial ≡ present k.keys e.from) × (l.to_serial ≡ present k.keys e.to)
+  pub linked : (e : Edge) → In e (edges s) → (l : Link) × In l links × (l.edge ≡ e) × (l.from_serial ≡ present k.keys e.from)
+      × (l.to_serial ≡ present k.keys e.to)
   pub keyed : (r : Role) → HasRole s r ↔ ((n : ℕ) × (newest k.keys r ≡ Some n))
 
 -- present keys have serials of their own, all below the next one

@@ -1,7 +1,8 @@
 -- How long a store file is. This project's own, docs/FORMAT.md, "Notes and payloads" and "The store file".
 use Rattle.std.specs.Prelude.{ℕ, ◌+◌, ◌*◌, List, [], ◌∷◌, length, sum_by}
 use Rattle.record_format.specs.Noted.{Note}
-use Rattle.record_format.specs.Noted.Note.{Root, NewHolder, NewFolder, NewFile, Rewrite, NameFile, NameFolder, DropFile, DropFolder, ShiftFile, ShiftFolder, Give, Take}
+use Rattle.record_format.specs.Noted.Note.{Root, NewHolder, NewFolder, NewFile, Rewrite, NameFile, NameFolder, DropFile, DropFolder}
+use Rattle.record_format.specs.Noted.Note.{ShiftFile, ShiftFolder, Give, Take}
 use Rattle.move_plan.specs.Noting.{note_of}
 use Rattle.public_fold.specs.Records.{Content, text_of}
 use Rattle.public_fold.specs.KeyStep.{Stepped}

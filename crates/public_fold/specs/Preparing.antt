@@ -54,8 +54,8 @@ begun_view new v = record v { keys = begun_keys new v.keys }
 abbrev pub begun : Bool → Stand → Stand
 begun new at = record at { keys = begun_keys new at.keys }
 
--- the change may be made on the state: its note fits, and it was prepared on a state that is seen as this one, with an epoch begun before it
--- or not, so that it leaves what the note makes of it
+-- the change may be made on the state: its note fits, and it was prepared on a state that is seen as this one, with an epoch begun before
+-- it or not, so that it leaves what the note makes of it
 pub record CanSettle (v : PublicView) (p : PreparedView) : Type 0 where
   pub note_fits : fits (public_store_of v) (told_note p.note) ≡ true
   pub begins : Bool

@@ -6,7 +6,8 @@ use Rattle.cry_base.specs.declared.roles.Role.{Role}
 use Rattle.cry_base.specs.declared.roles.Role.TheVariants.{Owner}
 use Rattle.role_graph.specs.Roles.{data_of, file_role}
 use Rattle.record_format.specs.Noted.{Note}
-use Rattle.record_format.specs.Noted.Note.{Root, NewHolder, NewFolder, NewFile, Rewrite, NameFile, NameFolder, DropFile, DropFolder, ShiftFile, ShiftFolder, Give, Take}
+use Rattle.record_format.specs.Noted.Note.{Root, NewHolder, NewFolder, NewFile, Rewrite, NameFile, NameFolder, DropFile, DropFolder}
+use Rattle.record_format.specs.Noted.Note.{ShiftFile, ShiftFolder, Give, Take}
 
 -- the key of to_serial sealed under the key of from_serial
 pub record Link : Type 0 where

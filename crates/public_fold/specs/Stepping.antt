@@ -9,7 +9,8 @@ use Rattle.move_plan.specs.Change.{Change, change_of}
 use Rattle.move_plan.specs.Fitting.{fits}
 use Rattle.record_format.specs.Noted.{Note}
 use Rattle.public_fold.specs.Heads.{IsSkeleton, content_head, due_of}
-use Rattle.public_fold.specs.KeyStep.{KeyState, Stepped, contents_from, dirty_left, keys_without, links_from, next_serial, numbered, published_edges, renewed, without}
+use Rattle.public_fold.specs.KeyStep.{KeyState, Stepped, contents_from, dirty_left, keys_without, links_from, next_serial, numbered}
+use Rattle.public_fold.specs.KeyStep.{published_edges, renewed, without}
 use Rattle.public_fold.specs.declared.counter.SerialCount.{SerialCount}
 use Rattle.public_fold.specs.declared.step.Due.{Due}
 use Rattle.public_fold.specs.declared.step.Step.{Step}
@@ -49,7 +50,8 @@ pub record IsNumbered (k : KeyState) (note : Note) (d : Due) (s : Step) : Type 0
   pub given : s.skeleton.keys.items ≡ numbered (next_serial k) d.keyed.items
   pub gone : s.left.gone.items ≡ d.gone.items
   pub links : s.skeleton.links.items ≡ links_from (keys_left k.keys s) (next_serial k + length d.keyed.items) d.edges.items
-  pub contents : s.skeleton.contents.items ≡ map content_head (contents_from (keys_left k.keys s) (next_serial k + length d.keyed.items + length d.edges.items) (due_of note))
+  pub contents : s.skeleton.contents.items
+      ≡ map content_head (contents_from (keys_left k.keys s) (next_serial k + length d.keyed.items + length d.edges.items) (due_of note))
   pub dirty : s.left.dirty ≡ d.dirty
   pub epoch : s.left.epoch ≡ k.epoch
   pub count : s.left.count ≡ counted k note d

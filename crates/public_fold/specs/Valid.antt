@@ -9,7 +9,8 @@ use Rattle.public_fold.specs.Lengths.{end_of}
 abbrev pub IsNext : Stand → Entry → Type 0
 IsNext at Session = Unit {0}
 IsNext at (Made keys) = ⊥
-IsNext at (Did request keys) = (refusal_of at.store request 1048576 ≡ None) × (length keys ≡ length (entry_step at (Did request keys)).given)
+IsNext at (Did request keys) = (refusal_of at.store request 1048576 ≡ None)
+    × (length keys ≡ length (entry_step at (Did request keys)).given)
 
 -- so may each of the entries, one after another
 abbrev pub FollowOn : Stand → List Entry → Type 0

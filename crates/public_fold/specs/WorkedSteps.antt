@@ -12,8 +12,11 @@ use Rattle.move_plan.specs.Change.{Change, no_change, change_of}
 use Rattle.rekey_walk.specs.WorkedMarks.{marks}
 use Rattle.move_plan.specs.WorkedChanges.{changes}
 use Rattle.public_fold.specs.Records.{folder_piece, file_piece, holder_piece, pieces_of, sealing_role, text_of}
-use Rattle.public_fold.specs.KeyStep.{Stepped, no_keys, next_epoch, without, keys_without, edges_left, dirty_left, renewed, next_serial, numbered, given, keys_then, newest, present, edges_then, is_published, published_edges, link_of, links_from, content_of, contents_from, published, step_with, key_step}
-use Rattle.public_fold.specs.Journal.{Entry, Journal, Stand, nothing, first_key, note_step, entry_step, entry_store, stand_then, stand_after, store_of, keys_of, steps_from, steps_of}
+use Rattle.public_fold.specs.KeyStep.{Stepped, no_keys, next_epoch, without, keys_without, edges_left, dirty_left, renewed, next_serial}
+use Rattle.public_fold.specs.KeyStep.{numbered, given, keys_then, newest, present, edges_then, is_published, published_edges, link_of}
+use Rattle.public_fold.specs.KeyStep.{links_from, content_of, contents_from, published, step_with, key_step}
+use Rattle.public_fold.specs.Journal.{Entry, Journal, Stand, nothing, first_key, note_step, entry_step, entry_store, stand_then}
+use Rattle.public_fold.specs.Journal.{stand_after, store_of, keys_of, steps_from, steps_of}
 use Rattle.public_fold.specs.Journal.Entry.{Session, Made, Did}
 use Rattle.public_fold.specs.Lengths.{note_len, content_len, payload_len, entry_payload, payloads_from, end_of}
 use Rattle.public_fold.specs.StandFits.{has_count, note_fits, entry_fits, all_fit}
@@ -32,14 +35,16 @@ fresh = Session ∷ Made (some_keys 5) ∷ []
 
 -- the rows "tree and rename" and "empty rewrite in a second session"
 unfoldable pub renaming : Journal
-renaming = fresh ++ (Session ∷ does 5 (MakeFolder (codes "/a")) ∷ does 1 (WriteFile (codes "/a/x") (0 ∷ 255 ∷ [])) ∷ does 0 (Rename (codes "/a/x") (codes "y")) ∷ [])
+renaming = fresh ++ (Session ∷ does 5 (MakeFolder (codes "/a")) ∷ does 1 (WriteFile (codes "/a/x") (0 ∷ 255 ∷ []))
+    ∷ does 0 (Rename (codes "/a/x") (codes "y")) ∷ [])
 
 unfoldable pub rewriting : Journal
 rewriting = renaming ++ (Session ∷ does 0 (WriteFile (codes "/a/y") []) ∷ [])
 
 -- the rows "grant", "revoked" and "written after revocation"
 unfoldable pub granting : Journal
-granting = fresh ++ (Session ∷ does 5 (MakeFolder (codes "/a")) ∷ does 1 (WriteFile (codes "/a/x") (0 ∷ 255 ∷ [])) ∷ does 1 AddHolder ∷ does 0 (Grant 1 (codes "/a")) ∷ [])
+granting = fresh ++ (Session ∷ does 5 (MakeFolder (codes "/a")) ∷ does 1 (WriteFile (codes "/a/x") (0 ∷ 255 ∷ [])) ∷ does 1 AddHolder
+    ∷ does 0 (Grant 1 (codes "/a")) ∷ [])
 
 unfoldable pub revoking : Journal
 revoking = granting ++ (Session ∷ does 1 (Revoke 1 (codes "/a")) ∷ [])
@@ -49,24 +54,30 @@ writing_again = revoking ++ (Session ∷ does 3 (WriteFile (codes "/a/x") (1 ∷
 
 -- the row "rename after revocation"
 unfoldable pub renaming_again : Journal
-renaming_again = fresh ++ (Session ∷ does 5 (MakeFolder (codes "/a")) ∷ does 5 (MakeFolder (codes "/a/b")) ∷ does 1 AddHolder ∷ does 1 AddHolder
-    ∷ does 0 (Grant 1 (codes "/a")) ∷ does 0 (Grant 2 (codes "/a/b")) ∷ does 1 (Revoke 1 (codes "/a")) ∷ does 5 (Rename (codes "/a") (codes "z")) ∷ [])
+renaming_again = fresh ++ (Session ∷ does 5 (MakeFolder (codes "/a")) ∷ does 5 (MakeFolder (codes "/a/b")) ∷ does 1 AddHolder
+    ∷ does 1 AddHolder
+    ∷ does 0 (Grant 1 (codes "/a")) ∷ does 0 (Grant 2 (codes "/a/b")) ∷ does 1 (Revoke 1 (codes "/a"))
+    ∷ does 5 (Rename (codes "/a") (codes "z")) ∷ [])
 
 -- the row "move away from a grant"
 unfoldable pub moving_away : Journal
-moving_away = fresh ++ (Session ∷ does 5 (MakeFolder (codes "/s")) ∷ does 5 (MakeFolder (codes "/p")) ∷ does 5 (MakeFolder (codes "/s/d")) ∷ does 1 (WriteFile (codes "/s/d/f") (1 ∷ []))
-    ∷ does 1 AddHolder ∷ does 0 (Grant 1 (codes "/s")) ∷ does 2 (Relocate (codes "/s/d") (codes "/p")) ∷ does 2 (WriteFile (codes "/p/d/f") (2 ∷ [])) ∷ [])
+moving_away = fresh ++ (Session ∷ does 5 (MakeFolder (codes "/s")) ∷ does 5 (MakeFolder (codes "/p")) ∷ does 5 (MakeFolder (codes "/s/d"))
+    ∷ does 1 (WriteFile (codes "/s/d/f") (1 ∷ []))
+    ∷ does 1 AddHolder ∷ does 0 (Grant 1 (codes "/s")) ∷ does 2 (Relocate (codes "/s/d") (codes "/p"))
+    ∷ does 2 (WriteFile (codes "/p/d/f") (2 ∷ [])) ∷ [])
 
 -- after "revoked", what is put into the folder under its dirty keys: a file moved in; and after two more revocations
 -- a new folder, and a new file and the folder's new name
 unfoldable pub making_again : Journal
 making_again = revoking ++ (Session ∷ does 1 (WriteFile (codes "/y") (3 ∷ [])) ∷ does 2 (Relocate (codes "/y") (codes "/a"))
     ∷ does 0 (Grant 1 (codes "/a")) ∷ does 1 (Revoke 1 (codes "/a")) ∷ does 6 (MakeFolder (codes "/a/n"))
-    ∷ does 0 (Grant 1 (codes "/a")) ∷ does 1 (Revoke 1 (codes "/a")) ∷ does 3 (WriteFile (codes "/a/w") (4 ∷ [])) ∷ does 4 (Rename (codes "/a") (codes "b")) ∷ [])
+    ∷ does 0 (Grant 1 (codes "/a")) ∷ does 1 (Revoke 1 (codes "/a")) ∷ does 3 (WriteFile (codes "/a/w") (4 ∷ []))
+    ∷ does 4 (Rename (codes "/a") (codes "b")) ∷ [])
 
 -- after "grant", the file moved to the root and back, a folder granted and dropped with its grant, the file dropped
 unfoldable pub dropping : Journal
-dropping = granting ++ (Session ∷ does 0 (Relocate (codes "/a/x") (codes "/")) ∷ does 5 (MakeFolder (codes "/a/b")) ∷ does 0 (Grant 1 (codes "/a/b")) ∷ does 0 (Remove (codes "/a/b")) ∷ does 0 (Remove (codes "/x")) ∷ [])
+dropping = granting ++ (Session ∷ does 0 (Relocate (codes "/a/x") (codes "/")) ∷ does 5 (MakeFolder (codes "/a/b"))
+    ∷ does 0 (Grant 1 (codes "/a/b")) ∷ does 0 (Remove (codes "/a/b")) ∷ does 0 (Remove (codes "/x")) ∷ [])
 
 -- the step of batch n, from 1
 unfoldable pub step_at : Journal → ℕ → List Stepped
@@ -99,5 +110,10 @@ edges_agree at (entry ∷ entries) = edges_agree_at at entry ∷ edges_agree (st
 
 -- every word of a journal
 unfoldable pub journals : Unit {0}
-unfolding has_count note_fits entry_fits all_fit digits entry_change edges_agree_at edges_agree marks changes folder_piece file_piece holder_piece pieces_of sealing_role text_of no_keys next_epoch without keys_without edges_left dirty_left renewed next_serial numbered given keys_then newest present edges_then is_published published_edges link_of links_from content_of contents_from published step_with key_step nothing first_key note_step entry_step entry_store stand_then stand_after store_of keys_of steps_from steps_of note_len content_len payload_len entry_payload payloads_from end_of some_keys does fresh renaming rewriting granting revoking writing_again renaming_again moving_away making_again dropping step_at renewals_at links_at contents_at
+unfolding has_count note_fits entry_fits all_fit digits entry_change edges_agree_at edges_agree marks changes folder_piece file_piece
+    holder_piece pieces_of sealing_role text_of no_keys next_epoch without keys_without edges_left dirty_left renewed next_serial numbered
+    given keys_then newest present edges_then is_published published_edges link_of links_from content_of contents_from published step_with
+    key_step nothing first_key note_step entry_step entry_store stand_then stand_after store_of keys_of steps_from steps_of note_len
+    content_len payload_len entry_payload payloads_from end_of some_keys does fresh renaming rewriting granting revoking writing_again
+    renaming_again moving_away making_again dropping step_at renewals_at links_at contents_at
 journals = tt

@@ -21,8 +21,10 @@ impl PublicState {
     /// the epoch's count to 2^32 - 1.
     pub fn skeleton(&self, alloc: Global, note: &Note) -> Result<Skeleton, FoldFault>
         ensures skeleton { IfOk result (λ k. (at : Stand) → IsSeenAs self.now at → IsSkeleton (told_step at (told_note note.now)) k) }
-        ensures fits { IfOk result (λ k. (at : Stand) → IsSeenAs self.now at → note_fits at (told_note note.now) (told_step at (told_note note.now)) ≡ true) }
-        ensures unfit { result ≡ Err FoldFault.Unfit → (at : Stand) → IsSeenAs self.now at → note_fits at (told_note note.now) (told_step at (told_note note.now)) ≡ false }
+        ensures fits { IfOk result (λ k. (at : Stand) → IsSeenAs self.now at
+            → note_fits at (told_note note.now) (told_step at (told_note note.now)) ≡ true) }
+        ensures unfit { result ≡ Err FoldFault.Unfit → (at : Stand) → IsSeenAs self.now at
+            → note_fits at (told_note note.now) (told_step at (told_note note.now)) ≡ false }
     {
         let step = step_of(alloc, self, false, note)?;
         Ok(step.skeleton)
@@ -35,7 +37,8 @@ impl PublicState {
         ensures seen { OnOk result ((at : Stand) → IsSeenAs self.old at → IsSeenAs self.new (told_stand at (told_note payload.now.note))) }
         ensures checks { OnOk result (self.new.checks ≡ checks_then self.old.checks (told_note payload.now.note)) }
         ensures fits { OnOk result ((at : Stand) → IsSeenAs self.old at → payload_fits at (plain_payload payload.now) ≡ true) }
-        ensures unfit { result ≡ Err FoldFault.Unfit → (at : Stand) → IsSeenAs self.old at → payload_fits at (plain_payload payload.now) ≡ false }
+        ensures unfit { result ≡ Err FoldFault.Unfit → (at : Stand) → IsSeenAs self.old at
+            → payload_fits at (plain_payload payload.now) ≡ false }
         ensures err { OnErr result (self.new ≡ with_room_of self.old self.new) }
     {
         let ready = self.prepare(alloc, &payload.note, false)?;

@@ -12,7 +12,8 @@ pub(crate) struct SerialCount {
 
 /// The count once a step took its serials, where it stays below 2^32 - 1.
 pub(crate) fn count_after(count: u32, keys: usize, links: usize, contents: usize) -> Option<u32>
-    ensures { MatchOption result (4294967295 ≤ count + keys + links + contents) (λ n. (n ≡ count + keys + links + contents) × (n < 4294967295)) }
+    ensures { MatchOption result (4294967295 ≤ count + keys + links + contents) (λ n. (n ≡ count + keys + links + contents)
+        × (n < 4294967295)) }
 {
     let with_keys = count_more(count, keys)?;
     let with_links = count_more(with_keys, links)?;

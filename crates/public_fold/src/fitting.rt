@@ -11,7 +11,8 @@ use record_format::{ContentRecord, LinkRecord, Payload};
 
 /// Whether the payload has each record that is due, in the order of the skeleton, and no other.
 pub(crate) fn has_records(skeleton: &Skeleton, payload: &Payload) -> bool
-    ensures { result ≡ (are_due has_link_head skeleton.now.links.items (plain_payload payload.now).links && are_due is_content_of skeleton.now.contents.items (plain_payload payload.now).contents) }
+    ensures { result ≡ (are_due has_link_head skeleton.now.links.items (plain_payload payload.now).links
+        && are_due is_content_of skeleton.now.contents.items (plain_payload payload.now).contents) }
 {
     are_links(skeleton.links.as_slice(), payload.links.as_slice())
         && are_contents(skeleton.contents.as_slice(), payload.contents.as_slice())

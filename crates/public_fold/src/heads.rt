@@ -42,7 +42,12 @@ impl Model for LinkHead {
 
     ghost view = { λ h. record { edge = h.edge; from_serial = h.from_serial.0; to_serial = h.to_serial.0; nonce = h.nonce } };
 
-    ghost inverse = { λ l. record { edge = l.edge; from_serial = record { 0 = l.from_serial }; to_serial = record { 0 = l.to_serial }; nonce = l.nonce } };
+    ghost inverse = { λ l. record {
+      edge = l.edge;
+      from_serial = record { 0 = l.from_serial };
+      to_serial = record { 0 = l.to_serial };
+      nonce = l.nonce;
+    } };
 }
 
 /// A content, without the sealed text and its tag.

@@ -71,7 +71,8 @@ pub(crate) fn serial_among(rows: &Table<KeyHead>, role: Role) -> Option<Serial>
 /// Puts the key into the place of its role's, or beside the others where the role has none.
 pub(crate) fn put_row(rows: &mut Table<KeyHead>, key: KeyHead)
     requires { 1 ≤ rows.old.spare }
-    ensures serials { (role : AnyRole) → serial_at rows.new.rows role ≡ cond (same_role key.0 role) (Some key.1) (serial_at rows.old.rows role) }
+    ensures serials { (role : AnyRole) → serial_at rows.new.rows role
+        ≡ cond (same_role key.0 role) (Some key.1) (serial_at rows.old.rows role) }
     ensures spare { rows.old.spare ≤ rows.new.spare + 1 }
 {
     if rows.find(&key.place()).is_some() {

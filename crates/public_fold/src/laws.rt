@@ -44,8 +44,10 @@ pub fn serials_are_counted()
         In key (key_step k before c pieces).given → (next_serial k ≤ key.1) × (key.1 < next_serial (key_step k before c pieces).after) }
     ensures links { (k : KeyState) (before : List Edge) (c : Change) (pieces : List Piece) (l : Link) →
         In l (key_step k before c pieces).links
-        → (next_serial k + length (key_step k before c pieces).given ≤ l.nonce) × (l.nonce < next_serial (key_step k before c pieces).after) }
+        → (next_serial k + length (key_step k before c pieces).given ≤ l.nonce)
+        × (l.nonce < next_serial (key_step k before c pieces).after) }
     ensures contents { (k : KeyState) (before : List Edge) (c : Change) (pieces : List Piece) (x : Content) →
         In x (key_step k before c pieces).contents
-        → (next_serial k + length (key_step k before c pieces).given + length (key_step k before c pieces).links ≤ x.nonce) × (x.nonce < next_serial (key_step k before c pieces).after) }
+        → (next_serial k + length (key_step k before c pieces).given + length (key_step k before c pieces).links ≤ x.nonce)
+        × (x.nonce < next_serial (key_step k before c pieces).after) }
 {}

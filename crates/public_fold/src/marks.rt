@@ -16,7 +16,8 @@ pub(crate) fn dirty_left(
     before: &[Edge],
     change: &Change,
 ) -> Mem<Dirty>
-    ensures { IfOk result (λ d. d ≡ without same_role change.now.gone.items (mark_all dirty.now before.now (map (λ e. e.to) change.now.removed.items))) }
+    ensures { IfOk result (λ d. d ≡ without same_role change.now.gone.items
+        (mark_all dirty.now before.now (map (λ e. e.to) change.now.removed.items))) }
 {
     let mut left = dirty.copy()?;
     mark_behind(alloc, &mut left, before, change.removed.as_slice())?;

@@ -99,11 +99,15 @@ impl PublicState {
     ) -> Result<Prepared, FoldFault>
         requires { new_epoch ≡ true → self.now.keys.epoch < 4294967295 }
         ensures note { IfOk result (λ p. p.note ≡ note.now) }
-        ensures skeleton { IfOk result (λ p. (at : Stand) → IsSeenAs self.now at → IsSkeleton (told_step (begun new_epoch at) (told_note note.now)) p.skeleton) }
+        ensures skeleton { IfOk result (λ p. (at : Stand) → IsSeenAs self.now at
+            → IsSkeleton (told_step (begun new_epoch at) (told_note note.now)) p.skeleton) }
         ensures can { IfOk result (CanSettle self.now) }
-        ensures after { IfOk result (λ p. (at : Stand) → IsSeenAs self.now at → IsSeenAs (settled self.now p) (told_stand (begun new_epoch at) (told_note note.now))) }
-        ensures fits { IfOk result (λ p. (at : Stand) → IsSeenAs self.now at → note_fits (begun new_epoch at) (told_note note.now) (told_step (begun new_epoch at) (told_note note.now)) ≡ true) }
-        ensures unfit { result ≡ Err FoldFault.Unfit → (at : Stand) → IsSeenAs self.now at → note_fits (begun new_epoch at) (told_note note.now) (told_step (begun new_epoch at) (told_note note.now)) ≡ false }
+        ensures after { IfOk result (λ p. (at : Stand) → IsSeenAs self.now at
+            → IsSeenAs (settled self.now p) (told_stand (begun new_epoch at) (told_note note.now))) }
+        ensures fits { IfOk result (λ p. (at : Stand) → IsSeenAs self.now at
+            → note_fits (begun new_epoch at) (told_note note.now) (told_step (begun new_epoch at) (told_note note.now)) ≡ true) }
+        ensures unfit { result ≡ Err FoldFault.Unfit → (at : Stand) → IsSeenAs self.now at
+            → note_fits (begun new_epoch at) (told_note note.now) (told_step (begun new_epoch at) (told_note note.now)) ≡ false }
     {
         let step = step_of(alloc, self, new_epoch, note)?;
         let root = root_for(alloc, note)?;

@@ -15,7 +15,8 @@ pub(crate) fn published(
     added: &[Edge],
     keyed: &[Role],
 ) -> Mem<List<Edge>>
-    ensures { IfOk result (λ l. l.items ≡ in_order edge_before (filter (λ e. has same_edge added.now e || has same_role keyed.now e.from || has same_role keyed.now e.to) (left.now ++ added.now))) }
+    ensures { IfOk result (λ l. l.items ≡ in_order edge_before (filter (λ e. has same_edge added.now e || has same_role keyed.now e.from
+        || has same_role keyed.now e.to) (left.now ++ added.now))) }
 {
     let mut found = Vec::new(alloc);
     push_keyed(&mut found, left, added, keyed)?;
@@ -47,7 +48,8 @@ pub(crate) fn number_of(role: Role) -> u32
 
 /// Adds those of the edges that come, or that have a keyed role at an end.
 fn push_keyed(found: &mut Vec<Edge>, edges: &[Edge], added: &[Edge], keyed: &[Role]) -> Mem<()>
-    ensures { OnOk result (found.new.items ≡ found.old.items ++ filter (λ e. has same_edge added.now e || has same_role keyed.now e.from || has same_role keyed.now e.to) edges.now) }
+    ensures { OnOk result (found.new.items ≡ found.old.items
+        ++ filter (λ e. has same_edge added.now e || has same_role keyed.now e.from || has same_role keyed.now e.to) edges.now) }
 {
     for edge in edges {
         if has_edge(added, edge) || has_role(keyed, edge.from) || has_role(keyed, edge.to) {

@@ -6,7 +6,8 @@ ghost use Rattle.public_fold.specs.Journal.{nothing};
 ghost use Rattle.public_fold.specs.Lengths.{end_of, payloads_from};
 ghost use Rattle.public_fold.specs.StandFits.{all_fit};
 ghost use Rattle.public_fold.specs.Valid.{IsValid};
-ghost use Rattle.public_fold.specs.WorkedSteps.{edges_agree, fresh, renaming, rewriting, granting, revoking, writing_again, renaming_again, moving_away, making_again, dropping, step_at, renewals_at, links_at, contents_at};
+ghost use Rattle.public_fold.specs.WorkedSteps.{edges_agree, fresh, renaming, rewriting, granting, revoking, writing_again, renaming_again};
+ghost use Rattle.public_fold.specs.WorkedSteps.{moving_away, making_again, dropping, step_at, renewals_at, links_at, contents_at};
 
 /// A fresh store has 819 bytes. Its keys, links and content are numbered in one row.
 #[tactic(auto, unfolding(crate::specs::WorkedSteps::journals))]
@@ -98,7 +99,8 @@ pub fn worked_journals_are_valid()
     ensures moved { IsValid moving_away }
     ensures made_again { IsValid making_again }
     ensures dropped { IsValid dropping }
-    ensures fit { map (all_fit nothing) (rewriting ∷ writing_again ∷ renaming_again ∷ moving_away ∷ making_again ∷ dropping ∷ []) ≡ true ∷ true ∷ true ∷ true ∷ true ∷ true ∷ [] }
+    ensures fit { map (all_fit nothing) (rewriting ∷ writing_again ∷ renaming_again ∷ moving_away ∷ making_again ∷ dropping ∷ []) ≡ true
+        ∷ true ∷ true ∷ true ∷ true ∷ true ∷ [] }
 {}
 
 /// What is put into a folder after a revocation comes under keys that are renewed for it.

@@ -31,23 +31,27 @@ pub fn root_is_made_first_and_once()
 /// and is so with all behind it; each edge has a link from and to present keys; and exactly the owner, the holders that
 /// were made and the roles of what stands have keys.
 pub fn fitting_notes_keep_the_keys()
-    ensures { (at : Stand) (note : Note) (links : List Link) → IsTrue (fits at.store note) → MayStand at.store → KeysHold at.store at.keys links
+    ensures { (at : Stand) (note : Note) (links : List Link) → IsTrue (fits at.store note) → MayStand at.store
+        → KeysHold at.store at.keys links
         → KeysHold (told_stand at note).store (told_stand at note).keys (links ++ (told_step at note).links) }
 {}
 
 /// A note that fits leaves present serials that are all different and below the next one, and no link of its step leaves a
 /// key whose role is dirty after it.
 pub fn fitting_notes_keep_the_serials()
-    ensures serials { (at : Stand) (note : Note) (links : List Link) → IsTrue (fits at.store note) → MayStand at.store → KeysHold at.store at.keys links
+    ensures serials { (at : Stand) (note : Note) (links : List Link) → IsTrue (fits at.store note) → MayStand at.store
+        → KeysHold at.store at.keys links
         → SerialsHold at.keys → SerialsHold (told_stand at note).keys }
-    ensures clean { (at : Stand) (note : Note) (links : List Link) → IsTrue (fits at.store note) → MayStand at.store → KeysHold at.store at.keys links
+    ensures clean { (at : Stand) (note : Note) (links : List Link) → IsTrue (fits at.store note) → MayStand at.store
+        → KeysHold at.store at.keys links
         → LeavesClean (told_step at note) }
 {}
 
 /// Where each folder, file and holder that stands has a content among those published, each has one after a note that fits,
 /// with the contents of its step.
 pub fn texts_stay_written()
-    ensures { (at : Stand) (note : Note) (contents : List Content) → IsTrue (fits at.store note) → MayStand at.store → AreWritten at.store contents
+    ensures { (at : Stand) (note : Note) (contents : List Content) → IsTrue (fits at.store note) → MayStand at.store
+        → AreWritten at.store contents
         → AreWritten (told_stand at note).store (contents ++ (told_step at note).contents) }
 {}
 

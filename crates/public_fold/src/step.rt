@@ -64,9 +64,12 @@ pub(crate) fn step_of(
     note: &Note,
 ) -> Result<Step, FoldFault>
     requires { new_epoch ≡ true → state.now.keys.epoch < 4294967295 }
-    ensures fits { IfOk result (λ s. note_fits (stand_of (begun_view new_epoch state.now)) (told_note note.now) (told_step (stand_of (begun_view new_epoch state.now)) (told_note note.now)) ≡ true) }
+    ensures fits { IfOk result (λ s. note_fits (stand_of (begun_view new_epoch state.now)) (told_note note.now)
+        (told_step (stand_of (begun_view new_epoch state.now)) (told_note note.now)) ≡ true) }
     ensures step { IfOk result (IsStep state.now.keys.keys (told_step (stand_of (begun_view new_epoch state.now)) (told_note note.now))) }
-    ensures unfit { result ≡ Err FoldFault.Unfit → note_fits (stand_of (begun_view new_epoch state.now)) (told_note note.now) (told_step (stand_of (begun_view new_epoch state.now)) (told_note note.now)) ≡ false }
+    ensures unfit { result ≡ Err FoldFault.Unfit
+        → note_fits (stand_of (begun_view new_epoch state.now)) (told_note note.now)
+        (told_step (stand_of (begun_view new_epoch state.now)) (told_note note.now)) ≡ false }
 {
     let from = state.counts_from(new_epoch);
     if from.epoch == 0 {

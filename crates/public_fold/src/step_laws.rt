@@ -29,10 +29,13 @@ pub fn sealing_keys_are_renewed_where_wanted()
 /// nothing else. It publishes that key's two links within the folder's own and the owner's, and one for each grant that
 /// is left on the folder.
 pub fn revocations_publish_a_link_for_each_grant_left()
-    ensures links { (at : Stand) (h f : ℕ) → ((r : Role) → In r at.keys.dirty → is_root_role r ≡ false) → length (filter (λ e. e.id == f) at.store.folders) ≡ 1
+    ensures links { (at : Stand) (h f : ℕ) → ((r : Role) → In r at.keys.dirty → is_root_role r ≡ false)
+        → length (filter (λ e. e.id == f) at.store.folders) ≡ 1
         → length (told_step at (Take h f)).links ≡ 2 + length (filter (λ g. g.folder == f) (told_store at.store (Take h f)).grants) }
-    ensures given { (at : Stand) (h f : ℕ) → ((r : Role) → In r at.keys.dirty → is_root_role r ≡ false) → length (filter (λ e. e.id == f) at.store.folders) ≡ 1
+    ensures given { (at : Stand) (h f : ℕ) → ((r : Role) → In r at.keys.dirty → is_root_role r ≡ false)
+        → length (filter (λ e. e.id == f) at.store.folders) ≡ 1
         → (told_step at (Take h f)).given ≡ (clear_of f, next_serial at.keys) ∷ [] }
-    ensures contents { (at : Stand) (h f : ℕ) → ((r : Role) → In r at.keys.dirty → is_root_role r ≡ false) → length (filter (λ e. e.id == f) at.store.folders) ≡ 1
+    ensures contents { (at : Stand) (h f : ℕ) → ((r : Role) → In r at.keys.dirty → is_root_role r ≡ false)
+        → length (filter (λ e. e.id == f) at.store.folders) ≡ 1
         → (told_step at (Take h f)).contents ≡ [] }
 {}

@@ -27,8 +27,10 @@ pub fn depths_are_limited()
 
 /// In the store of a valid journal each way up goes from parent to parent and ends at the root, so none has a cycle.
 pub fn ways_end_at_the_root()
-    ensures folders { (m : Journal) → IsValid m → (e : FolderEntry) → In e (store_of m).folders → LeadsUp (way_to_root (store_of m) e.id) e.id }
-    ensures files { (m : Journal) → IsValid m → (x : FileEntry) → In x (store_of m).files → LeadsUp (way_to_root (store_of m) x.folder) x.folder }
+    ensures folders { (m : Journal) → IsValid m → (e : FolderEntry) → In e (store_of m).folders
+        → LeadsUp (way_to_root (store_of m) e.id) e.id }
+    ensures files { (m : Journal) → IsValid m → (x : FileEntry) → In x (store_of m).files
+        → LeadsUp (way_to_root (store_of m) x.folder) x.folder }
 {}
 
 /// In the store of a valid journal the names in one folder differ, over folders and files together, so two nodes with one
@@ -52,5 +54,6 @@ pub fn accepted_notes_fit()
 /// journal.
 pub fn steps_leave_the_edges()
     ensures { (m : Journal) → IsValid m → (r : Request) (key check : List ℕ) (file_bytes : ℕ) → refusal_of (store_of m) r file_bytes ≡ None
-        → (e : Edge) → In e (edges_then (edges (store_of m)) (change_of (store_of m) (note_of (store_of m) r check))) ↔ In e (edges (effect (store_of m) r key)) }
+        → (e : Edge) → In e (edges_then (edges (store_of m)) (change_of (store_of m) (note_of (store_of m) r check)))
+        ↔ In e (edges (effect (store_of m) r key)) }
 {}

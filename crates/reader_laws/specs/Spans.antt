@@ -1,6 +1,7 @@
 -- What the log of a store's bytes answers, said of where its batches stand and of the tests in their order, without a walk. This
 -- project's own, docs/FORMAT.md, "The file", "Reading" and "Opening for writing".
-use Rattle.std.specs.Prelude.{◌≡◌, ◌≢◌, ◌≤◌, ℕ, zero, suc, ◌+◌, true, List, [], ◌∷◌, ◌++◌, length, take, drop, codes, slice_get, slice_index, slice_range, Option, None, Some, Result, Ok, Err}
+use Rattle.std.specs.Prelude.{◌≡◌, ◌≢◌, ◌≤◌, ℕ, zero, suc, ◌+◌, true, List, [], ◌∷◌, ◌++◌, length, take, drop, codes, slice_get}
+use Rattle.std.specs.Prelude.{slice_index, slice_range, Option, None, Some, Result, Ok, Err}
 use Rattle.hmac_seal.specs.Hmac.{hmac}
 use Rattle.chacha_seal.specs.Sealing.{check_of, masked, veil_of}
 use Rattle.cry_base.specs.declared.ids.Epoch.{Epoch}
@@ -92,7 +93,8 @@ EndsWithin (OwnerWrites owner limit) s = s.start + (110 + s.size) ≤ limit
 -- a batch stands there
 abbrev pub IsBatch : LogReader → List ℕ → Option Span → Span → Type 0
 IsBatch who bytes before s = let k = behind bytes before in
-    (is_batch (record { at = k.at; number = k.number; epoch = k.epoch; tag = k.tag; gate = k.gate }) (head_of (take 13 (drop s.start bytes)))
+    (is_batch (record { at = k.at; number = k.number; epoch = k.epoch; tag = k.tag; gate = k.gate })
+    (head_of (take 13 (drop s.start bytes)))
     (length (drop s.start bytes)) ≡ true)
     × EndsWithin who s
 

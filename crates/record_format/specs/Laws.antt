@@ -16,4 +16,5 @@ HasItsSize = (p : PlainPayload) → IsSpellable p → length (spell_payload p) �
 
 -- no spelling is a proper prefix of another: one that begins with another is the same
 abbrev pub IsPrefixFree : Type 0
-IsPrefixFree = (p q : PlainPayload) (more : List ℕ) → IsSpellable p → IsSpellable q → spell_payload q ≡ spell_payload p ++ more → (q ≡ p) × (more ≡ [])
+IsPrefixFree = (p q : PlainPayload) (more : List ℕ) → IsSpellable p → IsSpellable q → spell_payload q ≡ spell_payload p ++ more → (q ≡ p)
+    × (more ≡ [])

@@ -8,7 +8,8 @@ use Rattle.record_format.specs.declared.fault.Stop.{Stop}
 use Rattle.record_format.specs.declared.fault.Stop.TheVariants as stops
 use Rattle.record_format.specs.declared.link.LinkRecord.{LinkRecord}
 use Rattle.record_format.specs.declared.note.Note.{Note}
-use Rattle.record_format.specs.declared.note.Note.TheVariants.{Root, NewHolder, NewFolder, NewFile, Rewrite, NameFile, NameFolder, DropFile, DropFolder, ShiftFile, ShiftFolder, Give, Take}
+use Rattle.record_format.specs.declared.note.Note.TheVariants.{Root, NewHolder, NewFolder, NewFile, Rewrite, NameFile, NameFolder, DropFile}
+use Rattle.record_format.specs.declared.note.Note.TheVariants.{DropFolder, ShiftFile, ShiftFolder, Give, Take}
 use Rattle.record_format.specs.declared.payload.Payload.{Payload}
 use Rattle.record_format.specs.Fields.{Read, ◌>>=◌, byte_between, bytes_at, number_at, number_between, repeat_at}
 use Rattle.record_format.specs.Plain.{PlainContent, PlainPayload, plain_payload}

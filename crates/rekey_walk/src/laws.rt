@@ -8,7 +8,8 @@ ghost use Rattle.rekey_walk.specs.Dirty.{mark, mark_all, plan};
 
 /// What is dirty after a mark was so before, or has a path of edges from the target.
 pub fn marks_are_by_paths()
-    ensures one { (dirty : List Role) (es : List Edge) (target r : Role) → In r (mark dirty es target) ↔ (In r dirty ⊎ Reaches es target r) }
+    ensures one { (dirty : List Role) (es : List Edge) (target r : Role) → In r (mark dirty es target)
+        ↔ (In r dirty ⊎ Reaches es target r) }
     ensures each { (dirty : List Role) (es : List Edge) (targets : List Role) (r : Role) →
         In r (mark_all dirty es targets) ↔ (In r dirty ⊎ ((t : Role) × In t targets × Reaches es t r)) }
 {}

@@ -46,7 +46,8 @@ is_into_file s x a b = joins_file x a b (folder_id_of (file_entry s x))
 
 -- whether one of the folders, grants and files with the numbers m and n of its ends has the edge
 unfoldable pub is_found : Store → List GrantEntry → ℕ → ℕ → Role → Role → Bool
-is_found s pairs m n a b = is_within s n a b || (is_between s n a b || (is_between s m a b || (is_granted pairs m n a b || is_into_file s n a b)))
+is_found s pairs m n a b = is_within s n a b
+    || (is_between s n a b || (is_between s m a b || (is_granted pairs m n a b || is_into_file s n a b)))
 
 -- how many folders are on the way from the folder up to the root, both included
 unfoldable pub levels : Store → ℕ → ℕ

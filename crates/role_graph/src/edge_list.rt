@@ -2,7 +2,8 @@
 ghost use Rattle.std.specs.Prelude.{◌≡◌, ◌==◌, ◌++◌, ◌∷◌, [], cond, map, IfOk, OnOk};
 ghost use Rattle.std.specs.List.{flat_map};
 ghost use Rattle.role_graph.specs.Edges as spec;
-ghost use Rattle.role_graph.specs.Edges.{edges as edges_of, edge_before, in_order, unordered, folder_edges, parent_edges, grant_edge, file_edge};
+ghost use Rattle.role_graph.specs.Edges.{edges as edges_of, edge_before, in_order, unordered, folder_edges, parent_edges, grant_edge};
+ghost use Rattle.role_graph.specs.Edges.{file_edge};
 ghost use Rattle.role_graph.specs.PublicStore.{public_store};
 ghost use Rattle.role_graph.specs.Roles.{role_id};
 
@@ -45,7 +46,8 @@ fn push_within(all: &mut Vec<Edge>, folders: &[FolderRow]) -> Mem<()>
 
 /// Adds the edges of each folder and its parent.
 fn push_between(all: &mut Vec<Edge>, folders: &[FolderRow]) -> Mem<()>
-    ensures { OnOk result (all.new.items ≡ all.old.items ++ flat_map (λ r. cond (r.parent == 0) [] (parent_edges r.id.0 r.parent)) folders.now) }
+    ensures { OnOk result (all.new.items ≡ all.old.items
+        ++ flat_map (λ r. cond (r.parent == 0) [] (parent_edges r.id.0 r.parent)) folders.now) }
 {
     for folder in folders {
         push_to_parent(all, folder)?;
@@ -55,7 +57,8 @@ fn push_between(all: &mut Vec<Edge>, folders: &[FolderRow]) -> Mem<()>
 
 /// Adds the edges of the folder and its parent, where it has one.
 fn push_to_parent(all: &mut Vec<Edge>, folder: &FolderRow) -> Mem<()>
-    ensures { OnOk result (all.new.items ≡ all.old.items ++ cond (folder.now.parent == 0) [] (parent_edges folder.now.id.0 folder.now.parent)) }
+    ensures { OnOk result (all.new.items ≡ all.old.items
+        ++ cond (folder.now.parent == 0) [] (parent_edges folder.now.id.0 folder.now.parent)) }
 {
     if folder.parent != 0 {
         all.extend_from_slice(&between(folder.id, FolderId(folder.parent)))?;

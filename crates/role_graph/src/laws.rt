@@ -39,7 +39,8 @@ pub fn edges_are_typed()
 /// Each role of a folder and of a file in a folder is reached from the owner's key.
 pub fn owner_reaches_all()
     ensures folders { (s : Store) (f : FolderEntry) (r : Role) → In f s.folders → In r (folder_roles f.id) → Reaches (edges s) Owner r }
-    ensures files { (s : Store) (f : FolderEntry) (x : FileEntry) → In f s.folders → In x s.files → x.folder ≡ f.id → Reaches (edges s) Owner (file_role x.id) }
+    ensures files { (s : Store) (f : FolderEntry) (x : FileEntry) → In f s.folders → In x s.files → x.folder ≡ f.id
+        → Reaches (edges s) Owner (file_role x.id) }
 {}
 
 /// The owner is shown everything that stands.

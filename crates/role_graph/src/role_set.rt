@@ -112,8 +112,10 @@ impl RoleSet {
 fn find(roles: &[Role], role: Role) -> Result<usize, usize>
     requires { IsAscending roles.now }
     ensures present { is_ok result ≡ has same_role roles.now role }
-    ensures found { IfOk result (λ i. (i < length roles.now) × (remove roles.now i ≡ without_role role roles.now) × (with_role role roles.now ≡ roles.now)) }
-    ensures absent { IfErr result (λ i. (i ≤ length roles.now) × (insert roles.now i role ≡ with_role role roles.now) × (without_role role roles.now ≡ roles.now)) }
+    ensures found { IfOk result (λ i. (i < length roles.now) × (remove roles.now i ≡ without_role role roles.now)
+        × (with_role role roles.now ≡ roles.now)) }
+    ensures absent { IfErr result (λ i. (i ≤ length roles.now) × (insert roles.now i role ≡ with_role role roles.now)
+        × (without_role role roles.now ≡ roles.now)) }
 {
     let place = roles.partition_point(|other| is_before(*other, role));
     if place < roles.len() && is_same(roles[place], role) {

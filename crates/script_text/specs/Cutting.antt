@@ -1,5 +1,6 @@
 -- Bytes that come in pieces, and the lines in them. This project's own, docs/FORMAT.md, "Lines".
-use Rattle.std.specs.Prelude.{◌≡◌, ◌≢◌, ◌+◌, ◌==◌, nat_lt, ℕ, Bool, true, false, List, [], ◌∷◌, ◌++◌, length, take, All, Option, Some, None, if◌then◌else◌}
+use Rattle.std.specs.Prelude.{◌≡◌, ◌≢◌, ◌+◌, ◌==◌, nat_lt, ℕ, Bool, true, false, List, [], ◌∷◌, ◌++◌, length, take, All, Option, Some, None}
+use Rattle.std.specs.Prelude.{if◌then◌else◌}
 use Rattle.std.specs.List.{count_by}
 use Rattle.cry_base.specs.Listed.{Listed}
 
@@ -40,5 +41,6 @@ TakesLine old new None = IsOneLine old.held × (new ≡ old)
 -- what stands behind the last whole line is taken; nothing only where that is empty
 abbrev pub TakesRest : CutterState → CutterState → Option (Listed ℕ) → Type 0
 TakesRest old new (Some rest) =
-    IsOneLine rest.items × (rest.items ≢ []) × EndsLine new.held × (old.held ≡ new.held ++ rest.items) × (new ≡ record old { held = new.held })
+    IsOneLine rest.items × (rest.items ≢ []) × EndsLine new.held × (old.held ≡ new.held ++ rest.items)
+    × (new ≡ record old { held = new.held })
 TakesRest old new None = EndsLine old.held × (new ≡ old)

@@ -1,5 +1,6 @@
 -- Lines that are read. This project's own, docs/FORMAT.md, "Lines".
-use Rattle.std.specs.Prelude.{◌≡◌, ℕ, ◌+◌, ◌<◌, ◌≤◌, ◌^◌, ◌==◌, ◌&&◌, nat_le, nat_lt, nat_eq, List, ◌∷◌, ◌++◌, length, take, drop, Option, Some, None, Ok, if◌then◌else◌, codes, decimal, position, option_map, option_and_then}
+use Rattle.std.specs.Prelude.{◌≡◌, ℕ, ◌+◌, ◌<◌, ◌≤◌, ◌^◌, ◌==◌, ◌&&◌, nat_le, nat_lt, nat_eq, List, ◌∷◌, ◌++◌, length, take, drop, Option}
+use Rattle.std.specs.Prelude.{Some, None, Ok, if◌then◌else◌, codes, decimal, position, option_map, option_and_then}
 use Rattle.std.specs.Cmp.Lexicographic.{pointwise}
 use Rattle.std.specs.Result.{result_ok}
 use Rattle.std.specs.Str.Parse.{digits_value}
@@ -54,7 +55,8 @@ behind word line = if pointwise nat_eq (take (length word) line) word then Some 
 unfoldable pub holder_of : List ℕ → Option Bundle
 holder_of fields =
     option_and_then (λ space.
-    option_and_then (λ holder. option_map (Holder (record { 0 = holder })) (key_of (drop (space + 1) fields))) (number_of (take space fields)))
+    option_and_then (λ holder. option_map (Holder (record { 0 = holder })) (key_of (drop (space + 1) fields)))
+    (number_of (take space fields)))
     (position (λ byte. byte == 32) fields)
 
 -- the bundle of what stands behind `owner `, or else of what stands behind `holder `

@@ -4,7 +4,8 @@ ghost use Rattle.std.specs.List.{AllPass, list_all};
 ghost use Rattle.hex.specs.Hex.{is_hex_digit};
 ghost use Rattle.cry_base.specs.Requests.{Request, request_of};
 ghost use Rattle.cry_base.specs.Requests.Request.{AddHolder, MakeFolder, Remove, Rename, Relocate, Grant, Revoke};
-ghost use Rattle.script_text.specs.Commands.{IsCommandLine, Reads, bytes_of, field_of, field_request, file_request, grant_request, is_field, is_field_byte, request_in, two_field_request, write_request};
+ghost use Rattle.script_text.specs.Commands.{IsCommandLine, Reads, bytes_of, field_of, field_request, file_request, grant_request};
+ghost use Rattle.script_text.specs.Commands.{is_field, is_field_byte, request_in, two_field_request, write_request};
 
 use crate::LineFault;
 use crate::reading::{first_space, number_in};
@@ -96,8 +97,10 @@ fn field_in(field: &[u8]) -> Result<&[u8], LineFault>
 /// The fields before and behind the first space.
 #[tactic(auto, unfolding(crate::specs::Commands::two_field_request))]
 fn two_fields_in(fields: &[u8]) -> Result<(&[u8], &[u8]), LineFault>
-    ensures found { IfOk result (λ two. (ask : List ℕ → List ℕ → Request) → two_field_request ask fields.now ≡ Some (ask two.0.now two.1.now)) }
-    ensures bad_line { IfErr result (λ fault. (fault ≡ LineFault.BadLine) × ((ask : List ℕ → List ℕ → Request) → two_field_request ask fields.now ≡ None)) }
+    ensures found { IfOk result (λ two. (ask : List ℕ → List ℕ → Request)
+        → two_field_request ask fields.now ≡ Some (ask two.0.now two.1.now)) }
+    ensures bad_line { IfErr result (λ fault. (fault ≡ LineFault.BadLine)
+        × ((ask : List ℕ → List ℕ → Request) → two_field_request ask fields.now ≡ None)) }
 {
     let Some(space) = first_space(fields) else {
         return Err(LineFault::BadLine);
@@ -111,7 +114,8 @@ fn two_fields_in(fields: &[u8]) -> Result<(&[u8], &[u8]), LineFault>
 #[tactic(auto, unfolding(crate::specs::Commands::grant_request))]
 fn holder_and_field_in(fields: &[u8]) -> Result<(HolderId, &[u8]), LineFault>
     ensures found { IfOk result (λ two. (ask : ℕ → List ℕ → Request) → grant_request ask fields.now ≡ Some (ask two.0.0 two.1.now)) }
-    ensures bad_line { IfErr result (λ fault. (fault ≡ LineFault.BadLine) × ((ask : ℕ → List ℕ → Request) → grant_request ask fields.now ≡ None)) }
+    ensures bad_line { IfErr result (λ fault. (fault ≡ LineFault.BadLine)
+        × ((ask : ℕ → List ℕ → Request) → grant_request ask fields.now ≡ None)) }
 {
     let Some(space) = first_space(fields) else {
         return Err(LineFault::BadLine);

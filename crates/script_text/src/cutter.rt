@@ -27,7 +27,12 @@ impl Model for Cutter {
 
     ghost Value = { CutterState };
 
-    ghost view = { λ c. record { fed = c.gauge.fed; held = with_newline c.has_whole (drop c.at c.whole.items) ++ c.rest.items; limit = c.gauge.limit } };
+    ghost view = { λ c. record {
+      fed = c.gauge.fed;
+      held = with_newline c.has_whole (drop c.at c.whole.items)
+          ++ c.rest.items;
+      limit = c.gauge.limit;
+    } };
 
     ghost invariant = { λ c. (c.at ≤ length c.whole.items) × IsOneLine c.rest.items };
 }
@@ -49,7 +54,12 @@ impl Cutter {
 
     /// Takes a piece more. At `Err` all is as it was.
     pub fn feed(&mut self, alloc: Global, piece: &[u8]) -> Mem<()>
-        ensures fed { OnOk result (self.new ≡ record { fed = self.old.fed ++ piece.now; held = self.old.held ++ piece.now; limit = self.old.limit }) }
+        ensures fed { OnOk result (self.new ≡ record {
+          fed = self.old.fed ++ piece.now;
+          held = self.old.held
+              ++ piece.now;
+          limit = self.old.limit;
+        }) }
         ensures err { OnErr result (self.new ≡ self.old) }
     {
         match last_newline(piece) {

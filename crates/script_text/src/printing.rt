@@ -60,7 +60,8 @@ fn print_path(word: &[u8], path: &[u8], out: &mut Text) -> Mem<()>
 fn print_file(path: &[u8], bytes: &[u8], out: &mut Text) -> Mem<()>
     ensures line { OnOk result (out.new.items ≡ out.old.items ++ file_line path.now bytes.now) }
     ensures err { OnErr result (out.new.items ≡ out.old.items) }
-    ensures has_room { length (file_line path.now bytes.now) < 2 ^ 64 → length (file_line path.now bytes.now) ≤ out.old.spare → IsOk result }
+    ensures has_room { length (file_line path.now bytes.now) < 2 ^ 64 → length (file_line path.now bytes.now) ≤ out.old.spare
+        → IsOk result }
 {
     let len = file_line_len(path, bytes).ok_or(OutOfMemory)?;
     out.reserve(len)?;

@@ -57,7 +57,8 @@ pub fn unseen_contents_are_told()
 /// In a valid journal whoever has the key of a role derives the present key of a clean role only where edges lead to it; so a holder
 /// derives it only by a right that the role stands for. By `rights_derive_keys` of `closure_laws` a right is enough.
 pub fn clean_keys_are_derived_by_rights_alone()
-    ensures edges { (m : Journal) → IsValid m → (a r : Role) (j k : ℕ) → newest (keys_of m).keys a ≡ Some j → newest (keys_of m).keys r ≡ Some k
+    ensures edges { (m : Journal) → IsValid m → (a r : Role) (j k : ℕ) → newest (keys_of m).keys a ≡ Some j
+        → newest (keys_of m).keys r ≡ Some k
         → (In r (keys_of m).dirty → ⊥) → Derives (history m) j k → Reaches (edges (store_of m)) a r }
     ensures rights { (m : Journal) → IsValid m → (h : ℕ) (r : Role) (j k : ℕ) → IsStandingRole (store_of m) r
         → own_serial m (TheHolder h) ≡ Some j → newest (keys_of m).keys r ≡ Some k

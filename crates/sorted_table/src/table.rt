@@ -1,5 +1,6 @@
 //! Rows in ascending order of their ranks.
-ghost use Rattle.std.specs.Prelude.{◌≡◌, ◌+◌, ◌≤◌, ◌&&◌, [], length, nat_le, filter, IsOk, IsSome, OnOk, IfOk, IfErr, IsTrue, MatchOption, ◌↔◌, None};
+ghost use Rattle.std.specs.Prelude.{◌≡◌, ◌+◌, ◌≤◌, ◌&&◌, [], length, nat_le, filter, IsOk, IsSome, OnOk, IfOk, IfErr, IsTrue, MatchOption};
+ghost use Rattle.std.specs.Prelude.{◌↔◌, None};
 ghost use Rattle.std.specs.Fn.{CalledAt};
 ghost use Rattle.std.specs.List.Retain.{IsFiltered};
 ghost use Rattle.std.specs.Option.{option_copied};
@@ -64,7 +65,8 @@ impl<T: Ranked> Table<T> {
 
     /// The rows with ranks from that of the first key up to that of the last one, in ascending order.
     pub fn rows_between<K: Key<T>>(&self, first: &K, last: &K) -> &[T]
-        ensures rows { result.now ≡ filter (λ r. nat_le (K.sought first.now) (T.rank r) && nat_le (T.rank r) (K.sought last.now)) self.now.rows }
+        ensures rows { result.now ≡ filter (λ r. nat_le (K.sought first.now) (T.rank r)
+            && nat_le (T.rank r) (K.sought last.now)) self.now.rows }
         ensures rising { IsRising T.rank result.now }
     {
         rows_to(rows_from(&self.rows, first), last)

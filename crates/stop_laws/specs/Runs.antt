@@ -1,9 +1,9 @@
 -- Runs of the program over one store, one after another, with stops in and between them. This project's own, docs/MODEL.md.
 --
--- A run is told by what `top` promises of it (its clauses `ran`, `run_later`). It is over a disk as the run before left it, or as a stop left
--- it. A stop comes behind a run, or at any moment in one. It leaves bytes that the disk might leave then; the disk shows these, and nothing is
--- pending. A command was acknowledged where its whole reply line was taken. A run that met a stop at a moment in it is told like one that met a
--- fault of the disk then: the clause of its exit says what it had acknowledged.
+-- A run is told by what `top` promises of it (its clauses `ran`, `run_later`). It is over a disk as the run before left it, or as a stop
+-- left it. A stop comes behind a run, or at any moment in one. It leaves bytes that the disk might leave then; the disk shows these, and
+-- nothing is pending. A command was acknowledged where its whole reply line was taken. A run that met a stop at a moment in it is told like
+-- one that met a fault of the disk then: the clause of its exit says what it had acknowledged.
 use Rattle.std.specs.Prelude.{◌≡◌, ◌≤◌, ◌⊎◌, ℕ, List, Option, Some}
 use Rattle.commit_journal.specs.Holding.{IsPrefix}
 use Rattle.cry_base.specs.Requests.{Request}
@@ -17,7 +17,8 @@ use Rattle.journal_bytes.specs.Journals.{ShowsJournal}
 use Rattle.public_fold.specs.Journal.{Journal}
 
 -- a run over a disk, from what it was before to what it was after, whose first line hands in this owner's key
-pub record RunOver {D : Type 0} (shown : D → Option (List ℕ)) (may_leave : D → List ℕ → Type 0) (moment : D → ℕ) (since : D → ℕ → List ℕ → List ℕ → Type 0)
+pub record RunOver {D : Type 0} (shown : D → Option (List ℕ)) (may_leave : D → List ℕ → Type 0) (moment : D → ℕ) (since : D → ℕ → List ℕ
+    → List ℕ → Type 0)
     (key : List ℕ) (before after : D) : Type 0 where
   pub status : Status
   pub typed : List ℕ
@@ -35,18 +36,21 @@ abbrev pub IsLeft : {D : Type 0} → (D → Option (List ℕ)) → (D → List �
 IsLeft shown may_leave bytes disk = (shown disk ≡ Some bytes) × IsDurable (may_leave disk) (shown disk)
 
 -- from a first disk to one behind some runs and stops
-pub data Runs {D : Type 0} (shown : D → Option (List ℕ)) (may_leave : D → List ℕ → Type 0) (moment : D → ℕ) (since : D → ℕ → List ℕ → List ℕ → Type 0)
+pub data Runs {D : Type 0} (shown : D → Option (List ℕ)) (may_leave : D → List ℕ → Type 0) (moment : D → ℕ) (since : D → ℕ → List ℕ
+    → List ℕ → Type 0)
     (key : List ℕ) (start : D) : D → Type 0 where
   Begun : Runs shown may_leave moment since key start start
   Ran : {before after : D} → Runs shown may_leave moment since key start before → RunOver shown may_leave moment since key before after
       → Runs shown may_leave moment since key start after
-  StopsBehind : {before after : D} {bytes : List ℕ} → Runs shown may_leave moment since key start before → may_leave before bytes → IsLeft shown may_leave bytes after
+  StopsBehind : {before after : D} {bytes : List ℕ} → Runs shown may_leave moment since key start before → may_leave before bytes
+      → IsLeft shown may_leave bytes after
       → Runs shown may_leave moment since key start after
-  StopsIn : {before after next : D} {there bytes : List ℕ} → Runs shown may_leave moment since key start before → RunOver shown may_leave moment since key before after
+  StopsIn : {before after next : D} {there bytes : List ℕ} → Runs shown may_leave moment since key start before
+      → RunOver shown may_leave moment since key before after
       → since after (moment before) there bytes → IsLeft shown may_leave bytes next → Runs shown may_leave moment since key start next
 
--- The lines that were asked over m, and the replies to them: all that was printed is these, but for some of the last; and the journal begins
--- with all that these lines made of m.
+-- The lines that were asked over m, and the replies to them: all that was printed is these, but for some of the last; and the journal
+-- begins with all that these lines made of m.
 pub record Answered (m : Journal) (lines : List InputLine) (written_before written_after : Option (List ℕ)) (j : Journal) : Type 0 where
   pub asked : List Request
   pub rest : List InputLine
@@ -58,13 +62,18 @@ pub record Answered (m : Journal) (lines : List InputLine) (written_before writt
 -- a run that printed this acknowledged no command; or the journal has each that it acknowledged
 abbrev pub HoldsRun : List ℕ → Option (List ℕ) → List ℕ → Option (List ℕ) → Option (List ℕ) → Journal → Type 0
 HoldsRun key was typed written_before written_after j =
-    (written_after ≡ written_before) ⊎ ((m : Journal) × ShowsJournal key m was × Answered m (lines_behind (lines_in typed)) written_before written_after j)
+    (written_after ≡ written_before) ⊎ ((m : Journal) × ShowsJournal key m was
+    × Answered m (lines_behind (lines_in typed)) written_before written_after j)
 
 -- and so for all the runs that came to their end
-abbrev pub HoldsAll : {D : Type 0} (shown : D → Option (List ℕ)) (may_leave : D → List ℕ → Type 0) (moment : D → ℕ) (since : D → ℕ → List ℕ → List ℕ → Type 0)
+abbrev pub HoldsAll : {D : Type 0} (shown : D → Option (List ℕ)) (may_leave : D → List ℕ → Type 0) (moment : D → ℕ) (since : D → ℕ → List ℕ
+    → List ℕ → Type 0)
     (key : List ℕ) (start now : D) → Runs shown may_leave moment since key start now → Journal → Type 0
 HoldsAll shown may_leave moment since key start now Begun j = Unit {0}
 HoldsAll shown may_leave moment since key start now (Ran {before = before} {after = after} runs run) j =
-    HoldsAll shown may_leave moment since key start before runs j × HoldsRun key (shown before) run.typed run.written_before run.written_after j
-HoldsAll shown may_leave moment since key start now (StopsBehind {before = before} runs left is) j = HoldsAll shown may_leave moment since key start before runs j
-HoldsAll shown may_leave moment since key start now (StopsIn {before = before} runs run left is) j = HoldsAll shown may_leave moment since key start before runs j
+    HoldsAll shown may_leave moment since key start before runs j
+    × HoldsRun key (shown before) run.typed run.written_before run.written_after j
+HoldsAll shown may_leave moment since key start now (StopsBehind {before = before} runs left is) j = HoldsAll shown may_leave moment since
+    key start before runs j
+HoldsAll shown may_leave moment since key start now (StopsIn {before = before} runs run left is) j = HoldsAll shown may_leave moment since
+    key start before runs j

@@ -1,6 +1,7 @@
 -- The script of a generated store: what its lines ask for, by a rule from a number. This project's own, docs/FORMAT.md,
 -- "Generated scripts".
-use Rattle.std.specs.Prelude.{◌≡◌, ℕ, zero, suc, ◌+◌, ◌*◌, ◌/◌, ◌%◌, ◌^◌, ◌<◌, Bool, true, false, nat_lt, ◌==◌, List, [], ◌∷◌, ◌++◌, length, map, replicate, slice_index_or, slice_set, if◌then◌else◌}
+use Rattle.std.specs.Prelude.{◌≡◌, ℕ, zero, suc, ◌+◌, ◌*◌, ◌/◌, ◌%◌, ◌^◌, ◌<◌, Bool, true, false, nat_lt, ◌==◌, List, [], ◌∷◌, ◌++◌, length}
+use Rattle.std.specs.Prelude.{map, replicate, slice_index_or, slice_set, if◌then◌else◌}
 use Rattle.cry_base.specs.Requests.{Request}
 use Rattle.cry_base.specs.Requests.Request.{AddHolder, MakeFolder, WriteFile, Relocate, Grant, Revoke}
 use Rattle.cry_base.specs.Texts.{ended_lines}

@@ -1,6 +1,7 @@
 //! The rule by which lines are drawn.
 ghost use Rattle.std.specs.Prelude.{◌≡◌, ◌<◌};
-ghost use Rattle.store_gen.specs.Rule.{IsReady, IsSmall, advanced, change_of, changed, drawn, first, grant_change, grant_place, has_granted, home_of, move_change, with_grant, with_home};
+ghost use Rattle.store_gen.specs.Rule.{IsReady, IsSmall, advanced, change_of, changed, drawn, first, grant_change, grant_place};
+ghost use Rattle.store_gen.specs.Rule.{has_granted, home_of, move_change, with_grant, with_home};
 
 use crate::change::Change;
 

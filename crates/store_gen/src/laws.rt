@@ -18,7 +18,8 @@ pub fn scripts_are_accepted()
 /// Law: after a script's lines, whatever keys are drawn, the eight folders stand below the root, the four holders were
 /// made, each file `t` is in the folder and each grant stands as the rule has it, and all other files were written.
 pub fn scripts_leave_what_the_rule_has()
-    ensures { (seed count : ℕ) (after : Store) → LeadsTo root_store (requests seed count) after → Stands (drawn_after count (first seed)) after }
+    ensures { (seed count : ℕ) (after : Store) → LeadsTo root_store (requests seed count) after
+        → Stands (drawn_after count (first seed)) after }
 {}
 
 /// Law: each line of a script is a command's line, holds no newline, and is read as what it asks for. A script has as

@@ -1,6 +1,7 @@
 -- What a command leaves of an owner and of the disk, and what is answered. This project's own, docs/FORMAT.md, "The key step"
 -- and "Committing".
-use Rattle.std.specs.Prelude.{◌≡◌, ◌⊎◌, ◌<◌, ◌≤◌, ℕ, ◌*◌, true, false, not, cond, List, [], ◌++◌, drop, length, replicate, Option, Some, None, Result, Ok, Err, IsTrue, All, is_some}
+use Rattle.std.specs.Prelude.{◌≡◌, ◌⊎◌, ◌<◌, ◌≤◌, ℕ, ◌*◌, true, false, not, cond, List, [], ◌++◌, drop, length, replicate, Option, Some}
+use Rattle.std.specs.Prelude.{None, Result, Ok, Err, IsTrue, All, is_some}
 use Rattle.std.specs.List.{flat_map}
 use Rattle.chacha_seal.specs.Keys.{KeyParts}
 use Rattle.chacha_seal.specs.Sealing.{check_of}
@@ -71,11 +72,13 @@ pub record IsSealed (r : Request) (drawn : List (List ℕ)) (old : OwnerView) (w
   pub is_skeleton : (at : Stand) (s : Store) → IsSeenAs old.state at → IsStoreOf old.state.tree old.names (granted_in old) s
       → IsSkeleton (told_step (begun (not old.journal.has_epoch) at) (note_of s r (replicate 32 0))) skeleton
   pub has_room : ready ≡ record old.journal { room = ready.room }
-  pub begins : cond old.journal.has_epoch ((between ≡ ready) × (showed ≡ was)) (Joins (next_epoch ready) ready between was showed × (between.owner ≡ ready.owner))
+  pub begins : cond old.journal.has_epoch ((between ≡ ready) × (showed ≡ was)) (Joins (next_epoch ready) ready between was showed
+      × (between.owner ≡ ready.owner))
   pub stays_told : is_some showed ≡ is_some was
   pub starts_as : cond old.journal.has_epoch (old.counter ≡ Some starts) (starts ≡ record { epoch = between.epoch; count = 0 })
   pub payload_is : (keys : List KeyParts) (at : Stand) (other : Note) (after : Store) → HoldsKeys keys at.keys old.ring starts
-      → IsTold (note_step at other after) skeleton (sealed_text old r drawn) → payload ≡ step_payload (keys_with keys (note_step at other after) drawn) note (note_step at other after)
+      → IsTold (note_step at other after) skeleton (sealed_text old r drawn)
+      → payload ≡ step_payload (keys_with keys (note_step at other after) drawn) note (note_step at other after)
 
 -- What the calls that carry out a command leave, whatever the owner stands for: what was sealed is committed, and the owner goes on
 -- behind it, with the counter at the end.
@@ -87,7 +90,8 @@ pub record IsCarriedOut (r : Request) (drawn : List (List ℕ)) (old new : Owner
   pub seen_then : (at : Stand) (s : Store) → IsSeenAs old.state at → IsStoreOf old.state.tree old.names (granted_in old) s
       → IsSeenAs new.state (told_stand (begun (not old.journal.has_epoch) at) (note_of s r (replicate 32 0)))
   pub keys_then : (keys : List KeyParts) (at : Stand) (other : Note) (after : Store) → HoldsKeys keys at.keys old.ring sealed.starts
-      → IsSealable (note_step at other after) → IsSkeleton (note_step at other after) sealed.skeleton → HoldsKeys (keys_with keys (note_step at other after) drawn) (note_step at other after).after new.ring ends
+      → IsSealable (note_step at other after) → IsSkeleton (note_step at other after) sealed.skeleton
+      → HoldsKeys (keys_with keys (note_step at other after) drawn) (note_step at other after).after new.ring ends
   pub ends_as : new.counter ≡ Some ends
   pub commits : Joins (next_command sealed.between (spell_payload sealed.payload)) sealed.between new.journal sealed.showed shows
   pub same_owner : new.journal.owner ≡ sealed.between.owner
@@ -100,8 +104,10 @@ pub record IsCarriedOut (r : Request) (drawn : List (List ℕ)) (old new : Owner
 -- committed, as far as is known.
 abbrev pub IsInterrupted : Request → List (List ℕ) → OwnerView → Option (List ℕ) → Option (List ℕ) → Type 0
 IsInterrupted r drawn old was shows =
-    ((old.journal.has_epoch ≡ false) × ((ready : JournalState) × (ready ≡ record old.journal { room = ready.room }) × MayJoin (next_epoch ready) ready was shows))
-    ⊎ ((sealed : IsSealed r drawn old was) × MayJoin (next_command sealed.between (spell_payload sealed.payload)) sealed.between sealed.showed shows)
+    ((old.journal.has_epoch ≡ false) × ((ready : JournalState) × (ready ≡ record old.journal { room = ready.room })
+    × MayJoin (next_epoch ready) ready was shows))
+    ⊎ ((sealed : IsSealed r drawn old was) × MayJoin (next_command sealed.between (spell_payload sealed.payload)) sealed.between
+    sealed.showed shows)
 
 -- An accepted command of an owner who stands for a journal: it drew keys from the next random bytes, its reply has them in their
 -- places, the owner stands for the journal with the command, and so does the disk where it showed the journal; behind the log's new end
@@ -121,7 +127,8 @@ pub record IsDone (m : Journal) (r : Request) (reply : Reply) (old new : OwnerVi
   pub disk_stands : WhereBothTold was shows (λ x y. StandsWhole old.key (batches_of old.key m) x
       → StandsWhole old.key (batches_of old.key (journal_then m old.journal.has_epoch r drawn)) y)
   pub further : old.journal.end ≤ new.journal.end
-  pub disk_behind : WhereBothTold was shows (λ x y. StandsWhole old.key (batches_of old.key m) x → drop new.journal.end y ≡ drop new.journal.end x)
+  pub disk_behind : WhereBothTold was shows (λ x y. StandsWhole old.key (batches_of old.key m) x
+      → drop new.journal.end y ≡ drop new.journal.end x)
   pub comes_to_rest : ComesToRest old.key m (journal_then m old.journal.has_epoch r drawn) was shows might may since
 
 -- why a reply refuses, where it does
@@ -129,9 +136,9 @@ abbrev pub why_refused : Reply → Option Refusal
 why_refused (replies.Refused why) = Some why
 why_refused reply = None
 
--- A command that met a fault of the disk: it drew keys of 32 bytes from the next random bytes; and where the disk showed the whole of the journal,
--- it shows bytes that stand for the journal, or for it with the session begun, or with the command too. Where the disk rested at the
--- journal, a stop left one of the three at each moment.
+-- A command that met a fault of the disk: it drew keys of 32 bytes from the next random bytes; and where the disk showed the whole of the
+-- journal, it shows bytes that stand for the journal, or for it with the session begun, or with the command too. Where the disk rested at
+-- the journal, a stop left one of the three at each moment.
 pub record IsCutShort (m : Journal) (r : Request) (old : OwnerView) (left_before left_after was shows : Option (List ℕ))
     (might may : List ℕ → Type 0) (since : List ℕ → List ℕ → Type 0) : Type 0 where
   pub drawn : List (List ℕ)
@@ -145,18 +152,22 @@ pub record IsCutShort (m : Journal) (r : Request) (old : OwnerView) (left_before
 -- What a command is answered by an owner who stands for a journal. A refused one changes nothing; after a source that failed
 -- or ended, and for want of memory, the owner is as it was; after a disk that failed its journal is closed. A disk that rested at
 -- the journal still rests there, unless the command was done or the disk failed.
-abbrev pub Answers : Result Reply ApplyFault → Journal → Request → OwnerView → OwnerView → Option (List ℕ) → Option (List ℕ) → Option (List ℕ) → Option (List ℕ)
+abbrev pub Answers : Result Reply ApplyFault → Journal → Request → OwnerView → OwnerView → Option (List ℕ) → Option (List ℕ)
+    → Option (List ℕ) → Option (List ℕ)
     → (List ℕ → Type 0) → (List ℕ → Type 0) → (List ℕ → List ℕ → Type 0) → Type 0
 Answers (Ok (replies.Refused why)) m r old new left_before left_after was shows might may since =
     (answer (limits_in old) m old.journal.has_epoch r ≡ Some why) × (new ≡ old) × ComesToRest old.key m m was shows might may since
-Answers (Ok reply) m r old new left_before left_after was shows might may since = IsDone m r reply old new left_before left_after was shows might may since
+Answers (Ok reply) m r old new left_before left_after was shows might may since = IsDone m r reply old new left_before left_after was shows
+    might may since
 Answers (Err (faults.RandomShort left need)) m r old new left_before left_after was shows might may since =
     (answer (limits_in old) m old.journal.has_epoch r ≡ None) × HasOtherRoom old new × (need ≡ 32 * draws_of m r) × (left < need)
-    × WhereTold left_before (λ before. length before ≡ left) × WhereTold left_after (λ after. after ≡ []) × ComesToRest old.key m m was shows might may since
+    × WhereTold left_before (λ before. length before ≡ left) × WhereTold left_after (λ after. after ≡ [])
+    × ComesToRest old.key m m was shows might may since
 Answers (Err faults.RandomFault) m r old new left_before left_after was shows might may since =
     (answer (limits_in old) m old.journal.has_epoch r ≡ None) × HasOtherRoom old new × ComesToRest old.key m m was shows might may since
 Answers (Err faults.DiskFault) m r old new left_before left_after was shows might may since =
-    (answer (limits_in old) m old.journal.has_epoch r ≡ None) × IsTrue new.journal.is_closed × IsCutShort m r old left_before left_after was shows might may since
+    (answer (limits_in old) m old.journal.has_epoch r ≡ None) × IsTrue new.journal.is_closed
+    × IsCutShort m r old left_before left_after was shows might may since
 Answers (Err faults.Closed) m r old new left_before left_after was shows might may since =
     IsTrue old.journal.is_closed × (new ≡ old) × ComesToRest old.key m m was shows might may since
 Answers (Err faults.OutOfMemory) m r old new left_before left_after was shows might may since =
@@ -165,10 +176,13 @@ Answers (Err faults.OutOfMemory) m r old new left_before left_after was shows mi
 -- What no journal is needed for. A refusal, Closed and want of memory touch neither the source nor the disk, and the first two
 -- not the owner; a source that failed or ended touches no disk
 abbrev pub IsKeptBy : {R D : Type 0} → Result Reply ApplyFault → OwnerView → OwnerView → R → R → D → D → Type 0
-IsKeptBy (Ok (replies.Refused why)) old new random_old random_new disk_old disk_new = (new ≡ old) × (random_new ≡ random_old) × (disk_new ≡ disk_old)
+IsKeptBy (Ok (replies.Refused why)) old new random_old random_new disk_old disk_new = (new ≡ old) × (random_new ≡ random_old)
+    × (disk_new ≡ disk_old)
 IsKeptBy (Ok reply) old new random_old random_new disk_old disk_new = new.journal.has_epoch ≡ true
-IsKeptBy (Err faults.Closed) old new random_old random_new disk_old disk_new = (new ≡ old) × (random_new ≡ random_old) × (disk_new ≡ disk_old)
-IsKeptBy (Err faults.OutOfMemory) old new random_old random_new disk_old disk_new = HasOtherRoom old new × (random_new ≡ random_old) × (disk_new ≡ disk_old)
+IsKeptBy (Err faults.Closed) old new random_old random_new disk_old disk_new = (new ≡ old) × (random_new ≡ random_old)
+    × (disk_new ≡ disk_old)
+IsKeptBy (Err faults.OutOfMemory) old new random_old random_new disk_old disk_new = HasOtherRoom old new × (random_new ≡ random_old)
+    × (disk_new ≡ disk_old)
 IsKeptBy (Err faults.RandomFault) old new random_old random_new disk_old disk_new = HasOtherRoom old new × (disk_new ≡ disk_old)
 IsKeptBy (Err (faults.RandomShort left need)) old new random_old random_new disk_old disk_new = HasOtherRoom old new × (disk_new ≡ disk_old)
 IsKeptBy (Err faults.DiskFault) old new random_old random_new disk_old disk_new = IsTrue new.journal.is_closed

@@ -64,4 +64,5 @@ pub record IsMade (drawn : List ℕ) (limits : Limits) (o : OwnerView) : Type 0 
 -- the bytes drawn were the next ones of the source, and the disk shows the fresh store that they make
 abbrev pub Makes : Limits → Option (List ℕ) → Option (List ℕ) → Option (List ℕ) → OwnerView → Type 0
 Makes limits before after shown o =
-    (drawn : List ℕ) × IsMade drawn limits o × WhereBothTold before after (λ x y. x ≡ drawn ++ y) × WhereTold shown (λ s. s ≡ fresh_image drawn)
+    (drawn : List ℕ) × IsMade drawn limits o × WhereBothTold before after (λ x y. x ≡ drawn ++ y)
+    × WhereTold shown (λ s. s ≡ fresh_image drawn)

@@ -55,7 +55,8 @@ rooted at = if folder_stands at.store 1 then Ok at else Err (Damaged 42)
 -- what the owner's visits open
 unfoldable pub opened_at : List ℕ → List PlainPlaced → Stand → Result OpenStore Fault
 opened_at owner log at =
-    and_then (visit_all (reading_with log at) (visits_of at) (starts_with owner at)) (λ after. Ok (record { reading = reading_with log at; opened = after }))
+    and_then (visit_all (reading_with log at) (visits_of at) (starts_with owner at))
+    (λ after. Ok (record { reading = reading_with log at; opened = after }))
 
 -- once the payloads were followed, and the root was found
 unfoldable pub opened_of : List ℕ → List PlainPlaced → Result OpenStore Fault

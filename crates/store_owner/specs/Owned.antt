@@ -31,7 +31,17 @@ pub record OwnerView : Type 0 where
 -- what an owner keeps who has begun no epoch
 abbrev pub owner_at : List ℕ → JournalState → PublicView → Titles → Ringed → ℕ → Counted → OwnerView
 owner_at key journal state names ring file_bytes tally =
-    record { key = key; journal = journal; state = state; names = names; ring = ring; counter = None; file_bytes = file_bytes; tally = tally }
+    record {
+      key = key;
+      journal = journal;
+      state = state;
+      names = names;
+      ring = ring;
+      counter = None;
+      file_bytes = file_bytes;
+      tally =
+          tally;
+    }
 
 -- the sizes that the owner keeps to
 abbrev pub limits_in : OwnerView → Limits

@@ -1,6 +1,7 @@
 -- What a command seals and changes, planned with all its memory before its keys are drawn. This project's own, docs/FORMAT.md,
 -- "The key step".
-use Rattle.std.specs.Prelude.{◌≡◌, ◌≤◌, ◌<◌, ◌+◌, ◌*◌, ◌^◌, ℕ, true, false, not, cond, Option, List, [], ◌++◌, length, replicate, Some, None, Result, Ok, Err}
+use Rattle.std.specs.Prelude.{◌≡◌, ◌≤◌, ◌<◌, ◌+◌, ◌*◌, ◌^◌, ℕ, true, false, not, cond, Option, List, [], ◌++◌, length, replicate, Some}
+use Rattle.std.specs.Prelude.{None, Result, Ok, Err}
 use Rattle.chacha_seal.specs.Sealing.{check_of}
 use Rattle.chacha_seal.specs.Serials.{Counting}
 use Rattle.commit_journal.specs.Journals.{JournalState, Joins, end_with, next_epoch}
@@ -61,11 +62,14 @@ planned_size r p = skeleton_size (told_note p.note) p.ready.skeleton (length (p.
 pub record IsDrafted (r : Request) (o : OwnerView) (p : Change) : Type 0 where
   pub told : (s : Store) → IsStoreOf o.state.tree o.names (granted_in o) s → told_note p.note ≡ note_of s r (replicate 32 0)
   pub same_note : p.ready.note ≡ p.note
-  pub is_skeleton : (at : Stand) → IsSeenAs o.state at → IsSkeleton (told_step (begun (not o.journal.has_epoch) at) (told_note p.note)) p.ready.skeleton
+  pub is_skeleton : (at : Stand) → IsSeenAs o.state at
+      → IsSkeleton (told_step (begun (not o.journal.has_epoch) at) (told_note p.note)) p.ready.skeleton
   pub can_settle : CanSettle o.state p.ready
-  pub seen_then : (at : Stand) → IsSeenAs o.state at → IsSeenAs (settled o.state p.ready) (told_stand (begun (not o.journal.has_epoch) at) (told_note p.note))
+  pub seen_then : (at : Stand) → IsSeenAs o.state at
+      → IsSeenAs (settled o.state p.ready) (told_stand (begun (not o.journal.has_epoch) at) (told_note p.note))
   pub fits : (at : Stand) → IsSeenAs o.state at
-      → note_fits (begun (not o.journal.has_epoch) at) (told_note p.note) (told_step (begun (not o.journal.has_epoch) at) (told_note p.note)) ≡ true
+      → note_fits (begun (not o.journal.has_epoch) at) (told_note p.note)
+      (told_step (begun (not o.journal.has_epoch) at) (told_note p.note)) ≡ true
   pub text_is : p.text.items ≡ due_text (tree_store o.state.tree o.names) r
   pub text_room : r ≡ AddHolder → 32 ≤ p.text.spare
   pub titles_are : IsRetitlingOf (tree_store o.state.tree o.names) r o.names p.titles
@@ -82,7 +86,8 @@ pub record IsFurnished (r : Request) (o : OwnerView) (p : Change) (space : Space
 -- in every store and stand that an owner keeps the note of the command does not fit
 abbrev pub IsUnfit : Request → OwnerView → Type 0
 IsUnfit r o = (at : Stand) (s : Store) → IsSeenAs o.state at → IsStoreOf o.state.tree o.names (granted_in o) s
-    → note_fits (begun (not o.journal.has_epoch) at) (note_of s r (replicate 32 0)) (told_step (begun (not o.journal.has_epoch) at) (note_of s r (replicate 32 0))) ≡ false
+    → note_fits (begun (not o.journal.has_epoch) at) (note_of s r (replicate 32 0))
+    (told_step (begun (not o.journal.has_epoch) at) (note_of s r (replicate 32 0))) ≡ false
 
 -- the answer of an owner to a command, for every journal that it stands for
 abbrev pub IsAnswered : Request → OwnerView → Option Refusal → Type 0

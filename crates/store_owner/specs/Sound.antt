@@ -51,7 +51,8 @@ pub record IsOpenedWith (log : List PlainPlaced) (at : Stand) (o : OwnerView) : 
   pub seen : IsSeenAs o.state at
   pub batches : o.journal.batches ≡ length log
   pub epoch : o.journal.epoch ≡ epoch_behind 0 log
-  pub keyed : (role : Role) (n : ℕ) → newest at.keys.keys role ≡ Some n → (key : KeyParts) × (key_of o.ring role ≡ Some key) × (key.id ≡ role_id role) × (key.serial ≡ n)
+  pub keyed : (role : Role) (n : ℕ) → newest at.keys.keys role ≡ Some n → (key : KeyParts) × (key_of o.ring role ≡ Some key)
+      × (key.id ≡ role_id role) × (key.serial ≡ n)
   pub not_begun : o.journal.has_epoch ≡ false
   pub not_counted : o.counter ≡ None
   pub sized : (x : FileEntry) → In x (own_store o).files → length x.bytes ≤ 1048576

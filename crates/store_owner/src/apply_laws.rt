@@ -35,16 +35,20 @@ use cry_io::Disk;
 /// command; and where the disk showed the whole of the journal, it shows the whole of it with the command, and behind the new end
 /// of the log what it showed there before.
 pub fn owners_go_on()
-    ensures owner { (m : Journal) (r : Request) (drawn : List (List ℕ)) (old new : OwnerView) (was shows : Option (List ℕ)) → IsOwnerOf m old
+    ensures owner { (m : Journal) (r : Request) (drawn : List (List ℕ)) (old new : OwnerView) (was shows : Option (List ℕ))
+        → IsOwnerOf m old
         → old.journal.limit ≤ 268435456 → old.file_bytes ≤ 1048576 → answer (limits_in old) m old.journal.has_epoch r ≡ None
         → IsCarriedOut r drawn old new was shows → IsOwnerOf (journal_then m old.journal.has_epoch r drawn) new }
     ensures disk { (m : Journal) (r : Request) (drawn : List (List ℕ)) (old new : OwnerView) (was shows : Option (List ℕ)) → IsOwnerOf m old
         → old.journal.limit ≤ 268435456 → old.file_bytes ≤ 1048576 → answer (limits_in old) m old.journal.has_epoch r ≡ None
         → IsCarriedOut r drawn old new was shows
-        → WhereBothTold was shows (λ x y. StandsWhole old.key (batches_of old.key m) x → StandsWhole old.key (batches_of old.key (journal_then m old.journal.has_epoch r drawn)) y) }
-    ensures further { (r : Request) (drawn : List (List ℕ)) (old new : OwnerView) (was shows : Option (List ℕ)) → IsCarriedOut r drawn old new was shows
+        → WhereBothTold was shows (λ x y. StandsWhole old.key (batches_of old.key m) x
+        → StandsWhole old.key (batches_of old.key (journal_then m old.journal.has_epoch r drawn)) y) }
+    ensures further { (r : Request) (drawn : List (List ℕ)) (old new : OwnerView) (was shows : Option (List ℕ))
+        → IsCarriedOut r drawn old new was shows
         → old.journal.end ≤ new.journal.end }
-    ensures behind { (m : Journal) (r : Request) (drawn : List (List ℕ)) (old new : OwnerView) (was shows : Option (List ℕ)) → IsOwnerOf m old
+    ensures behind { (m : Journal) (r : Request) (drawn : List (List ℕ)) (old new : OwnerView) (was shows : Option (List ℕ))
+        → IsOwnerOf m old
         → old.journal.limit ≤ 268435456 → old.file_bytes ≤ 1048576 → answer (limits_in old) m old.journal.has_epoch r ≡ None
         → IsCarriedOut r drawn old new was shows
         → WhereBothTold was shows (λ x y. StandsWhole old.key (batches_of old.key m) x → drop new.journal.end y ≡ drop new.journal.end x) }
@@ -63,16 +67,22 @@ pub fn interrupted_commands_leave_a_journal()
 /// Law: the skeleton that an owner makes of a command that isn't refused tells how many keys it draws and how long its payload
 /// is; the journal tells where it would end; and its note fits, unless it would end past the largest store.
 pub fn commands_are_measured()
-    ensures payload { (m : Journal) (r : Request) (o : OwnerView) (s : Skeleton) → IsOwnerOf m o → refusal_of (store_of m) r o.file_bytes ≡ None
+    ensures payload { (m : Journal) (r : Request) (o : OwnerView) (s : Skeleton) → IsOwnerOf m o
+        → refusal_of (store_of m) r o.file_bytes ≡ None
         → IsSkeleton (told_step (begun (not o.journal.has_epoch) (public_stand m)) (note_of (store_of m) r (replicate 32 0))) s
-        → skeleton_size (note_of (store_of m) r (replicate 32 0)) s (length (due_text (tree_store o.state.tree o.names) r ++ due_key r (replicate 32 0))) ≡ due_payload m r }
-    ensures draws { (m : Journal) (r : Request) (o : OwnerView) (s : Skeleton) → IsOwnerOf m o → refusal_of (store_of m) r o.file_bytes ≡ None
+        → skeleton_size (note_of (store_of m) r (replicate 32 0)) s (length (due_text (tree_store o.state.tree o.names) r
+        ++ due_key r (replicate 32 0))) ≡ due_payload m r }
+    ensures draws { (m : Journal) (r : Request) (o : OwnerView) (s : Skeleton) → IsOwnerOf m o
+        → refusal_of (store_of m) r o.file_bytes ≡ None
         → IsSkeleton (told_step (begun (not o.journal.has_epoch) (public_stand m)) (note_of (store_of m) r (replicate 32 0))) s
         → length s.keys.items ≡ draws_of m r }
-    ensures few { (m : Journal) (r : Request) (o : OwnerView) → IsOwnerOf m o → o.file_bytes ≤ 1048576 → refusal_of (store_of m) r o.file_bytes ≡ None
+    ensures few { (m : Journal) (r : Request) (o : OwnerView) → IsOwnerOf m o → o.file_bytes ≤ 1048576
+        → refusal_of (store_of m) r o.file_bytes ≡ None
         → due_end m o.journal.has_epoch r ≤ 268435456 → 32 * draws_of m r < 2 ^ 32 }
-    ensures end { (m : Journal) (r : Request) (o : OwnerView) → IsOwnerOf m o → end_with o.journal (due_payload m r) ≡ due_end m o.journal.has_epoch r }
-    ensures fits { (m : Journal) (r : Request) (o : OwnerView) → IsOwnerOf m o → o.file_bytes ≤ 1048576 → refusal_of (store_of m) r o.file_bytes ≡ None
+    ensures end { (m : Journal) (r : Request) (o : OwnerView) → IsOwnerOf m o
+        → end_with o.journal (due_payload m r) ≡ due_end m o.journal.has_epoch r }
+    ensures fits { (m : Journal) (r : Request) (o : OwnerView) → IsOwnerOf m o → o.file_bytes ≤ 1048576
+        → refusal_of (store_of m) r o.file_bytes ≡ None
         → note_fits (begun (not o.journal.has_epoch) (public_stand m)) (note_of (store_of m) r (replicate 32 0))
         (told_step (begun (not o.journal.has_epoch) (public_stand m)) (note_of (store_of m) r (replicate 32 0))) ≡ false
         → 268435456 < due_end m o.journal.has_epoch r }
@@ -82,10 +92,13 @@ pub fn commands_are_measured()
 /// source of random bytes doesn't tell what it has, there are keys of 32 bytes with which the session goes so. A disk that rested at the
 /// session's journal comes to rest at the one that it goes on to.
 pub fn answered_sessions_go_on<D: Disk>(before: &D, after: &D)
-    ensures { (limits : Limits) (key : List ℕ) (g : Going) (r : Request) (reply : Reply) (old new : OwnerView) (left_before left_after was shows : Option (List ℕ)) (start : ℕ)
+    ensures { (limits : Limits) (key : List ℕ) (g : Going) (r : Request) (reply : Reply) (old new : OwnerView)
+        (left_before left_after was shows : Option (List ℕ)) (start : ℕ)
         → StandsAt limits key g old was
-        → Answers (Ok reply) g.journal r old new left_before left_after was shows (D.may_leave before.now) (D.may_leave after.now) (D.since after.now start)
+        → Answers (Ok reply) g.journal r old new left_before left_after was shows (D.may_leave before.now) (D.may_leave after.now)
+        (D.since after.now start)
         → is_some shows ≡ is_some was → ((why : Refusal) → reply ≡ Refused why → (left_after ≡ left_before) × (shows ≡ was))
-        → (h : Going) × GoesOn limits g h r reply left_before left_after × StandsAt limits key h new shows × AnswersBehind g h old new was shows
+        → (h : Going) × GoesOn limits g h r reply left_before left_after × StandsAt limits key h new shows
+        × AnswersBehind g h old new was shows
         × ComesToRest key g.journal h.journal was shows (D.may_leave before.now) (D.may_leave after.now) (D.since after.now start) }
 {}

@@ -26,7 +26,8 @@ pub(crate) fn note_for(shape: &Shape, names: &Names, grants: &Grants, command: &
     requires folders { shape.now.tree.folders_made < 4294967295 }
     requires files { shape.now.tree.files_made < 4294967295 }
     requires holders { length grants.now.checks < 4294967295 }
-    ensures { (s : Store) → IsStoreOf shape.now.tree names.now grants.now s → told_note result ≡ note_of s (request_of command.now) (replicate 32 0) }
+    ensures { (s : Store) → IsStoreOf shape.now.tree names.now grants.now s
+        → told_note result ≡ note_of s (request_of command.now) (replicate 32 0) }
 {
     match command {
         Command::AddHolder => note_of_holder(grants),
@@ -83,7 +84,8 @@ fn note_of_holder(grants: &Grants) -> Note
 fn note_of_folder(shape: &Shape, names: &Names, path: &Text) -> Note
     requires form { is_path path.now.items ≡ true }
     requires counted { shape.now.tree.folders_made < 4294967295 }
-    ensures { told_note result ≡ NewFolder (shape.now.tree.folders_made + 1) (id_of (node_at (tree_store shape.now.tree names.now) (parent_path path.now.items))) }
+    ensures { told_note result ≡ NewFolder (shape.now.tree.folders_made + 1)
+        (id_of (node_at (tree_store shape.now.tree names.now) (parent_path path.now.items))) }
 {
     Note::NewFolder {
         folder: FolderId(shape.folders_made() + 1),
@@ -102,7 +104,8 @@ fn place_of(shape: &Shape, names: &Names, path: &Text) -> FolderId
 fn note_of_bytes(shape: &Shape, names: &Names, path: &Text) -> Note
     requires form { is_path path.now.items ≡ true }
     requires counted { shape.now.tree.files_made < 4294967295 }
-    ensures { told_note result ≡ write_note shape.now.tree (node_at (tree_store shape.now.tree names.now) path.now.items) (id_of (node_at (tree_store shape.now.tree names.now) (parent_path path.now.items))) }
+    ensures { told_note result ≡ write_note shape.now.tree (node_at (tree_store shape.now.tree names.now) path.now.items)
+        (id_of (node_at (tree_store shape.now.tree names.now) (parent_path path.now.items))) }
 {
     let place = place_of(shape, names, path);
     write_of(shape, node_of(shape, names, path), place)
@@ -162,7 +165,8 @@ fn renaming_of(found: Option<Node>) -> Note
 fn note_of_move(shape: &Shape, names: &Names, path: &Text, into: &Text) -> Note
     requires form { is_path path.now.items ≡ true }
     requires into_form { is_path into.now.items ≡ true }
-    ensures { told_note result ≡ move_note (node_at (tree_store shape.now.tree names.now) path.now.items) (id_of (node_at (tree_store shape.now.tree names.now) into.now.items)) }
+    ensures { told_note result ≡ move_note (node_at (tree_store shape.now.tree names.now) path.now.items)
+        (id_of (node_at (tree_store shape.now.tree names.now) into.now.items)) }
 {
     let target = folder_at(shape, names, into.as_slice());
     move_of(node_of(shape, names, path), target)

@@ -22,9 +22,9 @@ mod sizing;
 pub mod sound_laws;
 mod step_records;
 mod step_room;
+pub mod stopping_laws;
 mod tally;
 pub mod tally_laws;
-pub mod stopping_laws;
 mod texts;
 
 pub use apply_fault::ApplyFault;

@@ -135,8 +135,10 @@ impl Blank {
         ensures journal { OnOk result (IsMadeJournal owner.now self.old.journal.limit self.new.journal) }
         ensures seen { OnOk result (IsSeenAs self.new.state (told_stand first_stand Root)) }
         ensures root { OnOk result (title_at self.new.names.folders 1 ≡ Some (record { id = 1; name = []; bytes = [] })) }
-        ensures held { OnOk result (HoldsKeys (all_keys owner.now (made_with keys.now)) (keys_of (made_with keys.now)) self.new.ring (counting (keys_of (made_with keys.now)))) }
-        ensures shows { OnOk result (WhereTold (D.shown disk.new) (λ s. s ≡ image owner.now (made_batches (root_payload owner.now keys.now)) ++ 0 ∷ [])) }
+        ensures held { OnOk result (HoldsKeys (all_keys owner.now (made_with keys.now)) (keys_of (made_with keys.now)) self.new.ring
+            (counting (keys_of (made_with keys.now)))) }
+        ensures shows { OnOk result (WhereTold (D.shown disk.new) (λ s. s
+            ≡ image owner.now (made_batches (root_payload owner.now keys.now)) ++ 0 ∷ [])) }
         ensures durable { OnOk result (IsDurable (D.may_leave disk.new) (D.shown disk.new)) }
         ensures size { OnOk result (D.size_of disk.new ≡ 819) }
         ensures told { is_some (D.shown disk.new) ≡ is_some (D.shown disk.old) }
@@ -279,8 +281,10 @@ impl Owner {
         ensures size { OnOk result (D.size_of disk.new ≡ 819) }
         ensures inside { IfOk result (λ o. o.journal.end ≤ D.size_of disk.new) }
         ensures short { (left need : ℕ) → result ≡ Err (ApplyFault.RandomShort left need) →
-            (need ≡ 192) × (left < 192) × WhereBothTold (R.left random.old) (R.left random.new) (λ before after. (length before ≡ left) × (after ≡ [])) }
-        ensures drew { result ≡ Err ApplyFault.DiskFault → WhereBothTold (R.left random.old) (R.left random.new) (λ before after. length before ≡ 192 + length after) }
+            (need ≡ 192) × (left < 192) × WhereBothTold (R.left random.old) (R.left random.new) (λ before after. (length before ≡ left)
+            × (after ≡ [])) }
+        ensures drew { result ≡ Err ApplyFault.DiskFault
+            → WhereBothTold (R.left random.old) (R.left random.new) (λ before after. length before ≡ 192 + length after) }
         ensures not_closed { result ≢ Err ApplyFault.Closed }
         ensures no_memory { result ≡ Err ApplyFault.OutOfMemory → (random.new ≡ random.old) × (disk.new ≡ disk.old) }
         ensures untouched { IfErr result (λ fault. fault ≢ ApplyFault.DiskFault → disk.new ≡ disk.old) }
@@ -335,7 +339,8 @@ fn seal_root(
     ensures payload { plain_payload result ≡ root_payload owner.now keys.now }
     ensures spellable { IsSpellable (plain_payload result) }
     ensures size { payload_size (plain_payload result) ≡ 557 }
-    ensures held { HoldsKeys (all_keys owner.now (made_with keys.now)) (keys_of (made_with keys.now)) ring.new (counting (keys_of (made_with keys.now))) }
+    ensures held { HoldsKeys (all_keys owner.now (made_with keys.now)) (keys_of (made_with keys.now)) ring.new
+        (counting (keys_of (made_with keys.now))) }
 {
     ring.adopt_owner(Key::owner(*owner));
     let mut counter = Counter::new(FIRST_EPOCH);
@@ -360,7 +365,8 @@ fn write_store<D: Disk>(
     requires size { payload_size (plain_payload payload.now) ≡ 557 }
     ensures stands { OnOk result (IsJournalOf (made_batches (plain_payload payload.now)) journal.new) }
     ensures state { OnOk result (IsMadeJournal owner.now journal.old.limit journal.new) }
-    ensures shows { OnOk result (WhereTold (D.shown disk.new) (λ s. s ≡ image owner.now (made_batches (plain_payload payload.now)) ++ 0 ∷ [])) }
+    ensures shows { OnOk result (WhereTold (D.shown disk.new) (λ s. s ≡ image owner.now (made_batches (plain_payload payload.now)) ++ 0
+        ∷ [])) }
     ensures durable { OnOk result (IsDurable (D.may_leave disk.new) (D.shown disk.new)) }
     ensures size { OnOk result (D.size_of disk.new ≡ 819) }
     ensures told { is_some (D.shown disk.new) ≡ is_some (D.shown disk.old) }

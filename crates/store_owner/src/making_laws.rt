@@ -16,14 +16,18 @@ ghost use Rattle.store_owner.specs.Sound.{IsSound};
 /// Law: who has the journal of the root's batch, with its state, name and keys, stands for the journal that makes a store, and is
 /// sound.
 pub fn makers_own_the_store()
-    ensures owner { (o : OwnerView) (owner : List ℕ) (drawn : List (List ℕ)) (limit : ℕ) → length owner ≡ 32 → length drawn ≡ 5 → AreKeys drawn → o.key ≡ owner
+    ensures owner { (o : OwnerView) (owner : List ℕ) (drawn : List (List ℕ)) (limit : ℕ) → length owner ≡ 32 → length drawn ≡ 5
+        → AreKeys drawn → o.key ≡ owner
         → IsMadeJournal owner limit o.journal → IsJournalOf (made_batches (root_payload owner drawn)) o.journal
         → title_at o.names.folders 1 ≡ Some (record { id = 1; name = []; bytes = [] }) → IsSeenAs o.state (told_stand first_stand Root)
-        → HoldsKeys (all_keys owner (made_with drawn)) (keys_of (made_with drawn)) o.ring (counting (keys_of (made_with drawn))) → o.counter ≡ None → o.file_bytes ≤ 1048576
+        → HoldsKeys (all_keys owner (made_with drawn)) (keys_of (made_with drawn)) o.ring (counting (keys_of (made_with drawn)))
+        → o.counter ≡ None → o.file_bytes ≤ 1048576
         → IsOwnerOf (made_with drawn) o }
-    ensures sound { (o : OwnerView) (owner : List ℕ) (drawn : List (List ℕ)) (limit : ℕ) → length owner ≡ 32 → length drawn ≡ 5 → AreKeys drawn → o.key ≡ owner
+    ensures sound { (o : OwnerView) (owner : List ℕ) (drawn : List (List ℕ)) (limit : ℕ) → length owner ≡ 32 → length drawn ≡ 5
+        → AreKeys drawn → o.key ≡ owner
         → IsMadeJournal owner limit o.journal → IsJournalOf (made_batches (root_payload owner drawn)) o.journal
         → title_at o.names.folders 1 ≡ Some (record { id = 1; name = []; bytes = [] }) → IsSeenAs o.state (told_stand first_stand Root)
-        → HoldsKeys (all_keys owner (made_with drawn)) (keys_of (made_with drawn)) o.ring (counting (keys_of (made_with drawn))) → o.counter ≡ None → o.file_bytes ≤ 1048576
+        → HoldsKeys (all_keys owner (made_with drawn)) (keys_of (made_with drawn)) o.ring (counting (keys_of (made_with drawn)))
+        → o.counter ≡ None → o.file_bytes ≤ 1048576
         → IsSound o }
 {}

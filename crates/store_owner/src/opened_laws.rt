@@ -24,14 +24,18 @@ ghost use Rattle.store_owner.specs.Owned.{IsOwnerOf, OwnerView};
 /// Law: what the owner's visits opened of a log whose payloads fit, and that made the root, has the present key of every role:
 /// the owner's, each holder's, and each that stands.
 pub fn opened_rings_have_every_key()
-    ensures { (log : List PlainPlaced) (at : Stand) (owner : List ℕ) (after : Opened) (ring : Ringed) (names : Titles) → folded nothing log ≡ Ok at → IsTrue (folder_stands at.store 1)
+    ensures { (log : List PlainPlaced) (at : Stand) (owner : List ℕ) (after : Opened) (ring : Ringed) (names : Titles)
+        → folded nothing log ≡ Ok at → IsTrue (folder_stands at.store 1)
         → visit_all (reading_with log at) (visits_of at) (starts_with owner at) ≡ Ok after → IsKept at after ring names
-        → (role : Role) (n : ℕ) → newest at.keys.keys role ≡ Some n → (key : KeyParts) × (key_of ring role ≡ Some key) × (key.id ≡ role_id role) × (key.serial ≡ n) }
+        → (role : Role) (n : ℕ) → newest at.keys.keys role ≡ Some n → (key : KeyParts) × (key_of ring role ≡ Some key)
+        × (key.id ≡ role_id role) × (key.serial ≡ n) }
 {}
 
 /// Law: who opened a valid journal's log, and keeps what the visits opened of it, stands for that journal, with no epoch begun.
 pub fn opened_owners_are_the_journals()
-    ensures { (m : Journal) (o : OwnerView) (after : Opened) → IsValid m → AreWhole o.key m → o.journal.owner ≡ o.key → IsJournalOf (batches_of o.key m) o.journal
-        → IsSeenAs o.state (public_stand m) → visit_all (reading_of o.key m) (owner_visits m) (owner_starts o.key m) ≡ Ok after → IsKept (public_stand m) after o.ring o.names
+    ensures { (m : Journal) (o : OwnerView) (after : Opened) → IsValid m → AreWhole o.key m → o.journal.owner ≡ o.key
+        → IsJournalOf (batches_of o.key m) o.journal
+        → IsSeenAs o.state (public_stand m) → visit_all (reading_of o.key m) (owner_visits m) (owner_starts o.key m) ≡ Ok after
+        → IsKept (public_stand m) after o.ring o.names
         → o.journal.has_epoch ≡ false → o.counter ≡ None → IsOwnerOf m o }
 {}

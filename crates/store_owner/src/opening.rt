@@ -106,15 +106,7 @@ fn owner_behind(
     match open_contents(alloc, placed.as_slice(), Key::owner(key)) {
         Ok(contents) => {
             let OwnersView { ring, names } = contents.view;
-            Ok(Owner::at(
-                key,
-                journal,
-                contents.state,
-                names,
-                ring,
-                limits,
-                NONE,
-            ))
+            Ok(Owner::at(key, journal, contents.state, names, ring, limits, NONE))
         }
         Err(fault) => Err(open_fault(fault)),
     }
@@ -145,13 +137,15 @@ impl Owner {
     ) -> Result<Owner, OpenFault>
         requires known { limits.store_bytes ≤ 268435456 }
         requires files { limits.file_bytes ≤ 1048576 }
-        ensures verdict { WhereTold (D.shown disk.old) (λ s. OpensAs result (open_with key (placed_in (opening_verdict limits.store_bytes key s)))) }
+        ensures verdict { WhereTold (D.shown disk.old)
+            (λ s. OpensAs result (open_with key (placed_in (opening_verdict limits.store_bytes key s)))) }
         ensures largest { limits.store_bytes ≡ 268435456 → WhereTold (D.shown disk.old) (λ s. OpensAs result (opened_store key s)) }
         ensures stands { IfOk result (λ o. (m : AnyJournal) → WhereTold (D.shown disk.old)
             (λ s. StandsForJournal key m s → end_of m ≤ limits.store_bytes → IsOwnerOf m o)) }
         ensures settled { OnOk result ((m : AnyJournal) → WhereTold (D.shown disk.old)
             (λ s. StandsForJournal key m s → end_of m ≤ limits.store_bytes → IsSettled key m (D.shown disk.new) (D.may_leave disk.new))) }
-        ensures never { IfErr result (λ fault. (m : AnyJournal) → WhereTold (D.shown disk.old) (λ s. StandsForJournal key m s → end_of m ≤ limits.store_bytes
+        ensures never { IfErr result (λ fault. (m : AnyJournal)
+            → WhereTold (D.shown disk.old) (λ s. StandsForJournal key m s → end_of m ≤ limits.store_bytes
             → (fault ≡ OpenFault.DiskFault) ⊎ (fault ≡ OpenFault.OutOfMemory))) }
         ensures fresh { IfOk result (IsFresh key limits.store_bytes limits.file_bytes) }
         ensures inside { IfOk result (λ o. o.journal.end ≤ D.size_of disk.new) }
@@ -162,7 +156,8 @@ impl Owner {
             ⊎ LeavesRefused D.shown D.size_of D.may_leave limits.store_bytes key disk.old disk.new) }
         ensures interrupted { OnErr result (WhereBothTold (D.shown disk.old) (D.shown disk.new) (LeavesGated limits.store_bytes key)) }
         ensures filled { OnOk result (WhereBothTold (D.shown disk.old) (D.shown disk.new) (IsFilled limits.store_bytes key)) }
-        ensures behind { OnOk result ((m : AnyJournal) → WhereBothTold (D.shown disk.old) (D.shown disk.new) (λ x y. StandsForJournal key m x →
+        ensures behind { OnOk result ((m : AnyJournal)
+            → WhereBothTold (D.shown disk.old) (D.shown disk.new) (λ x y. StandsForJournal key m x →
             end_of m ≤ limits.store_bytes → let end = length (image_of key m) in drop end y ≡ drop end x)) }
         ensures left { OnErr result ((m : AnyJournal) → WhereBothTold (D.shown disk.old) (D.shown disk.new)
             (λ x y. StandsForJournal key m x → end_of m ≤ limits.store_bytes → StandsForJournal key m y)) }

@@ -1,5 +1,6 @@
 //! The owner of a store, and what the owner's commands do to it.
-ghost use Rattle.std.specs.Prelude.{◌≡◌, ◌<◌, ◌≤◌, ◌+◌, ◌↔◌, ℕ, [], ◌∷◌, None, Some, Err, IfErr, IfOk, IsTrue, OnErr, OnOk, false, is_some, length};
+ghost use Rattle.std.specs.Prelude.{◌≡◌, ◌<◌, ◌≤◌, ◌+◌, ◌↔◌, ℕ, [], ◌∷◌, None, Some, Err, IfErr, IfOk, IsTrue, OnErr, OnOk, false, is_some};
+ghost use Rattle.std.specs.Prelude.{length};
 ghost use Rattle.commit_journal.specs.Holding.{GoesOn};
 ghost use Rattle.commit_journal.specs.Journals.{IsBehind, Joins, next_command, MayJoin, next_epoch};
 ghost use Rattle.cry_base.specs.Refusing.{has_bad_name, refusal_of};
@@ -15,7 +16,8 @@ ghost use Rattle.public_fold.specs.Journal.{Journal as AnyJournal};
 ghost use Rattle.public_fold.specs.Preparing.{HasRoomFor};
 ghost use Rattle.journal_bytes.specs.Owning.{IsStoreOf};
 ghost use Rattle.journal_bytes.specs.Sealing.{IsSpaceFor};
-ghost use Rattle.store_owner.specs.Applying.{Answers, DiskCounts, HasOtherRoom, IsCarriedOut, IsDoneThen, IsInterrupted, IsKeptBy, UnlessDiskFault};
+ghost use Rattle.store_owner.specs.Applying.{Answers, DiskCounts, HasOtherRoom, IsCarriedOut, IsDoneThen, IsInterrupted, IsKeptBy};
+ghost use Rattle.store_owner.specs.Applying.{UnlessDiskFault};
 ghost use Rattle.store_owner.specs.Counted.{IsWithin, counted_with};
 ghost use Rattle.store_owner.specs.Drawing.{AreKeys, FillsByCount};
 ghost use Rattle.store_owner.specs.Owned.{IsOwnerOf, owner_at};
@@ -30,8 +32,8 @@ use crate::apply_laws::{
     commands_are_measured, interrupted_commands_leave_a_journal, owners_go_on,
 };
 use crate::change::Change;
-use crate::counted::Counted;
 use crate::command_notes::note_for;
+use crate::counted::Counted;
 use crate::key_room::KeyRoom;
 use crate::owner_laws::{owners_keep_the_store, retitlings_leave_the_titles};
 use crate::refusing::refusal;
@@ -43,8 +45,8 @@ use crate::sound_laws::{
 };
 use crate::step_records::seal_step;
 use crate::step_room::StepRoom;
-use crate::tally::Tally;
 use crate::stopping_laws::disk_stands_still;
+use crate::tally::Tally;
 use crate::texts::text_for;
 use chacha_seal::{Counter, Key, OwnerK};
 use commit_journal::{CommitFault, Journal};
@@ -202,7 +204,8 @@ impl Owner {
         ensures open { UnlessDiskFault result (self.new.journal.is_closed ≡ self.old.journal.is_closed) }
         ensures kept { IsKeptBy result self.old self.new random.old random.new disk.old disk.new }
         ensures durable { IsDoneThen result (IsDurable (D.may_leave disk.new) (D.shown disk.new)) }
-        ensures calm { IsDurable (D.may_leave disk.old) (D.shown disk.old) → UnlessDiskFault result (IsDurable (D.may_leave disk.new) (D.shown disk.new)) }
+        ensures calm { IsDurable (D.may_leave disk.old) (D.shown disk.old)
+            → UnlessDiskFault result (IsDurable (D.may_leave disk.new) (D.shown disk.new)) }
         ensures inside { self.old.journal.end ≤ D.size_of disk.old → UnlessDiskFault result (self.new.journal.end ≤ D.size_of disk.new) }
         ensures counts { CountsCommand result (request_of command.now) self.old self.new }
         ensures key { self.new.key ≡ self.old.key }
@@ -248,7 +251,8 @@ impl Owner {
 
     /// Why the store itself refuses the command.
     fn refused(&self, command: &Command) -> Option<Refusal>
-        ensures cause { (s : Store) → IsStoreOf self.now.state.tree self.now.names (granted_in self.now) s → result ≡ refusal_of s (request_of command.now) self.now.file_bytes }
+        ensures cause { (s : Store) → IsStoreOf self.now.state.tree self.now.names (granted_in self.now) s
+            → result ≡ refusal_of s (request_of command.now) self.now.file_bytes }
         ensures form { result ≡ None → has_bad_name (request_of command.now) ≡ false }
     {
         refusal(
@@ -292,7 +296,8 @@ impl Owner {
     fn plan(&mut self, alloc: Global, command: &Command) -> Mem<Verdict>
         requires open { self.old.journal.is_closed ≡ false }
         requires form { has_bad_name (request_of command.now) ≡ false }
-        requires accepted { (s : Store) → IsStoreOf self.old.state.tree self.old.names (granted_in self.old) s → refusal_of s (request_of command.now) self.old.file_bytes ≡ None }
+        requires accepted { (s : Store) → IsStoreOf self.old.state.tree self.old.names (granted_in self.old) s
+            → refusal_of s (request_of command.now) self.old.file_bytes ≡ None }
         ensures room { HasOtherRoom self.old self.new }
         ensures answers { AnswersPlan result (request_of command.now) self.old self.new }
     {
@@ -349,8 +354,10 @@ impl Owner {
         requires furnished { IsFurnished (request_of command.now) self.old change room }
         requires count { length drawn.now ≡ length change.ready.skeleton.keys.items }
         requires sizes { AreKeys drawn.now }
-        ensures done { OnOk result (IsCarriedOut (request_of command.now) drawn.now self.old self.new (D.shown disk.old) (D.shown disk.new)) }
-        ensures interrupted { OnErr result (IsInterrupted (request_of command.now) drawn.now self.old (D.shown disk.old) (D.shown disk.new)) }
+        ensures done { OnOk result (IsCarriedOut (request_of command.now) drawn.now self.old self.new (D.shown disk.old)
+            (D.shown disk.new)) }
+        ensures interrupted { OnErr result (IsInterrupted (request_of command.now) drawn.now self.old (D.shown disk.old)
+            (D.shown disk.new)) }
         ensures later { D.moment disk.old ≤ D.moment disk.new }
         ensures time { GoesOn (D.moment disk.old) (D.since disk.old) (D.since disk.new) }
         ensures stops { StopsWithin (request_of command.now) drawn.now self.old (D.shown disk.old) (D.shown disk.new)
@@ -416,7 +423,8 @@ fn begin<D: Disk>(
     requires room { journal.old.end + 110 ≤ journal.old.limit }
     requires counts { is_some counter ≡ journal.old.has_epoch }
     ensures begun { IfOk result (λ starts. HasBegun journal.old journal.new counter starts (D.shown disk.old) (D.shown disk.new)) }
-    ensures interrupted { OnErr result ((journal.old.has_epoch ≡ false) × MayJoin (next_epoch journal.old) journal.old (D.shown disk.old) (D.shown disk.new)) }
+    ensures interrupted { OnErr result ((journal.old.has_epoch ≡ false)
+        × MayJoin (next_epoch journal.old) journal.old (D.shown disk.old) (D.shown disk.new)) }
     ensures later { D.moment disk.old ≤ D.moment disk.new }
     ensures time { GoesOn (D.moment disk.old) (D.since disk.old) (D.since disk.new) }
     ensures adds { AddsBatches (epoch_due journal.old) journal.old (D.shown disk.old) (D.shown disk.new)
@@ -451,11 +459,14 @@ fn commit_within<D: Disk>(
     requires room { payload_size (plain_payload payload.now) ≤ journal.old.room }
     requires ends { journal.old.end + (110 + payload_size (plain_payload payload.now)) ≤ journal.old.limit }
     ensures behind { OnOk result (IsBehind (next_command journal.old (spell_payload (plain_payload payload.now))) journal.old journal.new) }
-    ensures joined { OnOk result (Joins (next_command journal.old (spell_payload (plain_payload payload.now))) journal.old journal.new (D.shown disk.old) (D.shown disk.new)) }
-    ensures interrupted { OnErr result (MayJoin (next_command journal.old (spell_payload (plain_payload payload.now))) journal.old (D.shown disk.old) (D.shown disk.new)) }
+    ensures joined { OnOk result (Joins (next_command journal.old (spell_payload (plain_payload payload.now))) journal.old journal.new
+        (D.shown disk.old) (D.shown disk.new)) }
+    ensures interrupted { OnErr result (MayJoin (next_command journal.old (spell_payload (plain_payload payload.now))) journal.old
+        (D.shown disk.old) (D.shown disk.new)) }
     ensures later { D.moment disk.old ≤ D.moment disk.new }
     ensures time { GoesOn (D.moment disk.old) (D.since disk.old) (D.since disk.new) }
-    ensures adds { AddsBatches (next_command journal.old (spell_payload (plain_payload payload.now)) ∷ []) journal.old (D.shown disk.old) (D.shown disk.new)
+    ensures adds { AddsBatches (next_command journal.old (spell_payload (plain_payload payload.now))
+        ∷ []) journal.old (D.shown disk.old) (D.shown disk.new)
         (D.may_leave disk.old) (D.may_leave disk.new) (D.since disk.new (D.moment disk.old)) }
     ensures begun { journal.new.has_epoch ≡ journal.old.has_epoch }
     ensures owner { journal.new.owner ≡ journal.old.owner }

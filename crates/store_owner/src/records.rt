@@ -29,7 +29,8 @@ pub(crate) fn give_keys(
     requires room { length heads.now ≤ ring.old.spare }
     requires no_owner { (key : _) → In key heads.now → key.0 ≢ Owner }
     requires serials { counter.old.count + length heads.now < 4294967296 }
-    ensures keys { (r : AnyRole) → key_of ring.new r ≡ key_after (key_of ring.old r) (serial_of counter.old.epoch counter.old.count) heads.now drawn.now r }
+    ensures keys { (r : AnyRole) → key_of ring.new r
+        ≡ key_after (key_of ring.old r) (serial_of counter.old.epoch counter.old.count) heads.now drawn.now r }
     ensures counter { counter.new ≡ record { epoch = counter.old.epoch; count = counter.old.count + length heads.now } }
 {
     for i in 0..heads.len() {
@@ -43,7 +44,8 @@ fn give_key(ring: &mut KeyRing, counter: &mut Counter, role: Role, bytes: [u8; 3
     requires no_owner { role ≢ Owner }
     requires room { 1 ≤ ring.old.spare }
     requires serial { counter.old.count < 4294967295 }
-    ensures keys { (r : AnyRole) → key_of ring.new r ≡ cond (same_role role r) (Some (key_for role (serial_of counter.old.epoch counter.old.count) bytes)) (key_of ring.old r) }
+    ensures keys { (r : AnyRole) → key_of ring.new r
+        ≡ cond (same_role role r) (Some (key_for role (serial_of counter.old.epoch counter.old.count) bytes)) (key_of ring.old r) }
     ensures spare { ring.old.spare ≤ ring.new.spare + 1 }
     ensures counter { counter.new ≡ record { epoch = counter.old.epoch; count = counter.old.count + 1 } }
 {
@@ -110,7 +112,8 @@ pub(crate) fn put_contents(
     requires serials { counter.old.count + length heads.now < 4294967296 }
     requires room { length heads.now ≤ contents.old.spare }
     requires empty { contents.old.items ≡ [] }
-    ensures contents { map plain_content contents.new.items ≡ contents_by ring.now (serial_of counter.old.epoch counter.old.count) text.items heads.now }
+    ensures contents { map plain_content contents.new.items
+        ≡ contents_by ring.now (serial_of counter.old.epoch counter.old.count) text.items heads.now }
     ensures spelled { All IsContent (map plain_content contents.new.items) }
     ensures counter { counter.new ≡ record { epoch = counter.old.epoch; count = counter.old.count + length heads.now } }
 {
@@ -131,7 +134,8 @@ fn put_text(
     requires serial { counter.old.count < 4294967295 }
     requires room { 1 ≤ contents.old.spare }
     requires empty { contents.old.items ≡ [] }
-    ensures content { map plain_content contents.new.items ≡ content_by ring.now (serial_of counter.old.epoch counter.old.count) head text.items ∷ [] }
+    ensures content { map plain_content contents.new.items
+        ≡ content_by ring.now (serial_of counter.old.epoch counter.old.count) head text.items ∷ [] }
     ensures spelled { All IsContent (map plain_content contents.new.items) }
     ensures counter { counter.new ≡ record { epoch = counter.old.epoch; count = counter.old.count + 1 } }
 {

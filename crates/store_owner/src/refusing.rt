@@ -23,7 +23,8 @@ pub(crate) fn refusal(
     limits: Limits,
     command: &Command,
 ) -> Option<Refusal>
-    ensures cause { (s : Store) → IsStoreOf shape.now.tree names.now grants.now s → result ≡ refusal_of s (request_of command.now) limits.file_bytes }
+    ensures cause { (s : Store) → IsStoreOf shape.now.tree names.now grants.now s
+        → result ≡ refusal_of s (request_of command.now) limits.file_bytes }
     ensures form { result ≡ None → has_bad_name (request_of command.now) ≡ false }
 {
     refusals_are_the_stores();
@@ -69,7 +70,8 @@ fn refused_grant(
     path: &Text,
 ) -> Option<Refusal>
     requires { is_path path.now.items ≡ true }
-    ensures { result ≡ refusal_of_grant grants.now.checks grants.now.pairs give holder.0 (id_of (node_at (tree_store shape.now.tree names.now) path.now.items)) }
+    ensures { result ≡ refusal_of_grant grants.now.checks grants.now.pairs give holder.0
+        (id_of (node_at (tree_store shape.now.tree names.now) path.now.items)) }
 {
     let folder = folder_at(shape, names, path.as_slice());
     match check_grant(grants, give, holder, folder) {

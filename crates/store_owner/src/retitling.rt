@@ -54,7 +54,8 @@ pub(crate) fn retitling_for(
 /// The change that gives the next folder the last name of a path.
 fn with_folder(alloc: Global, shape: &Shape, path: &Text) -> Mem<Retitling>
     requires { shape.now.tree.folders_made < 4294967295 }
-    ensures { IfOk result (λ change. IsSetting change (Folder (record { 0 = shape.now.tree.folders_made + 1 })) (name_at path.now.items) []) }
+    ensures { IfOk result (λ change. IsSetting change (Folder (record { 0 = shape.now.tree.folders_made + 1 })) (name_at path.now.items)
+        []) }
 {
     let folder = FolderId(shape.folders_made() + 1);
     set_to(alloc, Node::Folder(folder), last_of(path.as_slice()), &[])
@@ -69,7 +70,8 @@ fn with_bytes(
 ) -> Mem<Retitling>
     requires form { is_path path.now.items ≡ true }
     requires files { shape.now.tree.files_made < 4294967295 }
-    ensures { IfOk result (λ change. IsWriting change shape.now.tree.files_made (node_at (tree_store shape.now.tree names.now) path.now.items) (name_at path.now.items) bytes.now.items) }
+    ensures { IfOk result (λ change. IsWriting change shape.now.tree.files_made
+        (node_at (tree_store shape.now.tree names.now) path.now.items) (name_at path.now.items) bytes.now.items) }
 {
     let content = bytes.as_slice();
     let found = node_of(shape, names, path);
@@ -97,7 +99,8 @@ fn with_name(
     name: &Text,
 ) -> Mem<Retitling>
     requires { is_path path.now.items ≡ true }
-    ensures { IfOk result (λ change. IsRenaming change names.now (node_at (tree_store shape.now.tree names.now) path.now.items) name.now.items) }
+    ensures { IfOk result (λ change. IsRenaming change names.now (node_at (tree_store shape.now.tree names.now) path.now.items)
+        name.now.items) }
 {
     let found = node_of(shape, names, path);
     renamed(alloc, names, found, name.as_slice())

@@ -34,7 +34,8 @@ pub(crate) fn sealed_len(command: &Command, text: &Text) -> u64
 /// number of 64 bits.
 pub(crate) fn size_of(note: &Note, skeleton: &Skeleton, text: u64) -> Option<u64>
     requires { text < 2 ^ 63 + 32 }
-    ensures { SomeIff result (skeleton_size (told_note note.now) skeleton.now text < 2 ^ 64) (skeleton_size (told_note note.now) skeleton.now text) }
+    ensures { SomeIff result (skeleton_size (told_note note.now) skeleton.now text < 2 ^ 64)
+        (skeleton_size (told_note note.now) skeleton.now text) }
 {
     let links = skeleton.links.as_slice().len() as u64;
     let contents = skeleton.contents.as_slice().len() as u64;

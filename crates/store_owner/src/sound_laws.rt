@@ -1,5 +1,6 @@
 //! Laws of every owner that is open, on whatever bytes it was opened.
-ghost use Rattle.std.specs.Prelude.{◌≡◌, ◌≢◌, ◌+◌, ◌++◌, ◌*◌, ◌<◌, ◌≤◌, ◌^◌, ℕ, All, IsSome, List, None, Ok, Option, Some, cond, false, length, not, replicate, true};
+ghost use Rattle.std.specs.Prelude.{◌≡◌, ◌≢◌, ◌+◌, ◌++◌, ◌*◌, ◌<◌, ◌≤◌, ◌^◌, ℕ, All, IsSome, List, None, Ok, Option, Some, cond, false};
+ghost use Rattle.std.specs.Prelude.{length, not, replicate, true};
 ghost use Rattle.chacha_seal.specs.Serials.{Counting};
 ghost use Rattle.commit_journal.specs.Journals.{end_with};
 ghost use Rattle.commit_journal.specs.Logs.{AreInEpochs, epoch_behind};
@@ -45,12 +46,15 @@ pub fn sound_owners_keep_a_store()
 
 /// Law: a command that isn't refused, and whose note fits, can be sealed by the keys of the owner's ring.
 pub fn sound_owners_can_seal()
-    ensures { (o : OwnerView) (r : Request) (drawn : List (List ℕ)) (s : Skeleton) (ring : Ringed) (counter : Counting) → IsSound o → has_bad_name r ≡ false
+    ensures { (o : OwnerView) (r : Request) (drawn : List (List ℕ)) (s : Skeleton) (ring : Ringed) (counter : Counting) → IsSound o
+        → has_bad_name r ≡ false
         → refusal_of (own_store o) r o.file_bytes ≡ None
-        → ((at : Stand) → IsSeenAs o.state at → IsSkeleton (told_step (begun (not o.journal.has_epoch) at) (note_of (own_store o) r (replicate 32 0))) s)
+        → ((at : Stand) → IsSeenAs o.state at → IsSkeleton
+        (told_step (begun (not o.journal.has_epoch) at) (note_of (own_store o) r (replicate 32 0))) s)
         → ((at : Stand) → IsSeenAs o.state at → note_fits (begun (not o.journal.has_epoch) at) (note_of (own_store o) r (replicate 32 0))
         (told_step (begun (not o.journal.has_epoch) at) (note_of (own_store o) r (replicate 32 0))) ≡ true)
-        → ring.keys ≡ o.ring.keys → length s.keys.items ≤ ring.spare → length drawn ≡ length s.keys.items → All (λ (key : List ℕ). length key ≡ 32) drawn
+        → ring.keys ≡ o.ring.keys → length s.keys.items ≤ ring.spare → length drawn ≡ length s.keys.items
+        → All (λ (key : List ℕ). length key ≡ 32) drawn
         → cond o.journal.has_epoch (o.counter ≡ Some counter) (counter ≡ record { epoch = o.journal.epoch + 1; count = 0 })
         → CanSeal ring counter s drawn (sealed_text o r drawn) }
 {}
@@ -59,18 +63,22 @@ pub fn sound_owners_can_seal()
 pub fn sound_owners_draw_few_keys()
     ensures { (o : OwnerView) (note : Note) (s : Skeleton) (text : ℕ) → IsSound o → o.journal.limit ≤ 268435456
         → ((at : Stand) → IsSeenAs o.state at → IsSkeleton (told_step (begun (not o.journal.has_epoch) at) note) s)
-        → ((at : Stand) → IsSeenAs o.state at → note_fits (begun (not o.journal.has_epoch) at) note (told_step (begun (not o.journal.has_epoch) at) note) ≡ true)
+        → ((at : Stand) → IsSeenAs o.state at → note_fits (begun (not o.journal.has_epoch) at) note
+        (told_step (begun (not o.journal.has_epoch) at) note) ≡ true)
         → end_with o.journal (skeleton_size note s text) ≤ o.journal.limit → 32 * length s.keys.items < 2 ^ 32 }
 {}
 
 /// Law: an owner stays sound who carries out a command that isn't refused, and whose note fits.
 pub fn carried_out_owners_stay_sound()
-    ensures { (r : Request) (drawn : List (List ℕ)) (old new : OwnerView) (was shows : Option (List ℕ)) → IsSound old → has_bad_name r ≡ false
+    ensures { (r : Request) (drawn : List (List ℕ)) (old new : OwnerView) (was shows : Option (List ℕ)) → IsSound old
+        → has_bad_name r ≡ false
         → refusal_of (own_store old) r old.file_bytes ≡ None
-        → ((at : Stand) → IsSeenAs old.state at → note_fits (begun (not old.journal.has_epoch) at) (note_of (own_store old) r (replicate 32 0))
+        → ((at : Stand) → IsSeenAs old.state at → note_fits (begun (not old.journal.has_epoch) at)
+        (note_of (own_store old) r (replicate 32 0))
         (told_step (begun (not old.journal.has_epoch) at) (note_of (own_store old) r (replicate 32 0))) ≡ true)
         → IsCarriedOut r drawn old new was shows
-        → new.journal.batches ≡ old.journal.batches + cond old.journal.has_epoch 1 2 → new.journal.epoch ≡ old.journal.epoch + cond old.journal.has_epoch 0 1
+        → new.journal.batches ≡ old.journal.batches + cond old.journal.has_epoch 1 2
+        → new.journal.epoch ≡ old.journal.epoch + cond old.journal.has_epoch 0 1
         → IsSound new }
 {}
 
@@ -78,10 +86,12 @@ pub fn carried_out_owners_stay_sound()
 /// each role that has a present one but the holders', each of whom stands in the store; and no file there has more bytes than
 /// one may have. Of the bytes of the log nothing else is asked.
 pub fn owners_visits_open_all()
-    ensures keys { (log : List PlainPlaced) (at : Stand) (start after : Opened) → folded nothing log ≡ Ok at → folder_stands at.store 1 ≡ true → IsSome (key_of start.keys roles.Owner)
+    ensures keys { (log : List PlainPlaced) (at : Stand) (start after : Opened) → folded nothing log ≡ Ok at
+        → folder_stands at.store 1 ≡ true → IsSome (key_of start.keys roles.Owner)
         → visit_all (record { log = log; stand = at }) (all_visits at.store TheOwner ++ holder_visits at.store) start ≡ Ok after
         → (role : Role) (n : ℕ) → newest at.keys.keys role ≡ Some n → ((h : ℕ) → role ≢ holder_role h) → IsSome (key_of after.keys role) }
-    ensures holders { (log : List PlainPlaced) (at : Stand) (start after : Opened) → folded nothing log ≡ Ok at → folder_stands at.store 1 ≡ true → start.store ≡ at.store
+    ensures holders { (log : List PlainPlaced) (at : Stand) (start after : Opened) → folded nothing log ≡ Ok at
+        → folder_stands at.store 1 ≡ true → start.store ≡ at.store
         → visit_all (record { log = log; stand = at }) (all_visits at.store TheOwner ++ holder_visits at.store) start ≡ Ok after
         → (h n : ℕ) → newest at.keys.keys (holder_role h) ≡ Some n → (e : HolderEntry) × In e after.store.holders × (e.number ≡ h) }
     ensures sized { (log : List PlainPlaced) (at : Stand) (start after : Opened) → folded nothing log ≡ Ok at → start.store ≡ at.store
@@ -92,6 +102,7 @@ pub fn owners_visits_open_all()
 /// Law: an owner is sound who has what the payloads of a log leave, each of which fits, and the present key of each role; and
 /// the epoch that they leave is that of the log's last batch.
 pub fn opened_owners_are_sound()
-    ensures epoch { (log : List PlainPlaced) (at : Stand) → AreInEpochs 0 log → folded nothing log ≡ Ok at → at.keys.epoch ≡ epoch_behind 0 log }
+    ensures epoch { (log : List PlainPlaced) (at : Stand) → AreInEpochs 0 log → folded nothing log ≡ Ok at
+        → at.keys.epoch ≡ epoch_behind 0 log }
     ensures sound { (log : List PlainPlaced) (at : Stand) (o : OwnerView) → IsOpenedWith log at o → IsSound o }
 {}

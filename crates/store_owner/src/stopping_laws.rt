@@ -11,9 +11,12 @@ use cry_io::Disk;
 /// Law: a disk that rests at a journal is settled at it, and holds it and no other; and it rests where it is settled and nothing is
 /// pending.
 pub fn resting_disk_is_settled<D: Disk>(disk: &D)
-    ensures settled { (key : List ℕ) (m : Journal) → RestsAt key m (D.shown disk.now) (D.may_leave disk.now) → IsSettled key m (D.shown disk.now) (D.may_leave disk.now) }
-    ensures holds { (key : List ℕ) (m : Journal) → RestsAt key m (D.shown disk.now) (D.may_leave disk.now) → HoldsBetween key m m (D.shown disk.now) (D.may_leave disk.now) }
-    ensures rests { (key : List ℕ) (m : Journal) → IsSettled key m (D.shown disk.now) (D.may_leave disk.now) → IsDurable (D.may_leave disk.now) (D.shown disk.now)
+    ensures settled { (key : List ℕ) (m : Journal) → RestsAt key m (D.shown disk.now) (D.may_leave disk.now)
+        → IsSettled key m (D.shown disk.now) (D.may_leave disk.now) }
+    ensures holds { (key : List ℕ) (m : Journal) → RestsAt key m (D.shown disk.now) (D.may_leave disk.now)
+        → HoldsBetween key m m (D.shown disk.now) (D.may_leave disk.now) }
+    ensures rests { (key : List ℕ) (m : Journal) → IsSettled key m (D.shown disk.now) (D.may_leave disk.now)
+        → IsDurable (D.may_leave disk.now) (D.shown disk.now)
         → RestsAt key m (D.shown disk.now) (D.may_leave disk.now) }
 {}
 
@@ -29,12 +32,18 @@ pub fn disk_stands_still<D: Disk>(disk: &D)
 pub fn stops_of_two_calls<D: Disk>(before: &D, between: &D, after: &D)
     ensures stops { (key : List ℕ) (low middle high : Journal) → D.moment before.now ≤ D.moment between.now
         → GoesOn (D.moment between.now) (D.since between.now) (D.since after.now) → IsPrefix low middle → IsPrefix middle high
-        → ComesToRest key low middle (D.shown before.now) (D.shown between.now) (D.may_leave before.now) (D.may_leave between.now) (D.since between.now (D.moment before.now))
-        → StopsBetween key middle high (D.shown between.now) (D.shown after.now) (D.may_leave between.now) (D.may_leave after.now) (D.since after.now (D.moment between.now))
-        → StopsBetween key low high (D.shown before.now) (D.shown after.now) (D.may_leave before.now) (D.may_leave after.now) (D.since after.now (D.moment before.now)) }
+        → ComesToRest key low middle (D.shown before.now) (D.shown between.now) (D.may_leave before.now) (D.may_leave between.now)
+        (D.since between.now (D.moment before.now))
+        → StopsBetween key middle high (D.shown between.now) (D.shown after.now) (D.may_leave between.now) (D.may_leave after.now)
+        (D.since after.now (D.moment between.now))
+        → StopsBetween key low high (D.shown before.now) (D.shown after.now) (D.may_leave before.now) (D.may_leave after.now)
+        (D.since after.now (D.moment before.now)) }
     ensures rests { (key : List ℕ) (low middle high : Journal) → D.moment before.now ≤ D.moment between.now
         → GoesOn (D.moment between.now) (D.since between.now) (D.since after.now) → IsPrefix low middle → IsPrefix middle high
-        → ComesToRest key low middle (D.shown before.now) (D.shown between.now) (D.may_leave before.now) (D.may_leave between.now) (D.since between.now (D.moment before.now))
-        → ComesToRest key middle high (D.shown between.now) (D.shown after.now) (D.may_leave between.now) (D.may_leave after.now) (D.since after.now (D.moment between.now))
-        → ComesToRest key low high (D.shown before.now) (D.shown after.now) (D.may_leave before.now) (D.may_leave after.now) (D.since after.now (D.moment before.now)) }
+        → ComesToRest key low middle (D.shown before.now) (D.shown between.now) (D.may_leave before.now) (D.may_leave between.now)
+        (D.since between.now (D.moment before.now))
+        → ComesToRest key middle high (D.shown between.now) (D.shown after.now) (D.may_leave between.now) (D.may_leave after.now)
+        (D.since after.now (D.moment between.now))
+        → ComesToRest key low high (D.shown before.now) (D.shown after.now) (D.may_leave before.now) (D.may_leave after.now)
+        (D.since after.now (D.moment before.now)) }
 {}

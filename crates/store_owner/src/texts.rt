@@ -57,7 +57,9 @@ fn written_text(alloc: Global, path: &Text, bytes: &Text) -> Mem<Text>
 fn renamed_text(alloc: Global, shape: &Shape, names: &Names, path: &Text, name: &Text) -> Mem<Text>
     requires form { is_path path.now.items ≡ true }
     requires name { is_name name.now.items ≡ true }
-    ensures { IfOk result (λ text. text.items ≡ the_renamed_text (tree_store shape.now.tree names.now) (node_at (tree_store shape.now.tree names.now) path.now.items) name.now.items) }
+    ensures { IfOk result (λ text. text.items
+        ≡ the_renamed_text (tree_store shape.now.tree names.now) (node_at (tree_store shape.now.tree names.now) path.now.items)
+        name.now.items) }
 {
     let found = node_of(shape, names, path);
     retitled_text(alloc, names, found, name.as_slice())

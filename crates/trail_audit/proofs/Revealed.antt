@@ -159,9 +159,9 @@ seen_on first next keys start middle end one two = record {
   opened = λ c i. ⊎_elim (λ (j : In c first). one.opened c j) (λ (j : In c next). two.opened c j) ((In-append PlacedContent c first next).0 i);
   shown =
       two.shown
-          ∙ ap (λ (s : List PlainSeen). s ++ audit_of keys next) one.shown
-          ∙ append_assoc start (audit_of keys first) (audit_of keys next)
-          ∙ ap (λ (s : List PlainSeen). start ++ s) (sym (flat_map-append (content_shown keys) first next));
+      ∙ ap (λ (s : List PlainSeen). s ++ audit_of keys next) one.shown
+      ∙ append_assoc start (audit_of keys first) (audit_of keys next)
+      ∙ ap (λ (s : List PlainSeen). start ++ s) (sym (flat_map-append (content_shown keys) first next));
 }
 
 pub none_seen : (keys : List KeyParts) (start : List PlainSeen) → AreSeen keys [] start start

@@ -50,11 +50,14 @@ is_text c text = cond (c.kind == 1) (is_folder_text c.object text) (cond (c.kind
 -- the faults of records that an audit may tell: a wrong tag under a right key that the record names, or a text under a right tag
 -- that isn't of its form
 pub data RecordFault (r : Reading) (bundle : Bundle) : Failure → Type 0 where
-  WrongLink : (l : PlacedLink) → In l (log_links r.log) → (source : SourceOf r bundle l.link) → (IsTagged source.key.bytes (ALink l.link) → ⊥) →
+  WrongLink : (l : PlacedLink) → In l (log_links r.log) → (source : SourceOf r bundle l.link)
+      → (IsTagged source.key.bytes (ALink l.link) → ⊥) →
       RecordFault r bundle (OfBytes (Tampered l.batch l.at))
-  WrongContent : (c : PlacedContent) → In c (log_contents r.log) → (seal : SealOf r bundle c.content) → (IsTagged seal.key.bytes (AContent c.content) → ⊥) →
+  WrongContent : (c : PlacedContent) → In c (log_contents r.log) → (seal : SealOf r bundle c.content)
+      → (IsTagged seal.key.bytes (AContent c.content) → ⊥) →
       RecordFault r bundle (OfBytes (Tampered c.batch c.at))
-  WrongText : (c : PlacedContent) → In c (log_contents r.log) → (seal : SealOf r bundle c.content) → IsTagged seal.key.bytes (AContent c.content) →
+  WrongText : (c : PlacedContent) → In c (log_contents r.log) → (seal : SealOf r bundle c.content)
+      → IsTagged seal.key.bytes (AContent c.content) →
       is_text c.content (sealed seal.key.bytes c.content.nonce c.content.cipher) ≡ false → RecordFault r bundle (OfBytes (Damaged c.at))
 
 -- an audit may fail so: as its reading fails, and where that passes, with the fault of any bad record

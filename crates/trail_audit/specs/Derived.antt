@@ -1,6 +1,7 @@
 -- What an audit gives: the names and files that a bundle's key leads to. This project's own, docs/FORMAT.md, "Records" and
 -- "Lines".
-use Rattle.std.specs.Prelude.{◌≡◌, ◌⊎◌, ℕ, Bool, true, false, ◌&&◌, ◌==◌, cond, IsTrue, List, [], ◌∷◌, ◌++◌, filter, map, take, drop, Result, Ok, Err}
+use Rattle.std.specs.Prelude.{◌≡◌, ◌⊎◌, ℕ, Bool, true, false, ◌&&◌, ◌==◌, cond, IsTrue, List, [], ◌∷◌, ◌++◌, filter, map, take, drop}
+use Rattle.std.specs.Prelude.{Result, Ok, Err}
 use Rattle.std.specs.List.{flat_map}
 use Rattle.chacha_seal.specs.Keys.{KeyParts}
 use Rattle.chacha_seal.specs.Sealing.{sealed}
@@ -96,11 +97,13 @@ MayAnswer bundle bytes (Err fault) = IsToldOf (MayFail bundle bytes) fault
 -- the same of a log that was read so
 abbrev pub AnswersAudit : Result Reading Failure → Bundle → Result (Listed Seen) ClientFault → Type 0
 AnswersAudit read bundle (Ok answer) = (r : Reading) × (read ≡ Ok r) × Passes r bundle (map plain_seen answer.items)
-AnswersAudit read bundle (Err fault) = IsToldOf (λ failure. (read ≡ Err failure) ⊎ ((r : Reading) × (read ≡ Ok r) × RecordFault r bundle failure)) fault
+AnswersAudit read bundle (Err fault) = IsToldOf (λ failure. (read ≡ Err failure)
+    ⊎ ((r : Reading) × (read ≡ Ok r) × RecordFault r bundle failure)) fault
 
 -- the same of a log that was read so, as far as the right keys: they were found, or the fault is that of the reading or of a link
 abbrev pub AnswersKeys : Result Reading Failure → Bundle → List PlainPlaced → Result KnownKeys ClientFault → Type 0
-AnswersKeys read bundle log (Ok known) = (r : Reading) × (read ≡ Ok r) × (r.log ≡ log) × AreRightKeys (log_links r.log) (bundle_key bundle r) known.keys.items
+AnswersKeys read bundle log (Ok known) = (r : Reading) × (read ≡ Ok r) × (r.log ≡ log)
+    × AreRightKeys (log_links r.log) (bundle_key bundle r) known.keys.items
 AnswersKeys read bundle log (Err fault) = AnswersAudit read bundle (Err fault)
 
 -- a name or a file of a history, as an audit gives it
@@ -122,7 +125,8 @@ ContentFault contents keys (faults.Tampered batch at) =
     × ((key : KeyParts) × In key keys × IsTrue (is_sealed_by c.content key) × (IsTagged key.bytes (AContent c.content) → ⊥))
 ContentFault contents keys (faults.Damaged at) =
     (c : PlacedContent) × In c contents × (c.at ≡ at)
-    × ((key : KeyParts) × In key keys × IsTrue (is_sealed_by c.content key) × IsTagged key.bytes (AContent c.content) × (is_text c.content (text_with c.content key) ≡ false))
+    × ((key : KeyParts) × In key keys × IsTrue (is_sealed_by c.content key) × IsTagged key.bytes (AContent c.content)
+    × (is_text c.content (text_with c.content key) ≡ false))
 ContentFault contents keys faults.OutOfMemory = Unit {0}
 ContentFault contents keys fault = ⊥
 

@@ -26,4 +26,5 @@ pub record IsForged (owner : List ℕ) (m : Journal) (bytes : List ℕ) (r : Pla
   pub key : KeyParts
   pub of_journal : In key (all_keys owner m)
   pub tagged : IsTagged key.bytes r
-  pub of_no_entry : (own : PlainRecord) → In own (records_of owner m) → key_bytes owner m (sealing_serial own) ≡ key.bytes → spell_record own ≢ spell_record r
+  pub of_no_entry : (own : PlainRecord) → In own (records_of owner m) → key_bytes owner m (sealing_serial own) ≡ key.bytes
+      → spell_record own ≢ spell_record r

@@ -19,4 +19,5 @@ target_of key l = record { id = l.to_id; serial = l.to_serial.0; bytes = sealed 
 -- the right keys: the bundle's, and with a key the target of each link that leads on from it. There are no others
 pub data IsRight (links : List LinkRecord) (bundle : KeyParts) : KeyParts → Type 0 where
   OfBundle : IsRight links bundle bundle
-  Behind : {key : KeyParts} → (l : LinkRecord) → IsRight links bundle key → In l links → LeadsOn key l → IsRight links bundle (target_of key l)
+  Behind : {key : KeyParts} → (l : LinkRecord) → IsRight links bundle key → In l links → LeadsOn key l
+      → IsRight links bundle (target_of key l)

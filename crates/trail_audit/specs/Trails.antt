@@ -24,7 +24,8 @@ records_of_links links = map (λ l. l.link) links
 
 -- each of the links that begins at the key has the right tag under it, and its target is one of the keys
 abbrev pub AreFollowed : List PlacedLink → KeyParts → List KeyParts → Type 0
-AreFollowed links key keys = (l : PlacedLink) → In l links → BeginsAt l.link key → IsTagged key.bytes (ALink l.link) × In (target_of key l.link) keys
+AreFollowed links key keys = (l : PlacedLink) → In l links → BeginsAt l.link key → IsTagged key.bytes (ALink l.link)
+    × In (target_of key l.link) keys
 
 -- the key was added, unless it stood there
 abbrev pub IsKept : KeyParts → List KeyParts → List KeyParts → Type 0

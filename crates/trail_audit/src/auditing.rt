@@ -63,7 +63,8 @@ fn known_keys(
     links: Links,
 ) -> Result<KnownKeys, ClientFault>
     requires kept { (log : TheList PlainPlaced) × HasRead reader log × HasGroups source_of_link links (log_links log) }
-    ensures answer { (log : TheList PlainPlaced) → HasRead reader log → HasGroups source_of_link links (log_links log) → AnswersKeys (read_with bundle.now (Ok log)) bundle.now log result }
+    ensures answer { (log : TheList PlainPlaced) → HasRead reader log → HasGroups source_of_link links (log_links log)
+        → AnswersKeys (read_with bundle.now (Ok log)) bundle.now log result }
     ensures grouped { IfOk result (λ known. HasGroups key_source known.groups known.keys.items) }
     ensures no_disk { result ≢ Err ClientFault.DiskFault }
     ensures seen { result ≢ Err ClientFault.Unseen }

@@ -124,7 +124,8 @@ fn see_folder(
 ) -> Result<(), ClientFault>
     requires kind { found.now.content.kind ≡ 1 }
     ensures form { OnOk result (the_text found.now.content text.items ≡ true) }
-    ensures seen { OnOk result (map spec.plain_seen seen.new.items ≡ map spec.plain_seen seen.old.items ++ spec.text_shown found.now.batch found.now.content text.items) }
+    ensures seen { OnOk result (map spec.plain_seen seen.new.items ≡ map spec.plain_seen seen.old.items
+        ++ spec.text_shown found.now.batch found.now.content text.items) }
     ensures fault { IfErr result (spec.FormFault found.now text.items) }
 {
     if !is_folder_text(found.content.object, text.as_slice()) {
@@ -149,7 +150,8 @@ fn see_file(
 ) -> Result<(), ClientFault>
     requires kind { found.now.content.kind ≡ 2 }
     ensures form { OnOk result (the_text found.now.content text.now ≡ true) }
-    ensures seen { OnOk result (map spec.plain_seen seen.new.items ≡ map spec.plain_seen seen.old.items ++ spec.text_shown found.now.batch found.now.content text.now) }
+    ensures seen { OnOk result (map spec.plain_seen seen.new.items ≡ map spec.plain_seen seen.old.items
+        ++ spec.text_shown found.now.batch found.now.content text.now) }
     ensures fault { IfErr result (spec.FormFault found.now text.now) }
 {
     let Some((name, bytes)) = file_parts(text) else {
@@ -174,7 +176,8 @@ fn see_text(
     seen: &mut List<Seen>,
 ) -> Result<(), ClientFault>
     ensures form { OnOk result (the_text found.now.content text.items ≡ true) }
-    ensures seen { OnOk result (map spec.plain_seen seen.new.items ≡ map spec.plain_seen seen.old.items ++ spec.text_shown found.now.batch found.now.content text.items) }
+    ensures seen { OnOk result (map spec.plain_seen seen.new.items ≡ map spec.plain_seen seen.old.items
+        ++ spec.text_shown found.now.batch found.now.content text.items) }
     ensures fault { IfErr result (spec.FormFault found.now text.items) }
 {
     let kind = found.content.kind;
@@ -195,7 +198,8 @@ fn see_with(
     seen: &mut List<Seen>,
 ) -> Result<(), ClientFault>
     ensures opened { OnOk result (spec.IsOpened (key.now ∷ []) found.now) }
-    ensures seen { OnOk result (map spec.plain_seen seen.new.items ≡ map spec.plain_seen seen.old.items ++ spec.content_shown (key.now ∷ []) found.now) }
+    ensures seen { OnOk result (map spec.plain_seen seen.new.items ≡ map spec.plain_seen seen.old.items
+        ++ spec.content_shown (key.now ∷ []) found.now) }
     ensures fault { IfErr result (spec.ContentFault (found.now ∷ []) (key.now ∷ [])) }
 {
     if !is_sealed_by(found, key) {
@@ -213,7 +217,8 @@ fn see_content(
     seen: &mut List<Seen>,
 ) -> Result<(), ClientFault>
     ensures opened { OnOk result (spec.IsOpened keys.now found.now) }
-    ensures seen { OnOk result (map spec.plain_seen seen.new.items ≡ map spec.plain_seen seen.old.items ++ spec.content_shown keys.now found.now) }
+    ensures seen { OnOk result (map spec.plain_seen seen.new.items ≡ map spec.plain_seen seen.old.items
+        ++ spec.content_shown keys.now found.now) }
     ensures fault { IfErr result (spec.ContentFault (found.now ∷ []) keys.now) }
 {
     for key in keys {
@@ -242,7 +247,8 @@ fn see_under(
     ensures opened { OnOk result ((keys : TheList KeyParts) → HasGroups key_source groups.now keys → spec.IsOpened keys found.now) }
     ensures seen { OnOk result ((keys : TheList KeyParts) → HasGroups key_source groups.now keys →
         map spec.plain_seen seen.new.items ≡ map spec.plain_seen seen.old.items ++ spec.content_shown keys found.now) }
-    ensures fault { IfErr result (λ fault. (keys : TheList KeyParts) → HasGroups key_source groups.now keys → spec.ContentFault (found.now ∷ []) keys fault) }
+    ensures fault { IfErr result (λ fault. (keys : TheList KeyParts) → HasGroups key_source groups.now keys
+        → spec.ContentFault (found.now ∷ []) keys fault) }
 {
     see_content(alloc, found, group_of(groups, source_of(found)), seen)
 }
@@ -257,7 +263,8 @@ pub(crate) fn see_contents(
     seen: &mut List<Seen>,
 ) -> Result<(), ClientFault>
     requires grouped { HasGroups key_source known.now.groups known.now.keys.items }
-    ensures seen { OnOk result (spec.AreSeen known.now.keys.items contents.now (map spec.plain_seen seen.old.items) (map spec.plain_seen seen.new.items)) }
+    ensures seen { OnOk result (spec.AreSeen known.now.keys.items contents.now (map spec.plain_seen seen.old.items)
+        (map spec.plain_seen seen.new.items)) }
     ensures fault { IfErr result (spec.ContentFault contents.now known.now.keys.items) }
 {
     for found in contents {

@@ -23,7 +23,8 @@ pub(crate) fn add_under<T: Drop>(
     item: T,
 ) -> Mem<()>
     ensures { OnOk result ((s : TheSource) → items_of (get same_sources groups.new s)
-        ≡ cond (same_sources source s) (items_of (get same_sources groups.old source) ++ item ∷ []) (items_of (get same_sources groups.old s))) }
+        ≡ cond (same_sources source s) (items_of (get same_sources groups.old source) ++ item
+        ∷ []) (items_of (get same_sources groups.old s))) }
 {
     let mut group = match groups.remove(&source) {
         Some(group) => group,

@@ -43,8 +43,10 @@ impl Kept {
     /// Adds the next batch. After `Err` it is what is kept of no log, and of no more use.
     pub(crate) fn add(&mut self, alloc: Global, placed: &Placed) -> Mem<()>
         requires stands { IsStanding placed.now }
-        requires next { (log : TheList PlainPlaced) × HasKept self.old log × AreInEpochs 0 (log ++ plain_placed placed.now ∷ []) × (placed.now.batch ≡ length log + 1) }
-        ensures { OnOk result ((log : TheList PlainPlaced) → HasKept self.old log → AreInEpochs 0 (log ++ plain_placed placed.now ∷ []) → placed.now.batch ≡ length log + 1 →
+        requires next { (log : TheList PlainPlaced) × HasKept self.old log × AreInEpochs 0 (log ++ plain_placed placed.now ∷ [])
+            × (placed.now.batch ≡ length log + 1) }
+        ensures { OnOk result ((log : TheList PlainPlaced) → HasKept self.old log → AreInEpochs 0 (log ++ plain_placed placed.now ∷ [])
+            → placed.now.batch ≡ length log + 1 →
             HasKept self.new (log ++ plain_placed placed.now ∷ [])) }
     {
         self.reader.add(alloc, placed)?;

@@ -25,14 +25,16 @@ ghost use Rattle.trail_audit.specs.Right.{IsRight, LeadsOn, target_of};
 /// Law: more links take no right key away, and from a right key nothing is right that isn't right from the bundle's.
 pub fn right_keys_grow()
     ensures links { (links more : List LinkRecord) (bundle key : KeyParts) → IsRight links bundle key → IsRight (links ++ more) bundle key }
-    ensures onward { (links : List LinkRecord) (bundle key further : KeyParts) → IsRight links bundle key → IsRight links key further → IsRight links bundle further }
+    ensures onward { (links : List LinkRecord) (bundle key further : KeyParts) → IsRight links bundle key → IsRight links key further
+        → IsRight links bundle further }
 {}
 
 /// Law: a sealed link leads on from its source to its target, and a sealed text has the right tag under its key.
 pub fn sealed_records_lead_on()
     ensures link { (kind : ℕ) (from to : KeyParts) (nonce : ℕ) → LeadsOn from (sealed_link kind from to nonce) }
     ensures target { (kind : ℕ) (from to : KeyParts) (nonce : ℕ) → target_of from (sealed_link kind from to nonce) ≡ to }
-    ensures content { (kind : ℕ) (key : KeyParts) (object nonce : ℕ) (text : List ℕ) → IsTagged key.bytes (AContent (sealed_content kind key object nonce text)) }
+    ensures content { (kind : ℕ) (key : KeyParts) (object nonce : ℕ) (text : List ℕ)
+        → IsTagged key.bytes (AContent (sealed_content kind key object nonce text)) }
 {}
 
 /// Law: a record that the journal published isn't forged under the key that it was sealed with.
@@ -57,8 +59,10 @@ pub fn audits_fail_or_pass()
 /// Law: in the log of a valid journal right links lead from one of its keys to keys of the journal alone: to such whose serials its
 /// history derives, with the bytes that were drawn for them.
 pub fn right_keys_are_derived()
-    ensures { (owner : List ℕ) (m : Journal) → IsValid m → AreWhole owner m → (own key : KeyParts) → own.bytes ≡ key_bytes owner m own.serial →
-        IsRight (links_read (reading_of owner m)) own key → Derives (history m) own.serial key.serial × (key.bytes ≡ key_bytes owner m key.serial) }
+    ensures { (owner : List ℕ) (m : Journal) → IsValid m → AreWhole owner m → (own key : KeyParts)
+        → own.bytes ≡ key_bytes owner m own.serial →
+        IsRight (links_read (reading_of owner m)) own key → Derives (history m) own.serial key.serial
+        × (key.bytes ≡ key_bytes owner m key.serial) }
 {}
 
 /// Law: what an audit of a valid journal's log shows to whoever looks is what the history derives from the own key: a name or a file

@@ -29,7 +29,8 @@ fn read_batches<D: Disk>(
     disk: &mut D,
     owner: Option<&Key<OwnerK>>,
 ) -> Result<ReadLog, ClientFault>
-    ensures verdict { WhereTold (D.shown disk.old) (λ s. Answers (λ read. read.log.given) result (readers.read_log (readers.key_bytes (option_copied owner.entry)) s)) }
+    ensures verdict { WhereTold (D.shown disk.old)
+        (λ s. Answers (λ read. read.log.given) result (readers.read_log (readers.key_bytes (option_copied owner.entry)) s)) }
     ensures kept { IfOk result (λ read. HasKept read.kept read.log.given) }
     ensures shows { WhereTold (D.shown disk.old) (λ s. IfOk result (λ read. ShowsGiven read.log s)) }
     ensures seen { result ≢ Err ClientFault.Unseen }

@@ -80,7 +80,8 @@ fn source_of(link: &LinkRecord) -> Source
 
 /// Adds a link to those that begin where it does.
 fn add_link(links: &mut Links, alloc: Global, found: LinkAt) -> Mem<()>
-    ensures { OnOk result ((before : TheList PlacedLink) → HasGroups source_of_link links.old before → HasGroups source_of_link links.new (before ++ found ∷ [])) }
+    ensures { OnOk result ((before : TheList PlacedLink) → HasGroups source_of_link links.old before
+        → HasGroups source_of_link links.new (before ++ found ∷ [])) }
 {
     add_under(links, alloc, source_of(&found.link), found)
 }
@@ -148,7 +149,8 @@ fn add_contents<'a>(
 /// Adds the contents that a batch carries.
 fn add_contents_of<'a>(found: &mut List<ContentAt<'a>>, placed: &'a Placed) -> Mem<()>
     requires { IsStanding placed.now }
-    ensures { OnOk result (found.new.items ≡ found.old.items ++ spec.body_contents placed.now.batch placed.now.place (plain_body placed.now.body)) }
+    ensures { OnOk result (found.new.items ≡ found.old.items
+        ++ spec.body_contents placed.now.batch placed.now.place (plain_body placed.now.body)) }
 {
     let Body::Commands(payload) = &placed.body else {
         return Ok(());

@@ -32,8 +32,10 @@ fn see_batch<D: Disk>(
 ) -> Result<(), ClientFault>
     requires given { (1 ≤ batch) × (batch ≤ length log.now.given) }
     requires grouped { HasGroups key_source known.now.groups known.now.keys.items }
-    ensures answer { WhereTold (D.shown disk.old) (λ s. (p : PlainPlaced) → again_in log.now batch s ≡ Ok p → AreSeals seals.now (body_contents p.batch p.place p.body) →
-        MatchResult result (λ _. AreSeen known.now.keys.items (body_contents p.batch p.place p.body) (map plain_seen seen.old.items) (map plain_seen seen.new.items))
+    ensures answer { WhereTold (D.shown disk.old) (λ s. (p : PlainPlaced) → again_in log.now batch s ≡ Ok p
+        → AreSeals seals.now (body_contents p.batch p.place p.body) →
+        MatchResult result (λ _. AreSeen known.now.keys.items (body_contents p.batch p.place p.body) (map plain_seen seen.old.items)
+        (map plain_seen seen.new.items))
         (RereadFault (body_contents p.batch p.place p.body) known.now.keys.items)) }
     ensures unseen { result ≢ Err ClientFault.Unseen }
     ensures read_only { IsOnlyRead D.shown D.size_of D.may_leave disk.old disk.new }

@@ -140,9 +140,11 @@ pub(crate) fn right_keys(
     groups: &Links,
     bundle: RightKey,
 ) -> Result<KnownKeys, ClientFault>
-    ensures keys { IfOk result (λ known. (links : TheList PlacedLink) → HasGroups source_of_link groups.now links → AreRightKeys links bundle known.keys.items) }
+    ensures keys { IfOk result (λ known. (links : TheList PlacedLink) → HasGroups source_of_link groups.now links
+        → AreRightKeys links bundle known.keys.items) }
     ensures grouped { IfOk result (λ known. HasGroups key_source known.groups known.keys.items) }
-    ensures fault { IfErr result (λ fault. (links : TheList PlacedLink) → HasGroups source_of_link groups.now links → LinkFault links bundle fault) }
+    ensures fault { IfErr result (λ fault. (links : TheList PlacedLink) → HasGroups source_of_link groups.now links
+        → LinkFault links bundle fault) }
 {
     let mut known = KnownKeys {
         keys: List::new(alloc),

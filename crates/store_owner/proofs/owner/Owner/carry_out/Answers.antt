@@ -161,12 +161,13 @@ invariant_of-self-2 g c = λ still.
     let behind = c.in-Ok-commit_within.ensures.behind in
     let spelled = length-spell_payload (plain_payload c.seal_step-payload.result) c.seal_step-payload.ensures.spellable in
     let size : payload_size (plain_payload c.seal_step-payload.result) ≡ planned_size r before =
-    c.seal_step-payload.ensures.skeleton_size ∙ size_for r drawn old before after at drafted keyed c.requires.count c.requires.sizes own c.is_seen.ensures c.skeleton.result.now c.skeleton.ensures in
-    (c.carried_out_owners_stay_sound.ensures r drawn old new was shows sound c.requires.form accepted fits done
-    (batches_for i.journal.has_epoch new.journal.batches c.begin.new.journal.batches i.journal.batches behind.batches has.batches) (behind.epoch ∙ has.epoch),
-    subst (λ (t : Counted). IsWithin t new.journal.end) (sym c.with-tally.ensures)
-    (within_on i.tally (told_note before.note) before.ready.skeleton (length (before.text.items ++ due_key r (replicate 32 0))) i.journal.end c.begin.new.journal.end (length (spell_payload (plain_payload c.seal_step-payload.result))) new.journal.end i.journal.has_epoch
-    both.1 has.end (spelled ∙ size) behind.end))
+    c.seal_step-payload.ensures.skeleton_size ∙ size_for r drawn old before after at drafted keyed c.requires.count c.requires.sizes own c.is_seen.ensures c.skeleton.result.now c.skeleton.ensures in (
+      c.carried_out_owners_stay_sound.ensures r drawn old new was shows sound c.requires.form accepted fits done
+          (batches_for i.journal.has_epoch new.journal.batches c.begin.new.journal.batches i.journal.batches behind.batches has.batches) (behind.epoch ∙ has.epoch),
+      subst (λ (t : Counted). IsWithin t new.journal.end) (sym c.with-tally.ensures)
+          (within_on i.tally (told_note before.note) before.ready.skeleton (length (before.text.items ++ due_key r (replicate 32 0))) i.journal.end c.begin.new.journal.end (length (spell_payload (plain_payload c.seal_step-payload.result))) new.journal.end i.journal.has_epoch
+          both.1 has.end (spelled ∙ size) behind.end),
+    )
 
 pub returns-clause-done : goal.returns-clause-done
 returns-clause-done g c =
