@@ -9,7 +9,7 @@ use Rattle.public_fold.specs.Journal.{Journal}
 
 module _ (limits : Limits) (key : List ℕ) (m : Journal) (lines : List InputLine) (seen : Seen) (may_leave : List ℕ → Type 0) (KeepsTo More : Journal → Type 0)
     (more : (reached : Journal) → KeepsTo reached → More reached) where
-  has_run : (rest : List InputLine) → HasRun limits key m lines rest seen may_leave KeepsTo → HasRun limits key m lines rest seen may_leave More
+  abbrev has_run : (rest : List InputLine) → HasRun limits key m lines rest seen may_leave KeepsTo → HasRun limits key m lines rest seen may_leave More
   has_run rest run = record {
     asked = run.asked;
     asks = run.asks;
