@@ -231,7 +231,7 @@ returns-in_default-commit_within-clause-interrupted g c =
 pub returns-in_default-clause-stops : goal.returns-in_default-clause-stops
 returns-in_default-clause-stops g c =
     let i = c.self.inside in
-    let old : OwnerView = record { key = i.key.bytes; journal = i.journal; state = i.state; names = i.names; ring = i.ring; counter = i.counter; file_bytes = i.limits.file_bytes } in
+    let old : OwnerView = record { key = i.key.bytes; journal = i.journal; state = i.state; names = i.names; ring = i.ring; counter = i.counter; file_bytes = i.limits.file_bytes; tally = i.tally } in
     let D = g.D.Disk in
     let a = c.args.disk.now in
     let b = c.begin.new.disk in
@@ -244,7 +244,7 @@ pub returns-in_default-commit_within-clause-stops : goal.returns-in_default-comm
 unfolding sealed_for
 returns-in_default-commit_within-clause-stops g c =
     let i = c.self.inside in
-    let old : OwnerView = record { key = i.key.bytes; journal = i.journal; state = i.state; names = i.names; ring = i.ring; counter = i.counter; file_bytes = i.limits.file_bytes } in
+    let old : OwnerView = record { key = i.key.bytes; journal = i.journal; state = i.state; names = i.names; ring = i.ring; counter = i.counter; file_bytes = i.limits.file_bytes; tally = i.tally } in
     let D = g.D.Disk in
     let a = c.args.disk.now in
     let b = c.begin.new.disk in
@@ -279,7 +279,7 @@ pub returns-clause-stops : goal.returns-clause-stops
 unfolding sealed_for
 returns-clause-stops g c =
     let i = c.self.inside in
-    let old : OwnerView = record { key = i.key.bytes; journal = i.journal; state = i.state; names = i.names; ring = i.ring; counter = i.counter; file_bytes = i.limits.file_bytes } in
+    let old : OwnerView = record { key = i.key.bytes; journal = i.journal; state = i.state; names = i.names; ring = i.ring; counter = i.counter; file_bytes = i.limits.file_bytes; tally = i.tally } in
     let D = g.D.Disk in
     let a = c.args.disk.now in
     let b = c.begin.new.disk in
