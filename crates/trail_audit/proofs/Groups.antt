@@ -1,5 +1,5 @@
 -- Groups as items are added, and what is found in them.
-use Rattle.std.proofs.Common.{◌≡◌, ⊎_elim, ℕ, Bool, true, false, ◌==◌, List, [], ◌∷◌, ◌++◌, cond, filter, refl, sym, ap, subst, ◌∙◌}
+use Rattle.std.proofs.Common.{◌≡◌, ⊎_elim, Bool, true, false, ◌==◌, List, [], ◌∷◌, ◌++◌, cond, filter, refl, sym, ap, subst, ◌∙◌}
 use Rattle.std.specs.HashMap.{HashMap, get}
 use Rattle.std.specs.List.{flat_map}
 use Rattle.std.specs.Map.{lookup}

@@ -1,4 +1,4 @@
-use Rattle.std.proofs.Common.{◌≤◌, ◌∷◌, [], List, length, map, sym, subst, arith}
+use Rattle.std.proofs.Common.{◌≤◌, ◌∷◌, [], List, length, map, subst, arith}
 use Rattle.std.proofs.lemmas.List.{take_all}
 use Rattle.std.proofs.lemmas.Result.{err_from_is_err_and}
 use Rattle.holder_client.specs.Placing.{PlacedContent}

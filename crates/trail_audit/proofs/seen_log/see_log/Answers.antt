@@ -1,4 +1,4 @@
-use Rattle.std.proofs.Common.{◌≡◌, ◌<◌, ◌≤◌, ◌+◌, List, [], length, map, refl, sym, ap, subst, ◌∙◌, arith}
+use Rattle.std.proofs.Common.{◌<◌, ◌≤◌, List, [], length, map, refl, sym, ap, subst, ◌∙◌, arith}
 use Rattle.std.proofs.lemmas.List.{take_all}
 use Rattle.std.proofs.lemmas.Result.{err_from_is_err_and}
 use Rattle.commit_journal.proofs.Walked.{only_read_twice}
@@ -20,8 +20,8 @@ loop-done-init g c = record {
   counts = omega arith;
 }
 
-pub seals_at-requires : goal.seals_at-requires
-seals_at-requires g c = omega (arith, c.loop-done-test.true, c.requires.last, as_many c.args.seals.now c.args.log.now.given c.requires.seals)
+pub seals_at-sealed-requires : goal.seals_at-sealed-requires
+seals_at-sealed-requires g c = omega (arith, c.loop-done-test.true, c.requires.last, as_many c.args.seals.now c.args.log.now.given c.requires.seals)
 
 pub loop-done-preserved : goal.loop-done-preserved
 loop-done-preserved g c =
