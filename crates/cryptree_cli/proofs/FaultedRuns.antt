@@ -1,9 +1,9 @@
 -- How `run` ends where its lines met a fault.
-use Rattle.std.proofs.Common.{◌≡◌, ◌≢◌, ◌+◌, ℕ, Option, None, Err, false, arith, refl, subst}
+use Rattle.std.proofs.Common.{◌≡◌, ◌≢◌, ◌+◌, ◌<◌, ℕ, Bool, true, Option, None, Err, false, ap, arith, refl, subst}
 use Rattle.std.specs.Prelude.{IsTrue}
 use Rattle.std.proofs.lemmas.Bool.{false≢true, ne_eqb}
 use Rattle.cryptree_cli.specs.Running.{Judges, is_after_opening, is_before_opening, is_run_answer, script_status}
-use Rattle.cryptree_cli.specs.Script.{NumbersBad}
+use Rattle.cryptree_cli.specs.Script.{NumbersBad, ReadsByCount, WritesByCount}
 use Rattle.cryptree_cli.specs.declared.script.ScriptFault.{ScriptFault}
 use Rattle.cryptree_cli.specs.declared.script.ScriptFault.TheVariants.{BadLine, ReadFault, WriteFault, OutOfMemory, Applying}
 use Rattle.cryptree_cli.specs.declared.status.Status.{Status}
@@ -47,3 +47,51 @@ faulted_behind (Applying faults.OutOfMemory) given asked first number = refl
 
 pub after_no_disk_fault : (status : Status) → IsTrue (is_after_opening status) → status ≢ statuses.DiskFault
 after_no_disk_fault status after is = false≢true (subst (λ s. IsTrue (is_after_opening s)) is after)
+
+abbrev is_done : Status → Bool
+is_done statuses.Done = true
+is_done _ = false
+
+abbrev is_read_fault : Status → Bool
+is_read_fault statuses.ReadFault = true
+is_read_fault _ = false
+
+abbrev is_write_fault : Status → Bool
+is_write_fault statuses.WriteFault = true
+is_write_fault _ = false
+
+-- lines that met a fault aren't done
+pub faulted_undone : {X : Type 0} (fault : ScriptFault) → script_status fault ≡ statuses.Done → X
+faulted_undone (BadLine line) is = absurd (false≢true (ap is_done is))
+faulted_undone ReadFault is = absurd (false≢true (ap is_done is))
+faulted_undone WriteFault is = absurd (false≢true (ap is_done is))
+faulted_undone OutOfMemory is = absurd (false≢true (ap is_done is))
+faulted_undone (Applying faults.RandomFault) is = absurd (false≢true (ap is_done is))
+faulted_undone (Applying (faults.RandomShort had need)) is = absurd (false≢true (ap is_done is))
+faulted_undone (Applying faults.DiskFault) is = absurd (false≢true (ap is_done is))
+faulted_undone (Applying faults.Closed) is = absurd (false≢true (ap is_done is))
+faulted_undone (Applying faults.OutOfMemory) is = absurd (false≢true (ap is_done is))
+
+-- the input's count rose where its fault is told
+pub faulted_reads : (fault : ScriptFault) (old new : ℕ) → ReadsByCount {U = Unit {0}} (Err fault) old new → script_status fault ≡ statuses.ReadFault → old < new
+faulted_reads (BadLine line) old new counts is = absurd (false≢true (ap is_read_fault is))
+faulted_reads ReadFault old new counts is = counts
+faulted_reads WriteFault old new counts is = absurd (false≢true (ap is_read_fault is))
+faulted_reads OutOfMemory old new counts is = absurd (false≢true (ap is_read_fault is))
+faulted_reads (Applying faults.RandomFault) old new counts is = absurd (false≢true (ap is_read_fault is))
+faulted_reads (Applying (faults.RandomShort had need)) old new counts is = absurd (false≢true (ap is_read_fault is))
+faulted_reads (Applying faults.DiskFault) old new counts is = absurd (false≢true (ap is_read_fault is))
+faulted_reads (Applying faults.Closed) old new counts is = absurd (false≢true (ap is_read_fault is))
+faulted_reads (Applying faults.OutOfMemory) old new counts is = absurd (false≢true (ap is_read_fault is))
+
+-- and the output's where its fault is
+pub faulted_writes : (fault : ScriptFault) (old new : ℕ) → WritesByCount (Err fault) old new → script_status fault ≡ statuses.WriteFault → old < new
+faulted_writes (BadLine line) old new counts is = absurd (false≢true (ap is_write_fault is))
+faulted_writes ReadFault old new counts is = absurd (false≢true (ap is_write_fault is))
+faulted_writes WriteFault old new counts is = counts
+faulted_writes OutOfMemory old new counts is = absurd (false≢true (ap is_write_fault is))
+faulted_writes (Applying faults.RandomFault) old new counts is = absurd (false≢true (ap is_write_fault is))
+faulted_writes (Applying (faults.RandomShort had need)) old new counts is = absurd (false≢true (ap is_write_fault is))
+faulted_writes (Applying faults.DiskFault) old new counts is = absurd (false≢true (ap is_write_fault is))
+faulted_writes (Applying faults.Closed) old new counts is = absurd (false≢true (ap is_write_fault is))
+faulted_writes (Applying faults.OutOfMemory) old new counts is = absurd (false≢true (ap is_write_fault is))

@@ -2,7 +2,7 @@ use Rattle.std.proofs.Common.{◌≡◌, ◌≤◌, IsTrue, false, length, Ok, E
 use Rattle.cryptree_cli.specs.Lines.{bytes_ahead, lines_ahead}
 use Rattle.cryptree_cli.specs.Running.{Ends, Judges, RanLines, RanTaking, TakesBehindFirst, is_before_opening, is_run_answer, version_limits}
 use Rattle.cryptree_cli.specs.Stopping.{LinesKeepUpTo}
-use Rattle.cryptree_cli.proofs.FaultedRuns.{after_no_disk_fault, faulted_answers, faulted_behind, faulted_judges}
+use Rattle.cryptree_cli.proofs.FaultedRuns.{after_no_disk_fault, faulted_answers, faulted_behind, faulted_judges, faulted_reads, faulted_undone, faulted_writes}
 use Rattle.cryptree_cli.proofs.LinesRun.{ran_lines, ran_taking}
 use Rattle.cryptree_cli.proofs.ReadFaults.{cut_lines}
 use Rattle.cryptree_cli.proofs.RunLemmas.{Fails, Step, calm_but, calm_is, disk_fault, ends_so, goes_on, random_fault, random_short, time_goes_on}
@@ -249,3 +249,14 @@ pub returns-clause-not_first : goal.returns-clause-not_first
 returns-clause-not_first g c =
     subst (λ status. is_before_opening status ≡ false) (sym c.script_status.ensures)
     (faulted_behind c.in-Err.fault c.args.reader.given (length c.in-Err.ensures.ran.asked) c.requires.second c.in-Err.ensures.ran.number)
+
+pub returns-clause-read_to_end : goal.returns-clause-read_to_end
+returns-clause-read_to_end g c = λ done. faulted_undone c.in-Err.fault (sym c.script_status.ensures ∙ done)
+
+pub returns-clause-read_fault : goal.returns-clause-read_fault
+returns-clause-read_fault g c = λ is.
+    faulted_reads c.in-Err.fault (g.S.Source.faults c.args.input.now) (g.S.Source.faults c.run_lines.new.input) c.in-Err.ensures.input_counts (sym c.script_status.ensures ∙ is)
+
+pub returns-clause-write_fault : goal.returns-clause-write_fault
+returns-clause-write_fault g c = λ is.
+    faulted_writes c.in-Err.fault (g.W.Sink.faults c.args.out.now) (g.W.Sink.faults c.run_lines.new.out) c.in-Err.ensures.out_counts (sym c.script_status.ensures ∙ is)
