@@ -1,6 +1,18 @@
-//! How large a store may grow.
+//! How large a store of version 1, its files, its names and its tree may grow.
 ghost use Rattle.std.specs.Prelude.{◌≡◌};
 ghost use Rattle.cry_base.specs.Limits.{limits_of_version};
+
+/// The most bytes that a store file may have.
+pub const STORE_BYTES: u64 = 268_435_456;
+
+/// The most bytes that one file in a store may have.
+pub const FILE_BYTES: u32 = 1_048_576;
+
+/// The most bytes that a name may have.
+pub const NAME_BYTES: usize = 64;
+
+/// The most folders that stand one in another below the root.
+pub const DEPTH: u32 = 64;
 
 /// The sizes that a writer keeps to.
 #[derive(Clone, Copy, Debug, PartialEq, Eq)]
@@ -17,8 +29,8 @@ pub fn limits_of(version: u8) -> Option<Limits>
 {
     match version {
         1 => Some(Limits {
-            store_bytes: 268_435_456,
-            file_bytes: 1_048_576,
+            store_bytes: STORE_BYTES,
+            file_bytes: FILE_BYTES,
         }),
         _ => None,
     }

@@ -14,9 +14,7 @@ use crate::spots::Spot;
 use crate::trying::{files_to_try, first_file, first_folder, folders_to_try};
 use crate::walking::{Way, walk};
 use crate::{Names, Shape, path_ok};
-use cry_base::{FileId, FolderId, Node};
-
-pub(crate) const ROOT: FolderId = FolderId(1);
+use cry_base::{FileId, FolderId, Node, ROOT};
 
 /// The folder or file with the path: a folder before a file, and a lower number first. It goes down from the root, and
 /// tries in each folder its children or all that have the name, whichever are fewer. Where two folders have one path, as

@@ -4,8 +4,7 @@ ghost use Rattle.std.specs.List.{list_all, position};
 ghost use Rattle.cry_base.specs.Naming.{is_name, is_name_byte, is_path, is_root_path, names_of, last_name, parent_path, split_at_slashes};
 ghost use Rattle.folder_nodes.specs.Pieces.{pieces_of};
 
-/// The most bytes that a name may have.
-pub const NAME_BYTES: usize = 64;
+use cry_base::NAME_BYTES;
 
 /// Whether a name may have the byte.
 #[tactic(auto, unfolding(cry_base::specs::Naming::is_name_byte, cry_base::specs::Naming::is_between))]

@@ -15,7 +15,7 @@ use crate::naming::{count_names, front_of, last_piece};
 use crate::spots::Spot;
 use crate::trying::{files_to_try, folders_to_try, is_file_in, is_folder_in};
 use crate::{Names, Shape};
-use cry_base::{FolderId, Node};
+use cry_base::{DEPTH, FolderId, Node};
 
 /// The folder that a node with the path is put into, or the file that stands there.
 pub(crate) fn place_of(shape: &Shape, names: &Names, path: &[u8]) -> Option<Node>
@@ -32,7 +32,7 @@ pub(crate) fn has_no_depth(path: &[u8]) -> bool
     requires other { is_root_path path.now ≡ false }
     ensures { result ≡ nat_lt 64 (length (names_of path.now)) }
 {
-    count_names(path) > 64
+    count_names(path) > DEPTH as usize
 }
 
 /// Whether a folder or file in the folder has the name.
@@ -126,7 +126,7 @@ pub(crate) fn is_too_high(shape: &Shape, names: &Names, node: Node, into: Folder
     ensures { result ≡ nat_lt 64 (depth_of (tree_store shape.now.tree names.now) (Folder into) + 1 + height_of
         (tree_store shape.now.tree names.now) (Some node)) }
 {
-    let left = 64 - shape.depth(into);
+    let left = DEPTH - shape.depth(into);
     match node {
         Node::Folder(folder) => shape.height(folder) >= left,
         Node::File(_) => left == 0,

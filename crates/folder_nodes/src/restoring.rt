@@ -9,7 +9,7 @@ ghost use Rattle.folder_nodes.specs.Trees.{IsTree};
 use crate::grouped::Grouped;
 use crate::rows::FolderKey;
 use crate::{FileRow, FolderRow, Shape};
-use cry_base::{List, Mem};
+use cry_base::{DEPTH, List, Mem, ROOT};
 use sorted_table::Table;
 use std::alloc::Global;
 
@@ -101,20 +101,20 @@ fn are_files_placed(rows: &[FileRow], folders: &Table<FolderRow>) -> bool
 fn has_root(folders: &Table<FolderRow>, made: u32) -> bool
     ensures { result ≡ restoring.has_root (map folder_of_row folders.now.rows) made }
 {
-    made == 0 || stands(folders, 1)
+    made == 0 || stands(folders, ROOT.0)
 }
 
 fn is_placed(folders: &Table<FolderRow>, row: FolderRow) -> bool
     ensures { result ≡ restoring.is_placed (map folder_of_row folders.now.rows) (folder_of_row row) }
 {
-    has_its_parent(folders, row) && levels(folders, row.id.0) <= 65
+    has_its_parent(folders, row) && levels(folders, row.id.0) <= DEPTH + 1
 }
 
 /// Whether the root has no parent, and another folder has one.
 fn has_its_parent(folders: &Table<FolderRow>, row: FolderRow) -> bool
     ensures { result ≡ restoring.has_its_parent (map folder_of_row folders.now.rows) (folder_of_row row) }
 {
-    if row.id.0 == 1 {
+    if row.id == ROOT {
         row.parent == 0
     } else {
         stands(folders, row.parent)
@@ -124,7 +124,7 @@ fn has_its_parent(folders: &Table<FolderRow>, row: FolderRow) -> bool
 fn is_file_placed(folders: &Table<FolderRow>, f: u32) -> bool
     ensures { result ≡ restoring.is_file_placed (map folder_of_row folders.now.rows) f }
 {
-    stands(folders, f) && levels(folders, f) <= 64
+    stands(folders, f) && levels(folders, f) <= DEPTH
 }
 
 fn stands(folders: &Table<FolderRow>, f: u32) -> bool

@@ -6,10 +6,10 @@ ghost use Rattle.folder_nodes.specs.Spelling as spelling;
 ghost use Rattle.folder_nodes.specs.Titles.{tree_store};
 ghost use Rattle.folder_nodes.specs.Ways.{IsWay};
 
-use crate::finding::ROOT;
 use crate::naming::{behind_slash, first_piece};
 use crate::trying::{first_folder, folders_to_try, has_another};
 use crate::{Names, Shape};
+use cry_base::ROOT;
 
 /// Where names lead to: to one folder alone, to none, or to several, as on a disk that was changed.
 #[derive(Clone, Copy, Debug)]

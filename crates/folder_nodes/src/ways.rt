@@ -6,7 +6,7 @@ ghost use Rattle.cry_base.specs.Store.{folder_entry, file_entry, folder_node, de
 ghost use Rattle.folder_nodes.specs.Looking.{parent_number_of, folder_number_of};
 
 use crate::{FileRow, FolderRow, Shape};
-use cry_base::FolderId;
+use cry_base::{DEPTH, FolderId};
 
 impl Shape {
     /// The number of the folder that a folder is in: 0 above the root.
@@ -62,14 +62,14 @@ impl Shape {
     {
         self.is_tree();
         let mut here = f.0;
-        for depth in 0..64u32 {
+        for depth in 0..DEPTH {
             let parent = self.parent_number(here);
             if parent == 0 {
                 return depth;
             }
             here = parent;
         }
-        64
+        DEPTH
     }
 
     /// Levels from the folder down to its deepest node: 0 where it has no child. It looks at all folders and files.

@@ -11,7 +11,19 @@ ghost use Rattle.record_format.specs.Plain.{plain_content};
 ghost use Rattle.record_format.specs.Spellable.{shortest_text, longest_text};
 ghost use Rattle.record_format.specs.Spelling.{content_head};
 
-use cry_base::{Serial, Text};
+use cry_base::{FILE_BYTES, NAME_BYTES, Serial, Text};
+
+/// The kind of a content that is a folder's name.
+pub const FOLDER_NAME: u8 = 1;
+
+/// The kind of a content that is a file's name and bytes.
+pub const FILE_TEXT: u8 = 2;
+
+/// The kind of a content that is a holder's key.
+pub const HOLDER_KEY: u8 = 3;
+
+/// The bytes that a content has beside its text.
+pub const CONTENT_FRAME_LEN: u64 = 58;
 
 /// A text, sealed under the key of a role.
 #[derive(Debug, Drop, PartialEq, Eq)]
@@ -47,13 +59,13 @@ pub fn content_header(content: &ContentRecord) -> [u8; 26]
 }
 
 /// The fewest and the most bytes that the text of a content of this kind has.
-pub(crate) fn text_range(kind: u8) -> (u32, u32)
+pub fn text_range(kind: u8) -> (u32, u32)
     ensures shortest { result.0 ≡ shortest_text kind }
     ensures longest { result.1 ≡ longest_text kind }
 {
     match kind {
-        2 => (2, 1_048_641),
-        3 => (32, 32),
-        _ => (0, 64),
+        FILE_TEXT => (2, 1 + NAME_BYTES as u32 + FILE_BYTES),
+        HOLDER_KEY => (32, 32),
+        _ => (0, NAME_BYTES as u32),
     }
 }

@@ -11,10 +11,13 @@ mod payload;
 mod reading;
 mod writing;
 
-pub use content::{ContentRecord, content_header};
+pub use content::{
+    CONTENT_FRAME_LEN, ContentRecord, FILE_TEXT, FOLDER_NAME, HOLDER_KEY, content_header,
+    text_range,
+};
 pub use fault::PayloadFault;
 pub use laws::{spelling_has_its_size, spelling_is_prefix_free, spelling_reads_back};
-pub use link::{LinkRecord, link_header};
+pub use link::{LINK_LEN, LinkRecord, link_header};
 pub use note::Note;
 pub use payload::{Payload, payload_len};
 pub use reading::read_payload;

@@ -12,6 +12,9 @@ ghost use Rattle.record_format.specs.Spelling.{link_head};
 
 use cry_base::Serial;
 
+/// The bytes of a link.
+pub const LINK_LEN: u64 = 98;
+
 /// The key of one role, sealed under the key of another.
 #[derive(Clone, Copy, Debug, PartialEq, Eq)]
 pub struct LinkRecord {

@@ -7,6 +7,8 @@ ghost use Rattle.record_format.specs.Sizes.{note_size, payload_size};
 ghost use Rattle.record_format.specs.Spellable.{IsSpellable};
 ghost use Rattle.record_format.specs.Spelling.{spell_payload};
 
+use crate::content::CONTENT_FRAME_LEN;
+use crate::link::LINK_LEN;
 use crate::{ContentRecord, LinkRecord, Note};
 use cry_base::List;
 
@@ -39,7 +41,7 @@ fn contents_len(contents: &[ContentRecord]) -> u64
 {
     contents
         .iter()
-        .map(|content| 58 + content.cipher.as_slice().len() as u64)
+        .map(|content| CONTENT_FRAME_LEN + content.cipher.as_slice().len() as u64)
         .sum()
 }
 
@@ -49,6 +51,6 @@ pub fn payload_len(payload: &Payload) -> u64
     ensures size { result ≡ payload_size (plain_payload payload.now) }
     ensures spelled { result ≡ length (spell_payload (plain_payload payload.now)) }
 {
-    let links = 98 * payload.links.as_slice().len() as u64;
+    let links = LINK_LEN * payload.links.as_slice().len() as u64;
     note_len(&payload.note) + 8 + links + contents_len(payload.contents.as_slice())
 }
