@@ -7,5 +7,5 @@ mod steps;
 mod writing;
 
 pub use appending::append;
-pub use steps::{Gated, Staged, gated_at, open_gate, stage, unveil};
+pub use steps::{Gated, OPEN, Staged, gated_at, open_gate, stage, unveil};
 pub use writing::write_header;

@@ -13,7 +13,7 @@ use cry_io::{Disk, Failed};
 use std::marker::Model;
 
 /// The byte of an open gate.
-const OPEN: u8 = 1;
+pub const OPEN: u8 = 1;
 
 /// The place of the slot in a batch.
 const SLOT: u64 = 13;

@@ -1,12 +1,4 @@
-//! A batch in memory, from its head to the gate behind it (docs/FORMAT.md, "The file"):
-//!
-//! ```text
-//!  0   1  type            45      L  masked payload
-//!  1   4  number          45+L   32  check
-//!  5   4  epoch           77+L   32  owner tag
-//!  9   4  L              109+L    1  next gate
-//! 13  32  slot
-//! ```
+//! A batch in memory, from its head to the gate behind it, as layout.rt draws it.
 ghost use Rattle.std.specs.Prelude.{◌≡◌, ◌+◌, ◌<◌, ◌≤◌, ◌^◌, ℕ, List, [], ◌∷◌, ◌++◌, length, take, drop};
 ghost use Rattle.hmac_seal.specs.Hmac as mac;
 ghost use Rattle.chacha_seal.specs.Sealing as sealing;
@@ -18,30 +10,20 @@ ghost use Rattle.commit_journal.specs.Image as image;
 ghost use Rattle.commit_journal.specs.Journals as journals;
 
 use crate::BatchType;
-use crate::head::HEAD_LEN;
+use crate::layout::{
+    BACK_LEN, CLOSED, COMMAND, EMPTY_SLOT, EPOCH, EPOCH_BATCH_LEN, HEAD_LEN, PAYLOAD,
+};
 use chacha_seal::{LogKey, mask_in_place};
 use cry_base::{Epoch, Text};
 use hmac_seal::hmac;
 use record_format::{Payload, payload_len, put_payload};
 
-/// The bytes of a batch without a payload.
-pub(crate) const EPOCH_BATCH_LEN: usize = 110;
-
-const PAYLOAD: usize = 45;
-
-/// The bytes behind the payload: check, owner tag, next gate.
-const BACK_LEN: usize = 65;
-
-const EMPTY_SLOT: [u8; 32] = [0; 32];
-
-const CLOSED: u8 = 0;
-
 fn type_byte(type_of: BatchType) -> u8
     ensures { result ≡ image.type_byte type_of }
 {
     match type_of {
-        BatchType::Command => 1,
-        BatchType::NewEpoch => 2,
+        BatchType::Command => COMMAND,
+        BatchType::NewEpoch => EPOCH,
     }
 }
 

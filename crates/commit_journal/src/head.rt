@@ -1,25 +1,12 @@
-//! The first 13 bytes of a batch, numbers big-endian (docs/FORMAT.md, "The file"):
-//!
-//! ```text
-//! 0  1  type: 1 command, 2 epoch     5  4  epoch
-//! 1  4  number, from 1               9  4  length L of the payload
-//! ```
+//! The head of a batch, as layout.rt draws it.
 ghost use Rattle.std.specs.Prelude.{◌≡◌, ◌+◌, ◌≤◌, ◌^◌, slice_range, IsTrue};
 ghost use Rattle.std.specs.Int.{w32, from_be_bytes};
 ghost use Rattle.commit_journal.specs.Log as log;
 ghost use Rattle.commit_journal.specs.Opening as opening;
 
+use crate::layout::{BATCH_LEN, COMMAND, EPOCH, HEAD_LEN};
 use crate::past::Past;
-use cry_base::Epoch;
-
-/// The bytes of a head.
-pub(crate) const HEAD_LEN: usize = 13;
-
-/// The bytes that a batch has beside its payload.
-pub(crate) const BATCH_LEN: u64 = 110;
-
-/// The most bytes that a store of version 1 has.
-const STORE_BYTES: u64 = 268_435_456;
+use cry_base::{Epoch, STORE_BYTES};
 
 /// What a batch says of itself.
 #[derive(Clone, Copy, Debug)]
@@ -55,8 +42,8 @@ fn fits_epoch(past: &Past, head: &Head) -> bool
     ensures { result ≡ log.fits_epoch past.now head.now }
 {
     match head.type_byte {
-        2 => head.size == 0 && u64::from(head.epoch.0) == u64::from(past.epoch.0) + 1,
-        1 => 1 <= past.epoch.0 && head.epoch.0 == past.epoch.0,
+        EPOCH => head.size == 0 && u64::from(head.epoch.0) == u64::from(past.epoch.0) + 1,
+        COMMAND => 1 <= past.epoch.0 && head.epoch.0 == past.epoch.0,
         _ => false,
     }
 }

@@ -15,8 +15,8 @@ ghost use Rattle.commit_journal.specs.Opening as opening;
 ghost use Rattle.commit_journal.specs.Stopping as stopping;
 
 use crate::CommitFault;
-use crate::batch::{EPOCH_BATCH_LEN, EpochBatch, command_batch, epoch_batch};
-use crate::head::BATCH_LEN;
+use crate::batch::{EpochBatch, command_batch, epoch_batch};
+use crate::layout::{BATCH_LEN, CLOSED, EPOCH_BATCH_LEN, HEADER_LEN};
 use crate::past::Past;
 use batch_log::{append, write_header};
 use chacha_seal::{Key, LogKey, OwnerK, check_of};
@@ -26,10 +26,6 @@ use record_format::{Payload, payload_len};
 use std::alloc::Global;
 use std::marker::Model;
 use std::mem;
-
-const HEADER_LEN: usize = 42;
-
-const CLOSED: u8 = 0;
 
 /// The log of a store, to whose end batches are committed. It keeps nothing of a batch but the place where it begins.
 #[derive(Drop)]

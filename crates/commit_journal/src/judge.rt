@@ -1,10 +1,4 @@
-//! Judges a whole batch in memory (docs/FORMAT.md, "The file"):
-//!
-//! ```text
-//!  0  13  head                  45+L   32  check
-//! 13  32  slot                  77+L   32  owner tag
-//! 45   L  masked payload       109+L    1  next gate
-//! ```
+//! Judges a whole batch in memory (docs/FORMAT.md, "The file").
 ghost use Rattle.std.specs.Prelude.{◌≡◌, ◌≢◌, ◌+◌, ◌≤◌, ◌^◌, length, slice_range, option_copied, Err, IfOk};
 ghost use Rattle.chacha_seal.specs.Sealing.{masked};
 ghost use Rattle.commit_journal.specs.Answering.{Answers};
@@ -15,22 +9,14 @@ ghost use Rattle.commit_journal.specs.Readers as readers;
 ghost use Rattle.commit_journal.specs.Places.{HasSize, IsStanding, TurnStands};
 ghost use Rattle.commit_journal.specs.Turns.{plain_option, plain_turn, GoesOnAt};
 
-use crate::head::{BATCH_LEN, HEAD_LEN, Head};
+use crate::head::Head;
+use crate::layout::{BATCH_LEN, EPOCH, HEAD_LEN, OPEN, PAYLOAD, SLOT};
 use crate::past::Past;
 use crate::{Body, OpenFault, Placed};
 use chacha_seal::{LogKey, mask_in_place};
 use hmac_seal::{hmac, tags_equal};
 use record_format::{PayloadFault, read_payload};
 use std::alloc::Global;
-
-const SLOT: usize = 13;
-
-pub(crate) const PAYLOAD: usize = 45;
-
-const EPOCH: u8 = 2;
-
-/// A gate with this byte is open, one with any other is closed.
-pub(crate) const OPEN: u8 = 1;
 
 /// One batch more, and what is known behind it.
 #[derive(Debug, Drop)]

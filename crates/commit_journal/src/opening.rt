@@ -16,8 +16,9 @@ ghost use Rattle.commit_journal.specs.Reading.{IsOnlyRead, IsUntouched};
 ghost use Rattle.commit_journal.specs.Turns.{plain_turn};
 ghost use Rattle.commit_journal.specs.WholeLogs.{StillStand};
 
-use crate::head::{BATCH_LEN, Head};
-use crate::judge::{OPEN, PAYLOAD, Turn};
+use crate::head::Head;
+use crate::judge::Turn;
+use crate::layout::{BATCH_LEN, OPEN, PAYLOAD};
 use crate::owned::judge_owned;
 use crate::past::Past;
 use crate::reading::{read_head, read_start};

@@ -4,9 +4,7 @@ ghost use Rattle.std.specs.List.{sum_by};
 ghost use Rattle.commit_journal.specs.Places.{HasLink, HasContent, IsLinkPlace, IsContentPlace};
 
 use crate::{Body, Placed};
-use record_format::{ContentRecord, payload_len};
-
-const LINK_LEN: u64 = 98;
+use record_format::{CONTENT_FRAME_LEN, ContentRecord, LINK_LEN, payload_len};
 
 fn contents_len(contents: &[ContentRecord]) -> u64
     requires { sum_by (λ c. 58 + length c.cipher.items) contents.now < 2 ^ 64 }
@@ -14,7 +12,7 @@ fn contents_len(contents: &[ContentRecord]) -> u64
 {
     contents
         .iter()
-        .map(|content| 58 + content.cipher.as_slice().len() as u64)
+        .map(|content| CONTENT_FRAME_LEN + content.cipher.as_slice().len() as u64)
         .sum()
 }
 

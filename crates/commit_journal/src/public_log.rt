@@ -15,10 +15,10 @@ ghost use Rattle.commit_journal.specs.Streaming as streaming;
 ghost use Rattle.commit_journal.specs.Turns.{plain_option, plain_turn};
 
 use crate::given::Given;
-use crate::head::BATCH_LEN;
-use crate::judge::{OPEN, Turn, judge_again, judge_read};
+use crate::judge::{Turn, judge_again, judge_read};
+use crate::layout::{BATCH_LEN, HEADER_LEN, MAGIC, OPEN};
 use crate::past::Past;
-use crate::reading::{HEADER_LEN, MAGIC, array_at, read_head};
+use crate::reading::{array_at, read_head};
 use crate::{OpenFault, Placed};
 use chacha_seal::{Key, LogKey, OwnerK, check_of};
 use cry_base::{Epoch, List, Mem};

@@ -8,16 +8,13 @@ ghost use Rattle.commit_journal.specs.Opening as opening;
 ghost use Rattle.commit_journal.specs.Reading.{IsOnlyRead};
 
 use crate::OpenFault;
-use crate::head::{BATCH_LEN, HEAD_LEN, Head, head_of, is_batch};
+use crate::head::{Head, head_of, is_batch};
+use crate::layout::{BATCH_LEN, HEAD_LEN, HEADER_LEN, MAGIC};
 use crate::past::Past;
 use chacha_seal::{LogKey, check_of};
 use cry_base::Epoch;
 use cry_io::Disk;
 use hmac_seal::tags_equal;
-
-pub(crate) const HEADER_LEN: usize = 42;
-
-pub(crate) const MAGIC: [u8; 9] = *b"CRYPTREE\x01";
 
 pub(crate) fn array_at(bytes: &[u8; HEADER_LEN]) -> [u8; 32]
     ensures { result ≡ slice_range bytes.now 9 41 }
