@@ -7,11 +7,9 @@ ghost use Rattle.record_format.specs.Noted.Note.{Root, NewHolder, NewFolder, New
 ghost use Rattle.record_format.specs.Noted.Note.{ShiftFolder, Give, Take};
 
 use crate::Change;
-use crate::edging::{
-    edges_of, file_edge, folder_edges, folder_edges_with_parent, folder_roles, grant_edge,
-    parent_edges, roles_of,
-};
+use crate::edging::{edges_of, folder_edges_with_parent, folder_roles, roles_of};
 use cry_base::{FileId, FolderId, HolderId, List, Mem, Role};
+use role_graph::{edges_between, edges_within, kinds};
 use std::alloc::Global;
 
 #[tactic(auto, unfolding(crate::specs::WorkedChanges::changes))]
@@ -20,7 +18,7 @@ pub(crate) fn make_root(alloc: Global) -> Mem<Change>
 {
     let root = FolderId(1);
     let fresh = roles_of(alloc, &folder_roles(root))?;
-    let added = edges_of(alloc, &folder_edges(root))?;
+    let added = edges_of(alloc, &edges_within(root))?;
     Ok(Change {
         removed: List::new(alloc),
         gone: List::new(alloc),
@@ -66,7 +64,7 @@ pub(crate) fn make_file(alloc: Global, file: FileId, folder: FolderId) -> Mem<Ch
 {
     let wanted = roles_of(alloc, &[Role::Files(folder)])?;
     let fresh = roles_of(alloc, &[Role::File(file)])?;
-    let added = edges_of(alloc, &[file_edge(folder, file)])?;
+    let added = edges_of(alloc, &[kinds::files_to_file(folder, file)])?;
     Ok(Change {
         removed: List::new(alloc),
         gone: List::new(alloc),
@@ -117,7 +115,7 @@ fn only_wanted(alloc: Global, role: Role) -> Mem<Change>
 pub(crate) fn drop_file(alloc: Global, file: FileId, folder: FolderId) -> Mem<Change>
     ensures { IfOk result (λ c. (s : Store) → folder.0 ≡ folder_of_file s file.0 → plain_change c ≡ change_of_note s (DropFile file.0)) }
 {
-    let removed = edges_of(alloc, &[file_edge(folder, file)])?;
+    let removed = edges_of(alloc, &[kinds::files_to_file(folder, file)])?;
     let gone = roles_of(alloc, &[Role::File(file)])?;
     Ok(Change {
         removed,
@@ -139,9 +137,9 @@ pub(crate) fn move_file(
     ensures { IfOk result (λ c. (s : Store) → folder.0 ≡ folder_of_file s file.0
         → plain_change c ≡ change_of_note s (ShiftFile file.0 into.0)) }
 {
-    let removed = edges_of(alloc, &[file_edge(folder, file)])?;
+    let removed = edges_of(alloc, &[kinds::files_to_file(folder, file)])?;
     let wanted = roles_of(alloc, &[Role::Files(into)])?;
-    let added = edges_of(alloc, &[file_edge(into, file)])?;
+    let added = edges_of(alloc, &[kinds::files_to_file(into, file)])?;
     Ok(Change {
         removed,
         gone: List::new(alloc),
@@ -162,9 +160,9 @@ pub(crate) fn move_folder(
     ensures { IfOk result (λ c. (s : Store) → parent.0 ≡ parent_of_folder s folder.0
         → plain_change c ≡ change_of_note s (ShiftFolder folder.0 into.0)) }
 {
-    let removed = edges_of(alloc, &parent_edges(folder, parent))?;
+    let removed = edges_of(alloc, &edges_between(folder, parent))?;
     let wanted = roles_of(alloc, &[Role::Sub(into), Role::Back(folder)])?;
-    let added = edges_of(alloc, &parent_edges(folder, into))?;
+    let added = edges_of(alloc, &edges_between(folder, into))?;
     Ok(Change {
         removed,
         gone: List::new(alloc),
@@ -178,7 +176,7 @@ pub(crate) fn move_folder(
 pub(crate) fn give(alloc: Global, holder: HolderId, folder: FolderId) -> Mem<Change>
     ensures { IfOk result (λ c. (s : Store) → plain_change c ≡ change_of_note s (Give holder.0 folder.0)) }
 {
-    let added = edges_of(alloc, &[grant_edge(holder, folder)])?;
+    let added = edges_of(alloc, &[kinds::holder_to_clear(holder, folder)])?;
     Ok(Change {
         removed: List::new(alloc),
         gone: List::new(alloc),
@@ -192,7 +190,7 @@ pub(crate) fn give(alloc: Global, holder: HolderId, folder: FolderId) -> Mem<Cha
 pub(crate) fn take(alloc: Global, holder: HolderId, folder: FolderId) -> Mem<Change>
     ensures { IfOk result (λ c. (s : Store) → plain_change c ≡ change_of_note s (Take holder.0 folder.0)) }
 {
-    let removed = edges_of(alloc, &[grant_edge(holder, folder)])?;
+    let removed = edges_of(alloc, &[kinds::holder_to_clear(holder, folder)])?;
     let wanted = roles_of(alloc, &[Role::Clear(folder)])?;
     Ok(Change {
         removed,

@@ -4,7 +4,8 @@ ghost use Rattle.role_graph.specs.Edges.{edge_before, in_order, folder_edges as 
 ghost use Rattle.role_graph.specs.Edges.{grant_edge as edge_of_grant, file_edge as edge_of_file};
 ghost use Rattle.role_graph.specs.Roles.{folder_roles as roles_of_folder};
 
-use cry_base::{Edge, FileId, FolderId, HolderId, List, Mem, Role};
+use cry_base::{Edge, FolderId, List, Mem, Role};
+use role_graph::{edges_between, edges_within};
 use std::alloc::Global;
 
 /// The five roles of a folder, in their order.
@@ -21,38 +22,13 @@ pub(crate) fn folder_roles(f: FolderId) -> [Role; 5]
     ]
 }
 
-/// The edges of a folder within itself, in their order.
-#[tactic(auto, unfolding(role_graph::specs::Edges::folder_edges, role_graph::specs::Edges::edge, role_graph::specs::Roles::clear_of, role_graph::specs::Roles::sub_of, role_graph::specs::Roles::back_of, role_graph::specs::Roles::files_of, role_graph::specs::Roles::data_of))]
-pub(crate) fn folder_edges(f: FolderId) -> [Edge; 5]
-    ensures { result ≡ edges_of_folder f.0 }
-{
-    [
-        edge(1, Role::Owner, Role::Clear(f)),
-        edge(3, Role::Clear(f), Role::Sub(f)),
-        edge(4, Role::Sub(f), Role::Back(f)),
-        edge(5, Role::Sub(f), Role::Files(f)),
-        edge(7, Role::Back(f), Role::Data(f)),
-    ]
-}
-
-/// The edges between a folder and its parent, in their order.
-#[tactic(auto, unfolding(role_graph::specs::Edges::parent_edges, role_graph::specs::Edges::edge, role_graph::specs::Roles::sub_of, role_graph::specs::Roles::back_of))]
-pub(crate) fn parent_edges(f: FolderId, parent: FolderId) -> [Edge; 2]
-    ensures { result ≡ edges_to_parent f.0 parent.0 }
-{
-    [
-        edge(6, Role::Sub(parent), Role::Sub(f)),
-        edge(8, Role::Back(f), Role::Back(parent)),
-    ]
-}
-
 /// The edges of a folder within itself and to its parent, in their order.
 #[tactic(auto, unfolding(role_graph::specs::Edges::folder_edges, role_graph::specs::Edges::parent_edges, role_graph::specs::Edges::edge, role_graph::specs::Edges::edge_before, role_graph::specs::Edges::put_in_order, role_graph::specs::Edges::in_order, role_graph::specs::Roles::clear_of, role_graph::specs::Roles::sub_of, role_graph::specs::Roles::back_of, role_graph::specs::Roles::files_of, role_graph::specs::Roles::data_of))]
 pub(crate) fn folder_edges_with_parent(f: FolderId, parent: FolderId) -> [Edge; 7]
     ensures { result ≡ in_order edge_before (edges_of_folder f.0 ++ edges_to_parent f.0 parent.0) }
 {
-    let [to_clear, to_sub, to_back, to_files, to_data] = folder_edges(f);
-    let [from_parent, to_parent] = parent_edges(f, parent);
+    let [to_clear, to_sub, to_back, to_files, to_data] = edges_within(f);
+    let [from_parent, to_parent] = edges_between(f, parent);
     [
         to_clear,
         to_sub,
@@ -62,28 +38,6 @@ pub(crate) fn folder_edges_with_parent(f: FolderId, parent: FolderId) -> [Edge; 
         to_data,
         to_parent,
     ]
-}
-
-/// The edge of a grant.
-#[tactic(auto, unfolding(role_graph::specs::Edges::grant_edge, role_graph::specs::Edges::edge, role_graph::specs::Roles::clear_of, role_graph::specs::Roles::holder_role))]
-pub(crate) fn grant_edge(h: HolderId, f: FolderId) -> Edge
-    ensures { result ≡ edge_of_grant h.0 f.0 }
-{
-    edge(2, Role::Holder(h), Role::Clear(f))
-}
-
-/// The edge into a file's key, from the folder that it is in.
-#[tactic(auto, unfolding(role_graph::specs::Edges::file_edge, role_graph::specs::Edges::edge, role_graph::specs::Roles::files_of, role_graph::specs::Roles::file_role))]
-pub(crate) fn file_edge(f: FolderId, x: FileId) -> Edge
-    ensures { result ≡ edge_of_file f.0 x.0 }
-{
-    edge(9, Role::Files(f), Role::File(x))
-}
-
-fn edge(kind: u8, from: Role, to: Role) -> Edge
-    ensures { result ≡ record { kind = kind; from = from; to = to } }
-{
-    Edge { kind, from, to }
 }
 
 /// These roles as a list.

@@ -11,14 +11,10 @@ ghost use Rattle.move_plan.specs.Fitting.{is_other_folder as is_other, needs_roo
 ghost use Rattle.move_plan.specs.Seen.{seen_store};
 ghost use Rattle.record_format.specs.Told.{told_note};
 
-use cry_base::{FileId, FolderId, HolderId};
+use cry_base::{DEPTH, FileId, FolderId, HolderId, ROOT};
 use folder_nodes::Shape;
 use grant_book::Grants;
 use record_format::Note;
-
-const ROOT: FolderId = FolderId(1);
-
-const DEPTH: u32 = 64;
 
 /// Whether the note fits: its row's condition holds, and the root stands where the note isn't the one that makes it. It
 /// goes up from the folders that the note names, and looks at all folders and files for a folder that is removed or moved.

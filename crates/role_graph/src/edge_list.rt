@@ -7,6 +7,7 @@ ghost use Rattle.role_graph.specs.Edges.{file_edge};
 ghost use Rattle.role_graph.specs.PublicStore.{public_store};
 ghost use Rattle.role_graph.specs.Roles.{role_id};
 
+use crate::kinds;
 use cry_base::{Edge, FolderId, List, Mem, Role};
 use folder_nodes::{FileRow, FolderRow, Shape};
 use grant_book::{Grant, Grants};
@@ -39,7 +40,7 @@ fn push_within(all: &mut Vec<Edge>, folders: &[FolderRow]) -> Mem<()>
     ensures { OnOk result (all.new.items ≡ all.old.items ++ flat_map (λ r. folder_edges r.id.0) folders.now) }
 {
     for folder in folders {
-        all.extend_from_slice(&within(folder.id))?;
+        all.extend_from_slice(&edges_within(folder.id))?;
     }
     Ok(())
 }
@@ -61,7 +62,7 @@ fn push_to_parent(all: &mut Vec<Edge>, folder: &FolderRow) -> Mem<()>
         ++ cond (folder.now.parent == 0) [] (parent_edges folder.now.id.0 folder.now.parent)) }
 {
     if folder.parent != 0 {
-        all.extend_from_slice(&between(folder.id, FolderId(folder.parent)))?;
+        all.extend_from_slice(&edges_between(folder.id, FolderId(folder.parent)))?;
     }
     Ok(())
 }
@@ -86,50 +87,40 @@ fn push_files(all: &mut Vec<Edge>, files: &[FileRow]) -> Mem<()>
     Ok(())
 }
 
-/// The edges of a folder within itself.
+/// The edges of a folder within itself, in their order.
 #[tactic(auto, unfolding(crate::specs::Edges::folder_edges, crate::specs::Edges::edge, crate::specs::Roles::clear_of, crate::specs::Roles::sub_of, crate::specs::Roles::back_of, crate::specs::Roles::files_of, crate::specs::Roles::data_of))]
-pub(crate) fn within(f: FolderId) -> [Edge; 5]
+pub fn edges_within(f: FolderId) -> [Edge; 5]
     ensures { result ≡ folder_edges f.0 }
 {
     [
-        edge_of(1, Role::Owner, Role::Clear(f)),
-        edge_of(3, Role::Clear(f), Role::Sub(f)),
-        edge_of(4, Role::Sub(f), Role::Back(f)),
-        edge_of(5, Role::Sub(f), Role::Files(f)),
-        edge_of(7, Role::Back(f), Role::Data(f)),
+        kinds::owner_to_clear(f),
+        kinds::clear_to_sub(f),
+        kinds::sub_to_back(f),
+        kinds::sub_to_files(f),
+        kinds::back_to_data(f),
     ]
 }
 
-/// The edges of a folder and its parent.
+/// The edges between a folder and its parent, in their order.
 #[tactic(auto, unfolding(crate::specs::Edges::parent_edges, crate::specs::Edges::edge, crate::specs::Roles::sub_of, crate::specs::Roles::back_of))]
-pub(crate) fn between(f: FolderId, parent: FolderId) -> [Edge; 2]
+pub fn edges_between(f: FolderId, parent: FolderId) -> [Edge; 2]
     ensures { result ≡ parent_edges f.0 parent.0 }
 {
-    [
-        edge_of(6, Role::Sub(parent), Role::Sub(f)),
-        edge_of(8, Role::Back(f), Role::Back(parent)),
-    ]
+    [kinds::sub_to_sub(parent, f), kinds::back_to_back(f, parent)]
 }
 
 #[tactic(auto, unfolding(crate::specs::Edges::grant_edge, crate::specs::Edges::edge, crate::specs::Roles::holder_role, crate::specs::Roles::clear_of))]
 fn of_grant(pair: &Grant) -> Edge
     ensures { result ≡ grant_edge pair.now.holder pair.now.folder }
 {
-    edge_of(2, Role::Holder(pair.holder), Role::Clear(pair.folder))
+    kinds::holder_to_clear(pair.holder, pair.folder)
 }
 
 #[tactic(auto, unfolding(crate::specs::Edges::file_edge, crate::specs::Edges::edge, crate::specs::Roles::files_of, crate::specs::Roles::file_role))]
 fn of_file(file: &FileRow) -> Edge
     ensures { result ≡ file_edge file.now.folder.0 file.now.id.0 }
 {
-    edge_of(9, Role::Files(file.folder), Role::File(file.id))
-}
-
-#[tactic(auto, unfolding(crate::specs::Edges::edge))]
-pub(crate) fn edge_of(kind: u8, from: Role, to: Role) -> Edge
-    ensures { result ≡ spec.edge kind from to }
-{
-    Edge { kind, from, to }
+    kinds::files_to_file(file.folder, file.id)
 }
 
 /// Puts the edges in their order.

@@ -3,6 +3,7 @@
 
 mod edge_list;
 pub mod key_laws;
+pub mod kinds;
 pub mod laws;
 mod reaching;
 mod rights;
@@ -12,7 +13,7 @@ pub mod rows;
 mod store_roles;
 pub mod tabled;
 
-pub use edge_list::{edges, unordered_edges};
+pub use edge_list::{edges, edges_between, edges_within, unordered_edges};
 pub use reaching::{leading_to, reach};
 pub use rights::{allowed, named};
 pub use role_set::RoleSet;

@@ -5,8 +5,8 @@ ghost use Rattle.role_graph.specs.Joined.{joins, are_joined, is_within, is_betwe
 ghost use Rattle.role_graph.specs.PublicStore.{public_store};
 ghost use Rattle.role_graph.specs.Roles.{is_root_role};
 
-use crate::Roles;
-use crate::edge_list::{between, edge_of, number_of, within};
+use crate::edge_list::{edges_between, edges_within, number_of};
+use crate::{Roles, kinds};
 use cry_base::{Edge, FileId, FolderId, HolderId, Role};
 use folder_nodes::Shape;
 use grant_book::Grants;
@@ -72,7 +72,7 @@ impl<'a> StoreRoles<'a> {
         ensures { result ≡ is_within self.now.shape.now.tree f from to }
     {
         let f = FolderId(f);
-        self.shape.has_folder(f) && has_joined(&within(f), from, to)
+        self.shape.has_folder(f) && has_joined(&edges_within(f), from, to)
     }
 
     /// Whether the edge is one of the folder and its parent.
@@ -82,7 +82,7 @@ impl<'a> StoreRoles<'a> {
     {
         let f = FolderId(f);
         match self.shape.parent(f) {
-            Some(parent) => has_joined(&between(f, parent), from, to),
+            Some(parent) => has_joined(&edges_between(f, parent), from, to),
             None => false,
         }
     }
@@ -93,7 +93,7 @@ impl<'a> StoreRoles<'a> {
         ensures { result ≡ is_granted self.now.grants.now.pairs h f from to }
     {
         let (h, f) = (HolderId(h), FolderId(f));
-        self.grants.has(h, f) && is_joined(&edge_of(2, Role::Holder(h), Role::Clear(f)), from, to)
+        self.grants.has(h, f) && is_joined(&kinds::holder_to_clear(h, f), from, to)
     }
 
     /// Whether the edge is the one into the file.
@@ -103,7 +103,7 @@ impl<'a> StoreRoles<'a> {
     {
         let x = FileId(x);
         match self.shape.folder_of(x) {
-            Some(f) => is_joined(&edge_of(9, Role::Files(f), Role::File(x)), from, to),
+            Some(f) => is_joined(&kinds::files_to_file(f, x), from, to),
             None => false,
         }
     }
