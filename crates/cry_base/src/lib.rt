@@ -10,6 +10,7 @@ mod list;
 mod memory;
 mod roles;
 pub mod rows;
+mod steps;
 
 pub use client::{Bundle, Line, Seen};
 pub use commands::{Command, Refusal, Reply};
@@ -18,3 +19,4 @@ pub use limits::{DEPTH, FILE_BYTES, Limits, NAME_BYTES, STORE_BYTES, limits_of};
 pub use list::{List, Text};
 pub use memory::{Mem, OutOfMemory};
 pub use roles::{Edge, Node, Role};
+pub use steps::Steps;
