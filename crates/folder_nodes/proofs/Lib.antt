@@ -7,6 +7,7 @@ pub mod Digested
 pub mod Downward
 pub mod Heights
 pub mod Indexed
+pub mod Insides
 pub mod Joined
 pub mod Leading
 pub mod Located

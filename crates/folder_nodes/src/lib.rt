@@ -6,6 +6,7 @@ mod changes;
 mod checking;
 mod finding;
 mod grouped;
+mod inside;
 pub mod laws;
 mod listed;
 mod names;
