@@ -17,3 +17,6 @@ pub mod Joining
 pub mod Lawful
 pub mod Settling
 pub mod Sifting
+pub mod Walked
+pub mod AtRoles
+pub mod RoleEdges

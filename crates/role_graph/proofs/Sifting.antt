@@ -4,11 +4,10 @@ use Rattle.std.specs.Cmp.{IsStrictWeakOrder}
 use Rattle.std.specs.List.Sorted.{ties}
 use Rattle.std.proofs.lemmas.List.Sorted.{ranks_by}
 use Rattle.cry_base.specs.Store.{Store}
-use Rattle.cry_base.specs.Sets.{In}
 use Rattle.cry_base.specs.declared.roles.Edge.{Edge}
 use Rattle.cry_base.proofs.Members.{In-filter}
 use Rattle.role_graph.specs.Edges.{edge_before, edges, in_order, unordered}
-use Rattle.role_graph.proofs.Ordered.{NoneBelow, Rises, one_order, order_keeps, order_rises}
+use Rattle.role_graph.proofs.Ordered.{Rises, one_order, order_keeps, order_rises}
 use Rattle.role_graph.proofs.Sorting.{before_by_key, key_of, key_total}
 
 filter_put : (X : Type 0) (p : X → Bool) (x : X) (b : Bool) (l : List X) → filter p (cond b (x ∷ l) l) ≡ cond b (cond (p x) (x ∷ filter p l) (filter p l)) (filter p l)
@@ -22,7 +21,7 @@ tests_turn X x false true l = refl
 tests_turn X x false false l = refl
 
 -- what is kept for two reasons is kept in either turn
-filters_turn : (X : Type 0) (p q : X → Bool) (xs : List X) → filter p (filter q xs) ≡ filter q (filter p xs)
+pub filters_turn : (X : Type 0) (p q : X → Bool) (xs : List X) → filter p (filter q xs) ≡ filter q (filter p xs)
 filters_turn X p q [] = refl
 filters_turn X p q (x ∷ xs) =
     filter_put X p x (q x) (filter q xs)

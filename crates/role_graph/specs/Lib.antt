@@ -1,3 +1,4 @@
+pub mod Adjacent
 pub mod Ascending
 pub mod Closing
 pub mod Edges

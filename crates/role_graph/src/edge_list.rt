@@ -144,7 +144,7 @@ pub(crate) fn number_of(role: Role) -> u32
     }
 }
 
-fn to_list(alloc: Global, edges: &[Edge]) -> Mem<List<Edge>>
+pub(crate) fn to_list(alloc: Global, edges: &[Edge]) -> Mem<List<Edge>>
     ensures { IfOk result (λ l. l.items ≡ edges.now) }
 {
     let mut list = List::new(alloc);

@@ -1,21 +1,27 @@
 //! Which roles lead to which, and who may read what.
 #![tactic(auto)]
 
+mod adjacency;
 mod edge_list;
 pub mod key_laws;
 pub mod kinds;
 pub mod laws;
 mod reaching;
 mod rights;
+mod role_edges;
 mod role_set;
 mod roles;
 pub mod rows;
 mod store_roles;
 pub mod tabled;
+mod walking;
+mod way;
 
 pub use edge_list::{edges, edges_between, edges_within, unordered_edges};
-pub use reaching::{leading_to, reach};
+pub use reaching::{leading_to, reach, reach_back};
 pub use rights::{allowed, named};
 pub use role_set::RoleSet;
 pub use roles::Roles;
 pub use store_roles::StoreRoles;
+pub use walking::{has_edge, walk};
+pub use way::Way;

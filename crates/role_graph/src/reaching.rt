@@ -20,6 +20,14 @@ pub fn reach(alloc: Global, edges: &[Edge], from: Role) -> Mem<List<Role>>
 }
 
 /// The roles from which a path of edges leads to one of the targets, these included, in their order.
+pub fn reach_back(alloc: Global, edges: &[Edge], targets: &[Role]) -> Mem<List<Role>>
+    ensures reached { IfOk result (λ l. (r : AnyRole) → In r l.items ↔ IsLeading edges.now targets.now r) }
+    ensures ascending { IfOk result (λ l. IsAscending l.items) }
+{
+    leading_to(alloc, edges, targets)?.to_list()
+}
+
+/// The same roles, as a set.
 pub fn leading_to(alloc: Global, edges: &[Edge], targets: &[Role]) -> Mem<RoleSet>
     ensures { IfOk result (λ s. (r : AnyRole) → In r s ↔ IsLeading edges.now targets.now r) }
 {

@@ -1,0 +1,7 @@
+use Rattle.std.proofs.Common.{◌≡◌, ◌++◌, map, take}
+use Rattle.role_graph.specs.Edges.{edge}
+use Rattle.role_graph.specs.Roles.{back_of}
+use Rattle.role_graph.proofs.role_edges.push_child_starts.Given as goal
+
+abbrev pub invariant-loop-child : goal.invariant-loop-child
+invariant-loop-child l = l.found.items ≡ l.initial.found.items ++ map (λ g. edge 8 (back_of g.0) (back_of l.f.0)) (take l.child-index l.children)

@@ -1,0 +1,18 @@
+use Rattle.std.proofs.Common.{List, ◌++◌, map, ap, ◌∙◌}
+use Rattle.cry_base.specs.Store.{Store}
+use Rattle.cry_base.specs.declared.roles.Edge.{Edge}
+use Rattle.cry_base.specs.declared.roles.Role.TheVariants.{Owner}
+use Rattle.role_graph.specs.Edges.{edge}
+use Rattle.role_graph.specs.PublicStore.{public_store}
+use Rattle.role_graph.specs.Roles.{clear_of}
+use Rattle.role_graph.proofs.Falling.{tree_public}
+use Rattle.role_graph.proofs.RoleEdges.{owner_from}
+use Rattle.role_graph.proofs.store_roles.StoreRoles.from_owner.Goals as goal
+
+pub returns : goal.returns
+returns c =
+    let tree = c.args.self.now.shape.now.tree in
+    let pairs = c.args.self.now.grants.now.pairs in
+    let s : Store = public_store tree pairs in
+    let is = tree_public tree pairs c.is_tree.ensures in
+    c.in_ok-push_folders.ensures ∙ ap (λ (l : List Edge). l ++ map (λ r. edge 1 Owner (clear_of r.id.0)) c.folders.result.now) c.new-found.ensures ∙ owner_from s is c.folders.result.now c.folders.ensures

@@ -1,0 +1,24 @@
+use Rattle.std.proofs.Common.{[], ◌∷◌, ◌++◌, map, ◌∙◌}
+use Rattle.cry_base.specs.Store.{Store}
+use Rattle.cry_base.specs.declared.ids.FolderId.{FolderId}
+use Rattle.role_graph.specs.Adjacent.{where_stands}
+use Rattle.role_graph.specs.Edges.{edge, file_edge, grant_edge}
+use Rattle.role_graph.specs.PublicStore.{public_store}
+use Rattle.role_graph.specs.Roles.{holder_role, clear_of, sub_of, back_of, files_of, data_of, file_role}
+use Rattle.role_graph.proofs.Falling.{tree_public}
+use Rattle.role_graph.proofs.RoleEdges.{where_public, back_into}
+use Rattle.role_graph.proofs.store_roles.StoreRoles.into_back.Goals as goal
+
+pub returns : goal.returns
+unfolding clear_of sub_of back_of files_of data_of file_role grant_edge file_edge edge holder_role
+returns c =
+    let tree = c.args.self.now.shape.now.tree in
+    let pairs = c.args.self.now.grants.now.pairs in
+    let s : Store = public_store tree pairs in
+    let is = tree_public tree pairs c.is_tree.ensures in
+    let f = c.args.f in
+    let ids = c.in_ok-children.children.items in
+    c.in_ok-push_child_starts.ensures
+    ∙ (λ i. (c.in_ok-found.ensures ∙ (λ j. where_stands tree f.0 (c.sub_to_back.ensures j ∷ [])) ∙ where_public tree pairs f.0 (edge 4 (sub_of f.0) (back_of f.0) ∷ [])) i
+    ++ map (λ (g : FolderId). edge 8 (back_of g.0) (back_of f.0)) (c.as_slice.ensures i))
+    ∙ back_into s is f ids c.in_ok-children.ensures

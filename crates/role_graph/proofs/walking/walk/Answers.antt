@@ -1,0 +1,66 @@
+use Rattle.std.proofs.Common.{◌≡◌, ◌+◌, ◌≤◌, ◌<◌, List, length, get_or, arith, ap, ◌∙◌, subst}
+use Rattle.cry_base.specs.Sets.{In}
+use Rattle.cry_base.specs.declared.roles.Edge.{Edge}
+use Rattle.cry_base.specs.declared.roles.Role.{Role}
+use Rattle.cry_base.specs.declared.roles.Role.TheVariants.{Owner}
+use Rattle.role_graph.specs.Adjacent.{HaveSame, as_walked, edges_but, ends_from, out_of, with_new}
+use Rattle.role_graph.specs.Edges.{unordered}
+use Rattle.role_graph.specs.PublicStore.{public_store}
+use Rattle.role_graph.proofs.Walked.{fewer_ends, walk_begins, walk_bounded, walk_costs, walk_ends, walk_goes_on}
+use Rattle.role_graph.proofs.walking.walk.Goals as goal
+
+pub loop-done-init : goal.loop-done-init
+loop-done-init c =
+    let es = unordered (public_store c.args.roles.now.shape.now.tree c.args.roles.now.grants.now.pairs) in
+    let start : HaveSame c.new-found.result.items c.new-set.result = λ r. (
+      λ i. absurd (subst (In r) c.new-found.ensures i),
+      λ i. absurd (subst (In r) c.new-set.ensures i),
+    ) in
+    record {
+      walking = walk_begins (as_walked c.args.way es) (as_walked c.args.way (edges_but c.args.removed.now es)) c.args.from.now c.add_all.new.found.items c.args.steps.now
+          (c.in_ok-add_all.ensures.found start ∙ ap (λ (l : List Role). with_new l c.args.from.now) c.new-found.ensures);
+      same = c.in_ok-add_all.ensures.set start;
+    }
+
+pub loop-done-smaller : goal.loop-done-smaller
+loop-done-smaller c =
+    let es = unordered (public_store c.args.roles.now.shape.now.tree c.args.roles.now.grants.now.pairs) in
+    let found = c.loop-done.found.items in
+    let less : c.loop-done.done < length found = subst (λ (l : List Role). c.loop-done.done < length l) c.as_slice.ensures c.loop-done-test.true in
+    let most = walk_bounded (as_walked c.args.way es) (as_walked c.args.way (edges_but c.args.removed.now es)) c.args.from.now found c.loop-done.done c.args.steps.now c.loop-done.steps c.loop-done.invariant.walking in
+    omega (arith, less, most)
+
+pub loop-done-preserved : goal.loop-done-preserved
+loop-done-preserved c =
+    let es = unordered (public_store c.args.roles.now.shape.now.tree c.args.roles.now.grants.now.pairs) in
+    let all : List Edge = as_walked c.args.way es in
+    let left : List Edge = as_walked c.args.way (edges_but c.args.removed.now es) in
+    let found = c.loop-done.found.items in
+    let done = c.loop-done.done in
+    let less : done < length found = subst (λ (l : List Role). done < length l) c.as_slice.ensures c.loop-done-test.true in
+    let role_is : get_or c.as_slice-here.result.now done Owner ≡ get_or found done Owner = ap (λ (l : List Role). get_or l done Owner) c.as_slice-here.ensures in
+    record {
+      walking = walk_goes_on all left c.args.from.now found c.add_all-in-loop-done.new.found.items done c.args.steps.now c.loop-done.steps c.ends_ahead.new.steps Owner c.loop-done.invariant.walking less
+          (fewer_ends c.args.way c.args.removed.now es (get_or found done Owner))
+          (c.in_ok-add_all-2.ensures.found c.loop-done.invariant.same
+          ∙ ap (with_new found) (c.as_slice-next.ensures ∙ c.in_ok-ends.ensures.ends ∙ ap (ends_from left) role_is))
+          (c.in_ok-ends.ensures.steps ∙ ap (λ (r : Role). c.loop-done.steps + length (out_of all r) + 1) role_is);
+      same = c.in_ok-add_all-2.ensures.set c.loop-done.invariant.same;
+    }
+
+pub returns-clause-reached : goal.returns-clause-reached
+returns-clause-reached c =
+    let es = unordered (public_store c.args.roles.now.shape.now.tree c.args.roles.now.grants.now.pairs) in
+    let found = c.loop-done.found.items in
+    let end : length found ≤ c.loop-done.done = subst (λ (l : List Role). length l ≤ c.loop-done.done) c.as_slice.ensures c.loop-done-test.false in
+    λ r.
+    let told = walk_ends (as_walked c.args.way es) (as_walked c.args.way (edges_but c.args.removed.now es)) c.args.from.now found c.loop-done.done c.args.steps.now c.loop-done.steps c.loop-done.invariant.walking end r in
+    let same = c.loop-done.invariant.same r in
+    (λ i. told.0 (same.1 i), λ w. same.0 (told.1 w))
+
+pub returns-clause-steps : goal.returns-clause-steps
+returns-clause-steps c =
+    let es = unordered (public_store c.args.roles.now.shape.now.tree c.args.roles.now.grants.now.pairs) in
+    let found = c.loop-done.found.items in
+    let end : length found ≤ c.loop-done.done = subst (λ (l : List Role). length l ≤ c.loop-done.done) c.as_slice.ensures c.loop-done-test.false in
+    walk_costs (as_walked c.args.way es) (as_walked c.args.way (edges_but c.args.removed.now es)) c.args.from.now found c.loop-done.set c.loop-done.done c.args.steps.now c.loop-done.steps c.loop-done.invariant.walking end c.loop-done.invariant.same

@@ -1,0 +1,61 @@
+-- The edges at a role, and how many edges a walk meets.
+use Rattle.std.specs.Prelude.{◌≡◌, ◌↔◌, ℕ, not, cond, ◌==◌, List, [], ◌∷◌, ◌++◌, map, filter, length, is_some}
+use Rattle.cry_base.specs.Sets.{In, has}
+use Rattle.cry_base.specs.Store.{Store, FolderEntry, folder_entry}
+use Rattle.cry_base.specs.declared.roles.Edge.{Edge}
+use Rattle.cry_base.specs.declared.roles.Role.{Role}
+use Rattle.role_graph.specs.Closing.{turned}
+use Rattle.role_graph.specs.Edges.{same_edge}
+use Rattle.role_graph.specs.Roles.{same_role}
+use Rattle.role_graph.specs.declared.way.Way.{Way}
+use Rattle.role_graph.specs.declared.way.Way.TheVariants.{Along, Against}
+
+-- the edges out of the role, and those into it
+unfoldable pub out_of : List Edge → Role → List Edge
+out_of es r = filter (λ e. same_role e.from r) es
+
+unfoldable pub into : List Edge → Role → List Edge
+into es r = filter (λ e. same_role e.to r) es
+
+-- the edges without some
+unfoldable pub edges_but : List Edge → List Edge → List Edge
+edges_but removed es = filter (λ e. not (has same_edge removed e)) es
+
+-- the edges as a walk goes: along them, or each the other way round
+abbrev pub as_walked : Way → List Edge → List Edge
+as_walked Along es = es
+as_walked Against es = turned es
+
+-- where a walk goes on from the role
+unfoldable pub ends_from : List Edge → Role → List Role
+ends_from es r = map (λ e. e.to) (out_of es r)
+
+-- how many edges lead out of the roles, and how many into them
+unfoldable pub count_from : List Edge → List Role → ℕ
+count_from es rs = length (filter (λ e. has same_role rs e.from) es)
+
+unfoldable pub count_into : List Edge → List Role → ℕ
+count_into es rs = length (filter (λ e. has same_role rs e.to) es)
+
+-- the edges, where the folder stands
+unfoldable pub where_stands : Store → ℕ → List Edge → List Edge
+where_stands s f es = cond (is_some (folder_entry s f)) es []
+
+-- the folders in the folder, by number. None is in the number 0, which is the root's parent
+abbrev pub children_of : Store → ℕ → List FolderEntry
+children_of s f = cond (f == 0) [] (filter (λ e. e.parent == f) s.folders)
+
+abbrev pub AreChildren : Store → ℕ → List ℕ → Type 0
+AreChildren s f ids = ids ≡ map (λ (e : FolderEntry). e.id) (children_of s f)
+
+-- the roles with one more behind them, where it isn't there; and with more, one after another
+unfoldable pub grown_by : List Role → Role → List Role
+grown_by fs r = cond (has same_role fs r) fs (fs ++ r ∷ [])
+
+unfoldable pub with_new : List Role → List Role → List Role
+with_new fs [] = fs
+with_new fs (r ∷ rs) = with_new (grown_by fs r) rs
+
+-- both have the same roles
+abbrev pub HaveSame : List Role → List Role → Type 0
+HaveSame fs rs = (r : Role) → In r fs ↔ In r rs

@@ -1,0 +1,135 @@
+//! A walk from some roles on. It asks for the edges of each role once.
+ghost use Rattle.std.specs.Prelude.{◌≡◌, ◌↔◌, ◌+◌, ◌*◌, ◌≤◌, length, map, IfOk, OnOk};
+ghost use Rattle.cry_base.specs.Sets.{In, has};
+ghost use Rattle.cry_base.specs.declared.roles.Role.{Role as AnyRole};
+ghost use Rattle.role_graph.specs.Adjacent.{HaveSame, as_walked, count_from, edges_but, ends_from, grown_by, out_of, with_new};
+ghost use Rattle.role_graph.specs.Closing.{IsReached};
+ghost use Rattle.role_graph.specs.Edges.{same_edge, unordered};
+ghost use Rattle.role_graph.specs.PublicStore.{public_store};
+
+use crate::{RoleSet, StoreRoles, Way};
+use cry_base::{Edge, List, Mem, Role, Steps};
+use std::alloc::Global;
+
+/// The roles that a walk comes to from some of them, these included, along the edges or against them, but for the removed
+/// edges. It takes at most two steps for each edge at a role that it comes to, and one for each role that it begins at.
+pub fn walk(
+    alloc: Global,
+    roles: &StoreRoles,
+    way: Way,
+    removed: &[Edge],
+    from: &[Role],
+    steps: &mut Steps,
+) -> Mem<RoleSet>
+    ensures reached { IfOk result (λ s. (r : AnyRole) → In r s
+        ↔ IsReached (as_walked way (edges_but removed.now (unordered (public_store roles.now.shape.now.tree roles.now.grants.now.pairs)))) from.now r) }
+    ensures steps { IfOk result (λ s. steps.new ≤ steps.old
+        + 2 * count_from (as_walked way (unordered (public_store roles.now.shape.now.tree roles.now.grants.now.pairs))) s + length from.now) }
+{
+    let mut found = List::new(alloc);
+    let mut set = RoleSet::new(alloc);
+    add_all(&mut found, &mut set, from)?;
+    let mut done = 0;
+    while done < found.as_slice().len() {
+        let here = found.as_slice();
+        let ends = ends_ahead(alloc, roles, way, removed, here[done], steps)?;
+        let next = ends.as_slice();
+        add_all(&mut found, &mut set, next)?;
+        done += 1;
+    }
+    Ok(set)
+}
+
+/// Where the walk goes on from the role.
+fn ends_ahead(
+    alloc: Global,
+    roles: &StoreRoles,
+    way: Way,
+    removed: &[Edge],
+    role: Role,
+    steps: &mut Steps,
+) -> Mem<List<Role>>
+    ensures ends { IfOk result (λ l. l.items
+        ≡ ends_from (as_walked way (edges_but removed.now (unordered (public_store roles.now.shape.now.tree roles.now.grants.now.pairs)))) role) }
+    ensures steps { IfOk result (λ l. steps.new ≡ steps.old
+        + length (out_of (as_walked way (unordered (public_store roles.now.shape.now.tree roles.now.grants.now.pairs))) role) + 1) }
+{
+    match way {
+        Way::Along => {
+            let edges = roles.edges_from(alloc, role, steps)?;
+            ends_of(alloc, edges.as_slice(), removed)
+        }
+        Way::Against => {
+            let edges = roles.edges_into(alloc, role, steps)?;
+            starts_of(alloc, edges.as_slice(), removed)
+        }
+    }
+}
+
+/// The ends of the edges that aren't removed.
+#[tactic(auto, unfolding(crate::specs::Adjacent::edges_but))]
+fn ends_of(alloc: Global, edges: &[Edge], removed: &[Edge]) -> Mem<List<Role>>
+    ensures { IfOk result (λ l. l.items ≡ map (λ e. e.to) (edges_but removed.now edges.now)) }
+{
+    let mut found = List::new(alloc);
+    for edge in edges {
+        if !has_edge(removed, edge) {
+            found.push(edge.to)?;
+        }
+    }
+    Ok(found)
+}
+
+/// The starts of the edges that aren't removed.
+#[tactic(auto, unfolding(crate::specs::Adjacent::edges_but))]
+fn starts_of(alloc: Global, edges: &[Edge], removed: &[Edge]) -> Mem<List<Role>>
+    ensures { IfOk result (λ l. l.items ≡ map (λ e. e.from) (edges_but removed.now edges.now)) }
+{
+    let mut found = List::new(alloc);
+    for edge in edges {
+        if !has_edge(removed, edge) {
+            found.push(edge.from)?;
+        }
+    }
+    Ok(found)
+}
+
+/// Whether the edge is one of these.
+#[tactic(auto, unfolding(cry_base::specs::Sets::has))]
+pub fn has_edge(edges: &[Edge], edge: &Edge) -> bool
+    ensures { result ≡ has same_edge edges.now edge.now }
+{
+    edges.iter().any(|other| is_same_edge(edge, other))
+}
+
+/// Whether the two are one edge.
+#[tactic(auto, unfolding(crate::specs::Edges::same_edge, crate::specs::Roles::same_role, crate::specs::Roles::variant_of, crate::specs::Roles::role_id))]
+fn is_same_edge(a: &Edge, b: &Edge) -> bool
+    ensures { result ≡ same_edge a.now b.now }
+{
+    a.kind == b.kind && a.from == b.from && a.to == b.to
+}
+
+/// Adds the roles that weren't found before.
+fn add_all(found: &mut List<Role>, set: &mut RoleSet, roles: &[Role]) -> Mem<()>
+    ensures found { OnOk result (HaveSame found.old.items set.old → found.new.items ≡ with_new found.old.items roles.now) }
+    ensures set { OnOk result (HaveSame found.old.items set.old → HaveSame found.new.items set.new) }
+{
+    for role in roles {
+        add(found, set, *role)?;
+    }
+    Ok(())
+}
+
+/// Adds the role, where it wasn't found before.
+fn add(found: &mut List<Role>, set: &mut RoleSet, role: Role) -> Mem<()>
+    ensures found { OnOk result (HaveSame found.old.items set.old → found.new.items ≡ grown_by found.old.items role) }
+    ensures set { OnOk result (HaveSame found.old.items set.old → HaveSame found.new.items set.new) }
+{
+    if set.has(role) {
+        return Ok(());
+    }
+    found.push(role)?;
+    set.insert(role)?;
+    Ok(())
+}
