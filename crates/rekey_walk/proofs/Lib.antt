@@ -1,3 +1,4 @@
+pub mod ByWalks
 pub mod Marking
 pub mod Planning
 pub mod Reordered

@@ -22,7 +22,7 @@ pairs_kept es fs all p i =
     let w = (In-map Edge (Role × Role) (λ (e : Edge). (e.from, e.to)) p es).0 i in
     (In-map Edge (Role × Role) (λ (e : Edge). (e.from, e.to)) p fs).1 (w.0, all w.0 w.1, w.2)
 
-reaches_kept : (es fs : List Edge) → ((e : Edge) → In e es → In e fs) → (a b : Role) → Reaches es a b → Reaches fs a b
+pub reaches_kept : (es fs : List Edge) → ((e : Edge) → In e es → In e fs) → (a b : Role) → Reaches es a b → Reaches fs a b
 reaches_kept es fs all a b way = wider (pairs_kept es fs all) way
 
 marks_kept : (dirty : List Role) (es fs : List Edge) (target : Role) → ((e : Edge) → In e es → In e fs) → (r : Role) → In r (mark dirty es target) → In r (mark dirty fs target)

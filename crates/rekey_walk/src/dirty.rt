@@ -3,7 +3,7 @@ ghost use Rattle.std.specs.Prelude.{◌≡◌, [], filter, IfOk, OnOk, OnErr};
 ghost use Rattle.cry_base.specs.Sets.{has};
 ghost use Rattle.role_graph.specs.Ascending.{IsAscending, without_role};
 ghost use Rattle.role_graph.specs.Roles.{same_role};
-ghost use Rattle.rekey_walk.specs.Dirty.{mark, plan as plan_of};
+ghost use Rattle.rekey_walk.specs.Dirty.{IsJoined, mark, plan as plan_of};
 
 use cry_base::{Edge, List, Mem, Role};
 use role_graph::{RoleSet, leading_to, reach};
@@ -79,6 +79,17 @@ pub fn mark_from(alloc: Global, dirty: &mut Dirty, edges: &[Edge], target: Role)
     Ok(())
 }
 
+/// Makes all roles of the set dirty. At `Err` nothing has changed.
+pub(crate) fn add(dirty: &mut Dirty, roles: &RoleSet) -> Mem<()>
+    ensures ok { OnOk result (IsJoined dirty.old roles.now dirty.new) }
+    ensures err { OnErr result (dirty.new ≡ dirty.old) }
+{
+    let mut marked = dirty.roles.copy()?;
+    marked.extend(roles.as_slice())?;
+    dirty.roles = marked;
+    Ok(())
+}
+
 /// The dirty roles from which edges lead to a wanted one, the dirty wanted ones included, in their order.
 pub fn plan(alloc: Global, dirty: &Dirty, edges: &[Edge], wanted: &[Role]) -> Mem<List<Role>>
     ensures { IfOk result (λ l. l.items ≡ plan_of dirty.now edges.now wanted.now) }
@@ -91,7 +102,7 @@ pub fn plan(alloc: Global, dirty: &Dirty, edges: &[Edge], wanted: &[Role]) -> Me
 }
 
 /// Those of the roles that are in the set.
-fn common(alloc: Global, roles: &[Role], set: &RoleSet) -> Mem<List<Role>>
+pub(crate) fn common(alloc: Global, roles: &[Role], set: &RoleSet) -> Mem<List<Role>>
     ensures { IfOk result (λ l. l.items ≡ filter (has same_role set.now) roles.now) }
 {
     let mut found = List::new(alloc);

@@ -4,5 +4,7 @@
 mod dirty;
 pub mod laws;
 pub mod rows;
+mod walks;
 
 pub use dirty::{Dirty, mark_from, plan};
+pub use walks::{mark_in, plan_in};
