@@ -1,4 +1,5 @@
 pub mod Found
+pub mod Ordered
 pub mod Placed
 pub mod Rising
 pub mod Searched

@@ -1,8 +1,9 @@
 //! Rows in ascending order of their ranks.
 ghost use Rattle.std.specs.Prelude.{◌≡◌, ◌+◌, ◌≤◌, ◌&&◌, [], length, nat_le, filter, IsOk, IsSome, OnOk, IfOk, IfErr, IsTrue, MatchOption};
-ghost use Rattle.std.specs.Prelude.{◌↔◌, None};
+ghost use Rattle.std.specs.Prelude.{◌↔◌, ◌≢◌, None, AllPairs};
 ghost use Rattle.std.specs.Fn.{CalledAt};
 ghost use Rattle.std.specs.List.Retain.{IsFiltered};
+ghost use Rattle.std.specs.List.Sorted.{IsPermutation};
 ghost use Rattle.std.specs.Option.{option_copied};
 ghost use Rattle.sorted_table.specs.Places.{IsAt, IsGapFor};
 ghost use Rattle.sorted_table.specs.Rows.{IsRising, row_at, with_row, without, replaced};
@@ -42,6 +43,15 @@ impl<T: Ranked> Table<T> {
         Table {
             rows: Vec::new(alloc),
         }
+    }
+
+    /// A table of rows in any order, whose ranks all differ. It puts them in order where they are, and takes no memory.
+    pub fn of_unordered(mut rows: Vec<T>) -> Self
+        requires { AllPairs (λ x y. T.rank x ≢ T.rank y) rows.items }
+        ensures { IsPermutation rows.items result.rows }
+    {
+        rows.sort_unstable_by(|row, other| row.compare(other));
+        Table { rows }
     }
 
     /// The rows in ascending order.
