@@ -1,5 +1,5 @@
 //! A disk in memory.
-ghost use Rattle.std.specs.Prelude.{◌≡◌, ◌<◌, ◌≤◌, ◌↔◌, ◌⊎◌, ◌+◌, ◌-◌, ◌^◌, [], ◌∷◌, None, Some, length, slice_range, IfOk, OnOk, OnErr};
+ghost use Rattle.std.specs.Prelude.{◌≡◌, ◌<◌, ◌≤◌, ◌↔◌, ◌⊎◌, ◌+◌, ◌-◌, ◌^◌, [], ◌∷◌, None, Some, length, min, slice_range, IfOk, OnOk, OnErr};
 ghost use Rattle.std.specs.Prelude.{IsErr};
 ghost use Rattle.cry_io.specs.Events.{Stays};
 ghost use Rattle.cry_io.specs.Fakes.{read, wrote, synced, refused};
@@ -78,6 +78,14 @@ impl MemDisk {
         ensures { result.now ≡ shown_of self.now.events }
     {
         self.platter.shown()
+    }
+
+    /// How many calls to read, write and sync it has had since it was made, those that failed among them; the greatest number of 64
+    /// bits where there were more.
+    pub fn calls(&self) -> u64
+        ensures { result ≡ min self.now.schedule.calls (2 ^ 64 - 1) }
+    {
+        self.schedule.calls()
     }
 
     /// The disk after a stop, chosen by `pick`: what is left is all that it shows, nothing is pending, and no

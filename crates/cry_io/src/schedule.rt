@@ -1,5 +1,5 @@
 //! Which calls of a fake are to fail. Calls are numbered from 0, and their count has no end.
-ghost use Rattle.std.specs.Prelude.{◌≡◌, ◌+◌, ◌≤◌, ◌↔◌, ℕ, IsTrue, IsSomeAnd, Contains};
+ghost use Rattle.std.specs.Prelude.{◌≡◌, ◌+◌, ◌-◌, ◌^◌, ◌≤◌, ◌↔◌, ℕ, min, IsTrue, IsSomeAnd, Contains};
 ghost use Rattle.cry_io.specs.Schedules.{IsToFail, IsNumber, counted};
 
 use crate::tally::Tally;
@@ -48,6 +48,16 @@ impl Schedule {
         self.number = next_of(self.number);
         self.calls = self.calls.raised();
         fails
+    }
+
+    /// How many calls were counted; the greatest number of 64 bits where there were more.
+    pub(crate) fn calls(&self) -> u64
+        ensures { result ≡ min self.now.calls (2 ^ 64 - 1) }
+    {
+        match self.number {
+            Some(number) => number,
+            None => u64::MAX,
+        }
     }
 
     fn is_to_fail(&self) -> bool
