@@ -1,15 +1,10 @@
 //! What everyone can follow of a journal: laws and worked rows of the fold over its payloads.
 ghost use Rattle.std.specs.Prelude.{◌≡◌, ℕ, List, Ok};
-ghost use Rattle.commit_journal.specs.Laws.{AreBodies};
-ghost use Rattle.commit_journal.specs.Logs.{holder_log, writer_log};
 ghost use Rattle.record_format.specs.Told.{told_note};
 ghost use Rattle.record_format.specs.Noted.{Note};
-ghost use Rattle.public_fold.specs.Journal.{Journal};
 ghost use Rattle.public_fold.specs.WorkedSteps.{rewriting, granting, writing_again, renaming_again, moving_away};
 ghost use Rattle.record_format.specs.declared.note.Note.{Note as Declared};
-ghost use Rattle.journal_bytes.specs.Bytes.{bodies_of};
-ghost use Rattle.journal_bytes.specs.Folds.{fold_of, log_of, public_stand};
-ghost use Rattle.journal_bytes.specs.Journals.{IsHonestFor, StandsForJournal, published_journal};
+ghost use Rattle.journal_bytes.specs.Folds.{fold_of, public_stand};
 ghost use Rattle.journal_bytes.specs.Notes.{declared_note};
 ghost use Rattle.journal_bytes.specs.WorkedFolds.{dropping_soon};
 
@@ -17,16 +12,6 @@ ghost use Rattle.journal_bytes.specs.WorkedFolds.{dropping_soon};
 pub fn notes_are_told_as_declared()
     ensures told { (note : Note) → told_note (declared_note note) ≡ note }
     ensures declared { (note : Declared) → declared_note (told_note note) ≡ note }
-{}
-
-/// Law: a holder reads the journal that the bytes publish, as the owner does, if the last slot is honest; the owner who opens
-/// for writing reads all of the journal, whatever the last slot holds. Needed is that each payload has a spelling.
-pub fn everyone_reads_the_journal()
-    ensures holder { (owner : List ℕ) (m : Journal) (bytes : List ℕ) → StandsForJournal owner m bytes → AreBodies 0 (bodies_of owner m)
-        → IsHonestFor owner bytes m →
-        holder_log bytes ≡ Ok (log_of owner (published_journal owner bytes m)) }
-    ensures writer { (owner : List ℕ) (m : Journal) (bytes : List ℕ) → StandsForJournal owner m bytes → AreBodies 0 (bodies_of owner m) →
-        writer_log owner bytes ≡ Ok (log_of owner m) }
 {}
 
 /// The payloads of each worked journal fit, and make what stands after it: its store without names, bytes and holders'

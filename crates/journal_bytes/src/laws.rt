@@ -1,16 +1,13 @@
 //! Laws of the bytes of a journal.
-ghost use Rattle.std.specs.Prelude.{IsTrue, ◌≡◌, ◌+◌, ℕ, All, List, [], ◌∷◌, ◌++◌, length, Ok};
+ghost use Rattle.std.specs.Prelude.{◌≡◌, ◌+◌, ℕ, All, List, [], ◌∷◌, ◌++◌, length};
 ghost use Rattle.chacha_seal.specs.Keys.{KeyParts};
 ghost use Rattle.commit_journal.specs.Gates.{recovered};
 ghost use Rattle.commit_journal.specs.Holding.{IsPrefix};
-ghost use Rattle.commit_journal.specs.Laws.{AreBodies, placed_from};
-ghost use Rattle.commit_journal.specs.Log.{log_verdict};
 ghost use Rattle.commit_journal.specs.Standing.{HasSizes};
 ghost use Rattle.cry_base.specs.Sets.{In};
 ghost use Rattle.public_fold.specs.Journal.{Entry, Journal, nothing, stand_after};
 ghost use Rattle.public_fold.specs.Journal.Entry.{Made, Session};
 ghost use Rattle.public_fold.specs.Lengths.{end_of};
-ghost use Rattle.public_fold.specs.StandFits.{all_fit};
 ghost use Rattle.public_fold.specs.Valid.{IsValid};
 ghost use Rattle.key_links.specs.Fresh.{fresh_image, piece};
 ghost use Rattle.journal_bytes.specs.Bytes.{batches_of, bodies_of, entry_body, image_of};
@@ -46,9 +43,9 @@ pub fn keys_stay()
         key_bytes owner (m ++ more) key.serial ≡ key_bytes owner m key.serial }
 {}
 
-/// Law: where each note fits, a serial finds the very key that was drawn for it: no two keys have one.
+/// Law: in a valid journal a serial finds the very key that was drawn for it: no two keys have one.
 pub fn serials_find_their_keys()
-    ensures { (owner : List ℕ) (m : Journal) → IsTrue (all_fit nothing m) → (key : KeyParts) → In key (all_keys owner m)
+    ensures { (owner : List ℕ) (m : Journal) → IsValid m → (key : KeyParts) → In key (all_keys owner m)
         → key_bytes owner m key.serial ≡ key.bytes }
 {}
 
@@ -65,12 +62,4 @@ pub fn whole_journal_is_published()
     ensures published { (owner : List ℕ) (m : Journal) (bytes : List ℕ) → StandsWholeForJournal owner m bytes
         → published_journal owner bytes m ≡ m }
     ensures honest { (owner : List ℕ) (m : Journal) (bytes : List ℕ) → StandsWholeForJournal owner m bytes → IsHonestFor owner bytes m }
-{}
-
-/// Law: bytes that stand for a journal are read as the journal that they publish, if their last slot is honest and each of its
-/// payloads has a spelling.
-pub fn standing_bytes_are_read_as_their_journal()
-    ensures { (owner : List ℕ) (m : Journal) (bytes : List ℕ) → StandsForJournal owner m bytes → AreBodies 0 (bodies_of owner m)
-        → IsHonestFor owner bytes m →
-        log_verdict owner bytes ≡ Ok (placed_from 42 0 0 (bodies_of owner (published_journal owner bytes m))) }
 {}
