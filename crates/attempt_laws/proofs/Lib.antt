@@ -3,3 +3,4 @@ pub mod Rising
 pub mod Ranks
 pub mod Written
 pub mod Scripts
+pub mod Called

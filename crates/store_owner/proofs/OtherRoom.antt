@@ -248,6 +248,9 @@ owner_with o b c d e f m is = record {
   counts = is.counts;
 }
 
+pub owner_still : (m : Journal) (old new : OwnerView) → HasOtherRoom old new → IsOwnerOf m old → IsOwnerOf m new
+owner_still m old new h is = subst (IsOwnerOf m) (sym (has_room old new h)) (owner_with old _ _ _ _ _ m is)
+
 stops_before : (r : Request) (drawn : List (List ℕ)) (o : OwnerView) (was shows : Option (List ℕ)) (might may : List ℕ → Type 0) (since : List ℕ → List ℕ → Type 0) (b c d e f : ℕ)
     → StopsWithin r drawn (with_room o b c d e f) was shows might may since → StopsWithin r drawn o was shows might may since
 stops_before r drawn o was shows might may since b c d e f h = λ m is low bound fine. h m (owner_with o b c d e f m is) low bound fine
