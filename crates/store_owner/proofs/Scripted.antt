@@ -24,7 +24,7 @@ use Rattle.store_owner.proofs.OwnerGoesOn.{not_refused}
 use Rattle.store_owner.proofs.Tallies.{counts_on}
 use Rattle.store_owner.specs.Stopping.{ComesToRest}
 
-abbrev Whole : List ℕ → Type 0
+abbrev pub Whole : List ℕ → Type 0
 Whole key = length key ≡ 32
 
 apart : (key : List ℕ) (keys : List (List ℕ)) (after : List ℕ) → joined (key ∷ keys) ++ after ≡ key ++ (joined keys ++ after)
@@ -32,7 +32,7 @@ apart [] keys after = refl
 apart (byte ∷ key) keys after = ap (λ bytes. byte ∷ bytes) (apart key keys after)
 
 -- the keys are the pieces of the bytes in turn, and the other bytes stand behind them
-keys_again : (drawn : List (List ℕ)) (after : List ℕ) → All Whole drawn → keys_from (length drawn) (joined drawn ++ after) ≡ drawn
+pub keys_again : (drawn : List (List ℕ)) (after : List ℕ) → All Whole drawn → keys_from (length drawn) (joined drawn ++ after) ≡ drawn
 unfolding keys_from
 keys_again [] after whole = refl
 keys_again (key ∷ keys) after whole =
@@ -44,7 +44,7 @@ keys_again (key ∷ keys) after whole =
     ∙ ap (λ bytes. key ∷ keys_from (length keys) bytes) rest
     ∙ ap (λ ks. key ∷ ks) (keys_again keys after (All-tail Whole key keys whole))
 
-rest_again : (drawn : List (List ℕ)) (after : List ℕ) → All Whole drawn → drop (32 * length drawn) (joined drawn ++ after) ≡ after
+pub rest_again : (drawn : List (List ℕ)) (after : List ℕ) → All Whole drawn → drop (32 * length drawn) (joined drawn ++ after) ≡ after
 rest_again [] after whole = refl
 rest_again (key ∷ keys) after whole =
     let count : 32 * suc (length keys) ≡ 32 + 32 * length keys = omega arith in
