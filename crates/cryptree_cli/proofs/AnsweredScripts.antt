@@ -24,7 +24,7 @@ use Rattle.store_owner.proofs.Scripted.{answered}
 use Rattle.store_owner.proofs.Taken.{takes_more, takes_none}
 
 -- one command more at the end of a script
-going_more : (limits : Limits) (g : Going) (rs : List Request) (r : Request) → script_going limits g (rs ++ r ∷ [])
+pub going_more : (limits : Limits) (g : Going) (rs : List Request) (r : Request) → script_going limits g (rs ++ r ∷ [])
     ≡ line_going (script_going limits g rs) r (answer limits (script_going limits g rs).journal (script_going limits g rs).begun r)
 unfolding script_going
 going_more limits g [] r = refl

@@ -1,5 +1,5 @@
 -- What runs and stops leave of a store.
-use Rattle.std.proofs.Common.{◌≡◌, ◌≤◌, ⊎_elim, inl, inr, ℕ, List, [], ◌∷◌, ◌++◌, Option, Some, sym, subst, ◌∙◌}
+use Rattle.std.proofs.Common.{◌≡◌, ◌≤◌, ◌⊎◌, ⊎_elim, inl, inr, ℕ, List, [], ◌∷◌, ◌++◌, Option, Some, sym, subst, ◌∙◌}
 use Rattle.commit_journal.specs.Holding.{IsBetween, IsPrefix}
 use Rattle.commit_journal.proofs.KeptLemmas.{prefix_same, prefix_trans}
 use Rattle.cry_base.specs.Requests.{Request}
@@ -18,8 +18,10 @@ use Rattle.journal_bytes.specs.Journals.{HoldsBetween, Kept, ShowsJournal, Stand
 use Rattle.journal_bytes.specs.Script.{Going, answer, line_going, opened, script_going}
 use Rattle.public_fold.specs.Journal.{Journal}
 use Rattle.store_owner.specs.Drawing.{joined}
-use Rattle.stop_laws.specs.Runs.{Answered, HoldsAll, HoldsRun, IsLeft, RunOver, Runs}
+use Rattle.stop_laws.specs.Coming.{ComesOf, IsMadeOf, IsOfRuns}
+use Rattle.stop_laws.specs.Runs.{HoldsAll, HoldsRun, IsLeft, RunOver, Runs}
 use Rattle.stop_laws.specs.Runs.Runs.{Begun, Ran, StopsBehind, StopsIn}
+use Rattle.stop_laws.proofs.Made.{made_front, next_made, session_made}
 
 -- ---- a session makes a journal longer, and takes nothing away
 
@@ -49,6 +51,7 @@ pub record Leaves (key : List ℕ) (l h : Journal) (was shown written_before wri
   pub grown : IsPrefix l low
   pub holds : HoldsBetween key low high shown may_leave
   pub kept : Kept key l h high since
+  pub made : IsPrefix high h ⊎ ((m : Journal) × IsPrefix m h × ShowsJournal key m was × IsMadeOf m (lines_behind (lines_in typed)) high)
   pub acknowledged : HoldsRun key was typed written_before written_after low
 
 module _ (key : List ℕ) (l h m : Journal) (left_before left_after was shown written_before written_after : Option (List ℕ)) (typed : List ℕ)
@@ -76,6 +79,7 @@ module _ (key : List ℕ) (l h m : Journal) (left_before left_after was shown wr
     grown = prefix_trans l m session.now low_m (session_begins version_limits m asked session);
     holds = settled_holds_journal key session.now shown may_leave leaves.settled;
     kept = kept l h held low_m;
+    made = inr (m, m_high, shows, session_made m asked lines rest asks session);
     acknowledged = inr (m, shows, record { asked = asked; rest = rest; asks = asks; session = session; prints = prints; holds = prefix_same session.now });
   }
 
@@ -100,6 +104,7 @@ module _ (key : List ℕ) (l h m : Journal) (left_before left_after was shown wr
         grown = prefix_trans l m ran.session.now low_m (session_begins version_limits m ran.asked ran.session);
         holds = run.holds;
         kept = run.kept l h held low_m;
+        made = inr (m, m_high, shows, next_made m ran.asked ran.next lines ran.rest ran.asks ran.session ran.is_accepted run.last run.last_count run.last_sizes);
         acknowledged = inr (
           m,
           shows,
@@ -137,6 +142,7 @@ module _ (key : List ℕ) (l h m : Journal) (left_before left_after was shown wr
         kept = λ s c at.
             let k = kept s c at in
             record { held = k.held; from = k.from; to = ⊎_elim (λ p. inl p) (λ p. inl (prefix_trans k.held m h p m_high)) k.to; stands_for = k.stands_for };
+        made = inl (prefix_same h);
         acknowledged = inl is.unprinted;
       }
 
@@ -213,11 +219,43 @@ module _ (D : Type 0) (shown : D → Option (List ℕ)) (may_leave : D → List 
         subst (IsBetween (StandsForJournal key) l h) same lies;
   }
 
-  abbrev LeftAt : (m1 : Journal) (now : D) → Came now → Type 0
-  LeftAt m1 now runs = (low high : Journal) × IsPrefix m1 low × HoldsBetween key low high (shown now) (may_leave now) × HoldsHere now runs low
+  -- a front of what comes of the runs comes of them
+  abbrev ComesHere : Journal → (now : D) → Came now → Journal → Type 0
+  ComesHere m2 now runs j = ComesOf shown may_leave moment since key m2 start now runs j
 
-  pub all_left : (m1 m2 : Journal) → HoldsBetween key m1 m2 (shown start) (may_leave start) → (now : D) (runs : Came now) → LeftAt m1 now runs
-  all_left m1 m2 first now Begun = (m1, m2, prefix_same m1, first, tt)
+  comes_front : (m2 : Journal) (now : D) (runs : Came now) (j front : Journal) → IsPrefix front j → ComesHere m2 now runs j → ComesHere m2 now runs front
+  comes_front m2 now Begun j front shorter comes = prefix_trans front j m2 shorter comes
+  comes_front m2 now (Ran {before = before} {after = after} runs run) j front shorter comes =
+      ⊎_elim
+      (λ old. inl (comes_front m2 before runs j front shorter old))
+      (λ new. inr (new.0, new.1, new.2, made_front new.0 (lines_behind (lines_in run.typed)) j front shorter new.3))
+      comes
+  comes_front m2 now (StopsBehind {before = before} runs left is) j front shorter comes = comes_front m2 before runs j front shorter comes
+  comes_front m2 now (StopsIn {before = before} runs run left is) j front shorter comes =
+      ⊎_elim
+      (λ old. inl (comes_front m2 before runs j front shorter old))
+      (λ new. inr (new.0, new.1, new.2, made_front new.0 (lines_behind (lines_in run.typed)) j front shorter new.3))
+      comes
+
+  -- what one more run reaches
+  abbrev ReachesBy : Journal → (before : D) → Came before → List ℕ → Journal → Type 0
+  ReachesBy m2 before runs typed j =
+      ComesHere m2 before runs j ⊎ ((m : Journal) × ComesHere m2 before runs m × ShowsJournal key m (shown before) × IsMadeOf m (lines_behind (lines_in typed)) j)
+
+  reaches : (m2 : Journal) (before : D) (runs : Came before) (typed : List ℕ) (h high : Journal) → ComesHere m2 before runs h
+      → IsPrefix high h ⊎ ((m : Journal) × IsPrefix m h × ShowsJournal key m (shown before) × IsMadeOf m (lines_behind (lines_in typed)) high)
+      → ReachesBy m2 before runs typed high
+  reaches m2 before runs typed h high comes made =
+      ⊎_elim
+      (λ shorter. inl (comes_front m2 before runs h high shorter comes))
+      (λ new. inr (new.0, comes_front m2 before runs h new.0 new.1 comes, new.2, new.3))
+      made
+
+  abbrev LeftAt : (m1 m2 : Journal) (now : D) → Came now → Type 0
+  LeftAt m1 m2 now runs = (low high : Journal) × IsPrefix m1 low × HoldsBetween key low high (shown now) (may_leave now) × HoldsHere now runs low × ComesHere m2 now runs high
+
+  pub all_left : (m1 m2 : Journal) → HoldsBetween key m1 m2 (shown start) (may_leave start) → (now : D) (runs : Came now) → LeftAt m1 m2 now runs
+  all_left m1 m2 first now Begun = (m1, m2, prefix_same m1, first, tt, prefix_same m2)
   all_left m1 m2 first now (Ran {before = before} {after = after} runs run) =
       let so_far = all_left m1 m2 first before runs in
       let left = run_leaves before after so_far.0 so_far.1 so_far.3 run in (
@@ -226,19 +264,38 @@ module _ (D : Type 0) (shown : D → Option (List ℕ)) (may_leave : D → List 
         prefix_trans m1 so_far.0 left.low so_far.2 left.grown,
         left.holds,
         (all_more before runs so_far.0 left.low left.grown so_far.4, left.acknowledged),
+        reaches m2 before runs run.typed so_far.1 left.high so_far.5 left.made,
       )
   all_left m1 m2 first now (StopsBehind {before = before} {after = after} {bytes = bytes} runs left is) =
       let so_far = all_left m1 m2 first before runs in
-      (so_far.0, so_far.1, so_far.2, left_between so_far.0 so_far.1 bytes now (so_far.3.leaves bytes left) is, so_far.4)
+      (so_far.0, so_far.1, so_far.2, left_between so_far.0 so_far.1 bytes now (so_far.3.leaves bytes left) is, so_far.4, so_far.5)
   all_left m1 m2 first now (StopsIn {before = before} {after = after} {next = next} {there = there} {bytes = bytes} runs run at is) =
       let so_far = all_left m1 m2 first before runs in
       let left = run_leaves before after so_far.0 so_far.1 so_far.3 run in
       let k = left.kept there bytes at in
-      let to : (high : Journal) → IsPrefix k.held high → LeftAt m1 now (StopsIn runs run at is) = λ high p. (
+      let to : (high : Journal) → IsPrefix k.held high → ReachesBy m2 before runs run.typed high → LeftAt m1 m2 now (StopsIn runs run at is) = λ high p comes. (
         so_far.0,
         high,
         so_far.2,
         left_between so_far.0 high bytes now (record { held = k.held; from = k.from; to = p; stands_for = k.stands_for }) is,
         so_far.4,
+        comes,
       ) in
-      ⊎_elim (λ p. to so_far.1 p) (λ p. to left.high p) k.to
+      ⊎_elim
+      (λ p. to so_far.1 p (inl so_far.5))
+      (λ p. to left.high p (reaches m2 before runs run.typed so_far.1 left.high so_far.5 left.made))
+      k.to
+
+  -- whatever is left behind the runs is theirs
+  pub left_of_runs : (m1 m2 : Journal) → HoldsBetween key m1 m2 (shown start) (may_leave start) → (now : D) (runs : Came now) (bytes : List ℕ) → may_leave now bytes
+      → IsOfRuns shown may_leave moment since key m1 m2 start now runs bytes
+  left_of_runs m1 m2 first now runs bytes left =
+      let all = all_left m1 m2 first now runs in
+      let here = all.3.leaves bytes left in
+      record {
+        journal = here.held;
+        stands_for = here.stands_for;
+        begins = prefix_trans m1 all.0 here.held all.2 here.from;
+        acknowledged = all_more now runs all.0 here.held here.from all.4;
+        comes = comes_front m2 now runs all.1 here.held here.to all.5;
+      }

@@ -6,6 +6,7 @@ ghost use Rattle.cry_base.specs.declared.limits.Limits.{Limits};
 ghost use Rattle.public_fold.specs.Journal.{Journal};
 ghost use Rattle.journal_bytes.specs.Journals.{HoldsBetween};
 ghost use Rattle.journal_bytes.specs.Script.{Going, script_going};
+ghost use Rattle.stop_laws.specs.Coming.{IsOfRuns};
 ghost use Rattle.stop_laws.specs.Runs.{HoldsAll, Runs};
 
 use cry_io::Disk;
@@ -24,4 +25,12 @@ pub fn stops_leave_what_was_acknowledged<D: Disk>(start: &D, now: &D)
         (runs : Runs D.shown D.may_leave D.moment D.since key start.now now.now) →
         (low high : Journal) × IsPrefix m1 low × HoldsBetween key low high (D.shown now.now) (D.may_leave now.now) ×
         HoldsAll D.shown D.may_leave D.moment D.since key start.now now.now runs low }
+{}
+
+/// Law: over every list of runs and stops, whatever a stop leaves behind them stands for a journal of theirs: it begins with the first one
+/// and has each command that any of the runs acknowledged; and it has nothing but commands that the runs accepted, in their order.
+pub fn stops_leave_nothing_but_accepted_commands<D: Disk>(start: &D, now: &D)
+    ensures { (key : List ℕ) (m1 m2 : Journal) → HoldsBetween key m1 m2 (D.shown start.now) (D.may_leave start.now) →
+        (runs : Runs D.shown D.may_leave D.moment D.since key start.now now.now) (bytes : List ℕ) → D.may_leave now.now bytes →
+        IsOfRuns D.shown D.may_leave D.moment D.since key m1 m2 start.now now.now runs bytes }
 {}

@@ -1,0 +1,60 @@
+-- What a journal is made of behind runs and stops: the commands that the runs accepted, in their order, and nothing else. This project's
+-- own, docs/MODEL.md.
+--
+-- A run over a disk that shows a journal m adds an entry to m for each command that it accepts, with `Session` before the first one, and
+-- adds no other. A stop may leave a front of what it made: then the next run goes on from that front.
+use Rattle.std.specs.Prelude.{◌≡◌, ◌⊎◌, ℕ, Bool, List, ◌++◌, Option}
+use Rattle.commit_journal.specs.Holding.{IsPrefix}
+use Rattle.cry_base.specs.Requests.{Request}
+use Rattle.cryptree_cli.specs.Lines.{InputLine}
+use Rattle.cryptree_cli.specs.Running.{lines_behind, lines_in, version_limits}
+use Rattle.cryptree_cli.specs.Script.{Asks}
+use Rattle.journal_bytes.specs.Journals.{ShowsJournal, StandsForJournal}
+use Rattle.journal_bytes.specs.Script.{opened, script_going}
+use Rattle.public_fold.specs.Journal.{Journal}
+use Rattle.store_owner.specs.Drawing.{AreKeys, joined}
+use Rattle.stop_laws.specs.Runs.{HoldsAll, Runs}
+use Rattle.stop_laws.specs.Runs.Runs.{Begun, Ran, StopsBehind, StopsIn}
+
+-- The journal is what the first of these lines made of m, or a front of it: a session over m was asked their commands, one after another,
+-- and drew these keys, 32 bytes each, for those that it accepted.
+pub record IsMadeOf (m : Journal) (lines : List InputLine) (j : Journal) : Type 0 where
+  pub asked : List Request
+  pub rest : List InputLine
+  pub asks : Asks asked lines rest
+  pub drawn : List (List ℕ)
+  pub drawn_sizes : AreKeys drawn
+  pub now : Journal
+  pub begun : Bool
+  pub goes : (draws : List ℕ) → script_going version_limits (opened m (joined drawn ++ draws)) asked
+      ≡ record { journal = now; begun = begun; draws = draws }
+  pub front : IsPrefix j now
+
+-- The journal comes of a first one by these runs: it is a front of the first one; or some run, over a disk that showed a journal which
+-- comes of the runs before it, made it of that journal.
+abbrev pub ComesOf : {D : Type 0} (shown : D → Option (List ℕ)) (may_leave : D → List ℕ → Type 0) (moment : D → ℕ) (since : D → ℕ → List ℕ
+    → List ℕ → Type 0)
+    (key : List ℕ) (first : Journal) (start now : D) → Runs shown may_leave moment since key start now → Journal → Type 0
+ComesOf shown may_leave moment since key first start now Begun j = IsPrefix j first
+ComesOf shown may_leave moment since key first start now (Ran {before = before} {after = after} runs run) j =
+    ComesOf shown may_leave moment since key first start before runs j
+    ⊎ ((m : Journal) × ComesOf shown may_leave moment since key first start before runs m × ShowsJournal key m (shown before)
+    × IsMadeOf m (lines_behind (lines_in run.typed)) j)
+ComesOf shown may_leave moment since key first start now (StopsBehind {before = before} runs left is) j =
+    ComesOf shown may_leave moment since key first start before runs j
+ComesOf shown may_leave moment since key first start now (StopsIn {before = before} runs run left is) j =
+    ComesOf shown may_leave moment since key first start before runs j
+    ⊎ ((m : Journal) × ComesOf shown may_leave moment since key first start before runs m × ShowsJournal key m (shown before)
+    × IsMadeOf m (lines_behind (lines_in run.typed)) j)
+
+-- What is said of bytes that are left behind the runs: they stand for a journal that begins with the lower one, has each command that any of
+-- the runs acknowledged, and comes of the higher one by the runs.
+pub record IsOfRuns {D : Type 0} (shown : D → Option (List ℕ)) (may_leave : D → List ℕ → Type 0) (moment : D → ℕ) (since : D → ℕ → List ℕ
+    → List ℕ → Type 0)
+    (key : List ℕ) (low high : Journal) (start now : D) (runs : Runs shown may_leave moment since key start now) (bytes : List ℕ)
+    : Type 0 where
+  pub journal : Journal
+  pub stands_for : StandsForJournal key journal bytes
+  pub begins : IsPrefix low journal
+  pub acknowledged : HoldsAll shown may_leave moment since key start now runs journal
+  pub comes : ComesOf shown may_leave moment since key high start now runs journal
