@@ -5,9 +5,12 @@ use Rattle.std.specs.Ordering.{nat_cmp}
 use Rattle.std.specs.declared.cmp.Ordering.{Ordering}
 use Rattle.std.specs.declared.cmp.Ordering.TheVariants.{Equal}
 use Rattle.std.proofs.lemmas.Bool.Decides.{nat_tests}
-use Rattle.std.specs.List.{All}
+use Rattle.std.specs.List.{All, AllPairs}
+use Rattle.std.specs.List.Sorted.{IsPermutation}
 use Rattle.std.proofs.lemmas.Bool.{and_parts, and_from, eq-eqb, eqb-false, eqb-true, le-leb, leb-true, ne_eqb}
-use Rattle.std.proofs.lemmas.List.{take_more, length-take-le, get_or-take, get_or_default}
+use Rattle.std.proofs.lemmas.List.Elements.{All-head, All-tail, All-map}
+use Rattle.std.proofs.lemmas.List.Kept.{AllPairs-cons}
+use Rattle.std.proofs.lemmas.List.Sorted.{All-permutation, IsPermutation-sym}
 use Rattle.cry_base.specs.Sets.{In}
 use Rattle.cry_base.proofs.Members.{In-append, In-map, In-filter, filter-In}
 use Rattle.sorted_table.specs.Rows.{IsRising, replaced, row_at, with_row, without}
@@ -15,7 +18,7 @@ use Rattle.sorted_table.proofs.Found.{row_at-Some, row_at-None, row_at-absent, I
 use Rattle.folder_nodes.specs.Indexing.{IsIndexed, spot_of}
 use Rattle.folder_nodes.specs.Ranking.{spot_rank}
 use Rattle.folder_nodes.specs.declared.spots.Spot.{Spot}
-use Rattle.folder_nodes.proofs.Ascending.{All-in, in-All, same_ranked}
+use Rattle.folder_nodes.proofs.Ascending.{All-in, in-All, head_below, rest_rising, same_ranked}
 
 abbrev pub by_spot : Spot → ℕ
 by_spot q = spot_rank q.group q.id
@@ -192,26 +195,28 @@ module _ (T : Type 0) (rank group : T → ℕ) where
       (le-leb _ _ (omega (arith, same))) (le-leb _ _ (omega (arith, same, small))) in
       (In-map Spot ℕ (λ q. q.id) (rank r) found).1 (place r, subst (λ l. In (place r) l) (sym e) (filter-In Spot (is_under g) (place r) spots (index.listed r i) passes), refl)
 
-  -- an index that is made row by row
-  module _ (rows : List T) (k : ℕ) (row : T) (at : row ≡ get_or rows k row) (rising : IsRising rank rows) (within : k < length rows) where
-    none_before : row_at rank (take k rows) (rank row) ≡ None
-    none_before =
-        let short : length (take k rows) ≡ k = length-take-le k rows (omega (arith, within)) in
-        let low : All (λ (r : T). rank r < rank row) (take k rows) = λ j e lt.
-        let up : rank (get_or rows j e) < rank (get_or rows k e) = rising j k e (omega (arith, lt, short)) within in
-        let one : rank (get_or rows k e) ≡ rank row = ap rank (get_or_default rows k e row within ∙ sym at) in
-        let old : rank (get_or (take k rows) j e) ≡ rank (get_or rows j e) = ap rank (get_or-take k rows j e (omega (arith, lt, short))) in
-        omega (arith, up, one, old) in
-        row_at-absent T rank (take k rows) (rank row) (λ r i same. let up : rank r < rank row = All-in T (λ (r : T). rank r < rank row) (take k rows) r low i in absurd (omega (arith, up, same)))
+  -- in different rows two places differ
+  pub places_apart : (rows : List T) → IsRising rank rows → All (λ r. rank r < 4294967296) rows → AllPairs (λ p q. by_spot p ≢ by_spot q) (map place rows)
+  places_apart [] rising small = λ i j d lt within. absurd (omega (arith, within))
+  places_apart (x ∷ xs) rising small =
+      let apart : Spot → Spot → Type 0 = λ p q. by_spot p ≢ by_spot q in
+      let least : rank x < 4294967296 = All-head (λ r. rank r < 4294967296) x xs small in
+      let others : All (λ r. rank r < 4294967296) xs = All-tail (λ r. rank r < 4294967296) x xs small in
+      AllPairs-cons apart (place x) (map place xs)
+      (All-map (apart (place x)) place xs (in-All T (λ y. apart (place x) (place y)) xs (λ y i same.
+      let up : rank x < rank y = All-in T (λ z. rank x < rank z) xs y (head_below T rank x xs rising) i in
+      let both = same_place (group x) (group y) (rank x) (rank y) least (All-in T (λ r. rank r < 4294967296) xs y others i) same in
+      omega (arith, up, both.1))))
+      (places_apart xs (rest_rising T rank x xs rising) others)
 
-    pub place_free : (spots : List Spot) → IsIndexed rank group (take k rows) spots → rank row < 4294967296 → row_at by_spot spots (by_spot (place row)) ≡ None
-    place_free spots index small = spot_absent (take k rows) spots row index small none_before
-
-    pub index_on : (spots : List Spot) → IsIndexed rank group (take k rows) spots → rank row < 4294967296 → IsIndexed rank group (take (k + 1) rows) (with_row by_spot spots (place row))
-    index_on spots index small =
-        index_more (take k rows) (take (k + 1) rows) spots row index small none_before
-        (λ r.
-        let e : take (k + 1) rows ≡ take k rows ++ row ∷ [] = take_more rows k row within ∙ ap (λ z. take k rows ++ z ∷ []) (sym at) in (
-          λ i. ⊎_elim (λ old. inr old) (λ (new : (r ≡ row) ⊎ In r []). ⊎_elim (λ same. inl same) (λ none. absurd none) new) ((In-append T r (take k rows) (row ∷ [])).0 (subst (λ l. In r l) e i)),
-          λ u. subst (λ l. In r l) (sym e) ((In-append T r (take k rows) (row ∷ [])).1 (⊎_elim (λ same. inr (inl same)) (λ old. inl old) u)),
-        ))
+  -- the places of all rows, in whatever order
+  pub index_of : (rows : List T) (places spots : List Spot) → All (λ r. rank r < 4294967296) rows → places ≡ map place rows → IsPermutation places spots → IsIndexed rank group rows spots
+  index_of rows places spots small are moved =
+      let IsOne : Spot → Type 0 = λ q. (r : T) × In r rows × (q ≡ place r) in
+      let back : All (λ q. In q spots) places = All-permutation (λ q. In q spots) spots places (IsPermutation-sym places spots moved) (in-All Spot (λ q. In q spots) spots (λ q i. i)) in
+      let ones : All IsOne spots = All-permutation IsOne places spots moved (in-All Spot IsOne places (λ q i. (In-map T Spot place q rows).0 (subst (λ l. In q l) are i))) in
+      record {
+        small = λ r i. All-in T (λ r. rank r < 4294967296) rows r small i;
+        listed = λ r i. All-in Spot (λ q. In q spots) places (place r) back (subst (λ l. In (place r) l) (sym are) ((In-map T Spot place (place r) rows).1 (r, i, refl)));
+        only = λ q i. All-in Spot IsOne spots q ones i;
+      }

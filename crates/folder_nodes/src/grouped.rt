@@ -1,5 +1,5 @@
 //! Rows that are found by their numbers, and all those of a group together.
-ghost use Rattle.std.specs.Prelude.{◌≡◌, ℕ, ◌+◌, ◌≤◌, ◌<◌, [], map, None, IsOk, IsSome, OnOk, IfOk};
+ghost use Rattle.std.specs.Prelude.{◌≡◌, ℕ, ◌+◌, ◌≤◌, ◌<◌, [], All, cond, map, None, IsOk, IsSome, OnOk, IfOk};
 ghost use Rattle.std.specs.Option.{option_copied};
 ghost use Rattle.cry_base.specs.Sets.{In};
 ghost use Rattle.folder_nodes.specs.Indexing as index;
@@ -38,24 +38,26 @@ impl<T: Member> Key<T> for Number {
     }
 }
 
-/// Rows by number. Each stands in an index under its group too, so that a look-up of a group doesn't look at all of
-/// them. `spare` is how many changes have their memory.
+/// Rows by number. Each stands in an index too, under its group, so that a look-up of a group doesn't look at all of
+/// them. Until `arrange` is called all rows count as one group there: then a new row with the highest number moves none,
+/// and a look-up finds the numbers of all. `spare` is how many changes have their memory.
 #[derive(Drop)]
 pub(crate) struct Grouped<T: Member> {
     rows: Table<T>,
     spots: Table<Spot>,
+    is_arranged: bool,
 }
 
 impl<T: Member> Model for Grouped<T> {
     ghost use Rattle.std.specs.Prelude.{min};
-    ghost use Rattle.folder_nodes.specs.Indexing.{IsIndexed};
+    ghost use Rattle.folder_nodes.specs.Indexing.{IsIndexed, group_in};
     ghost use Rattle.sorted_table.specs.Tabled.{Tabled};
 
     ghost Value = { Tabled T };
 
     ghost view = { λ g. record { rows = g.rows.rows; spare = min g.rows.spare g.spots.spare } };
 
-    ghost invariant = { λ g. IsIndexed T.rank T.group g.rows.rows g.spots.rows };
+    ghost invariant = { λ g. IsIndexed T.rank (group_in g.is_arranged T.group) g.rows.rows g.spots.rows };
 }
 
 impl<T: Member> Grouped<T> {
@@ -66,6 +68,7 @@ impl<T: Member> Grouped<T> {
         Grouped {
             rows: Table::new(alloc),
             spots: Table::new(alloc),
+            is_arranged: false,
         }
     }
 
@@ -85,11 +88,12 @@ impl<T: Member> Grouped<T> {
         self.rows.find(key)
     }
 
-    /// The numbers of all rows of the group, in ascending order.
+    /// The numbers of all rows of the group, in ascending order, and where the index isn't arranged those of all rows.
     pub(crate) fn in_group(&self, group: u64) -> &[Spot]
         ensures rising { IsRising (λ (q : TheSpot). q.id) result.now }
         ensures all { (r : T) → In r self.now.rows → T.group r ≡ group → In (T.rank r) (map (λ (q : TheSpot). q.id) result.now) }
     {
+        let group = group_in(self.is_arranged, group);
         let first = Spot { group, id: 0 };
         let last = Spot {
             group,
@@ -108,6 +112,19 @@ impl<T: Member> Grouped<T> {
         self.rows.reserve(1)?;
         self.spots.reserve(1)
     }
+
+    /// Puts the rows into their groups, for look-ups from now on.
+    pub(crate) fn arrange(&mut self, alloc: Global) -> Mem<()>
+        ensures { self.new.rows ≡ self.old.rows }
+    {
+        if self.is_arranged {
+            return Ok(());
+        }
+        let spots = spots_of(alloc, self.rows.as_slice())?;
+        self.spots = spots;
+        self.is_arranged = true;
+        Ok(())
+    }
 }
 
 impl<T: Member + Drop> Grouped<T> {
@@ -116,7 +133,11 @@ impl<T: Member + Drop> Grouped<T> {
         ensures { IfOk result (λ made. made.rows ≡ rows.rows) }
     {
         let spots = spots_of(alloc, rows.as_slice())?;
-        Ok(Grouped { rows, spots })
+        Ok(Grouped {
+            rows,
+            spots,
+            is_arranged: true,
+        })
     }
 
     /// Adds a row whose number no row has, where there is room. It takes no memory.
@@ -126,7 +147,7 @@ impl<T: Member + Drop> Grouped<T> {
         ensures rows { self.new.rows ≡ with_row T.rank self.old.rows row }
         ensures spare { self.old.spare ≤ self.new.spare + 1 }
     {
-        self.spots.insert(spot_of(&row));
+        self.spots.insert(spot_in(self.is_arranged, &row));
         self.rows.insert(row);
     }
 
@@ -136,11 +157,11 @@ impl<T: Member + Drop> Grouped<T> {
         ensures rows { self.new.rows ≡ replaced T.rank self.old.rows row }
         ensures spare { self.new.spare ≡ self.old.spare }
     {
-        let to = spot_of(&row);
+        let to = spot_in(self.is_arranged, &row);
         let Some(was) = self.rows.find(&Number(to.id)) else {
             unreachable!();
         };
-        let from = spot_of(was);
+        let from = spot_in(self.is_arranged, was);
         if from.group == to.group {
             self.rows.replace(row);
             return;
@@ -157,7 +178,7 @@ impl<T: Member + Drop> Grouped<T> {
         let Some(row) = self.rows.find(key) else {
             return;
         };
-        let spot = spot_of(row);
+        let spot = spot_in(self.is_arranged, row);
         let _ = self.spots.remove(&spot);
         let _ = self.rows.remove(key);
     }
@@ -170,30 +191,49 @@ impl<T: Member + Copy> Grouped<T> {
     {
         let rows = self.rows.copy()?;
         let spots = self.spots.copy()?;
-        Ok(Grouped { rows, spots })
+        Ok(Grouped {
+            rows,
+            spots,
+            is_arranged: self.is_arranged,
+        })
     }
 }
 
-/// Where the row stands in the index.
-fn spot_of<T: Member>(row: &T) -> Spot
-    ensures place { result ≡ index.spot_of (T.group row.now) (T.rank row.now) }
+/// Where the row stands in an index that is arranged, or in one that isn't.
+fn spot_in<T: Member>(is_arranged: bool, row: &T) -> Spot
+    ensures place { result ≡ index.spot_of (index.group_in is_arranged T.group row.now) (T.rank row.now) }
     ensures small { T.rank row.now < 4294967296 }
 {
     Spot {
-        group: row.group_number(),
+        group: group_in(is_arranged, row.group_number()),
         id: row.number(),
     }
 }
 
-/// The index of the rows.
+/// The group under which rows of the group stand in an index that is arranged, or in one that isn't.
+fn group_in(is_arranged: bool, group: u64) -> u64
+    ensures { result ≡ cond is_arranged group 0 }
+{
+    if is_arranged { group } else { 0 }
+}
+
+/// The index of the rows by their groups.
 fn spots_of<T: Member>(alloc: Global, rows: &[T]) -> Mem<Table<Spot>>
     requires { IsRising T.rank rows.now }
     ensures { IfOk result (λ spots. index.IsIndexed T.rank T.group rows.now spots.rows) }
 {
-    let mut spots = Table::new(alloc);
+    let spots = spots_by_number(alloc, rows)?;
+    Ok(Table::of_unordered(spots))
+}
+
+/// Where the rows stand in their groups, in the order of the rows.
+fn spots_by_number<T: Member>(alloc: Global, rows: &[T]) -> Mem<Vec<Spot>>
+    ensures spots { IfOk result (λ spots. spots.items ≡ map (index.place_of T.rank T.group) rows.now) }
+    ensures small { OnOk result (All (λ r. T.rank r < 4294967296) rows.now) }
+{
+    let mut spots = Vec::new(alloc);
     for row in rows {
-        spots.reserve(1)?;
-        spots.insert(spot_of(row));
+        spots.push(spot_in(true, row))?;
     }
     Ok(spots)
 }

@@ -163,6 +163,15 @@ impl Shape {
         self.folders.reserve()?;
         self.files.reserve()
     }
+
+    /// Puts the folders and files in order for look-ups by path. Before it a look-up finds the same, but looks at all of
+    /// them, and a new folder or file moves none; after it one moves those of later folders. The order stays.
+    pub fn arrange(&mut self, alloc: Global) -> Mem<()>
+        ensures { self.new.tree ≡ self.old.tree }
+    {
+        self.folders.arrange(alloc)?;
+        self.files.arrange(alloc)
+    }
 }
 
 /// Whether no row is of a folder or file in this folder.

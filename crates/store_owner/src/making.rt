@@ -101,7 +101,7 @@ impl Blank {
         ensures journal_room { OnOk result (557 ≤ self.new.journal.room) }
     {
         self.journal.prepare(ROOT_PAYLOAD_LEN)?;
-        self.state.reserve(ready)?;
+        self.state.reserve(alloc, ready)?;
         self.names.reserve()?;
         self.ring.reserve(KEYS)?;
         StepRoom::reserve(alloc, &mut self.ring, ready.skeleton())
