@@ -5,7 +5,6 @@ pub mod CutShort
 pub mod DrawLemmas
 pub mod Faulted
 pub mod FewKeys
-pub mod Forms
 pub mod Founded
 pub mod MadeOwner
 pub mod MadePieces
@@ -13,7 +12,6 @@ pub mod Measured
 pub mod KeyDraws
 pub mod Keyed
 pub mod NotesKeyed
-pub mod NotesTold
 pub mod OpenedBehind
 pub mod OpenedContents
 pub mod OpenedKept
@@ -23,7 +21,6 @@ pub mod OwnerGoesOn
 pub mod OwnerKeeps
 pub mod OtherRoom
 pub mod Planned
-pub mod Retitlings
 pub mod RingRecords
 pub mod RefusedStores
 pub mod RootSealed
@@ -37,4 +34,3 @@ pub mod SoundVisits
 pub mod StoppedCommands
 pub mod Taken
 mod Tallies
-pub mod TextsTold

@@ -25,11 +25,11 @@ use Rattle.store_owner.specs.Applying.{HasOtherRoom, IsCarriedOut, IsInterrupted
 use Rattle.store_owner.specs.Owned.{IsOwnerOf, OwnerView, counting}
 use Rattle.store_owner.specs.Planning.{IsDrafted}
 use Rattle.store_owner.specs.declared.counted.Counted.{Counted}
-use Rattle.store_owner.specs.Retitled.{IsRenaming, IsRetitlingOf}
+use Rattle.command_plan.specs.NameChanges.{IsRenaming, IsNameChangeOf}
 use Rattle.store_owner.specs.Sound.{IsSound, granted_in, own_store}
 use Rattle.store_owner.specs.Stopping.{StopsWithin}
 use Rattle.store_owner.specs.declared.change.Change.{Change}
-use Rattle.store_owner.specs.declared.retitling.Retitling.{Retitling}
+use Rattle.command_plan.specs.declared.name_change.NameChange.{NameChange}
 
 -- the owner with this room
 abbrev with_room : OwnerView → ℕ → ℕ → ℕ → ℕ → ℕ → OwnerView
@@ -116,20 +116,20 @@ title_with : (n : Titles) (c : ℕ) (node : Node) → title_of (named n c) node 
 title_with n c (Folder f) = refl
 title_with n c (File x) = refl
 
-renaming_with : (p : Retitling) (n : Titles) (c : ℕ) (found : Option Node) (name : List ℕ) → IsRenaming p n found name → IsRenaming p (named n c) found name
+renaming_with : (p : NameChange) (n : Titles) (c : ℕ) (found : Option Node) (name : List ℕ) → IsRenaming p n found name → IsRenaming p (named n c) found name
 renaming_with p n c None name h = h
 renaming_with p n c (Some (Folder f)) name h = h
 renaming_with p n c (Some (File x)) name h = h
 
-retitling_with : (t : Store) (r : Request) (n : Titles) (c : ℕ) (p : Retitling) → IsRetitlingOf t r n p → IsRetitlingOf t r (named n c) p
-retitling_with t AddHolder n c p h = h
-retitling_with t (MakeFolder path) n c p h = h
-retitling_with t (WriteFile path bytes) n c p h = h
-retitling_with t (Remove path) n c p h = h
-retitling_with t (Rename path name) n c p h = renaming_with p n c (node_at t path) name h
-retitling_with t (Relocate path into) n c p h = h
-retitling_with t (Grant holder path) n c p h = h
-retitling_with t (Revoke holder path) n c p h = h
+name_change_with : (t : Store) (r : Request) (n : Titles) (c : ℕ) (p : NameChange) → IsNameChangeOf t r n p → IsNameChangeOf t r (named n c) p
+name_change_with t AddHolder n c p h = h
+name_change_with t (MakeFolder path) n c p h = h
+name_change_with t (WriteFile path bytes) n c p h = h
+name_change_with t (Remove path) n c p h = h
+name_change_with t (Rename path name) n c p h = renaming_with p n c (node_at t path) name h
+name_change_with t (Relocate path into) n c p h = h
+name_change_with t (Grant holder path) n c p h = h
+name_change_with t (Revoke holder path) n c p h = h
 
 kept_before : (n new : Titles) (c : ℕ) → AreKept (named n c) new → AreKept n new
 kept_before n new c h = record { folders = h.folders; files = h.files }
@@ -175,7 +175,7 @@ drafted_with r o p b c d e f h = record {
   fits = h.fits;
   text_is = h.text_is;
   text_room = h.text_room;
-  titles_are = retitling_with (tree_store o.state.tree o.names) r o.names c p.titles h.titles_are;
+  titles_are = name_change_with (tree_store o.state.tree o.names) r o.names c p.titles h.titles_are;
 }
 
 pub drafted_still : (r : Request) (old new : OwnerView) (p : Change) → HasOtherRoom old new → IsDrafted r old p → IsDrafted r new p

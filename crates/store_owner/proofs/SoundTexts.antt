@@ -19,7 +19,7 @@ use Rattle.public_fold.specs.Records.{Piece, file_piece, folder_piece, holder_pi
 use Rattle.public_fold.proofs.Accepting.{accepted}
 use Rattle.public_fold.proofs.Settling.{no_cause}
 use Rattle.journal_bytes.specs.Texting.{bytes_of_file, due_key, due_text, file_text, name_at, renamed_text}
-use Rattle.store_owner.proofs.Forms.{bytes_form, folder_form, last_named, name_form, name_size, short}
+use Rattle.command_plan.proofs.Forms.{bytes_form, folder_form, last_named, name_form, name_size, short}
 
 -- ---- the kinds of what is due
 

@@ -5,7 +5,6 @@ pub mod Making
 pub mod Opened
 pub mod Owned
 pub mod Planning
-pub mod Retitled
 pub mod Sessions
 pub mod Sound
 pub mod Stopping

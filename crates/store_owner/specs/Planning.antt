@@ -28,7 +28,7 @@ use Rattle.journal_bytes.specs.Script.{answer, draws_of}
 use Rattle.journal_bytes.specs.Sealing.{IsSpaceFor, Space, skeleton_size}
 use Rattle.journal_bytes.specs.Texting.{due_key, due_text}
 use Rattle.store_owner.specs.Owned.{IsOwnerOf, OwnerView, limits_in}
-use Rattle.store_owner.specs.Retitled.{IsRetitlingOf}
+use Rattle.command_plan.specs.NameChanges.{IsNameChangeOf}
 use Rattle.store_owner.specs.Sound.{granted_in}
 use Rattle.store_owner.specs.declared.change.Change.{Change}
 use Rattle.store_owner.specs.declared.owner.Verdict.{Verdict}
@@ -72,7 +72,7 @@ pub record IsDrafted (r : Request) (o : OwnerView) (p : Change) : Type 0 where
       (told_step (begun (not o.journal.has_epoch) at) (told_note p.note)) ≡ true
   pub text_is : p.text.items ≡ due_text (tree_store o.state.tree o.names) r
   pub text_room : r ≡ AddHolder → 32 ≤ p.text.spare
-  pub titles_are : IsRetitlingOf (tree_store o.state.tree o.names) r o.names p.titles
+  pub titles_are : IsNameChangeOf (tree_store o.state.tree o.names) r o.names p.titles
 
 -- there is room for the change, and its batches end within the store limit
 pub record IsFurnished (r : Request) (o : OwnerView) (p : Change) (space : Space) : Type 0 where

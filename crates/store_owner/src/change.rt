@@ -6,8 +6,8 @@ ghost use Rattle.public_fold.specs.Preparing.{is_new_holder, with_check};
 ghost use Rattle.public_fold.specs.Standing.{IsSeenAs};
 ghost use Rattle.store_owner.specs.Planning.{IsKeyed, holder_key, reply_for};
 
-use crate::retitling::Retitling;
 use chacha_seal::check_of;
+use command_plan::NameChange;
 use cry_base::{Reply, Text};
 use public_fold::Prepared;
 use record_format::Note;
@@ -19,7 +19,7 @@ pub(crate) struct Change {
     pub(crate) note: Note,
     pub(crate) ready: Prepared,
     pub(crate) text: Text,
-    pub(crate) titles: Retitling,
+    pub(crate) titles: NameChange,
 }
 
 impl Change {

@@ -6,7 +6,7 @@ ghost use Rattle.store_owner.specs.Drawing.{AreKeys, DrawsKeys, FillsByCount, Is
 
 use crate::ApplyFault;
 use crate::drawing::{DrawFault, draw};
-use crate::texts::KEY_LEN;
+use command_plan::KEY_LEN;
 use cry_base::{List, Mem, Text};
 use cry_io::Source;
 use std::alloc::Global;

@@ -4,7 +4,6 @@
 mod apply_fault;
 pub mod apply_laws;
 mod change;
-mod command_notes;
 mod counted;
 mod drawing;
 mod key_room;
@@ -14,18 +13,13 @@ pub mod opened_laws;
 mod opening;
 mod owner;
 pub mod owner_laws;
-mod path_ends;
 mod records;
-mod refusing;
-mod retitling;
-mod sizing;
 pub mod sound_laws;
 mod step_records;
 mod step_room;
 pub mod stopping_laws;
 mod tally;
 pub mod tally_laws;
-mod texts;
 
 pub use apply_fault::ApplyFault;
 pub use owner::Owner;

@@ -32,13 +32,9 @@ use crate::apply_laws::{
     commands_are_measured, interrupted_commands_leave_a_journal, owners_go_on,
 };
 use crate::change::Change;
-use crate::command_notes::note_for;
 use crate::counted::Counted;
 use crate::key_room::KeyRoom;
-use crate::owner_laws::{owners_keep_the_store, retitlings_leave_the_titles};
-use crate::refusing::refusal;
-use crate::retitling::{retitle, retitling_for};
-use crate::sizing::{sealed_len, size_of};
+use crate::owner_laws::owners_keep_the_store;
 use crate::sound_laws::{
     carried_out_owners_stay_sound, sound_owners_can_seal, sound_owners_draw_few_keys,
     sound_owners_keep_a_store,
@@ -47,8 +43,11 @@ use crate::step_records::seal_step;
 use crate::step_room::StepRoom;
 use crate::stopping_laws::disk_stands_still;
 use crate::tally::Tally;
-use crate::texts::text_for;
 use chacha_seal::{Counter, Key, OwnerK};
+use command_plan::name_laws::name_changes_leave_the_titles;
+use command_plan::{
+    change_names, name_change_for, note_for, refusal, sealed_len, size_of, text_for,
+};
 use commit_journal::{CommitFault, Journal};
 use cry_base::{Command, Limits, Mem, OutOfMemory, Refusal, Reply};
 use cry_io::{Disk, Source};
@@ -280,7 +279,7 @@ impl Owner {
         let Ok(text) = text_for(alloc, shape, &self.names, command) else {
             return Err(FoldFault::OutOfMemory);
         };
-        let Ok(titles) = retitling_for(alloc, shape, &self.names, command) else {
+        let Ok(titles) = name_change_for(alloc, shape, &self.names, command) else {
             return Err(FoldFault::OutOfMemory);
         };
         Ok(Change {
@@ -378,7 +377,7 @@ impl Owner {
         sound_owners_keep_a_store();
         sound_owners_can_seal();
         carried_out_owners_stay_sound();
-        retitlings_leave_the_titles();
+        name_changes_leave_the_titles();
         self.state.is_seen();
         self.journal.journal_is_within();
         let tally = self.tally.with(&change);
@@ -407,7 +406,7 @@ impl Owner {
         self.counter = Some(counter);
         self.tally = tally;
         self.state.settle(ready);
-        retitle(&mut self.names, titles);
+        change_names(&mut self.names, titles);
         Ok(reply)
     }
 }

@@ -18,11 +18,11 @@ use Rattle.store_owner.specs.Applying.{IsCarriedOut, IsInterrupted}
 use Rattle.store_owner.specs.Counted.{IsWithin}
 use Rattle.store_owner.specs.Owned.{OwnerView}
 use Rattle.store_owner.specs.Planning.{HasBegun, IsDrafted, IsFurnished, planned_size}
-use Rattle.store_owner.specs.Retitled.{IsRetitlingOf}
+use Rattle.command_plan.specs.NameChanges.{IsNameChangeOf}
 use Rattle.store_owner.specs.Sound.{own_store}
 use Rattle.store_owner.specs.declared.counted.Counted.{Counted}
 use Rattle.store_owner.specs.Stopping.{StopsWithin}
-use Rattle.store_owner.specs.declared.retitling.Retitling.{Retitling}
+use Rattle.command_plan.specs.declared.name_change.NameChange.{NameChange}
 use Rattle.store_owner.proofs.Counts.{within_limit, within_on}
 use Rattle.store_owner.proofs.CarriedOut.{batches_for, carried, ends_for, fits_for, sealed_for, size_for, skeleton_for, starts_for, text_for}
 use Rattle.store_owner.proofs.NotesKeyed.{adds_holder, holder_drawn}
@@ -148,10 +148,10 @@ invariant_of-self-2 g c = λ still.
     let fits = fits_for r drawn old before after at drafted keyed c.requires.count c.requires.sizes own c.is_seen.ensures in
     let has : HasBegun i.journal c.begin.new.journal i.counter c.in-Ok.counter (g.D.Disk.shown c.args.disk.now) (g.D.Disk.shown c.begin.new.disk) =
     subst (λ (k : Option Counting). HasBegun i.journal c.begin.new.journal k c.in-Ok.counter (g.D.Disk.shown c.args.disk.now) (g.D.Disk.shown c.begin.new.disk)) c.take.ensures.value c.in-Ok.ensures.begun in
-    let titles : (s : Store) → IsTreeOf (tree_store i.state.tree i.names) s → AreTitlesAfter s r i.names c.retitle.new.names = λ s tree.
-    c.retitlings_leave_the_titles.ensures.titles (tree_store i.state.tree i.names) s r i.names c.retitle.new.names after.titles tree
-    (subst (λ (t : Retitling). IsRetitlingOf (tree_store i.state.tree i.names) r i.names t) (sym keyed.titles) drafted.titles_are) c.retitle.ensures in
-    let new : OwnerView = record { key = i.key.bytes; journal = c.commit_within.new.journal; state = c.settle.new.self; names = c.retitle.new.names; ring = c.seal_step-payload.new.ring; counter = Some c.seal_step-payload.new.counter; file_bytes = i.limits.file_bytes; tally = c.with-tally.result } in
+    let titles : (s : Store) → IsTreeOf (tree_store i.state.tree i.names) s → AreTitlesAfter s r i.names c.change_names.new.names = λ s tree.
+    c.name_changes_leave_the_titles.ensures.titles (tree_store i.state.tree i.names) s r i.names c.change_names.new.names after.titles tree
+    (subst (λ (t : NameChange). IsNameChangeOf (tree_store i.state.tree i.names) r i.names t) (sym keyed.titles) drafted.titles_are) c.change_names.ensures in
+    let new : OwnerView = record { key = i.key.bytes; journal = c.commit_within.new.journal; state = c.settle.new.self; names = c.change_names.new.names; ring = c.seal_step-payload.new.ring; counter = Some c.seal_step-payload.new.counter; file_bytes = i.limits.file_bytes; tally = c.with-tally.result } in
     let was = g.D.Disk.shown c.args.disk.now in
     let shows = g.D.Disk.shown c.commit_within.new.disk in
     let done : IsCarriedOut r drawn old new was shows =
@@ -184,10 +184,10 @@ returns-clause-done g c =
     let own = c.sound_owners_keep_a_store.ensures.store old in
     let has : HasBegun i.journal c.begin.new.journal i.counter c.in-Ok.counter (g.D.Disk.shown c.args.disk.now) (g.D.Disk.shown c.begin.new.disk) =
     subst (λ (k : Option Counting). HasBegun i.journal c.begin.new.journal k c.in-Ok.counter (g.D.Disk.shown c.args.disk.now) (g.D.Disk.shown c.begin.new.disk)) c.take.ensures.value c.in-Ok.ensures.begun in
-    let titles : (s : Store) → IsTreeOf (tree_store i.state.tree i.names) s → AreTitlesAfter s r i.names c.retitle.new.names = λ s tree.
-    c.retitlings_leave_the_titles.ensures.titles (tree_store i.state.tree i.names) s r i.names c.retitle.new.names after.titles tree
-    (subst (λ (t : Retitling). IsRetitlingOf (tree_store i.state.tree i.names) r i.names t) (sym keyed.titles) drafted.titles_are) c.retitle.ensures in
-    let new : OwnerView = record { key = i.key.bytes; journal = c.commit_within.new.journal; state = c.settle.new.self; names = c.retitle.new.names; ring = c.seal_step-payload.new.ring; counter = Some c.seal_step-payload.new.counter; file_bytes = i.limits.file_bytes; tally = c.with-tally.result } in
+    let titles : (s : Store) → IsTreeOf (tree_store i.state.tree i.names) s → AreTitlesAfter s r i.names c.change_names.new.names = λ s tree.
+    c.name_changes_leave_the_titles.ensures.titles (tree_store i.state.tree i.names) s r i.names c.change_names.new.names after.titles tree
+    (subst (λ (t : NameChange). IsNameChangeOf (tree_store i.state.tree i.names) r i.names t) (sym keyed.titles) drafted.titles_are) c.change_names.ensures in
+    let new : OwnerView = record { key = i.key.bytes; journal = c.commit_within.new.journal; state = c.settle.new.self; names = c.change_names.new.names; ring = c.seal_step-payload.new.ring; counter = Some c.seal_step-payload.new.counter; file_bytes = i.limits.file_bytes; tally = c.with-tally.result } in
     let was = g.D.Disk.shown c.args.disk.now in
     let shows = g.D.Disk.shown c.commit_within.new.disk in
     let done : IsCarriedOut r drawn old new was shows =

@@ -1,0 +1,4 @@
+pub mod ChangedNames
+pub mod Forms
+pub mod NotesTold
+pub mod TextsTold
