@@ -12,7 +12,7 @@ use Rattle.public_fold.specs.Records.{Link}
 use Rattle.record_format.specs.declared.link.LinkRecord.{LinkRecord}
 use Rattle.role_graph.specs.Roles.{role_id}
 use Rattle.closure_laws.specs.History.{Derives, history, published_from, trails}
-use Rattle.closure_laws.specs.Keeping.{HaveLinksOf, Kept, Leads, ends_of, held_links, kept_with, nothing_kept, with_payload}
+use Rattle.closure_laws.specs.Keeping.{HaveLinksOf, HistoryState, Leads, ends_of, held_links, kept_with, nothing_kept, with_payload}
 
 abbrev ends : LinkRecord → ℕ × ℕ
 ends r = (r.from_serial.0, r.to_serial.0)
@@ -21,7 +21,7 @@ held_ends : (payload n : ℕ) (ls : List LinkRecord) → map ends_of (held_links
 held_ends payload n [] = refl
 held_ends payload n (l ∷ ls) = ap (λ es. ends l ∷ es) (held_ends payload (n + 1) ls)
 
-kept_ends : (h : Kept) (payloads : List (List LinkRecord)) → map ends_of (kept_with h payloads).links ≡ map ends_of h.links ++ map ends (flat_map (λ ls. ls) payloads)
+kept_ends : (h : HistoryState) (payloads : List (List LinkRecord)) → map ends_of (kept_with h payloads).links ≡ map ends_of h.links ++ map ends (flat_map (λ ls. ls) payloads)
 kept_ends h [] = sym (append-nil (map ends_of h.links))
 kept_ends h (ls ∷ more) =
     let rest = map ends (flat_map (λ ls. ls) more) in

@@ -10,12 +10,12 @@ use Rattle.closure_laws.specs.declared.keeping.HeldLink.{HeldLink}
 use Rattle.closure_laws.specs.declared.keeping.LinkRef.{LinkRef}
 
 -- how many payloads were pushed, and their links in order
-pub record Kept : Type 0 where
+pub record HistoryState : Type 0 where
   pub payloads : ℕ
   pub links : List HeldLink
 
 -- nothing was pushed
-abbrev pub nothing_kept : Kept
+abbrev pub nothing_kept : HistoryState
 nothing_kept = record { payloads = 0; links = [] }
 
 -- a link from serial to serial, and where it stands
@@ -28,11 +28,11 @@ held_links payload n [] = []
 held_links payload n (l ∷ ls) = held l.from_serial.0 l.to_serial.0 (record { payload = payload; link = n }) ∷ held_links payload (n + 1) ls
 
 -- a payload with these links more
-abbrev pub with_payload : Kept → List LinkRecord → Kept
+abbrev pub with_payload : HistoryState → List LinkRecord → HistoryState
 with_payload h ls = record { payloads = h.payloads + 1; links = h.links ++ held_links h.payloads 0 ls }
 
 -- what is kept once these payloads were pushed too, one after another, each told by its links
-abbrev pub kept_with : Kept → List (List LinkRecord) → Kept
+abbrev pub kept_with : HistoryState → List (List LinkRecord) → HistoryState
 kept_with h [] = h
 kept_with h (ls ∷ more) = kept_with (with_payload h ls) more
 

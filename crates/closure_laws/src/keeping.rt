@@ -32,9 +32,9 @@ pub struct History {
 }
 
 impl Model for History {
-    ghost use Rattle.closure_laws.specs.Keeping.{Kept};
+    ghost use Rattle.closure_laws.specs.Keeping.{HistoryState};
 
-    ghost Value = { Kept };
+    ghost Value = { HistoryState };
 
     ghost view = { λ h. record { payloads = h.payloads; links = h.links.items } };
 }

@@ -3,7 +3,7 @@
 use Rattle.std.specs.Prelude.{◌≡◌, ◌⊎◌, ℕ, List, Option, Result, Ok, Err}
 use Rattle.cry_base.specs.Sets.{In}
 use Rattle.cry_base.specs.declared.client.Bundle.{Bundle}
-use Rattle.forgery_laws.specs.Written.{AreBytes, AreWritten, HasForged, HasKeyOf, IsWrittenSeen}
+use Rattle.forgery_laws.specs.Written.{AreBytes, AreWrittenLines, HasForged, HasKeyOf, IsWrittenSeen}
 use Rattle.holder_client.specs.View.{Line, spell_view}
 use Rattle.journal_bytes.specs.Keys.{AreWhole}
 use Rattle.public_fold.specs.Journal.{Journal}
@@ -15,7 +15,7 @@ use Rattle.cryptree_cli.specs.Listing.{AnswersAs, seen_text}
 
 -- a text that is printed is that of lines that the journal wrote; of how the program ends without one it says nothing
 abbrev pub AreLinesOf : Journal → Bundle → List ℕ → Result (List ℕ) Status → Type 0
-AreLinesOf m bundle image (Ok text) = (lines : List Line) × (text ≡ spell_view lines) × AreWritten m bundle image lines
+AreLinesOf m bundle image (Ok text) = (lines : List Line) × (text ≡ spell_view lines) × AreWrittenLines m bundle image lines
 AreLinesOf m bundle image (Err status) = Unit {0}
 
 -- the same of what an audit prints

@@ -38,7 +38,7 @@ use Rattle.reader_laws.proofs.Readable.{fold_shape}
 use Rattle.reader_laws.proofs.Readers.{allowed_public}
 use Rattle.reader_laws.proofs.Seen.{named_seen}
 use Rattle.reader_laws.proofs.Rights.{HasShape, allowed_is_named, named_above, passes}
-use Rattle.forgery_laws.specs.Written.{AreBytes, AreWritten, HasForged, HasKeyOf, IsWrittenLine, WereNamed}
+use Rattle.forgery_laws.specs.Written.{AreBytes, AreWrittenLines, HasForged, HasKeyOf, IsWrittenLine, WereNamed}
 use Rattle.forgery_laws.proofs.Authentic.{AreRecords, log_records}
 use Rattle.forgery_laws.proofs.Visited.{IsSound, folders_stay, one_key_first, visits_sound}
 
@@ -370,7 +370,7 @@ unfolding audited
 audited_as bundle bytes = refl
 
 pub lines_listed : (owner : List ℕ) (m : Journal) (bytes : List ℕ) (bundle : Bundle) (lines : List Line) → IsValid m → AreWhole owner m → AreBytes bytes → HasKeyOf owner m bundle
-    → shown_with bundle bytes ≡ Ok lines → AreWritten m bundle bytes lines ⊎ HasForged owner m bytes
+    → shown_with bundle bytes ≡ Ok lines → AreWrittenLines m bundle bytes lines ⊎ HasForged owner m bytes
 unfolding shown_with view_with
 lines_listed owner m bytes bundle lines valid whole are has e =
     let who = who_of bundle in
@@ -393,7 +393,7 @@ lines_listed owner m bytes bundle lines valid whole are has e =
     (view_written owner m valid whole bytes bundle r told.records told.shape has o (bytes_told Opened (visit_all r (all_visits r.stand.store who) (opened_first bundle r)) o v.1))
 
 pub line_opened : (owner : List ℕ) (m : Journal) (bytes : List ℕ) (bundle : Bundle) (path : List ℕ) (line : Line) → IsValid m → AreWhole owner m → AreBytes bytes → HasKeyOf owner m bundle
-    → line_shown bundle path bytes ≡ Ok line → AreWritten m bundle bytes (line ∷ []) ⊎ HasForged owner m bytes
+    → line_shown bundle path bytes ≡ Ok line → AreWrittenLines m bundle bytes (line ∷ []) ⊎ HasForged owner m bytes
 unfolding line_shown line_with
 line_opened owner m bytes bundle path line valid whole are has e =
     let who = who_of bundle in

@@ -72,7 +72,7 @@ IsWrittenLine m s who l =
     ⊎ ((e : FileEntry) × In e s.files × (l ≡ file_line s e) × WereNamed m (way_to_root s e.folder) × WasFiled m e.id e.name e.bytes)
 
 -- the lines are such lines of a store whose folders, files and grants are those that the bytes make
-pub record AreWritten (m : Journal) (bundle : Bundle) (bytes : List ℕ) (lines : List Line) : Type 0 where
+pub record AreWrittenLines (m : Journal) (bundle : Bundle) (bytes : List ℕ) (lines : List Line) : Type 0 where
   pub reading : Reading
   pub is_read : audited bundle bytes ≡ Ok reading
   pub store : Store

@@ -21,7 +21,7 @@ ghost use Rattle.record_format.specs.declared.link.LinkRecord.{LinkRecord};
 ghost use Rattle.trail_audit.specs.Derived.{MayAnswer, plain_seen};
 ghost use Rattle.trail_audit.specs.Forged.{IsForged};
 ghost use Rattle.trail_audit.specs.Records.{IsTagged, PlainRecord, records_in};
-ghost use Rattle.forgery_laws.specs.Written.{AreBytes, AreWritten, HasForged, HasKeyOf, IsPublishedUnder, IsWrittenSeen};
+ghost use Rattle.forgery_laws.specs.Written.{AreBytes, AreWrittenLines, HasForged, HasKeyOf, IsPublishedUnder, IsWrittenSeen};
 
 /// Law: the owner of a valid journal, and each holder that it made, with the own key, have a key of it.
 pub fn readers_have_keys()
@@ -35,10 +35,10 @@ pub fn readers_have_keys()
 pub fn changed_stores_show_what_was_written()
     ensures listed { (owner : List ℕ) (m : Journal) (bytes : List ℕ) (bundle : Bundle) (lines : List Line)
         → IsValid m → AreWhole owner m → AreBytes bytes → HasKeyOf owner m bundle → shown_with bundle bytes ≡ Ok lines
-        → AreWritten m bundle bytes lines ⊎ HasForged owner m bytes }
+        → AreWrittenLines m bundle bytes lines ⊎ HasForged owner m bytes }
     ensures opened { (owner : List ℕ) (m : Journal) (bytes : List ℕ) (bundle : Bundle) (path : List ℕ) (line : Line)
         → IsValid m → AreWhole owner m → AreBytes bytes → HasKeyOf owner m bundle → line_shown bundle path bytes ≡ Ok line
-        → AreWritten m bundle bytes (line ∷ []) ⊎ HasForged owner m bytes }
+        → AreWrittenLines m bundle bytes (line ∷ []) ⊎ HasForged owner m bytes }
     ensures audited { (owner : List ℕ) (m : Journal) (bytes : List ℕ) (bundle : Bundle) (answer : Listed Seen)
         → IsValid m → AreWhole owner m → AreBytes bytes → HasKeyOf owner m bundle → MayAnswer bundle bytes (Ok answer)
         → ((s : Seen) → In s answer.items → IsWrittenSeen m (plain_seen s)) ⊎ HasForged owner m bytes }
