@@ -47,8 +47,8 @@ ComesOf shown may_leave moment since key first start now (StopsIn {before = befo
     ⊎ ((m : Journal) × ComesOf shown may_leave moment since key first start before runs m × ShowsJournal key m (shown before)
     × IsMadeOf m (lines_behind (lines_in run.typed)) j)
 
--- What is said of bytes that are left behind the runs: they stand for a journal that begins with the lower one, has each command that any of
--- the runs acknowledged, and comes of the higher one by the runs.
+-- What is said of bytes that are left behind the runs: they stand for a journal that begins with the lower one, has each command that any
+-- of the runs acknowledged, and comes of the higher one by the runs.
 pub record IsOfRuns {D : Type 0} (shown : D → Option (List ℕ)) (may_leave : D → List ℕ → Type 0) (moment : D → ℕ) (since : D → ℕ → List ℕ
     → List ℕ → Type 0)
     (key : List ℕ) (low high : Journal) (start now : D) (runs : Runs shown may_leave moment since key start now) (bytes : List ℕ)
