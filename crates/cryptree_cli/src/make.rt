@@ -11,11 +11,9 @@ use crate::run::{LIMITS, apply_status};
 use crate::status::Status;
 use cry_base::{List, Mem, Text};
 use cry_io::{Disk, Sink, Source};
-use script_text::print_owner;
+use script_text::{OWNER_LINE_LEN, print_owner};
 use std::alloc::Global;
 use store_owner::Owner;
-
-const OWNER_LINE_LEN: usize = 71;
 
 /// Makes a store on an empty disk with the next 192 random bytes, and prints its owner's line.
 pub(crate) fn make<R: Source, D: Disk, W: Sink>(

@@ -26,15 +26,15 @@ use crate::lines::{LineReader, Next, NextFault};
 use crate::script::{ScriptFault, run_lines};
 use crate::status::Status;
 use commit_journal::OpenFault;
-use cry_base::Limits;
+use cry_base::{FILE_BYTES, Limits, STORE_BYTES};
 use cry_io::{Disk, Sink, Source};
 use std::alloc::Global;
 use store_owner::{ApplyFault, Owner};
 
 /// The sizes of the one version of stores that there is.
 pub(crate) const LIMITS: Limits = Limits {
-    store_bytes: 268_435_456,
-    file_bytes: 1_048_576,
+    store_bytes: STORE_BYTES,
+    file_bytes: FILE_BYTES,
 };
 
 /// Opens the store with the owner's key, which the first line hands in, and applies the commands of the other lines.

@@ -1,7 +1,10 @@
 //! Why a view was not given.
-use commit_journal::OpenFault;
+use commit_journal::{HEADER_LEN, OpenFault};
 use cry_base::OutOfMemory;
 use thiserror::Error;
+
+/// The place behind the header, at which a log is damaged that lacks a record, or makes no root.
+pub const BEHIND_HEADER: u64 = HEADER_LEN as u64;
 
 /// Why a view was not given. Places are counted in bytes from the start of the file.
 #[derive(Clone, Copy, Debug, PartialEq, Eq, Error)]

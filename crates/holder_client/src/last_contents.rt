@@ -12,11 +12,8 @@ ghost use Rattle.record_format.specs.Sizes.{content_size};
 
 use commit_journal::{Body, Placed, content_place};
 use cry_base::Mem;
-use record_format::ContentRecord;
+use record_format::{CONTENT_FRAME_LEN, ContentRecord};
 use std::collections::HashMap;
-
-/// The bytes of a content beside its text.
-const HEAD_AND_TAG: u64 = 58;
 
 /// What a content is looked for by.
 #[derive(Clone, Copy, PartialEq, Eq, Hash)]
@@ -85,7 +82,7 @@ fn note_contents(
             index,
         };
         note_content(last, spot, content)?;
-        at += HEAD_AND_TAG + content.cipher.as_slice().len() as u64;
+        at += CONTENT_FRAME_LEN + content.cipher.as_slice().len() as u64;
         index += 1;
     }
     Ok(())

@@ -11,10 +11,8 @@ ghost use Rattle.role_graph.specs.Roles.{role_id};
 use commit_journal::{Body, Placed, link_place};
 use cry_base::{Edge, Mem, Role, Serial};
 use public_fold::PublicState;
-use record_format::LinkRecord;
+use record_format::{LINK_LEN, LinkRecord};
 use std::collections::HashMap;
-
-const LINK_LEN: u64 = 98;
 
 /// What a link is looked for by.
 #[derive(Clone, Copy, PartialEq, Eq, Hash)]

@@ -20,7 +20,7 @@ use crate::ClientFault;
 use crate::indexed_log::IndexedLog;
 use crate::last_links::FoundLink;
 use crate::records::Records;
-use crate::texts::{FILE_TEXT, FOLDER_NAME, HOLDER_KEY, visit_file, visit_holder, visit_name};
+use crate::texts::{visit_file, visit_holder, visit_name};
 use crate::visit_list::{Visit, owner_visits};
 use crate::visiting::visit_edge;
 use chacha_seal::{Key, OwnerK};
@@ -29,6 +29,7 @@ use cry_base::Edge;
 use folder_nodes::Names;
 use key_links::KeyRing;
 use public_fold::PublicState;
+use record_format::{FILE_TEXT, FOLDER_NAME, HOLDER_KEY};
 use std::alloc::Global;
 
 /// What an owner's key opens of a store: the present keys, and the names and bytes.

@@ -22,13 +22,15 @@ use crate::ClientFault;
 use crate::opening::{OwnersView, visit_each, visit_link};
 use crate::records::Records;
 use crate::sights::{Sight, Viewer};
-use crate::texts::{FILE_TEXT, NamedBytes, open_file, present_serial};
+use crate::texts::{NamedBytes, open_file, present_serial};
 use crate::visit_list::visits_to_names;
 use chacha_seal::Key;
 use cry_base::{Bundle, Edge, Mem, Role, Text};
 use folder_nodes::{FileRow, Names};
 use key_links::KeyRing;
 use public_fold::PublicState;
+use record_format::FILE_TEXT;
+use role_graph::kinds;
 use std::alloc::Global;
 
 /// Who reads with a bundle.
@@ -97,11 +99,7 @@ pub(crate) struct ReadFile {
 fn edge_into(row: &FileRow) -> Edge
     ensures { result ≡ file_edge row.now.folder.0 row.now.id.0 }
 {
-    Edge {
-        kind: 9,
-        from: Role::Files(row.folder),
-        to: Role::File(row.id),
-    }
+    kinds::files_to_file(row.folder, row.id)
 }
 
 /// Opens the key of a file from the one of its folder's files, and then the file's text.

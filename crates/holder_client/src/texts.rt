@@ -16,58 +16,15 @@ ghost use Rattle.role_graph.specs.Roles.{data_of, file_role};
 
 use crate::ClientFault;
 use crate::records::FoundContent;
+use crate::text_forms::{file_parts, is_folder_text, text_of};
 use crate::visiting::{OpenedText, open_text};
 use chacha_seal::Key;
 use cry_base::{FileId, FolderId, HolderId, Mem, Node, Role, Serial, Text};
-use folder_nodes::{Names, name_ok};
+use folder_nodes::Names;
 use key_links::KeyRing;
 use public_fold::PublicState;
+use record_format::{FILE_TEXT, FOLDER_NAME, HOLDER_KEY};
 use std::alloc::Global;
-
-/// The kinds of contents: the names of folders, the names and bytes of files, the keys of holders.
-pub(crate) const FOLDER_NAME: u8 = 1;
-
-pub(crate) const FILE_TEXT: u8 = 2;
-
-pub(crate) const HOLDER_KEY: u8 = 3;
-
-const ROOT: u32 = 1;
-
-/// The most bytes that a file of any store may have.
-const FILE_BYTES: usize = 1_048_576;
-
-/// Whether a folder may have the text for its name: the root the empty one alone, and another a name.
-#[tactic(auto, unfolding(crate::specs::Visiting::is_folder_text))]
-fn is_folder_text(folder: FolderId, text: &[u8]) -> bool
-    ensures { result ≡ spec.is_folder_text folder.0 text.now }
-{
-    if folder.0 == ROOT {
-        text.is_empty()
-    } else {
-        name_ok(text)
-    }
-}
-
-/// The name and the bytes of a file, where the text has that form: a byte with the name's length, the name, the bytes.
-#[tactic(auto, unfolding(crate::specs::Visiting::is_file_text))]
-fn file_parts(text: &[u8]) -> Option<(&[u8], &[u8])>
-    ensures { MatchOption result (spec.is_file_text text.now ≡ false) (λ parts. HasParts text.now parts.0.now parts.1.now) }
-{
-    let (size, rest) = text.split_first()?;
-    let size = *size as usize;
-    if size > rest.len() || rest.len() - size > FILE_BYTES || !name_ok(&rest[..size]) {
-        return None;
-    }
-    Some((&rest[..size], &rest[size..]))
-}
-
-fn text_of(alloc: Global, bytes: &[u8]) -> Mem<Text>
-    ensures { IfOk result (λ text. text.items ≡ bytes.now) }
-{
-    let mut text = Text::new(alloc);
-    text.append(bytes)?;
-    Ok(text)
-}
 
 /// Opens the name of a folder and gives it to the folder. `Damaged` behind the header comes exactly where there is no content
 /// with the name or no key for it, then `Tampered` with the content's place exactly where its tag is wrong, and then `Damaged`

@@ -14,13 +14,14 @@ ghost use Rattle.holder_client.specs.declared.sights.Sight.{Sight as TheSight};
 ghost use Rattle.holder_client.specs.declared.visit_list.Visit.TheVariants.{Key, Link};
 ghost use Rattle.public_fold.specs.Journal.{Stand};
 ghost use Rattle.public_fold.specs.Standing.{IsSeenAs};
-ghost use Rattle.role_graph.specs.Edges.{edge, in_order};
+ghost use Rattle.role_graph.specs.Edges.{in_order};
 ghost use Rattle.role_graph.specs.Rights.Who.{TheOwner};
 
 use crate::sights::{Sight, Viewer, all_sights, is_nameless};
-use cry_base::{Edge, FileId, FolderId, HolderId, Mem, Role};
+use cry_base::{Edge, FileId, FolderId, HolderId, Mem};
 use folder_nodes::FileRow;
 use public_fold::PublicState;
+use role_graph::kinds;
 use std::alloc::Global;
 use std::collections::HashMap;
 
@@ -51,46 +52,40 @@ pub(crate) enum Part {
 /// The first folder by number that is named, for each folder that has one in it.
 type FirstNamed = HashMap<u32, FolderId>;
 
-#[tactic(auto, unfolding(role_graph::specs::Edges::edge))]
-fn link(kind: u8, from: Role, to: Role) -> Visit
-    ensures { result ≡ Link (edge kind from to) }
+fn link(edge: Edge) -> Visit
+    ensures { result ≡ Link edge }
 {
-    Visit::Link {
-        edge: Edge { kind, from, to },
-    }
+    Visit::Link { edge }
 }
 
 /// The link by which whoever reads comes into a folder.
+#[tactic(auto, unfolding(role_graph::specs::Roles::clear_of, role_graph::specs::Roles::holder_role))]
 fn into(viewer: Viewer, f: FolderId) -> Visit
     ensures { result ≡ list.entry_link viewer f }
 {
     match viewer {
-        Viewer::Owner => link(1, Role::Owner, Role::Clear(f)),
-        Viewer::Holder(h) => link(2, Role::Holder(h), Role::Clear(f)),
+        Viewer::Owner => link(kinds::owner_to_clear(f)),
+        Viewer::Holder(h) => link(kinds::holder_to_clear(h, f)),
     }
 }
 
+#[tactic(auto, unfolding(role_graph::specs::Roles::clear_of, role_graph::specs::Roles::sub_of, role_graph::specs::Roles::back_of, role_graph::specs::Roles::files_of, role_graph::specs::Roles::data_of))]
 fn in_folder(viewer: Viewer, part: Part, f: FolderId) -> [Visit; 2]
     ensures { result ≡ list.folder_part viewer part f }
 {
     match part {
-        Part::Entry => [into(viewer, f), link(3, Role::Clear(f), Role::Sub(f))],
-        Part::Ways => [
-            link(4, Role::Sub(f), Role::Back(f)),
-            link(5, Role::Sub(f), Role::Files(f)),
-        ],
-        Part::Title => [
-            link(7, Role::Back(f), Role::Data(f)),
-            Visit::Name { folder: f },
-        ],
+        Part::Entry => [into(viewer, f), link(kinds::clear_to_sub(f))],
+        Part::Ways => [link(kinds::sub_to_back(f)), link(kinds::sub_to_files(f))],
+        Part::Title => [link(kinds::back_to_data(f)), Visit::Name { folder: f }],
     }
 }
 
+#[tactic(auto, unfolding(role_graph::specs::Roles::files_of, role_graph::specs::Roles::file_role))]
 fn of_file(row: &FileRow) -> [Visit; 2]
     ensures { result ≡ list.file_part row.now.folder row.now.id }
 {
     [
-        link(9, Role::Files(row.folder), Role::File(row.id)),
+        link(kinds::files_to_file(row.folder, row.id)),
         Visit::Bytes { file: row.id },
     ]
 }
@@ -147,12 +142,13 @@ fn sort_shallow(found: &mut Vec<Sight>) -> Mem<()>
 }
 
 /// Adds a visit for each folder, from the one that it is in.
+#[tactic(auto, unfolding(role_graph::specs::Roles::sub_of))]
 fn push_lower(visits: &mut Vec<Visit>, folders: &[Sight]) -> Mem<()>
     ensures { OnOk result (visits.new.items ≡ visits.old.items ++ map list.from_parent folders.now) }
 {
     for sight in folders {
         let parent = FolderId(sight.parent);
-        visits.push(link(6, Role::Sub(parent), Role::Sub(sight.folder)))?;
+        visits.push(link(kinds::sub_to_sub(parent, sight.folder)))?;
     }
     Ok(())
 }
@@ -204,12 +200,13 @@ fn first_named(alloc: Global, sights: &[Sight]) -> Mem<FirstNamed>
 }
 
 /// Adds a visit for a folder, from the first in it that is named.
+#[tactic(auto, unfolding(role_graph::specs::Roles::back_of))]
 fn push_from(visits: &mut Vec<Visit>, first: &FirstNamed, f: FolderId) -> Mem<()>
     ensures { OnOk result ((sights : List TheSight) → list.AreFirst first.now sights
         → visits.new.items ≡ visits.old.items ++ list.from_child sights f) }
 {
     if let Some(child) = first.get(&f.0) {
-        visits.push(link(8, Role::Back(*child), Role::Back(f)))?;
+        visits.push(link(kinds::back_to_back(*child, f)))?;
     }
     Ok(())
 }

@@ -11,16 +11,13 @@ ghost use Rattle.key_links.specs.Ended as ends;
 ghost use Rattle.key_links.specs.Ringed.{key_of};
 ghost use Rattle.record_format.specs.Spellable.{longest_text, shortest_text};
 
-use crate::ClientFault;
+use crate::fault::{BEHIND_HEADER, ClientFault};
 use crate::last_links::FoundLink;
 use crate::records::FoundContent;
 use chacha_seal::BadTag;
 use cry_base::{Edge, FileId, FolderId, Role, Text};
 use key_links::KeyRing;
 use public_fold::PublicState;
-
-/// The place behind the header: of a log that lacks a record.
-const BEHIND_HEADER: u64 = 42;
 
 /// Opens the last link of an edge, as it was found, and keeps the key that it leads to. `Damaged` behind the header comes exactly where
 /// there is no such link, or no key that it leads on from, and else `Tampered` with the link's place exactly where its tag is

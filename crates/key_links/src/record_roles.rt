@@ -4,7 +4,7 @@ ghost use Rattle.key_links.specs.Ended as spec;
 
 use cry_base::{FileId, FolderId, HolderId, Role};
 use kind_table::{NINE, RoleKind, Row};
-use record_format::LinkRecord;
+use record_format::{FILE_TEXT, FOLDER_NAME, LinkRecord};
 
 #[tactic(auto, unfolding(crate::specs::Ended::role_with))]
 fn role_with(kind: RoleKind, id: u32) -> Role
@@ -50,8 +50,8 @@ pub(crate) fn sealing_role(kind: u8, object: u32) -> Role
     ensures { result ≡ spec.sealing_role kind object }
 {
     match kind {
-        1 => Role::Data(FolderId(object)),
-        2 => Role::File(FileId(object)),
+        FOLDER_NAME => Role::Data(FolderId(object)),
+        FILE_TEXT => Role::File(FileId(object)),
         _ => Role::Owner,
     }
 }

@@ -7,7 +7,8 @@ ghost use Rattle.public_fold.specs.Heads.{is_content_of};
 
 use crate::publishing::number_of;
 use crate::{ContentHead, LinkHead, Skeleton};
-use record_format::{ContentRecord, LinkRecord, Payload};
+use cry_base::ROOT;
+use record_format::{ContentRecord, FOLDER_NAME, LinkRecord, Payload, text_range};
 
 /// Whether the payload has each record that is due, in the order of the skeleton, and no other.
 pub(crate) fn has_records(skeleton: &Skeleton, payload: &Payload) -> bool
@@ -75,7 +76,7 @@ fn has_length(content: &ContentRecord) -> bool
     ensures { result ≡ has_length_of (plain_content content.now) }
 {
     let len = content.cipher.as_slice().len();
-    let is_root_name = content.kind == 1 && content.object == 1;
+    let is_root_name = content.kind == FOLDER_NAME && content.object == ROOT.0;
     is_in_range(content.kind, len) && (if is_root_name { len == 0 } else { 1 <= len })
 }
 
@@ -83,9 +84,6 @@ fn has_length(content: &ContentRecord) -> bool
 fn is_in_range(kind: u8, len: usize) -> bool
     ensures { result ≡ (nat_le (shortest_text kind) len && nat_le len (longest_text kind)) }
 {
-    match kind {
-        2 => 2 <= len && len <= 1_048_641,
-        3 => len == 32,
-        _ => len <= 64,
-    }
+    let (shortest, longest) = text_range(kind);
+    shortest as usize <= len && len <= longest as usize
 }

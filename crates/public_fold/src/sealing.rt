@@ -8,8 +8,8 @@ ghost use Rattle.public_fold.specs.Records.{sealing_role as role_of_piece};
 
 use crate::ContentHead;
 use crate::keys::KeysThen;
-use cry_base::{FileId, FolderId, List, Mem, Role};
-use record_format::Note;
+use cry_base::{FileId, FolderId, List, Mem, ROOT, Role};
+use record_format::{FILE_TEXT, FOLDER_NAME, HOLDER_KEY, Note};
 use std::alloc::Global;
 
 /// How many texts the note's command seals.
@@ -40,13 +40,13 @@ pub(crate) fn content_heads(
     ensures { IfOk result (λ l. l.items ≡ map content_head (contents_from (keys_then_of keys.now) nonce (due_of (told_note note.now)))) }
 {
     match *note {
-        Note::Root => one_head(alloc, keys, 1, 1, nonce),
-        Note::NewHolder { holder, .. } => one_head(alloc, keys, 3, holder.0, nonce),
-        Note::NewFolder { folder, .. } => one_head(alloc, keys, 1, folder.0, nonce),
-        Note::NewFile { file, .. } => one_head(alloc, keys, 2, file.0, nonce),
-        Note::Rewrite { file } => one_head(alloc, keys, 2, file.0, nonce),
-        Note::NameFile { file } => one_head(alloc, keys, 2, file.0, nonce),
-        Note::NameFolder { folder } => one_head(alloc, keys, 1, folder.0, nonce),
+        Note::Root => one_head(alloc, keys, FOLDER_NAME, ROOT.0, nonce),
+        Note::NewHolder { holder, .. } => one_head(alloc, keys, HOLDER_KEY, holder.0, nonce),
+        Note::NewFolder { folder, .. } => one_head(alloc, keys, FOLDER_NAME, folder.0, nonce),
+        Note::NewFile { file, .. } => one_head(alloc, keys, FILE_TEXT, file.0, nonce),
+        Note::Rewrite { file } => one_head(alloc, keys, FILE_TEXT, file.0, nonce),
+        Note::NameFile { file } => one_head(alloc, keys, FILE_TEXT, file.0, nonce),
+        Note::NameFolder { folder } => one_head(alloc, keys, FOLDER_NAME, folder.0, nonce),
         Note::DropFile { .. }
         | Note::DropFolder { .. }
         | Note::ShiftFile { .. }
@@ -83,8 +83,8 @@ fn sealing_role(kind: u8, object: u32) -> Role
     ensures { result ≡ role_of_piece (textless kind object) }
 {
     match kind {
-        1 => Role::Data(FolderId(object)),
-        2 => Role::File(FileId(object)),
+        FOLDER_NAME => Role::Data(FolderId(object)),
+        FILE_TEXT => Role::File(FileId(object)),
         _ => Role::Owner,
     }
 }

@@ -15,6 +15,6 @@ mod seen_lines;
 pub use commands::read_line;
 pub use cutter::{Cutter, first_newline};
 pub use fault::LineFault;
-pub use printing::{print_line, print_owner, print_reply};
+pub use printing::{OWNER_LINE_LEN, print_line, print_owner, print_reply};
 pub use reading::read_bundle;
 pub use seen_lines::print_seen;

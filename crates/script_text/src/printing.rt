@@ -6,7 +6,8 @@ use crate::hex_text::put_hex;
 use cry_base::{HolderId, Line, Mem, OutOfMemory, Refusal, Reply, Text};
 use itoa::Buffer;
 
-const OWNER_LINE_LEN: usize = 71;
+/// The bytes of an owner's line.
+pub const OWNER_LINE_LEN: usize = 71;
 
 /// The bytes of a new holder's line beside its number.
 const HOLDER_LINE_LEN: usize = 73;

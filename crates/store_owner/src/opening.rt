@@ -24,16 +24,11 @@ use crate::counted::NONE;
 use crate::owner::Owner;
 use chacha_seal::{Key, OwnerK};
 use commit_journal::{Journal, OpenFault, Opened, Placed};
-use cry_base::{FolderId, Limits};
+use cry_base::{Limits, ROOT};
 use cry_io::Disk;
-use holder_client::{ClientFault, OwnersView, fold, open_all};
+use holder_client::{BEHIND_HEADER, ClientFault, OwnersView, fold, open_all};
 use public_fold::PublicState;
 use std::alloc::Global;
-
-const ROOT: FolderId = FolderId(1);
-
-/// The place behind the header: of a log that makes no root.
-const BEHIND_HEADER: u64 = 42;
 
 /// What was opened of a log: what everyone may see, and what the owner's key opens.
 #[derive(Drop)]

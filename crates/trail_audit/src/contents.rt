@@ -17,23 +17,10 @@ use crate::right_key::RightKey;
 use crate::trails::KnownKeys;
 use chacha_seal::{BadTag, open_in_place};
 use cry_base::{FileId, FolderId, List, Mem, Node, Text};
-use folder_nodes::name_ok;
-use holder_client::ClientFault;
-use record_format::content_header;
+use holder_client::{ClientFault, file_parts, is_folder_text, text_of};
+use record_format::{FILE_TEXT, FOLDER_NAME, HOLDER_KEY, content_header};
 use std::alloc::Global;
 use std::collections::HashMap;
-
-/// The kinds of contents: the names of folders, the names and bytes of files, the keys of holders.
-const FOLDER_NAME: u8 = 1;
-
-const FILE_TEXT: u8 = 2;
-
-const HOLDER_KEY: u8 = 3;
-
-const ROOT: u32 = 1;
-
-/// The most bytes that a file of any store may have.
-const FILE_BYTES: usize = 1_048_576;
 
 /// The number of the role whose key seals the content.
 #[tactic(auto, unfolding(crate::specs::Auditing::sealing_id))]
@@ -82,39 +69,6 @@ fn open_content(alloc: Global, found: &ContentAt<'_>, key: &RightKey) -> Result<
     }
 }
 
-/// Whether a folder may have the text for its name: the root the empty one alone, and another a name.
-#[tactic(auto, unfolding(holder_client::specs::Visiting::is_folder_text))]
-fn is_folder_text(folder: u32, text: &[u8]) -> bool
-    ensures { result ≡ the_folder_text folder text.now }
-{
-    if folder == ROOT {
-        text.is_empty()
-    } else {
-        name_ok(text)
-    }
-}
-
-/// The name and the bytes of a file, where the text has that form: a byte with the name's length, the name, the bytes.
-#[tactic(auto, unfolding(holder_client::specs::Visiting::is_file_text))]
-fn file_parts(text: &[u8]) -> Option<(&[u8], &[u8])>
-    ensures { MatchOption result (the_file_text text.now ≡ false) (λ parts. HasParts text.now parts.0.now parts.1.now) }
-{
-    let (size, rest) = text.split_first()?;
-    let size = *size as usize;
-    if size > rest.len() || rest.len() - size > FILE_BYTES || !name_ok(&rest[..size]) {
-        return None;
-    }
-    Some((&rest[..size], &rest[size..]))
-}
-
-fn text_of(alloc: Global, bytes: &[u8]) -> Mem<Text>
-    ensures { IfOk result (λ text. text.items ≡ bytes.now) }
-{
-    let mut text = Text::new(alloc);
-    text.append(bytes)?;
-    Ok(text)
-}
-
 /// Adds the name of a folder. `Damaged` comes exactly where the text is no name, and for the root where it isn't empty.
 fn see_folder(
     alloc: Global,
@@ -128,12 +82,13 @@ fn see_folder(
         ++ spec.text_shown found.now.batch found.now.content text.items) }
     ensures fault { IfErr result (spec.FormFault found.now text.items) }
 {
-    if !is_folder_text(found.content.object, text.as_slice()) {
+    let folder = FolderId(found.content.object);
+    if !is_folder_text(folder, text.as_slice()) {
         return Err(ClientFault::Damaged { at: found.at });
     }
     seen.push(Seen {
         batch: found.batch,
-        node: Node::Folder(FolderId(found.content.object)),
+        node: Node::Folder(folder),
         name: text,
         bytes: Text::new(alloc),
     })?;

@@ -13,15 +13,10 @@ ghost use Rattle.trail_audit.specs.Grouped.{HasGroups, link_source, source_of_li
 use crate::grouped::{Source, add_under};
 use commit_journal::{Body, Placed, content_place, link_place};
 use cry_base::{List, Mem};
-use record_format::{ContentRecord, LinkRecord};
+use record_format::{CONTENT_FRAME_LEN, ContentRecord, LINK_LEN, LinkRecord};
 use std::alloc::Global;
 use std::collections::HashMap;
 use std::marker::Model;
-
-const LINK_LEN: u64 = 98;
-
-/// The bytes of a content beside its text.
-const HEAD_AND_TAG: u64 = 58;
 
 /// Links by where they begin.
 pub(crate) type Links = HashMap<Source, List<LinkAt>>;
@@ -141,7 +136,7 @@ fn add_contents<'a>(
     let mut at = first;
     for content in contents {
         found.push(ContentAt { batch, at, content })?;
-        at += HEAD_AND_TAG + content.cipher.as_slice().len() as u64;
+        at += CONTENT_FRAME_LEN + content.cipher.as_slice().len() as u64;
     }
     Ok(())
 }
