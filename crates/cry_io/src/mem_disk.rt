@@ -1,6 +1,6 @@
 //! A disk in memory.
-ghost use Rattle.std.specs.Prelude.{◌≡◌, ◌<◌, ◌≤◌, ◌↔◌, ◌⊎◌, ◌+◌, ◌-◌, ◌^◌, [], ◌∷◌, None, Some, length, min, slice_range, IfOk, OnOk, OnErr};
-ghost use Rattle.std.specs.Prelude.{IsErr};
+ghost use Rattle.std.specs.Prelude.{◌≡◌, ◌<◌, ◌≤◌, ◌↔◌, ◌⊎◌, ◌+◌, ◌-◌, ◌^◌, [], ◌∷◌, None, Some, length, slice_range, IfOk, OnOk, OnErr};
+ghost use Rattle.std.specs.Prelude.{min, IsErr};
 ghost use Rattle.cry_io.specs.Events.{Stays};
 ghost use Rattle.cry_io.specs.Fakes.{read, wrote, synced, refused};
 ghost use Rattle.cry_io.specs.Leaving.{shown_of, Leaves, Since};
