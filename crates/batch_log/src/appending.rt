@@ -13,7 +13,8 @@ use cry_io::{Disk, Failed};
 /// written over. It takes no memory.
 ///
 /// `Failed` comes only where the disk's faults rose in this call. Then the gate before the batch is as it was, or the whole batch
-/// stands behind it but for its slot. Where nothing was pending, a stop at any moment of the call leaves such bytes too.
+/// stands behind it but for its slot. Where nothing was pending, such bytes are shown at each moment of the call, and a stop then leaves
+/// such bytes too.
 pub fn append<D: Disk>(disk: &mut D, end: u64, batch: &[u8], veil: &[u8; 32]) -> Result<(), Failed>
     requires gate { 1 ≤ end }
     requires inside { end ≤ D.size_of disk.old }
@@ -28,6 +29,8 @@ pub fn append<D: Disk>(disk: &mut D, end: u64, batch: &[u8], veil: &[u8; 32]) ->
     ensures time { GoesOn (D.moment disk.old) (D.since disk.old) (D.since disk.new) }
     ensures stops { IsDurable (D.may_leave disk.old) (D.shown disk.old) → WhereTold (D.shown disk.old)
         (λ x. Throughout (λ s c. steps.Interrupts end batch.now x c) (D.since disk.new (D.moment disk.old))) }
+    ensures shown { IsDurable (D.may_leave disk.old) (D.shown disk.old) → WhereTold (D.shown disk.old)
+        (λ x. Throughout (λ s c. steps.Interrupts end batch.now x s) (D.since disk.new (D.moment disk.old))) }
     ensures shows { OnOk result (WhereTold (D.shown disk.old)
         (λ x. Throughout (steps.IsOneOfFour end batch.now veil.now x) (D.since disk.new (D.moment disk.old)))) }
     ensures held { IsDurable (D.may_leave disk.old) (D.shown disk.old) → WhereTold (D.shown disk.old)

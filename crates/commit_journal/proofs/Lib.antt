@@ -22,6 +22,7 @@ pub mod Stood
 pub mod Streamed
 pub mod Stopped
 pub mod StoppedCommits
+pub mod PublishedCommits
 pub mod Tails
 pub mod Walked
 pub mod Walks

@@ -10,11 +10,11 @@ use Rattle.commit_journal.proofs.BatchLemmas.{length-empty_slot, with_slot-spell
 use Rattle.commit_journal.proofs.Standings.{opened, staged, whole_stands}
 
 abbrev MayStand : List ℕ → List Batch → Batch → List ℕ → Type 0
-MayStand owner bs b y = StandsFor owner bs y ⊎ StandsFor owner (bs ++ b ∷ []) y
+MayStand owner bs b y = StandsWhole owner bs y ⊎ StandsFor owner (bs ++ b ∷ []) y
 
 -- behind a closed gate they are the old ones, whatever stands there
 still : (owner : List ℕ) (bs : List Batch) (b : Batch) (gate : ℕ) (after y : List ℕ) → gate ≢ 1 → y ≡ image owner bs ++ gate ∷ after → MayStand owner bs b y
-still owner bs b gate after y shut is = inl (subst (StandsFor owner bs) (sym is) (whole_stands owner bs (image owner bs ++ gate ∷ after) (staged owner bs gate after shut)))
+still owner bs b gate after y shut is = inl (subst (StandsWhole owner bs) (sym is) (staged owner bs gate after shut))
 
 -- behind the open gate the batch counts, whatever is in its slot
 more : (owner slot : List ℕ) (bs : List Batch) (b : Batch) (after y : List ℕ) → length slot ≡ 32
@@ -31,9 +31,9 @@ either owner slot bs b gate after y size is =
       | false ↦ λ shut. let other : gate ≢ 1 = grind (arith, nat_tests) in still owner bs b gate _ y other is
     ]) refl
 
-pub may_stand : (owner batch x y : List ℕ) (bs : List Batch) (b : Batch) (end : ℕ) → StandsWhole owner bs x → end ≡ length (image owner bs) + 1
+pub may_stand_whole : (owner batch x y : List ℕ) (bs : List Batch) (b : Batch) (end : ℕ) → StandsWhole owner bs x → end ≡ length (image owner bs) + 1
     → batch ≡ spell_batch owner (last_tag owner bs) empty_slot b ++ 0 ∷ [] → Interrupts end batch x y → MayStand owner bs b y
-may_stand owner batch x y bs b end whole at batch_is interrupts =
+may_stand_whole owner batch x y bs b end whole at batch_is interrupts =
     let previous = last_tag owner bs in
     ⊎_elim
     (λ (kept : (after : List ℕ) × (y ≡ image owner bs ++ whole.gate ∷ after)). still owner bs b whole.gate kept.0 y whole.closed kept.1)
@@ -44,6 +44,11 @@ may_stand owner batch x y bs b end whole at batch_is interrupts =
     ∙ ap (λ w. image owner bs ++ (torn.0 ∷ (w ++ torn.2))) (with_slot-spelled owner previous empty_slot torn.1 b length-empty_slot)
     ∙ ap (λ w. image owner bs ++ (torn.0 ∷ w)) (append_assoc (spell_batch owner previous torn.1 b) (0 ∷ []) torn.2)))
     (interrupts (image owner bs) whole.behind whole.gate (sym at) whole.bytes_are)
+
+pub may_stand : (owner batch x y : List ℕ) (bs : List Batch) (b : Batch) (end : ℕ) → StandsWhole owner bs x → end ≡ length (image owner bs) + 1
+    → batch ≡ spell_batch owner (last_tag owner bs) empty_slot b ++ 0 ∷ [] → Interrupts end batch x y → StandsFor owner bs y ⊎ StandsFor owner (bs ++ b ∷ []) y
+may_stand owner batch x y bs b end whole at batch_is interrupts =
+    ⊎_elim (λ old. inl (whole_stands owner bs y old)) (λ new. inr new) (may_stand_whole owner batch x y bs b end whole at batch_is interrupts)
 
 pub may_join : (old : JournalState) (b : Batch) (batch : List ℕ) (was shows : Option (List ℕ))
     → batch ≡ spell_batch old.owner old.tag empty_slot b ++ 0 ∷ [] → WhereBothTold was shows (Interrupts old.end batch) → MayJoin b old was shows

@@ -1,7 +1,7 @@
 -- When bytes stand for batches. This project's own, docs/FORMAT.md, "The file" and "Committing".
 use Rattle.std.specs.Prelude.{◌≡◌, ◌≢◌, ◌<◌, ◌^◌, ℕ, List, [], ◌∷◌, ◌++◌, length}
 use Rattle.chacha_seal.specs.Sealing.{check_of}
-use Rattle.commit_journal.specs.Image.{Batch, batch_veil, owner_tag, spell_batch, spell_header, image}
+use Rattle.commit_journal.specs.Image.{Batch, batch_veil, empty_slot, owner_tag, spell_batch, spell_header, image}
 
 -- batches that follow a tag, each behind its open gate, with these bytes in the slot of the last one
 unfoldable pub spell_slotted : List ℕ → List ℕ → List ℕ → List Batch → List ℕ
@@ -30,6 +30,10 @@ pub record StandsWhole (owner : List ℕ) (bs : List Batch) (bytes : List ℕ) :
   pub behind : List ℕ
   pub closed : gate ≢ 1
   pub bytes_are : bytes ≡ image owner bs ++ gate ∷ behind
+
+-- they stand for the batches, of which the last one isn't published: its slot is empty
+abbrev pub StandsUnpublished : List ℕ → List Batch → List ℕ → Type 0
+StandsUnpublished owner bs bytes = (stands : StandsFor owner bs bytes) × (stands.slot ≡ empty_slot)
 
 -- the tag that the next batch follows
 unfoldable pub tag_behind : List ℕ → List ℕ → List Batch → List ℕ

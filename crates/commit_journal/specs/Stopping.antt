@@ -1,13 +1,14 @@
 -- What a stop at any moment of a commit leaves, and what the disk shows at each. This project's own, docs/FORMAT.md, "Committing".
-use Rattle.std.specs.Prelude.{ℕ, List, [], ◌∷◌, ◌++◌, Option}
+use Rattle.std.specs.Prelude.{◌⊎◌, ℕ, List, [], ◌∷◌, ◌++◌, Option}
 use Rattle.cry_io.specs.Stops.{IsDurable}
 use Rattle.cry_io.specs.Told.{WhereTold}
 use Rattle.batch_log.specs.Moments.{Throughout}
 use Rattle.batch_log.specs.Steps.{EndsAt, IsHeldWhereShown, IsOneOfFour}
-use Rattle.commit_journal.specs.Holding.{HoldsBetween, Kept, Shows}
+use Rattle.commit_journal.specs.Holding.{HoldsBetween, IsPrefix, Kept, Shows}
 use Rattle.commit_journal.specs.Image.{Batch, batch_veil, empty_slot, spell_batch}
 use Rattle.commit_journal.specs.Journals.{JournalState, IsJournalOf}
-use Rattle.commit_journal.specs.Standing.{StandsFor, StandsWhole}
+use Rattle.commit_journal.specs.Publishing.{without_last}
+use Rattle.commit_journal.specs.Standing.{StandsFor, StandsUnpublished, StandsWhole}
 
 -- a journal's next batch as it is written at first: with an empty slot, and a closed gate behind it
 abbrev pub staged_batch : JournalState → Batch → List ℕ
@@ -29,6 +30,27 @@ HoldsLog b old was left shown may_leave = (bs : List Batch) → IsJournalOf bs o
 abbrev pub HoldsPublished : Batch → JournalState → Option (List ℕ) → (List ℕ → Type 0) → (List ℕ → List ℕ → Type 0) → Type 0
 HoldsPublished b old was may_leave since =
     IsDurable may_leave was → WhereTold was (λ x. EndsAt old.end x → Throughout (IsHeldWhereShown old.end (staged_batch old b)) since)
+
+-- What is shown at a moment, and what a stop leaves then: each stands for a list between the two. What is left begins with all that is
+-- shown; or the last slot that is shown is empty, so that the last entry isn't published, and what is left begins with the others. So no
+-- stop takes back what was published
+pub record TakesNothingBack {X : Type 0} (stands unpublished : List X → List ℕ → Type 0) (low high : List X) (s c : List ℕ) : Type 0 where
+  pub shown : List X
+  pub left : List X
+  pub shown_from : IsPrefix low shown
+  pub shown_to : IsPrefix shown high
+  pub left_from : IsPrefix low left
+  pub left_to : IsPrefix left high
+  pub shown_stands : stands shown s
+  pub left_stands : stands left c
+  pub begins : IsPrefix shown left ⊎ (unpublished shown s × IsPrefix (without_last shown) left)
+
+-- so it is at each moment of a commit, of whatever batches the journal stood, where the disk showed their whole image and nothing was
+-- pending
+abbrev pub KeepsPublished : Batch → JournalState → Option (List ℕ) → (List ℕ → Type 0) → (List ℕ → List ℕ → Type 0) → Type 0
+KeepsPublished b old was may_leave since =
+    (bs : List Batch) → IsJournalOf bs old → IsDurable may_leave was → Shows (StandsWhole old.owner) bs was
+    → Throughout (TakesNothingBack (StandsFor old.owner) (StandsUnpublished old.owner) bs (bs ++ b ∷ [])) since
 
 -- the list that is shown at each moment is as at entry; or with the batch behind the closed gate, its slot empty; or with that gate open;
 -- or with the veil key in the slot

@@ -293,6 +293,8 @@ impl Journal {
             (D.shown disk.old) (D.may_leave disk.old) (D.since disk.new (D.moment disk.old)) }
         ensures held { stopping.HoldsPublished (journals.next_epoch self.old) self.old
             (D.shown disk.old) (D.may_leave disk.old) (D.since disk.new (D.moment disk.old)) }
+        ensures published { stopping.KeepsPublished (journals.next_epoch self.old) self.old
+            (D.shown disk.old) (D.may_leave disk.old) (D.since disk.new (D.moment disk.old)) }
         ensures shows { OnOk result (stopping.ShowsFour (journals.next_epoch self.old) self.old
             (D.shown disk.old) (D.since disk.new (D.moment disk.old))) }
         ensures holds { stopping.HoldsLog (journals.next_epoch self.old) self.old
@@ -367,6 +369,8 @@ impl Journal {
         ensures kept { stopping.KeepsLog (journals.next_command self.old (spell_payload (plain_payload payload.now))) self.old
             (D.shown disk.old) (D.may_leave disk.old) (D.since disk.new (D.moment disk.old)) }
         ensures held { stopping.HoldsPublished (journals.next_command self.old (spell_payload (plain_payload payload.now))) self.old
+            (D.shown disk.old) (D.may_leave disk.old) (D.since disk.new (D.moment disk.old)) }
+        ensures published { stopping.KeepsPublished (journals.next_command self.old (spell_payload (plain_payload payload.now))) self.old
             (D.shown disk.old) (D.may_leave disk.old) (D.since disk.new (D.moment disk.old)) }
         ensures shows { OnOk result (stopping.ShowsFour (journals.next_command self.old (spell_payload (plain_payload payload.now)))
             self.old

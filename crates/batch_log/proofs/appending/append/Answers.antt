@@ -19,6 +19,10 @@ pub returns-in_err-staged-clause-stops : goal.returns-in_err-staged-clause-stops
 returns-in_err-staged-clause-stops g c durable x x_is s left at =
     torn_in_staging c.args.end c.args.batch.now x left (c.in_err-staged.ensures.stops durable x x_is s left at).1
 
+pub returns-in_err-staged-clause-shown : goal.returns-in_err-staged-clause-shown
+returns-in_err-staged-clause-shown g c durable x x_is s left at =
+    torn_in_staging c.args.end c.args.batch.now x s (c.in_err-staged.ensures.stops durable x x_is s left at).0
+
 pub returns-in_err-staged-clause-held : goal.returns-in_err-staged-clause-held
 returns-in_err-staged-clause-held g c durable x x_is ends s left at =
     held_in_staging c.args.end c.args.batch.now x s left ends (c.in_err-staged.ensures.stops durable x x_is s left at).0
@@ -61,6 +65,23 @@ returns-in_err-gated-clause-stops g c durable x x_is =
     (λ s left at. let torn = c.in_ok-staged.ensures.stops durable x x_is s left at in torn_in_staging end batch x left torn.1)
     (λ s left at. let torn = subst (λ n. TornInto (n - 1) 1 one.0 s left) staged_end (c.in_err-gated.ensures.stops one.0 one.1 s left at) in
     torn_in_opening end batch x one.0 left whole first torn.1)
+
+pub returns-in_err-gated-clause-shown : goal.returns-in_err-gated-clause-shown
+returns-in_err-gated-clause-shown g c durable x x_is =
+    let D = g.D.Disk in
+    let end = c.args.end in
+    let batch = c.args.batch.now in
+    let a = c.args.disk.now in
+    let b = c.stage.new.disk in
+    let whole : 45 ≤ length batch = let long = stageable_long batch c.requires.batch in omega (arith, long) in
+    let staged_end : c.in_ok-staged.staged.end ≡ end = ap (λ (s : StagedBatch). s.end) c.in_ok-staged.ensures.staged in
+    let one = told_again (D.shown a) (D.shown b) x c.in_ok-staged.ensures.told x_is in
+    let first = c.in_ok-staged.ensures.written x one.0 x_is one.1 in
+    let e = c.open_gate.new.disk in
+    in_both (D.moment a) (D.moment b) (D.since b) (D.since e) (λ s left. Interrupts end batch x s) c.stage.ensures.later c.open_gate.ensures.time
+    (λ s left at. let torn = c.in_ok-staged.ensures.stops durable x x_is s left at in torn_in_staging end batch x s torn.0)
+    (λ s left at. let torn = subst (λ n. TornInto (n - 1) 1 one.0 s left) staged_end (c.in_err-gated.ensures.stops one.0 one.1 s left at) in
+    torn_in_opening end batch x one.0 s whole first torn.0)
 
 pub returns-in_err-gated-clause-held : goal.returns-in_err-gated-clause-held
 returns-in_err-gated-clause-held g c durable x x_is ends =
@@ -157,6 +178,32 @@ returns-clause-stops g c durable x x_is =
     torn_in_opening end batch x one.0 left whole first torn.1))
     (λ s left at. let torn = subst (λ n. TornInto (n + 13) 32 two.0 s left) gated_end (c.unveil.ensures.stops two.0 two.1 s left at) in
     torn_in_unveiling end batch x one.0 two.0 left whole first second torn.1)
+
+pub returns-clause-shown : goal.returns-clause-shown
+returns-clause-shown g c durable x x_is =
+    let D = g.D.Disk in
+    let end = c.args.end in
+    let batch = c.args.batch.now in
+    let a = c.args.disk.now in
+    let b = c.stage.new.disk in
+    let whole : 45 ≤ length batch = let long = stageable_long batch c.requires.batch in omega (arith, long) in
+    let staged_end : c.in_ok-staged.staged.end ≡ end = ap (λ (s : StagedBatch). s.end) c.in_ok-staged.ensures.staged in
+    let gated_end : c.in_ok-gated.gated.end ≡ end = ap (λ (s : GatedBatch). s.end) c.in_ok-gated.ensures.gated ∙ staged_end in
+    let one = told_again (D.shown a) (D.shown b) x c.in_ok-staged.ensures.told x_is in
+    let first = c.in_ok-staged.ensures.written x one.0 x_is one.1 in
+    let e = c.open_gate.new.disk in
+    let two = told_again (D.shown b) (D.shown e) one.0 c.in_ok-gated.ensures.told one.1 in
+    let second = subst (λ n. Written (n - 1) (1 ∷ []) one.0 two.0) staged_end (c.in_ok-gated.ensures.written one.0 two.0 one.1 two.1) in
+    let f = c.unveil.new.disk in
+    let earlier : D.moment a ≤ D.moment e = let l = c.stage.ensures.later in let m = c.open_gate.ensures.later in omega (arith, l, m) in
+    let P : List ℕ → List ℕ → Type 0 = (λ s left. Interrupts end batch x s) in
+    in_both (D.moment a) (D.moment e) (D.since e) (D.since f) P earlier c.unveil.ensures.time
+    (in_both (D.moment a) (D.moment b) (D.since b) (D.since e) P c.stage.ensures.later c.open_gate.ensures.time
+    (λ s left at. let torn = c.in_ok-staged.ensures.stops durable x x_is s left at in torn_in_staging end batch x s torn.0)
+    (λ s left at. let torn = subst (λ n. TornInto (n - 1) 1 one.0 s left) staged_end (c.in_ok-gated.ensures.stops one.0 one.1 s left at) in
+    torn_in_opening end batch x one.0 s whole first torn.0))
+    (λ s left at. let torn = subst (λ n. TornInto (n + 13) 32 two.0 s left) gated_end (c.unveil.ensures.stops two.0 two.1 s left at) in
+    torn_in_unveiling end batch x one.0 two.0 s whole first second torn.0)
 
 pub returns-clause-held : goal.returns-clause-held
 returns-clause-held g c durable x x_is ends =

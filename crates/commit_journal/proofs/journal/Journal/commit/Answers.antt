@@ -5,7 +5,8 @@ use Rattle.commit_journal.specs.Journals.{JournalState, IsBehind, next_command}
 use Rattle.commit_journal.specs.contracts.journal.Journal.{the_view}
 use Rattle.commit_journal.proofs.JournalLemmas.{joins, payload_small}
 use Rattle.commit_journal.proofs.MayHaveJoined.{may_join}
-use Rattle.commit_journal.specs.Stopping.{HoldsPublished, KeepsLog, ShowsFour}
+use Rattle.commit_journal.specs.Stopping.{HoldsPublished, KeepsLog, KeepsPublished, ShowsFour}
+use Rattle.commit_journal.proofs.PublishedCommits.{commit_takes_nothing_back, refused_takes_nothing_back}
 use Rattle.commit_journal.proofs.StoppedCommits.{commit_keeps, commit_published, commit_shows, holds_at_the_end, refused_keeps, refused_published, spelled_stageable, stays}
 use Rattle.commit_journal.proofs.journal.Journal.commit.Goals as goal
 
@@ -83,6 +84,14 @@ returns-in-Some-clause-held g c =
     let old = c.args.self.now in
     refused_published (next_command old payload) old (D.shown a) (D.may_leave a) (D.since a (D.moment a)) (λ s left at. g.met.D.Disk.only_now a s left at)
 
+pub returns-in-Some-clause-published : goal.returns-in-Some-clause-published
+returns-in-Some-clause-published g c =
+    let D = g.D.Disk in
+    let a = c.args.disk.now in
+    let payload = spell_payload (plain_payload c.args.payload.now) in
+    let old = c.args.self.now in
+    refused_takes_nothing_back (next_command old payload) old (D.shown a) (D.may_leave a) (D.since a (D.moment a)) (λ s left at. g.met.D.Disk.only_now a s left at)
+
 pub returns-in-Some-clause-holds : goal.returns-in-Some-clause-holds
 returns-in-Some-clause-holds g c =
     let D = g.D.Disk in
@@ -113,6 +122,16 @@ returns-in_default-append-clause-held g c =
     let old = the_view c.self.inside in
     subst (λ (j : JournalState). HoldsPublished (next_command j payload) j (D.shown a) (D.may_leave a) since) c.self.view_is
     (commit_published (next_command old payload) old c.as_slice.result.now (D.shown a) (D.may_leave a) since (c.as_slice.ensures ∙ c.command_batch-tag.ensures.spelled c.veil_key-veil.ensures) c.append.ensures.held)
+
+pub returns-in_default-append-clause-published : goal.returns-in_default-append-clause-published
+returns-in_default-append-clause-published g c =
+    let D = g.D.Disk in
+    let a = c.args.disk.now in
+    let payload = spell_payload (plain_payload c.args.payload.now) in
+    let since = D.since c.append.new.disk (D.moment a) in
+    let old = the_view c.self.inside in
+    subst (λ (j : JournalState). KeepsPublished (next_command j payload) j (D.shown a) (D.may_leave a) since) c.self.view_is
+    (commit_takes_nothing_back (next_command old payload) old c.as_slice.result.now (D.shown a) (D.may_leave a) since (c.as_slice.ensures ∙ c.command_batch-tag.ensures.spelled c.veil_key-veil.ensures) c.append.ensures.shown c.append.ensures.stops c.append.ensures.held)
 
 pub returns-in_default-append-clause-holds : goal.returns-in_default-append-clause-holds
 returns-in_default-append-clause-holds g c =
@@ -145,6 +164,16 @@ returns-clause-held g c =
     let old = the_view c.self.inside in
     subst (λ (j : JournalState). HoldsPublished (next_command j payload) j (D.shown a) (D.may_leave a) since) c.self.view_is
     (commit_published (next_command old payload) old c.as_slice.result.now (D.shown a) (D.may_leave a) since (c.as_slice.ensures ∙ c.command_batch-tag.ensures.spelled c.veil_key-veil.ensures) c.append.ensures.held)
+
+pub returns-clause-published : goal.returns-clause-published
+returns-clause-published g c =
+    let D = g.D.Disk in
+    let a = c.args.disk.now in
+    let payload = spell_payload (plain_payload c.args.payload.now) in
+    let since = D.since c.append.new.disk (D.moment a) in
+    let old = the_view c.self.inside in
+    subst (λ (j : JournalState). KeepsPublished (next_command j payload) j (D.shown a) (D.may_leave a) since) c.self.view_is
+    (commit_takes_nothing_back (next_command old payload) old c.as_slice.result.now (D.shown a) (D.may_leave a) since (c.as_slice.ensures ∙ c.command_batch-tag.ensures.spelled c.veil_key-veil.ensures) c.append.ensures.shown c.append.ensures.stops c.append.ensures.held)
 
 pub returns-clause-holds : goal.returns-clause-holds
 returns-clause-holds g c =
