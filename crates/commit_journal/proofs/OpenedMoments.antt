@@ -108,35 +108,35 @@ pub keeps_held : (limit : ℕ) (owner : List ℕ) (was : Option (List ℕ)) (lef
 keeps_held limit owner was left since known stops low high bodies holds within from to s c at =
     let x = holds.shows in
     ⊎_elim
-    (λ old. let b = holds.leaves c old in
+    (λ old. let b = holds.leaves c old.1 in
     (let is : IsKept (StandsFor owner) low high high c = record { held = b.held; from = b.from; to = inl b.to; stands_for = b.stands_for } in is))
     (λ gated.
     (let is : IsKept (StandsFor owner) low high high c = record {
       held = batches_from 0 0 bodies;
       from = from;
       to = inl to;
-      stands_for = still_gated limit owner x.0 c known gated bodies (within x.0 x.1);
+      stands_for = still_gated limit owner x.0 c known gated.1 bodies (within x.0 x.1);
     } in is))
-    (stops x.0 x.1 s c at).1
+    (stops x.0 x.1 s c at)
 
 -- while nothing is written
 pub opens_same : (limit : ℕ) (owner : List ℕ) (was : Option (List ℕ)) (left : List ℕ → Type 0) (since : List ℕ → List ℕ → Type 0) →
     Throughout (λ s c. (was ≡ Some s) × left c) since → OpensThroughout limit owner was left since
 opens_same limit owner was left since same x x_is s c at =
-    let is = same s c at in (inl (told_one was s x is.0 x_is), inl is.1)
+    let is = same s c at in inl (told_one was s x is.0 x_is, is.1)
 
 -- and once slots are
 pub opens_filled : (limit : ℕ) (owner : List ℕ) (log : OwnedLog) (was : Option (List ℕ)) (left : List ℕ → Type 0) (since : List ℕ → List ℕ → Type 0) →
     WhereTold was (λ x. opening_verdict limit owner x ≡ Ok log) → FillsThroughout owner log.placed was since → OpensThroughout limit owner was left since
 opens_filled limit owner log was left since verdict fills x x_is s c at =
-    let both = fills x x_is s c at in (inr (log, verdict x x_is, both.0), inr (inr (log, verdict x x_is, both.1)))
+    let both = fills x x_is s c at in inr (inr (log, verdict x x_is, both.0), inr (log, verdict x x_is, both.1))
 
 -- the second of these behind the first
 pub opens_both : (limit : ℕ) (owner : List ℕ) (was : Option (List ℕ)) (left : List ℕ → Type 0) (first start : ℕ) (past since : ℕ → List ℕ → List ℕ → Type 0) →
     first ≤ start → GoesOn start past since → OpensThroughout limit owner was left (past first) → OpensThroughout limit owner was left (since start) →
     OpensThroughout limit owner was left (since first)
 opens_both limit owner was left first start past since order goes before after x x_is =
-    in_both first start past since (λ s c. LeavesGated limit owner x s × (left c ⊎ LeavesGated limit owner x c)) order goes (before x x_is) (after x x_is)
+    in_both first start past since (λ s c. ((s ≡ x) × left c) ⊎ (LeavesGated limit owner x s × LeavesGated limit owner x c)) order goes (before x x_is) (after x x_is)
 
 -- while the disk was only synced and read
 pub opens_read : {D : Type 0} (shown : D → Option (List ℕ)) (may_leave : D → List ℕ → Type 0) (moment : D → ℕ) (since : D → ℕ → List ℕ → List ℕ → Type 0)

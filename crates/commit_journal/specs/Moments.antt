@@ -32,11 +32,11 @@ abbrev pub FillsThroughout : List ℕ → List PlainPlaced → Option (List ℕ)
 FillsThroughout owner placed was since = WhereTold was (λ x. Throughout (λ s c. LeavesSlots owner placed x s
     × LeavesSlots owner placed x c) since)
 
--- A store is opened for writing: at each moment the disk shows what it showed, with slots filled where its log passes every test. What a
--- stop leaves it left before the call, or is such an image too
+-- A store is opened for writing: at each moment the disk shows what it showed, and what a stop leaves it left before the call; or both are
+-- what was shown, with slots filled where its log passes every test
 abbrev pub OpensThroughout : ℕ → List ℕ → Option (List ℕ) → (List ℕ → Type 0) → (List ℕ → List ℕ → Type 0) → Type 0
 OpensThroughout limit owner was left since =
-    WhereTold was (λ x. Throughout (λ s c. LeavesGated limit owner x s × (left c ⊎ LeavesGated limit owner x c)) since)
+    WhereTold was (λ x. Throughout (λ s c. ((s ≡ x) × left c) ⊎ (LeavesGated limit owner x s × LeavesGated limit owner x c)) since)
 
 -- Of whatever two lists of batches: where the disk held between them and showed bytes that stand for batches within the store limit, which
 -- lie between the two, a stop at each moment leaves bytes that stand for a list between them

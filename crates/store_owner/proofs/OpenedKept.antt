@@ -30,7 +30,7 @@ journals_kept limit key was left since known stops m m1 m2 holds stands fits s c
     let x = holds.shows in
     let shown = stands x.0 x.1 in
     ⊎_elim
-    (λ old. let b = holds.leaves c old in
+    (λ old. let b = holds.leaves c old.1 in
     (let is : IsKept (StandsForJournal key) m1 m2 m2 c = record { held = b.held; from = b.from; to = inl b.to; stands_for = b.stands_for } in is))
     (λ gated.
     (let is : IsKept (StandsForJournal key) m1 m2 m2 c = record {
@@ -38,6 +38,6 @@ journals_kept limit key was left since known stops m m1 m2 holds stands fits s c
       from = x.2.from;
       to = inl x.2.to;
       stands_for = same_batches key x.2.held m x.0 c x.2.stands_for shown
-          (still_gated limit key x.0 c known gated (bodies_of key m) (within limit key m x.0 shown fits));
+          (still_gated limit key x.0 c known gated.1 (bodies_of key m) (within limit key m x.0 shown fits));
     } in is))
-    (stops x.0 x.1 s c at).1
+    (stops x.0 x.1 s c at)
