@@ -37,16 +37,19 @@ edges_at s f = filter (λ e. has same_role (folder_roles f) e.from || has same_r
 unfoldable pub edge_into_file : Store → ℕ → Edge
 edge_into_file s x = file_edge (folder_of_file s x) x
 
+-- the edges of a new folder, with those to its parent
+abbrev pub edges_of_new : ℕ → ℕ → List Edge
+edges_of_new f p = in_order edge_before (folder_edges f ++ parent_edges f p)
+
+-- the edges between a folder and its parent as they stand
+abbrev pub edges_up : Store → ℕ → List Edge
+edges_up s f = parent_edges f (parent_of_folder s f)
+
 -- the change of each note, as the table in docs/FORMAT.md says
 unfoldable pub change_of : Store → Note → Change
 change_of s Root = record no_change { fresh = folder_roles 1; added = folder_edges 1 }
 change_of s (NewHolder h check) = record no_change { fresh = holder_role h ∷ [] }
-change_of s (NewFolder f p) = record no_change {
-  wanted = sub_of p
-      ∷ [];
-  fresh = folder_roles f;
-  added = in_order edge_before (folder_edges f ++ parent_edges f p);
-}
+change_of s (NewFolder f p) = record no_change { wanted = sub_of p ∷ []; fresh = folder_roles f; added = edges_of_new f p }
 change_of s (NewFile x f) = record no_change { wanted = files_of f ∷ []; fresh = file_role x ∷ []; added = file_edge f x ∷ [] }
 change_of s (Rewrite x) = record no_change { wanted = file_role x ∷ [] }
 change_of s (NameFile x) = record no_change { wanted = file_role x ∷ [] }
@@ -54,11 +57,6 @@ change_of s (NameFolder f) = record no_change { wanted = data_of f ∷ [] }
 change_of s (DropFile x) = record no_change { removed = edge_into_file s x ∷ []; gone = file_role x ∷ [] }
 change_of s (DropFolder f) = record no_change { removed = edges_at s f; gone = folder_roles f }
 change_of s (ShiftFile x g) = record no_change { removed = edge_into_file s x ∷ []; wanted = files_of g ∷ []; added = file_edge g x ∷ [] }
-change_of s (ShiftFolder g q) = record no_change {
-  removed = parent_edges g (parent_of_folder s g);
-  wanted = sub_of q ∷ back_of g
-      ∷ [];
-  added = parent_edges g q;
-}
+change_of s (ShiftFolder g q) = record no_change { removed = edges_up s g; wanted = sub_of q ∷ back_of g ∷ []; added = parent_edges g q }
 change_of s (Give h f) = record no_change { added = grant_edge h f ∷ [] }
 change_of s (Take h f) = record no_change { removed = grant_edge h f ∷ []; wanted = clear_of f ∷ [] }

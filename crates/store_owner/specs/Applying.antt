@@ -56,6 +56,11 @@ pub record HasOtherRoom (old new : OwnerView) : Type 0 where
   pub file_bytes : new.file_bytes ≡ old.file_bytes
   pub tally : new.tally ≡ old.tally
 
+-- the skeleton is that of the request's step, whatever state the owner's is seen as
+abbrev pub IsStepOf : Request → OwnerView → Skeleton → Type 0
+IsStepOf r old skeleton = (at : Stand) (s : Store) → IsSeenAs old.state at → IsStoreOf old.state.tree old.names (granted_in old) s
+    → IsSkeleton (told_step (begun (not old.journal.has_epoch) at) (note_of s r (replicate 32 0))) skeleton
+
 -- What is sealed for a command, whatever the owner stands for, once the session has its epoch: the note with the check of the drawn
 -- key; the skeleton of its step; the payload; the journal with its room, and with its epoch; what the disk showed then; the counter.
 pub record IsSealed (r : Request) (drawn : List (List ℕ)) (old : OwnerView) (was : Option (List ℕ)) : Type 0 where
@@ -69,8 +74,7 @@ pub record IsSealed (r : Request) (drawn : List (List ℕ)) (old : OwnerView) (w
   pub drawn_count : length drawn ≡ length skeleton.keys.items
   pub drawn_sizes : All (λ (key : List ℕ). length key ≡ 32) drawn
   pub told : (s : Store) → IsStoreOf old.state.tree old.names (granted_in old) s → told_note note ≡ note_of s r (check_of (first_key drawn))
-  pub is_skeleton : (at : Stand) (s : Store) → IsSeenAs old.state at → IsStoreOf old.state.tree old.names (granted_in old) s
-      → IsSkeleton (told_step (begun (not old.journal.has_epoch) at) (note_of s r (replicate 32 0))) skeleton
+  pub is_skeleton : IsStepOf r old skeleton
   pub has_room : ready ≡ record old.journal { room = ready.room }
   pub begins : cond old.journal.has_epoch ((between ≡ ready) × (showed ≡ was)) (Joins (next_epoch ready) ready between was showed
       × (between.owner ≡ ready.owner))
