@@ -13,7 +13,7 @@ use cry_base::{Mem, Role, Serial};
 use std::alloc::Global;
 use std::marker::Model;
 
-/// The keys that an owner or a reader has, at most one for each role. `spare` is how many more fit without memory; it may
+/// The keys that an owner or a reader has, found by their roles. `spare` is how many more fit without memory; it may
 /// be more than was asked for.
 #[derive(Drop)]
 pub struct KeyRing {
