@@ -4,12 +4,11 @@ use Rattle.std.proofs.lemmas.Bool.{eqb-true}
 use Rattle.cry_base.specs.Sets.{has}
 use Rattle.cry_base.specs.declared.roles.Edge.{Edge}
 use Rattle.cry_base.specs.declared.roles.Role.{Role}
+use Rattle.role_graph.specs.Adjacent.{edges_but}
 use Rattle.role_graph.specs.Edges.{edge_before, in_order, same_edge}
 use Rattle.role_graph.specs.Roles.{same_role}
-use Rattle.role_graph.proofs.Edging.{In-order}
 use Rattle.role_graph.proofs.Sifting.{joined_in_order, kept_in_order}
 use Rattle.rekey_walk.specs.Dirty.{mark_all, plan}
-use Rattle.rekey_walk.proofs.Reordered.{mark_all_same, plan_same}
 use Rattle.move_plan.specs.Change.{Change}
 use Rattle.public_fold.specs.KeyStep.{KeyState, dirty_left, edges_left, edges_then, is_published, published_edges, renewed, without, keys_without}
 use Rattle.public_fold.specs.Stepping.{IsDue}
@@ -39,26 +38,24 @@ due_is k before c marked left again d m l a keyed gone edges dirty =
 sifted : (p : Edge → Bool) (left added : List Edge) → filter p (in_order edge_before (in_order edge_before left ++ added)) ≡ in_order edge_before (filter p (left ++ added))
 sifted p left added = ap (filter p) (joined_in_order left added) ∙ kept_in_order p (left ++ added)
 
--- the same where the edges before come in any order
-pub due_in_order : (k : KeyState) (before : List Edge) (c : Change) (marked : List Role) (left : List Edge) (again : List Role) (d : Due)
+-- the same where the edges are listed in any order, and marks and plan are those of the edges in order
+pub due_in_order : (k : KeyState) (before listed : List Edge) (c : Change) (marked : List Role) (left : List Edge) (again : List Role) (d : Due)
+    → before ≡ in_order edge_before listed
     → marked ≡ without same_role c.gone (mark_all k.dirty before (map (λ (e : Edge). e.to) c.removed))
-    → left ≡ without same_edge c.removed before
-    → again ≡ plan marked left c.wanted
+    → left ≡ without same_edge c.removed listed
+    → again ≡ plan marked (edges_but c.removed before) c.wanted
     → d.keyed.items ≡ again ++ c.fresh
     → d.gone.items ≡ again ++ c.gone
     → d.edges.items ≡ in_order edge_before (filter (λ (e : Edge). has same_edge c.added e || has same_role d.keyed.items e.from || has same_role d.keyed.items e.to) (left ++ c.added))
     → d.dirty ≡ without same_role again marked
-    → IsDue k (in_order edge_before before) c d
-unfolding without
-due_in_order k before c marked left again d m l a keyed gone edges dirty =
+    → IsDue k before c d
+unfolding without edges_but
+due_in_order k before listed c marked left again d o m l a keyed gone edges dirty =
     let p : Edge → Bool = λ e. has same_edge c.added e || has same_role d.keyed.items e.from || has same_role d.keyed.items e.to in
-    let left_in_order : in_order edge_before left ≡ without same_edge c.removed (in_order edge_before before) =
-    ap (λ (x : List Edge). in_order edge_before x) l ∙ sym (kept_in_order (λ e. not (has same_edge c.removed e)) before) in
-    due_is k (in_order edge_before before) c marked (in_order edge_before left) again d
-    (m ∙ ap (λ (x : List Role). without same_role c.gone x) (mark_all_same k.dirty before (in_order edge_before before) (map (λ (e : Edge). e.to) c.removed)
-    (λ e i. (In-order Edge edge_before e before).1 i) (λ e i. (In-order Edge edge_before e before).0 i)))
-    left_in_order
-    (a ∙ plan_same marked left (in_order edge_before left) c.wanted (λ e i. (In-order Edge edge_before e left).1 i) (λ e i. (In-order Edge edge_before e left).0 i))
+    let left_in_order : in_order edge_before left ≡ without same_edge c.removed before =
+    ap (λ (x : List Edge). in_order edge_before x) l ∙ sym (kept_in_order (λ e. not (has same_edge c.removed e)) listed) ∙ ap (λ (x : List Edge). without same_edge c.removed x) (sym o) in
+    due_is k before c marked (in_order edge_before left) again d m left_in_order
+    (a ∙ ap (λ (x : List Edge). plan marked x c.wanted) (sym left_in_order))
     keyed gone (edges ∙ sym (sifted p left c.added)) dirty
 
 -- without nothing all is left

@@ -2,7 +2,7 @@
 ghost use Rattle.std.specs.Prelude.{◌≡◌, ◌<◌, ◌≤◌, true, false, Err, IfOk};
 ghost use Rattle.move_plan.specs.Seen.{plain_change};
 ghost use Rattle.record_format.specs.Told.{told_note};
-ghost use Rattle.role_graph.specs.Edges.{edge_before, edges as edges_of, in_order};
+ghost use Rattle.role_graph.specs.Edges.{edges as edges_of};
 ghost use Rattle.role_graph.specs.PublicStore.{public_store};
 ghost use Rattle.public_fold.specs.Fitted.{told_step};
 ghost use Rattle.public_fold.specs.StandFits.{note_fits};
@@ -19,11 +19,11 @@ use crate::publishing::published;
 use crate::quiet::{is_quiet, quiet_step};
 use crate::sealing::{content_count, content_heads};
 use crate::{FoldFault, PublicState, Skeleton};
-use cry_base::{Edge, List, Mem, Role};
+use cry_base::{Edge, List, Mem, Role, Steps};
 use move_plan::{Change, change_of};
 use record_format::Note;
-use rekey_walk::{Dirty, plan};
-use role_graph::unordered_edges;
+use rekey_walk::{Dirty, plan_in};
+use role_graph::{StoreRoles, unordered_edges};
 use std::alloc::Global;
 
 /// A step before its serials are counted.
@@ -89,18 +89,25 @@ fn due_step(alloc: Global, state: &PublicState, change: &Change) -> Mem<Due>
     if is_quiet(&state.dirty, change) {
         return quiet_step(alloc, change);
     }
-    let before = unordered_edges(alloc, &state.shape, &state.grants)?;
-    whole_step(alloc, state, before, change)
+    whole_step(alloc, state, change)
 }
 
-/// The step of any change. The edges before it come in any order.
-fn whole_step(alloc: Global, state: &PublicState, before: Vec<Edge>, change: &Change) -> Mem<Due>
-    ensures { IfOk result (λ d. IsDue state.now.keys (in_order edge_before before.items) (plain_change change.now) d) }
+/// The step of any change. Marks and plan look edges up; the list of all edges is for those that are published.
+fn whole_step(alloc: Global, state: &PublicState, change: &Change) -> Mem<Due>
+    ensures { IfOk result (λ d. IsDue state.now.keys (edges_of (public_store state.now.tree state.now.pairs)) (plain_change change.now) d) }
 {
-    let mut dirty = dirty_left(alloc, &state.dirty, &before, change)?;
-    let left = edges_left(alloc, before, change.removed.as_slice())?;
-    let renewed = plan(alloc, &dirty, &left, change.wanted.as_slice())?;
+    let roles = StoreRoles {
+        shape: &state.shape,
+        grants: &state.grants,
+    };
+    let mut steps = Steps::new();
+    let removed = change.removed.as_slice();
+    let mut dirty = dirty_left(alloc, &state.dirty, &roles, change, &mut steps)?;
+    let wanted = change.wanted.as_slice();
+    let renewed = plan_in(alloc, &dirty, &roles, removed, wanted, &mut steps)?;
     let renewed = renewed.as_slice();
+    let before = unordered_edges(alloc, &state.shape, &state.grants)?;
+    let left = edges_left(alloc, before, removed)?;
     let keyed = joined(alloc, renewed, change.fresh.as_slice())?;
     let gone = joined(alloc, renewed, change.gone.as_slice())?;
     let edges = published(alloc, &left, change.added.as_slice(), keyed.as_slice())?;
