@@ -198,9 +198,9 @@ fn each_call_of_the_disk_may_fail(rt: HostRuntime) -> Result<(), Fail> {
     let fresh = called(alloc, MAKE, Fault::Nothing, &[])?;
     let image = fresh.image.as_slice();
     assert_eq!(rt; disk_calls(alloc, MAKE, &[])?, (14, Status::Done));
-    // The header, and two reads for each of two batches; `list` and `audit` read the batch of the root's name once more.
+    // The header, and two reads for each of two batches; `list` reads the batch of the root's name once more.
     assert_eq!(rt; disk_calls(alloc, LIST, image)?, (7, Status::Done));
-    assert_eq!(rt; disk_calls(alloc, AUDIT, image)?, (7, Status::Done));
+    assert_eq!(rt; disk_calls(alloc, AUDIT, image)?, (5, Status::Done));
     assert_eq!(rt; disk_calls(alloc, FOLDER, image)?, (20, Status::Done));
     Ok(())
 }

@@ -145,15 +145,18 @@ right_target links bundle key q l right there leads is =
     subst (IsRight (records_of_links links) bundle) (sym is)
     (Behind {key = key} l.link right ((In-map PlacedLink LinkRecord (λ (m : PlacedLink). m.link) l.link links).1 (l, there, refl)) leads)
 
+-- the keys that were followed, with one more of the old ones
+pub taken_further : (links : List PlacedLink) (done : ℕ) (keys new : List KeyParts) (key : KeyParts) → done < length keys → key ≡ get_or keys done key → IsGrown links key keys new → take done keys ++ key ∷ [] ≡ take (done + 1) new
+taken_further links done keys new key within is grown =
+    sym (ap (take (done + 1)) grown.joined ∙ take-append-le (done + 1) keys grown.more (omega (arith, within)) ∙ take_more keys done key within ∙ ap (λ (k : KeyParts). take done keys ++ k ∷ []) (sym is))
+
 pub found_next : (links : List PlacedLink) (bundle : KeyParts) (done : ℕ) (keys new : List KeyParts) (key : KeyParts) → done < length keys → key ≡ get_or keys done key → AreFoundSoFar links bundle done keys → IsGrown links key keys new →
     AreFoundSoFar links bundle (done + 1) new
 found_next links bundle done keys new key within is so_far grown =
     let here : In key keys = subst (λ (k : KeyParts). In k keys) (sym is) (get_or-In KeyParts keys done key within) in
     let kept : (q : KeyParts) → In q keys → In q new = λ q i. subst (λ (ks : List KeyParts). In q ks) (sym grown.joined) ((In-append KeyParts q keys grown.more).1 (inl i)) in
     let size : length new ≡ length keys + length grown.more = ap length grown.joined ∙ length-append keys grown.more in
-    let taken : take (done + 1) new ≡ take done keys ++ key ∷ [] =
-    ap (take (done + 1)) grown.joined ∙ take-append-le (done + 1) keys grown.more (omega (arith, within)) ∙ take_more keys done key within ∙ ap (λ (k : KeyParts). take done keys ++ k ∷ []) (sym is)
-    in
+    let taken : take (done + 1) new ≡ take done keys ++ key ∷ [] = sym (taken_further links done keys new key within is grown) in
     record {
       within = omega (arith, within, size);
       own = kept bundle so_far.own;

@@ -1,6 +1,7 @@
 -- Groups as items are added, and what is found in them.
 use Rattle.std.proofs.Common.{◌≡◌, ⊎_elim, Bool, true, false, ◌==◌, List, [], ◌∷◌, ◌++◌, cond, filter, refl, sym, ap, subst, ◌∙◌}
 use Rattle.std.specs.HashMap.{HashMap, get}
+use Rattle.std.specs.Prelude.{Vec}
 use Rattle.std.specs.List.{flat_map}
 use Rattle.std.specs.Map.{lookup}
 use Rattle.std.specs.Cmp.Derive.{both_true}
@@ -8,7 +9,6 @@ use Rattle.std.proofs.lemmas.Bool.{and_parts, cases_Bool, eq-eqb, eqb-true, fals
 use Rattle.std.proofs.lemmas.List.{append-nil}
 use Rattle.std.proofs.lemmas.List.Elements.{filter-append}
 use Rattle.chacha_seal.specs.Keys.{KeyParts}
-use Rattle.cry_base.specs.Listed.{Listed}
 use Rattle.cry_base.specs.Sets.{In}
 use Rattle.cry_base.proofs.Members.{In-filter, filter-In}
 use Rattle.holder_client.specs.Placing.{PlacedContent, PlacedLink}
@@ -33,7 +33,7 @@ same_either a b = ⊎_elim
     (λ (f : same_sources a b ≡ false). f ∙ sym (false_from_ne_true (same_sources b a) (λ t. false≢true (sym f ∙ is_same a b (sym (same_is b a t))))))
     (cases_Bool (same_sources a b))
 
-pub no_groups : {T S : Type 0} (source : T → Source) (groups : HashMap Source (Listed T) S) → groups.entries ≡ [] → HasGroups source groups []
+pub no_groups : {T A S : Type 0} (source : T → Source) (groups : HashMap Source (Vec T A) S) → groups.entries ≡ [] → HasGroups source groups []
 no_groups source groups is = record { found = λ s. ap (λ es. items_of (lookup (same_sources s) es)) is }
 
 -- an item more
@@ -48,7 +48,7 @@ added source items x s false f =
     ∙ ap (λ b. filter (λ y. same_sources s (source y)) items ++ cond b (x ∷ []) []) (sym (same_either s (source x) ∙ f))
     ∙ sym (filter-append (λ y. same_sources s (source y)) items (x ∷ []))
 
-pub group_added : {T S : Type 0} (source : T → Source) (old new : HashMap Source (Listed T) S) (items : List T) (x : T) (of : Source) → of ≡ source x → HasGroups source old items
+pub group_added : {T A S : Type 0} (source : T → Source) (old new : HashMap Source (Vec T A) S) (items : List T) (x : T) (of : Source) → of ≡ source x → HasGroups source old items
     → ((s : Source) → items_of (get same_sources new s) ≡ cond (same_sources of s) (items_of (get same_sources old of) ++ x ∷ []) (items_of (get same_sources old s))) → HasGroups source new (items ++ x ∷ [])
 group_added source old new items x of is has updates = record {
   found = λ s.

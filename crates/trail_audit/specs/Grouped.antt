@@ -1,8 +1,7 @@
 -- Items in groups by a number and a serial, as a map holds them.
-use Rattle.std.specs.Prelude.{◌≡◌, Bool, List, [], filter, Option, None, Some}
+use Rattle.std.specs.Prelude.{◌≡◌, Bool, List, [], filter, Option, None, Some, Vec}
 use Rattle.std.specs.HashMap.{HashMap, get}
 use Rattle.chacha_seal.specs.Keys.{KeyParts}
-use Rattle.cry_base.specs.Listed.{Listed}
 use Rattle.holder_client.specs.Placing.{PlacedLink}
 use Rattle.record_format.specs.declared.link.LinkRecord.{LinkRecord}
 use Rattle.record_format.specs.Plain.{PlainContent}
@@ -15,7 +14,7 @@ abbrev pub same_sources : Source → Source → Bool
 same_sources = (sources.ghosts).eq
 
 -- the items of a group, none where there is no group
-abbrev pub items_of : {T : Type 0} → Option (Listed T) → List T
+abbrev pub items_of : {T A : Type 0} → Option (Vec T A) → List T
 items_of None = []
 items_of (Some group) = group.items
 
@@ -33,5 +32,5 @@ abbrev pub source_of_link : PlacedLink → Source
 source_of_link l = link_source l.link
 
 -- the group of each source has the items of that source, in their order
-pub record HasGroups {T S : Type 0} (source : T → Source) (groups : HashMap Source (Listed T) S) (items : List T) : Type 0 where
+pub record HasGroups {T A S : Type 0} (source : T → Source) (groups : HashMap Source (Vec T A) S) (items : List T) : Type 0 where
   pub found : (s : Source) → items_of (get same_sources groups s) ≡ filter (λ x. same_sources s (source x)) items

@@ -4,11 +4,12 @@ use Rattle.commit_journal.specs.Placed.{PlainPlaced}
 use Rattle.holder_client.specs.Placing.{PlacedContent, body_contents}
 use Rattle.trail_audit.specs.Grouped.{content_source}
 use Rattle.trail_audit.specs.declared.seals.Seals.{Seals}
-use Rattle.trail_audit.specs.declared.seals.Seals.TheVariants.{Nothing, One, Several}
+use Rattle.trail_audit.specs.declared.seals.Seals.TheVariants.{Nothing, Short, One, Several}
 
 -- the contents are sealed so
 abbrev pub AreSeals : Seals → List PlacedContent → Type 0
 AreSeals Nothing contents = contents ≡ []
+AreSeals (Short content) contents = contents ≡ content ∷ []
 AreSeals (One source) contents = (c : PlacedContent) × (contents ≡ c ∷ []) × (content_source c.content ≡ source)
 AreSeals Several contents = Unit {0}
 

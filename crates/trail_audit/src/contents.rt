@@ -13,14 +13,12 @@ ghost use Rattle.trail_audit.specs.Records.PlainRecord.{AContent};
 use crate::Seen;
 use crate::grouped::{Source, group_of};
 use crate::placed_records::ContentAt;
-use crate::right_key::RightKey;
-use crate::trails::KnownKeys;
-use chacha_seal::{BadTag, open_in_place};
+use crate::trails::{KnownKeys, Openers};
+use chacha_seal::{BadTag, HolderK, Key, open_in_place};
 use cry_base::{FileId, FolderId, List, Mem, Node, Text};
 use holder_client::{ClientFault, file_parts, is_folder_text, text_of};
 use record_format::{FILE_TEXT, FOLDER_NAME, HOLDER_KEY, content_header};
 use std::alloc::Global;
-use std::collections::HashMap;
 
 /// The number of the role whose key seals the content.
 #[tactic(auto, unfolding(crate::specs::Auditing::sealing_id))]
@@ -36,15 +34,19 @@ fn sealing_id(found: &ContentAt<'_>) -> u32
 
 /// Whether the content says that it is sealed under the key.
 #[tactic(auto, unfolding(crate::specs::Derived::is_sealed_by))]
-fn is_sealed_by(found: &ContentAt<'_>, key: &RightKey) -> bool
+fn is_sealed_by(found: &ContentAt<'_>, key: &Key<HolderK>) -> bool
     ensures { result ≡ spec.is_sealed_by found.now.content key.now }
 {
-    sealing_id(found) == key.id && found.content.key_serial.0 == key.serial.0
+    sealing_id(found) == key.id() && found.content.key_serial.0 == key.serial().0
 }
 
 /// Opens a content. `Tampered` comes exactly where its tag is wrong under the key.
 #[tactic(auto, unfolding(crate::specs::Derived::text_with))]
-fn open_content(alloc: Global, found: &ContentAt<'_>, key: &RightKey) -> Result<Text, ClientFault>
+fn open_content(
+    alloc: Global,
+    found: &ContentAt<'_>,
+    key: &Key<HolderK>,
+) -> Result<Text, ClientFault>
     requires sealed { IsTrue (spec.is_sealed_by found.now.content key.now) }
     ensures tagged { IfOk result (λ _. IsTagged key.now.bytes (AContent found.now.content)) }
     ensures text { IfOk result (λ text. text.items ≡ spec.text_with found.now.content key.now) }
@@ -55,7 +57,7 @@ fn open_content(alloc: Global, found: &ContentAt<'_>, key: &RightKey) -> Result<
     let mut text = Text::new(alloc);
     text.append(content.cipher.as_slice())?;
     match open_in_place(
-        &key.opener(),
+        key,
         content.nonce,
         &header,
         text.as_mut_slice(),
@@ -149,7 +151,7 @@ fn see_text(
 fn see_with(
     alloc: Global,
     found: &ContentAt<'_>,
-    key: &RightKey,
+    key: &Key<HolderK>,
     seen: &mut List<Seen>,
 ) -> Result<(), ClientFault>
     ensures opened { OnOk result (spec.IsOpened (key.now ∷ []) found.now) }
@@ -168,7 +170,7 @@ fn see_with(
 fn see_content(
     alloc: Global,
     found: &ContentAt<'_>,
-    keys: &[RightKey],
+    keys: &[Key<HolderK>],
     seen: &mut List<Seen>,
 ) -> Result<(), ClientFault>
     ensures opened { OnOk result (spec.IsOpened keys.now found.now) }
@@ -196,7 +198,7 @@ pub(crate) fn source_of(found: &ContentAt<'_>) -> Source
 fn see_under(
     alloc: Global,
     found: &ContentAt<'_>,
-    groups: &HashMap<Source, List<RightKey>>,
+    groups: &Openers,
     seen: &mut List<Seen>,
 ) -> Result<(), ClientFault>
     ensures opened { OnOk result ((keys : TheList KeyParts) → HasGroups key_source groups.now keys → spec.IsOpened keys found.now) }

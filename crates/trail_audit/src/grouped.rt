@@ -4,7 +4,7 @@ ghost use Rattle.std.specs.HashMap.{get};
 ghost use Rattle.trail_audit.specs.Grouped.{items_of, same_sources};
 ghost use Rattle.trail_audit.specs.declared.grouped.Source.{Source as TheSource};
 
-use cry_base::{List, Mem};
+use cry_base::Mem;
 use std::alloc::Global;
 use std::collections::HashMap;
 
@@ -15,9 +15,12 @@ pub(crate) struct Source {
     pub(crate) serial: u64,
 }
 
+/// Items in groups by their sources.
+pub(crate) type Groups<T> = HashMap<Source, Vec<T>>;
+
 /// Adds an item at the end of the group of its source.
 pub(crate) fn add_under<T: Drop>(
-    groups: &mut HashMap<Source, List<T>>,
+    groups: &mut Groups<T>,
     alloc: Global,
     source: Source,
     item: T,
@@ -28,7 +31,8 @@ pub(crate) fn add_under<T: Drop>(
 {
     let mut group = match groups.remove(&source) {
         Some(group) => group,
-        None => List::new(alloc),
+        // Most groups have one item, and a vector that grows by itself begins with room for four.
+        None => Vec::with_capacity(alloc, 1)?,
     };
     group.push(item)?;
     groups.insert(source, group)?;
@@ -36,7 +40,7 @@ pub(crate) fn add_under<T: Drop>(
 }
 
 /// The group of a source, in the order in which its items were added.
-pub(crate) fn group_of<T>(groups: &HashMap<Source, List<T>>, source: Source) -> &[T]
+pub(crate) fn group_of<T>(groups: &Groups<T>, source: Source) -> &[T]
     ensures { result.now ≡ items_of (get same_sources groups.now source) }
 {
     match groups.get(&source) {

@@ -20,7 +20,7 @@ pub(crate) struct Kept {
     pub(crate) reader: Reader,
     /// The links by where they begin.
     pub(crate) links: Links,
-    /// For each batch what its contents are sealed under.
+    /// For each batch what its contents are sealed under, or its one content where that is short.
     pub(crate) seals: List<Seals>,
     /// The number of the last batch, 0 where there is none.
     pub(crate) last: u32,
@@ -52,7 +52,8 @@ impl Kept {
         self.reader.add(alloc, placed)?;
         add_links_of(&mut self.links, alloc, placed)?;
         let contents = contents_of(alloc, placed)?;
-        self.seals.push(seals_of(contents.as_slice()))?;
+        let seals = seals_of(alloc, contents.as_slice())?;
+        self.seals.push(seals)?;
         self.last = placed.batch;
         Ok(())
     }

@@ -10,16 +10,15 @@ ghost use Rattle.record_format.specs.Sizes.{content_size};
 ghost use Rattle.record_format.specs.Spellable.{IsContent};
 ghost use Rattle.trail_audit.specs.Grouped.{HasGroups, link_source, source_of_link};
 
-use crate::grouped::{Source, add_under};
+use crate::grouped::{Groups, Source, add_under};
 use commit_journal::{Body, Placed, content_place, link_place};
-use cry_base::{List, Mem};
+use cry_base::{List, Mem, Text};
 use record_format::{CONTENT_FRAME_LEN, ContentRecord, LINK_LEN, LinkRecord};
 use std::alloc::Global;
-use std::collections::HashMap;
 use std::marker::Model;
 
 /// Links by where they begin.
-pub(crate) type Links = HashMap<Source, List<LinkAt>>;
+pub(crate) type Links = Groups<LinkAt>;
 
 /// A link, and where it stands.
 #[derive(Clone, Copy)]
@@ -61,6 +60,61 @@ impl<'a> Model for ContentAt<'a> {
     ghost view = { λ c. record { batch = c.batch; at = c.at; content = plain_content c.content.now } };
 
     ghost invariant = { λ c. IsContent (plain_content c.content.now) };
+}
+
+impl<'a> ContentAt<'a> {
+    /// The content with its bytes, and where it stands.
+    pub(crate) fn kept(&self, alloc: Global) -> Mem<KeptContent>
+        ensures { IfOk result (λ kept. kept ≡ self.now) }
+    {
+        let mut cipher = Text::new(alloc);
+        cipher.append(self.content.cipher.as_slice())?;
+        Ok(KeptContent {
+            batch: self.batch,
+            at: self.at,
+            content: ContentRecord {
+                kind: self.content.kind,
+                object: self.content.object,
+                key_serial: self.content.key_serial,
+                nonce: self.content.nonce,
+                cipher,
+                tag: self.content.tag,
+            },
+        })
+    }
+}
+
+/// A content that has the format's form, and where it stands, kept after its batch is gone.
+#[derive(Drop)]
+pub(crate) struct KeptContent {
+    batch: u32,
+    at: u64,
+    content: ContentRecord,
+}
+
+impl Model for KeptContent {
+    ghost use Rattle.holder_client.specs.Placing.{PlacedContent};
+    ghost use Rattle.record_format.specs.Plain.{plain_content};
+    ghost use Rattle.record_format.specs.Spellable.{IsContent};
+
+    ghost Value = { PlacedContent };
+
+    ghost view = { λ c. record { batch = c.batch; at = c.at; content = plain_content c.content } };
+
+    ghost invariant = { λ c. IsContent (plain_content c.content) };
+}
+
+impl KeptContent {
+    /// The content, and where it stands.
+    pub(crate) fn placed(&self) -> ContentAt<'_>
+        ensures { result ≡ self.now }
+    {
+        ContentAt {
+            batch: self.batch,
+            at: self.at,
+            content: &self.content,
+        }
+    }
 }
 
 /// Where a link begins.

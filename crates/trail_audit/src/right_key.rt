@@ -29,29 +29,11 @@ impl Model for RightKey {
 }
 
 impl RightKey {
-    /// The same key without its kind.
-    pub(crate) fn of(key: &Key<HolderK>) -> RightKey
-        ensures { result ≡ key.now }
-    {
-        RightKey {
-            id: key.id(),
-            serial: key.serial(),
-            bytes: *key.bytes(),
-        }
-    }
-
     /// Whether number, serial and bytes are the same.
     pub(crate) fn equals(&self, other: &RightKey) -> bool
         ensures { IsTrue result ↔ (self.now ≡ other.now) }
     {
         self.id == other.id && self.serial.0 == other.serial.0 && self.bytes == other.bytes
-    }
-
-    /// Whether the link says that it begins at this key.
-    pub(crate) fn begins(&self, link: &LinkRecord) -> bool
-        ensures { IsTrue result ↔ BeginsAt link.now self.now }
-    {
-        link.from_id == self.id && link.from_serial.0 == self.serial.0
     }
 
     /// What it is looked for by.
@@ -64,10 +46,27 @@ impl RightKey {
         }
     }
 
-    /// The key to open records with, for which its kind is of no account.
+    /// The key to open records with, for which its kind is of no account. Each call derives what it opens with.
     pub(crate) fn opener(&self) -> Key<HolderK>
         ensures { result ≡ self.now }
     {
         Key::holder(HolderId(self.id), self.serial, self.bytes)
+    }
+}
+
+/// Whether the link says that it begins at the key.
+pub(crate) fn begins_at(link: &LinkRecord, key: &Key<HolderK>) -> bool
+    ensures { IsTrue result ↔ BeginsAt link.now key.now }
+{
+    link.from_id == key.id() && link.from_serial.0 == key.serial().0
+}
+
+/// What a key is looked for by.
+pub(crate) fn source_of_key(key: &Key<HolderK>) -> Source
+    ensures { result ≡ key_source key.now }
+{
+    Source {
+        id: key.id(),
+        serial: key.serial().0,
     }
 }

@@ -1,4 +1,4 @@
-//! What right keys show of a log: its batches are read once more, one at a time (docs/FORMAT.md, "Reading").
+//! What right keys show of a log, of short contents that were kept and of batches that are read once more (docs/FORMAT.md, "Reading").
 ghost use Rattle.std.specs.Prelude.{◌≡◌, ◌≢◌, ◌<◌, ◌≤◌, [], Err, MatchResult, Ok, length, map};
 ghost use Rattle.cry_io.specs.Told.{WhereTold};
 ghost use Rattle.commit_journal.specs.Placed.{PlainPlaced};
@@ -20,7 +20,8 @@ use cry_io::Disk;
 use holder_client::ClientFault;
 use std::alloc::Global;
 
-/// Reads a batch once more, opens its contents, and adds what they show. Where they can show nothing, it isn't read.
+/// Reads a batch once more, opens its contents, and adds what they show. Where they can show nothing, or its content was kept, it
+/// isn't read.
 fn see_batch<D: Disk>(
     alloc: Global,
     disk: &mut D,
@@ -42,6 +43,9 @@ fn see_batch<D: Disk>(
     ensures counts { D.faults disk.old ≤ D.faults disk.new }
     ensures disk_fault { result ≡ Err ClientFault.DiskFault → D.faults disk.old < D.faults disk.new }
 {
+    if let Seals::Short(content) = seals {
+        return see_contents(alloc, &[content.placed()], known, seen);
+    }
     if !may_show(&known.groups, seals) {
         return Ok(());
     }
@@ -74,7 +78,7 @@ pub(crate) fn see_log<D: Disk>(
     let mut done = 0;
     while done < last {
         let sealed = seals_at(seals, done);
-        see_batch(alloc, disk, log, done + 1, &sealed, known, &mut seen)?;
+        see_batch(alloc, disk, log, done + 1, sealed, known, &mut seen)?;
         done += 1;
     }
     Ok(seen)

@@ -1,5 +1,5 @@
 use Rattle.std.proofs.Common.{Ok, ap, sym, ◌∙◌}
-use Rattle.std.proofs.lemmas.Result.{err_from_is_err_and}
+use Rattle.std.proofs.lemmas.Result.{IfOk-weaker, err_from_is_err_and}
 use Rattle.holder_client.specs.Judging.{read_with}
 use Rattle.holder_client.specs.Placing.{log_links}
 use Rattle.public_fold.specs.KeyStep.{KeyState}
@@ -26,3 +26,6 @@ returns-clause-no_disk c = never_of_disk c.right_keys.result (log_links c.requir
 
 pub returns-clause-seen : goal.returns-clause-seen
 returns-clause-seen c = never_unseen c.right_keys.result (log_links c.requires.kept.0) c.bundle_key-own.result (HasGroups source_of_link c.args.links) c.right_keys.ensures.fault c.requires.kept.2
+
+pub returns-clause-grouped : goal.returns-clause-grouped
+returns-clause-grouped c = IfOk-weaker c.right_keys.result _ _ (λ known grouped. grouped (log_links c.requires.kept.0) c.requires.kept.2) c.right_keys.ensures.grouped

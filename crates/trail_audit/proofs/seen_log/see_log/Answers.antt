@@ -33,7 +33,7 @@ loop-done-preserved g c =
       within = omega (arith, c.loop-done-test.true);
       shown = λ s is shows.
           seen_next given c.loop-done.done keys [] (map plain_seen c.loop-done.seen.items) (map plain_seen c.see_batch.new.seen.items) within (so.shown s is shows)
-          (c.in_ok-see_batch.ensures.answer s (so.read_only.same_bytes ∙ is) (batch_at given c.loop-done.done) (shown_again c.args.log.now s c.loop-done.done within shows) (sealed_here c.args.seals.now given c.loop-done.done c.seals_at-sealed.result Nothing c.requires.seals within c.seals_at-sealed.ensures));
+          (c.in_ok-see_batch.ensures.answer s (so.read_only.same_bytes ∙ is) (batch_at given c.loop-done.done) (shown_again c.args.log.now s c.loop-done.done within shows) (sealed_here c.args.seals.now given c.loop-done.done c.seals_at-sealed.result.now Nothing c.requires.seals within c.seals_at-sealed.ensures));
       read_only = only_read_twice g.D.Disk.shown g.D.Disk.size_of g.D.Disk.may_leave c.args.disk.now c.loop-done.disk c.see_batch.new.disk so.read_only c.in_ok-see_batch.ensures.read_only;
       counts = omega (arith, so.counts, c.in_ok-see_batch.ensures.counts);
     }
@@ -46,7 +46,7 @@ returns-in_err-see_batch-clause-answer g c = λ s is shows.
     let within : c.loop-done.done < length given = omega (arith, c.loop-done-test.true, c.requires.last) in
     rw (p.1, p.2)
     (fault_of_batch given c.loop-done.done c.args.known.now.keys.items c.in_err-see_batch.field-0.0 within
-    (c.in_err-see_batch.ensures.answer s (so.read_only.same_bytes ∙ is) (batch_at given c.loop-done.done) (shown_again c.args.log.now s c.loop-done.done within shows) (sealed_here c.args.seals.now given c.loop-done.done c.seals_at-sealed.result Nothing c.requires.seals within c.seals_at-sealed.ensures)))
+    (c.in_err-see_batch.ensures.answer s (so.read_only.same_bytes ∙ is) (batch_at given c.loop-done.done) (shown_again c.args.log.now s c.loop-done.done within shows) (sealed_here c.args.seals.now given c.loop-done.done c.seals_at-sealed.result.now Nothing c.requires.seals within c.seals_at-sealed.ensures)))
 
 pub returns-in_err-see_batch-clause-read_only : goal.returns-in_err-see_batch-clause-read_only
 returns-in_err-see_batch-clause-read_only g c =

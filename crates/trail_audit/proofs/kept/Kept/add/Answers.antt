@@ -19,6 +19,6 @@ returns c = λ log kept epochs batch.
     record {
       read = c.in_ok-add.ensures log kept.read epochs batch;
       links = subst (HasGroups source_of_link c.add_links_of.new.found) (parts_added (λ (b : PlainPlaced). body_links b.batch b.place b.body) log p) (c.in_ok-add_links_of.ensures (log_links log) kept.links);
-      seals = subst (λ (s : List Seals). AreSealsOf s (log ++ p ∷ [])) (sym c.in_ok-push.ensures.items) (seals_added c.args.self.now.seals.items log _ p kept.seals (subst (AreSeals c.seals_of.result) (c.as_slice.ensures ∙ c.in_ok-contents.ensures) c.seals_of.ensures));
+      seals = subst (λ (s : List Seals). AreSealsOf s (log ++ p ∷ [])) (sym c.in_ok-push.ensures.items) (seals_added c.args.self.now.seals.items log _ p kept.seals (subst (AreSeals c.in_ok-seals.seals) (c.as_slice.ensures ∙ c.in_ok-contents.ensures) c.in_ok-seals.ensures));
       last = batch ∙ sym (length-append log (p ∷ []));
     }
