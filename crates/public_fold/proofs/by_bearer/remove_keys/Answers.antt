@@ -1,4 +1,4 @@
-use Rattle.std.proofs.Common.{◌+◌, ap, sym, ◌∙◌, arith, cond, None}
+use Rattle.std.proofs.Common.{ap, sym, ◌∙◌, arith, cond, None}
 use Rattle.cry_base.specs.Sets.{has}
 use Rattle.role_graph.specs.Roles.{same_role}
 use Rattle.public_fold.proofs.KeyTabled.{gone_all, gone_more, newest-left}

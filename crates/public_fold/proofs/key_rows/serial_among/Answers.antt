@@ -1,4 +1,4 @@
-use Rattle.std.proofs.Common.{◌≡◌, ℕ, Some, ap, ◌∙◌}
+use Rattle.std.proofs.Common.{ℕ, Some, ap, ◌∙◌}
 use Rattle.std.specs.Option.{option_map}
 use Rattle.cry_base.specs.declared.roles.Role.{Role}
 use Rattle.sorted_table.specs.Rows.{row_at}

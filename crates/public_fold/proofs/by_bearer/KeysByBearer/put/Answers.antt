@@ -1,8 +1,7 @@
-use Rattle.std.proofs.Common.{◌≡◌, ℕ, ◌⊎◌, inl, inr, refl, sym, ap, subst, cond, min, Some, None, ◌∙◌}
+use Rattle.std.proofs.Common.{◌≡◌, ℕ, ◌⊎◌, inl, inr, refl, sym, ap, subst, cond, min, Some, ◌∙◌}
 use Rattle.cry_base.specs.declared.roles.Role.{Role}
 use Rattle.role_graph.specs.Roles.{same_role}
 use Rattle.public_fold.specs.KeyTables.{KeyRows, bearer_of, rows_for, serial_in}
-use Rattle.public_fold.specs.declared.bearers.Bearer.{Bearer}
 use Rattle.public_fold.specs.declared.bearers.Bearer.TheVariants.{OfHolders, OfFolders, OfFiles}
 use Rattle.public_fold.proofs.KeyTabled.{put_in}
 use Rattle.public_fold.proofs.by_bearer.KeysByBearer.put.Goals as goal

@@ -1,8 +1,7 @@
-use Rattle.std.proofs.Common.{◌≡◌, ℕ, ◌⊎◌, inl, inr, refl, sym, ap, subst, cond, min, Some, None, ◌∙◌}
+use Rattle.std.proofs.Common.{◌≡◌, ◌⊎◌, inl, inr, refl, sym, subst, cond, min, None, ◌∙◌}
 use Rattle.cry_base.specs.declared.roles.Role.{Role}
 use Rattle.role_graph.specs.Roles.{same_role}
-use Rattle.public_fold.specs.KeyTables.{KeyRows, bearer_of, rows_for, serial_in}
-use Rattle.public_fold.specs.declared.bearers.Bearer.{Bearer}
+use Rattle.public_fold.specs.KeyTables.{KeyRows, rows_for, serial_in}
 use Rattle.public_fold.specs.declared.bearers.Bearer.TheVariants.{OfHolders, OfFolders, OfFiles}
 use Rattle.public_fold.proofs.KeyTabled.{gone_from}
 use Rattle.public_fold.proofs.by_bearer.KeysByBearer.remove.Goals as goal

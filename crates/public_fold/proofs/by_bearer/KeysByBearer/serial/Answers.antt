@@ -1,5 +1,5 @@
-use Rattle.std.proofs.Common.{◌≡◌, ap, sym, ◌∙◌}
-use Rattle.public_fold.specs.KeyTables.{KeyRows, bearer_of, rows_for, serial_at, serial_in}
+use Rattle.std.proofs.Common.{ap, sym, ◌∙◌}
+use Rattle.public_fold.specs.KeyTables.{KeyRows, rows_for, serial_at, serial_in}
 use Rattle.public_fold.specs.declared.bearers.Bearer.TheVariants.{OfHolders, OfFolders, OfFiles}
 use Rattle.public_fold.proofs.by_bearer.KeysByBearer.serial.Goals as goal
 
