@@ -1,5 +1,5 @@
--- Marks and plans hang on which edges there are, and not on their order.
-use Rattle.std.proofs.Common.{◌≡◌, ◌==◌, true, List, [], ◌∷◌, length, inl, inr, ⊎_elim, refl, arith, ap, ◌∙◌}
+-- Plans hang on which edges there are, and not on their order.
+use Rattle.std.proofs.Common.{◌≡◌, ◌==◌, true, List, [], ◌∷◌, length, arith}
 use Rattle.std.proofs.lemmas.Bool.{eqb-true}
 use Rattle.cry_base.specs.Sets.{In, Path}
 use Rattle.cry_base.specs.Sets.Path.{Here, On}
@@ -8,9 +8,9 @@ use Rattle.cry_base.specs.declared.roles.Role.{Role}
 use Rattle.cry_base.proofs.Members.{In-map}
 use Rattle.role_graph.specs.Edges.{Reaches, pairs_of}
 use Rattle.role_graph.proofs.Rising.{same_list}
-use Rattle.rekey_walk.specs.Dirty.{mark, mark_all, plan}
-use Rattle.rekey_walk.proofs.Marking.{mark_told, plan_told}
-use Rattle.rekey_walk.proofs.Planning.{mark_ascends, plan_ascends}
+use Rattle.rekey_walk.specs.Dirty.{plan}
+use Rattle.rekey_walk.proofs.Marking.{plan_told}
+use Rattle.rekey_walk.proofs.Planning.{plan_ascends}
 
 wider : {X : Type 0} {pairs more : List (X × X)} {a c : X} → ((p : X × X) → In p pairs → In p more) → Path pairs a c → Path more a c
 wider all Here = Here
@@ -25,24 +25,10 @@ pairs_kept es fs all p i =
 pub reaches_kept : (es fs : List Edge) → ((e : Edge) → In e es → In e fs) → (a b : Role) → Reaches es a b → Reaches fs a b
 reaches_kept es fs all a b way = wider (pairs_kept es fs all) way
 
-marks_kept : (dirty : List Role) (es fs : List Edge) (target : Role) → ((e : Edge) → In e es → In e fs) → (r : Role) → In r (mark dirty es target) → In r (mark dirty fs target)
-marks_kept dirty es fs target all r i = (mark_told dirty fs target r).1
-    (⊎_elim (λ d. inl d) (λ way. inr (reaches_kept es fs all target r way)) ((mark_told dirty es target r).0 i))
-
 plans_kept : (dirty : List Role) (es fs : List Edge) (wanted : List Role) → ((e : Edge) → In e es → In e fs) → (r : Role) → In r (plan dirty es wanted) → In r (plan dirty fs wanted)
 plans_kept dirty es fs wanted all r i =
     let told = (plan_told dirty es wanted r).0 i in
     (plan_told dirty fs wanted r).1 (told.0, (told.1.0, told.1.1, reaches_kept es fs all r told.1.0 told.1.2))
-
-mark_same : (dirty : List Role) (es fs : List Edge) (target : Role) → ((e : Edge) → In e es → In e fs) → ((e : Edge) → In e fs → In e es) → mark dirty es target ≡ mark dirty fs target
-mark_same dirty es fs target all back = same_list (mark dirty es target) (mark dirty fs target) (mark_ascends dirty es target) (mark_ascends dirty fs target)
-    (marks_kept dirty es fs target all) (marks_kept dirty fs es target back)
-
-pub mark_all_same : (dirty : List Role) (es fs : List Edge) (targets : List Role) → ((e : Edge) → In e es → In e fs) → ((e : Edge) → In e fs → In e es) → mark_all dirty es targets ≡ mark_all dirty fs targets
-unfolding mark_all
-mark_all_same dirty es fs [] all back = refl
-mark_all_same dirty es fs (target ∷ targets) all back =
-    ap (λ d. mark_all d es targets) (mark_same dirty es fs target all back) ∙ mark_all_same (mark dirty fs target) es fs targets all back
 
 pub plan_same : (dirty : List Role) (es fs : List Edge) (wanted : List Role) → ((e : Edge) → In e es → In e fs) → ((e : Edge) → In e fs → In e es) → plan dirty es wanted ≡ plan dirty fs wanted
 plan_same dirty es fs wanted all back = same_list (plan dirty es wanted) (plan dirty fs wanted) (plan_ascends dirty es wanted) (plan_ascends dirty fs wanted)
