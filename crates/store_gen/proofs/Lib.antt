@@ -7,4 +7,5 @@ pub mod Lines
 pub mod Newlines
 pub mod Opening
 pub mod Refused
+pub mod ScriptLengths
 pub mod Stood
