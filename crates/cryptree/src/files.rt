@@ -20,7 +20,7 @@ impl Access {
     /// `None` where the words name no store.
     pub(crate) fn of(form: Form) -> Option<Access> {
         match form {
-            Form::Make => Some(Access::Make),
+            Form::Make | Form::Gen { .. } => Some(Access::Make),
             Form::Run => Some(Access::Write),
             Form::List | Form::Open | Form::Audit => Some(Access::Read),
             Form::Help | Form::Version => None,

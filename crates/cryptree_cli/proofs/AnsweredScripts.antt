@@ -19,8 +19,9 @@ use Rattle.store_owner.specs.Drawing.{AreKeys, joined}
 use Rattle.store_owner.specs.Sessions.{AnswersBehind, GoesOn, StandsAt, with_draws}
 use Rattle.store_owner.specs.Stopping.{RestsAt}
 use Rattle.store_owner.specs.Taking.{TakesKeys}
+use Rattle.store_owner.specs.Tallied.{counted_in}
 use Rattle.store_owner.proofs.OwnerGoesOn.{drops_more}
-use Rattle.store_owner.proofs.Scripted.{answered}
+use Rattle.store_owner.proofs.Scripted.{answered_counting}
 use Rattle.store_owner.proofs.Taken.{takes_more, takes_none}
 
 -- one command more at the end of a script
@@ -131,12 +132,13 @@ module _ (X : Type 0) (scene : X → Scene) (leaves : X → List ℕ → Type 0)
       (omega (arith, so_far.0, one.later), goes_on_then (scene start).moment (scene x).moment (since start) (since x) (since y) so_far.0 so_far.1 one.time)
 
   -- the session goes so, and stands where the owner does; what stands behind the log stays, and all that is shown where the journal grew
-  -- no longer; and the disk rests there, if it rested at the start
+  -- no longer; the disk rests there, if it rested at the start; and the owner counted all of its journal, if so it was at the start
   pub answered_script : (limits : Limits) (key : List ℕ) (g : Going) → IsScene limits key g (scene start) → IsNow → RestsAt key g.journal (scene start).shown (leaves start)
       → (asked : List Request) (given : List Reply) (end : X)
       → Answered Step start asked given end → (h : Going) × Goes limits g asked given h (scene start).left (scene end).left × IsScene limits key h (scene end)
       × AnswersBehind g h (scene start).owner (scene end).owner (scene start).shown (scene end).shown
       × Stays key g.journal h.journal (scene start).moment (scene end).moment (scene end).shown (leaves end) (since end)
+      × ((scene start).owner.tally ≡ counted_in g.journal → (scene end).owner.tally ≡ counted_in h.journal)
   answered_script limits key g stands now rests asked given end Begun = (
     g,
     goes_nowhere limits g (scene start).left,
@@ -148,6 +150,7 @@ module _ (X : Type 0) (scene : X → Scene) (leaves : X → List ℕ → Type 0)
       unchanged = inl refl;
     },
     stays_begun key g.journal (scene start).moment (scene start).shown (leaves start) (since start) now rests,
+    λ all. all,
   )
   answered_script limits key g stands now rests asked given end (Then {asked = rs} {replies = told} {x = x} {y = y} {request = r} {reply = reply} before step) =
       let so_far = answered_script limits key g stands now rests rs told x before in
@@ -155,7 +158,7 @@ module _ (X : Type 0) (scene : X → Scene) (leaves : X → List ℕ → Type 0)
       let there = so_far.2 in
       let tail = so_far.3 in
       let one = is x r reply y step in
-      let more = answered limits key h r reply (scene x).owner (scene y).owner (scene x).left (scene y).left (scene x).shown (scene y).shown
+      let more = answered_counting limits key h r reply (scene x).owner (scene y).owner (scene x).left (scene y).left (scene x).shown (scene y).shown
       (leaves x) (leaves y) (since y (scene x).moment) there (one.answers h.journal there.owner_is) one.shown_told one.kept in
       let next = more.3 in (
         more.0,
@@ -172,4 +175,5 @@ module _ (X : Type 0) (scene : X → Scene) (leaves : X → List ℕ → Type 0)
         },
         stays_on key g.journal h.journal more.0.journal (scene start).moment (scene x).moment (scene y).moment (scene x).shown (scene y).shown (leaves x) (leaves y) (since x) (since y)
             so_far.4 (goes_grow limits h more.0 r (joined more.1.drawn ++ []) [] (more.1.goes [])) more.4 one.later one.time,
+        λ all. more.5 one.counted (so_far.5 all),
       )

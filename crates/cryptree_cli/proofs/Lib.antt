@@ -3,6 +3,9 @@ pub mod AuditAnswers
 pub mod ChangedAnswers
 pub mod EndsMapped
 pub mod FaultedRuns
+pub mod GeneratedLines
+pub mod GeneratedRuns
+pub mod GenerateLemmas
 pub mod InputLemmas
 pub mod JournalAnswers
 pub mod LineLemmas
@@ -16,5 +19,6 @@ pub mod RunEnds
 pub mod RunLemmas
 pub mod RunOpening
 pub mod ScriptLemmas
+pub mod SpelledNumbers
 pub mod StopLemmas
 pub mod Takings

@@ -27,7 +27,7 @@ unfolding journal_bytes
 fresh_is drawn = refl
 
 -- so it stands for it, with each slot filled
-fresh_stands : (drawn : List ℕ) (o : OwnerView) → IsOwnerOf (making.made_with (making.root_keys drawn)) o → o.key ≡ piece drawn 0 → (s : List ℕ) → s ≡ fresh_image drawn
+pub fresh_stands : (drawn : List ℕ) (o : OwnerView) → IsOwnerOf (making.made_with (making.root_keys drawn)) o → o.key ≡ piece drawn 0 → (s : List ℕ) → s ≡ fresh_image drawn
     → StandsWholeForJournal (piece drawn 0) (making.made_with (making.root_keys drawn)) s
 unfolding image_of
 fresh_stands drawn o is same s fresh = record {

@@ -15,10 +15,11 @@ use Rattle.cry_io.proofs.ToldLemmas.{both_told_through}
 use Rattle.journal_bytes.specs.Bytes.{batches_of, image_of}
 use Rattle.journal_bytes.specs.Script.{Going, answer, draws_of, journal_then, opened}
 use Rattle.script_text.specs.Commands.{request_in}
+use Rattle.cryptree_cli.specs.Generating.{HasApplied, IsStop, StopsApplying}
 use Rattle.cryptree_cli.specs.Lines.{InputLine, LineState, lines_ahead}
 use Rattle.cryptree_cli.specs.Lines.InputLine.{Whole}
 use Rattle.cryptree_cli.specs.OwnerSteps.{AnswersIn, FailsIn, Scene}
-use Rattle.cryptree_cli.specs.Running.{Ends, HasRun, KeepsBehind, KeepsFrom, LeavesAt, PrintsThese, RanCut, RanShort, RanTo, RanUndrawn, RanUnwritten, Seen, SessionOver, ended_status}
+use Rattle.cryptree_cli.specs.Running.{Ends, HasRun, KeepsBehind, KeepsFrom, LeavesAt, PrintsThese, RanCut, RanShort, RanTo, RanUndrawn, RanUnwritten, Seen, SessionOver, ended_status, script_status}
 use Rattle.cryptree_cli.specs.Script.{Answered, Asks, IsBadFirst, PrintsCut, Ran, spell_replies}
 use Rattle.cryptree_cli.specs.Stopping.{LinesKeepUpTo}
 use Rattle.cryptree_cli.specs.declared.script.ScriptFault.{ScriptFault}
@@ -32,7 +33,8 @@ use Rattle.store_owner.proofs.OwnerGoesOn.{drops_more}
 use Rattle.store_owner.specs.Stopping.{ComesToRest, RestsAt, StopsBetween}
 use Rattle.store_owner.specs.Applying.{Answers}
 use Rattle.store_owner.specs.Drawing.{joined}
-use Rattle.store_owner.specs.Owned.{limits_in}
+use Rattle.store_owner.specs.Owned.{IsOwnerOf, OwnerView, limits_in}
+use Rattle.store_owner.specs.Tallied.{counted_in, tally_in, tally_of}
 use Rattle.store_owner.specs.declared.apply_fault.ApplyFault.{ApplyFault}
 use Rattle.store_owner.specs.declared.apply_fault.ApplyFault.TheVariants as faults
 
@@ -79,6 +81,10 @@ asks_fewer asked next before after asks =
         asked_are = split.3;
       },
     )
+
+-- the figures of an owner who counted all of a journal are the journal's
+abbrev pub TallyTold : Type 0
+TallyTold = (m : Journal) (o : OwnerView) → IsOwnerOf m o → o.tally ≡ counted_in m → tally_in o ≡ tally_of m
 
 -- a stop leaves what is shown, unless the last command met a fault of the disk
 abbrev pub IsCalm : (List ℕ → Type 0) → Option (List ℕ) → Result (Unit {0}) ScriptFault → Type 0
@@ -128,6 +134,7 @@ module _ (X : Type 0) (scene : X → Scene) (leaves : X → List ℕ → Type 0)
     pub keeps : KeepsBehind key m session.now first_shown (scene x).shown
     pub left_told : is_some (scene x).left ≡ is_some (scene start).left
     pub stays : StaysAt session.now x
+    pub counted : (scene start).owner.tally ≡ counted_in m → (scene x).owner.tally ≡ counted_in session.now
 
   stands_there : (asked : List Request) (given : List Reply) (x : X) → Answered Step start asked given x → StandsThere asked given x
   unfolding opened
@@ -168,6 +175,7 @@ module _ (X : Type 0) (scene : X → Scene) (leaves : X → List ℕ → Type 0)
         };
         left_told = (told_stays X scene leaves since Step is start asked given x answered).0;
         stays = went.4;
+        counted = went.5;
       }
 
   leaves_settled : (asked : List Request) (given : List Reply) (s : StandsThere asked given end) → Calm → LeavesAt key m s.session.now ended (leaves end)
@@ -426,3 +434,34 @@ module _ (X : Type 0) (scene : X → Scene) (leaves : X → List ℕ → Type 0)
   ends_as (Err (Applying faults.DiskFault)) ran first calm = inr (ran_unwritten ran)
   ends_as (Err (Applying faults.Closed)) ran first calm = absurd (never_closed ran)
   ends_as (Err (Applying faults.OutOfMemory)) ran first calm = inr (ran_without ran calm)
+
+  -- all lines were answered, and the owner's figures are those of the journal, if it had counted all of m
+  pub applies_all : TallyTold → HasRan (Ok tt) → Calm → (scene start).owner.tally ≡ counted_in m
+      → (asked : List Request) × Asks asked (lines_ahead old b) [] × HasApplied limits key m asked (scene end).owner ended (leaves end) KeepsTo
+  applies_all told ran calm all =
+      let s = stands_there ran.asked ran.replies end ran.stands in
+      let owner_is : IsOwnerOf s.session.now (scene end).owner = subst (λ (j : Journal). IsOwnerOf j (scene end).owner) (sym s.same_now) s.there.owner_is in (
+        ran.asked,
+        (ran.lines b a was now).0,
+        record {
+          session = s.session;
+          draws = s.drew;
+          leaves = leaves_settled ran.asked ran.replies s calm;
+          kept = kept_to ran.asked ran.replies s;
+          same_key = s.there.has_key;
+          figures = told s.session.now (scene end).owner owner_is (s.counted all);
+        },
+      )
+
+  -- or they stopped, where neither the input nor the output failed and no line was bad
+  pub stops_as : (fault : ScriptFault) → IsStop (script_status fault) → HasRan (Err fault) → IsCalm (leaves end) (scene end).shown (Err fault)
+      → StopsApplying (script_status fault) limits key m (lines_ahead old b) ended (leaves end) KeepsTo
+  stops_as (BadLine line) stop ran calm = absurd stop
+  stops_as ReadFault stop ran calm = absurd stop
+  stops_as WriteFault stop ran calm = absurd stop
+  stops_as OutOfMemory stop ran calm = ran_out ran calm
+  stops_as (Applying faults.RandomFault) stop ran calm = ran_undrawn ran calm
+  stops_as (Applying (faults.RandomShort given need)) stop ran calm = ran_short given need ran calm
+  stops_as (Applying faults.DiskFault) stop ran calm = ran_unwritten ran
+  stops_as (Applying faults.Closed) stop ran calm = absurd (never_closed ran)
+  stops_as (Applying faults.OutOfMemory) stop ran calm = ran_without ran calm

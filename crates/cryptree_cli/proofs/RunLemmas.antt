@@ -30,7 +30,7 @@ use Rattle.store_owner.specs.declared.apply_fault.ApplyFault.{ApplyFault}
 use Rattle.store_owner.specs.declared.apply_fault.ApplyFault.TheVariants as faults
 
 -- an owner and a disk that stand where a session over m begins
-rests_there : (limits : Limits) (key : List ℕ) (m : Journal) (o : OwnerView) (shown : Option (List ℕ)) (may_leave : List ℕ → Type 0) → StandsAt limits key (opened m []) o shown
+pub rests_there : (limits : Limits) (key : List ℕ) (m : Journal) (o : OwnerView) (shown : Option (List ℕ)) (may_leave : List ℕ → Type 0) → StandsAt limits key (opened m []) o shown
     → IsDurable may_leave shown → RestsAt key m shown may_leave
 unfolding opened
 rests_there limits key m o shown may_leave stands durable =

@@ -1,4 +1,6 @@
 pub mod Changed
+pub mod Figures
+pub mod Generating
 pub mod Input
 pub mod Journals
 pub mod KeyLine

@@ -8,6 +8,7 @@ use Rattle.cry_base.specs.declared.commands.Reply.TheVariants.{Refused}
 use Rattle.public_fold.specs.Journal.{Journal}
 use Rattle.store_owner.specs.Applying.{Answers}
 use Rattle.store_owner.specs.Owned.{IsOwnerOf, OwnerView}
+use Rattle.store_owner.specs.Tallied.{CountsCommand}
 use Rattle.store_owner.specs.Taking.{FallsShort, TakesKeys}
 use Rattle.store_owner.specs.declared.apply_fault.ApplyFault.{ApplyFault}
 use Rattle.store_owner.specs.declared.apply_fault.ApplyFault.TheVariants as faults
@@ -22,7 +23,7 @@ pub record Scene : Type 0 where
   pub disk_faults : ℕ
 
 -- a command that is answered: as the journal says for which the owner stands, with what a stop might leave before, at each moment since,
--- and after; it takes whole keys, and a refused one draws and writes nothing
+-- and after; it takes whole keys, and a refused one draws and writes nothing; and one that is accepted is counted
 pub record AnswersIn (before : Scene) (request : Request) (reply : Reply) (after : Scene) (might may : List ℕ → Type 0)
     (past since : ℕ → List ℕ → List ℕ → Type 0) : Type 0 where
   pub answers : (m : Journal) → IsOwnerOf m before.owner
@@ -34,6 +35,7 @@ pub record AnswersIn (before : Scene) (request : Request) (reply : Reply) (after
   pub shown_told : is_some after.shown ≡ is_some before.shown
   pub draws : TakesKeys before.left after.left
   pub kept : (why : Refusal) → reply ≡ Refused why → (after.left ≡ before.left) × (after.shown ≡ before.shown)
+  pub counted : CountsCommand (Ok reply) request before.owner after.owner
   pub random_counts : before.random_faults ≤ after.random_faults
   pub disk_counts : before.disk_faults ≤ after.disk_faults
 

@@ -1,9 +1,11 @@
 -- The words that the program takes. This project's own, docs/FORMAT.md, "The program".
-use Rattle.std.specs.Prelude.{ℕ, List, [], ◌∷◌, Bool, Option, Some, None, codes, if◌then◌else◌, nat_eq}
+use Rattle.std.specs.Prelude.{◌≡◌, ◌<◌, ◌≤◌, ◌^◌, ◌&&◌, nat_le, nat_lt, ℕ, List, [], ◌∷◌, Bool, Option, Some, None, codes, decimal}
+use Rattle.std.specs.Prelude.{if◌then◌else◌, nat_eq, option_and_then, option_map}
 use Rattle.std.specs.Cmp.Lexicographic.{pointwise}
+use Rattle.std.specs.Str.Parse.{digits_value}
 use Rattle.cry_base.specs.Listed.{Listed}
 use Rattle.cryptree_cli.specs.declared.words.Form.{Form}
-use Rattle.cryptree_cli.specs.declared.words.Form.TheVariants.{Make, Run, Open, Audit, Help, Version}
+use Rattle.cryptree_cli.specs.declared.words.Form.TheVariants.{Make, Run, Open, Audit, Gen, Help, Version}
 use Rattle.cryptree_cli.specs.declared.words.Form.TheVariants as forms
 
 -- the word is spelled by these bytes
@@ -27,11 +29,41 @@ command_form word =
 abbrev pub path_command_form : Listed ℕ → Option Form
 path_command_form word = if is_word word (codes "open") then Some Open else None
 
+-- the word spells this number in decimal digits, without a sign or leading zeros
+pub record IsNumber (word : List ℕ) (number : ℕ) : Type 0 where
+  pub spelled : word ≡ decimal number
+  pub fits : number < 2 ^ 64
+
+-- the number that a word spells
+unfoldable pub number_of : List ℕ → Option ℕ
+number_of word =
+    let number = digits_value 10 word in
+    if pointwise nat_eq (decimal number) word && nat_lt number (2 ^ 64) then Some number else None
+
+-- so is a count of lines, up to 50,000
+abbrev pub few_lines : ℕ → Option ℕ
+few_lines count = if nat_le count 50000 then Some count else None
+
+unfoldable pub count_of : List ℕ → Option ℕ
+count_of word = option_and_then few_lines (number_of word)
+
+-- STORE RANDOM COMMAND NUMBER COUNT
+unfoldable pub script_form : Listed ℕ → Listed ℕ → Listed ℕ → Option Form
+script_form word number count =
+    if is_word word (codes "gen")
+    then option_and_then (λ seed. option_map (Gen seed) (count_of count.items)) (number_of number.items) else None
+
+-- a form that asks for lines asks for no more than the most
+abbrev pub HasFewLines : Form → Type 0
+HasFewLines (Gen seed count) = count ≤ 50000
+HasFewLines form = Unit {0}
+
 -- the form that the words are of, and none where they are of no form that is built
 abbrev pub form_of_words : List (Listed ℕ) → Option Form
 form_of_words (only ∷ []) = option_form only
 form_of_words (store ∷ random ∷ command ∷ []) = command_form command
 form_of_words (store ∷ random ∷ command ∷ path ∷ []) = path_command_form command
+form_of_words (store ∷ random ∷ command ∷ number ∷ count ∷ []) = script_form command number count
 form_of_words _ = None
 
 -- the path that they name

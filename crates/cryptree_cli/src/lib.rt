@@ -3,17 +3,22 @@
 
 mod answering;
 mod audit;
+mod figures;
+mod generating;
 mod input;
 mod key_line;
 mod lines;
 mod list;
 mod make;
+mod numbers;
 mod open;
 mod outside;
 mod owner_steps;
 mod piece;
 mod run;
 mod script;
+mod script_source;
+mod silent;
 pub mod status;
 mod texts;
 pub mod top;

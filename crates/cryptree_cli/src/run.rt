@@ -170,7 +170,7 @@ fn apply_lines<S: Source, R: Source, D: Disk, W: Sink>(
     }
 }
 
-fn script_status(fault: ScriptFault) -> Status
+pub(crate) fn script_status(fault: ScriptFault) -> Status
     ensures { result ≡ running.script_status fault }
 {
     match fault {

@@ -12,6 +12,8 @@ cryptree keeps shared folders in one store file, on a disk that nobody has to tr
                                     prints it, or a holder's, as run answers holder
   cryptree STORE RANDOM open PATH   print the one line of it that has this path
   cryptree STORE RANDOM audit       print every name and file that a key leads to, old ones too, with the batch that wrote it
+  cryptree STORE RANDOM gen N COUNT make a store as make does, apply the script of the number N to it, with COUNT lines behind its opening,
+                                    and print its owner's key and its figures: the same script for everybody, to measure with
   cryptree --help                   print this text
   cryptree --version                print the version
 

@@ -4,6 +4,7 @@ ghost use Rattle.commit_journal.specs.Holding.{GoesOn};
 ghost use Rattle.cry_io.specs.Stops.{IsDurable};
 ghost use Rattle.cry_io.specs.Told.{WhereTold, WhereBothTold};
 ghost use Rattle.cryptree_cli.specs.Changed.{AreLinesOf, AreSightsOf, PrintsWritten};
+ghost use Rattle.cryptree_cli.specs.Generating.{AsksGen, EndsDry, Generates, IsGen, IsUnmade};
 ghost use Rattle.cryptree_cli.specs.Journals.{AnswersJournal, AuditsJournal, line_of, view_of};
 ghost use Rattle.cryptree_cli.specs.Listing.{AuditAnswers, ListAnswers, OpenAnswers, Reads, is_before_read, is_list_answer, is_open_answer};
 ghost use Rattle.cryptree_cli.specs.Refusing.{Refuses, is_refusal};
@@ -16,6 +17,7 @@ ghost use Rattle.cryptree_cli.specs.Top.{EndsShort, text_of};
 ghost use Rattle.cryptree_cli.specs.Words.{form_of_words, path_in_words};
 
 use crate::audit::audit;
+use crate::generating::generate_store;
 use crate::list::list;
 use crate::make::make;
 use crate::open::open;
@@ -32,8 +34,9 @@ use std::alloc::Global;
 /// the store's file, `random` a source of random bytes, `out` standard output, `input` standard input.
 ///
 /// Where two causes of an answer hold, the one met first is given; for `make`: words, size, memory, draw, disk, output; for
-/// `run`: words, the first line, the store, and then for each line its form, memory, draw, disk, output; for `list`, `open` and
-/// `audit`: words, the input, the store, output. Want of memory comes at its place in this order, and no clause says when.
+/// `gen` the same, and before the output for each line of the script memory, draw, disk; for `run`: words, the first line, the store,
+/// and then for each line its form, memory, draw, disk, output; for `list`, `open` and `audit`: words, the input, the store, output.
+/// Want of memory comes at its place in this order, and no clause says when.
 pub fn top<S: Source, R: Source, D: Disk, W: Sink>(
     alloc: Global,
     words: &List<Text>,
@@ -48,12 +51,15 @@ pub fn top<S: Source, R: Source, D: Disk, W: Sink>(
     ensures list_answers { IsList words.now.items → IsTrue (is_list_answer result) }
     ensures open_answers { IsOpen words.now.items → IsTrue (is_open_answer result) }
     ensures audit_answers { IsAudit words.now.items → IsTrue (is_list_answer result) }
-    ensures not_blank { (result ≡ Status.NotBlank) ↔ (IsMake words.now.items × (D.size_of disk.old ≢ 0)) }
+    ensures gen_answers { IsGen words.now.items → IsTrue (is_make_answer result) }
+    ensures not_blank { (result ≡ Status.NotBlank) ↔ ((IsMake words.now.items ⊎ IsGen words.now.items) × (D.size_of disk.old ≢ 0)) }
     ensures run_answers { IsRun words.now.items → IsTrue (is_run_answer result) }
     ensures short { IsMake words.now.items → (left need : ℕ) → result ≡ Status.RandomShort left need →
         IsShort left need (R.left random.old) (R.left random.new) }
     ensures short_only { IsMake words.now.items → D.size_of disk.old ≡ 0 →
         WhereTold (R.left random.old) (EndsShort result) }
+    ensures gen_short { IsGen words.now.items → (left need : ℕ) → result ≡ Status.RandomShort left need →
+        EndsDry left need (R.left random.old) (R.left random.new) }
     ensures read_fault { result ≡ Status.ReadFault → S.faults input.old < S.faults input.new }
     ensures random_fault { result ≡ Status.RandomFault → R.faults random.old < R.faults random.new }
     ensures disk_fault { result ≡ Status.DiskFault → D.faults disk.old < D.faults disk.new }
@@ -72,6 +78,24 @@ pub fn top<S: Source, R: Source, D: Disk, W: Sink>(
         (R.left random.old) (R.left random.new) (D.shown disk.new) (D.may_leave disk.new) (W.written out.old) (W.written out.new) }
     ensures stays { IsMake words.now.items → (result ≡ Status.Done) ⊎ (result ≡ Status.WriteFault) →
         IsDurable (D.may_leave disk.new) (D.shown disk.new) × (D.size_of disk.new ≡ 819) }
+
+    // So is `gen`, where the random source didn't end.
+    ensures gen_complete { IsGen words.now.items → D.size_of disk.old ≡ 0 → ((left need : ℕ) → result ≢ Status.RandomShort left need) →
+        R.faults random.new ≤ R.faults random.old → D.faults disk.new ≤ D.faults disk.old →
+        W.faults out.new ≤ W.faults out.old → (result ≡ Status.Done) ⊎ (result ≡ Status.OutOfMemory) }
+
+    // What `gen` does on an empty disk: no store is made, or one stands as `make` leaves it, and from then on a session over its journal
+    // goes through the script of the number, as `run` goes through lines, whatever ends it. At Done all of the script was asked, the disk
+    // is settled at the session's journal, and the owner's line and this journal's figures were printed in one piece; at a write fault
+    // a front of it. Whatever the disk was, nothing is pending on it behind the call but where it was a fault of the disk that ended
+    // it, or where the call changed nothing.
+    ensures generates { (seed count : ℕ) → AsksGen words.now.items seed count → D.size_of disk.old ≡ 0
+        → IsUnmade R.left result random.old random.new disk.old disk.new
+        ⊎ WhereTold (D.shown disk.new) (λ s. Generates result seed count (R.left random.old) (R.left random.new) (D.shown disk.new)
+        (D.may_leave disk.new) (D.since disk.new) (W.written out.old) (W.written out.new)) }
+    ensures gen_calm { IsGen words.now.items → result ≢ Status.DiskFault
+        → (disk.new ≡ disk.old) ⊎ IsDurable (D.may_leave disk.new) (D.shown disk.new) }
+    ensures gen_blank { IsGen words.now.items → result ≡ Status.NotBlank → (random.new ≡ random.old) × (disk.new ≡ disk.old) }
 
     // What `run` does: it opens the store with the key that the first line hands in, and answers each command before the next
     // is read. Whatever the disk shows: line 1 is bad where it hands in no key, and there alone; the lines behind it are answered
@@ -151,8 +175,9 @@ pub fn top<S: Source, R: Source, D: Disk, W: Sink>(
 
     // What an answer leaves as it was.
     ensures input_kept { IsReader words.now.items ⊎ (IsRun words.now.items ⊎ (input.new ≡ input.old)) }
-    ensures random_kept { IsTrue (is_before_draw result) → IsRun words.now.items ⊎ (random.new ≡ random.old) }
-    ensures disk_kept { IsTrue (is_before_write result) → IsReader words.now.items ⊎ (IsRun words.now.items ⊎ (disk.new ≡ disk.old)) }
+    ensures random_kept { IsTrue (is_before_draw result) → (IsRun words.now.items ⊎ IsGen words.now.items) ⊎ (random.new ≡ random.old) }
+    ensures disk_kept { IsTrue (is_before_write result)
+        → IsReader words.now.items ⊎ ((IsRun words.now.items ⊎ IsGen words.now.items) ⊎ (disk.new ≡ disk.old)) }
     ensures disk_unread { IsTrue (is_before_read result) → IsRun words.now.items ⊎ (disk.new ≡ disk.old) }
     ensures out_kept { IsTrue (is_before_print result) → IsRun words.now.items ⊎ (out.new ≡ out.old) }
 
@@ -169,6 +194,7 @@ pub fn top<S: Source, R: Source, D: Disk, W: Sink>(
     match form_of(words) {
         None => Status::Usage,
         Some(Form::Make) => make(alloc, random, disk, out),
+        Some(Form::Gen { seed, count }) => generate_store(alloc, seed, count, random, disk, out),
         Some(Form::Run) => run(alloc, input, random, disk, out),
         Some(Form::List) => list(alloc, input, disk, out),
         Some(Form::Audit) => audit(alloc, input, disk, out),

@@ -1,0 +1,198 @@
+-- How `gen` ends, where its script does or the making of its store.
+use Rattle.std.proofs.Common.{◌≡◌, ◌≢◌, ◌<◌, ◌+◌, ◌⊎◌, ℕ, List, [], ◌++◌, length, Option, Some, None, inl, inr, refl, sym, ap, subst, ◌∙◌}
+use Rattle.std.specs.Prelude.{is_some, IsTrue}
+use Rattle.std.proofs.lemmas.Bool.{false≢true}
+use Rattle.cry_base.specs.declared.limits.Limits.{Limits}
+use Rattle.cry_io.specs.Told.{WhereTold, WhereBothTold}
+use Rattle.cry_io.proofs.ToldLemmas.{told_again}
+use Rattle.journal_bytes.specs.Bytes.{batches_of}
+use Rattle.journal_bytes.specs.Script.{opened}
+use Rattle.key_links.specs.Fresh.{piece}
+use Rattle.commit_journal.specs.Standing.{StandsWhole}
+use Rattle.public_fold.specs.Journal.{Journal}
+use Rattle.script_text.specs.Printing.{owner_line}
+use Rattle.store_gen.specs.Rule.{requests}
+use Rattle.store_owner.specs.Counted.{root_counted}
+use Rattle.store_owner.specs.Making as making
+use Rattle.store_owner.specs.Owned.{OwnerView}
+use Rattle.store_owner.specs.Tallied.{counted_in, tally_in, tally_of}
+use Rattle.store_owner.specs.declared.apply_fault.ApplyFault.{ApplyFault}
+use Rattle.store_owner.specs.declared.apply_fault.ApplyFault.TheVariants as faults
+use Rattle.store_owner.specs.declared.tally.Tally.{Tally}
+use Rattle.cryptree_cli.specs.Figures.{spell_figures}
+use Rattle.cryptree_cli.specs.Generating.{Begins, EndsDry, Fills, Generates, HasApplied, HasFilled, IsStop, IsUnmade, StopsApplying, Tells, script_lines, unheard}
+use Rattle.cryptree_cli.specs.Running.{RanCut, RanDry, Seen, apply_status, version_limits}
+use Rattle.cryptree_cli.specs.Status.{is_before_print, is_make_answer}
+use Rattle.cryptree_cli.specs.Stopping.{LinesKeepUpTo}
+use Rattle.cryptree_cli.specs.Top.{PrintsAll, PrintsFront}
+use Rattle.cryptree_cli.specs.declared.status.Status.{Status}
+use Rattle.cryptree_cli.specs.declared.status.Status.TheVariants.{Done, WriteFault, DiskFault, RandomFault, RandomShort, OutOfMemory}
+use Rattle.cryptree_cli.specs.declared.words.Form.{Form}
+use Rattle.cryptree_cli.specs.declared.words.Form.TheVariants.{Gen}
+use Rattle.cryptree_cli.proofs.GeneratedLines.{asks_script}
+use Rattle.cryptree_cli.proofs.MakeLemmas.{fresh_stands, is_short}
+
+-- ---- a script that was applied to its end
+
+-- a text was told that is this one
+pub told_as : (printed text : List ℕ) (before after : Option (List ℕ)) (status : Status) → printed ≡ text
+    → (status ≡ Done) × WhereBothTold before after (PrintsAll printed) ⊎ (status ≡ WriteFault) × WhereBothTold before after (PrintsFront printed)
+    → Tells status text before after
+told_as printed text before after status same (inl done) =
+    subst (λ s. Tells s text before after) (sym done.0) (subst (λ (t : List ℕ). WhereBothTold before after (PrintsAll t)) same done.1)
+told_as printed text before after status same (inr cut) =
+    subst (λ s. Tells s text before after) (sym cut.0) (subst (λ (t : List ℕ). WhereBothTold before after (PrintsFront t)) same cut.1)
+
+module _ (text : List ℕ) (before after : Option (List ℕ)) where
+  pub told_answers : (status : Status) → Tells status text before after → IsTrue (is_make_answer status)
+  told_answers Done tells = refl
+  told_answers WriteFault tells = refl
+  told_answers OutOfMemory tells = refl
+  told_answers _ tells = absurd tells
+
+  -- how it ends otherwise
+  pub never_told : {P : Type 0} (status other : Status) → Tells status text before after → status ≡ other → (Tells other text before after → ⊥) → P
+  never_told status other tells is none = absurd (none (subst (λ s. Tells s text before after) is tells))
+
+  -- only for want of memory nothing is printed
+  pub told_before : {P : Type 0} (status : Status) → Tells status text before after → (status ≡ OutOfMemory → P) → IsTrue (is_before_print status) → P
+  told_before Done tells kept is = absurd (false≢true is)
+  told_before WriteFault tells kept is = absurd (false≢true is)
+  told_before OutOfMemory tells kept is = kept refl
+  told_before _ tells kept is = absurd tells
+
+module _ (seed count : ℕ) (key : List ℕ) (m : Journal) (o : OwnerView) (left_before left_after shown : Option (List ℕ)) (may_leave : List ℕ → Type 0) (KeepsTo : Journal → Type 0)
+    (before after : Option (List ℕ)) where
+  abbrev seen : Seen
+  seen = unheard left_before left_after shown
+
+  abbrev Applied : Type 0
+  Applied = HasApplied version_limits key m (requests seed count) o seen may_leave KeepsTo
+
+  -- it is told as `Prints` says
+  filled : (Prints : List ℕ → List ℕ → List ℕ → Type 0) → Applied → WhereBothTold before after (Prints (owner_line o.key ++ spell_figures (tally_in o)))
+      → HasFilled Prints key m (requests seed count) seen may_leave KeepsTo before after
+  filled Prints is prints = record {
+    session = is.session;
+    draws = is.draws;
+    leaves = is.leaves;
+    kept = is.kept;
+    printed = subst (λ (k : List ℕ). WhereBothTold before after (Prints (owner_line k ++ spell_figures (tally_of is.session.now)))) is.same_key
+        (subst (λ (t : Tally). WhereBothTold before after (Prints (owner_line o.key ++ spell_figures t))) is.figures prints);
+  }
+
+  untold : Applied → RanCut version_limits key m (script_lines seed count) seen may_leave KeepsTo
+  untold is = record {
+    asked = requests seed count;
+    rest = [];
+    asks = asks_script seed count;
+    session = is.session;
+    draws = is.draws;
+    leaves = is.leaves;
+    kept = is.kept;
+    prints = λ x y was now. absurd (let no : None ≡ Some x = was in cc);
+  }
+
+  pub told_fills : (status : Status) → Applied → Tells status (owner_line o.key ++ spell_figures (tally_in o)) before after
+      → Fills status seed count key m seen may_leave KeepsTo before after
+  told_fills Done is tells = filled PrintsAll is tells
+  told_fills WriteFault is tells = filled PrintsFront is tells
+  told_fills OutOfMemory is tells = untold is
+  told_fills _ is tells = absurd tells
+
+  -- ---- one that stopped
+
+  pub stop_fills : (status : Status) → IsStop status → StopsApplying status version_limits key m (script_lines seed count) seen may_leave KeepsTo
+      → Fills status seed count key m seen may_leave KeepsTo before after
+  stop_fills (RandomShort left need) stop is = is
+  stop_fills RandomFault stop is = is
+  stop_fills DiskFault stop is = is
+  stop_fills OutOfMemory stop is = is
+  stop_fills _ stop is = absurd stop
+
+pub stop_answers : (status : Status) → IsStop status → IsTrue (is_make_answer status)
+stop_answers (RandomShort left need) stop = refl
+stop_answers RandomFault stop = refl
+stop_answers DiskFault stop = refl
+stop_answers OutOfMemory stop = refl
+stop_answers _ stop = absurd stop
+
+pub never_stop : {P : Type 0} (status other : Status) → IsStop status → status ≡ other → (IsStop other → ⊥) → P
+never_stop status other stop is none = absurd (none (subst IsStop is stop))
+
+-- ---- a store that was made
+
+-- the root is all that the journal of a fresh store has
+abbrev RootCounted : Type 0
+RootCounted = (keys : List (List ℕ)) → counted_in (making.made_with keys) ≡ root_counted
+
+-- its owner and the disk stand where a session begins
+begins : RootCounted → (drawn : List ℕ) (o : OwnerView) (shown : Option (List ℕ)) (s : List ℕ) → making.IsMade drawn version_limits o → shown ≡ Some s
+    → StandsWhole (piece drawn 0) (batches_of (piece drawn 0) (making.made_with (making.root_keys drawn))) s
+    → Begins (piece drawn 0) (making.made_with (making.root_keys drawn)) o shown
+unfolding opened
+begins root drawn o shown s made told whole = record {
+  stands = record {
+    owner_is = made.owner;
+    has_key = made.same_key;
+    has_limits = λ i. record { store_bytes = made.journal.same_limit i; file_bytes = made.same_file_bytes i };
+    has_begun = made.journal.not_begun;
+    disk_stands = (s, told, whole);
+  };
+  counted = made.counted ∙ sym (root (making.root_keys drawn));
+}
+
+pub generated : RootCounted → (status : Status) (seed count : ℕ) (o : OwnerView) (left_before left_between left_after shown_between shown_after : Option (List ℕ)) (may_leave : List ℕ → Type 0)
+    (since : ℕ → List ℕ → List ℕ → Type 0) (moment : ℕ) (before after : Option (List ℕ)) → is_some left_between ≡ is_some left_before → is_some shown_after ≡ is_some shown_between
+    → making.Makes version_limits left_before left_between shown_between o
+    → ((key : List ℕ) (m : Journal) → Begins key m o shown_between
+    → Fills status seed count key m (unheard left_between left_after shown_after) may_leave (LinesKeepUpTo key m (since moment)) before after)
+    → WhereTold shown_after (λ s. Generates status seed count left_before left_after shown_after may_leave since before after)
+generated root status seed count o left_before left_between left_after shown_between shown_after may_leave since moment before after left_told shown_told store fills = λ x now.
+    let drawn : List ℕ = store.0 in
+    let s = told_again shown_after shown_between x (sym shown_told) now in
+    let whole = fresh_stands drawn o store.1.owner store.1.same_key s.0 (store.3 s.0 s.1) in
+    record {
+      drawn = drawn;
+      drawn_length = store.1.all_drawn;
+      behind = left_between;
+      next = store.2;
+      behind_told = left_told;
+      moment = moment;
+      fills = fills (piece drawn 0) (making.made_with (making.root_keys drawn)) (begins root drawn o shown_between s.0 store.1 s.1 whole.stands);
+    }
+
+-- behind the making the random source ended in a command's draw
+pub dry_behind : (limits : Limits) (o : OwnerView) (left need : ℕ) (before between after shown : Option (List ℕ)) → making.Makes limits before between shown o
+    → RanDry left need between after → EndsDry left need before after
+dry_behind limits o left need before between after shown store dry =
+    inr (between, λ x y was now. (store.0, store.1.all_drawn, store.2 x y was now), dry)
+
+-- ---- and one that wasn't
+
+pub unmade : (R D : Type 0) (left : R → Option (List ℕ)) (fault : ApplyFault) (random_old random_new : R) (disk_old disk_new : D) → is_some (left random_new) ≡ is_some (left random_old)
+    → ((had need : ℕ) → fault ≡ faults.RandomShort had need
+    → (need ≡ 192) × (had < 192) × WhereBothTold (left random_old) (left random_new) (λ before after. (length before ≡ had) × (after ≡ [])))
+    → (fault ≡ faults.DiskFault → WhereBothTold (left random_old) (left random_new) (λ before after. length before ≡ 192 + length after))
+    → fault ≢ faults.Closed → (fault ≡ faults.OutOfMemory → (random_new ≡ random_old) × (disk_new ≡ disk_old)) → (fault ≢ faults.DiskFault → disk_new ≡ disk_old)
+    → IsUnmade left (apply_status fault) random_old random_new disk_old disk_new
+unmade R D left faults.RandomFault random_old random_new disk_old disk_new told short drew unclosed none kept = kept (λ e. absurd cc)
+unmade R D left (faults.RandomShort had need) random_old random_new disk_old disk_new told short drew unclosed none kept =
+    (is_short had need (left random_old) (left random_new) told (short had need refl), kept (λ e. absurd cc))
+unmade R D left faults.DiskFault random_old random_new disk_old disk_new told short drew unclosed none kept = drew refl
+unmade R D left faults.Closed random_old random_new disk_old disk_new told short drew unclosed none kept = absurd (unclosed refl)
+unmade R D left faults.OutOfMemory random_old random_new disk_old disk_new told short drew unclosed none kept = none refl
+
+-- what isn't told as a fault of the disk isn't one
+pub other_fault : (fault : ApplyFault) → apply_status fault ≢ DiskFault → fault ≢ faults.DiskFault
+other_fault fault other is = other (ap apply_status is)
+
+-- ---- what the words ask for is what they are
+
+pub of_asked : (P : ℕ → ℕ → Type 0) (own_seed own_count seed count : ℕ) (form : Option Form) → form ≡ Some (Gen own_seed own_count) → form ≡ Some (Gen seed count)
+    → P own_seed own_count → P seed count
+of_asked P own_seed own_count seed count form own asked is =
+    let both : Some (Gen own_seed own_count) ≡ Some (Gen seed count) = sym own ∙ asked in
+    let same_seed : own_seed ≡ seed = cc in
+    let same_count : own_count ≡ count = cc in
+    subst (λ n. P n count) same_seed (subst (λ n. P own_seed n) same_count is)

@@ -1,0 +1,149 @@
+-- What `gen` leaves and prints. This project's own, docs/FORMAT.md, "Generated scripts" and "The program".
+use Rattle.std.specs.Prelude.{◌≡◌, ◌≤◌, ◌⊎◌, ℕ, ◌+◌, List, [], ◌++◌, length, map, Option, Some, None, Result, Ok, Err, is_some}
+use Rattle.std.specs.Prelude.{Bool, true, false, IsTrue}
+use Rattle.cry_base.specs.Listed.{Listed}
+use Rattle.cry_base.specs.Requests.{Request}
+use Rattle.cry_base.specs.declared.limits.Limits.{Limits}
+use Rattle.cry_io.specs.Told.{WhereBothTold}
+use Rattle.journal_bytes.specs.Script.{opened}
+use Rattle.key_links.specs.Fresh.{piece}
+use Rattle.public_fold.specs.Journal.{Journal}
+use Rattle.script_text.specs.Printing.{owner_line}
+use Rattle.store_gen.specs.Rule.{requests, script_of}
+use Rattle.store_gen.specs.Spelling.{spelled}
+use Rattle.store_owner.specs.Making.{made_with, root_keys}
+use Rattle.store_owner.specs.Owned.{OwnerView}
+use Rattle.store_owner.specs.Sessions.{StandsAt}
+use Rattle.store_owner.specs.Tallied.{counted_in, tally_in, tally_of}
+use Rattle.cryptree_cli.specs.Figures.{spell_figures}
+use Rattle.cryptree_cli.specs.Lines.{InputLine}
+use Rattle.cryptree_cli.specs.Lines.InputLine.{Whole}
+use Rattle.cryptree_cli.specs.Running.{DrawsNext, LeavesAt, RanCut, RanDry, RanShort, RanUndrawn, RanUnwritten, Seen, SessionOver}
+use Rattle.cryptree_cli.specs.Running.{seen_from, version_limits}
+use Rattle.cryptree_cli.specs.Stopping.{LinesKeepUpTo}
+use Rattle.cryptree_cli.specs.Top.{IsShort, PrintsAll, PrintsFront}
+use Rattle.cryptree_cli.specs.Words.{form_of_words}
+use Rattle.cryptree_cli.specs.declared.status.Status.{Status}
+use Rattle.cryptree_cli.specs.declared.status.Status.TheVariants as statuses
+use Rattle.cryptree_cli.specs.declared.words.Form.{Form}
+use Rattle.cryptree_cli.specs.declared.words.Form.TheVariants as forms
+
+-- the words ask for the store of this number and so many lines; for that of any
+abbrev pub AsksGen : List (Listed ℕ) → ℕ → ℕ → Type 0
+AsksGen words seed count = form_of_words words ≡ Some (forms.Gen seed count)
+
+abbrev pub is_gen : Option Form → Bool
+is_gen (Some (forms.Gen seed count)) = true
+is_gen _ = false
+
+abbrev pub IsGen : List (Listed ℕ) → Type 0
+IsGen words = IsTrue (is_gen (form_of_words words))
+
+-- this is a script that may be asked for
+abbrev pub IsScript : List ℕ → Type 0
+IsScript text = (seed : ℕ) × (count : ℕ) × (count ≤ 50000) × (text ≡ script_of seed count)
+
+-- its lines
+abbrev pub script_lines : ℕ → ℕ → List InputLine
+script_lines seed count = map Whole (map spelled (requests seed count))
+
+-- what is told of the random bytes and of the disk: the replies are printed nowhere
+abbrev pub unheard : Option (List ℕ) → Option (List ℕ) → Option (List ℕ) → Seen
+unheard left_before left_after shown = seen_from left_before left_after None shown None None
+
+-- All of this was asked of a session over m: the disk is settled at the journal where it ends, up to which the lines kept what they found,
+-- and these are that journal's figures.
+pub record HasApplied (limits : Limits) (key : List ℕ) (m : Journal) (asked : List Request) (o : OwnerView) (seen : Seen)
+    (may_leave : List ℕ → Type 0) (KeepsTo : Journal → Type 0) : Type 0 where
+  pub session : SessionOver limits m asked
+  pub draws : DrawsNext session.drawn seen
+  pub leaves : LeavesAt key m session.now seen may_leave
+  pub kept : KeepsTo session.now
+  pub same_key : o.key ≡ key
+  pub figures : tally_in o ≡ tally_of session.now
+
+-- how lines stop that aren't answered to their end, as those of `run` do
+abbrev pub StopsApplying : Status → Limits → List ℕ → Journal → List InputLine → Seen → (List ℕ → Type 0) → (Journal → Type 0) → Type 0
+StopsApplying (statuses.RandomShort left need) limits key m lines seen may_leave KeepsTo =
+    RanShort limits key m lines left need seen may_leave KeepsTo
+StopsApplying statuses.RandomFault limits key m lines seen may_leave KeepsTo = RanUndrawn limits key m lines seen may_leave KeepsTo
+StopsApplying statuses.DiskFault limits key m lines seen may_leave KeepsTo = RanUnwritten limits key m lines seen may_leave KeepsTo
+StopsApplying statuses.OutOfMemory limits key m lines seen may_leave KeepsTo = RanCut limits key m lines seen may_leave KeepsTo
+StopsApplying _ limits key m lines seen may_leave KeepsTo = ⊥
+
+abbrev pub IsStop : Status → Type 0
+IsStop (statuses.RandomShort left need) = Unit {0}
+IsStop statuses.RandomFault = Unit {0}
+IsStop statuses.DiskFault = Unit {0}
+IsStop statuses.OutOfMemory = Unit {0}
+IsStop _ = ⊥
+
+-- the owner of a fresh store applied a script: to its end, or to where it stopped
+abbrev pub Applies : Result (Unit {0}) Status → ℕ → ℕ → List ℕ → Journal → OwnerView → Seen → (List ℕ → Type 0)
+    → (Journal → Type 0) → Type 0
+Applies (Ok _) seed count key m o seen may_leave KeepsTo =
+    HasApplied version_limits key m (requests seed count) o seen may_leave KeepsTo
+Applies (Err status) seed count key m o seen may_leave KeepsTo =
+    StopsApplying status version_limits key m (script_lines seed count) seen may_leave KeepsTo
+
+-- a text was printed, or a front of it; without memory nothing
+abbrev pub Tells : Status → List ℕ → Option (List ℕ) → Option (List ℕ) → Type 0
+Tells statuses.Done text before after = WhereBothTold before after (PrintsAll text)
+Tells statuses.WriteFault text before after = WhereBothTold before after (PrintsFront text)
+Tells statuses.OutOfMemory text before after = Unit {0}
+Tells _ text before after = ⊥
+
+-- an owner and a disk that stand where a session over m begins, of which all is counted
+pub record Begins (key : List ℕ) (m : Journal) (o : OwnerView) (shown : Option (List ℕ)) : Type 0 where
+  pub stands : StandsAt version_limits key (opened m []) o shown
+  pub counted : o.tally ≡ counted_in m
+
+-- The disk is settled at the journal of a session over m that was asked all of a script, and the owner's line and that journal's figures
+-- were printed as `Prints` says.
+pub record HasFilled (Prints : List ℕ → List ℕ → List ℕ → Type 0) (key : List ℕ) (m : Journal) (asked : List Request) (seen : Seen)
+    (may_leave : List ℕ → Type 0) (KeepsTo : Journal → Type 0) (written_before written_after : Option (List ℕ)) : Type 0 where
+  pub session : SessionOver version_limits m asked
+  pub draws : DrawsNext session.drawn seen
+  pub leaves : LeavesAt key m session.now seen may_leave
+  pub kept : KeepsTo session.now
+  pub printed : WhereBothTold written_before written_after (Prints (owner_line key ++ spell_figures (tally_of session.now)))
+
+-- how a script ends over a fresh store: all of it was applied, and then told; or it stopped, and nothing was printed
+abbrev pub Fills : Status → ℕ → ℕ → List ℕ → Journal → Seen → (List ℕ → Type 0) → (Journal → Type 0) → Option (List ℕ) → Option (List ℕ)
+    → Type 0
+Fills statuses.Done seed count key m seen may_leave KeepsTo before after =
+    HasFilled PrintsAll key m (requests seed count) seen may_leave KeepsTo before after
+Fills statuses.WriteFault seed count key m seen may_leave KeepsTo before after =
+    HasFilled PrintsFront key m (requests seed count) seen may_leave KeepsTo before after
+Fills status seed count key m seen may_leave KeepsTo before after =
+    StopsApplying status version_limits key m (script_lines seed count) seen may_leave KeepsTo
+
+-- The next 192 bytes of the random source were drawn, and made a store as `make` does; from the moment where it stood the lines of
+-- the script were applied, as one session over its journal, with the bytes behind these.
+pub record Generates (status : Status) (seed count : ℕ) (left_before left_after shown : Option (List ℕ)) (may_leave : List ℕ → Type 0)
+    (since : ℕ → List ℕ → List ℕ → Type 0) (written_before written_after : Option (List ℕ)) : Type 0 where
+  pub drawn : List ℕ
+  pub drawn_length : length drawn ≡ 192
+  pub behind : Option (List ℕ)
+  pub next : WhereBothTold left_before behind (λ before after. before ≡ drawn ++ after)
+  pub behind_told : is_some behind ≡ is_some left_before
+  pub moment : ℕ
+  pub fills : Fills status seed count (piece drawn 0) (made_with (root_keys drawn)) (unheard behind left_after shown) may_leave
+      (LinesKeepUpTo (piece drawn 0) (made_with (root_keys drawn)) (since moment)) written_before written_after
+
+-- no store was made: for want of memory, before anything was drawn; or the random source failed or ended in the draw for it, and
+-- nothing was written; or the disk failed behind that draw
+abbrev pub IsUnmade : {R D : Type 0} → (R → Option (List ℕ)) → Status → R → R → D → D → Type 0
+IsUnmade left statuses.OutOfMemory random_old random_new disk_old disk_new = (random_new ≡ random_old) × (disk_new ≡ disk_old)
+IsUnmade left statuses.RandomFault random_old random_new disk_old disk_new = disk_new ≡ disk_old
+IsUnmade left (statuses.RandomShort had need) random_old random_new disk_old disk_new =
+    IsShort had need (left random_old) (left random_new) × (disk_new ≡ disk_old)
+IsUnmade left statuses.DiskFault random_old random_new disk_old disk_new =
+    WhereBothTold (left random_old) (left random_new) (λ before after. length before ≡ 192 + length after)
+IsUnmade left _ random_old random_new disk_old disk_new = ⊥
+
+-- the random source ended in the draw that makes the store, or behind it in a command's
+abbrev pub EndsDry : ℕ → ℕ → Option (List ℕ) → Option (List ℕ) → Type 0
+EndsDry left need before after = IsShort left need before after
+    ⊎ ((middle : Option (List ℕ)) × WhereBothTold before middle (λ x y. (drawn : List ℕ) × (length drawn ≡ 192) × (x ≡ drawn ++ y))
+    × RanDry left need middle after)
