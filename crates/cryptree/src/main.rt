@@ -2,8 +2,10 @@
 #![tactic(auto)]
 
 mod files;
+mod progress;
 
 use crate::files::{Access, Random, open_store};
+use crate::progress::{Progress, Watched};
 use cry_base::{List, Mem, Text};
 use cry_io::{FileDisk, StdSink, StdSource};
 use cryptree_cli::status::{Status, fault_line};
@@ -41,26 +43,30 @@ fn words_given(rt: &HostRuntime) -> Mem<List<Text>> {
 }
 
 fn run(rt: &HostRuntime, words: &List<Text>) -> Status {
+    let form = form_of(words);
     // No file is touched where the words are of no form.
-    let (store, random) = match (form_of(words).and_then(Access::of), words.as_slice()) {
+    let (store, random) = match (form.and_then(Access::of), words.as_slice()) {
         (Some(access), [store, random, ..]) => (
             open_store(rt, store.as_slice(), access),
             Random::open(rt, random.as_slice()),
         ),
         _ => (None, Random::Nothing),
     };
-    let mut disk = FileDisk::over(store);
+    let progress = form.and_then(|form| Progress::of(rt, form));
+    let mut disk = Watched::over(FileDisk::over(store), progress);
     let mut random = StdSource::new(random);
     let mut input = StdSource::new(rt.stdin());
     let mut out = StdSink::new(rt.stdout());
-    top(
+    let status = top(
         rt.alloc(),
         words,
         &mut input,
         &mut random,
         &mut disk,
         &mut out,
-    )
+    );
+    disk.end();
+    status
 }
 
 /// Prints the status's line on standard error. Where there is no memory, or standard error fails, nothing can be told.
