@@ -16,6 +16,8 @@ pub mod Refilled
 pub mod Reopened
 pub mod SlotsGated
 pub mod SlotsLeft
+pub mod SlotsUnfilled
+pub mod SlotsWritten
 pub mod Standings
 pub mod Stepped
 pub mod Stood

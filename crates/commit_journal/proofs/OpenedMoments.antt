@@ -1,21 +1,18 @@
 -- The moments of calls that read a store, and of opening it for writing.
-use Rattle.std.proofs.Common.{◌≡◌, ◌≢◌, ◌≤◌, ◌-◌, Bool, true, false, slice_range, ◌⊎◌, ⊎_elim, inl, inr, ◌+◌, ◌<◌, ℕ, List, [], ◌∷◌, Option, Some, Ok, length, map, drop, get_or, arith, refl, sym, ap, subst, ◌∙◌}
-use Rattle.cry_io.specs.Stops.{Elapses, IsDurable, Torn}
+use Rattle.std.proofs.Common.{◌≡◌, ◌≤◌, ◌⊎◌, ⊎_elim, inl, inr, ℕ, List, Option, Some, Ok, arith, sym, ◌∙◌}
+use Rattle.cry_io.specs.Stops.{Elapses, IsDurable}
 use Rattle.cry_io.specs.Told.{WhereTold}
-use Rattle.chacha_seal.specs.Sealing.{veil_of}
-use Rattle.batch_log.specs.Tokens.{GatedBatch}
-use Rattle.batch_log.specs.Moments.{GoesOn, Throughout, TornInto}
+use Rattle.batch_log.specs.Moments.{GoesOn, Throughout}
 use Rattle.batch_log.proofs.Moments.{goes_on_elapsed, goes_on_then, in_both, in_one_call}
 use Rattle.batch_log.proofs.WrittenMoments.{told_one}
-use Rattle.commit_journal.specs.declared.placed.Placed.{Placed}
 use Rattle.commit_journal.specs.Holding.{IsKept}
 use Rattle.commit_journal.specs.Laws.{batches_from}
-use Rattle.commit_journal.specs.Moments.{FillsSlot, FillsThroughout, IsSameThroughout, KeepsHeld, OpensThroughout}
-use Rattle.commit_journal.specs.Opening.{LeavesGated, LeavesSlot, LeavesSlots, OwnedLog, opening_verdict}
-use Rattle.commit_journal.specs.Placed.{PlainPlaced, plain_placed}
+use Rattle.commit_journal.specs.Moments.{IsSameThroughout, KeepsHeld, OpensThroughout}
+use Rattle.commit_journal.specs.Opening.{LeavesGated, LeavesSlots, OwnedLog, opening_verdict}
+use Rattle.commit_journal.specs.Placed.{PlainPlaced}
 use Rattle.commit_journal.specs.Standing.{StandsFor}
 use Rattle.commit_journal.specs.WholeLogs.{StillStand}
-use Rattle.commit_journal.proofs.SlotsLeft.{left_here, slot_torn, still_left, still_same}
+use Rattle.commit_journal.proofs.SlotsLeft.{still_left, still_same}
 
 -- ---- calls that only read
 
@@ -49,53 +46,10 @@ same_in_call shown may_leave moment since a b only same no_more time =
 
 -- ---- slots
 
--- nothing is written yet
-pub none_left : (owner : List ℕ) (placed : List PlainPlaced) (x : List ℕ) → LeavesSlots owner placed x x
-unfolding LeavesSlots
-none_left owner [] x = refl
-none_left owner (p ∷ placed) x = inl (inl refl)
-
--- a slot that was found without its veil key, with a write of it that was done in part
-pub torn_unfilled : (equal : Bool) (place : ℕ) (veil key slot x y : List ℕ) → place + 32 ≤ length x → slot ≡ slice_range x place (place + 32) → key ≡ veil →
-    (slot ≡ key → equal ≡ true) → equal ≡ false → Torn place 32 x y → LeavesSlot place veil x y
-torn_unfilled equal place veil key slot x y inside read key_is found unequal torn =
-    let differ : slice_range x place (place + 32) ≢ veil = λ same.
-    let wrong : true ≡ false = sym (found (read ∙ same ∙ sym key_is)) ∙ unequal in
-    let none : ⊥ = cc in
-    none
-    in
-    slot_torn place veil x y inside differ torn
-
--- where the slot of a batch stands behind its gate
-pub slot_place : (gated : GatedBatch) (place len : ℕ) → 87 ≤ place → gated ≡ record { end = place - 45; len = len } → gated.end + 13 ≡ place - 32
-slot_place gated place len behind is = let end : gated.end ≡ place - 45 = ap (λ (g : GatedBatch). g.end) is in omega (arith, end, behind)
-
--- the moments of the slot's look-up, and of its write behind that
-pub fills_then : (owner : List ℕ) (p : Placed) (x : List ℕ) (first start : ℕ) (past since : ℕ → List ℕ → List ℕ → Type 0) → first ≤ start → GoesOn start past since →
-    Throughout (λ s c. (s ≡ x) × (c ≡ x)) (past first) → ((y : List ℕ) → Torn (p.place - 32) 32 x y → LeavesSlot (p.place - 32) (veil_of owner p.epoch.0 p.batch) x y) →
-    Throughout (TornInto (p.place - 32) 32 x) (since start) → Throughout (FillsSlot owner p x) (since first)
-fills_then owner p x first start past since order goes same torn after =
-    in_both first start past since (FillsSlot owner p x) order goes (λ s c at. let is = same s c at in (inl is.0, inl is.1))
-    (λ s c at. let both = after s c at in (torn s both.0, torn c both.1))
-
--- the moments of one slot behind those of the slots before it
-pub fills_one : (owner : List ℕ) (log : List Placed) (i : ℕ) (p : Placed) (x y : List ℕ) (first start : ℕ) (past since : ℕ → List ℕ → List ℕ → Type 0) →
-    first ≤ start → GoesOn start past since → i < length log → p ≡ get_or log i p →
-    ((z : List ℕ) → LeavesSlots owner (map plain_placed (drop i log)) y z → LeavesSlots owner (map plain_placed log) x z) →
-    Throughout (λ s c. LeavesSlots owner (map plain_placed log) x s × LeavesSlots owner (map plain_placed log) x c) (past first) →
-    Throughout (FillsSlot owner p y) (since start) →
-    Throughout (λ s c. LeavesSlots owner (map plain_placed log) x s × LeavesSlots owner (map plain_placed log) x c) (since first)
-fills_one owner log i p x y first start past since order goes within is front before fills =
-    in_both first start past since (λ s c. LeavesSlots owner (map plain_placed log) x s × LeavesSlots owner (map plain_placed log) x c) order goes before
-    (λ s c at. let both = fills s c at in
-    (front s (left_here owner log i p y s within is both.0), front c (left_here owner log i p y c within is both.1)))
-
--- at the start nothing is written
-pub fills_start : (owner : List ℕ) (placed : List PlainPlaced) (was : Option (List ℕ)) (left : List ℕ → Type 0) (since : List ℕ → List ℕ → Type 0) →
-    IsDurable left was → ((s c : List ℕ) → since s c → (was ≡ Some s) × left c) → FillsThroughout owner placed was since
-fills_start owner placed was left since durable only x x_is s c at =
-    let is = same_bytes was left x since durable x_is only s c at in
-    (subst (λ r. LeavesSlots owner placed x r) (sym is.0) (none_left owner placed x), subst (λ r. LeavesSlots owner placed x r) (sym is.1) (none_left owner placed x))
+-- slots of these batches are filled one after another: at each moment some of them are, in what is shown and in what a stop leaves, and one
+-- more may hold any bytes
+abbrev pub LeavesThroughout : List ℕ → List PlainPlaced → Option (List ℕ) → (List ℕ → List ℕ → Type 0) → Type 0
+LeavesThroughout owner placed was since = WhereTold was (λ x. Throughout (λ s c. LeavesSlots owner placed x s × LeavesSlots owner placed x c) since)
 
 -- ---- the whole opening
 
@@ -127,7 +81,7 @@ opens_same limit owner was left since same x x_is s c at =
 
 -- and once slots are
 pub opens_filled : (limit : ℕ) (owner : List ℕ) (log : OwnedLog) (was : Option (List ℕ)) (left : List ℕ → Type 0) (since : List ℕ → List ℕ → Type 0) →
-    WhereTold was (λ x. opening_verdict limit owner x ≡ Ok log) → FillsThroughout owner log.placed was since → OpensThroughout limit owner was left since
+    WhereTold was (λ x. opening_verdict limit owner x ≡ Ok log) → LeavesThroughout owner log.placed was since → OpensThroughout limit owner was left since
 opens_filled limit owner log was left since verdict fills x x_is s c at =
     let both = fills x x_is s c at in inr (inr (log, verdict x x_is, both.0), inr (log, verdict x x_is, both.1))
 
@@ -154,7 +108,7 @@ pub opens_all : {D : Type 0} (shown : D → Option (List ℕ)) (may_leave : D �
     (a b e f : D) (limit : ℕ) (owner : List ℕ) (log : OwnedLog) → ((s c : List ℕ) → since a (moment a) s c → (shown a ≡ Some s) × may_leave a c) → shown b ≡ shown a →
     ((c : List ℕ) → may_leave b c → may_leave a c) → Elapses (moment a) (moment b) (since a) (since b) (shown b) (may_leave b) →
     IsSameThroughout shown may_leave moment since b e → shown e ≡ shown b → GoesOn (moment e) (since e) (since f) →
-    WhereTold (shown b) (λ x. opening_verdict limit owner x ≡ Ok log) → FillsThroughout owner log.placed (shown e) (since f (moment e)) →
+    WhereTold (shown b) (λ x. opening_verdict limit owner x ≡ Ok log) → LeavesThroughout owner log.placed (shown e) (since f (moment e)) →
     OpensThroughout limit owner (shown a) (may_leave a) (since f (moment a))
 opens_all shown may_leave moment since a b e f limit owner log only same no_more time moments read goes verdict fills =
     let first = time.later in

@@ -1,18 +1,15 @@
 -- The walk of a store that is opened for writing, one turn at a time.
-use Rattle.std.proofs.Common.{◌≡◌, ℕ, zero, suc, ◌+◌, ◌-◌, ◌<◌, ◌≤◌, true, false, cond, eqb, List, [], ◌∷◌, ◌++◌, length, map, get_or, take, drop, drop-cons, Result, Ok, Err, refl, sym, ap, ◌∙◌, arith, append_assoc}
+use Rattle.std.proofs.Common.{◌≡◌, ℕ, zero, suc, ◌+◌, ◌-◌, ◌<◌, true, false, cond, eqb, List, [], ◌∷◌, ◌++◌, length, take, drop, Result, Ok, Err, refl, sym, ap, ◌∙◌, arith, append_assoc}
 use Rattle.std.specs.Prelude.{nat_le, slice_range}
-use Rattle.std.proofs.Math.ListN.{drop_of_length-le}
 use Rattle.std.proofs.lemmas.List.{append-nil, drop-drop, take-append-drop}
-use Rattle.chacha_seal.specs.Sealing.{veil_of}
 use Rattle.commit_journal.specs.declared.fault.OpenFault.{OpenFault}
 use Rattle.commit_journal.specs.declared.fault.OpenFault.TheVariants as faults
 use Rattle.commit_journal.specs.declared.head.Head.{Head}
 use Rattle.commit_journal.specs.declared.past.Past.{Past}
 use Rattle.commit_journal.specs.Answering.{Fault, Damaged, and_then, IsFault}
 use Rattle.commit_journal.specs.Log.{PlainTurn, head_at, start_at}
-use Rattle.commit_journal.specs.Opening.{OwnedLog, ends_here, owned_at, owned_before, owned_head, owned_log, owned_turn, opening_verdict, slots_filled, written_at}
-use Rattle.commit_journal.specs.declared.placed.Placed.{Placed}
-use Rattle.commit_journal.specs.Placed.{PlainPlaced, plain_placed}
+use Rattle.commit_journal.specs.Opening.{OwnedLog, ends_here, owned_at, owned_before, owned_head, owned_log, owned_turn, opening_verdict, written_at}
+use Rattle.commit_journal.specs.Placed.{PlainPlaced}
 use Rattle.commit_journal.proofs.Judged.{fault_first, head_short}
 
 -- ---- batches read before others
@@ -129,23 +126,3 @@ same_slot place veil x size veil_is =
     ∙ ap (λ r. take place x ++ (take 32 (drop place x) ++ r)) behind
     ∙ ap (λ r. take place x ++ (r ++ drop (place + length veil) x)) slot
     ∙ sym (append_assoc (take place x) veil (drop (place + length veil) x))
-
--- one slot more
-pub filled_more : (owner : List ℕ) (log : List Placed) (i : ℕ) (p : Placed) (y z : List ℕ) → i < length log → p ≡ get_or log i p →
-    z ≡ written_at (p.place - 32) (veil_of owner p.epoch.0 p.batch) y →
-    slots_filled owner (map plain_placed (drop i log)) y ≡ slots_filled owner (map plain_placed (drop (i + 1) log)) z
-unfolding slots_filled
-filled_more owner log i p y z within is z_is =
-    let rest = map plain_placed (drop (suc i) log) in
-    let next : suc i ≡ i + 1 = omega arith in
-    ap (λ (ps : List Placed). slots_filled owner (map plain_placed ps) y) (drop-cons log i p within)
-    ∙ ap (λ (q : Placed). slots_filled owner rest (written_at (q.place - 32) (veil_of owner q.epoch.0 q.batch) y)) (sym is)
-    ∙ ap (λ w. slots_filled owner rest w) (sym z_is)
-    ∙ ap (λ n. slots_filled owner (map plain_placed (drop n log)) z) next
-
--- no slot more
-pub filled_all : (owner : List ℕ) (log : List Placed) (i : ℕ) (y : List ℕ) → length log ≤ i → slots_filled owner (map plain_placed (drop i log)) y ≡ y
-unfolding slots_filled
-filled_all owner log i y short =
-    let none : drop i log ≡ [] = drop_of_length-le log short in
-    ap (λ (ps : List Placed). slots_filled owner (map plain_placed ps) y) none

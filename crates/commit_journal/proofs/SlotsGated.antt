@@ -1,23 +1,20 @@
--- The batches of a log stand one behind another, each behind its open gate, and go on doing so while slots are written.
-use Rattle.std.proofs.Common.{◌≡◌, ℕ, suc, ◌+◌, ◌-◌, ◌<◌, ◌≤◌, Bool, true, false, cond, eqb, ◌*◌, List, [], ◌∷◌, ◌++◌, length, take, drop, map, get_or, drop-cons, Result, Ok, Err, refl, sym, ap, subst, ◌∙◌, arith, length-append}
+-- The batches of a log stand one behind another, each behind its open gate.
+use Rattle.std.proofs.Common.{◌≡◌, ℕ, ◌+◌, ◌-◌, ◌≤◌, Bool, true, false, cond, eqb, ◌*◌, List, [], ◌∷◌, ◌++◌, length, take, drop, Result, Ok, Err, sym, ap, ◌∙◌, arith}
 use Rattle.std.specs.Prelude.{slice_index}
 use Rattle.std.specs.Str.{bytes_eq}
 use Rattle.std.proofs.lemmas.Bool.{eqb-true}
-use Rattle.std.proofs.lemmas.List.{length-take-le, length-drop, places}
-use Rattle.batch_log.specs.Steps.{IsGatedAt, written_at}
+use Rattle.std.proofs.lemmas.List.{places}
+use Rattle.batch_log.specs.Steps.{IsGatedAt}
 use Rattle.chacha_seal.specs.Sealing.{masked, veil_of}
 use Rattle.commit_journal.specs.declared.head.Head.{Head}
 use Rattle.commit_journal.specs.declared.past.Past.{Past}
-use Rattle.commit_journal.specs.declared.placed.Placed.{Placed}
 use Rattle.commit_journal.specs.Answering.{Fault, Tampered, and_then}
 use Rattle.commit_journal.specs.Log.{PlainTurn, body_of, payload_in, placed_body, tag_due, tag_in, turn_of}
 use Rattle.commit_journal.specs.Opening.{AreGated, owned_at, owned_head, owned_turn}
-use Rattle.commit_journal.specs.Placed.{PlainBody, PlainPlaced, plain_placed}
+use Rattle.commit_journal.specs.Placed.{PlainBody, PlainPlaced}
 use Rattle.commit_journal.proofs.Followed.{and_then_ok}
 
--- ---- as the walk finds them
-
--- the same, where the last one ends by this place
+-- the same as `AreGated`, where the last one ends by this place
 abbrev pub AreGatedTo : ℕ → List PlainPlaced → ℕ → List ℕ → Type 0
 AreGatedTo from [] end bytes = from ≤ end
 AreGatedTo from (p ∷ ps) end bytes = (from + 45 ≤ p.place) × IsGatedAt (p.place - 45) 110 bytes × AreGatedTo (p.place + 65) ps end bytes
@@ -79,45 +76,3 @@ gated_turn limit owner s front past turn open_gate is place ahead inside behind 
   gated_more front 42 past.at turn.past.at turn.placed s (omega (arith, behind)) place (before.1 ∙ eqb-true past.gate 1 open_gate) ahead inside before.0,
   gate_behind limit owner s past turn is inside,
 )
-
--- ---- as slots are written
-
--- a write before the next gate leaves the gates behind it
-pub gates_stay : (ps : List PlainPlaced) (from at : ℕ) (bytes old : List ℕ) → at + length bytes + 1 ≤ from → at + length bytes ≤ length old → AreGated from ps old →
-    AreGated from ps (written_at at bytes old)
-gates_stay [] from at bytes old ahead inside gated = tt
-gates_stay (p ∷ ps) from at bytes old ahead inside gated =
-    let first = gated.0 in
-    let long : length (written_at at bytes old) ≡ length old = grind (arith, places) in
-    let before : at + length bytes ≤ p.place - 45 - 1 = omega (arith, ahead, first) in
-    let within = gated.1.inside in
-    let same : slice_index (written_at at bytes old) (p.place - 45 - 1) ≡ slice_index old (p.place - 45 - 1) = grind (arith, places) in (
-      first,
-      (let is : IsGatedAt (p.place - 45) 110 (written_at at bytes old) = record { opened = same ∙ gated.1.opened; inside = omega (arith, long, within) } in is),
-      gates_stay ps (p.place + 65) at bytes old (omega (arith, ahead, first)) inside gated.2,
-    )
-
--- the same from an earlier place on
-gated_from : (ps : List PlainPlaced) (low from : ℕ) (bytes : List ℕ) → low ≤ from → AreGated from ps bytes → AreGated low ps bytes
-gated_from [] low from bytes order gated = tt
-gated_from (p ∷ ps) low from bytes order gated = let first = gated.0 in (omega (arith, order, first), gated.1, gated.2)
-
--- the next batch of a log
-pub gated_here : (log : List Placed) (i : ℕ) (p : Placed) (bytes : List ℕ) → i < length log → p ≡ get_or log i p → AreGated 42 (map plain_placed (drop i log)) bytes →
-    IsGatedAt (p.place - 45) 110 bytes
-gated_here log i p bytes within is gated =
-    let all = subst (λ (ps : List Placed). AreGated 42 (map plain_placed ps) bytes) (drop-cons log i p within) gated in
-    subst (λ (q : Placed). IsGatedAt (q.place - 45) 110 bytes) (sym is) all.1
-
--- and those behind it, once its slot is written
-pub gated_next : (log : List Placed) (i : ℕ) (p : Placed) (veil old new : List ℕ) → i < length log → p ≡ get_or log i p → 87 ≤ p.place → length veil ≡ 32 →
-    new ≡ written_at (p.place - 32) veil old → AreGated 42 (map plain_placed (drop i log)) old → AreGated 42 (map plain_placed (drop (i + 1) log)) new
-gated_next log i p veil old new within is behind size new_is gated =
-    let all = subst (λ (ps : List Placed). AreGated 42 (map plain_placed ps) old) (drop-cons log i p within) gated in
-    let next : suc i ≡ i + 1 = omega arith in
-    let rest = subst (λ n. AreGated ((get_or log i p).place + 65) (map plain_placed (drop n log)) old) next all.2 in
-    let place : p.place ≡ (get_or log i p).place = ap (λ (q : Placed). q.place) is in
-    let here = all.1.inside in
-    let stay = gates_stay (map plain_placed (drop (i + 1) log)) ((get_or log i p).place + 65) (p.place - 32) veil old (omega (arith, place, size, behind)) (omega (arith, place, size, here, behind)) rest in
-    subst (λ r. AreGated 42 (map plain_placed (drop (i + 1) log)) r) (sym new_is)
-    (gated_from (map plain_placed (drop (i + 1) log)) 42 ((get_or log i p).place + 65) (written_at (p.place - 32) veil old) (omega (arith, place, behind)) stay)

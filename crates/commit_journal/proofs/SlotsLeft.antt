@@ -1,14 +1,13 @@
 -- Opening for writing that met a fault of the disk: the bytes stand for the batches for which they stood, with any bytes in the last slot.
-use Rattle.std.proofs.Common.{◌≡◌, ◌≢◌, ⊎_elim, inl, inr, ℕ, suc, ◌+◌, ◌-◌, ◌≤◌, ◌<◌, List, [], ◌∷◌, ◌++◌, length, take, drop, map, slice_range, get_or, drop-cons, Ok, append_assoc, arith, sym, ap, subst, ◌∙◌, length-append}
+use Rattle.std.proofs.Common.{◌≡◌, ◌≢◌, ⊎_elim, inr, ℕ, ◌+◌, ◌-◌, ◌≤◌, List, [], ◌∷◌, ◌++◌, length, take, drop, slice_range, Ok, append_assoc, arith, sym, ap, subst, ◌∙◌, length-append}
 use Rattle.std.proofs.lemmas.List.{length-take-le, length-drop, drop-drop, take-append-drop}
 use Rattle.cry_io.specs.Stops.{Torn}
-use Rattle.chacha_seal.specs.Sealing.{check_of, veil_of}
+use Rattle.chacha_seal.specs.Sealing.{check_of}
 use Rattle.chacha_seal.proofs.SealingLemmas.{length-veil_of}
 use Rattle.commit_journal.specs.Image.{Batch, batch_head, batch_veil, masked_payload, batch_check, owner_tag, spell_batch, spell_header}
 use Rattle.commit_journal.specs.Laws.{batch_of, batches_from, placed_from}
 use Rattle.commit_journal.specs.Opening.{LeavesSlot, LeavesSlots, OwnedLog, opening_verdict, written_at}
-use Rattle.commit_journal.specs.Placed.{PlainBody, plain_placed}
-use Rattle.commit_journal.specs.declared.placed.Placed.{Placed}
+use Rattle.commit_journal.specs.Placed.{PlainBody}
 use Rattle.commit_journal.specs.Standing.{spell_slotted, slotted_image, StandsFor}
 use Rattle.commit_journal.specs.WholeLogs.{StillStand, whole_log}
 use Rattle.batch_log.proofs.Lists.{torn_over}
@@ -34,28 +33,6 @@ slot_torn place veil old new inside differ torn =
     in
     let over = torn_over place 32 before slot behind new (sym place_is) (sym size) (subst (λ r. Torn place 32 r new) split torn) in
     inr (over.0, over.1, differ, over.2 ∙ sym (append_assoc before over.0 behind) ∙ ap (λ n. before ++ over.0 ++ drop (place + n) old) (sym over.1))
-
--- ---- one slot after another
-
--- the next slot met the fault
-pub left_here : (owner : List ℕ) (log : List Placed) (i : ℕ) (p : Placed) (y z : List ℕ) → i < length log → p ≡ get_or log i p →
-    LeavesSlot (p.place - 32) (veil_of owner p.epoch.0 p.batch) y z → LeavesSlots owner (map plain_placed (drop i log)) y z
-unfolding LeavesSlots
-left_here owner log i p y z within is leaves =
-    subst (λ (ps : List Placed). LeavesSlots owner (map plain_placed ps) y z) (sym (drop-cons log i p within))
-    (inl (subst (λ (q : Placed). LeavesSlot (q.place - 32) (veil_of owner q.epoch.0 q.batch) y z) is leaves))
-
--- or one behind it
-pub left_later : (owner : List ℕ) (log : List Placed) (i : ℕ) (p : Placed) (y z w : List ℕ) → i < length log → p ≡ get_or log i p →
-    z ≡ written_at (p.place - 32) (veil_of owner p.epoch.0 p.batch) y →
-    LeavesSlots owner (map plain_placed (drop (i + 1) log)) z w → LeavesSlots owner (map plain_placed (drop i log)) y w
-unfolding LeavesSlots
-left_later owner log i p y z w within is z_is leaves =
-    let next : i + 1 ≡ suc i = omega arith in
-    let rest = subst (λ n. LeavesSlots owner (map plain_placed (drop n log)) z w) next leaves in
-    subst (λ (ps : List Placed). LeavesSlots owner (map plain_placed ps) y w) (sym (drop-cons log i p within))
-    (inr (subst (λ (q : Placed). LeavesSlots owner (map plain_placed (drop (suc i) log)) (written_at (q.place - 32) (veil_of owner q.epoch.0 q.batch) y) w) is
-    (subst (λ r. LeavesSlots owner (map plain_placed (drop (suc i) log)) r w) z_is rest)))
 
 -- ---- the bytes that stood for batches
 

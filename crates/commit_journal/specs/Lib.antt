@@ -17,4 +17,5 @@ pub mod Stopping
 pub mod Moments
 pub mod Journals
 pub mod Opening
+pub mod Filling
 pub mod WholeLogs

@@ -1,15 +1,15 @@
 -- What is said of each moment of a call that reads a store, or opens it for writing. This project's own, docs/FORMAT.md, "Reading" and
 -- "Opening for writing".
-use Rattle.std.specs.Prelude.{◌≡◌, ◌≤◌, ◌-◌, ◌⊎◌, ℕ, List, Option, Some}
+use Rattle.std.specs.Prelude.{◌≡◌, ◌≤◌, ◌⊎◌, ℕ, List, Option, Some}
 use Rattle.cry_io.specs.Told.{WhereTold}
-use Rattle.chacha_seal.specs.Sealing.{veil_of}
 use Rattle.batch_log.specs.Moments.{GoesOn, Throughout}
-use Rattle.commit_journal.specs.declared.placed.Placed.{Placed}
+use Rattle.commit_journal.specs.declared.filling.Unfilled.{Unfilled}
+use Rattle.commit_journal.specs.Filling.{LeavesUnfilled}
 use Rattle.commit_journal.specs.Holding.{HoldsBetween, IsPrefix, Kept}
 use Rattle.commit_journal.specs.Image.{Batch}
 use Rattle.commit_journal.specs.Laws.{batches_from}
-use Rattle.commit_journal.specs.Opening.{LeavesGated, LeavesSlot, LeavesSlots}
-use Rattle.commit_journal.specs.Placed.{PlainBody, PlainPlaced}
+use Rattle.commit_journal.specs.Opening.{LeavesGated, LeavesSlot}
+use Rattle.commit_journal.specs.Placed.{PlainBody}
 use Rattle.commit_journal.specs.Standing.{StandsFor}
 use Rattle.commit_journal.specs.WholeLogs.{StandsWithin}
 
@@ -20,17 +20,14 @@ pub record IsSameThroughout {D : Type 0} (shown : D → Option (List ℕ)) (may_
   pub time : GoesOn (moment old) (since old) (since new)
   pub same : Throughout (λ s c. (shown old ≡ Some s) × may_leave old c) (since new (moment old))
 
--- the slot of a batch is filled: what is shown, and what a stop leaves, has it as before, or with any bytes where it didn't hold its veil
--- key
-abbrev pub FillsSlot : List ℕ → Placed → List ℕ → List ℕ → List ℕ → Type 0
-FillsSlot owner p old s c =
-    LeavesSlot (p.place - 32) (veil_of owner p.epoch.0 p.batch) old s × LeavesSlot (p.place - 32) (veil_of owner p.epoch.0 p.batch) old c
+-- a slot is filled: what is shown, and what a stop leaves, has it as before, or with any bytes where it didn't hold its veil key
+abbrev pub FillsSlot : Unfilled → List ℕ → List ℕ → List ℕ → Type 0
+FillsSlot slot old s c = LeavesSlot slot.place slot.veil old s × LeavesSlot slot.place slot.veil old c
 
--- Slots of these batches are filled one after another, each made to stay before the next: at each moment some of them are filled, in
--- what is shown and in what a stop leaves, and one more may hold any bytes
-abbrev pub FillsThroughout : List ℕ → List PlainPlaced → Option (List ℕ) → (List ℕ → List ℕ → Type 0) → Type 0
-FillsThroughout owner placed was since = WhereTold was (λ x. Throughout (λ s c. LeavesSlots owner placed x s
-    × LeavesSlots owner placed x c) since)
+-- These slots are filled one after another, each made to stay before the next: at each moment some of them are filled, in what is shown
+-- and in what a stop leaves, and one more may hold any bytes
+abbrev pub FillsThroughout : List Unfilled → Option (List ℕ) → (List ℕ → List ℕ → Type 0) → Type 0
+FillsThroughout slots was since = WhereTold was (λ x. Throughout (λ s c. LeavesUnfilled slots x s × LeavesUnfilled slots x c) since)
 
 -- A store is opened for writing: at each moment the disk shows what it showed, and what a stop leaves it left before the call; or both are
 -- what was shown, with slots filled where its log passes every test

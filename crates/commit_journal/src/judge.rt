@@ -213,8 +213,6 @@ pub(crate) fn wrong_tag(past: &Past, head: &Head) -> OpenFault
 
 /// Judges the bytes of a batch behind an open gate, and leaves its payload unmasked in them where it is published.
 /// The result is `None` where the batch ends the log, since nobody was given its payload.
-/// Judges the bytes of a batch behind an open gate, and leaves its payload unmasked in them where it is published.
-/// The result is `None` where the batch ends the log, since nobody was given its payload.
 #[tactic(auto, unfolding(crate::specs::Readers::read_turn))]
 pub(crate) fn judge_read(
     alloc: Global,

@@ -5,6 +5,7 @@ mod batch;
 mod batch_type;
 mod commit_fault;
 mod fault;
+mod filling;
 mod given;
 mod head;
 mod journal;

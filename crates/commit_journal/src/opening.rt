@@ -1,37 +1,33 @@
 //! Opening a store for writing: its log as the owner's key reads it, and the slots that a stop left empty
 //! (docs/FORMAT.md, "Opening for writing").
-ghost use Rattle.std.specs.Prelude.{◌≡◌, ◌≢◌, ◌⊎◌, ◌<◌, ◌≤◌, ◌+◌, ◌-◌, ◌^◌, Err, drop, length, map, is_some, IfOk, IfErr, OnErr, OnOk, All};
-ghost use Rattle.cry_io.specs.Counts.{CountsFault};
+ghost use Rattle.std.specs.Prelude.{◌≡◌, ◌≢◌, ◌⊎◌, ◌<◌, ◌≤◌, ◌+◌, ◌^◌, Err, drop, length, is_some, IfOk, IfErr, OnErr, OnOk, All};
+ghost use Rattle.std.specs.Option.{option_to_list};
 ghost use Rattle.cry_io.specs.Stops.{IsDurable};
 ghost use Rattle.cry_io.specs.Told.{WhereTold, WhereBothTold};
-ghost use Rattle.batch_log.specs.Moments.{GoesOn, Throughout};
-ghost use Rattle.chacha_seal.specs.Sealing.{veil_of};
+ghost use Rattle.batch_log.specs.Moments.{GoesOn};
 ghost use Rattle.commit_journal.specs.Answering.{Answers};
+ghost use Rattle.commit_journal.specs.Filling as filling;
 ghost use Rattle.commit_journal.specs.Logs.{AreInEpochs, epoch_behind};
-ghost use Rattle.commit_journal.specs.Moments.{FillsSlot, FillsThroughout, IsSameThroughout, KeepsHeld, OpensThroughout};
+ghost use Rattle.commit_journal.specs.Moments.{IsSameThroughout, KeepsHeld, OpensThroughout};
 ghost use Rattle.commit_journal.specs.Opening as opening;
-ghost use Rattle.commit_journal.specs.Placed.{plain_log, plain_placed};
+ghost use Rattle.commit_journal.specs.Placed.{plain_log};
 ghost use Rattle.commit_journal.specs.Places.{IsStanding};
 ghost use Rattle.commit_journal.specs.Reading.{IsOnlyRead, IsUntouched};
 ghost use Rattle.commit_journal.specs.Turns.{plain_turn};
 ghost use Rattle.commit_journal.specs.WholeLogs.{StillStand};
 
+use crate::filling::{Unfilled, fill_slots, keep};
 use crate::head::Head;
 use crate::judge::Turn;
-use crate::layout::{BATCH_LEN, OPEN, PAYLOAD};
-use crate::owned::judge_owned;
+use crate::layout::{BATCH_LEN, OPEN};
+use crate::owned::{OwnedTurn, judge_owned};
 use crate::past::Past;
 use crate::reading::{read_head, read_start};
 use crate::{Journal, OpenFault, Placed};
-use batch_log::{gated_at, unveil};
 use chacha_seal::{Key, LogKey, OwnerK};
 use cry_base::{Limits, List};
-use cry_io::{Disk, Failed};
-use hmac_seal::tags_equal;
+use cry_io::Disk;
 use std::alloc::Global;
-
-/// How far a slot stands before its payload.
-const SLOT_LEN: u64 = 32;
 
 /// A journal that was opened, and the batches of its log.
 #[derive(Drop)]
@@ -42,10 +38,12 @@ pub struct Opened {
     pub placed: List<Placed>,
 }
 
-/// The batches of a log, and what is known behind the last one.
+/// The batches of a log, those of their slots that aren't their veil keys, and what is known behind the last batch. Where nobody but
+/// the program wrote the store, one slot at most is kept, since a stop leaves no other one empty.
 #[derive(Drop)]
 struct Walked {
     placed: List<Placed>,
+    unfilled: List<Unfilled>,
     past: Past,
 }
 
@@ -76,15 +74,18 @@ fn read_owned<D: Disk>(
     owner: &LogKey,
     limit: u64,
     past: &Past,
-) -> Result<Turn, OpenFault>
+) -> Result<OwnedTurn, OpenFault>
     requires behind { 42 ≤ past.now.at }
     requires small { past.now.at ≤ 2 ^ 32 }
     requires inside { past.now.at ≤ D.size_of disk.old }
     ensures answer { WhereTold (D.shown disk.old)
-        (λ s. Answers plain_turn result (opening.owned_at limit owner.now.bytes past.now (drop past.now.at s))) }
-    ensures next { IfOk result (opening.IsNextTurn past.now (D.size_of disk.old)) }
-    ensures in_epoch { IfOk result (λ turn. opening.IsTurnIn past.now (plain_turn turn)) }
-    ensures stands { IfOk result (λ turn. IsStanding turn.placed) }
+        (λ s. Answers (λ o. plain_turn o.turn) result (opening.owned_at limit owner.now.bytes past.now (drop past.now.at s))) }
+    ensures unfilled { IfOk result (λ o. WhereTold (D.shown disk.old)
+        (λ s. o.unfilled ≡ filling.unfilled_of owner.now.bytes (plain_turn o.turn).placed s)) }
+    ensures within { IfOk result (λ o. All (filling.IsWithin (D.size_of disk.old)) (option_to_list o.unfilled)) }
+    ensures next { IfOk result (λ o. opening.IsNextTurn past.now (D.size_of disk.old) o.turn) }
+    ensures in_epoch { IfOk result (λ o. opening.IsTurnIn past.now (plain_turn o.turn)) }
+    ensures stands { IfOk result (λ o. IsStanding o.turn.placed) }
     ensures read_only { IsOnlyRead D.shown D.size_of D.may_leave disk.old disk.new }
     ensures moments { IsSameThroughout D.shown D.may_leave D.moment D.since disk.old disk.new }
     ensures counts { D.faults disk.old ≤ D.faults disk.new }
@@ -105,7 +106,9 @@ fn walk<D: Disk>(
     ensures verdict { WhereTold (D.shown disk.old)
         (λ s. Answers opening.plain_walked result (opening.opening_verdict limit owner.now.bytes s)) }
     ensures stands { IfOk result (λ w. All IsStanding w.placed.items) }
-    ensures inside { IfOk result (λ w. All (λ p. p.place + 65 ≤ D.size_of disk.old) w.placed.items) }
+    ensures unfilled { IfOk result (λ w. WhereTold (D.shown disk.old)
+        (λ s. w.unfilled.items ≡ filling.unfilled_in owner.now.bytes (plain_log w.placed) s)) }
+    ensures within { IfOk result (λ w. All (filling.IsWithin (D.size_of disk.old)) w.unfilled.items) }
     ensures gated { IfOk result (λ w. WhereTold (D.shown disk.old) (opening.AreGated 42 (plain_log w.placed))) }
     ensures room { IfOk result (λ w. opening.HasRoom w.past) }
     ensures end { IfOk result (λ w. w.past.at ≤ D.size_of disk.old) }
@@ -119,67 +122,21 @@ fn walk<D: Disk>(
 {
     let mut past = read_start(disk, owner)?;
     let mut log = List::new(alloc);
+    let mut slots = List::new(alloc);
     while past.gate == OPEN {
-        let turn = read_owned(alloc, disk, owner, limit, &past)?;
-        let Turn { placed, past: next } = turn;
+        let OwnedTurn {
+            turn: Turn { placed, past: next },
+            unfilled,
+        } = read_owned(alloc, disk, owner, limit, &past)?;
         log.push(placed)?;
+        keep(&mut slots, unfilled)?;
         past = next;
     }
-    Ok(Walked { placed: log, past })
-}
-
-/// Writes the veil key of a batch into its slot, if it doesn't stand there.
-fn fill_slot<D: Disk>(disk: &mut D, owner: &LogKey, placed: &Placed) -> Result<(), Failed>
-    requires behind { 87 ≤ placed.now.place }
-    requires inside { placed.now.place + 65 ≤ D.size_of disk.old }
-    requires gated { WhereTold (D.shown disk.old) (opening.IsGatedAt (placed.now.place - 45) 110) }
-    requires nothing_pending { IsDurable (D.may_leave disk.old) (D.shown disk.old) }
-    ensures filled { OnOk result (WhereBothTold (D.shown disk.old) (D.shown disk.new)
-        (λ x y. y ≡ opening.written_at (placed.now.place - 32) (veil_of owner.now.bytes placed.now.epoch.0 placed.now.batch) x)) }
-    ensures left { OnErr result (WhereBothTold (D.shown disk.old) (D.shown disk.new)
-        (opening.LeavesSlot (placed.now.place - 32) (veil_of owner.now.bytes placed.now.epoch.0 placed.now.batch))) }
-    ensures durable { OnOk result (IsDurable (D.may_leave disk.new) (D.shown disk.new)) }
-    ensures later { D.moment disk.old ≤ D.moment disk.new }
-    ensures time { GoesOn (D.moment disk.old) (D.since disk.old) (D.since disk.new) }
-    ensures stops { WhereTold (D.shown disk.old)
-        (λ x. Throughout (FillsSlot owner.now.bytes placed.now x) (D.since disk.new (D.moment disk.old))) }
-    ensures told { is_some (D.shown disk.new) ≡ is_some (D.shown disk.old) }
-    ensures size { D.size_of disk.new ≡ D.size_of disk.old }
-    ensures counts { CountsFault result (D.faults disk.old) (D.faults disk.new) }
-{
-    let _size = disk.size();
-    let place = placed.place - SLOT_LEN;
-    let veil = owner.veil_key(placed.epoch, placed.batch);
-    let mut slot = [0; 32];
-    disk.read_at(place, &mut slot)?;
-    if tags_equal(&slot, &veil) {
-        return Ok(());
-    }
-    let gated = gated_at(disk, placed.place - PAYLOAD as u64, BATCH_LEN);
-    unveil(disk, gated, &veil)
-}
-
-fn fill_slots<D: Disk>(disk: &mut D, owner: &LogKey, log: &[Placed]) -> Result<(), Failed>
-    requires stands { All IsStanding log.now }
-    requires inside { All (λ p. p.place + 65 ≤ D.size_of disk.old) log.now }
-    requires gated { WhereTold (D.shown disk.old) (opening.AreGated 42 (map plain_placed log.now)) }
-    requires nothing_pending { IsDurable (D.may_leave disk.old) (D.shown disk.old) }
-    ensures filled { OnOk result (WhereBothTold (D.shown disk.old) (D.shown disk.new)
-        (λ x y. y ≡ opening.slots_filled owner.now.bytes (map plain_placed log.now) x)) }
-    ensures left { OnErr result (WhereBothTold (D.shown disk.old) (D.shown disk.new)
-        (opening.LeavesSlots owner.now.bytes (map plain_placed log.now))) }
-    ensures durable { OnOk result (IsDurable (D.may_leave disk.new) (D.shown disk.new)) }
-    ensures later { D.moment disk.old ≤ D.moment disk.new }
-    ensures time { GoesOn (D.moment disk.old) (D.since disk.old) (D.since disk.new) }
-    ensures stops { FillsThroughout owner.now.bytes (map plain_placed log.now) (D.shown disk.old) (D.since disk.new (D.moment disk.old)) }
-    ensures told { is_some (D.shown disk.new) ≡ is_some (D.shown disk.old) }
-    ensures size { D.size_of disk.new ≡ D.size_of disk.old }
-    ensures counts { CountsFault result (D.faults disk.old) (D.faults disk.new) }
-{
-    for placed in log {
-        fill_slot(disk, owner, placed)?;
-    }
-    Ok(())
+    Ok(Walked {
+        placed: log,
+        unfilled: slots,
+        past,
+    })
 }
 
 impl Journal {
@@ -233,8 +190,12 @@ impl Journal {
         let Ok(()) = disk.sync() else {
             return Err(OpenFault::DiskFault);
         };
-        let Walked { placed, past } = walk(alloc, disk, &owner, limits.store_bytes)?;
-        let Ok(()) = fill_slots(disk, &owner, placed.as_slice()) else {
+        let Walked {
+            placed,
+            unfilled,
+            past,
+        } = walk(alloc, disk, &owner, limits.store_bytes)?;
+        let Ok(()) = fill_slots(disk, unfilled.as_slice()) else {
             return Err(OpenFault::DiskFault);
         };
         Ok(Opened {

@@ -1,24 +1,39 @@
-use Rattle.std.proofs.Common.{◌≡◌, ℕ, List, inl, inr, map, sym, ap, subst, ◌∙◌}
-use Rattle.commit_journal.specs.declared.placed.Placed.{Placed}
+use Rattle.std.proofs.Common.{◌≡◌, ℕ, List, inl, inr, sym, ap, subst, ◌∙◌}
+use Rattle.commit_journal.specs.declared.filling.Unfilled.{Unfilled}
 use Rattle.chacha_seal.specs.Keys.{KeyParts}
-use Rattle.commit_journal.specs.Opening.{LeavesGated, LeavesSlots, plain_walked, slots_filled}
+use Rattle.commit_journal.specs.Filling.{AreUnfilled, LeavesUnfilled, all_filled}
+use Rattle.commit_journal.specs.Opening.{LeavesGated, plain_walked, slots_filled}
 use Rattle.commit_journal.specs.WholeLogs.{StillStand}
-use Rattle.commit_journal.specs.Placed.{plain_placed}
+use Rattle.commit_journal.specs.Placed.{plain_log}
 use Rattle.batch_log.proofs.Moments.{goes_on_elapsed}
 use Rattle.commit_journal.proofs.CommitLemmas.{on_err}
-use Rattle.commit_journal.specs.Moments.{FillsThroughout, OpensThroughout}
+use Rattle.commit_journal.specs.Moments.{OpensThroughout}
 use Rattle.commit_journal.proofs.OpenedMoments.{keeps_held, opens_all, opens_read, opens_same, same_in_call, time_in_all}
 use Rattle.commit_journal.proofs.SlotsLeft.{still_left, still_same}
+use Rattle.commit_journal.proofs.SlotsUnfilled.{filled_is_filled, left_is_left, unfilled_are}
+use Rattle.commit_journal.proofs.SlotsWritten.{fills_log}
 use Rattle.commit_journal.proofs.journal.Journal.open_owner.Goals as goal
+
+pub fill_slots-requires-clause-unfilled : goal.fill_slots-requires-clause-unfilled
+fill_slots-requires-clause-unfilled g c = λ x x_is.
+    let owner = c.of-owner.result.bytes in
+    let walked = c.in_ok-placed.field-0 in
+    let read = sym c.in_ok-placed.ensures.read_only.same_bytes ∙ x_is in
+    let listed : c.as_slice.result.now ≡ walked.unfilled.items = cc in
+    subst (λ (slots : List Unfilled). AreUnfilled 42 slots x) (sym (listed ∙ c.in_ok-placed.ensures.unfilled x read))
+    (unfilled_are owner (plain_log walked.placed) 42 x (c.in_ok-placed.ensures.gated x read))
 
 pub returns-clause-filled : goal.returns-clause-filled
 returns-clause-filled g c = λ x y x_is y_is.
     let key : c.of-owner.result.bytes ≡ c.args.owner.now.bytes = ap (λ (k : KeyParts). k.bytes) c.of-owner.ensures in
     let owner = c.of-owner.result.bytes in
-    let listed : c.as_slice.result.now ≡ c.in_ok-placed.field-0.placed.items = cc in
-    c.in-Ok-fill_slots.ensures.filled x y (c.in_ok-placed.ensures.read_only.same_bytes ∙ c.in-Ok.ensures.shown ∙ x_is) y_is
-    ∙ ap (λ (log : List Placed). slots_filled owner (map plain_placed log) x) listed
-    ∙ ap (λ (k : List ℕ). slots_filled k (map plain_placed c.in_ok-placed.field-0.placed.items) x) key
+    let walked = c.in_ok-placed.field-0 in
+    let read = c.in-Ok.ensures.shown ∙ x_is in
+    let listed : c.as_slice.result.now ≡ walked.unfilled.items = cc in
+    c.in-Ok-fill_slots.ensures.filled x y (c.in_ok-placed.ensures.read_only.same_bytes ∙ read) y_is
+    ∙ ap (λ (slots : List Unfilled). all_filled slots x) (listed ∙ c.in_ok-placed.ensures.unfilled x read)
+    ∙ filled_is_filled owner (plain_log walked.placed) x (c.in_ok-placed.ensures.gated x read)
+    ∙ ap (λ (k : List ℕ). slots_filled k (plain_log walked.placed) x) key
 
 pub returns-in_default-fill_slots-clause-interrupted : goal.returns-in_default-fill_slots-clause-interrupted
 returns-in_default-fill_slots-clause-interrupted g c = λ x y x_is y_is.
@@ -26,10 +41,15 @@ returns-in_default-fill_slots-clause-interrupted g c = λ x y x_is y_is.
     let owner = c.of-owner.result.bytes in
     let walked = c.in_ok-placed.field-0 in
     let read = c.in-Ok.ensures.shown ∙ x_is in
-    let listed : c.as_slice.result.now ≡ walked.placed.items = cc in
+    let listed : c.as_slice.result.now ≡ walked.unfilled.items = cc in
     let leaves = c.in_default-fill_slots.ensures.left x y (c.in_ok-placed.ensures.read_only.same_bytes ∙ read) y_is in
     subst (λ (k : List ℕ). LeavesGated c.args.limits.store_bytes k x y) key
-    (inr (plain_walked walked, c.in_ok-placed.ensures.verdict x read, subst (λ (log : List Placed). LeavesSlots owner (map plain_placed log) x y) listed leaves))
+    (inr (
+      plain_walked walked,
+      c.in_ok-placed.ensures.verdict x read,
+      left_is_left owner (plain_log walked.placed) x y (c.in_ok-placed.ensures.gated x read)
+          (subst (λ (slots : List Unfilled). LeavesUnfilled slots x y) (listed ∙ c.in_ok-placed.ensures.unfilled x read) leaves),
+    ))
 
 pub returns-in_default-clause-interrupted : goal.returns-in_default-clause-interrupted
 returns-in_default-clause-interrupted g c = λ x y x_is y_is.
@@ -48,11 +68,12 @@ returns-in_default-fill_slots-clause-left g c = λ x y x_is y_is.
     let owner = c.of-owner.result.bytes in
     let walked = c.in_ok-placed.field-0 in
     let read = c.in-Ok.ensures.shown ∙ x_is in
-    let listed : c.as_slice.result.now ≡ walked.placed.items = cc in
+    let listed : c.as_slice.result.now ≡ walked.unfilled.items = cc in
     let leaves = c.in_default-fill_slots.ensures.left x y (c.in_ok-placed.ensures.read_only.same_bytes ∙ read) y_is in
     subst (λ (k : List ℕ). StillStand c.args.limits.store_bytes k x y) key
     (still_left c.args.limits.store_bytes owner x y (plain_walked walked) c.requires.known (c.in_ok-placed.ensures.verdict x read)
-    (subst (λ (log : List Placed). LeavesSlots owner (map plain_placed log) x y) listed leaves))
+    (left_is_left owner (plain_log walked.placed) x y (c.in_ok-placed.ensures.gated x read)
+    (subst (λ (slots : List Unfilled). LeavesUnfilled slots x y) (listed ∙ c.in_ok-placed.ensures.unfilled x read) leaves)))
 
 pub returns-in_default-clause-left : goal.returns-in_default-clause-left
 returns-in_default-clause-left g c = λ x y x_is y_is.
@@ -124,12 +145,14 @@ returns-in_default-fill_slots-clause-stops g c =
     let key : c.of-owner.result.bytes ≡ c.args.owner.now.bytes = ap (λ (k : KeyParts). k.bytes) c.of-owner.ensures in
     let owner = c.of-owner.result.bytes in
     let walked = c.in_ok-placed.field-0 in
-    let listed : c.as_slice.result.now ≡ walked.placed.items = cc in
+    let listed : c.as_slice.result.now ≡ walked.unfilled.items = cc in
+    let read = c.in_ok-placed.ensures.read_only.same_bytes in
     subst (λ (k : List ℕ). OpensThroughout c.args.limits.store_bytes k (D.shown a) (D.may_leave a) (D.since f (D.moment a))) key
     (opens_all D.shown D.may_leave D.moment D.since a b e f c.args.limits.store_bytes owner (plain_walked walked) (λ s left at. g.met.D.Disk.only_now a s left at)
-    c.sync.ensures.shown c.sync.ensures.stops c.sync.ensures.time c.walk.ensures.moments c.in_ok-placed.ensures.read_only.same_bytes c.fill_slots.ensures.time
+    c.sync.ensures.shown c.sync.ensures.stops c.sync.ensures.time c.walk.ensures.moments read c.fill_slots.ensures.time
     c.in_ok-placed.ensures.verdict
-    (subst (λ (log : List Placed). FillsThroughout owner (map plain_placed log) (D.shown e) (D.since f (D.moment e))) listed c.fill_slots.ensures.stops))
+    (fills_log owner (plain_log walked.placed) c.as_slice.result.now (D.shown e) (D.since f (D.moment e))
+    (λ x x_is. listed ∙ c.in_ok-placed.ensures.unfilled x (sym read ∙ x_is)) (λ x x_is. c.in_ok-placed.ensures.gated x (sym read ∙ x_is)) c.fill_slots.ensures.stops))
 
 pub returns-in_default-fill_slots-clause-kept : goal.returns-in_default-fill_slots-clause-kept
 returns-in_default-fill_slots-clause-kept g c =
@@ -155,12 +178,14 @@ returns-clause-stops g c =
     let key : c.of-owner.result.bytes ≡ c.args.owner.now.bytes = ap (λ (k : KeyParts). k.bytes) c.of-owner.ensures in
     let owner = c.of-owner.result.bytes in
     let walked = c.in_ok-placed.field-0 in
-    let listed : c.as_slice.result.now ≡ walked.placed.items = cc in
+    let listed : c.as_slice.result.now ≡ walked.unfilled.items = cc in
+    let read = c.in_ok-placed.ensures.read_only.same_bytes in
     subst (λ (k : List ℕ). OpensThroughout c.args.limits.store_bytes k (D.shown a) (D.may_leave a) (D.since f (D.moment a))) key
     (opens_all D.shown D.may_leave D.moment D.since a b e f c.args.limits.store_bytes owner (plain_walked walked) (λ s left at. g.met.D.Disk.only_now a s left at)
-    c.sync.ensures.shown c.sync.ensures.stops c.sync.ensures.time c.walk.ensures.moments c.in_ok-placed.ensures.read_only.same_bytes c.fill_slots.ensures.time
+    c.sync.ensures.shown c.sync.ensures.stops c.sync.ensures.time c.walk.ensures.moments read c.fill_slots.ensures.time
     c.in_ok-placed.ensures.verdict
-    (subst (λ (log : List Placed). FillsThroughout owner (map plain_placed log) (D.shown e) (D.since f (D.moment e))) listed c.fill_slots.ensures.stops))
+    (fills_log owner (plain_log walked.placed) c.as_slice.result.now (D.shown e) (D.since f (D.moment e))
+    (λ x x_is. listed ∙ c.in_ok-placed.ensures.unfilled x (sym read ∙ x_is)) (λ x x_is. c.in_ok-placed.ensures.gated x (sym read ∙ x_is)) c.fill_slots.ensures.stops))
 
 pub returns-clause-kept : goal.returns-clause-kept
 returns-clause-kept g c =
