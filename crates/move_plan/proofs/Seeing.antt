@@ -19,37 +19,19 @@ use Rattle.grant_book.specs.Refused.{is_holder}
 use Rattle.grant_book.proofs.Lists.{is_some-find}
 use Rattle.role_graph.specs.Edges.{edges}
 use Rattle.role_graph.specs.PublicStore.{public_store}
-use Rattle.role_graph.specs.Roles.{same_role, variant_of, role_id, folder_roles, clear_of, sub_of, back_of, files_of, data_of}
+use Rattle.role_graph.specs.Roles.{folder_roles}
+use Rattle.role_graph.proofs.AtEnds.{touches}
 use Rattle.move_plan.specs.Change.{edges_at, folder_of_file, parent_of_folder}
-use Rattle.move_plan.specs.Dropping.{edges_touching, is_of_folder}
 use Rattle.move_plan.specs.Fitting.{file_stands, folder_stands, has_depth_left, is_other_folder, may_go_into}
 use Rattle.move_plan.specs.Seen.{keyless, seen_store}
-
-or_false : (b : Bool) → (b || false) ≡ b
-or_false true = refl
-or_false false = refl
-
--- the roles of a folder are those with its number
-is_of_told : (f : ℕ) (r : Role) → is_of_folder f r ≡ has same_role (folder_roles f) r
-unfolding has same_role variant_of role_id folder_roles clear_of sub_of back_of files_of data_of
-is_of_told f Owner = refl
-is_of_told f (Holder h) = refl
-is_of_told f (Clear g) = sym (or_false (g.0 == f))
-is_of_told f (Sub g) = sym (or_false (g.0 == f))
-is_of_told f (Back g) = sym (or_false (g.0 == f))
-is_of_told f (Files g) = sym (or_false (g.0 == f))
-is_of_told f (Data g) = sym (or_false (g.0 == f))
-is_of_told f (File x) = refl
 
 edges_seen : (t : Store) (g : Granted) → edges (public_store t g.pairs) ≡ edges (seen_store t g)
 unfolding edges
 edges_seen t g = refl
 
-pub touching_told : (t : Store) (g : Granted) (f : ℕ) → edges_touching f (edges (public_store t g.pairs)) ≡ edges_at (seen_store t g) f
+pub touching_told : (t : Store) (g : Granted) (f : ℕ) → filter (touches (folder_roles f)) (edges (public_store t g.pairs)) ≡ edges_at (seen_store t g) f
 unfolding edges_at
-touching_told t g f =
-    ap (edges_touching f) (edges_seen t g)
-    ∙ (λ i. filter (λ (e : Edge). is_of_told f e.from i || is_of_told f e.to i) (edges (seen_store t g)))
+touching_told t g f = ap (filter (touches (folder_roles f))) (edges_seen t g)
 
 any_of_map : (X Y : Type 0) (f : X → Y) (p : Y → Bool) (xs : List X) → list_any p (map f xs) ≡ list_any (λ x. p (f x)) xs
 any_of_map X Y f p [] = refl

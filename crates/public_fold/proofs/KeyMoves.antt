@@ -361,7 +361,7 @@ command_moves s r key check n q ok =
     }
 
 -- the root's making is a move from nothing
-no_edge : (e : Edge) → IsEdge no_store e → ⊥
+pub no_edge : (e : Edge) → IsEdge no_store e → ⊥
 unfolding no_store
 no_edge e w = ⊎_elim (λ (o : IsOwnEdge no_store e). o.1) (λ v. ⊎_elim (λ (p : IsParentEdge no_store e). p.1) (λ u. ⊎_elim (λ (g : IsGrantEdge no_store e). g.1) (λ (x : IsFileEdge no_store e). x.1) u) v) w
 

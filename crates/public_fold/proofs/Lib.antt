@@ -38,5 +38,5 @@ pub mod TurnsHold
 pub mod TextsWritten
 pub mod RootAlone
 pub mod KeyTabled
-pub mod QuietNotes
+pub mod FoundEdges
 pub mod StaysRooted

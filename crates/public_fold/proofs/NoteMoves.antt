@@ -112,10 +112,10 @@ row_rooted s (Give h f) t ok = let w = give_told s h f t in rooting.give s h f o
 row_rooted s (Take h f) t ok = rooting.take s h f ok
 
 -- the edge into a file that stands, and those of a folder and its parent
-file_edge_told : (s : Store) (x : ℕ) → IsRooted s → (w : HasFile s x) → edge_into_file s x ≡ file_edge w.0.folder w.0.id
+pub file_edge_told : (s : Store) (x : ℕ) → IsRooted s → (w : HasFile s x) → edge_into_file s x ≡ file_edge w.0.folder w.0.id
 file_edge_told s x ok w = found_file s x w.0 ok.own_file w.1 w.2
 
-parent_told : (s : Store) (g : ℕ) → IsRooted s → (w : HasFolder s g) → parent_of_folder s g ≡ w.0.parent
+pub parent_told : (s : Store) (g : ℕ) → IsRooted s → (w : HasFolder s g) → parent_of_folder s g ≡ w.0.parent
 unfolding parent_of_folder folder_entry
 parent_told s g ok w = ap (λ o. elim o as (λ z. ℕ) [ None ↦ 0 | Some e ↦ e.parent ]) (find_own s.folders w.0 g ok.numbered w.1 w.2)
 

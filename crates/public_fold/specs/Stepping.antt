@@ -3,7 +3,6 @@ use Rattle.std.specs.Prelude.{◌≡◌, ℕ, ◌+◌, ◌<◌, true, List, [], 
 use Rattle.cry_base.specs.Store.{Store}
 use Rattle.cry_base.specs.declared.roles.Edge.{Edge}
 use Rattle.cry_base.specs.declared.roles.Role.{Role}
-use Rattle.role_graph.specs.Edges.{edge_before, in_order}
 use Rattle.role_graph.specs.Roles.{same_role}
 use Rattle.move_plan.specs.Change.{Change, change_of}
 use Rattle.move_plan.specs.Fitting.{fits}
@@ -25,13 +24,6 @@ pub record IsDue (k : KeyState) (before : List Edge) (c : Change) (d : Due) : Ty
   pub gone : d.gone.items ≡ renewed k before c ++ c.gone
   pub dirty : d.dirty ≡ without same_role (renewed k before c) (dirty_left k before c)
   pub edges : d.edges.items ≡ published_edges before c (renewed k before c)
-
--- the same where nothing is dirty and no edge goes: the new roles get keys, and the edges that come are published
-pub record IsQuietDue (c : Change) (d : Due) : Type 0 where
-  pub keyed : d.keyed.items ≡ c.fresh
-  pub gone : d.gone.items ≡ c.gone
-  pub dirty : d.dirty ≡ []
-  pub edges : d.edges.items ≡ in_order edge_before c.added
 
 -- the keys that a step leaves
 abbrev pub keys_left : List (Role × ℕ) → Step → List (Role × ℕ)

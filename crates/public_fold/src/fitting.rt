@@ -5,10 +5,10 @@ ghost use Rattle.record_format.specs.Spellable.{longest_text, shortest_text};
 ghost use Rattle.public_fold.specs.Fitted.{are_due, has_length as has_length_of, has_link_head};
 ghost use Rattle.public_fold.specs.Heads.{is_content_of};
 
-use crate::publishing::number_of;
 use crate::{ContentHead, LinkHead, Skeleton};
 use cry_base::ROOT;
 use record_format::{ContentRecord, FOLDER_NAME, LinkRecord, Payload, text_range};
+use role_graph::number_of;
 
 /// Whether the payload has each record that is due, in the order of the skeleton, and no other.
 pub(crate) fn has_records(skeleton: &Skeleton, payload: &Payload) -> bool

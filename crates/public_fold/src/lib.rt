@@ -19,7 +19,6 @@ mod marks;
 mod numbering;
 mod prepared;
 mod publishing;
-mod quiet;
 pub mod rows;
 mod sealing;
 pub mod sound_laws;

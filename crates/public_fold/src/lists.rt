@@ -6,6 +6,7 @@ ghost use Rattle.role_graph.specs.Roles.{same_role};
 ghost use Rattle.public_fold.specs.KeyStep.{without};
 
 use cry_base::{Edge, List, Mem, Role};
+use role_graph::has_edge;
 use std::alloc::Global;
 
 /// Whether the two are one role.
@@ -16,28 +17,12 @@ pub(crate) fn is_same_role(a: Role, b: Role) -> bool
     a == b
 }
 
-/// Whether the two are one edge.
-#[tactic(auto, unfolding(role_graph::specs::Edges::same_edge))]
-fn is_same_edge(a: &Edge, b: &Edge) -> bool
-    ensures { result ≡ same_edge a.now b.now }
-{
-    a.kind == b.kind && is_same_role(a.from, b.from) && is_same_role(a.to, b.to)
-}
-
 /// Whether the role is one of these.
 #[tactic(auto, unfolding(cry_base::specs::Sets::has))]
 pub(crate) fn has_role(roles: &[Role], role: Role) -> bool
     ensures { result ≡ has same_role roles.now role }
 {
     roles.iter().any(|other| is_same_role(role, *other))
-}
-
-/// Whether the edge is one of these.
-#[tactic(auto, unfolding(cry_base::specs::Sets::has))]
-pub(crate) fn has_edge(edges: &[Edge], edge: &Edge) -> bool
-    ensures { result ≡ has same_edge edges.now edge.now }
-{
-    edges.iter().any(|other| is_same_edge(edge, other))
 }
 
 /// The one list, and behind it the other.
@@ -60,19 +45,9 @@ fn push_roles(all: &mut List<Role>, roles: &[Role]) -> Mem<()>
     Ok(())
 }
 
-/// The edges that are left without the removed ones. Where none is removed, they are handed through.
-pub(crate) fn edges_left(alloc: Global, before: Vec<Edge>, removed: &[Edge]) -> Mem<Vec<Edge>>
-    ensures { IfOk result (λ l. l.items ≡ without same_edge removed.now before.items) }
-{
-    if removed.is_empty() {
-        return Ok(before);
-    }
-    others(alloc, &before, removed)
-}
-
-/// The edges that aren't among some.
+/// The edges that are left without the removed ones.
 #[tactic(auto, unfolding(crate::specs::KeyStep::without))]
-fn others(alloc: Global, edges: &[Edge], removed: &[Edge]) -> Mem<Vec<Edge>>
+pub(crate) fn edges_left(alloc: Global, edges: &[Edge], removed: &[Edge]) -> Mem<Vec<Edge>>
     ensures { IfOk result (λ l. l.items ≡ without same_edge removed.now edges.now) }
 {
     let mut left = Vec::new(alloc);

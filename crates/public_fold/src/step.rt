@@ -12,18 +12,17 @@ ghost use Rattle.public_fold.specs.Stepping.{IsDue, IsNumbered, IsOfFittingNote,
 
 use crate::counter::{SerialCount, count_after, next_serial};
 use crate::keys::{KeyTable, KeysThen};
-use crate::lists::{edges_left, joined};
+use crate::lists::joined;
 use crate::marks::{clean, dirty_left};
 use crate::numbering::{given_keys, link_heads};
 use crate::publishing::published;
-use crate::quiet::{is_quiet, quiet_step};
 use crate::sealing::{content_count, content_heads};
 use crate::{FoldFault, PublicState, Skeleton};
 use cry_base::{Edge, List, Mem, Role, Steps};
 use move_plan::{Change, change_of};
 use record_format::Note;
 use rekey_walk::{Dirty, plan_in};
-use role_graph::{StoreRoles, unordered_edges};
+use role_graph::StoreRoles;
 use std::alloc::Global;
 
 /// A step before its serials are counted.
@@ -80,20 +79,10 @@ pub(crate) fn step_of(
     numbered_step(alloc, &state.keys, from, note, due)
 }
 
-/// The step of a change, before its serials are counted. Where nothing is dirty and no edge goes, what is published is what
-/// comes, and no edge that stands is looked at.
+/// The step of a change, before its serials are counted. Marks, plan and what is published are looked up at the roles
+/// that they come to, and no list of all edges is made.
 fn due_step(alloc: Global, state: &PublicState, change: &Change) -> Mem<Due>
     requires { IsOfFittingNote (public_store_of state.now) (plain_change change.now) }
-    ensures { IfOk result (λ d. IsDue state.now.keys (edges_of (public_store state.now.tree state.now.pairs)) (plain_change change.now) d) }
-{
-    if is_quiet(&state.dirty, change) {
-        return quiet_step(alloc, change);
-    }
-    whole_step(alloc, state, change)
-}
-
-/// The step of any change. Marks and plan look edges up; the list of all edges is for those that are published.
-fn whole_step(alloc: Global, state: &PublicState, change: &Change) -> Mem<Due>
     ensures { IfOk result (λ d. IsDue state.now.keys (edges_of (public_store state.now.tree state.now.pairs)) (plain_change change.now) d) }
 {
     let roles = StoreRoles {
@@ -102,15 +91,14 @@ fn whole_step(alloc: Global, state: &PublicState, change: &Change) -> Mem<Due>
     };
     let mut steps = Steps::new();
     let removed = change.removed.as_slice();
-    let mut dirty = dirty_left(alloc, &state.dirty, &roles, change, &mut steps)?;
     let wanted = change.wanted.as_slice();
+    let mut dirty = dirty_left(alloc, &state.dirty, &roles, change, &mut steps)?;
     let renewed = plan_in(alloc, &dirty, &roles, removed, wanted, &mut steps)?;
     let renewed = renewed.as_slice();
-    let before = unordered_edges(alloc, &state.shape, &state.grants)?;
-    let left = edges_left(alloc, before, removed)?;
     let keyed = joined(alloc, renewed, change.fresh.as_slice())?;
     let gone = joined(alloc, renewed, change.gone.as_slice())?;
-    let edges = published(alloc, &left, change.added.as_slice(), keyed.as_slice())?;
+    let added = change.added.as_slice();
+    let edges = published(alloc, &roles, removed, added, renewed, &mut steps)?;
     clean(&mut dirty, renewed);
     Ok(Due {
         keyed,

@@ -56,13 +56,13 @@ map_kept X Y q f g same (x ∷ xs) = (elim (q x) as (λ b. q x ≡ b → map f (
 
 -- ---- rows by number
 
-abbrev ByNumber : (X : Type 0) → (X → ℕ) → List X → Type 0
+abbrev pub ByNumber : (X : Type 0) → (X → ℕ) → List X → Type 0
 ByNumber X id xs = AllPairs (λ (a b : X). id a < id b) xs
 
-above : (X : Type 0) (id : X → ℕ) (x : X) (xs : List X) → ByNumber X id (x ∷ xs) → (y : X) → In y xs → id x < id y
+pub above : (X : Type 0) (id : X → ℕ) (x : X) (xs : List X) → ByNumber X id (x ∷ xs) → (y : X) → In y xs → id x < id y
 above X id x xs up y i = let w = stands_at X xs y i in subst (λ z. id x < id z) (w.2 y) (up 0 (suc w.0) y (omega arith) (omega (arith, w.1)))
 
-behind : (X : Type 0) (id : X → ℕ) (x : X) (xs : List X) → ByNumber X id (x ∷ xs) → ByNumber X id xs
+pub behind : (X : Type 0) (id : X → ℕ) (x : X) (xs : List X) → ByNumber X id (x ∷ xs) → ByNumber X id xs
 behind X id x xs up = λ i j d lt within. up (suc i) (suc j) d (omega arith) (omega arith)
 
 -- what a row gives, where it is found

@@ -20,3 +20,6 @@ pub mod Sifting
 pub mod Walked
 pub mod AtRoles
 pub mod RoleEdges
+pub mod Once
+pub mod EdgesOnce
+pub mod AtEnds

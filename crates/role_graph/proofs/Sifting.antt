@@ -56,7 +56,7 @@ joined X lt o xs ys = one_order X lt o (in_order lt (in_order lt xs ++ ys)) (in_
     ∙ sym (filter_joins X (ties lt w) xs ys)
     ∙ sym (order_keeps X lt o w (xs ++ ys)))
 
-edges_rank : IsStrictWeakOrder edge_before
+pub edges_rank : IsStrictWeakOrder edge_before
 edges_rank = subst (λ (lt : Edge → Edge → Bool). IsStrictWeakOrder lt) (λ i a b. before_by_key a b i) (ranks_by key_total key_of)
 
 pub kept_in_order : (p : Edge → Bool) (xs : List Edge) → filter p (in_order edge_before xs) ≡ in_order edge_before (filter p xs)

@@ -1,5 +1,5 @@
 -- The edges at a role, and how many edges a walk meets.
-use Rattle.std.specs.Prelude.{◌≡◌, ◌↔◌, ℕ, not, cond, ◌==◌, List, [], ◌∷◌, ◌++◌, map, filter, length, is_some}
+use Rattle.std.specs.Prelude.{◌≡◌, ◌↔◌, ℕ, Bool, false, not, cond, ◌==◌, List, [], ◌∷◌, ◌++◌, map, flat_map, filter, length, Option, Some, None, is_some}
 use Rattle.cry_base.specs.Sets.{In, has}
 use Rattle.cry_base.specs.Store.{Store, FolderEntry, folder_entry}
 use Rattle.cry_base.specs.declared.roles.Edge.{Edge}
@@ -16,6 +16,22 @@ out_of es r = filter (λ e. same_role e.from r) es
 
 unfoldable pub into : List Edge → Role → List Edge
 into es r = filter (λ e. same_role e.to r) es
+
+-- the edges out of the role and those into it; and for each of the roles, one after another
+unfoldable pub at_role : List Edge → Role → List Edge
+at_role es r = out_of es r ++ into es r
+
+unfoldable pub at_roles : List Edge → List Role → List Edge
+at_roles es rs = flat_map (at_role es) rs
+
+-- whether the edge is as the one before it; and the edges without those that are as the one before
+unfoldable pub is_repeat : Option Edge → Edge → Bool
+is_repeat None e = false
+is_repeat (Some last) e = same_edge last e
+
+unfoldable pub once_after : Option Edge → List Edge → List Edge
+once_after last [] = []
+once_after last (e ∷ es) = cond (is_repeat last e) (once_after (Some e) es) (e ∷ once_after (Some e) es)
 
 -- the edges without some
 unfoldable pub edges_but : List Edge → List Edge → List Edge

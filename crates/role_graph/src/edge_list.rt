@@ -18,13 +18,20 @@ use std::alloc::Global;
 pub fn edges(alloc: Global, shape: &Shape, grants: &Grants) -> Mem<List<Edge>>
     ensures { IfOk result (λ l. l.items ≡ edges_of (public_store shape.now.tree grants.now.pairs)) }
 {
-    let mut all = unordered_edges(alloc, shape, grants)?;
-    sort(&mut all)?;
-    to_list(alloc, &all)
+    let all = unordered_edges(alloc, shape, grants)?;
+    in_their_order(alloc, all)
+}
+
+/// The edges in their order.
+pub fn in_their_order(alloc: Global, mut edges: Vec<Edge>) -> Mem<List<Edge>>
+    ensures { IfOk result (λ l. l.items ≡ in_order edge_before edges.items) }
+{
+    sort(&mut edges)?;
+    to_list(alloc, &edges)
 }
 
 /// The same edges as the folders, the grants and the files come. It doesn't sort them.
-pub fn unordered_edges(alloc: Global, shape: &Shape, grants: &Grants) -> Mem<Vec<Edge>>
+fn unordered_edges(alloc: Global, shape: &Shape, grants: &Grants) -> Mem<Vec<Edge>>
     ensures { IfOk result (λ l. l.items ≡ unordered (public_store shape.now.tree grants.now.pairs)) }
 {
     let mut all = Vec::new(alloc);
@@ -124,7 +131,7 @@ fn of_file(file: &FileRow) -> Edge
 }
 
 /// Puts the edges in their order.
-fn sort(edges: &mut Vec<Edge>) -> Mem<()>
+pub(crate) fn sort(edges: &mut Vec<Edge>) -> Mem<()>
     ensures { OnOk result (edges.new.items ≡ in_order edge_before edges.old.items) }
 {
     edges.sort_by_key(|edge| (edge.kind, number_of(edge.from), number_of(edge.to)))?;
@@ -133,7 +140,7 @@ fn sort(edges: &mut Vec<Edge>) -> Mem<()>
 
 /// The number of the folder, file or holder that the role is for, and 0 for the owner's.
 #[tactic(auto, unfolding(crate::specs::Roles::role_id))]
-pub(crate) fn number_of(role: Role) -> u32
+pub fn number_of(role: Role) -> u32
     ensures { result ≡ role_id role }
 {
     match role {

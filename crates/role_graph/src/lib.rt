@@ -14,10 +14,11 @@ mod roles;
 pub mod rows;
 mod store_roles;
 pub mod tabled;
+mod touching;
 mod walking;
 mod way;
 
-pub use edge_list::{edges, edges_between, edges_within, unordered_edges};
+pub use edge_list::{edges, edges_between, edges_within, in_their_order, number_of};
 pub use reaching::{leading_to, reach, reach_back};
 pub use rights::{allowed, named};
 pub use role_set::RoleSet;

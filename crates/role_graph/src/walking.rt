@@ -104,7 +104,7 @@ pub fn has_edge(edges: &[Edge], edge: &Edge) -> bool
 
 /// Whether the two are one edge.
 #[tactic(auto, unfolding(crate::specs::Edges::same_edge, crate::specs::Roles::same_role, crate::specs::Roles::variant_of, crate::specs::Roles::role_id))]
-fn is_same_edge(a: &Edge, b: &Edge) -> bool
+pub(crate) fn is_same_edge(a: &Edge, b: &Edge) -> bool
     ensures { result ≡ same_edge a.now b.now }
 {
     a.kind == b.kind && a.from == b.from && a.to == b.to

@@ -1,22 +1,43 @@
-use Rattle.std.proofs.Common.{◌≡◌, List, [], sym, ap, ◌∙◌, subst}
-use Rattle.std.proofs.lemmas.Result.{IfOk-weaker}
+use Rattle.std.proofs.Common.{◌≡◌, ◌++◌, List, filter, sym, ap, ◌∙◌, subst}
+use Rattle.cry_base.specs.Store.{Store}
 use Rattle.cry_base.specs.declared.roles.Edge.{Edge}
-use Rattle.role_graph.specs.Edges.{edges}
+use Rattle.cry_base.specs.declared.roles.Role.{Role}
+use Rattle.role_graph.specs.Adjacent.{edges_but}
+use Rattle.role_graph.specs.Edges.{edge_before, edges, in_order, same_edge}
 use Rattle.role_graph.specs.PublicStore.{public_store}
+use Rattle.role_graph.specs.Roles.{same_role}
+use Rattle.role_graph.proofs.AtEnds.{touches}
+use Rattle.rekey_walk.specs.Dirty.{plan}
+use Rattle.move_plan.specs.Change.{Change}
 use Rattle.move_plan.specs.Seen.{plain_change}
+use Rattle.public_fold.specs.KeyStep.{KeyState, published_edges, without}
 use Rattle.public_fold.specs.Rooted.{MayStand}
 use Rattle.public_fold.specs.Standing.{PublicView, public_store_of}
-use Rattle.public_fold.specs.Stepping.{IsDue, IsQuietDue}
-use Rattle.public_fold.proofs.QuietNotes.{due_quietly}
-use Rattle.public_fold.proofs.StepTold.{edges_seen}
+use Rattle.public_fold.specs.Stepping.{IsDue}
+use Rattle.public_fold.specs.declared.step.Due.{Due}
+use Rattle.public_fold.proofs.DueMade.{due_is}
+use Rattle.public_fold.proofs.FoundEdges.{found_for}
 use Rattle.public_fold.proofs.step.due_step.Goals as goal
 
-pub returns-then-is_quiet : goal.returns-then-is_quiet
-returns-then-is_quiet c =
-    let v = c.args.state.now in
+pub returns : goal.returns
+returns c =
     let change = plain_change c.args.change.now in
+    let s : Store = public_store c.state.inside.shape.tree c.state.inside.grants.pairs in
+    let k : KeyState = record { keys = c.state.inside.keys.keys; dirty = c.state.inside.dirty; epoch = c.state.inside.epoch; count = c.state.inside.count } in
+    let again : List Role = c.in_ok-renewed.renewed.items in
+    let made : Due = record { keyed = c.in_ok-keyed.keyed; gone = c.in_ok-gone.gone; dirty = c.clean.new.dirty; edges = c.in_ok-edges.edges } in
+    let v = c.args.state.now in
     let stands : MayStand (public_store_of v) = subst (λ (w : PublicView). MayStand (public_store_of w)) c.state.view_is c.state.invariant in
-    let clean : v.keys.dirty ≡ [] = ap (λ (w : PublicView). w.keys.dirty) (sym c.state.view_is) ∙ c.is_quiet.ensures.dirty c.if-is_quiet.true in
-    let none : change.removed ≡ [] = c.is_quiet.ensures.removed c.if-is_quiet.true in
-    IfOk-weaker c.quiet_step.result (λ d. IsQuietDue change d) (λ d. IsDue v.keys (edges (public_store v.tree v.pairs)) change d)
-    (λ d quiet. subst (λ (l : List Edge). IsDue v.keys l change d) (sym (edges_seen v)) (due_quietly v.keys (public_store_of v) change d stands c.requires clean none quiet)) c.quiet_step.ensures
+    let same : public_store v.tree v.pairs ≡ s = ap (λ (w : PublicView). public_store w.tree w.pairs) (sym c.state.view_is) in
+    subst (λ (w : PublicView). IsDue w.keys (edges (public_store w.tree w.pairs)) change made) c.state.view_is
+    (due_is k (edges s) change c.in_ok-dirty.dirty again made
+    c.in_ok-dirty.ensures
+    (c.in_ok-renewed.ensures.plan ∙ (λ i. plan c.in_ok-dirty.dirty (edges_but (c.as_slice-removed.ensures i) (edges s)) (c.as_slice-wanted.ensures i)))
+    (c.in_ok-keyed.ensures ∙ (λ i. c.as_slice-renewed.ensures i ++ c.as_slice.ensures i))
+    (c.in_ok-gone.ensures ∙ (λ i. c.as_slice-renewed.ensures i ++ c.as_slice-2.ensures i))
+    (c.in_ok-edges.ensures
+    ∙ (λ i. in_order edge_before (without same_edge (c.as_slice-removed.ensures i) (filter (touches (c.as_slice-renewed.ensures i)) (edges s)) ++ c.as_slice-added.ensures i))
+    ∙ ap (λ (l : Store). in_order edge_before (without same_edge change.removed (filter (touches again) (edges l)) ++ change.added)) (sym same)
+    ∙ found_for v change stands c.requires again
+    ∙ ap (λ (l : Store). published_edges (edges l) change again) same)
+    (c.clean.ensures ∙ ap (λ (l : List Role). without same_role l c.in_ok-dirty.dirty) c.as_slice-renewed.ensures))

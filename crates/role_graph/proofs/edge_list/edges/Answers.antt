@@ -9,5 +9,5 @@ use Rattle.role_graph.proofs.edge_list.edges.Goals as goal
 pub returns : goal.returns
 returns c =
     let store = public_store c.args.shape.now.tree c.args.grants.now.pairs in
-    let sorted : c.sort.new.edges.items ≡ edges store = c.in_ok-sort.ensures ∙ ap (λ (l : List Edge). in_order edge_before l) c.in_ok-all.ensures ∙ sym (edges_ordered store) in
-    IfOk-weaker c.to_list.result (λ l. l.items ≡ c.deref.result.now) (λ l. l.items ≡ edges store) (λ l e. e ∙ c.deref.ensures.value ∙ sorted) c.to_list.ensures
+    let all : in_order edge_before c.in_ok-all.all.items ≡ edges store = ap (λ (l : List Edge). in_order edge_before l) c.in_ok-all.ensures ∙ sym (edges_ordered store) in
+    IfOk-weaker c.in_their_order.result (λ l. l.items ≡ in_order edge_before c.in_ok-all.all.items) (λ l. l.items ≡ edges store) (λ l e. e ∙ all) c.in_their_order.ensures

@@ -1,0 +1,214 @@
+-- What a note that fits publishes is what comes, and of what stands the edges at renewed roles.
+use Rattle.std.proofs.Common.{◌≡◌, ℕ, ◌+◌, Bool, true, false, cond, not, ◌==◌, ◌&&◌, ◌||◌, ◌⊎◌, List, [], ◌∷◌, ◌++◌, filter, inl, inr, ⊎_elim, refl, sym, ap, ◌∙◌, subst}
+use Rattle.std.proofs.lemmas.Bool.{and_parts, eq-eqb, false_from_ne_true, false≢true, not-true, or_left}
+use Rattle.std.proofs.lemmas.List.Elements.{filter-append}
+use Rattle.std.proofs.lemmas.List.Folds.{list_any-append}
+use Rattle.std.specs.List.{list_any}
+use Rattle.cry_base.specs.Sets.{In, Tells, has}
+use Rattle.cry_base.specs.Store.{Store, no_store, is_within, depth_of, folder_node}
+use Rattle.cry_base.specs.Refusing.{height_of}
+use Rattle.cry_base.specs.declared.roles.Edge.{Edge}
+use Rattle.cry_base.specs.declared.roles.Role.{Role}
+use Rattle.cry_base.proofs.Members.{In-append}
+use Rattle.cry_base.proofs.Reaching.{has-in, in-has}
+use Rattle.std.specs.Prelude.{Some, nat_le}
+use Rattle.role_graph.specs.Edges.{IsEdge, IsFileEdge, IsGrantEdge, IsOwnEdge, IsParentEdge, edge, edge_before, edges, file_edge, folder_edges, in_order, parent_edges, same_edge}
+use Rattle.role_graph.specs.PublicStore.{public_store}
+use Rattle.role_graph.specs.Roles.{back_of, file_role, files_of, folder_roles, role_id, same_role, sub_of}
+use Rattle.role_graph.proofs.Comparing.{same_role_tells}
+use Rattle.role_graph.proofs.Edging.{In-order, edges_told}
+use Rattle.role_graph.proofs.Sifting.{filters_turn, kept_in_order}
+use Rattle.role_graph.proofs.AtEnds.{same_edge_tells, touches}
+use Rattle.move_plan.specs.Change.{Change, change_of, edge_into_file, folder_of_file, no_change, parent_of_folder}
+use Rattle.move_plan.specs.Fitting.{file_stands, fits, folder_stands, has_depth_left, is_other_folder, may_go_into, needs_root, row_fits}
+use Rattle.record_format.specs.Noted.{Note}
+use Rattle.record_format.specs.Noted.Note.{Root, NewHolder, NewFolder, NewFile, Rewrite, NameFile, NameFolder, DropFile, DropFolder, ShiftFile, ShiftFolder, Give, Take}
+use Rattle.public_fold.specs.KeyStep.{edges_left, edges_then, is_published, published_edges, without}
+use Rattle.public_fold.specs.Rooted.{IsRooted, MayStand}
+use Rattle.public_fold.specs.Standing.{PublicView, public_store_of}
+use Rattle.public_fold.specs.Stepping.{IsOfFittingNote}
+use Rattle.public_fold.proofs.EdgesThen.{apart, child, file_edge-id, file_kind, grant_kind, is_kind, is_parent_kind, left_told, own_no_file, own_no_parent, parent_child, parent_kind, parent_no_file}
+use Rattle.public_fold.proofs.GrantLaws.{not_given_yet, not_granted}
+use Rattle.public_fold.proofs.KeyMoves.{no_edge}
+use Rattle.public_fold.proofs.NoteMoves.{file_edge_told, note_moves, parent_told}
+use Rattle.public_fold.proofs.StepTold.{edges_seen}
+
+-- ---- what comes doesn't stand
+
+-- an edge with a new role at an end
+abbrev HasNewEnd : Change → Edge → Type 0
+HasNewEnd c e = In e.from c.fresh ⊎ In e.to c.fresh
+
+own_new : (f : ℕ) (e : Edge) → In e (folder_edges f) → In e.to (folder_roles f)
+unfolding folder_edges edge folder_roles
+own_new f e i =
+    let P : Edge → Type 0 = λ x. In x.to (folder_roles f) in ⊎_elim
+    (λ q. subst P (sym q) (inl refl))
+    (λ a. ⊎_elim (λ q. subst P (sym q) (inr (inl refl)))
+    (λ b. ⊎_elim (λ q. subst P (sym q) (inr (inr (inl refl))))
+    (λ c. ⊎_elim (λ q. subst P (sym q) (inr (inr (inr (inl refl)))))
+    (λ d. ⊎_elim (λ q. subst P (sym q) (inr (inr (inr (inr (inl refl)))))) (λ n. absurd n) d) c) b) a) i
+
+parent_new : (f p : ℕ) (e : Edge) → In e (parent_edges f p) → In e.from (folder_roles f) ⊎ In e.to (folder_roles f)
+unfolding parent_edges edge folder_roles
+parent_new f p e i =
+    let P : Edge → Type 0 = λ x. In x.from (folder_roles f) ⊎ In x.to (folder_roles f) in ⊎_elim
+    (λ q. subst P (sym q) (inr (inr (inl refl))))
+    (λ a. ⊎_elim (λ q. subst P (sym q) (inl (inr (inr (inl refl))))) (λ n. absurd n) a) i
+
+file_new : (f x : ℕ) (e : Edge) → In e (file_edge f x ∷ []) → In e.to (file_role x ∷ [])
+unfolding file_edge edge
+file_new f x e i = ⊎_elim (λ q. inl (ap (λ (z : Edge). z.to) q)) (λ n. absurd n) i
+
+file_edge-folder : (f g x y : ℕ) → file_edge f x ≡ file_edge g y → f ≡ g
+unfolding file_edge edge files_of role_id
+file_edge-folder f g x y e = ap (λ (z : Edge). role_id z.from) e
+
+-- the number of the folder above, of an edge between a folder and its parent
+above : Edge → ℕ
+above e = cond (e.kind == 6) (role_id e.from) (role_id e.to)
+
+parent_above : (f p : ℕ) (e : Edge) → In e (parent_edges f p) → above e ≡ p
+unfolding parent_edges edge above sub_of back_of role_id
+parent_above f p e i = ⊎_elim (λ s. ap above s) (λ a. ⊎_elim (λ s. ap above s) (λ n. absurd n) a) i
+
+not_same : (m n : ℕ) → not (m == n) ≡ true → m ≡ n → ⊥
+not_same m n other e = false≢true (sym (not-true (m == n) other) ∙ eq-eqb m n e)
+
+-- the edge into a file from a folder that it isn't in
+file_elsewhere : (s : Store) (x g : ℕ) (e : Edge) → IsRooted s → not (folder_of_file s x == g) ≡ true → e ≡ file_edge g x → IsEdge s e → ⊥
+unfolding edge_into_file
+file_elsewhere s x g e ok other is w =
+    let kinds = file_kind g x e is in ⊎_elim
+    (λ (o : IsOwnEdge s e). apart (is_kind 9 e) (own_no_file o.0.id e o.2) kinds.0)
+    (λ v. ⊎_elim
+    (λ (p : IsParentEdge s e). apart (is_kind 9 e) (parent_no_file p.0.id p.0.parent e p.3) kinds.0)
+    (λ u. ⊎_elim
+    (λ (h : IsGrantEdge s e). apart (is_kind 9 e) (grant_kind h.0.holder h.0.folder e h.2).1 kinds.0)
+    (λ (y : IsFileEdge s e).
+    let same : file_edge y.0.folder y.0.id ≡ file_edge g x = sym y.2 ∙ is in
+    let number : y.0.id ≡ x = file_edge-id y.0.folder g y.0.id x same in
+    let stood : file_edge (folder_of_file s x) x ≡ file_edge y.0.folder y.0.id = file_edge_told s x ok (y.0, y.1, number) in
+    not_same (folder_of_file s x) g other (file_edge-folder (folder_of_file s x) g x x (stood ∙ same))) u) v) w
+
+-- the edges between a folder and another one than its parent
+folder_elsewhere : (s : Store) (g q : ℕ) (e : Edge) → IsRooted s → not (parent_of_folder s g == q) ≡ true → In e (parent_edges g q) → IsEdge s e → ⊥
+folder_elsewhere s g q e ok other i w =
+    let kind = parent_kind g q e i in ⊎_elim
+    (λ (o : IsOwnEdge s e). apart (is_parent_kind e) (own_no_parent o.0.id e o.2) kind)
+    (λ v. ⊎_elim
+    (λ (p : IsParentEdge s e).
+    let number : p.0.id ≡ g = sym (parent_child p.0.id p.0.parent e p.3) ∙ parent_child g q e i in
+    let parent : p.0.parent ≡ q = sym (parent_above p.0.id p.0.parent e p.3) ∙ parent_above g q e i in
+    not_same (parent_of_folder s g) q other (parent_told s g ok (p.0, p.1, number) ∙ parent))
+    (λ u. ⊎_elim
+    (λ (h : IsGrantEdge s e). apart (is_parent_kind e) (grant_kind h.0.holder h.0.folder e h.2).2 kind)
+    (λ (y : IsFileEdge s e). apart (is_parent_kind e) (file_kind y.0.folder y.0.id e y.2).2 kind) u) v) w
+
+row_of : (s : Store) (note : Note) → fits s note ≡ true → row_fits s note ≡ true
+unfolding fits
+row_of s note fit = (and_parts (row_fits s note) (not (needs_root note) || folder_stands s 1) fit).0
+
+shifted_file : (s : Store) (x g : ℕ) → fits s (ShiftFile x g) ≡ true → not (folder_of_file s x == g) ≡ true
+unfolding row_fits
+shifted_file s x g fit = (and_parts (file_stands s x && has_depth_left s g) (not (folder_of_file s x == g)) (row_of s (ShiftFile x g) fit)).1
+
+shifted_folder : (s : Store) (g q : ℕ) → fits s (ShiftFolder g q) ≡ true → not (parent_of_folder s g == q) ≡ true
+unfolding row_fits may_go_into
+shifted_folder s g q fit =
+    let a = and_parts (is_other_folder s g && folder_stands s q && not (parent_of_folder s g == q) && not (is_within s q g)) (nat_le (depth_of s (folder_node q) + 1 + height_of s (Some (folder_node g))) 64) (row_of s (ShiftFolder g q) fit) in
+    let b = and_parts (is_other_folder s g && folder_stands s q && not (parent_of_folder s g == q)) (not (is_within s q g)) a.0 in
+    (and_parts (is_other_folder s g && folder_stands s q) (not (parent_of_folder s g == q)) b.0).1
+
+-- what comes has a new role at an end, or doesn't stand
+added_new : (s : Store) (note : Note) (e : Edge) → fits s note ≡ true → IsRooted s → In e (change_of s note).added → HasNewEnd (change_of s note) e ⊎ (IsEdge s e → ⊥)
+unfolding change_of no_change
+added_new s Root e fit ok i = inl (inr (own_new 1 e i))
+added_new s (NewHolder h check) e fit ok i = absurd i
+added_new s (NewFolder f p) e fit ok i = inl (⊎_elim (λ a. inr (own_new f e a)) (λ b. parent_new f p e b)
+    ((In-append Edge e (folder_edges f) (parent_edges f p)).0 ((In-order Edge edge_before e (folder_edges f ++ parent_edges f p)).0 i)))
+added_new s (NewFile x f) e fit ok i = inl (inr (file_new f x e i))
+added_new s (Rewrite x) e fit ok i = absurd i
+added_new s (NameFile x) e fit ok i = absurd i
+added_new s (NameFolder f) e fit ok i = absurd i
+added_new s (DropFile x) e fit ok i = absurd i
+added_new s (DropFolder f) e fit ok i = absurd i
+added_new s (ShiftFile x g) e fit ok i = inr (file_elsewhere s x g e ok (shifted_file s x g fit) (⊎_elim (λ q. q) (λ n. absurd n) i))
+added_new s (ShiftFolder g q) e fit ok i = inr (folder_elsewhere s g q e ok (shifted_folder s g q fit) i)
+added_new s (Give h f) e fit ok i = inr (λ w. not_granted s h f (not_given_yet s h f fit)
+    (⊎_elim (λ q. subst (λ z. In z (edges s)) q ((edges_told s e).1 w)) (λ n. absurd n) i))
+added_new s (Take h f) e fit ok i = absurd i
+
+-- ---- tests of what is published
+
+none_has : (X : Type 0) (same : X → X → Bool) → Tells same → (xs : List X) (x : X) → (In x xs → ⊥) → has same xs x ≡ false
+none_has X same tells xs x out = false_from_ne_true (has same xs x) (λ t. out (has-in X same tells xs x t))
+
+or_none : (b : Bool) → (b || false) ≡ b
+or_none true = refl
+or_none false = refl
+
+has_first : (rs fresh : List Role) (r : Role) → (In r fresh → ⊥) → has same_role (rs ++ fresh) r ≡ has same_role rs r
+unfolding has
+has_first rs fresh r out =
+    list_any-append (same_role r) rs fresh
+    ∙ ap (λ b. list_any (same_role r) rs || b) (none_has Role same_role same_role_tells fresh r out)
+    ∙ or_none (list_any (same_role r) rs)
+
+all_kept : (p : Edge → Bool) (xs : List Edge) → ((x : Edge) → In x xs → p x ≡ true) → filter p xs ≡ xs
+all_kept p [] all = refl
+all_kept p (x ∷ xs) all = ap (λ b. cond b (x ∷ filter p xs) (filter p xs)) (all x (inl refl)) ∙ ap (λ l. x ∷ l) (all_kept p xs (λ y i. all y (inr i)))
+
+kept_alike : (p q : Edge → Bool) (xs : List Edge) → ((x : Edge) → In x xs → p x ≡ q x) → filter p xs ≡ filter q xs
+kept_alike p q [] same = refl
+kept_alike p q (x ∷ xs) same = λ i. cond (same x (inl refl) i) (x ∷ kept_alike p q xs (λ y j. same y (inr j)) i) (kept_alike p q xs (λ y j. same y (inr j)) i)
+
+added_published : (c : Change) (again : List Role) → filter (is_published c again) c.added ≡ c.added
+unfolding is_published
+added_published c again = all_kept (is_published c again) c.added (λ e i.
+    or_left (has same_edge c.added e || has same_role (again ++ c.fresh) e.from) (has same_role (again ++ c.fresh) e.to)
+    (or_left (has same_edge c.added e) (has same_role (again ++ c.fresh) e.from) (in-has Edge same_edge same_edge_tells c.added e i)))
+
+module _ (s : Store) (note : Note) (fit : fits s note ≡ true) (stands : MayStand s) where
+  -- an edge that stands has no new role at an end, and doesn't come
+  no_new_end : (e : Edge) → IsEdge s e → HasNewEnd (change_of s note) e → ⊥
+  no_new_end e w new =
+      let moves = note_moves s note fit stands in
+      let ends = moves.ends_before e w in
+      ⊎_elim (λ f. moves.fresh_is_new e.from f ends.0) (λ f. moves.fresh_is_new e.to f ends.1) new
+
+  not_added : (e : Edge) → IsEdge s e → In e (change_of s note).added → ⊥
+  not_added e w a = ⊎_elim
+      (λ (none : s ≡ no_store). no_edge e (subst (λ z. IsEdge z e) none w))
+      (λ ok. ⊎_elim (λ n. no_new_end e w n) (λ out. out w) (added_new s note e fit ok a)) stands
+
+  left_touches : (again : List Role) (e : Edge) → In e (edges_left (edges s) (change_of s note)) → is_published (change_of s note) again e ≡ touches again e
+  unfolding is_published
+  left_touches again e i =
+      let c = change_of s note in
+      let w = (edges_told s e).0 ((left_told (edges s) c e).0 i).0 in
+      let comes : has same_edge c.added e ≡ false = none_has Edge same_edge same_edge_tells c.added e (not_added e w) in
+      let from : has same_role (again ++ c.fresh) e.from ≡ has same_role again e.from = has_first again c.fresh e.from (λ f. no_new_end e w (inl f)) in
+      let to : has same_role (again ++ c.fresh) e.to ≡ has same_role again e.to = has_first again c.fresh e.to (λ f. no_new_end e w (inr f)) in
+      λ i. (comes i || from i) || to i
+
+  pub found_edges : (again : List Role)
+      → in_order edge_before (without same_edge (change_of s note).removed (filter (touches again) (edges s)) ++ (change_of s note).added) ≡ published_edges (edges s) (change_of s note) again
+  unfolding published_edges edges_then edges_left without
+  found_edges again =
+      let c = change_of s note in
+      let left = edges_left (edges s) c in
+      let stay : Edge → Bool = λ e. not (has same_edge c.removed e) in
+      let kept : filter (is_published c again) left ≡ filter stay (filter (touches again) (edges s)) =
+      kept_alike (is_published c again) (touches again) left (left_touches again) ∙ filters_turn Edge (touches again) stay (edges s) in
+      sym (kept_in_order (is_published c again) (left ++ c.added)
+      ∙ ap (λ (l : List Edge). in_order edge_before l) (filter-append (is_published c again) left c.added ∙ (λ i. kept i ++ added_published c again i)))
+
+-- the same of a state and the change of a note that fits it
+pub found_for : (v : PublicView) (c : Change) → MayStand (public_store_of v) → IsOfFittingNote (public_store_of v) c → (again : List Role)
+    → in_order edge_before (without same_edge c.removed (filter (touches again) (edges (public_store v.tree v.pairs))) ++ c.added) ≡ published_edges (edges (public_store v.tree v.pairs)) c again
+found_for v c stands told again =
+    let s = public_store_of v in
+    let here : in_order edge_before (without same_edge c.removed (filter (touches again) (edges s)) ++ c.added) ≡ published_edges (edges s) c again =
+    subst (λ (x : Change). in_order edge_before (without same_edge x.removed (filter (touches again) (edges s)) ++ x.added) ≡ published_edges (edges s) x again) (sym told.2) (found_edges s told.0 told.1 stands again) in
+    subst (λ (es : List Edge). in_order edge_before (without same_edge c.removed (filter (touches again) es) ++ c.added) ≡ published_edges es c again) (sym (edges_seen v)) here
