@@ -2,6 +2,7 @@
 ghost use Rattle.std.specs.Prelude.{◌≡◌, ◌≤◌, ◌+◌, ◌==◌, ℕ, [], cond, map, Some, None, IsOk, OnOk};
 ghost use Rattle.std.specs.Option.{option_copied, option_map};
 ghost use Rattle.cry_base.specs.Sets.{In};
+ghost use Rattle.folder_nodes.specs.Digests.{name_digest};
 ghost use Rattle.folder_nodes.specs.Titles.{Title, MayBeNamed, title_at};
 ghost use Rattle.folder_nodes.specs.declared.spots.Spot.{Spot as TheSpot};
 ghost use Rattle.sorted_table.specs.Rows.{IsRising};
@@ -66,7 +67,7 @@ impl Book {
             ≡ cond (id == k) (Some (record { id = id; name = name.items; bytes = bytes.items })) (title_at self.old.titles k) }
         ensures spare { self.old.spare ≤ self.new.spare + 1 }
     {
-        let digest = digest_of(name.as_slice());
+        let digest = self.digest_for(id, name.as_slice());
         let row = NameRow {
             id,
             digest,
@@ -78,6 +79,19 @@ impl Book {
             return;
         }
         self.rows.insert(row);
+    }
+
+    /// The digest of a name that the number gets. Most of those that are put keep their name, and its digest is known.
+    fn digest_for(&self, id: u32, name: &[u8]) -> u64
+        ensures { result ≡ name_digest name.now }
+    {
+        let Some(row) = self.rows.find(&NameKey(id)) else {
+            return digest_of(name);
+        };
+        if row.name.as_slice() == name {
+            return row.digest;
+        }
+        digest_of(name)
     }
 
     /// Takes the name and the bytes under the number out, where there are any.
