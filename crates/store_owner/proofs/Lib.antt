@@ -21,6 +21,7 @@ pub mod OwnerGoesOn
 pub mod OwnerKeeps
 pub mod OtherRoom
 pub mod Planned
+pub mod PublishedCommands
 pub mod RingRecords
 pub mod RefusedStores
 pub mod RootSealed

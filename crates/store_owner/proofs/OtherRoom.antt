@@ -26,6 +26,7 @@ use Rattle.store_owner.specs.Owned.{IsOwnerOf, OwnerView, counting}
 use Rattle.store_owner.specs.Planning.{IsDrafted}
 use Rattle.store_owner.specs.declared.counted.Counted.{Counted}
 use Rattle.command_plan.specs.NameChanges.{IsRenaming, IsNameChangeOf}
+use Rattle.store_owner.specs.Published.{PublishesWithin}
 use Rattle.store_owner.specs.Sound.{IsSound, granted_in, own_store}
 use Rattle.store_owner.specs.Stopping.{StopsWithin}
 use Rattle.store_owner.specs.declared.change.Change.{Change}
@@ -259,3 +260,12 @@ pub stops_from : (r : Request) (drawn : List (List ℕ)) (old between : OwnerVie
     → StopsWithin r drawn between was shows might may since → StopsWithin r drawn old was shows might may since
 stops_from r drawn old between was shows might may since h c =
     stops_before r drawn old was shows might may since _ _ _ _ _ (subst (λ (o : OwnerView). StopsWithin r drawn o was shows might may since) (has_room old between h) c)
+
+published_before : (r : Request) (drawn : List (List ℕ)) (o : OwnerView) (was : Option (List ℕ)) (might : List ℕ → Type 0) (since : List ℕ → List ℕ → Type 0) (b c d e f : ℕ)
+    → PublishesWithin r drawn (with_room o b c d e f) was might since → PublishesWithin r drawn o was might since
+published_before r drawn o was might since b c d e f h = λ m is low bound fine rests. h m (owner_with o b c d e f m is) low bound fine rests
+
+pub published_from : (r : Request) (drawn : List (List ℕ)) (old between : OwnerView) (was : Option (List ℕ)) (might : List ℕ → Type 0) (since : List ℕ → List ℕ → Type 0) → HasOtherRoom old between
+    → PublishesWithin r drawn between was might since → PublishesWithin r drawn old was might since
+published_from r drawn old between was might since h c =
+    published_before r drawn old was might since _ _ _ _ _ (subst (λ (o : OwnerView). PublishesWithin r drawn o was might since) (has_room old between h) c)

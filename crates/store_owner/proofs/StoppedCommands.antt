@@ -32,7 +32,7 @@ use Rattle.store_owner.proofs.OwnerGoesOn.{batches_are, between_owner, between_s
 
 -- ---- a disk at rest
 
-one_told : (o : Option (List ℕ)) (x y : List ℕ) → o ≡ Some x → o ≡ Some y → x ≡ y
+pub one_told : (o : Option (List ℕ)) (x y : List ℕ) → o ≡ Some x → o ≡ Some y → x ≡ y
 one_told o x y one two = let both = sym one ∙ two in cc
 
 journal_stands : (key : List ℕ) (m : Journal) (bytes : List ℕ) → StandsWholeForJournal key m bytes → StandsForJournal key m bytes
@@ -205,7 +205,7 @@ module _ (key : List ℕ) (low high : Journal) (has : Bool) (b : Batch) (more : 
 
 -- ---- a command
 
-begun_batches : (key : List ℕ) (m : Journal) (has : Bool) (j : JournalState) → IsJournalOf (batches_of key m) j
+pub begun_batches : (key : List ℕ) (m : Journal) (has : Bool) (j : JournalState) → IsJournalOf (batches_of key m) j
     → batches_of key (between m has) ≡ batches_of key m ++ cond has [] (next_epoch j ∷ [])
 unfolding entry_body
 begun_batches key m true j of = ap (batches_of key) (append-nil m) ∙ sym (append-nil (batches_of key m))
@@ -213,10 +213,10 @@ begun_batches key m false j of = batches_then key m Session j of
 
 module _ (m : Journal) (r : Request) (drawn : List (List ℕ)) (old : OwnerView) (was : Option (List ℕ)) (might : List ℕ → Type 0) (is : IsOwnerOf m old) (low : old.journal.limit ≤ 268435456) (bound : old.file_bytes ≤ 1048576)
     (fine : answer (limits_in old) m old.journal.has_epoch r ≡ None) where
-  abbrev begun : Journal
+  abbrev pub begun : Journal
   begun = between m old.journal.has_epoch
 
-  abbrev then : Journal
+  abbrev pub then : Journal
   then = journal_then m old.journal.has_epoch r drawn
 
   to_begun : IsPrefix m begun
@@ -225,10 +225,10 @@ module _ (m : Journal) (r : Request) (drawn : List (List ℕ)) (old : OwnerView)
   to_then : IsPrefix begun then
   to_then = (Did r drawn ∷ [], refl)
 
-  begun_valid : IsValid begun
+  pub begun_valid : IsValid begun
   begun_valid = session_valid m old.journal.has_epoch r is.valid (ends_low_is m r old low fine)
 
-  begun_whole : AreWhole old.key begun
+  pub begun_whole : AreWhole old.key begun
   begun_whole = session_whole old.key m old.journal.has_epoch is.whole_keys
 
   -- the session's epoch, begun or not
@@ -255,13 +255,13 @@ module _ (m : Journal) (r : Request) (drawn : List (List ℕ)) (old : OwnerView)
       }
 
   module _ (s : IsSealed r drawn old was) (midst : List ℕ → Type 0) (calm : IsDurable might was → IsDurable midst s.showed) where
-    then_valid : IsValid then
+    pub then_valid : IsValid then
     then_valid = valid_then m r drawn old was is low bound fine s
 
-    then_whole : AreWhole old.key then
+    pub then_whole : AreWhole old.key then
     then_whole = next_whole old.key m old.journal.has_epoch r drawn is.whole_keys s.drawn_sizes
 
-    rests_begun : RestsAt old.key m was might → RestsAt old.key begun s.showed midst
+    pub rests_begun : RestsAt old.key m was might → RestsAt old.key begun s.showed midst
     rests_begun rests =
         let some = told_some s.showed (s.stays_told ∙ ap (λ (o : Option (List ℕ)). is_some o) rests.shows.1) in
         let whole = between_shown m r drawn old was is low bound fine s rests.shows.0 some.0 rests.shows.1 some.1 rests.shows.2.stands in

@@ -5,6 +5,7 @@ pub mod Making
 pub mod Opened
 pub mod Owned
 pub mod Planning
+pub mod Published
 pub mod Sessions
 pub mod Sound
 pub mod Stopping

@@ -19,6 +19,7 @@ ghost use Rattle.journal_bytes.specs.Bytes.{image_of};
 ghost use Rattle.journal_bytes.specs.Journals.{HoldsBetween, IsSettled, Kept, StandsForJournal};
 ghost use Rattle.store_owner.specs.Opened.{AreContents, IsFilled, IsFresh, LeavesRefused, OpensAs, opened_of, placed_in};
 ghost use Rattle.store_owner.specs.Owned.{IsOwnerOf};
+ghost use Rattle.store_owner.specs.Published.{PublishesUpTo, StaysPublished};
 
 use crate::counted::NONE;
 use crate::owner::Owner;
@@ -123,7 +124,7 @@ impl Owner {
     /// still, and after none is anything else written than slots of batches that passed their tests.
     ///
     /// A stop at any moment of the call leaves a journal between two, where the disk held between these at its start and showed one
-    /// whose log ends within the store limit.
+    /// whose log ends within the store limit. It takes back no batch that was published then, where so it was at the start.
     pub fn open_store<D: Disk>(
         alloc: Global,
         disk: &mut D,
@@ -161,6 +162,9 @@ impl Owner {
         ensures kept { (m m1 m2 : AnyJournal) → HoldsBetween key m1 m2 (D.shown disk.old) (D.may_leave disk.old) →
             WhereTold (D.shown disk.old) (StandsForJournal key m) → end_of m ≤ limits.store_bytes →
             Kept key m1 m2 m2 (D.since disk.new (D.moment disk.old)) }
+        ensures published { (m : AnyJournal) → StaysPublished key (D.shown disk.old) (D.may_leave disk.old) →
+            WhereTold (D.shown disk.old) (λ s. StandsForJournal key m s → end_of m ≤ limits.store_bytes →
+            PublishesUpTo key m (D.since disk.new (D.moment disk.old))) }
         ensures counts { D.faults disk.old ≤ D.faults disk.new }
         ensures disk_fault { result ≡ Err OpenFault.DiskFault → D.faults disk.old < D.faults disk.new }
     {

@@ -3,6 +3,7 @@ ghost use Rattle.std.specs.Prelude.{◌≡◌, ◌<◌, ◌≤◌, ◌+◌, ◌�
 ghost use Rattle.std.specs.Prelude.{length};
 ghost use Rattle.commit_journal.specs.Holding.{GoesOn};
 ghost use Rattle.commit_journal.specs.Journals.{IsBehind, Joins, next_command, MayJoin, next_epoch};
+ghost use Rattle.commit_journal.specs.Stopping.{KeepsPublished};
 ghost use Rattle.cry_base.specs.Refusing.{has_bad_name, refusal_of};
 ghost use Rattle.cry_base.specs.Requests.{request_of};
 ghost use Rattle.cry_base.specs.Store.{Store};
@@ -22,6 +23,7 @@ ghost use Rattle.store_owner.specs.Counted.{IsWithin, counted_with};
 ghost use Rattle.store_owner.specs.Drawing.{AreKeys, FillsByCount};
 ghost use Rattle.store_owner.specs.Owned.{IsOwnerOf, owner_at};
 ghost use Rattle.store_owner.specs.Planning.{AnswersPlan, HasBegun, IsDrafted, IsFurnished, IsUnfit, reply_for};
+ghost use Rattle.store_owner.specs.Published.{AddsPublished, PublishesOn, PublishesWithin};
 ghost use Rattle.store_owner.specs.Sound.{IsSound, granted_in, own_store};
 ghost use Rattle.store_owner.specs.Stopping.{AddsBatches, StopsWithin, epoch_due};
 ghost use Rattle.store_owner.specs.Taking.{FallsShort, TakesKeys};
@@ -185,7 +187,7 @@ impl Owner {
     ///
     /// Of a disk that rests at the owner's journal, a stop at any moment of the call leaves bytes that stand for this journal, for it with
     /// the session begun, or for it with the command too. After any answer but `DiskFault` the disk rests again: with the command where
-    /// it was done, and else as before.
+    /// it was done, and else as before. No stop takes back a batch that was published when it came.
     pub fn apply<D: Disk, R: Source>(
         &mut self,
         alloc: Global,
@@ -197,6 +199,8 @@ impl Owner {
         ensures answers { (m : AnyJournal) → IsOwnerOf m self.old → Answers result m (request_of command.now) self.old self.new
             (R.left random.old) (R.left random.new) (D.shown disk.old) (D.shown disk.new)
             (D.may_leave disk.old) (D.may_leave disk.new) (D.since disk.new (D.moment disk.old)) }
+        ensures published { PublishesOn result self.old (D.shown disk.old) (D.may_leave disk.old) (D.may_leave disk.new)
+            (D.since disk.new (D.moment disk.old)) }
         ensures later { D.moment disk.old ≤ D.moment disk.new }
         ensures time { GoesOn (D.moment disk.old) (D.since disk.old) (D.since disk.new) }
         ensures closed { (result ≡ Err ApplyFault.Closed) ↔ IsTrue self.old.journal.is_closed }
@@ -361,6 +365,8 @@ impl Owner {
         ensures time { GoesOn (D.moment disk.old) (D.since disk.old) (D.since disk.new) }
         ensures stops { StopsWithin (request_of command.now) drawn.now self.old (D.shown disk.old) (D.shown disk.new)
             (D.may_leave disk.old) (D.may_leave disk.new) (D.since disk.new (D.moment disk.old)) }
+        ensures published { PublishesWithin (request_of command.now) drawn.now self.old (D.shown disk.old) (D.may_leave disk.old)
+            (D.since disk.new (D.moment disk.old)) }
         ensures reply { IfOk result (λ reply. reply ≡ reply_for change.note drawn.now) }
         ensures fault { IfErr result (λ fault. fault ≡ ApplyFault.DiskFault) }
         ensures closed { OnErr result (IsTrue self.new.journal.is_closed) }
@@ -428,6 +434,8 @@ fn begin<D: Disk>(
     ensures time { GoesOn (D.moment disk.old) (D.since disk.old) (D.since disk.new) }
     ensures adds { AddsBatches (epoch_due journal.old) journal.old (D.shown disk.old) (D.shown disk.new)
         (D.may_leave disk.old) (D.may_leave disk.new) (D.since disk.new (D.moment disk.old)) }
+    ensures published { AddsPublished (epoch_due journal.old) journal.old (D.shown disk.old) (D.may_leave disk.old)
+        (D.since disk.new (D.moment disk.old)) }
     ensures calm { IsDurable (D.may_leave disk.old) (D.shown disk.old) → OnOk result (IsDurable (D.may_leave disk.new) (D.shown disk.new)) }
     ensures closed { OnErr result (IsTrue journal.new.is_closed) }
     ensures open { OnOk result (journal.new.is_closed ≡ journal.old.is_closed) }
@@ -467,6 +475,8 @@ fn commit_within<D: Disk>(
     ensures adds { AddsBatches (next_command journal.old (spell_payload (plain_payload payload.now))
         ∷ []) journal.old (D.shown disk.old) (D.shown disk.new)
         (D.may_leave disk.old) (D.may_leave disk.new) (D.since disk.new (D.moment disk.old)) }
+    ensures published { KeepsPublished (next_command journal.old (spell_payload (plain_payload payload.now))) journal.old
+        (D.shown disk.old) (D.may_leave disk.old) (D.since disk.new (D.moment disk.old)) }
     ensures begun { journal.new.has_epoch ≡ journal.old.has_epoch }
     ensures owner { journal.new.owner ≡ journal.old.owner }
     ensures durable { OnOk result (IsDurable (D.may_leave disk.new) (D.shown disk.new)) }

@@ -4,12 +4,13 @@ ghost use Rattle.cry_io.specs.Stops.{IsDurable};
 ghost use Rattle.commit_journal.specs.Holding.{GoesOn, IsPrefix};
 ghost use Rattle.public_fold.specs.Journal.{Journal};
 ghost use Rattle.journal_bytes.specs.Journals.{HoldsBetween, IsSettled};
+ghost use Rattle.store_owner.specs.Published.{EndsWithPublished, KeepsAllPublished, StaysPublished};
 ghost use Rattle.store_owner.specs.Stopping.{ComesToRest, RestsAt, StopsBetween};
 
 use cry_io::Disk;
 
-/// Law: a disk that rests at a journal is settled at it, and holds it and no other; and it rests where it is settled and nothing is
-/// pending.
+/// Law: a disk that rests at a journal is settled at it, and holds it and no other; it rests where it is settled and nothing is
+/// pending; and a stop then takes nothing back.
 pub fn resting_disk_is_settled<D: Disk>(disk: &D)
     ensures settled { (key : List ℕ) (m : Journal) → RestsAt key m (D.shown disk.now) (D.may_leave disk.now)
         → IsSettled key m (D.shown disk.now) (D.may_leave disk.now) }
@@ -18,13 +19,18 @@ pub fn resting_disk_is_settled<D: Disk>(disk: &D)
     ensures rests { (key : List ℕ) (m : Journal) → IsSettled key m (D.shown disk.now) (D.may_leave disk.now)
         → IsDurable (D.may_leave disk.now) (D.shown disk.now)
         → RestsAt key m (D.shown disk.now) (D.may_leave disk.now) }
+    ensures published { (key : List ℕ) (m : Journal) → RestsAt key m (D.shown disk.now) (D.may_leave disk.now)
+        → StaysPublished key (D.shown disk.now) (D.may_leave disk.now) }
 {}
 
-/// Law: a call that does nothing lets no time pass, and a disk that rests still rests.
+/// Law: a call that does nothing lets no time pass, a disk that rests still rests, and no stop takes anything back.
 pub fn disk_stands_still<D: Disk>(disk: &D)
     ensures time { GoesOn (D.moment disk.now) (D.since disk.now) (D.since disk.now) }
     ensures rests { (key : List ℕ) (m : Journal) → ComesToRest key m m (D.shown disk.now) (D.shown disk.now)
         (D.may_leave disk.now) (D.may_leave disk.now) (D.since disk.now (D.moment disk.now)) }
+    ensures published { (key : List ℕ) (m : Journal) → RestsAt key m (D.shown disk.now) (D.may_leave disk.now)
+        → KeepsAllPublished key (D.since disk.now (D.moment disk.now))
+        × EndsWithPublished key (D.since disk.now (D.moment disk.now)) (D.may_leave disk.now) }
 {}
 
 /// Law: of two calls one after the other, the first came to rest at a journal, from which the second went on. Together a stop leaves what

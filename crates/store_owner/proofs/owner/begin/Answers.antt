@@ -1,8 +1,10 @@
 use Rattle.std.proofs.Common.{◌≡◌, Err, false, arith, sym, ap, ◌∙◌}
 use Rattle.std.specs.Prelude.{is_some}
 use Rattle.commit_journal.proofs.CommitLemmas.{on_err}
+use Rattle.commit_journal.specs.Journals.{next_epoch}
 use Rattle.store_owner.specs.Stopping.{epoch_due}
 use Rattle.store_owner.proofs.Faulted.{takes}
+use Rattle.store_owner.proofs.PublishedCommands.{adds_epoch_published, adds_none_published}
 use Rattle.store_owner.proofs.StoppedCommands.{adds_nothing}
 use Rattle.store_owner.proofs.owner.begin.Goals as goal
 
@@ -17,3 +19,9 @@ returns-in-Some-clause-adds g c =
     let D = g.D.Disk in
     let a = c.args.disk.now in
     adds_nothing (epoch_due c.args.journal.now) c.args.journal.now (D.shown a) (D.may_leave a) (D.since a (D.moment a)) (λ s left at. g.met.D.Disk.only_now a s left at)
+
+pub returns-in-Some-clause-published : goal.returns-in-Some-clause-published
+returns-in-Some-clause-published g c =
+    let D = g.D.Disk in
+    let a = c.args.disk.now in
+    adds_none_published (epoch_due c.args.journal.now) c.args.journal.now (D.shown a) (D.may_leave a) (D.since a (D.moment a)) (λ s left at. g.met.D.Disk.only_now a s left at)

@@ -21,11 +21,13 @@ use Rattle.store_owner.specs.Planning.{HasBegun, IsDrafted, IsFurnished, planned
 use Rattle.command_plan.specs.NameChanges.{IsNameChangeOf}
 use Rattle.store_owner.specs.Sound.{own_store}
 use Rattle.store_owner.specs.declared.counted.Counted.{Counted}
+use Rattle.store_owner.specs.Published.{PublishesWithin}
 use Rattle.store_owner.specs.Stopping.{StopsWithin}
 use Rattle.command_plan.specs.declared.name_change.NameChange.{NameChange}
 use Rattle.store_owner.proofs.Counts.{within_limit, within_on}
 use Rattle.store_owner.proofs.CarriedOut.{batches_for, carried, ends_for, fits_for, sealed_for, size_for, skeleton_for, starts_for, text_for}
 use Rattle.store_owner.proofs.NotesKeyed.{adds_holder, holder_drawn}
+use Rattle.store_owner.proofs.PublishedCommands.{early_published, late_published}
 use Rattle.store_owner.proofs.StoppedCommands.{early_stops, late_stops, time_then}
 use Rattle.store_owner.proofs.owner.Owner.carry_out.Goals as goal
 
@@ -309,3 +311,73 @@ returns-clause-time g c =
     let a = c.args.disk.now in
     let b = c.begin.new.disk in
     time_then (D.moment a) (D.moment b) (D.since a) (D.since b) (D.since c.commit_within.new.disk) c.in-Ok.ensures.later c.in-Ok.ensures.time c.in-Ok-commit_within.ensures.time
+
+-- ---- what is published
+
+pub returns-in_default-clause-published : goal.returns-in_default-clause-published
+returns-in_default-clause-published g c =
+    let i = c.self.inside in
+    let old : OwnerView = record { key = i.key.bytes; journal = i.journal; state = i.state; names = i.names; ring = i.ring; counter = i.counter; file_bytes = i.limits.file_bytes; tally = i.tally } in
+    let D = g.D.Disk in
+    let a = c.args.disk.now in
+    let b = c.begin.new.disk in
+    let r = request_of c.args.command.now in
+    subst (λ (o : OwnerView). PublishesWithin r c.args.drawn.now o (D.shown a) (D.may_leave a) (D.since b (D.moment a))) c.self.view_is
+    (λ m is low bound fine rests.
+    early_published m r c.args.drawn.now old (D.shown a) (D.may_leave a) is low bound fine rests (D.since b (D.moment a)) c.in_default.ensures.published)
+
+pub returns-in_default-commit_within-clause-published : goal.returns-in_default-commit_within-clause-published
+unfolding sealed_for
+returns-in_default-commit_within-clause-published g c =
+    let i = c.self.inside in
+    let old : OwnerView = record { key = i.key.bytes; journal = i.journal; state = i.state; names = i.names; ring = i.ring; counter = i.counter; file_bytes = i.limits.file_bytes; tally = i.tally } in
+    let D = g.D.Disk in
+    let a = c.args.disk.now in
+    let b = c.begin.new.disk in
+    let e = c.commit_within.new.disk in
+    let r = request_of c.args.command.now in
+    let drawn = c.args.drawn.now in
+    let before = c.args.change in
+    let after = c.take_key-reply.new.self in
+    let at = stand_of i.state in
+    let keyed = c.take_key-reply.ensures.keyed in
+    let drafted : IsDrafted r old before = subst (λ (o : OwnerView). IsDrafted r o before) (sym c.self.view_is) c.requires.drafted in
+    let own = c.sound_owners_keep_a_store.ensures.store old in
+    let was = D.shown a in
+    let showed = D.shown b in
+    let has : HasBegun i.journal c.begin.new.journal i.counter c.in-Ok.counter was showed =
+    subst (λ (k : Option Counting). HasBegun i.journal c.begin.new.journal k c.in-Ok.counter was showed) c.take.ensures.value c.in-Ok.ensures.begun in
+    let sealed = sealed_for r drawn old before after at drafted keyed c.requires.count c.requires.sizes own c.is_seen.ensures was showed c.begin.new.journal c.in-Ok.counter
+    c.skeleton.result.now (plain_payload c.seal_step-payload.result) has c.in-Ok.ensures.told c.skeleton.ensures c.seal_step-payload.ensures.payload in
+    subst (λ (o : OwnerView). PublishesWithin r drawn o was (D.may_leave a) (D.since e (D.moment a))) c.self.view_is
+    (λ m is low bound fine rests.
+    late_published m r drawn old was (D.may_leave a) is low bound fine rests sealed (D.may_leave b) c.in-Ok.ensures.calm (D.moment b) (D.moment a) (D.since b) (D.since e)
+    c.in-Ok.ensures.later c.in_default-commit_within.ensures.time c.in-Ok.ensures.published c.in_default-commit_within.ensures.published)
+
+pub returns-clause-published : goal.returns-clause-published
+unfolding sealed_for
+returns-clause-published g c =
+    let i = c.self.inside in
+    let old : OwnerView = record { key = i.key.bytes; journal = i.journal; state = i.state; names = i.names; ring = i.ring; counter = i.counter; file_bytes = i.limits.file_bytes; tally = i.tally } in
+    let D = g.D.Disk in
+    let a = c.args.disk.now in
+    let b = c.begin.new.disk in
+    let e = c.commit_within.new.disk in
+    let r = request_of c.args.command.now in
+    let drawn = c.args.drawn.now in
+    let before = c.args.change in
+    let after = c.take_key-reply.new.self in
+    let at = stand_of i.state in
+    let keyed = c.take_key-reply.ensures.keyed in
+    let drafted : IsDrafted r old before = subst (λ (o : OwnerView). IsDrafted r o before) (sym c.self.view_is) c.requires.drafted in
+    let own = c.sound_owners_keep_a_store.ensures.store old in
+    let was = D.shown a in
+    let showed = D.shown b in
+    let has : HasBegun i.journal c.begin.new.journal i.counter c.in-Ok.counter was showed =
+    subst (λ (k : Option Counting). HasBegun i.journal c.begin.new.journal k c.in-Ok.counter was showed) c.take.ensures.value c.in-Ok.ensures.begun in
+    let sealed = sealed_for r drawn old before after at drafted keyed c.requires.count c.requires.sizes own c.is_seen.ensures was showed c.begin.new.journal c.in-Ok.counter
+    c.skeleton.result.now (plain_payload c.seal_step-payload.result) has c.in-Ok.ensures.told c.skeleton.ensures c.seal_step-payload.ensures.payload in
+    subst (λ (o : OwnerView). PublishesWithin r drawn o was (D.may_leave a) (D.since e (D.moment a))) c.self.view_is
+    (λ m is low bound fine rests.
+    late_published m r drawn old was (D.may_leave a) is low bound fine rests sealed (D.may_leave b) c.in-Ok.ensures.calm (D.moment b) (D.moment a) (D.since b) (D.since e)
+    c.in-Ok.ensures.later c.in-Ok-commit_within.ensures.time c.in-Ok.ensures.published c.in-Ok-commit_within.ensures.published)

@@ -11,6 +11,7 @@ use Rattle.commit_journal.proofs.CommitLemmas.{on_err}
 use Rattle.store_owner.proofs.OpenedBehind.{journal_filled, journal_left, journal_never, journal_settled, journal_stands, largest_verdict, same_verdict}
 use Rattle.store_owner.proofs.OpenedContents.{log_fails}
 use Rattle.store_owner.proofs.OpenedKept.{journals_kept}
+use Rattle.store_owner.proofs.PublishedCommands.{opening_published}
 use Rattle.store_owner.proofs.RefusedStores.{behind_kept, is_filled, is_gated, on_each, on_ok, untouched_refused}
 use Rattle.store_owner.proofs.owner.Owner.open_store.Goals as goal
 
@@ -176,4 +177,24 @@ returns-clause-kept g c =
     let since = D.since c.open_owner.new.disk (D.moment a) in
     let bytes = ap (λ (k : KeyParts). k.bytes) c.owner-owner.ensures in
     journals_kept limit c.args.key (D.shown a) (D.may_leave a) since c.requires.known
+    (subst (λ b. OpensThroughout limit b (D.shown a) (D.may_leave a) since) bytes c.open_owner.ensures.stops)
+
+pub returns-in_err-opened-clause-published : goal.returns-in_err-opened-clause-published
+returns-in_err-opened-clause-published g c =
+    let D = g.D.Disk in
+    let a = c.args.disk.now in
+    let limit = c.args.limits.store_bytes in
+    let since = D.since c.open_owner.new.disk (D.moment a) in
+    let bytes = ap (λ (k : KeyParts). k.bytes) c.owner-owner.ensures in
+    opening_published limit c.args.key (D.shown a) (D.may_leave a) since c.requires.known
+    (subst (λ b. OpensThroughout limit b (D.shown a) (D.may_leave a) since) bytes c.open_owner.ensures.stops)
+
+pub returns-clause-published : goal.returns-clause-published
+returns-clause-published g c =
+    let D = g.D.Disk in
+    let a = c.args.disk.now in
+    let limit = c.args.limits.store_bytes in
+    let since = D.since c.open_owner.new.disk (D.moment a) in
+    let bytes = ap (λ (k : KeyParts). k.bytes) c.owner-owner.ensures in
+    opening_published limit c.args.key (D.shown a) (D.may_leave a) since c.requires.known
     (subst (λ b. OpensThroughout limit b (D.shown a) (D.may_leave a) since) bytes c.open_owner.ensures.stops)
