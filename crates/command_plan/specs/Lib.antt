@@ -1,1 +1,2 @@
 pub mod NameChanges
+pub mod Targeted

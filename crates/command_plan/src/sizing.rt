@@ -1,32 +1,42 @@
 //! How many bytes the payload of a command has, told before its key is drawn.
-ghost use Rattle.std.specs.Prelude.{◌≡◌, ◌+◌, ◌<◌, ◌^◌, ◌++◌, length, replicate, SomeIff};
-ghost use Rattle.cry_base.specs.Requests.{request_of};
+ghost use Rattle.std.specs.Prelude.{◌≡◌, ◌+◌, ◌<◌, ◌≤◌, ◌^◌, ◌++◌, length, replicate, SomeIff};
+ghost use Rattle.cry_base.specs.Requests.{Request};
+ghost use Rattle.cry_base.specs.Store.{Store};
+ghost use Rattle.folder_nodes.specs.Targets.{IsTargetOf};
 ghost use Rattle.record_format.specs.Told.{told_note};
 ghost use Rattle.public_fold.specs.Lengths.{note_len as the_note_len};
 ghost use Rattle.journal_bytes.specs.Sealing.{skeleton_size};
 ghost use Rattle.journal_bytes.specs.Texting.{due_key};
+ghost use Rattle.command_plan.specs.Targeted.{key_to};
 
 use crate::texts::KEY_LEN;
-use cry_base::{Command, Text};
+use cry_base::Text;
+use folder_nodes::Target;
 use public_fold::Skeleton;
 use record_format::Note;
 
-/// How many bytes the text will have once a new holder's key stands in it.
-#[tactic(auto, unfolding(journal_bytes::specs::Texting::due_key))]
-pub fn sealed_len(command: &Command, text: &Text) -> u64
-    ensures length { result ≡ length (text.now.items ++ due_key (request_of command.now) (replicate 32 0)) }
+/// How many bytes the text of a command with this target will have once a new holder's key stands in it.
+pub fn sealed_len(target: &Target<'_>, text: &Text) -> u64
+    ensures length { (s : Store) (r : Request) → IsTargetOf s r target.now
+        → result ≡ length (text.now.items ++ due_key r (replicate 32 0)) }
     ensures short { result < 2 ^ 63 + 32 }
 {
-    let len = text.as_slice().len() as u64;
-    match command {
-        Command::AddHolder => len + KEY_LEN as u64,
-        Command::MakeFolder { .. }
-        | Command::WriteFile { .. }
-        | Command::Remove { .. }
-        | Command::Rename { .. }
-        | Command::Relocate { .. }
-        | Command::Grant { .. }
-        | Command::Revoke { .. } => len,
+    text.as_slice().len() as u64 + key_len(target)
+}
+
+fn key_len(target: &Target<'_>) -> u64
+    ensures length { result ≡ length (key_to target.now (replicate 32 0)) }
+    ensures short { result ≤ 32 }
+{
+    match target {
+        Target::AddHolder => KEY_LEN as u64,
+        Target::MakeFolder { .. }
+        | Target::WriteFile { .. }
+        | Target::Remove { .. }
+        | Target::Rename { .. }
+        | Target::Relocate { .. }
+        | Target::Grant { .. }
+        | Target::Revoke { .. } => 0,
     }
 }
 

@@ -1,68 +1,54 @@
 //! The text that a command seals: a folder's name, a file's name and bytes, a holder's key.
-ghost use Rattle.std.specs.Prelude.{◌≡◌, ◌<◌, ◌≤◌, [], true, false, length, IfOk};
-ghost use Rattle.cry_base.specs.Naming.{is_name, is_path};
-ghost use Rattle.cry_base.specs.Refusing.{has_bad_name};
-ghost use Rattle.cry_base.specs.Requests.{request_of};
+ghost use Rattle.std.specs.Prelude.{◌≡◌, ◌≤◌, [], length, IfOk};
+ghost use Rattle.cry_base.specs.Requests.{Request};
 ghost use Rattle.cry_base.specs.Requests.Request.{AddHolder};
-ghost use Rattle.cry_base.specs.Store.{node_at};
+ghost use Rattle.cry_base.specs.Store.{Store};
+ghost use Rattle.folder_nodes.specs.Targets.{IsTargetOf};
 ghost use Rattle.folder_nodes.specs.Titles.{bytes_in, title_at, tree_store};
-ghost use Rattle.journal_bytes.specs.Texting.{due_text, file_text as the_file_text, name_at, renamed_text as the_renamed_text, titled_text};
+ghost use Rattle.folder_nodes.specs.declared.targets.Target.TheVariants as targets;
+ghost use Rattle.journal_bytes.specs.Texting.{due_text, file_text as the_file_text};
+ghost use Rattle.command_plan.specs.Targeted.{HasShortName, text_to as the_text_to};
 
-use crate::command_notes::node_of;
-use crate::path_ends::last_of;
-use cry_base::{Command, FileId, List, Mem, Node, Text};
-use folder_nodes::{Names, Shape};
+use cry_base::{FileId, List, Mem, Node, Text};
+use folder_nodes::{Names, Target};
 use std::alloc::Global;
 
 /// The bytes of a holder's key.
 pub const KEY_LEN: usize = 32;
 
-/// The text that a command with its paths in form seals, in the store of this tree and these names. A new holder's is to be
-/// the key: the text is empty until it is drawn, with room for it.
-#[tactic(auto, unfolding(journal_bytes::specs::Texting::due_text))]
-pub fn text_for(alloc: Global, shape: &Shape, names: &Names, command: &Command) -> Mem<Text>
-    requires form { has_bad_name (request_of command.now) ≡ false }
-    ensures text { IfOk result (λ text. text.items ≡ due_text (tree_store shape.now.tree names.now) (request_of command.now)) }
-    ensures room { request_of command.now ≡ AddHolder → IfOk result (λ text. 32 ≤ text.spare) }
+/// The text that a command with this target seals, in a store of these names. A new holder's is to be the key: the text is
+/// empty until it is drawn, with room for it.
+pub fn text_for(alloc: Global, names: &Names, target: &Target<'_>) -> Mem<Text>
+    requires short { HasShortName target.now }
+    ensures text { IfOk result (λ text. (tree : Store) (r : Request) → IsTargetOf (tree_store tree names.now) r target.now
+        → text.items ≡ due_text (tree_store tree names.now) r) }
+    ensures room { IfOk result (λ text. (s : Store) (r : Request) → IsTargetOf s r target.now → r ≡ AddHolder → 32 ≤ text.spare) }
 {
-    match command {
-        Command::AddHolder => with_room(alloc),
-        Command::MakeFolder { path } => named_text(alloc, path),
-        Command::WriteFile { path, bytes } => written_text(alloc, path, bytes),
-        Command::Rename { path, name } => renamed_text(alloc, shape, names, path, name),
-        Command::Remove { .. }
-        | Command::Relocate { .. }
-        | Command::Grant { .. }
-        | Command::Revoke { .. } => Ok(List::new(alloc)),
+    text_to(alloc, names, target)
+}
+
+fn text_to(alloc: Global, names: &Names, target: &Target<'_>) -> Mem<Text>
+    requires short { HasShortName target.now }
+    ensures text { IfOk result (λ text. text.items ≡ the_text_to names.now target.now) }
+    ensures room { target.now ≡ targets.AddHolder → IfOk result (λ text. 32 ≤ text.spare) }
+{
+    match *target {
+        Target::AddHolder => with_room(alloc),
+        Target::MakeFolder { name, .. } => copied(alloc, name),
+        Target::WriteFile { name, bytes, .. } => file_text(alloc, name, bytes),
+        Target::Rename {
+            node: Node::Folder(_),
+            name,
+        } => copied(alloc, name),
+        Target::Rename {
+            node: Node::File(file),
+            name,
+        } => file_text(alloc, name, bytes_of(names, file)),
+        Target::Remove { .. }
+        | Target::Relocate { .. }
+        | Target::Grant { .. }
+        | Target::Revoke { .. } => Ok(List::new(alloc)),
     }
-}
-
-/// The last name of a path.
-fn named_text(alloc: Global, path: &Text) -> Mem<Text>
-    ensures { IfOk result (λ text. text.items ≡ name_at path.now.items) }
-{
-    copied(alloc, last_of(path.as_slice()))
-}
-
-/// The text of a file with this path and these bytes.
-fn written_text(alloc: Global, path: &Text, bytes: &Text) -> Mem<Text>
-    requires { is_path path.now.items ≡ true }
-    ensures { IfOk result (λ text. text.items ≡ the_file_text (name_at path.now.items) bytes.now.items) }
-{
-    let content = bytes.as_slice();
-    file_text(alloc, last_of(path.as_slice()), content)
-}
-
-/// The text of what the path finds, under a new name.
-fn renamed_text(alloc: Global, shape: &Shape, names: &Names, path: &Text, name: &Text) -> Mem<Text>
-    requires form { is_path path.now.items ≡ true }
-    requires name { is_name name.now.items ≡ true }
-    ensures { IfOk result (λ text. text.items
-        ≡ the_renamed_text (tree_store shape.now.tree names.now) (node_at (tree_store shape.now.tree names.now) path.now.items)
-        name.now.items) }
-{
-    let found = node_of(shape, names, path);
-    text_of_node(alloc, names, found, name.as_slice())
 }
 
 /// No bytes, with room for a key.
@@ -75,7 +61,6 @@ fn with_room(alloc: Global) -> Mem<Text>
     Ok(text)
 }
 
-/// The bytes with memory of their own.
 pub(crate) fn copied(alloc: Global, bytes: &[u8]) -> Mem<Text>
     ensures { IfOk result (λ text. text.items ≡ bytes.now) }
 {
@@ -94,18 +79,6 @@ fn file_text(alloc: Global, name: &[u8], bytes: &[u8]) -> Mem<Text>
     text.append(name)?;
     text.append(bytes)?;
     Ok(text)
-}
-
-/// The text of what was found, under a new name.
-fn text_of_node(alloc: Global, names: &Names, found: Option<Node>, name: &[u8]) -> Mem<Text>
-    requires { length name.now ≤ 64 }
-    ensures { IfOk result (λ text. text.items ≡ titled_text names.now found name.now) }
-{
-    match found {
-        Some(Node::Folder(_)) => copied(alloc, name),
-        Some(Node::File(file)) => file_text(alloc, name, bytes_of(names, file)),
-        None => Ok(List::new(alloc)),
-    }
 }
 
 /// The bytes of a file, and none where it has no name.

@@ -1,5 +1,5 @@
 -- The index by groups follows the rows.
-use Rattle.std.proofs.Common.{cond, not, false, ◌==◌, ◌⊎◌, ◌↔◌, ◌≡◌, ◌≢◌, ℕ, ◌+◌, ◌<◌, ◌≤◌, Bool, true, ◌&&◌, List, [], ◌∷◌, ◌++◌, map, filter, take, length, get_or, Some, None, refl, sym, ap, ◌∙◌, subst, inl, inr, ⊎_elim, arith, nat_le}
+use Rattle.std.proofs.Common.{cond, not, false, ◌==◌, ◌⊎◌, ◌↔◌, ◌≡◌, ◌≢◌, ℕ, ◌<◌, ◌≤◌, Bool, true, ◌&&◌, List, [], ◌∷◌, map, filter, Some, None, refl, sym, ap, ◌∙◌, subst, inl, inr, ⊎_elim, arith, nat_le}
 use Rattle.std.specs.Prelude.{IsSome}
 use Rattle.std.specs.Ordering.{nat_cmp}
 use Rattle.std.specs.declared.cmp.Ordering.{Ordering}
@@ -12,7 +12,7 @@ use Rattle.std.proofs.lemmas.List.Elements.{All-head, All-tail, All-map}
 use Rattle.std.proofs.lemmas.List.Kept.{AllPairs-cons}
 use Rattle.std.proofs.lemmas.List.Sorted.{All-permutation, IsPermutation-sym}
 use Rattle.cry_base.specs.Sets.{In}
-use Rattle.cry_base.proofs.Members.{In-append, In-map, In-filter, filter-In}
+use Rattle.cry_base.proofs.Members.{In-map, In-filter, filter-In}
 use Rattle.sorted_table.specs.Rows.{IsRising, replaced, row_at, with_row, without}
 use Rattle.sorted_table.proofs.Found.{row_at-Some, row_at-None, row_at-absent, In-with_row, In-without}
 use Rattle.folder_nodes.specs.Indexing.{IsIndexed, spot_of}

@@ -29,9 +29,9 @@ map-push X Y g [] y = refl
 map-push X Y g (x ∷ xs) y = ap (λ l. g x ∷ l) (map-push X Y g xs y)
 
 -- an entry by its title before and after
-retitled : (e : FolderEntry) (a b : Option Title) (t : Title) (k : Bool) → a ≡ cond k (Some t) b → ◌≡◌ {A = FolderEntry} (record e { name = name_in a }) (cond k (record e { name = t.name }) (record e { name = name_in b }))
-retitled e a b t true p = ap (λ o. record e { name = name_in o }) p
-retitled e a b t false p = ap (λ o. record e { name = name_in o }) p
+folder_retitled : (e : FolderEntry) (a b : Option Title) (t : Title) (k : Bool) → a ≡ cond k (Some t) b → ◌≡◌ {A = FolderEntry} (record e { name = name_in a }) (cond k (record e { name = t.name }) (record e { name = name_in b }))
+folder_retitled e a b t true p = ap (λ o. record e { name = name_in o }) p
+folder_retitled e a b t false p = ap (λ o. record e { name = name_in o }) p
 
 file_retitled : (e : FileEntry) (a b : Option Title) (t : Title) (k : Bool) → a ≡ cond k (Some t) b → ◌≡◌ {A = FileEntry} (record e { name = name_in a; bytes = bytes_in a }) (cond k (record e { name = t.name; bytes = t.bytes }) (record e { name = name_in b; bytes = bytes_in b }))
 file_retitled e a b t true p = ap (λ o. record e { name = name_in o; bytes = bytes_in o }) p
@@ -97,7 +97,7 @@ folder_renamed s old new f name bytes set =
     parts s (map (named_folder new) s.folders) (map (λ (e : FolderEntry). cond (e.id == f) (record e { name = name }) e) (map (named_folder old) s.folders))
     (map (named_file new) s.files) (map (named_file old) s.files)
     (map_alike FolderEntry FolderEntry (named_folder new) (λ e. cond (e.id == f) (record e { name = name }) (named_folder old e))
-    (λ e. retitled e (title_at new.folders e.id) (title_at old.folders e.id) t (e.id == f)
+    (λ e. folder_retitled e (title_at new.folders e.id) (title_at old.folders e.id) t (e.id == f)
     (set (Folder (record { 0 = e.id })) ∙ ap (λ k. cond k (Some t) (title_at old.folders e.id)) (eq_turned f e.id))) s.folders
     ∙ sym (map_twice FolderEntry FolderEntry FolderEntry (λ e. cond (e.id == f) (record e { name = name }) e) (named_folder old) s.folders))
     (files_kept old new s.files (all_of FileEntry (λ e. title_at new.files e.id ≡ title_at old.files e.id) (λ e. set (File (record { 0 = e.id }))) s.files))

@@ -11,6 +11,7 @@ use Rattle.cry_base.specs.Naming.{is_between, is_name_byte, is_name, is_path, is
 use Rattle.cry_base.proofs.Paths.{path_told, names_told}
 use Rattle.folder_nodes.specs.Spelling.{joined}
 use Rattle.folder_nodes.specs.Titles.{MayBeNamed}
+use Rattle.folder_nodes.proofs.Downward.{bytes_told}
 
 abbrev slashed : List ℕ → List ℕ
 slashed n = 47 ∷ n
@@ -119,6 +120,22 @@ parts_of path (x ∷ xs) other all e =
 -- a path that isn't the root's is what is before its last slash, that slash, and its last name
 pub path_parts : (path : List ℕ) → is_path path ≡ true → is_root_path path ≡ false → (path ≡ joined (front (names_of path)) ++ 47 ∷ last_name (names_of path)) × (is_name (last_name (names_of path)) ≡ true) × (path ≡ joined (names_of path))
 path_parts path form other = let w = names_all path form in parts_of path (names_of path) other w.0 w.1
+
+-- no names spell the root's path, and no others do
+pub no_names : is_root_path (spell_path []) ≡ true
+unfolding is_root_path spell_path
+no_names = refl
+
+pub names_apart : (x : List ℕ) (xs : List (List ℕ)) → list_all is_name (x ∷ xs) ≡ true → is_root_path (spell_path (x ∷ xs)) ≡ false
+unfolding is_root_path names_of names_behind
+names_apart x xs all =
+    (elim (bytes_eq (spell_path (x ∷ xs)) (codes "/")) as (λ b. bytes_eq (spell_path (x ∷ xs)) (codes "/") ≡ b → b ≡ false) [
+      | true ↦ λ e.
+          let root : spell_path (x ∷ xs) ≡ 47 ∷ [] = bytes_told (spell_path (x ∷ xs)) (codes "/") e in
+          let none : x ∷ xs ≡ [] = sym (names_told (x ∷ xs) all) ∙ ap names_of root in
+          absurd (cc)
+      | false ↦ λ e. refl
+    ]) refl
 
 pub parent_form : (path : List ℕ) → is_path path ≡ true → is_path (parent_path path) ≡ true
 unfolding parent_path

@@ -1,12 +1,13 @@
 -- Steps down the tree along the names of a path.
-use Rattle.std.proofs.Common.{◌≡◌, ◌≢◌, ℕ, Bool, true, false, ◌==◌, ◌&&◌, List, [], ◌∷◌, ◌++◌, drop, find, Option, Some, None, refl, sym, ap, ◌∙◌, arith, append_assoc, append-nil}
+use Rattle.std.proofs.Common.{cond, inl, ◌≡◌, ◌≢◌, ℕ, Bool, true, false, ◌==◌, ◌&&◌, List, [], ◌∷◌, ◌++◌, drop, find, Option, Some, None, refl, sym, ap, ◌∙◌, arith, append_assoc, append-nil}
 use Rattle.std.specs.Prelude.{bytes_eq, codes, is_some}
 use Rattle.std.specs.List.{list_all}
 use Rattle.std.specs.Option.{option_map}
 use Rattle.std.proofs.lemmas.Bool.{and_parts, eqb-true, eq-eqb, false≢true, ne_eqb}
-use Rattle.cry_base.specs.Naming.{is_name, is_path, is_root_path, names_behind, names_of, split_at_slashes, last_name, front}
+use Rattle.cry_base.specs.Naming.{is_name, is_path, is_root_path, names_behind, names_of, spell_path, split_at_slashes, last_name, front, parent_path}
 use Rattle.cry_base.specs.Store.{Store, FolderEntry, FileEntry, folder_entry, file_entry, folder_names, node_at}
 use Rattle.cry_base.specs.declared.roles.Node.TheVariants.{Folder}
+use Rattle.cry_base.proofs.Paths.{path_told}
 use Rattle.sorted_table.specs.Rows.{IsRising}
 use Rattle.folder_nodes.specs.Spelling.{joined, leads_to_folder, leads_to_file, is_folder_in, is_file_in, as_file}
 use Rattle.folder_nodes.specs.Titles.{Titles, title_at, name_in, tree_store}
@@ -19,9 +20,9 @@ use Rattle.folder_nodes.proofs.Added.{parent_cases, nothing_at_zero}
 use Rattle.folder_nodes.proofs.Downward.{bytes_told, told_bytes, entry_id, file_id, names_root, tree_named}
 use Rattle.folder_nodes.proofs.Lookups.{find_alike}
 use Rattle.folder_nodes.proofs.Leading.{entry_named, lead_step, lead_none, lead_file, lead_file_apart, leads_told, leads_nowhere, no_file_leads, names_here}
-use Rattle.folder_nodes.proofs.Located.{AreNames, title_free, root_stands, folder_told, file_told}
+use Rattle.folder_nodes.proofs.Located.{AreNames, title_free, root_stands, root_told, folder_told, file_told}
 use Rattle.folder_nodes.proofs.Named.{named_folder, named_file, folder_named, file_named}
-use Rattle.folder_nodes.proofs.Slashes.{free, name_free, joined_nothing, joined_push, same_last, path_parts, names_all}
+use Rattle.folder_nodes.proofs.Slashes.{free, name_free, joined_nothing, joined_push, spelled_joined, same_last, path_parts, names_all, names_apart, no_names}
 use Rattle.folder_nodes.proofs.Taken.{HasTried}
 
 -- whether the folder's parent passes, and it has the name
@@ -149,6 +150,30 @@ module _ (s : Store) (n : Titles) (tree : IsTree s) (names : AreNames n.folders)
         | Some e ↦ λ p. let r = root_stands s tree k e p in absurd (cc)
       ]) refl
 
+  -- the one folder that names lead to has the path that they spell
+  one_told : (names : List (List ℕ)) → list_all is_name names ≡ true → (f : ℕ) → ((k : ℕ) → leads k names ≡ (k == f)) → Some (Folder (record { 0 = f })) ≡ node_at t (spell_path names)
+  one_told [] all f alone =
+      let here : leads f [] ≡ true = alone f ∙ eq-eqb f f refl in
+      (elim (folder_entry s 1) as (λ o. folder_entry s 1 ≡ o → Some (Folder (record { 0 = f })) ≡ node_at t (spell_path [])) [
+        | None ↦ λ p. absurd (false≢true (sym (from_nothing p f (joined [])) ∙ here))
+        | Some r ↦ λ p.
+            let one : f ≡ 1 = eqb-true f 1 (sym (from_root r p f) ∙ here) in
+            let stands : is_some (folder_entry s 1) ≡ true = ap (λ (o : Option FolderEntry). is_some o) p in
+            ap (λ k. Some (Folder (record { 0 = k }))) one
+            ∙ sym (ap (λ b. cond b (Some (Folder (record { 0 = 1 }))) None) stands)
+            ∙ root_told s n tree (spell_path []) no_names
+      ]) refl
+  one_told (x ∷ xs) all f alone =
+      let path : List ℕ = spell_path (x ∷ xs) in
+      let form : is_path path ≡ true = (path_told path).1 (x ∷ xs, all, refl) in
+      let spelled : path ≡ joined (x ∷ xs) = spelled_joined (x ∷ xs) (λ none. absurd (cc)) in
+      let leads_here : (k : ℕ) → leads_to_folder t k path ≡ (k == f) = λ k. ap (leads_to_folder t k) spelled ∙ alone k in
+      let spot : Spot = record { group = 0; id = f } in
+      let rising : IsRising (λ (q : Spot). q.id) (spot ∷ []) = λ i j d lt within. absurd (omega (arith, lt, within)) in
+      folder_told s n tree path form (names_apart x xs all) (spot ∷ []) rising
+      (λ k passes. inl (eqb-true k f (sym (leads_here k) ∙ passes)))
+      f (sym (ap (λ b. option_map (λ (q : Spot). q.id) (cond b (Some spot) None)) (leads_here f ∙ eq-eqb f f refl)))
+
   row_below : (test : ℕ → Bool) (name : List ℕ) (k : ℕ) (e : FolderEntry) → folder_entry s k ≡ Some e → is_below test name (folder_entry t k) ≡ (test e.parent && bytes_eq (name_in (title_at n.folders k)) name)
   row_below test name k e p =
       ap (is_below test name) (folder_named s n k ∙ ap (option_map (named_folder n)) p)
@@ -256,6 +281,11 @@ module _ (s : Store) (n : Titles) (tree : IsTree s) (names : AreNames n.folders)
 
     pub walk_ends : (here : ℕ) (name : List ℕ) → Walked s n path here name [] → IsWay above (At here)
     walk_ends here name w = λ k. ap (leads k) (ap front w.1 ∙ front_push w.0 name) ∙ w.2 k
+
+    -- the folder that alone has the names before the last has the path without it
+    pub place_told : (f : ℕ) → IsWay above (At f) → Some (Folder (record { 0 = f })) ≡ node_at t (parent_path path)
+    unfolding parent_path
+    place_told f way = one_told (front (names_of path)) (all_front (names_of path) (names_all path form).0) f way
 
     -- in the folder that alone has the names before it, what has the last name has the path
     module _ (f : ℕ) (way : IsWay above (At f)) (name : List ℕ) (same : name ≡ last) where

@@ -1,6 +1,6 @@
 //! What a path finds.
 ghost use Rattle.std.specs.Prelude.{◌≡◌, true, false, cond, find, None, option_map};
-ghost use Rattle.cry_base.specs.Naming.{is_path, is_root_path, names_of, front};
+ghost use Rattle.cry_base.specs.Naming.{is_path, is_root_path, names_of, front, parent_path};
 ghost use Rattle.cry_base.specs.Store.{node_at};
 ghost use Rattle.folder_nodes.specs.Spelling as spelling;
 ghost use Rattle.folder_nodes.specs.Titles.{tree_store};
@@ -8,7 +8,7 @@ ghost use Rattle.folder_nodes.specs.Ways.{IsWay};
 ghost use Rattle.folder_nodes.specs.declared.spots.Spot.{Spot as TheSpot};
 ghost use Rattle.folder_nodes.specs.declared.walking.Way.TheVariants.{At};
 
-use crate::naming::{is_root, last_piece};
+use crate::naming::{front_of, is_root, last_piece};
 use crate::spelling::{leads_to_file, leads_to_folder};
 use crate::spots::Spot;
 use crate::trying::{files_to_try, first_file, first_folder, folders_to_try};
@@ -42,6 +42,39 @@ pub(crate) fn node_with(shape: &Shape, names: &Names, path: &[u8]) -> Option<Nod
         Way::Nowhere => None,
         Way::At(folder) => child_with(shape, names, folder, path),
         Way::Several => namesake_with(shape, names, path),
+    }
+}
+
+/// What a path finds, and what it finds without its last name: the folder that the path's own is in or is put into.
+#[derive(Clone, Copy, Debug)]
+pub(crate) struct Ends {
+    pub(crate) place: Option<Node>,
+    pub(crate) node: Option<Node>,
+}
+
+/// Both, by one way down from the root. Only where that leads to no folder or to several the front is looked up by itself: it may be a
+/// file's path, or that of several folders.
+pub(crate) fn ends_of(shape: &Shape, names: &Names, path: &[u8]) -> Ends
+    requires form { is_path path.now ≡ true }
+    requires other { is_root_path path.now ≡ false }
+    ensures place { result.place ≡ node_at (tree_store shape.now.tree names.now) (parent_path path.now) }
+    ensures node { result.node ≡ node_at (tree_store shape.now.tree names.now) path.now }
+{
+    shape.is_tree();
+    names.are_names();
+    match walk(shape, names, path) {
+        Way::At(folder) => Ends {
+            place: Some(Node::Folder(FolderId(folder))),
+            node: child_with(shape, names, folder, path),
+        },
+        Way::Nowhere => Ends {
+            place: node_with(shape, names, front_of(path)),
+            node: None,
+        },
+        Way::Several => Ends {
+            place: node_with(shape, names, front_of(path)),
+            node: namesake_with(shape, names, path),
+        },
     }
 }
 

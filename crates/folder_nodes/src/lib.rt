@@ -3,7 +3,6 @@
 
 mod book;
 mod changes;
-mod checking;
 mod finding;
 mod grouped;
 mod inside;
@@ -17,14 +16,15 @@ mod rows;
 mod shape;
 mod spelling;
 mod spots;
+mod targets;
 mod titles;
 mod trying;
 mod walking;
 mod ways;
 
-pub use checking::check_tree;
 pub use finding::find;
 pub use names::Names;
 pub use naming::{front_of, name_ok, path_ok};
 pub use rows::{FileRow, FolderRow};
 pub use shape::Shape;
+pub use targets::{Target, find_target};

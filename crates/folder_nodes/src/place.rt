@@ -1,7 +1,7 @@
 //! Where a command would put a node, and what stands there.
 ghost use Rattle.std.specs.Prelude.{◌≡◌, ◌+◌, ◌&&◌, true, false, nat_lt, length, Some, IsSome};
 ghost use Rattle.std.specs.List.{list_any};
-ghost use Rattle.cry_base.specs.Naming.{is_name, is_path, is_root_path, names_of, parent_path};
+ghost use Rattle.cry_base.specs.Naming.{is_name, is_path, is_root_path, names_of};
 ghost use Rattle.cry_base.specs.Refusing.{is_folder, id_of, has_child, holds_name, name_of as name_in_store, parent_of, height_of};
 ghost use Rattle.cry_base.specs.Store.{node_at, folder_entry, file_entry, depth_of, is_within};
 ghost use Rattle.cry_base.specs.declared.roles.Node.TheVariants.{Folder};
@@ -10,21 +10,11 @@ ghost use Rattle.folder_nodes.specs.Spelling as spelling;
 ghost use Rattle.folder_nodes.specs.Titles.{tree_store};
 ghost use Rattle.folder_nodes.specs.declared.spots.Spot.{Spot as TheSpot};
 
-use crate::finding::node_with;
-use crate::naming::{count_names, front_of, last_piece};
+use crate::naming::{count_names, last_piece};
 use crate::spots::Spot;
 use crate::trying::{files_to_try, folders_to_try, is_file_in, is_folder_in};
 use crate::{Names, Shape};
 use cry_base::{DEPTH, FolderId, Node};
-
-/// The folder that a node with the path is put into, or the file that stands there.
-pub(crate) fn place_of(shape: &Shape, names: &Names, path: &[u8]) -> Option<Node>
-    requires form { is_path path.now ≡ true }
-    requires other { is_root_path path.now ≡ false }
-    ensures { result ≡ node_at (tree_store shape.now.tree names.now) (parent_path path.now) }
-{
-    node_with(shape, names, front_of(path))
-}
 
 /// Whether a node with the path would stand too deep.
 pub(crate) fn has_no_depth(path: &[u8]) -> bool

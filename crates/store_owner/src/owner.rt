@@ -9,6 +9,9 @@ ghost use Rattle.cry_base.specs.Requests.{request_of};
 ghost use Rattle.cry_base.specs.Store.{Store};
 ghost use Rattle.cry_io.specs.Counts.{CountsFault};
 ghost use Rattle.cry_io.specs.Stops.{IsDurable};
+ghost use Rattle.command_plan.specs.Targeted.{HasShortName};
+ghost use Rattle.folder_nodes.specs.Targets.{IsTargetOf, why_of};
+ghost use Rattle.folder_nodes.specs.Titles.{tree_store};
 ghost use Rattle.record_format.specs.Plain.{plain_payload};
 ghost use Rattle.record_format.specs.Sizes.{payload_size};
 ghost use Rattle.record_format.specs.Spellable.{IsSpellable};
@@ -48,12 +51,12 @@ use crate::tally::Tally;
 use chacha_seal::{Counter, Key, OwnerK};
 use command_plan::name_laws::name_changes_leave_the_titles;
 use command_plan::{
-    change_names, name_change_for, note_for, refusal, sealed_len, size_of, text_for,
+    change_names, name_change_for, note_for, resolve, sealed_len, size_of, text_for,
 };
 use commit_journal::{CommitFault, Journal};
 use cry_base::{Command, Limits, Mem, OutOfMemory, Refusal, Reply};
 use cry_io::{Disk, Source};
-use folder_nodes::Names;
+use folder_nodes::{Names, Target};
 use key_links::KeyRing;
 use public_fold::{FoldFault, PublicState};
 use record_format::Payload;
@@ -233,10 +236,11 @@ impl Owner {
         if self.journal.is_closed() {
             return Err(ApplyFault::Closed);
         }
-        if let Some(why) = self.refused(command) {
-            return Ok(Reply::Refused { why });
-        }
-        let (change, room) = match self.plan(alloc, command) {
+        let target = match self.resolved(command) {
+            Ok(target) => target,
+            Err(why) => return Ok(Reply::Refused { why }),
+        };
+        let (change, room) = match self.plan(alloc, command, &target) {
             Ok(Verdict::Planned(change, room)) => (change, room),
             Ok(Verdict::Full) => return Ok(Reply::Refused { why: Refusal::Full }),
             Err(OutOfMemory) => return Err(ApplyFault::OutOfMemory),
@@ -252,13 +256,15 @@ impl Owner {
         self.carry_out(disk, command, change, room, drawn.as_slice())
     }
 
-    /// Why the store itself refuses the command.
-    fn refused(&self, command: &Command) -> Option<Refusal>
+    /// What the command finds, or why the store itself refuses it.
+    fn resolved<'a>(&self, command: &'a Command) -> Result<Target<'a>, Refusal>
         ensures cause { (s : Store) → IsStoreOf self.now.state.tree self.now.names (granted_in self.now) s
-            → result ≡ refusal_of s (request_of command.now) self.now.file_bytes }
-        ensures form { result ≡ None → has_bad_name (request_of command.now) ≡ false }
+            → why_of result ≡ refusal_of s (request_of command.now) self.now.file_bytes }
+        ensures form { IfOk result (λ target. has_bad_name (request_of command.now) ≡ false) }
+        ensures found { IfOk result (IsTargetOf (tree_store self.now.state.tree self.now.names) (request_of command.now)) }
+        ensures short { IfOk result HasShortName }
     {
-        refusal(
+        resolve(
             self.state.shape(),
             &self.names,
             self.state.grants(),
@@ -267,23 +273,29 @@ impl Owner {
         )
     }
 
-    /// What the command seals and changes. `Unfit` comes only where its note doesn't fit.
-    fn draft(&self, alloc: Global, command: &Command) -> Result<Change, FoldFault>
+    /// What the command with this target seals and changes. `Unfit` comes only where its note doesn't fit.
+    fn draft(
+        &self,
+        alloc: Global,
+        command: &Command,
+        target: &Target<'_>,
+    ) -> Result<Change, FoldFault>
         requires open { self.now.journal.is_closed ≡ false }
-        requires form { has_bad_name (request_of command.now) ≡ false }
+        requires found { IsTargetOf (tree_store self.now.state.tree self.now.names) (request_of command.now) target.now }
+        requires short { HasShortName target.now }
         ensures drafted { IfOk result (IsDrafted (request_of command.now) self.now) }
         ensures unfit { result ≡ Err FoldFault.Unfit → IsUnfit (request_of command.now) self.now }
     {
         sound_owners_keep_a_store();
         self.journal.journal_is_within();
         let shape = self.state.shape();
-        let note = note_for(shape, &self.names, self.state.grants(), command);
+        let note = note_for(shape, self.state.grants(), target);
         let begins = !self.journal.has_epoch();
         let ready = self.state.prepare(alloc, &note, begins)?;
-        let Ok(text) = text_for(alloc, shape, &self.names, command) else {
+        let Ok(text) = text_for(alloc, &self.names, target) else {
             return Err(FoldFault::OutOfMemory);
         };
-        let Ok(titles) = name_change_for(alloc, shape, &self.names, command) else {
+        let Ok(titles) = name_change_for(alloc, shape, &self.names, target) else {
             return Err(FoldFault::OutOfMemory);
         };
         Ok(Change {
@@ -294,11 +306,12 @@ impl Owner {
         })
     }
 
-    /// Plans the command with all the memory that it takes, or finds that the store is too full for it. For want of memory the
-    /// owner has at most other room.
-    fn plan(&mut self, alloc: Global, command: &Command) -> Mem<Verdict>
+    /// Plans the command with this target, with all the memory that it takes, or finds that the store is too full for it. For want
+    /// of memory the owner has at most other room.
+    fn plan(&mut self, alloc: Global, command: &Command, target: &Target<'_>) -> Mem<Verdict>
         requires open { self.old.journal.is_closed ≡ false }
-        requires form { has_bad_name (request_of command.now) ≡ false }
+        requires found { IsTargetOf (tree_store self.old.state.tree self.old.names) (request_of command.now) target.now }
+        requires short { HasShortName target.now }
         requires accepted { (s : Store) → IsStoreOf self.old.state.tree self.old.names (granted_in self.old) s
             → refusal_of s (request_of command.now) self.old.file_bytes ≡ None }
         ensures room { HasOtherRoom self.old self.new }
@@ -307,12 +320,12 @@ impl Owner {
         commands_are_measured();
         owners_keep_the_store();
         self.journal.journal_is_within();
-        let change = match self.draft(alloc, command) {
+        let change = match self.draft(alloc, command, target) {
             Ok(change) => change,
             Err(FoldFault::Unfit) => return Ok(Verdict::Full),
             Err(FoldFault::OutOfMemory) => return Err(OutOfMemory),
         };
-        let text = sealed_len(command, &change.text);
+        let text = sealed_len(target, &change.text);
         let Some(size) = size_of(&change.note, change.ready.skeleton(), text) else {
             return Ok(Verdict::Full);
         };

@@ -1,6 +1,5 @@
-use Rattle.std.proofs.Common.{◌≡◌, ◌≢◌, List, sym, subst}
+use Rattle.std.proofs.Common.{◌≢◌, sym, subst}
 use Rattle.std.specs.List.{AllPairs}
-use Rattle.folder_nodes.specs.Indexing.{place_of}
 use Rattle.folder_nodes.specs.declared.spots.Spot.{Spot}
 use Rattle.folder_nodes.proofs.Indexed.{by_spot, index_of, places_apart}
 use Rattle.folder_nodes.proofs.grouped.spots_of.Goals as goal

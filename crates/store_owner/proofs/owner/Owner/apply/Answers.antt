@@ -2,6 +2,7 @@ use Rattle.std.proofs.Common.{◌≡◌, ◌<◌, ◌≤◌, ◌*◌, ◌^◌, �
 use Rattle.cry_base.specs.Requests.{request_of}
 use Rattle.cry_base.specs.declared.memory.OutOfMemory.{OutOfMemory}
 use Rattle.cry_io.specs.Stops.{IsDurable}
+use Rattle.folder_nodes.specs.Targets.{why_of}
 use Rattle.record_format.specs.Told.{told_note}
 use Rattle.public_fold.specs.Journal.{store_of}
 use Rattle.public_fold.specs.declared.heads.Skeleton.{Skeleton}
@@ -29,11 +30,11 @@ use Rattle.store_owner.proofs.StoppedCommands.{rests_then}
 use Rattle.store_owner.proofs.Taken.{are_planned, err_is, falls_short, never_short, takes_filled, takes_none}
 use Rattle.store_owner.proofs.owner.Owner.apply.Goals as goal
 
-pub returns-in-Some-clause-answers : goal.returns-in-Some-clause-answers
-returns-in-Some-clause-answers g c = λ m is.
+pub returns-in-Err-clause-answers : goal.returns-in-Err-clause-answers
+returns-in-Err-clause-answers g c = λ m is.
     let o : OwnerView = c.args.self.now in
     let r = request_of c.args.command.now in
-    (is_refused o m r c.in-Some.why (sym (c.refused.ensures.cause (store_of m) (c.owners_keep_the_store.ensures m o is)) ∙ c.in-Some.is), refl, c.disk_stands_still.ensures.rests o.key m)
+    (is_refused o m r c.in-Err.why (sym (c.resolved.ensures.cause (store_of m) (c.owners_keep_the_store.ensures m o is)) ∙ ap why_of c.in-Err.is), refl, c.disk_stands_still.ensures.rests o.key m)
 
 pub returns-in-Err-fill-clause-answers : goal.returns-in-Err-fill-clause-answers
 returns-in-Err-fill-clause-answers g c = λ m is.
@@ -42,18 +43,18 @@ returns-in-Err-fill-clause-answers g c = λ m is.
     let planned : AnswersPlan {E = OutOfMemory} (Ok (verdicts.Planned c.in-Ok-Planned.change c.in-Ok-Planned.room)) r o c.plan.new.self =
     subst (λ (v : Verdict). AnswersPlan {E = OutOfMemory} (Ok v) r o c.plan.new.self) c.in-Ok-Planned.field-0-is c.in-Ok-Planned.ensures.answers in
     let draws = planned.3 m is in
-    undrawn_answer c.in-Err-fill.fault c.in-Ok.keys m r o c.plan.new.self (g.R.Source.left c.args.random.now) (g.R.Source.left c.fill.new.random) (g.D.Disk.shown c.args.disk.now) (g.D.Disk.shown c.args.disk.now)
+    undrawn_answer c.in-Err-fill.fault c.in-Ok-reserve.keys m r o c.plan.new.self (g.R.Source.left c.args.random.now) (g.R.Source.left c.fill.new.random) (g.D.Disk.shown c.args.disk.now) (g.D.Disk.shown c.args.disk.now)
     (g.D.Disk.may_leave c.args.disk.now) (g.D.Disk.may_leave c.args.disk.now) (g.D.Disk.since c.args.disk.now (g.D.Disk.moment c.args.disk.now))
-    (planned.2 m is) c.plan.ensures.room (c.in-Ok.ensures ∙ ap length c.as_slice-count.ensures ∙ ap (λ (s : Skeleton). length s.keys.items) c.skeleton.ensures ∙ draws.0) draws.1
+    (planned.2 m is) c.plan.ensures.room (c.in-Ok-reserve.ensures ∙ ap length c.as_slice-count.ensures ∙ ap (λ (s : Skeleton). length s.keys.items) c.skeleton.ensures ∙ draws.0) draws.1
     c.in-Err-fill.ensures.faults c.in-Err-fill.ensures.bytes c.in-Err-fill.ensures.told (c.disk_stands_still.ensures.rests o.key m)
 
-pub returns-in_default-reserve-clause-answers : goal.returns-in_default-reserve-clause-answers
-returns-in_default-reserve-clause-answers g c = λ m is. (c.plan.ensures.room, c.disk_stands_still.ensures.rests c.args.self.now.key m)
+pub returns-in_default-clause-answers : goal.returns-in_default-clause-answers
+returns-in_default-clause-answers g c = λ m is. (c.plan.ensures.room, c.disk_stands_still.ensures.rests c.args.self.now.key m)
 
 pub carry_out-requires-clause-accepted : goal.carry_out-requires-clause-accepted
 carry_out-requires-clause-accepted g c =
     let o : OwnerView = c.args.self.now in
-    accepted_still (request_of c.args.command.now) o c.plan.new.self c.plan.ensures.room (sym (c.refused.ensures.cause (own_store o) (c.sound_owners_keep_a_store.ensures.store o)) ∙ c.in_default.is)
+    accepted_still (request_of c.args.command.now) o c.plan.new.self c.plan.ensures.room (sym (c.resolved.ensures.cause (own_store o) (c.sound_owners_keep_a_store.ensures.store o)) ∙ ap why_of c.in-Ok.is)
 
 pub returns-clause-answers : goal.returns-clause-answers
 returns-clause-answers g c = λ m is.
@@ -72,7 +73,7 @@ returns-clause-answers g c = λ m is.
     let limit : o.journal.limit ≤ 268435456 = subst (λ (x : OwnerView). x.journal.limit ≤ 268435456) c.self.view_is c.journal_is_within.ensures.bound in
     let bounded : o.file_bytes ≤ 1048576 = subst (λ (x : OwnerView). x.file_bytes ≤ 1048576) c.self.view_is (c.self.invariant (sym c.is_closed.ensures ∙ c.if-is_closed.false)).0.bounded in
     let store = c.owners_keep_the_store.ensures m o is in
-    let refused = sym (c.refused.ensures.cause (store_of m) store) ∙ c.in_default.is in
+    let refused = sym (c.resolved.ensures.cause (store_of m) store) ∙ ap why_of c.in-Ok.is in
     let might = g.D.Disk.may_leave c.args.disk.now in
     let may = g.D.Disk.may_leave c.carry_out.new.disk in
     let since = g.D.Disk.since c.carry_out.new.disk (g.D.Disk.moment c.args.disk.now) in
@@ -104,7 +105,7 @@ returns-clause-answers g c = λ m is.
     } in
     let left : IsInterrupted r drawn mid was shows → IsCutShort m r o before after was shows might may since = λ h. record {
       drawn = drawn;
-      drawn_count = ap length c.as_slice.ensures ∙ c.in-Ok-fill.ensures.count ∙ c.in-Ok.ensures ∙ ap length c.as_slice-count.ensures
+      drawn_count = ap length c.as_slice.ensures ∙ c.in-Ok-fill.ensures.count ∙ c.in-Ok-reserve.ensures ∙ ap length c.as_slice-count.ensures
           ∙ ap (λ (s : Skeleton). length s.keys.items) c.skeleton.ensures ∙ (planned.3 m is).0;
       drawn_sizes = subst AreKeys (sym c.as_slice.ensures) c.in-Ok-fill.ensures.sizes;
       next_bytes = λ x y a b. c.in-Ok-fill.ensures.bytes x y a b ∙ ap (λ (d : List (List ℕ)). joined d ++ y) (sym c.as_slice.ensures);
@@ -124,15 +125,15 @@ returns-clause-counts g c =
     carried_counts c.carry_out.result c.in-Ok-Planned.change.note c.as_slice.result.now r o c.plan.new.self c.carry_out.new.self c.in-Ok-Planned.change c.plan.ensures.room planned.0
     c.carry_out.ensures.reply c.carry_out.ensures.counted c.carry_out.ensures.uncounted
 
-pub returns-in-Some-clause-draws : goal.returns-in-Some-clause-draws
-returns-in-Some-clause-draws g c = takes_none (g.R.Source.left c.args.random.now)
+pub returns-in-Err-clause-draws : goal.returns-in-Err-clause-draws
+returns-in-Err-clause-draws g c = takes_none (g.R.Source.left c.args.random.now)
 
 pub returns-in-Ok-Full-clause-draws : goal.returns-in-Ok-Full-clause-draws
 returns-in-Ok-Full-clause-draws g c = takes_none (g.R.Source.left c.args.random.now)
 
 pub returns-clause-draws : goal.returns-clause-draws
 returns-clause-draws g c =
-    takes_filled c.carry_out.result c.in-Ok.keys c.in-Ok-fill.drawn (g.R.Source.left c.args.random.now) (g.R.Source.left c.fill.new.random) c.in-Ok-fill.ensures.sizes c.in-Ok-fill.ensures.bytes
+    takes_filled c.carry_out.result c.in-Ok-reserve.keys c.in-Ok-fill.drawn (g.R.Source.left c.args.random.now) (g.R.Source.left c.fill.new.random) c.in-Ok-fill.ensures.sizes c.in-Ok-fill.ensures.bytes
 
 pub returns-clause-short : goal.returns-clause-short
 returns-clause-short g c = λ left need is. never_short c.carry_out.result left need c.carry_out.ensures.fault is
@@ -151,13 +152,13 @@ returns-in-Err-fill-clause-short g c = λ left need is.
     (sound_still o mid c.plan.ensures.room sound) (limit_still o mid c.plan.ensures.room 268435456 limit)
     planned.0.is_skeleton planned.0.fits planned.1.ends_within
     in
-    let count : c.in-Ok.keys ≡ length p.ready.skeleton.keys.items =
-    c.in-Ok.ensures ∙ ap length c.as_slice-count.ensures ∙ ap (λ (s : Skeleton). length s.keys.items) c.skeleton.ensures
+    let count : c.in-Ok-reserve.keys ≡ length p.ready.skeleton.keys.items =
+    c.in-Ok-reserve.ensures ∙ ap length c.as_slice-count.ensures ∙ ap (λ (s : Skeleton). length s.keys.items) c.skeleton.ensures
     in
     let store = c.sound_owners_keep_a_store.ensures.store o in
-    let accepted = sym (c.refused.ensures.cause (own_store o) store) ∙ c.in_default.is in
+    let accepted = sym (c.resolved.ensures.cause (own_store o) store) ∙ ap why_of c.in-Ok.is in
     let plan = are_planned o mid r p c.plan.ensures.room store planned.0 in
-    falls_short o r c.in-Ok.keys (g.R.Source.left c.args.random.now) (g.R.Source.left c.fill.new.random) sound accepted
+    falls_short o r c.in-Ok-reserve.keys (g.R.Source.left c.args.random.now) (g.R.Source.left c.fill.new.random) sound accepted
     (λ at seen. count ∙ plan at seen) (subst (λ n. 32 * n < 2 ^ 32) (sym count) few) c.in-Err-fill.ensures.told
     c.in-Err-fill.fault left need c.in-Err-fill.ensures.faults c.in-Err-fill.ensures.bytes (err_is c.in-Err-fill.fault (faults.RandomShort left need) is)
 
@@ -172,16 +173,16 @@ returns-in-Ok-Full-clause-published g c = λ m is rests. c.disk_stands_still.ens
 pub returns-in-Err-clause-published : goal.returns-in-Err-clause-published
 returns-in-Err-clause-published g c = λ m is rests. c.disk_stands_still.ensures.published c.args.self.now.key m rests
 
-pub returns-in-Some-clause-published : goal.returns-in-Some-clause-published
-returns-in-Some-clause-published g c = λ m is rests. c.disk_stands_still.ensures.published c.args.self.now.key m rests
+pub returns-in-Err-plan-clause-published : goal.returns-in-Err-plan-clause-published
+returns-in-Err-plan-clause-published g c = λ m is rests. c.disk_stands_still.ensures.published c.args.self.now.key m rests
 
 pub returns-in-Err-fill-clause-published : goal.returns-in-Err-fill-clause-published
 returns-in-Err-fill-clause-published g c = λ m is rests.
     let still = c.disk_stands_still.ensures.published c.args.self.now.key m rests in
     (still.0, unless_always (Err c.in-Err-fill.fault) _ still.1)
 
-pub returns-in_default-reserve-clause-published : goal.returns-in_default-reserve-clause-published
-returns-in_default-reserve-clause-published g c = λ m is rests. c.disk_stands_still.ensures.published c.args.self.now.key m rests
+pub returns-in_default-clause-published : goal.returns-in_default-clause-published
+returns-in_default-clause-published g c = λ m is rests. c.disk_stands_still.ensures.published c.args.self.now.key m rests
 
 pub returns-clause-published : goal.returns-clause-published
 returns-clause-published g c = λ m is rests.

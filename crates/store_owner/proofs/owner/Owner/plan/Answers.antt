@@ -2,6 +2,7 @@ use Rattle.std.proofs.Common.{◌≡◌, ◌≤◌, ◌<◌, ◌∙◌, Err, ap,
 use Rattle.std.proofs.lemmas.Bool.{false≢true}
 use Rattle.commit_journal.specs.Journals.{JournalState, end_with}
 use Rattle.cry_base.specs.Requests.{request_of}
+use Rattle.folder_nodes.specs.Titles.{tree_store}
 use Rattle.record_format.specs.Told.{told_note}
 use Rattle.public_fold.specs.Journal.{store_of}
 use Rattle.public_fold.specs.declared.heads.Skeleton.{Skeleton}
@@ -37,7 +38,7 @@ returns-in_default-clause-answers c =
     let change = c.in-Ok.change in
     let size : skeleton_size (told_note change.note) c.skeleton.result.now c.sealed_len-text.result ≡ planned_size r change =
     ap (λ (s : Skeleton). skeleton_size (told_note change.note) s c.sealed_len-text.result) c.skeleton.ensures
-    ∙ ap (λ n. skeleton_size (told_note change.note) change.ready.skeleton n) c.sealed_len-text.ensures.length in (
+    ∙ ap (λ n. skeleton_size (told_note change.note) change.ready.skeleton n) (c.sealed_len-text.ensures.length (tree_store o.state.tree o.names) r c.requires.found) in (
       refl,
       λ m is.
           let store = c.owners_keep_the_store.ensures m o is in
@@ -55,7 +56,7 @@ returns-then-not-fits-clause-answers c =
     let change = c.in-Ok.change in
     let size : skeleton_size (told_note change.note) c.skeleton.result.now c.sealed_len-text.result ≡ planned_size r change =
     ap (λ (s : Skeleton). skeleton_size (told_note change.note) s c.sealed_len-text.result) c.skeleton.ensures
-    ∙ ap (λ n. skeleton_size (told_note change.note) change.ready.skeleton n) c.sealed_len-text.ensures.length in
+    ∙ ap (λ n. skeleton_size (told_note change.note) change.ready.skeleton n) (c.sealed_len-text.ensures.length (tree_store o.state.tree o.names) r c.requires.found) in
     let some = c.in-Some.ensures in
     let sized : c.in-Some.size ≡ planned_size r change = some.1 ∙ size in
     let past : o.journal.limit < end_with o.journal (planned_size r change) =
@@ -79,7 +80,7 @@ returns-clause-answers c =
     let change = c.in-Ok.change in
     let size : skeleton_size (told_note change.note) c.skeleton.result.now c.sealed_len-text.result ≡ planned_size r change =
     ap (λ (s : Skeleton). skeleton_size (told_note change.note) s c.sealed_len-text.result) c.skeleton.ensures
-    ∙ ap (λ n. skeleton_size (told_note change.note) change.ready.skeleton n) c.sealed_len-text.ensures.length in
+    ∙ ap (λ n. skeleton_size (told_note change.note) change.ready.skeleton n) (c.sealed_len-text.ensures.length (tree_store o.state.tree o.names) r c.requires.found) in
     let some = c.in-Some.ensures in
     let sized : c.in-Some.size ≡ planned_size r change = some.1 ∙ size in
     let within : end_with o.journal (planned_size r change) ≤ o.journal.limit =
