@@ -2,6 +2,7 @@
 ghost use Rattle.std.specs.Prelude.{◌≡◌, ◌≢◌, ◌<◌, ◌++◌, ◌∷◌, [], All, Bool, Err, IfOk, IfSome, IsTrue, List, OnOk, map};
 ghost use Rattle.std.specs.List.{AllByRecursion};
 ghost use Rattle.commit_journal.specs.Places.{IsStanding};
+ghost use Rattle.cry_base.specs.Store.{Store};
 ghost use Rattle.cry_base.specs.declared.roles.Role.{Role as TheRole};
 ghost use Rattle.cry_base.specs.declared.roles.Role.TheVariants.{Owner};
 ghost use Rattle.holder_client.specs.Answering.{AnswersBy};
@@ -25,7 +26,7 @@ use crate::visit_list::{Visit, owner_visits};
 use crate::visiting::visit_edge;
 use chacha_seal::{Key, OwnerK};
 use commit_journal::Placed;
-use cry_base::Edge;
+use cry_base::{Edge, Mem};
 use folder_nodes::Names;
 use key_links::KeyRing;
 use public_fold::PublicState;
@@ -135,10 +136,22 @@ pub(crate) fn visit_each<S, R: Records<S>>(
     Ok(view)
 }
 
+/// What was opened, with the names in order for look-ups by path.
+fn arranged(alloc: Global, view: OwnersView) -> Mem<OwnersView>
+    ensures ring { IfOk result (λ x. x.ring ≡ view.ring) }
+    ensures opened { IfOk result (λ x. (bare : Store) (o : Opened) → IsOpenedBy bare view o → IsOpenedBy bare x o) }
+    ensures sized { IfOk result (λ x. AreSized view.names → AreSized x.names) }
+{
+    let OwnersView { ring, names } = view;
+    let mut names = names;
+    names.arrange(alloc)?;
+    Ok(OwnersView { ring, names })
+}
+
 /// Opens all of a store that the owner's key opens: every key, every name, all bytes, and the holders' keys. Its answer is
 /// that of the owner's visits one after another: `Damaged` behind the header where a record is missing, `Tampered` with the
 /// place of the first record whose tag is wrong, `Damaged` with the place of the first content whose text has another form.
-/// `OutOfMemory` may come at any time, and no disk is touched.
+/// `OutOfMemory` may come at any time, and no disk is touched. The names are in order for look-ups by path.
 pub fn open_all(
     alloc: Global,
     state: &PublicState,
@@ -157,9 +170,10 @@ pub fn open_all(
 {
     let indexed = IndexedLog::of(alloc, log)?;
     let visits = owner_visits(alloc, state)?;
-    let view = OwnersView {
+    let begun = OwnersView {
         ring: KeyRing::new(alloc, owner),
         names: Names::new(alloc),
     };
-    visit_each(alloc, state, &indexed, &mut (), visits.as_slice(), view)
+    let view = visit_each(alloc, state, &indexed, &mut (), visits.as_slice(), begun)?;
+    Ok(arranged(alloc, view)?)
 }

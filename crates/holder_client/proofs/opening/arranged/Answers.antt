@@ -1,0 +1,15 @@
+use Rattle.std.proofs.Common.{◌≤◌, ℕ, List, length, sym, subst}
+use Rattle.folder_nodes.specs.Titles.{Title, bytes_in, title_at}
+use Rattle.holder_client.proofs.Naming.{same_names}
+use Rattle.holder_client.proofs.opening.arranged.Goals as goal
+
+pub returns-clause-opened : goal.returns-clause-opened
+returns-clause-opened c = λ bare o is. record {
+  keys = is.keys;
+  names = same_names bare c.arrange.new.self c.args.view.names o.store c.arrange.ensures.folders c.arrange.ensures.files is.names;
+  holders = is.holders;
+}
+
+pub returns-clause-sized : goal.returns-clause-sized
+returns-clause-sized c = λ are.
+    subst (λ (ts : List Title). (x : ℕ) → length (bytes_in (title_at ts x)) ≤ 1048576) (sym c.arrange.ensures.files) are
