@@ -1,7 +1,7 @@
 //! What no real file or stream can show: a fault in the middle of things, and lines in pieces of any size.
-use crate::fakes::{Call, Fault, called};
 use cry_base::Mem;
 use cryptree_cli::status::Status;
+use fake_calls::call::{Call, Fault, called};
 use std::alloc::Global;
 use std::test::Fail;
 
@@ -142,7 +142,7 @@ fn first_wrong(alloc: Global, rows: &[Row], image: &[u8]) -> Mem<Option<usize>> 
         let came = called(alloc, *call, *fault, image)?;
         let is_due = came.status == *status
             && came.printed.as_slice() == *printed
-            && came.image.as_slice().len() == *size;
+            && came.disk.bytes().len() == *size;
         if !is_due {
             return Ok(Some(number));
         }
@@ -166,10 +166,7 @@ fn faults_end_a_call_and_leave_what_was_done(rt: HostRuntime) -> Result<(), Fail
     let alloc = rt.alloc();
     let fresh = called(alloc, MAKE, Fault::Nothing, &[])?;
     assert_eq!(rt; first_wrong(alloc, &MADE, &[])?, None);
-    assert_eq!(rt;
-        first_wrong(alloc, &OVER_FRESH, fresh.image.as_slice())?,
-        None
-    );
+    assert_eq!(rt; first_wrong(alloc, &OVER_FRESH, fresh.disk.bytes())?, None);
     Ok(())
 }
 
@@ -177,15 +174,15 @@ fn faults_end_a_call_and_leave_what_was_done(rt: HostRuntime) -> Result<(), Fail
 fn what_a_run_made_is_listed_opened_and_audited(rt: HostRuntime) -> Result<(), Fail> {
     let alloc = rt.alloc();
     let fresh = called(alloc, MAKE, Fault::Nothing, &[])?;
-    let made = called(alloc, RUN, Fault::Nothing, fresh.image.as_slice())?;
-    let image = made.image.as_slice();
+    let made = called(alloc, RUN, Fault::Nothing, fresh.disk.bytes())?;
+    let image = made.disk.bytes();
     let listed = called(alloc, LIST, Fault::Nothing, image)?;
     assert_eq!(rt; listed.status, Status::Done);
     assert_eq!(rt; listed.printed.as_slice(), LISTED);
     let opened = called(alloc, OPEN, Fault::Nothing, image)?;
     assert_eq!(rt; opened.status, Status::Done);
     assert_eq!(rt; opened.printed.as_slice(), b"file /a/x 00ff\n".as_slice());
-    assert_eq!(rt; opened.image.as_slice() == image, true);
+    assert_eq!(rt; opened.disk.bytes() == image, true);
     let audited = called(alloc, AUDIT, Fault::Nothing, image)?;
     assert_eq!(rt; audited.status, Status::Done);
     assert_eq!(rt; audited.printed.as_slice(), SEEN);
@@ -196,7 +193,7 @@ fn what_a_run_made_is_listed_opened_and_audited(rt: HostRuntime) -> Result<(), F
 fn each_call_of_the_disk_may_fail(rt: HostRuntime) -> Result<(), Fail> {
     let alloc = rt.alloc();
     let fresh = called(alloc, MAKE, Fault::Nothing, &[])?;
-    let image = fresh.image.as_slice();
+    let image = fresh.disk.bytes();
     assert_eq!(rt; disk_calls(alloc, MAKE, &[])?, (14, Status::Done));
     // The header, and two reads for each of two batches; `list` reads the batch of the root's name once more.
     assert_eq!(rt; disk_calls(alloc, LIST, image)?, (7, Status::Done));
@@ -214,7 +211,7 @@ fn lines_are_the_same_in_pieces_of_any_size(rt: HostRuntime) -> Result<(), Fail>
             alloc,
             Call { step, ..LINES },
             Fault::Nothing,
-            fresh.image.as_slice(),
+            fresh.disk.bytes(),
         )?;
         assert_eq!(rt; came.printed.as_slice(), REPLIES, "by {step}");
     }
