@@ -1,11 +1,9 @@
-//! Edges, rights, what keys lead to, and marks.
+//! Edges, rights, and what keys lead to.
 ghost use Rattle.std.specs.Prelude;
 
 use crate::stores::Store;
 use cry_base::{Edge, FolderId, HolderId, Role};
-use rekey_walk::{Dirty, mark_from, plan};
 use role_graph::{allowed, named, reach};
-use std::alloc::Global;
 use std::test::Fail;
 
 const HOLDER: HolderId = HolderId(1);
@@ -91,29 +89,5 @@ fn a_grant_leads_to_its_folder_and_to_the_names_above(rt: HostRuntime) -> Result
         assert_eq!(rt; allowed(&store.shape, &store.grants, HOLDER, f), is_allowed);
         assert_eq!(rt; named(&store.shape, &store.grants, HOLDER, f), is_named);
     }
-    Ok(())
-}
-
-/// The root and folders 2 to 64, each in the one before.
-const CHAIN: [u32; 63] = [
-    1, 2, 3, 4, 5, 6, 7, 8, 9, 10, 11, 12, 13, 14, 15, 16, 17, 18, 19, 20, 21, 22, 23, 24, 25, 26,
-    27, 28, 29, 30, 31, 32, 33, 34, 35, 36, 37, 38, 39, 40, 41, 42, 43, 44, 45, 46, 47, 48, 49, 50,
-    51, 52, 53, 54, 55, 56, 57, 58, 59, 60, 61, 62, 63,
-];
-
-/// How many roles a revocation on the root marks, and how many of them a name at the bottom of the chain renews.
-fn marked(alloc: Global, edges: &[Edge]) -> Result<(usize, usize), Fail> {
-    let mut dirty = Dirty::new(alloc);
-    mark_from(alloc, &mut dirty, edges, Role::Clear(FolderId(1)))?;
-    let renewed = plan(alloc, &dirty, edges, &[Role::Data(FolderId(64))])?;
-    Ok((dirty.as_slice().len(), renewed.as_slice().len()))
-}
-
-#[test]
-fn a_mark_at_the_top_of_a_chain_reaches_all_below(rt: HostRuntime) -> Result<(), Fail> {
-    let store = Store::new(rt.alloc(), &CHAIN, &[], &[])?;
-    let edges = store.edges(rt.alloc())?;
-    assert_eq!(rt; edges.as_slice().len(), 446);
-    assert_eq!(rt; marked(rt.alloc(), edges.as_slice())?, (257, 67));
     Ok(())
 }

@@ -3,6 +3,10 @@
 #![tactic(auto)]
 
 #[cfg(test)]
+mod drawn;
+#[cfg(test)]
 mod graph;
 #[cfg(test)]
 mod stores;
+#[cfg(test)]
+mod walks;
