@@ -131,8 +131,8 @@ const OVER_FRESH: [Row; 18] = [
     (RUN, Fault::Input(2), Status::ReadFault, b"ok\n", 1801),
     (RUN, Fault::Random(2), Status::RandomFault, b"", 819),
     (RUN, Fault::Random(3), Status::RandomFault, b"ok\n", 1801),
-    (RUN, Fault::Disk(20), Status::DiskFault, b"ok\n", 1801),
-    (RUN, Fault::Disk(25), Status::DiskFault, b"ok\n", 2088),
+    (RUN, Fault::Disk(18), Status::DiskFault, b"ok\n", 1801),
+    (RUN, Fault::Disk(23), Status::DiskFault, b"ok\n", 2088),
     (RUN, Fault::Room(4), Status::WriteFault, b"ok\no", 2088),
 ];
 
@@ -198,7 +198,7 @@ fn each_call_of_the_disk_may_fail(rt: HostRuntime) -> Result<(), Fail> {
     // The header, and two reads for each of two batches; `list` reads the batch of the root's name once more.
     assert_eq!(rt; disk_calls(alloc, LIST, image)?, (7, Status::Done));
     assert_eq!(rt; disk_calls(alloc, AUDIT, image)?, (5, Status::Done));
-    assert_eq!(rt; disk_calls(alloc, FOLDER, image)?, (20, Status::Done));
+    assert_eq!(rt; disk_calls(alloc, FOLDER, image)?, (18, Status::Done));
     Ok(())
 }
 

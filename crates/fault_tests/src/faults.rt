@@ -48,7 +48,7 @@ const RANDOM: Row = Row {
 const DISK: Row = Row {
     failing: Failing::Disk,
     status: Status::DiskFault,
-    script_calls: 68,
+    script_calls: 66,
     make_calls: 14,
     picks: 8,
 };
