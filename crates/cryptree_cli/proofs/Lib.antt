@@ -13,6 +13,7 @@ pub mod LinesRun
 pub mod ListingLemmas
 pub mod MakeLemmas
 pub mod OutsideLemmas
+pub mod OwnerStepLemmas
 pub mod ReadFaults
 pub mod RefusedRuns
 pub mod RunEnds
