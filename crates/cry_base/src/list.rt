@@ -1,5 +1,5 @@
 //! A list that contracts see as its items, and as the number of items that it still has room for.
-ghost use Rattle.std.specs.Prelude.{◌≡◌, ◌+◌, ◌≤◌, [], ◌∷◌, ◌++◌, length, IsOk, OnOk, OnErr};
+ghost use Rattle.std.specs.Prelude.{◌≡◌, ◌+◌, ◌<◌, ◌≤◌, [], ◌∷◌, ◌++◌, length, IsOk, OnOk, OnErr, slice_index_or, swap_remove};
 ghost use Rattle.std.specs.Borrow.{sem};
 ghost use Rattle.cry_base.specs.Lending.{LendsItems};
 
@@ -53,6 +53,15 @@ impl<T> List<T> {
         ensures spare { self.old.spare ≤ self.new.spare + 1 }
     {
         self.vec.push_reserved(item);
+    }
+
+    /// Takes an item out, and puts the last one in its place.
+    pub fn swap_remove(&mut self, index: usize) -> T
+        requires { index < length self.old.items }
+        ensures value { result ≡ slice_index_or self.old.items index result }
+        ensures items { self.new.items ≡ swap_remove self.old.items index result }
+    {
+        self.vec.swap_remove(index)
     }
 
     /// The items in order.

@@ -125,3 +125,39 @@ pub(crate) fn content_at(
         content,
     })
 }
+
+/// Takes the content at a spot out of its batch, of which nothing else is kept. `Tampered` comes where the batch has no such
+/// content there.
+pub(crate) fn take_content(
+    placed: Placed,
+    spot: &ContentSpot,
+    kind: u8,
+    object: u32,
+) -> Result<FoundContent, ClientFault>
+    requires { IsStanding placed }
+    ensures found { FindsAt kind object placed spot.now result }
+    ensures form { IfOk result (IsContentFor kind object) }
+    ensures seen { result ≢ Err ClientFault.Unseen }
+    ensures no_disk { result ≢ Err ClientFault.DiskFault }
+{
+    let changed = ClientFault::Tampered {
+        batch: spot.batch,
+        at: spot.at,
+    };
+    let Body::Commands(payload) = placed.body else {
+        return Err(changed);
+    };
+    let mut contents = payload.contents;
+    if contents.as_slice().len() <= spot.index {
+        return Err(changed);
+    }
+    let content = contents.swap_remove(spot.index);
+    if content.kind != kind || content.object != object {
+        return Err(changed);
+    }
+    Ok(FoundContent {
+        batch: spot.batch,
+        at: spot.at,
+        content,
+    })
+}

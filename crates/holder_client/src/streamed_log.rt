@@ -2,7 +2,7 @@
 use crate::ClientFault;
 use crate::index::Index;
 use crate::last_links::FoundLink;
-use crate::records::{FoundContent, Records, content_at};
+use crate::records::{FoundContent, Records, take_content};
 use commit_journal::PublicLog;
 use cry_base::Edge;
 use cry_io::Disk;
@@ -59,7 +59,7 @@ impl<'a, D: Disk> Records<D> for StreamedLog<'a> {
             return Ok(None);
         };
         let placed = self.log.again(alloc, source, spot.position as u32 + 1)?;
-        Ok(Some(content_at(alloc, &placed, &spot, kind, object)?))
+        Ok(Some(take_content(placed, &spot, kind, object)?))
     }
 
     ghost same = { λ a. only_read_still D.shown D.size_of D.may_leave D.faults a };

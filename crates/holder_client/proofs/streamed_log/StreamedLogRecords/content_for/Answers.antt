@@ -17,15 +17,15 @@ returns-in_err-placed-clause-found g c = λ shown.
     let again = reread log shown.0 spot.position last.1.0 last.1.1 (subst (λ (l : LogState). ShowsGiven l shown.0) (sym c.self.view_is) shown.2) in
     rw (p.1, p.2) (free_again c.in_err-placed.field-0.0 (c.in_err-placed.ensures.same shown.0 shown.1 last.1.0 again))
 
-pub returns-in_err-content_at-clause-found : goal.returns-in_err-content_at-clause-found
-returns-in_err-content_at-clause-found g c = λ shown.
-    let p = err_from_is_err_and c.from_residual-in_err-content_at.result c.from_residual-in_err-content_at.ensures.1 in
+pub returns-in_err-take_content-clause-found : goal.returns-in_err-take_content-clause-found
+returns-in_err-take_content-clause-found g c = λ shown.
+    let p = err_from_is_err_and c.from_residual-in_err-take_content.result c.from_residual-in_err-take_content.ensures.1 in
     let log = c.self.inside.log.now in
     let spot = c.in-Some.spot in
     let last = subst (λ o. IsLastAt log.given o (content_for log.given c.args.kind c.args.object)) c.in-Some.is (c.spot_for.ensures log.given c.self.invariant.0) in
     let again = reread log shown.0 spot.position last.1.0 last.1.1 (subst (λ (l : LogState). ShowsGiven l shown.0) (sym c.self.view_is) shown.2) in
     let here = subst (IsAt log.given spot.position) (sym (c.in_ok-placed.ensures.same shown.0 shown.1 last.1.0 again)) last.1.1 in
-    rw (p.1, p.2) (finds_at log.given c.args.kind c.args.object spot c.in_ok-placed.placed (Err c.in_err-content_at.field-0.0) last here c.in_err-content_at.ensures.found)
+    rw (p.1, p.2) (finds_at log.given c.args.kind c.args.object spot c.in_ok-placed.placed (Err c.in_err-take_content.field-0.0) last here c.in_err-take_content.ensures.found)
 
 pub returns-clause-found : goal.returns-clause-found
 returns-clause-found g c = λ shown.
@@ -34,5 +34,5 @@ returns-clause-found g c = λ shown.
     let last = subst (λ o. IsLastAt log.given o (content_for log.given c.args.kind c.args.object)) c.in-Some.is (c.spot_for.ensures log.given c.self.invariant.0) in
     let again = reread log shown.0 spot.position last.1.0 last.1.1 (subst (λ (l : LogState). ShowsGiven l shown.0) (sym c.self.view_is) shown.2) in
     let here = subst (IsAt log.given spot.position) (sym (c.in_ok-placed.ensures.same shown.0 shown.1 last.1.0 again)) last.1.1 in
-    finds_at log.given c.args.kind c.args.object spot c.in_ok-placed.placed (Ok c.in_ok-content_at.field-0) last here c.in_ok-content_at.ensures.found
+    finds_at log.given c.args.kind c.args.object spot c.in_ok-placed.placed (Ok c.in_ok-take_content.field-0) last here c.in_ok-take_content.ensures.found
     ∙ ap (λ (l : LogState). content_for l.given c.args.kind c.args.object) c.self.view_is
