@@ -141,14 +141,14 @@ through bundle log stand is = then_ok (of_bytes (read_through (Ok log))) (may_re
 
 pub refused_key : (bundle : Bundle) (log : List PlainPlaced) (v : PublicView) (fault : ClientFault) → (stand : Stand) × (folded nothing log ≡ Ok stand) × IsSeenAs v stand →
     ((r : Reading) → IsReadingIn v log r → IsFailure fault (may_read bundle r)) → IsFailure fault (read_with bundle (Ok log))
-refused_key bundle log v fault folds refused = subst (IsFailure fault) (sym (through bundle log folds.0 folds.1)) (refused (reading_of log folds.0) (refl, folds.2))
+refused_key bundle log v fault folds refused = subst (IsFailure fault) (sym (through bundle log folds.0 folds.1)) (refused (reading_of log folds.0) (refl, folds.2, folds.1))
 
 pub taken_key : (bundle : Bundle) (log : List PlainPlaced) (v : PublicView) → (stand : Stand) × (folded nothing log ≡ Ok stand) × IsSeenAs v stand →
     ((r : Reading) → IsReadingIn v log r → may_read bundle r ≡ Ok r) → (r : Reading) × (read_with bundle (Ok log) ≡ Ok r) × (IsReadingIn v log r × GrantsStand r.stand.store)
 taken_key bundle log v folds taken =
     let r = reading_of log folds.0 in
     let told : (x : Reading) × (read_with bundle (Ok log) ≡ Ok x) × (IsReadingIn v log x × GrantsStand x.stand.store) =
-    (r, through bundle log folds.0 folds.1 ∙ taken r (refl, folds.2), ((refl, folds.2), grants_stand log folds.0 folds.1))
+    (r, through bundle log folds.0 folds.1 ∙ taken r (refl, folds.2, folds.1), ((refl, folds.2, folds.1), grants_stand log folds.0 folds.1))
     in
     told
 

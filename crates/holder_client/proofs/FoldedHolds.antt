@@ -77,46 +77,54 @@ payload_with at q batch place before t w =
 epoch_with : (at : Stand) (before : List PlacedLink) → HoldsWith at before → HoldsWith (record at { keys = next_epoch at.keys }) before
 epoch_with at before w = (w.0, epoch_stands at w.0 w.1, w.2)
 
--- one batch, and what follows
-body_with : (at stand : Stand) (batch place : ℕ) (body : PlainBody) (before behind : List PlacedLink) (go_on : Stand → Result Stand Fault)
-    → ((next : Stand) (placed : List PlacedLink) → HoldsWith next placed → go_on next ≡ Ok stand → HoldsWith stand (placed ++ behind))
-    → HoldsWith at before → and_then (stand_behind at place body) go_on ≡ Ok stand → HoldsWith stand (before ++ (body_links batch place body ++ behind))
-unfolding stand_behind and_then body_links
-body_with at stand batch place NewEpoch before behind go_on on w e =
-    on (record at { keys = next_epoch at.keys }) before (epoch_with at before w) e
-body_with at stand batch place (Commands q) before behind go_on on w e =
-    let new : List PlacedLink = body_links batch place (Commands q) in
-    (elim (payload_fits at q) as (λ b. payload_fits at q ≡ b → and_then (if b then Ok (told_stand at (told_note q.note)) else Err (Damaged place)) go_on ≡ Ok stand → HoldsWith stand (before ++ (new ++ behind))) [
-      | true ↦ λ t e. subst (HoldsWith stand) (append_assoc before new behind)
-          (on (told_stand at (told_note q.note)) (before ++ new) (payload_with at q batch place before t w) e)
-      | false ↦ λ t e. absurd cc
-    ]) refl e
+-- what holds with the links so far, and is kept by each payload that fits and each epoch, holds of what a log folds to
+module _ (P : Stand → List PlacedLink → Type 0)
+    (payload : (at : Stand) (q : PlainPayload) (batch place : ℕ) (before : List PlacedLink) → payload_fits at q ≡ true → P at before → P (told_stand at (told_note q.note)) (before ++ body_links batch place (Commands q)))
+    (epoch : (at : Stand) (before : List PlacedLink) → P at before → P (record at { keys = next_epoch at.keys }) before)
+    (first : P (record nothing { keys = next_epoch nothing.keys }) []) where
+  -- one batch, and what follows
+  body_each : (at stand : Stand) (batch place : ℕ) (body : PlainBody) (before behind : List PlacedLink) (go_on : Stand → Result Stand Fault)
+      → ((next : Stand) (placed : List PlacedLink) → P next placed → go_on next ≡ Ok stand → P stand (placed ++ behind))
+      → P at before → and_then (stand_behind at place body) go_on ≡ Ok stand → P stand (before ++ (body_links batch place body ++ behind))
+  unfolding stand_behind and_then body_links
+  body_each at stand batch place NewEpoch before behind go_on on w e =
+      on (record at { keys = next_epoch at.keys }) before (epoch at before w) e
+  body_each at stand batch place (Commands q) before behind go_on on w e =
+      let new : List PlacedLink = body_links batch place (Commands q) in
+      (elim (payload_fits at q) as (λ b. payload_fits at q ≡ b → and_then (if b then Ok (told_stand at (told_note q.note)) else Err (Damaged place)) go_on ≡ Ok stand → P stand (before ++ (new ++ behind))) [
+        | true ↦ λ t e. subst (P stand) (append_assoc before new behind)
+            (on (told_stand at (told_note q.note)) (before ++ new) (payload at q batch place before t w) e)
+        | false ↦ λ t e. absurd cc
+      ]) refl e
 
-fold_with : (log : List PlainPlaced) (at stand : Stand) (before : List PlacedLink) → HoldsWith at before → folded at log ≡ Ok stand → HoldsWith stand (before ++ log_links log)
-unfolding folded log_links
-fold_with [] at stand before w e =
-    let same : at ≡ stand = cc in
-    subst (λ z. HoldsWith z (before ++ [])) same (subst (HoldsWith at) (sym (append-nil before)) w)
-fold_with (p ∷ log) at stand before w e =
-    body_with at stand p.batch p.place p.body before (log_links log) (λ next. folded next log) (λ next placed u f. fold_with log next stand placed u f) w e
+  fold_each : (log : List PlainPlaced) (at stand : Stand) (before : List PlacedLink) → P at before → folded at log ≡ Ok stand → P stand (before ++ log_links log)
+  unfolding folded log_links
+  fold_each [] at stand before w e =
+      let same : at ≡ stand = cc in
+      subst (λ z. P z (before ++ [])) same (subst (P at) (sym (append-nil before)) w)
+  fold_each (p ∷ log) at stand before w e =
+      body_each at stand p.batch p.place p.body before (log_links log) (λ next. folded next log) (λ next placed u f. fold_each log next stand placed u f) w e
 
--- the first batch of a log that folds begins an epoch
-first_with : (stand : Stand) (batch place : ℕ) (body : PlainBody) (behind : List PlacedLink) (go_on : Stand → Result Stand Fault)
-    → ((next : Stand) (placed : List PlacedLink) → HoldsWith next placed → go_on next ≡ Ok stand → HoldsWith stand (placed ++ behind))
-    → and_then (stand_behind nothing place body) go_on ≡ Ok stand → HoldsWith stand (body_links batch place body ++ behind)
-unfolding stand_behind and_then body_links
-first_with stand batch place NewEpoch behind go_on on e = on (record nothing { keys = next_epoch nothing.keys }) [] ([], first_stands, λ l i. absurd i) e
-first_with stand batch place (Commands q) behind go_on on e =
-    let new : List PlacedLink = body_links batch place (Commands q) in
-    (elim (payload_fits nothing q) as (λ b. payload_fits nothing q ≡ b → and_then (if b then Ok (told_stand nothing (told_note q.note)) else Err (Damaged place)) go_on ≡ Ok stand → HoldsWith stand (new ++ behind)) [
-      | true ↦ λ t e. absurd (first_fits q t)
-      | false ↦ λ t e. absurd cc
-    ]) refl e
+  -- the first batch of a log that folds begins an epoch
+  first_each : (stand : Stand) (batch place : ℕ) (body : PlainBody) (behind : List PlacedLink) (go_on : Stand → Result Stand Fault)
+      → ((next : Stand) (placed : List PlacedLink) → P next placed → go_on next ≡ Ok stand → P stand (placed ++ behind))
+      → and_then (stand_behind nothing place body) go_on ≡ Ok stand → P stand (body_links batch place body ++ behind)
+  unfolding stand_behind and_then body_links
+  first_each stand batch place NewEpoch behind go_on on e = on (record nothing { keys = next_epoch nothing.keys }) [] first e
+  first_each stand batch place (Commands q) behind go_on on e =
+      let new : List PlacedLink = body_links batch place (Commands q) in
+      (elim (payload_fits nothing q) as (λ b. payload_fits nothing q ≡ b → and_then (if b then Ok (told_stand nothing (told_note q.note)) else Err (Damaged place)) go_on ≡ Ok stand → P stand (new ++ behind)) [
+        | true ↦ λ t e. absurd (first_fits q t)
+        | false ↦ λ t e. absurd cc
+      ]) refl e
+
+  pub log_each : (first : PlainPlaced) (log : List PlainPlaced) (stand : Stand) → folded nothing (first ∷ log) ≡ Ok stand → P stand (log_links (first ∷ log))
+  unfolding folded log_links
+  log_each p log stand e =
+      first_each stand p.batch p.place p.body (log_links log) (λ next. folded next log) (λ next placed u f. fold_each log next stand placed u f) e
 
 pub log_with : (first : PlainPlaced) (log : List PlainPlaced) (stand : Stand) → folded nothing (first ∷ log) ≡ Ok stand → HoldsWith stand (log_links (first ∷ log))
-unfolding folded log_links
-log_with p log stand e =
-    first_with stand p.batch p.place p.body (log_links log) (λ next. folded next log) (λ next placed u f. fold_with log next stand placed u f) e
+log_with p log stand e = log_each HoldsWith payload_with epoch_with ([], first_stands, λ l i. absurd i) p log stand e
 
 -- the last one that passes is there where any passes
 last_found : (X : Type 0) (test : X → Bool) (xs : List X) (x : X) → In x xs → test x ≡ true → is_some (last_one test xs) ≡ true
@@ -147,7 +155,7 @@ for_its_edge l r t =
     (and_from (r.to_id == role_id l.edge.to) ((r.from_serial.0 == l.from_serial) && (r.to_serial.0 == l.to_serial)) c.0
     (and_from (r.from_serial.0 == l.from_serial) (r.to_serial.0 == l.to_serial) d.0 f.0)))
 
-for_edge : (k : KeyState) (e : Edge) (l : Link) (p : PlacedLink) → has_link_head l p.link ≡ true → l.edge ≡ e → l.from_serial ≡ present k.keys e.from → l.to_serial ≡ present k.keys e.to → is_for_edge k e p ≡ true
+pub for_edge : (k : KeyState) (e : Edge) (l : Link) (p : PlacedLink) → has_link_head l p.link ≡ true → l.edge ≡ e → l.from_serial ≡ present k.keys e.from → l.to_serial ≡ present k.keys e.to → is_for_edge k e p ≡ true
 unfolding is_for_edge
 for_edge k e l p t q from to =
     let r = p.link in

@@ -17,7 +17,7 @@ use Rattle.holder_client.specs.declared.last_links.FoundLink.{FoundLink}
 use Rattle.holder_client.specs.declared.fault.ClientFault.TheVariants as faults
 use Rattle.public_fold.specs.Standing.{PublicView}
 use Rattle.std.specs.Option.{IsSome}
-use Rattle.holder_client.specs.Holding.{ArePresent, HoldsKeys, HasKind, IsReadingIn}
+use Rattle.holder_client.specs.Holding.{ArePresent, HoldsKeys, HasKind}
 use Rattle.holder_client.specs.Placing.{PlacedLink, PlacedContent, last_one, is_for_edge, log_links, link_for, content_for}
 use Rattle.holder_client.specs.Verdict.{open_link, open_content}
 use Rattle.holder_client.specs.Visiting.{Reading, Opened, needed, with_key, visit_edge, visit_text}
@@ -175,10 +175,6 @@ the_one None is = absurd (false≢true is)
 pub no_one : {X : Type 0} (o : Option X) → (IsSome o → ⊥) → o ≡ None
 no_one (Some x) none = absurd (none refl)
 no_one None none = refl
-
--- a link that was found in a log is the one that a reading of it finds
-pub link_told : (state : PublicView) (log : List PlainPlaced) (r : Reading) (e : Edge) (found : Option PlacedLink) → IsReadingIn state log r → found ≡ link_for state.keys log e → found ≡ link_for r.stand.keys r.log e
-link_told state log r e found of_log is = is ∙ sym (ap (λ (k : KeyState). link_for k r.log e) of_log.1.keys ∙ ap (λ ps. link_for state.keys ps e) of_log.0)
 
 -- a fault that may come at any time is any fault that is wanted
 pub free_fault : {Y : Type 0} (fault : ClientFault) (wanted : Result Y Fault) → IsFree fault → IsFault fault wanted

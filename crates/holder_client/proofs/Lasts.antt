@@ -32,11 +32,12 @@ use Rattle.std.proofs.lemmas.Bool.{and_parts, eqb-true}
 use Rattle.std.specs.Prelude.{MatchResult, Result, Ok, Err}
 use Rattle.holder_client.specs.declared.fault.ClientFault.{ClientFault}
 use Rattle.holder_client.specs.declared.records.FoundContent.{FoundContent}
-use Rattle.holder_client.specs.Found.{FindsAt, IsFree, IsLinkFor, plain_content_found, content_here, is_of, is_sought, link_here, plain_link}
+use Rattle.holder_client.specs.Found.{FindsAt, IsFree, IsLinkFor, plain_content_found, content_here, has_present_serials, head_of_edge, is_of, is_sought, link_here, newest_for, only_if, plain_link}
 use Rattle.holder_client.specs.Indexed.{HasLastContents, HasLastLinks, IsContentAt, IsIndexOf, IsLastAt, head_of_content, head_of_link, same_content_heads, same_link_heads}
 use Rattle.holder_client.specs.Placing.{PlacedContent, PlacedLink, body_contents, body_links, contents_at, content_for, is_for_edge, last_one, link_for, links_at, log_contents, log_links}
 use Rattle.holder_client.specs.Spots.{IsAt, contents_in}
 use Rattle.holder_client.proofs.Following.{last_passes}
+use Rattle.holder_client.proofs.NewestLinks.{for_present}
 
 -- with one more, that one if it passes, and else the last before it
 last_with_next : {X : Type 0} (test : X → Bool) (xs : List X) (x : X) → last_one test (xs ++ x ∷ []) ≡ cond (test x) (Some x) (last_one test xs)
@@ -238,8 +239,33 @@ standing_form placed i c stands is = of_body placed.place placed.body stands.pay
         subst IsContent (get_or_from_slice_get cs i c c at) (All-get_or IsContent cs i c (slice_get_within cs i c at) ends.0.contents)
     of_body place bodies.NewEpoch ends at = absurd (let bad : slice_get (let none : List PlainContent = [] in none) i ≡ Some c = at in let within = slice_get_within (let none : List PlainContent = [] in none) i c bad in omega (arith, within))
 
+-- what the map has of an edge is its last link, where it is one from present key to present key
+pub newest_wanting : {S : Type 0} (last : HashMap LinkHead FoundLink S) (k : KeyState) (log : List PlainPlaced) (e : Edge) → HasLastLinks last (log_links log) → get same_link_heads last (head_of_edge e) ≡ None →
+    newest_for k log e ≡ None
+unfolding newest_for
+newest_wanting last k log e has is = ap (only_if (is_for_edge k e)) (sym (has.found (head_of_edge e)) ∙ ap plain_link is)
+
+pub newest_present : {S : Type 0} (last : HashMap LinkHead FoundLink S) (k : KeyState) (log : List PlainPlaced) (e : Edge) (l : FoundLink) (b : Bool) → HasLastLinks last (log_links log) →
+    get same_link_heads last (head_of_edge e) ≡ Some l → b ≡ has_present_serials k e l.link → newest_for k log e ≡ cond b (Some (link_here l.batch l.at l.link)) None
+unfolding newest_for
+newest_present last k log e l b has is passes =
+    let here = link_here l.batch l.at l.link in
+    let last_is : last_one (is_sought (head_of_edge e)) (log_links log) ≡ Some here = sym (has.found (head_of_edge e)) ∙ ap plain_link is in
+    ap (only_if (is_for_edge k e)) last_is
+    ∙ ap (λ t. cond t (Some here) None) (for_present k e here (last_passes (is_sought (head_of_edge e)) (log_links log) here last_is) ∙ sym passes)
+
 -- a link that was found for an edge is one for it
-pub found_for : (k : KeyState) (log : List PlainPlaced) (e : Edge) (found : Option FoundLink) → plain_link found ≡ link_for k log e → IfSome found (IsLinkFor k e)
-unfolding link_for
+pub found_for : (k : KeyState) (log : List PlainPlaced) (e : Edge) (found : Option FoundLink) → plain_link found ≡ newest_for k log e → IfSome found (IsLinkFor k e)
+unfolding newest_for
 found_for k log e None is = tt
-found_for k log e (Some l) is = last_passes (is_for_edge k e) (log_links log) (link_here l.batch l.at l.link) (sym is)
+found_for k log e (Some l) is =
+    let here = link_here l.batch l.at l.link in
+    let test = is_for_edge k e in
+    (elim (last_one (is_sought (head_of_edge e)) (log_links log)) as (λ o. Some here ≡ only_if test o → test here ≡ true) [
+      | Some q ↦ λ f. passed test here q (test q) refl f
+      | None ↦ λ f. absurd cc
+    ]) is
+  where
+    passed : (test : PlacedLink → Bool) (x y : PlacedLink) (b : Bool) → test y ≡ b → Some x ≡ cond b (Some y) None → test x ≡ true
+    passed test x y true t is = let same : y ≡ x = cc in subst (λ z. test z ≡ true) same t
+    passed test x y false t is = absurd cc

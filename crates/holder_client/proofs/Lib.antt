@@ -12,6 +12,7 @@ pub mod Lasts
 pub mod ListedVisits
 pub mod Listings
 pub mod Naming
+pub mod NewestLinks
 pub mod Opened
 pub mod Opens
 pub mod OwnNames

@@ -1,28 +1,42 @@
 -- The last record of a log for an edge or a text, as it is looked for.
-use Rattle.std.specs.Prelude.{◌≡◌, ℕ, Bool, ◌&&◌, ◌==◌, IsTrue, Option, None, Some, Result, Ok, Err, MatchResult}
-use Rattle.commit_journal.specs.Placed.{plain_body}
+use Rattle.std.specs.Prelude.{◌≡◌, ℕ, Bool, ◌&&◌, ◌==◌, IsTrue, List, Option, None, Some, Result, Ok, Err, MatchResult, cond}
+use Rattle.commit_journal.specs.Placed.{PlainPlaced, plain_body}
 use Rattle.commit_journal.specs.declared.placed.Placed.{Placed}
 use Rattle.cry_base.specs.declared.roles.Edge.{Edge}
-use Rattle.public_fold.specs.KeyStep.{KeyState}
+use Rattle.public_fold.specs.KeyStep.{KeyState, present}
 use Rattle.record_format.specs.Plain.{PlainContent, plain_content}
 use Rattle.record_format.specs.Spellable.{IsContent}
 use Rattle.record_format.specs.declared.link.LinkRecord.{LinkRecord}
+use Rattle.role_graph.specs.Roles.{role_id}
 use Rattle.holder_client.specs.declared.fault.ClientFault.{ClientFault}
 use Rattle.holder_client.specs.declared.fault.ClientFault.TheVariants as faults
 use Rattle.holder_client.specs.declared.last_contents.ContentSpot.{ContentSpot}
 use Rattle.holder_client.specs.declared.last_links.FoundLink.{FoundLink}
 use Rattle.holder_client.specs.declared.last_links.LinkHead.{LinkHead}
 use Rattle.holder_client.specs.declared.records.FoundContent.{FoundContent}
-use Rattle.holder_client.specs.Placing.{PlacedLink, PlacedContent, is_for_edge}
+use Rattle.holder_client.specs.Placing.{PlacedLink, PlacedContent, is_for_edge, last_one, log_links}
 use Rattle.holder_client.specs.Spots.{IsAt, contents_in}
 
--- the link's head has what is sought
+-- the link is one of the edge that is sought
 abbrev pub is_sought : LinkHead → PlacedLink → Bool
-is_sought s l =
-    (l.link.kind == s.kind)
-    && ((l.link.from_id == s.from_id)
-    && ((l.link.to_id == s.to_id)
-    && ((l.link.from_serial.0 == s.from_serial.0) && (l.link.to_serial.0 == s.to_serial.0))))
+is_sought s l = (l.link.kind == s.kind) && ((l.link.from_id == s.from_id) && (l.link.to_id == s.to_id))
+
+-- what an edge's links are looked for by
+abbrev pub head_of_edge : Edge → LinkHead
+head_of_edge e = record { kind = e.kind; from_id = role_id e.from; to_id = role_id e.to }
+
+-- the link leads from the present key of the edge's source to that of its target
+abbrev pub has_present_serials : KeyState → Edge → LinkRecord → Bool
+has_present_serials k e l = (l.from_serial.0 == present k.keys e.from) && (l.to_serial.0 == present k.keys e.to)
+
+-- what passes
+abbrev pub only_if : {X : Type 0} → (X → Bool) → Option X → Option X
+only_if test None = None
+only_if test (Some x) = cond (test x) (Some x) None
+
+-- the last link of an edge, where it is one from present key to present key
+unfoldable pub newest_for : KeyState → List PlainPlaced → Edge → Option PlacedLink
+newest_for k log e = only_if (is_for_edge k e) (last_one (is_sought (head_of_edge e)) (log_links log))
 
 -- the link at a place of a batch
 abbrev pub link_here : ℕ → ℕ → LinkRecord → PlacedLink

@@ -15,17 +15,19 @@ use Rattle.holder_client.specs.Answering.{IsFault}
 use Rattle.holder_client.specs.declared.fault.ClientFault.{ClientFault}
 use Rattle.holder_client.specs.declared.texts.NamedBytes.{NamedBytes}
 use Rattle.holder_client.specs.declared.visiting.OpenedText.{OpenedText}
+use Rattle.holder_client.specs.Folding.{folded}
 use Rattle.holder_client.specs.Visiting.{Reading}
 use Rattle.holder_client.specs.Visiting as opened
 use Rattle.key_links.specs.Ended.{kind_from, kind_to, role_with}
 use Rattle.key_links.specs.Ringed.{Ringed, key_of}
+use Rattle.public_fold.specs.Journal.{nothing}
 use Rattle.public_fold.specs.KeyStep.{present}
 use Rattle.public_fold.specs.Standing.{PublicView, IsSeenAs}
 use Rattle.role_graph.specs.Roles.{role_id}
 
--- a reading of these batches, and what everyone may see behind them
+-- a reading of these batches, which all fit, and what everyone may see behind them
 abbrev pub IsReadingIn : PublicView → List PlainPlaced → Reading → Type 0
-IsReadingIn state log r = (r.log ≡ log) × IsSeenAs state r.stand
+IsReadingIn state log r = (r.log ≡ log) × IsSeenAs state r.stand × (folded nothing log ≡ Ok r.stand)
 
 -- the same of a log
 abbrev pub IsReadingOf : PublicView → List Placed → Reading → Type 0

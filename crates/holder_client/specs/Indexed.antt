@@ -1,4 +1,4 @@
--- Maps from the heads of records to where the last record of each head stands in a log.
+-- Maps from the heads of records to where the last record of each head stands in a log. A link's head is its edge's.
 use Rattle.std.specs.Prelude.{◌≡◌, Bool, List, Option, None, Some}
 use Rattle.std.specs.HashMap.{HashMap, get}
 use Rattle.commit_journal.specs.Placed.{PlainPlaced}
@@ -22,8 +22,6 @@ head_of_link l = record {
   kind = l.kind;
   from_id = l.from_id;
   to_id = l.to_id;
-  from_serial = l.from_serial;
-  to_serial = l.to_serial;
 }
 
 -- what a content is looked for by

@@ -1,20 +1,20 @@
-//! Where the last link and the last content of each head stand in a log, found without a walk over it.
+//! Where the last link of each edge and the last content of each head stand in a log, found without a walk over it.
 ghost use Rattle.std.specs.Prelude.{◌≡◌, [], ◌∷◌, ◌++◌, List, OnOk, length};
 ghost use Rattle.commit_journal.specs.Placed.{PlainPlaced, plain_placed};
 ghost use Rattle.commit_journal.specs.Places.{IsStanding};
-ghost use Rattle.holder_client.specs.Found.{plain_link};
+ghost use Rattle.holder_client.specs.Found.{newest_for, plain_link};
 ghost use Rattle.holder_client.specs.Indexed.{IsIndexOf, IsLastAt};
 ghost use Rattle.holder_client.specs.Placing as spec;
 
 use crate::last_contents::{ContentHead, ContentSpot, LastContents, note_contents_of};
-use crate::last_links::{FoundLink, LastLinks, head_sought, note_links_of};
+use crate::last_links::{FoundLink, LastLinks, head_sought, is_present, note_links_of};
 use commit_journal::Placed;
 use cry_base::{Edge, Mem};
 use public_fold::PublicState;
 use std::alloc::Global;
 use std::collections::HashMap;
 
-/// The last link of each head, and the spot of the last content of each head. Of a record that another one of its head
+/// The last link of each edge, and the spot of the last content of each head. Of a record that another one of its edge or head
 /// followed it keeps nothing.
 #[derive(Drop)]
 pub(crate) struct Index {
@@ -43,11 +43,15 @@ impl Index {
         note_contents_of(&mut self.contents, position, placed)
     }
 
-    /// The last link that was published for the edge from the present key of its source to that of its target.
+    /// The last link that was published for the edge, where it is one from the present key of its source to that of its target.
     pub(crate) fn link_for(&self, state: &PublicState, edge: &Edge) -> Option<FoundLink>
-        ensures { (log : List PlainPlaced) → IsIndexOf self.now log → plain_link result ≡ spec.link_for state.now.keys log edge.now }
+        ensures { (log : List PlainPlaced) → IsIndexOf self.now log → plain_link result ≡ newest_for state.now.keys log edge.now }
     {
-        self.links.get(&head_sought(state, edge)).copied()
+        let found = self.links.get(&head_sought(edge)).copied()?;
+        if !is_present(state, edge, &found.link) {
+            return None;
+        }
+        Some(found)
     }
 
     /// The spot of the last content of the kind that was published for the folder, file or holder.

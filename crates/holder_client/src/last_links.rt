@@ -1,8 +1,8 @@
-//! The last link of each head in a log (docs/FORMAT.md, "Reading").
+//! The last link of each edge in a log (docs/FORMAT.md, "Reading").
 ghost use Rattle.std.specs.Prelude.{◌≡◌, ◌+◌, ◌*◌, ◌<◌, ◌^◌, ◌++◌, [], ◌∷◌, List, OnOk, length};
 ghost use Rattle.commit_journal.specs.Placed.{plain_body};
 ghost use Rattle.commit_journal.specs.Places.{IsStanding};
-ghost use Rattle.holder_client.specs.Found.{is_sought, link_here};
+ghost use Rattle.holder_client.specs.Found.{has_present_serials, head_of_edge, link_here};
 ghost use Rattle.holder_client.specs.Indexed.{HasLastLinks, head_of_link};
 ghost use Rattle.holder_client.specs.Placing as spec;
 ghost use Rattle.public_fold.specs.KeyStep.{present};
@@ -14,14 +14,13 @@ use public_fold::PublicState;
 use record_format::{LINK_LEN, LinkRecord};
 use std::collections::HashMap;
 
-/// What a link is looked for by.
+/// What a link is looked for by. The serials are left out: of an edge whose keys are renewed only the last link can be followed, so no
+/// earlier one is kept.
 #[derive(Clone, Copy, PartialEq, Eq, Hash)]
 pub(crate) struct LinkHead {
     pub(crate) kind: u8,
     pub(crate) from_id: u32,
     pub(crate) to_id: u32,
-    pub(crate) from_serial: Serial,
-    pub(crate) to_serial: Serial,
 }
 
 /// A link, and where it stands.
@@ -34,7 +33,7 @@ pub(crate) struct FoundLink {
     pub(crate) link: LinkRecord,
 }
 
-/// The last link of each head.
+/// The last link of each edge.
 pub(crate) type LastLinks = HashMap<LinkHead, FoundLink>;
 
 #[tactic(auto, unfolding(role_graph::specs::Roles::role_id))]
@@ -59,17 +58,23 @@ fn serial_of(state: &PublicState, role: Role) -> Serial
     }
 }
 
-/// The head of the edge's links from the present key of its source to that of its target.
-pub(crate) fn head_sought(state: &PublicState, edge: &Edge) -> LinkHead
-    ensures { is_sought result ≡ spec.is_for_edge state.now.keys edge.now }
+/// The head of the edge's links.
+pub(crate) fn head_sought(edge: &Edge) -> LinkHead
+    ensures { result ≡ head_of_edge edge.now }
 {
     LinkHead {
         kind: edge.kind,
         from_id: id_of(edge.from),
         to_id: id_of(edge.to),
-        from_serial: serial_of(state, edge.from),
-        to_serial: serial_of(state, edge.to),
     }
+}
+
+/// Whether the link leads from the present key of the edge's source to that of its target.
+pub(crate) fn is_present(state: &PublicState, edge: &Edge, link: &LinkRecord) -> bool
+    ensures { result ≡ has_present_serials state.now.keys edge.now link.now }
+{
+    link.from_serial.0 == serial_of(state, edge.from).0
+        && link.to_serial.0 == serial_of(state, edge.to).0
 }
 
 fn head_of(link: &LinkRecord) -> LinkHead
@@ -79,8 +84,6 @@ fn head_of(link: &LinkRecord) -> LinkHead
         kind: link.kind,
         from_id: link.from_id,
         to_id: link.to_id,
-        from_serial: link.from_serial,
-        to_serial: link.to_serial,
     }
 }
 

@@ -21,7 +21,7 @@ use std::alloc::Global;
 use std::collections::HashMap;
 
 /// What a reading needs of a log, whose batches are added one after another: what stands in public after them, the last link
-/// of each head, where the last content of each head stands, and the holders' checks. It holds no payload. After a payload that
+/// of each edge, where the last content of each head stands, and the holders' checks. It holds no payload. After a payload that
 /// doesn't fit it keeps the place of that alone.
 #[derive(Drop)]
 pub struct Reader {

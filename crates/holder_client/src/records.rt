@@ -2,7 +2,7 @@
 ghost use Rattle.std.specs.Prelude.{◌≡◌, ◌≢◌, ◌<◌, ◌≤◌, ℕ, Err, List, IfOk, IfSome, map};
 ghost use Rattle.commit_journal.specs.Placed.{PlainPlaced, plain_body};
 ghost use Rattle.commit_journal.specs.Places.{IsStanding};
-ghost use Rattle.holder_client.specs.Found.{Finds, FindsAt, IsContentFor, IsLinkFor, plain_link};
+ghost use Rattle.holder_client.specs.Found.{Finds, FindsAt, IsContentFor, IsLinkFor, newest_for, plain_link};
 ghost use Rattle.holder_client.specs.Placing as spec;
 ghost use Rattle.holder_client.specs.Spots.{contents_in};
 ghost use Rattle.record_format.specs.Plain.{plain_content};
@@ -40,9 +40,10 @@ pub(crate) trait Records<S> {
     /// How often the source failed.
     ghost faults: { S → ℕ };
 
-    /// The last link that was published for the edge from the present key of its source to that of its target.
+    /// The last link that was published for the edge, where it is one from the present key of its source to that of its target. In a
+    /// log whose payloads fit, with what stands after them, it is the last such link: no other one follows it.
     fn link_for(&self, state: &PublicState, edge: &Edge) -> Option<FoundLink>
-        ensures found { plain_link result ≡ spec.link_for state.now.keys (log self.now) edge.now }
+        ensures found { plain_link result ≡ newest_for state.now.keys (log self.now) edge.now }
         ensures form { IfSome result (IsLinkFor state.now.keys edge.now) };
 
     /// The last content of the kind that was published for the folder, file or holder. Where the source shows the batches, the

@@ -3,7 +3,7 @@ use Rattle.holder_client.specs.declared.opening.OwnersView.{OwnersView}
 use Rattle.holder_client.specs.Answering.{AnswersBy}
 use Rattle.holder_client.specs.Found.{plain_link}
 use Rattle.holder_client.specs.Placing.{content_for}
-use Rattle.holder_client.proofs.Following.{link_told}
+use Rattle.holder_client.proofs.NewestLinks.{link_told}
 use Rattle.holder_client.specs.Holding.{IsHeldBy, IsTitledBy}
 use Rattle.holder_client.specs.Opening.{IsFor, IsOpenedTo, plain_visit}
 use Rattle.holder_client.specs.Visiting.{Opened, visit}
@@ -66,4 +66,4 @@ returns-in-Link-clause-answer g c = λ shown told r o left fit of_log opened.
     let fits : IsFor told (ToKey e) = subst (IsFor told) is fit in
     let before : IsOpenedTo told r.stand.store (ToKey e ∷ left) old o = subst (λ (v : Visit). IsOpenedTo told r.stand.store (v ∷ left) old o) is opened in
     subst (λ (v : Visit). AnswersBy (λ (x : Unit {0}) behind. IsOpenedTo told r.stand.store left new behind) c.visit_link.result (visit r v o)) (sym is)
-    (link_answered told r.stand.store e left old new o c.visit_link.result (visit r (ToKey e) o) fits before refl c.visit_link.ensures.others (c.visit_link.ensures.answer told r o (link_told c.args.state.now (g.R.Records.log c.args.records.now) r e (plain_link c.link_for-found.result) of_log c.link_for-found.ensures.found) fits.1 before.keys))
+    (link_answered told r.stand.store e left old new o c.visit_link.result (visit r (ToKey e) o) fits before refl c.visit_link.ensures.others (c.visit_link.ensures.answer told r o (link_told c.args.state.now (g.R.Records.log c.args.records.now) r e (plain_link c.link_for-found.result) of_log fits.0 c.link_for-found.ensures.found) fits.1 before.keys))

@@ -27,11 +27,11 @@ returns-in_err-view-clause-answer c =
     let p = err_from_is_err_and c.from_residual-in_err-view.result c.from_residual-in_err-view.ensures.1 in
     rw (p.1, p.2)
     (visits_fail c.in_err-view.field-0.0 c.args.owner.bytes log a.0 a.1 (sym (c.has_root.ensures a.0 a.2) ∙ c.if-not-has_root.false)
-    (c.in_err-view.ensures.answer (reading_with log a.0) (refl, a.2)))
+    (c.in_err-view.ensures.answer (reading_with log a.0) (refl, a.2, a.1)))
 
 pub returns-clause-answer : goal.returns-clause-answer
 returns-clause-answer c =
     let log = map plain_placed c.args.log.now in
     let a = c.in_ok-state.ensures.answer in
     contents_are c.args.owner.bytes log a.0 (record { state = c.in_ok-state.state; view = c.in_ok-view.view }) a.1 (sym (c.has_root.ensures a.0 a.2) ∙ c.if-not-has_root.false) a.2
-    (c.in_ok-view.ensures.answer (reading_with log a.0) (refl, a.2))
+    (c.in_ok-view.ensures.answer (reading_with log a.0) (refl, a.2, a.1))
