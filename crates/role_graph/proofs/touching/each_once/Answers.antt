@@ -1,8 +1,8 @@
-use Rattle.std.proofs.Common.{◌≡◌, ◌++◌, ◌+◌, List, [], ◌∷◌, None, Some, cond, drop, get_or, sym, ap, ◌∙◌, append-nil}
+use Rattle.std.proofs.Common.{◌++◌, ◌+◌, List, Some, drop, get_or, sym, ap, ◌∙◌, append-nil}
 use Rattle.std.proofs.lemmas.List.{drop_all, drop_more}
 use Rattle.cry_base.specs.declared.roles.Edge.{Edge}
 use Rattle.cry_base.specs.declared.roles.Role.TheVariants.{Owner}
-use Rattle.role_graph.specs.Adjacent.{is_repeat, once_after}
+use Rattle.role_graph.specs.Adjacent.{once_after}
 use Rattle.role_graph.proofs.AtEnds.{once_goes_on}
 use Rattle.role_graph.proofs.touching.each_once.Goals as goal
 
