@@ -23,3 +23,4 @@ pub mod RoleEdges
 pub mod Once
 pub mod EdgesOnce
 pub mod AtEnds
+pub mod Seeing

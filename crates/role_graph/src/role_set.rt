@@ -7,6 +7,7 @@ ghost use Rattle.role_graph.specs.Roles.{same_role, role_before};
 
 use cry_base::{List, Mem, Role};
 use std::alloc::Global;
+use std::collections::BTreeSet;
 use std::marker::Model;
 
 /// Roles in their order, each once.
@@ -35,6 +36,17 @@ impl RoleSet {
         RoleSet {
             roles: Vec::new(alloc),
         }
+    }
+
+    /// The roles that a walk has seen.
+    pub(crate) fn of_seen(alloc: Global, seen: &BTreeSet<Role, Global>) -> Mem<RoleSet>
+        ensures { IfOk result (λ s. s ≡ seen.now.keys) }
+    {
+        let mut roles = Vec::new(alloc);
+        for role in seen {
+            roles.push(*role)?;
+        }
+        Ok(RoleSet { roles })
     }
 
     /// The roles in their order.

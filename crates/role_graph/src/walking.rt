@@ -10,6 +10,7 @@ ghost use Rattle.role_graph.specs.PublicStore.{public_store};
 use crate::{RoleSet, StoreRoles, Way};
 use cry_base::{Edge, List, Mem, Role, Steps};
 use std::alloc::Global;
+use std::collections::BTreeSet;
 
 /// The roles that a walk comes to from some of them, these included, along the edges or against them, but for the removed
 /// edges. It takes at most two steps for each edge at a role that it comes to, and one for each role that it begins at.
@@ -27,17 +28,18 @@ pub fn walk(
         + 2 * count_from (as_walked way (unordered (public_store roles.now.shape.now.tree roles.now.grants.now.pairs))) s + length from.now) }
 {
     let mut found = List::new(alloc);
-    let mut set = RoleSet::new(alloc);
-    add_all(&mut found, &mut set, from)?;
+    // A sorted list would move its rows for each role that comes before others.
+    let mut seen = BTreeSet::new(alloc);
+    add_all(&mut found, &mut seen, from)?;
     let mut done = 0;
     while done < found.as_slice().len() {
         let here = found.as_slice();
         let ends = ends_ahead(alloc, roles, way, removed, here[done], steps)?;
         let next = ends.as_slice();
-        add_all(&mut found, &mut set, next)?;
+        add_all(&mut found, &mut seen, next)?;
         done += 1;
     }
-    Ok(set)
+    RoleSet::of_seen(alloc, &seen)
 }
 
 /// Where the walk goes on from the role.
@@ -111,25 +113,23 @@ pub(crate) fn is_same_edge(a: &Edge, b: &Edge) -> bool
 }
 
 /// Adds the roles that weren't found before.
-fn add_all(found: &mut List<Role>, set: &mut RoleSet, roles: &[Role]) -> Mem<()>
-    ensures found { OnOk result (HaveSame found.old.items set.old → found.new.items ≡ with_new found.old.items roles.now) }
-    ensures set { OnOk result (HaveSame found.old.items set.old → HaveSame found.new.items set.new) }
+fn add_all(found: &mut List<Role>, seen: &mut BTreeSet<Role, Global>, roles: &[Role]) -> Mem<()>
+    ensures found { OnOk result (HaveSame found.old.items seen.old.keys → found.new.items ≡ with_new found.old.items roles.now) }
+    ensures seen { OnOk result (HaveSame found.old.items seen.old.keys → HaveSame found.new.items seen.new.keys) }
 {
     for role in roles {
-        add(found, set, *role)?;
+        add(found, seen, *role)?;
     }
     Ok(())
 }
 
 /// Adds the role, where it wasn't found before.
-fn add(found: &mut List<Role>, set: &mut RoleSet, role: Role) -> Mem<()>
-    ensures found { OnOk result (HaveSame found.old.items set.old → found.new.items ≡ grown_by found.old.items role) }
-    ensures set { OnOk result (HaveSame found.old.items set.old → HaveSame found.new.items set.new) }
+fn add(found: &mut List<Role>, seen: &mut BTreeSet<Role, Global>, role: Role) -> Mem<()>
+    ensures found { OnOk result (HaveSame found.old.items seen.old.keys → found.new.items ≡ grown_by found.old.items role) }
+    ensures seen { OnOk result (HaveSame found.old.items seen.old.keys → HaveSame found.new.items seen.new.keys) }
 {
-    if set.has(role) {
-        return Ok(());
+    if seen.insert(role)? {
+        found.push(role)?;
     }
-    found.push(role)?;
-    set.insert(role)?;
     Ok(())
 }

@@ -12,7 +12,7 @@ loop-role-preserved c = λ same.
     let old = c.loop-role.invariant same in (
       ap (λ l. with_new l (drop (i + 1) roles)) (c.in_ok-add.ensures.found old.1)
           ∙ sym (ap (with_new c.loop-role.found.items) (drop_more roles i Owner c.loop-role-test.true)) ∙ old.0,
-      c.in_ok-add.ensures.set old.1,
+      c.in_ok-add.ensures.seen old.1,
     )
 
 pub returns-clause-found : goal.returns-clause-found
@@ -20,5 +20,5 @@ unfolding with_new
 returns-clause-found c = λ same.
     sym (ap (with_new c.loop-role.found.items) (drop_all c.loop-role.role-index c.args.roles.now c.loop-role-test.false)) ∙ (c.loop-role.invariant same).0
 
-pub returns-clause-set : goal.returns-clause-set
-returns-clause-set c = λ same. (c.loop-role.invariant same).1
+pub returns-clause-seen : goal.returns-clause-seen
+returns-clause-seen c = λ same. (c.loop-role.invariant same).1

@@ -1,9 +1,11 @@
-use Rattle.std.proofs.Common.{◌≡◌, ◌+◌, ◌≤◌, ◌<◌, List, length, get_or, arith, ap, ◌∙◌, subst}
+use Rattle.std.proofs.Common.{◌≡◌, ◌↔◌, ◌+◌, ◌*◌, ◌≤◌, ◌<◌, List, length, get_or, arith, sym, ap, ◌∙◌, subst}
+use Rattle.std.proofs.lemmas.Result.{IfOk-weaker}
 use Rattle.cry_base.specs.Sets.{In}
 use Rattle.cry_base.specs.declared.roles.Edge.{Edge}
 use Rattle.cry_base.specs.declared.roles.Role.{Role}
 use Rattle.cry_base.specs.declared.roles.Role.TheVariants.{Owner}
-use Rattle.role_graph.specs.Adjacent.{HaveSame, as_walked, edges_but, ends_from, out_of, with_new}
+use Rattle.role_graph.specs.Adjacent.{HaveSame, as_walked, count_from, edges_but, ends_from, out_of, with_new}
+use Rattle.role_graph.specs.Closing.{IsReached}
 use Rattle.role_graph.specs.Edges.{unordered}
 use Rattle.role_graph.specs.PublicStore.{public_store}
 use Rattle.role_graph.proofs.Walked.{fewer_ends, walk_begins, walk_bounded, walk_costs, walk_ends, walk_goes_on}
@@ -12,14 +14,14 @@ use Rattle.role_graph.proofs.walking.walk.Goals as goal
 pub loop-done-init : goal.loop-done-init
 loop-done-init c =
     let es = unordered (public_store c.args.roles.now.shape.now.tree c.args.roles.now.grants.now.pairs) in
-    let start : HaveSame c.new-found.result.items c.new-set.result = λ r. (
+    let start : HaveSame c.new-found.result.items c.new-seen.result.keys = λ r. (
       λ i. absurd (subst (In r) c.new-found.ensures i),
-      λ i. absurd (subst (In r) c.new-set.ensures i),
+      λ i. absurd (subst (In r) c.new-seen.ensures.empty i),
     ) in
     record {
       walking = walk_begins (as_walked c.args.way es) (as_walked c.args.way (edges_but c.args.removed.now es)) c.args.from.now c.add_all.new.found.items c.args.steps.now
           (c.in_ok-add_all.ensures.found start ∙ ap (λ (l : List Role). with_new l c.args.from.now) c.new-found.ensures);
-      same = c.in_ok-add_all.ensures.set start;
+      same = c.in_ok-add_all.ensures.seen start;
     }
 
 pub loop-done-smaller : goal.loop-done-smaller
@@ -45,22 +47,28 @@ loop-done-preserved c =
           (c.in_ok-add_all-2.ensures.found c.loop-done.invariant.same
           ∙ ap (with_new found) (c.as_slice-next.ensures ∙ c.in_ok-ends.ensures.ends ∙ ap (ends_from left) role_is))
           (c.in_ok-ends.ensures.steps ∙ ap (λ (r : Role). c.loop-done.steps + length (out_of all r) + 1) role_is);
-      same = c.in_ok-add_all-2.ensures.set c.loop-done.invariant.same;
+      same = c.in_ok-add_all-2.ensures.seen c.loop-done.invariant.same;
     }
 
 pub returns-clause-reached : goal.returns-clause-reached
 returns-clause-reached c =
     let es = unordered (public_store c.args.roles.now.shape.now.tree c.args.roles.now.grants.now.pairs) in
+    let left : List Edge = as_walked c.args.way (edges_but c.args.removed.now es) in
     let found = c.loop-done.found.items in
     let end : length found ≤ c.loop-done.done = subst (λ (l : List Role). length l ≤ c.loop-done.done) c.as_slice.ensures c.loop-done-test.false in
-    λ r.
-    let told = walk_ends (as_walked c.args.way es) (as_walked c.args.way (edges_but c.args.removed.now es)) c.args.from.now found c.loop-done.done c.args.steps.now c.loop-done.steps c.loop-done.invariant.walking end r in
+    IfOk-weaker c.of_seen.result (λ s. s ≡ c.loop-done.seen.keys) (λ s. (r : Role) → In r s ↔ IsReached left c.args.from.now r)
+    (λ s e r.
+    let told = walk_ends (as_walked c.args.way es) left c.args.from.now found c.loop-done.done c.args.steps.now c.loop-done.steps c.loop-done.invariant.walking end r in
     let same = c.loop-done.invariant.same r in
-    (λ i. told.0 (same.1 i), λ w. same.0 (told.1 w))
+    (λ i. told.0 (same.1 (subst (In r) e i)), λ w. subst (In r) (sym e) (same.0 (told.1 w)))) c.of_seen.ensures
 
 pub returns-clause-steps : goal.returns-clause-steps
 returns-clause-steps c =
     let es = unordered (public_store c.args.roles.now.shape.now.tree c.args.roles.now.grants.now.pairs) in
+    let all : List Edge = as_walked c.args.way es in
     let found = c.loop-done.found.items in
     let end : length found ≤ c.loop-done.done = subst (λ (l : List Role). length l ≤ c.loop-done.done) c.as_slice.ensures c.loop-done-test.false in
-    walk_costs (as_walked c.args.way es) (as_walked c.args.way (edges_but c.args.removed.now es)) c.args.from.now found c.loop-done.set c.loop-done.done c.args.steps.now c.loop-done.steps c.loop-done.invariant.walking end c.loop-done.invariant.same
+    let cost = walk_costs all (as_walked c.args.way (edges_but c.args.removed.now es)) c.args.from.now found c.loop-done.seen.keys c.loop-done.done c.args.steps.now c.loop-done.steps c.loop-done.invariant.walking end c.loop-done.invariant.same in
+    IfOk-weaker c.of_seen.result (λ s. s ≡ c.loop-done.seen.keys)
+    (λ s. c.loop-done.steps ≤ c.args.steps.now + 2 * count_from all s + length c.args.from.now)
+    (λ s e. subst (λ (l : List Role). c.loop-done.steps ≤ c.args.steps.now + 2 * count_from all l + length c.args.from.now) (sym e) cost) c.of_seen.ensures

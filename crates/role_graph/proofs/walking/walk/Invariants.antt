@@ -10,7 +10,7 @@ invariant-loop-done l =
     let es = unordered (public_store l.roles.shape.now.tree l.roles.grants.now.pairs) in
     record {
       walking : Walking (as_walked l.way es) (as_walked l.way (edges_but l.removed es)) l.from l.found.items l.done l.initial.steps l.steps;
-      same : HaveSame l.found.items l.set;
+      same : HaveSame l.found.items l.seen.keys;
     }
 
 abbrev pub decreases-loop-done : goal.decreases-loop-done
