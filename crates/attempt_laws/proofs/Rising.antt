@@ -2,6 +2,7 @@
 use Rattle.std.proofs.Common.{◌≡◌, ◌<◌, ◌≤◌, ℕ, zero, suc, ◌+◌, ◌*◌, ◌^◌, Bool, true, false, List, [], ◌∷◌, ◌++◌, length, map, Option, None, Some, append-nil, append_assoc, arith, refl, sym, ap, subst, ◌∙◌}
 use Rattle.std.specs.Prelude.{nat_lt, slice_index_or}
 use Rattle.std.proofs.lemmas.Bool.{ltb-false}
+use Rattle.cry_base.specs.Limits.{most_file_bytes, most_store_bytes}
 use Rattle.cry_base.specs.Refusing.{refusal_of}
 use Rattle.cry_base.specs.Requests.{Request}
 use Rattle.cry_base.specs.declared.commands.Refusal.{Refusal}
@@ -189,7 +190,7 @@ begins_alike m r keys =
     ∙ sym (ap next_serial (keys_session m))
 
 count_low : (m : Journal) → IsValid m → (keys_of m).count ≤ 4294967296
-count_low m valid = let low : (keys_of m).count ≤ 268435456 = journal_count m valid in omega (arith, low)
+count_low m valid = let low : (keys_of m).count ≤ most_store_bytes = journal_count m valid in omega (arith, low)
 
 -- the next number for a session: that of the epoch that it begins, where it has begun none
 abbrev low_in : Journal → Bool → ℕ
@@ -250,9 +251,9 @@ answered (Some why) full = λ e. absurd cc
 answered None true = λ e. absurd cc
 answered None false = λ e. (refl, refl)
 
-module _ (limits : Limits) (store_low : limits.store_bytes ≤ 268435456) (files_low : limits.file_bytes ≤ 1048576) where
+module _ (limits : Limits) (store_low : limits.store_bytes ≤ most_store_bytes) (files_low : limits.file_bytes ≤ most_file_bytes) where
   not_refused : (m : Journal) (b : Bool) (r : Request) → answer limits m b r ≡ None
-      → (refusal_of (store_of m) r limits.file_bytes ≡ None) × (due_end m b r ≤ 268435456)
+      → (refusal_of (store_of m) r limits.file_bytes ≡ None) × (due_end m b r ≤ most_store_bytes)
   unfolding answer store_of
   not_refused m b r fine =
       let both = answered (refusal_of (stand_after nothing m).store r limits.file_bytes) (nat_lt limits.store_bytes (due_end m b r)) fine in
@@ -331,8 +332,8 @@ pub made_valid : (keys : List (List ℕ)) → length keys ≡ 5 → IsValid (Ses
 unfolding journal_bytes
 made_valid keys five = ((five, tt), omega arith)
 
-pub all_differ : (limits : Limits) (keys : List (List ℕ)) (later : List Happening) → limits.store_bytes ≤ 268435456
-    → limits.file_bytes ≤ 1048576 → length keys ≡ 5 → IsCourse limits (made_course keys) later
+pub all_differ : (limits : Limits) (keys : List (List ℕ)) (later : List Happening) → limits.store_bytes ≤ most_store_bytes
+    → limits.file_bytes ≤ most_file_bytes → length keys ≡ 5 → IsCourse limits (made_course keys) later
     → Differ number_of (spent (all_trials keys later))
 unfolding all_trials all_spenders attempt_of held spenders_in made_course
 all_differ limits keys later store_low files_low five can =

@@ -1,5 +1,6 @@
 //! Laws of all attempts, those that a stop or a fault cut short included.
 ghost use Rattle.std.specs.Prelude.{◌≡◌, ◌≤◌, ℕ, List, [], ◌∷◌, ◌++◌, length, map, None, Some};
+ghost use Rattle.cry_base.specs.Limits.{most_file_bytes, most_store_bytes};
 ghost use Rattle.cry_base.specs.Requests.{Request};
 ghost use Rattle.cry_base.specs.declared.limits.Limits.{Limits};
 ghost use Rattle.public_fold.specs.Journal.{Entry, Journal, entry_step, nothing, stand_after};
@@ -40,7 +41,8 @@ pub fn scripts_are_courses()
 /// Whatever can happen to a store leaves a valid journal.
 pub fn courses_leave_valid_journals()
     ensures { (limits : Limits) (keys : List (List ℕ)) (later : List Happening)
-        → limits.store_bytes ≤ 268435456 → limits.file_bytes ≤ 1048576 → length keys ≡ 5 → IsCourse limits (made_course keys) later
+        → limits.store_bytes ≤ most_store_bytes → limits.file_bytes ≤ most_file_bytes
+        → length keys ≡ 5 → IsCourse limits (made_course keys) later
         → IsValid (course_after (made_course keys) later).journal }
 {}
 
@@ -48,7 +50,8 @@ pub fn courses_leave_valid_journals()
 /// the making of the store included.
 pub fn numbers_are_spent_once()
     ensures { (limits : Limits) (keys : List (List ℕ)) (later : List Happening)
-        → limits.store_bytes ≤ 268435456 → limits.file_bytes ≤ 1048576 → length keys ≡ 5 → IsCourse limits (made_course keys) later
+        → limits.store_bytes ≤ most_store_bytes → limits.file_bytes ≤ most_file_bytes
+        → length keys ≡ 5 → IsCourse limits (made_course keys) later
         → Differ number_of (all_spenders (map attempt_of (all_trials keys later))) }
 {}
 

@@ -6,6 +6,7 @@ use Rattle.chacha_seal.specs.Keys.{KeyParts}
 use Rattle.closure_laws.specs.History.{Published, history, published_from}
 use Rattle.commit_journal.specs.Laws.{batch_of, placed_from}
 use Rattle.commit_journal.specs.Placed.{PlainPlaced}
+use Rattle.cry_base.specs.Layout.{batch_len, header_len}
 use Rattle.cry_base.specs.Sets.{In}
 use Rattle.cry_base.proofs.Members.{In-append, In-map}
 use Rattle.holder_client.specs.Placing.{PlacedContent, PlacedLink, body_contents, body_links, contents_at, links_at, log_contents, log_links}
@@ -192,11 +193,11 @@ walk (entry ∷ entries) keys at place number epoch have fed well =
     let batch = batch_of number epoch body in
     let next = stand_then at entry in
     let have_more = keyed_then keys at entry have fed.0 in
-    let log = placed_from (place + (110 + length batch.payload)) batch.number batch.epoch (bodies_from later next entries) in
+    let log = placed_from (place + (batch_len + length batch.payload)) batch.number batch.epoch (bodies_from later next entries) in
     let p : PlainPlaced = record { batch = batch.number; epoch = record { 0 = batch.epoch }; place = place + 45; body = body } in
     let b : Published = record { batch = number + 1; links = (entry_step at entry).links; contents = (entry_step at entry).contents } in
     let others = subst (λ n. IsKeyedLog (later ++ keys_from next entries) (stand_after next entries).keys log (published_from (n + 1) (steps_from next entries))) (batch_number number epoch body)
-    (walk entries later next (place + (110 + length batch.payload)) batch.number batch.epoch have_more fed.1 well.1)
+    (walk entries later next (place + (batch_len + length batch.payload)) batch.number batch.epoch have_more fed.1 well.1)
     in
     subst (λ ks. IsKeyedLog ks (stand_after next entries).keys (p ∷ log) (b ∷ published_from (number + 1 + 1) (steps_from next entries))) (append_assoc keys (entry_keys at entry) (keys_from next entries))
     (batch_logged later (keys_from next entries) (stand_after next entries).keys at entry p log (published_from (number + 1 + 1) (steps_from next entries)) b refl (batch_number number epoch body) refl well.0 have_more others)
@@ -204,4 +205,4 @@ walk (entry ∷ entries) keys at place number epoch have fed well =
 pub journal_logged : (owner : List ℕ) (m : Journal) → IsValid m → AreWhole owner m → IsKeyedLog (all_keys owner m) (keys_of m) (log_of owner m) (history m)
 unfolding all_keys keys_of log_of bodies_of history steps_of
 journal_logged owner m valid whole =
-    walk m (owner_parts owner ∷ []) nothing 42 0 0 (keyed_at_first owner) (begins_fed m valid.0 whole.drawn_sizes) (journal_well owner m valid whole)
+    walk m (owner_parts owner ∷ []) nothing header_len 0 0 (keyed_at_first owner) (begins_fed m valid.0 whole.drawn_sizes) (journal_well owner m valid whole)

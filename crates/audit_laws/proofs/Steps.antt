@@ -2,6 +2,7 @@
 use Rattle.std.proofs.Common.{◌≡◌, ⊎_elim, ℕ, ◌≤◌, true, ◌==◌, List, [], ◌∷◌, ◌++◌, length, All, Option, None, Some, arith, append_assoc, length-append, refl, sym, ap, subst, ◌∙◌}
 use Rattle.std.proofs.lemmas.Bool.{eqb-true}
 use Rattle.std.proofs.lemmas.List.Elements.{All-cons, All-head, All-nil, All-tail}
+use Rattle.cry_base.specs.Limits.{most_file_bytes}
 use Rattle.cry_base.specs.Refusing.{refusal_of}
 use Rattle.cry_base.specs.Requests.{Request}
 use Rattle.cry_base.specs.Sets.{In}
@@ -127,7 +128,7 @@ unfolding store_of
 did_store before r drawn = ap (λ (z : Stand). z.store) (stand_after-append nothing before (Did r drawn ∷ [])) ∙ one_done (stand_after nothing before) r drawn
 
 did_well : (owner : List ℕ) (before : Journal) (r : Request) (drawn : List (List ℕ)) → IsValid before → IsValid (before ++ Did r drawn ∷ []) → AreWhole owner (before ++ Did r drawn ∷ [])
-    → refusal_of (stand_after nothing before).store r 1048576 ≡ None → IsWell (stand_after nothing before) (Did r drawn)
+    → refusal_of (stand_after nothing before).store r most_file_bytes ≡ None → IsWell (stand_after nothing before) (Did r drawn)
 unfolding entry_step
 did_well owner before r drawn valid more whole none =
     let at = stand_after nothing before in
@@ -135,7 +136,7 @@ did_well owner before r drawn valid more whole none =
     let t = effect at.store r (first_key drawn) in
     let tree : HasTree t = subst HasTree (did_store before r drawn) (journal_tree m more) in
     let plain : IsPlain t = subst IsPlain (did_store before r drawn) (journal_plain owner m more whole) in record {
-      sealable = command_sealable before valid r drawn 1048576 (unfold store_of in none);
+      sealable = command_sealable before valid r drawn most_file_bytes (unfold store_of in none);
       forms = step_forms at (note_of at.store r []) t tree plain;
     }
 

@@ -1,5 +1,6 @@
 -- What a command refuses, notes, seals and names, by what it found. This project's own, docs/FORMAT.md, "Notes" and "Records".
 use Rattle.std.specs.Prelude.{◌≡◌, ◌≤◌, ℕ, ◌+◌, true, false, List, [], length, replicate, Option, Some, None}
+use Rattle.cry_base.specs.Limits.{most_name_bytes}
 use Rattle.cry_base.specs.Store.{Store}
 use Rattle.cry_base.specs.declared.commands.Refusal.{Refusal}
 use Rattle.cry_base.specs.declared.roles.Node.TheVariants.{Folder, File}
@@ -42,9 +43,9 @@ note_to tree holders (Revoke holder folder) = Take holder.0 folder.0
 abbrev pub HasShortName : Target → Type 0
 HasShortName AddHolder = Unit {0}
 HasShortName (MakeFolder parent name) = Unit {0}
-HasShortName (WriteFile folder file name bytes) = length name.now ≤ 64
+HasShortName (WriteFile folder file name bytes) = length name.now ≤ most_name_bytes
 HasShortName (Remove node) = Unit {0}
-HasShortName (Rename node name) = length name.now ≤ 64
+HasShortName (Rename node name) = length name.now ≤ most_name_bytes
 HasShortName (Relocate node into) = Unit {0}
 HasShortName (Grant holder folder) = Unit {0}
 HasShortName (Revoke holder folder) = Unit {0}

@@ -1,5 +1,6 @@
 //! The text that a command seals: a folder's name, a file's name and bytes, a holder's key.
 ghost use Rattle.std.specs.Prelude.{◌≡◌, ◌≤◌, [], length, IfOk};
+ghost use Rattle.cry_base.specs.Limits.{most_name_bytes};
 ghost use Rattle.cry_base.specs.Requests.{Request};
 ghost use Rattle.cry_base.specs.Requests.Request.{AddHolder};
 ghost use Rattle.cry_base.specs.Store.{Store};
@@ -71,7 +72,7 @@ pub(crate) fn copied(alloc: Global, bytes: &[u8]) -> Mem<Text>
 
 /// A file's text: the length of its name as one byte, the name, the bytes.
 fn file_text(alloc: Global, name: &[u8], bytes: &[u8]) -> Mem<Text>
-    requires { length name.now ≤ 64 }
+    requires { length name.now ≤ most_name_bytes }
     ensures { IfOk result (λ text. text.items ≡ the_file_text name.now bytes.now) }
 {
     let mut text = List::new(alloc);

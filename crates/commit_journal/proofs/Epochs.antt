@@ -3,6 +3,8 @@ use Rattle.std.proofs.Common.{◌≡◌, ℕ, zero, suc, ◌+◌, ◌-◌, Bool,
 use Rattle.std.specs.Prelude.{nat_le, ◌&&◌, codes, slice_index, slice_range}
 use Rattle.std.proofs.lemmas.Bool.{and_parts}
 use Rattle.std.specs.Str.{bytes_eq}
+use Rattle.cry_base.specs.Layout.{batch_len, header_len}
+use Rattle.cry_base.specs.Limits.{most_store_bytes}
 use Rattle.chacha_seal.specs.Sealing.{check_of, masked, veil_of}
 use Rattle.hmac_seal.specs.Hmac.{hmac}
 use Rattle.record_format.specs.Plain.{PlainPayload}
@@ -92,12 +94,12 @@ turns_in : (judge : Judges) → IsJudgedIn judge → AreTurnsIn (turn_by judge)
 unfolding turn_by head_at is_batch
 turns_in judge judged past rest t is =
     let head = head_of (take 13 rest) in
-    let step = and_then_ok (head_at past rest) (λ h. judge past h (take (110 + h.size) rest)) (Some t) is in
+    let step = and_then_ok (head_at past rest) (λ h. judge past h (take (batch_len + h.size) rest)) (Some t) is in
     let guard = guard_ok (is_batch past head (length rest)) head step.0 (Damaged past.at) step.1 in
-    let first = and_parts (nat_le (110 + head.size) (length rest)) _ guard.0 in
-    let second = and_parts (nat_le (past.at + (110 + head.size)) 268435456) _ first.1 in
+    let first = and_parts (nat_le (batch_len + head.size) (length rest)) _ guard.0 in
+    let second = and_parts (nat_le (past.at + (batch_len + head.size)) most_store_bytes) _ first.1 in
     let third = and_parts (eqb head.number (past.number + 1)) (fits_epoch past head) second.1 in
-    judged past head (take (110 + head.size) rest) t third.1 (ap (λ h. judge past h (take (110 + h.size) rest)) guard.1 ∙ step.2)
+    judged past head (take (batch_len + head.size) rest) t third.1 (ap (λ h. judge past h (take (batch_len + h.size) rest)) guard.1 ∙ step.2)
 
 owners_in : (owner : List ℕ) → AreTurnsIn (turn_at owner)
 unfolding turn_at turn_by
@@ -156,16 +158,16 @@ start_of_begun owner header false b past start zero_epoch is = absurd (cc)
 start_begun : (owner bytes : List ℕ) (past : Past) → start_at owner bytes ≡ Ok past → IsBegun past
 unfolding start_at start_of
 start_begun owner bytes past is =
-    let header : List ℕ = take 42 bytes in
-    let start : Past = record { at = 42; number = 0; epoch = record { 0 = 0 }; tag = slice_range header 9 41; gate = slice_index header 41 } in
+    let header : List ℕ = take header_len bytes in
+    let start : Past = record { at = header_len; number = 0; epoch = record { 0 = 0 }; tag = slice_range header 9 41; gate = slice_index header 41 } in
     start_of_begun owner header (bytes_eq (take 9 header) (codes "CRYPTREE" ++ 1 ∷ [])) (bytes_eq (slice_range header 9 41) (check_of owner)) past start refl
-    (passed_ok (nat_le 42 (length bytes)) (start_of owner header) NotAStore past is)
+    (passed_ok (nat_le header_len (length bytes)) (start_of owner header) NotAStore past is)
 
 walk_epochs : (turns : Turns) → AreTurnsIn turns → (owner bytes : List ℕ) (log : List PlainPlaced) →
-    and_then (start_at owner bytes) (λ past. walk_at turns past 0 (drop 42 bytes)) ≡ Ok log → AreInEpochs 0 log
+    and_then (start_at owner bytes) (λ past. walk_at turns past 0 (drop header_len bytes)) ≡ Ok log → AreInEpochs 0 log
 walk_epochs turns told owner bytes log is =
-    let step = and_then_ok (start_at owner bytes) (λ past. walk_at turns past 0 (drop 42 bytes)) log is in
-    subst (λ e. AreInEpochs e log) (start_begun owner bytes step.0 step.1) (walk_in turns told (drop 42 bytes) step.0 0 log step.2)
+    let step = and_then_ok (start_at owner bytes) (λ past. walk_at turns past 0 (drop header_len bytes)) log is in
+    subst (λ e. AreInEpochs e log) (start_begun owner bytes step.0 step.1) (walk_in turns told (drop header_len bytes) step.0 0 log step.2)
 
 pub log_epochs : (owner bytes : List ℕ) (log : List PlainPlaced) → log_verdict owner bytes ≡ Ok log → AreInEpochs 0 log
 log_epochs owner bytes log is = walk_epochs (turn_at owner) (owners_in owner) owner bytes log (owner_walks owner bytes ∙ is)
@@ -179,8 +181,8 @@ writer_epochs owner bytes log is = walk_epochs (turn_by (tagged_recovered owner)
 turn_too : (owner : List ℕ) (past : Past) (rest : List ℕ) (turn : Option PlainTurn) → turn_at owner past rest ≡ Ok turn → turn_by published_turn past rest ≡ Ok turn
 unfolding turn_at tagged_turn turn_by and_then
 turn_too owner past rest turn is =
-    let step = and_then_ok (head_at past rest) (λ h. tagged_turn owner past h (take (110 + h.size) rest)) turn is in
-    ap (λ r. and_then r (λ h. published_turn past h (take (110 + h.size) rest))) step.1 ∙ passed_ok _ _ _ turn step.2
+    let step = and_then_ok (head_at past rest) (λ h. tagged_turn owner past h (take (batch_len + h.size) rest)) turn is in
+    ap (λ r. and_then r (λ h. published_turn past h (take (batch_len + h.size) rest))) step.1 ∙ passed_ok _ _ _ turn step.2
 
 abbrev IsReadToo : List ℕ → List ℕ → Type 0
 IsReadToo owner rest = (past : Past) (skip : ℕ) (log : List PlainPlaced) → log_at owner past skip rest ≡ Ok log → walk_at (turn_by published_turn) past skip rest ≡ Ok log
@@ -229,11 +231,11 @@ start_too false b c start past is = absurd (cc)
 
 header_too : (owner bytes : List ℕ) (past : Past) → start_at owner bytes ≡ Ok past → unowned_start bytes ≡ Ok past
 unfolding start_at start_of unowned_start unowned_start_of
-header_too owner bytes past is = start_too (nat_le 42 (length bytes)) _ (bytes_eq _ (check_of owner)) _ past is
+header_too owner bytes past is = start_too (nat_le header_len (length bytes)) _ (bytes_eq _ (check_of owner)) _ past is
 
 pub holder_too : (owner bytes : List ℕ) (log : List PlainPlaced) → log_verdict owner bytes ≡ Ok log → holder_log bytes ≡ Ok log
 unfolding log_verdict holder_log and_then
 holder_too owner bytes log is =
-    let step = and_then_ok (start_at owner bytes) (λ past. log_at owner past 0 (drop 42 bytes)) log is in
-    ap (λ r. and_then r (λ past. walk_at (turn_by published_turn) past 0 (drop 42 bytes))) (header_too owner bytes step.0 step.1)
-    ∙ walk_too owner (drop 42 bytes) step.0 0 log step.2
+    let step = and_then_ok (start_at owner bytes) (λ past. log_at owner past 0 (drop header_len bytes)) log is in
+    ap (λ r. and_then r (λ past. walk_at (turn_by published_turn) past 0 (drop header_len bytes))) (header_too owner bytes step.0 step.1)
+    ∙ walk_too owner (drop header_len bytes) step.0 0 log step.2

@@ -3,6 +3,7 @@ use Rattle.std.proofs.Common.{◌≡◌, ℕ, zero, suc, ◌+◌, ◌-◌, ◌�
 use Rattle.std.specs.Prelude.{nat_le, ◌&&◌}
 use Rattle.std.proofs.lemmas.Bool.Decides.{nat_tests}
 use Rattle.std.proofs.lemmas.List.{take-append-le, drop-append-le}
+use Rattle.cry_base.specs.Layout.{batch_len, header_len}
 use Rattle.commit_journal.specs.declared.head.Head.{Head}
 use Rattle.commit_journal.specs.declared.past.Past.{Past}
 use Rattle.commit_journal.specs.Answering.{Fault, NotAStore, Damaged, and_then}
@@ -28,26 +29,26 @@ first_of_two : (a b : Bool) → (a && b) ≡ true → a ≡ true
 first_of_two true b is = refl
 first_of_two false b is = absurd (cc)
 
-pub batch_inside : (past : Past) (head : Head) (left : ℕ) → is_batch past head left ≡ true → 110 + head.size ≤ left
+pub batch_inside : (past : Past) (head : Head) (left : ℕ) → is_batch past head left ≡ true → batch_len + head.size ≤ left
 unfolding is_batch
 batch_inside past head left is =
-    let test : nat_le (110 + head.size) left ≡ true = first_of_two (nat_le (110 + head.size) left) _ is in
+    let test : nat_le (batch_len + head.size) left ≡ true = first_of_two (nat_le (batch_len + head.size) left) _ is in
     grind (arith, nat_tests)
 
 pub batch_more : (past : Past) (head : Head) (left more : ℕ) → is_batch past head left ≡ true → is_batch past head (left + more) ≡ true
 unfolding is_batch
 batch_more past head left more is =
-    let test : nat_le (110 + head.size) left ≡ true = first_of_two (nat_le (110 + head.size) left) _ is in
-    let again : nat_le (110 + head.size) (left + more) ≡ true = grind (arith, nat_tests) in
+    let test : nat_le (batch_len + head.size) left ≡ true = first_of_two (nat_le (batch_len + head.size) left) _ is in
+    let again : nat_le (batch_len + head.size) (left + more) ≡ true = grind (arith, nat_tests) in
     rw again (rw test at is)
 
 turn_more : (owner : List ℕ) (past : Past) (rest behind : List ℕ) (turn : Option PlainTurn) → turn_at owner past rest ≡ Ok turn → turn_at owner past (rest ++ behind) ≡ Ok turn
 unfolding turn_at head_at
 turn_more owner past rest behind turn is =
     let head = head_of (take 13 rest) in
-    let step = and_then_ok (head_at past rest) (λ h. tagged_turn owner past h (take (110 + h.size) rest)) turn is in
+    let step = and_then_ok (head_at past rest) (λ h. tagged_turn owner past h (take (batch_len + h.size) rest)) turn is in
     let guard = guard_ok (is_batch past head (length rest)) head step.0 (Damaged past.at) step.1 in
-    let inside : 110 + head.size ≤ length rest = batch_inside past head (length rest) guard.0 in
+    let inside : batch_len + head.size ≤ length rest = batch_inside past head (length rest) guard.0 in
     let first : take 13 rest ≡ take 13 (rest ++ behind) = sym (take-append-le 13 rest behind (omega arith)) in
     let test : true ≡ is_batch past head (length (rest ++ behind)) =
     sym (ap (is_batch past head) (length-append rest behind) ∙ batch_more past head (length rest) (length behind) guard.0)
@@ -55,9 +56,9 @@ turn_more owner past rest behind turn is =
     let stands : head_at past (rest ++ behind) ≡ Ok head =
     head_tested past (rest ++ behind) (take 13 rest) head (length (rest ++ behind)) true first refl refl test
     in
-    let whole : take (110 + head.size) rest ≡ take (110 + head.size) (rest ++ behind) = sym (take-append-le (110 + head.size) rest behind inside) in
-    turn_is owner past (rest ++ behind) head (take (110 + head.size) rest) stands whole
-    ∙ ap (λ h. tagged_turn owner past h (take (110 + h.size) rest)) guard.1
+    let whole : take (batch_len + head.size) rest ≡ take (batch_len + head.size) (rest ++ behind) = sym (take-append-le (batch_len + head.size) rest behind inside) in
+    turn_is owner past (rest ++ behind) head (take (batch_len + head.size) rest) stands whole
+    ∙ ap (λ h. tagged_turn owner past h (take (batch_len + h.size) rest)) guard.1
     ∙ step.2
 
 -- ---- the walk
@@ -114,17 +115,17 @@ log_more owner behind (byte ∷ rest) = λ past skip. passed_more owner behind b
 
 -- ---- the whole image
 
-pub long_enough : (test : Bool) (start : Result Past Fault) (past : Past) (n : ℕ) → nat_le 42 n ≡ test → cond test start (Err NotAStore) ≡ Ok past → 42 ≤ n
+pub long_enough : (test : Bool) (start : Result Past Fault) (past : Past) (n : ℕ) → nat_le header_len n ≡ test → cond test start (Err NotAStore) ≡ Ok past → header_len ≤ n
 long_enough true start past n test is = grind (arith, nat_tests)
 long_enough false start past n test is = absurd (cc)
 
-header_more : (owner s behind : List ℕ) (past : Past) → start_at owner s ≡ Ok past → (42 ≤ length s) × (start_at owner (s ++ behind) ≡ Ok past)
+header_more : (owner s behind : List ℕ) (past : Past) → start_at owner s ≡ Ok past → (header_len ≤ length s) × (start_at owner (s ++ behind) ≡ Ok past)
 unfolding start_at
 header_more owner s behind past is =
-    let long : 42 ≤ length s = long_enough (nat_le 42 (length s)) (start_of owner (take 42 s)) past (length s) refl is in (
+    let long : header_len ≤ length s = long_enough (nat_le header_len (length s)) (start_of owner (take header_len s)) past (length s) refl is in (
       long,
       start_long owner (s ++ behind) (omega (arith, length-append s behind))
-          ∙ ap (start_of owner) (take-append-le 42 s behind long)
+          ∙ ap (start_of owner) (take-append-le header_len s behind long)
           ∙ sym (start_long owner s long)
           ∙ is,
     )
@@ -132,9 +133,9 @@ header_more owner s behind past is =
 pub verdict_more : (owner front behind : List ℕ) (placed : List PlainPlaced) → log_verdict owner front ≡ Ok placed → log_verdict owner (front ++ behind) ≡ Ok placed
 unfolding log_verdict and_then log_at
 verdict_more owner front behind placed is =
-    let step = and_then_ok (start_at owner front) (λ past. log_at owner past 0 (drop 42 front)) placed is in
+    let step = and_then_ok (start_at owner front) (λ past. log_at owner past 0 (drop header_len front)) placed is in
     let header = header_more owner front behind step.0 step.1 in
-    let rest : drop 42 (front ++ behind) ≡ drop 42 front ++ behind = drop-append-le 42 front behind header.0 in
-    ap (λ r. and_then r (λ past. log_at owner past 0 (drop 42 (front ++ behind)))) header.1
+    let rest : drop header_len (front ++ behind) ≡ drop header_len front ++ behind = drop-append-le header_len front behind header.0 in
+    ap (λ r. and_then r (λ past. log_at owner past 0 (drop header_len (front ++ behind)))) header.1
     ∙ ap (λ r. log_at owner step.0 0 r) rest
-    ∙ log_more owner behind (drop 42 front) step.0 0 placed step.2
+    ∙ log_more owner behind (drop header_len front) step.0 0 placed step.2

@@ -4,6 +4,7 @@ use Rattle.std.specs.Prelude.{codes}
 use Rattle.std.proofs.Math.Seq.{drop-append-add, drop-append_seam}
 use Rattle.std.proofs.lemmas.List.{append-nil}
 use Rattle.std.proofs.lemmas.List.Sums.{sum_by-append, sum_by-cons}
+use Rattle.cry_base.specs.Layout.{batch_len, header_len}
 use Rattle.chacha_seal.specs.Sealing.{check_of}
 use Rattle.chacha_seal.proofs.SealingLemmas.{length-veil_of}
 use Rattle.cry_io.specs.Told.{WhereBothTold}
@@ -31,10 +32,10 @@ refused_cases false true f g is = let wrong : ⊥ = cc in absurd wrong
 refused_cases false false f g is = (refl, refl)
 
 -- a journal that refuses no batch is open, and the batch ends within its limit
-pub not_refused : (j : JournalState) (payload : ℕ) → refusal j payload ≡ None → (j.is_closed ≡ false) × (j.end + (110 + payload) ≤ j.limit)
+pub not_refused : (j : JournalState) (payload : ℕ) → refusal j payload ≡ None → (j.is_closed ≡ false) × (j.end + (batch_len + payload) ≤ j.limit)
 not_refused j payload is =
-    let cases = refused_cases j.is_closed (ltb j.limit (j.end + (110 + payload))) faults.Closed (faults.Full (110 + payload) (j.limit - j.end)) is in
-    (cases.0, ltb-false j.limit (j.end + (110 + payload)) cases.1)
+    let cases = refused_cases j.is_closed (ltb j.limit (j.end + (batch_len + payload))) faults.Closed (faults.Full (batch_len + payload) (j.limit - j.end)) is in
+    (cases.0, ltb-false j.limit (j.end + (batch_len + payload)) cases.1)
 
 fault_cases : (closed full : Bool) (need left : ℕ) → cond closed (Some faults.Closed) (cond full (Some (faults.Full need left)) None) ≡ Some faults.DiskFault → ⊥
 fault_cases true full need left is = cc
@@ -43,7 +44,7 @@ fault_cases false false need left is = cc
 
 -- it refuses none by a disk fault
 pub refused_by_no_disk : (j : JournalState) (payload : ℕ) → refusal j payload ≡ Some faults.DiskFault → ⊥
-refused_by_no_disk j payload is = fault_cases j.is_closed (ltb j.limit (j.end + (110 + payload))) (110 + payload) (j.limit - j.end) is
+refused_by_no_disk j payload is = fault_cases j.is_closed (ltb j.limit (j.end + (batch_len + payload))) (batch_len + payload) (j.limit - j.end) is
 
 last_epoch-push : (epoch : ℕ) (bs : List Batch) (b : Batch) → last_epoch epoch (bs ++ b ∷ []) ≡ b.epoch
 last_epoch-push epoch [] b = refl
@@ -57,7 +58,7 @@ tag_behind-push owner previous (a ∷ bs) b = tag_behind-push owner (owner_tag o
 -- behind one batch more, the journal stands for one more
 pub stands_for_more : (b : Batch) (old new : JournalState) (bs : List Batch) → IsBehind b old new → b.number ≡ old.batches + 1 → IsJournalOf bs old → IsJournalOf (bs ++ b ∷ []) new
 stands_for_more b old new bs behind number of =
-    let f : Batch → ℕ = λ b. 110 + length b.payload in
+    let f : Batch → ℕ = λ b. batch_len + length b.payload in
     record {
       batches = omega (arith, behind.batches, number, of.batches, length-append bs (b ∷ []));
       epoch = behind.epoch ∙ sym (last_epoch-push 0 bs b);
@@ -112,12 +113,12 @@ ended_more owner batch veil x y bs b end was at batch_is veil_is commits =
 -- what stood behind its end stays
 behind_more : (owner batch veil x y : List ℕ) (bs : List Batch) (b : Batch) (end : ℕ) → StandsWhole owner bs x → end ≡ length (image owner bs) + 1 →
     batch ≡ spell_batch owner (last_tag owner bs) empty_slot b ++ 0 ∷ [] → veil ≡ batch_veil owner b → Commits end batch veil x y →
-    drop (end + (110 + length b.payload)) y ≡ drop (end + (110 + length b.payload)) x
+    drop (end + (batch_len + length b.payload)) y ≡ drop (end + (batch_len + length b.payload)) x
 behind_more owner batch veil x y bs b end whole at batch_is veil_is commits =
     let front = image owner bs in
     let bytes = spell_batch owner (last_tag owner bs) (batch_veil owner b) b in
     let rest = drop (length batch) whole.behind in
-    let n = 110 + length b.payload in
+    let n = batch_len + length b.payload in
     let old = front ++ whole.gate ∷ [] in
     let new = front ++ (1 ∷ (bytes ++ 0 ∷ [])) in
     let long = length-batch owner (last_tag owner bs) (batch_veil owner b) b (length-veil_of owner b.epoch b.number) in
@@ -159,7 +160,7 @@ joins old new b batch veil was shows behind number batch_is veil_is committed = 
 }
 
 -- the image of no batches is the header
-pub length-nothing : (owner : List ℕ) → 42 ≡ length (image owner []) + 1
+pub length-nothing : (owner : List ℕ) → header_len ≡ length (image owner []) + 1
 length-nothing owner = omega (arith, length-image owner [])
 
 -- the bytes of a store without batches

@@ -6,6 +6,7 @@ use Rattle.std.proofs.Math.Seq.{take-append_seam}
 use Rattle.std.proofs.lemmas.Bool.Decides.{nat_tests}
 use Rattle.std.proofs.lemmas.List.{append-nil, length-drop, length-take-le}
 use Rattle.std.proofs.lemmas.Slice.Eq.{bytes_eq-Decides}
+use Rattle.cry_base.specs.Layout.{batch_len, header_len}
 use Rattle.hmac_seal.specs.Hmac.{hmac}
 use Rattle.chacha_seal.specs.Sealing.{masked}
 use Rattle.commit_journal.specs.declared.fault.OpenFault.{OpenFault}
@@ -26,19 +27,19 @@ fault_first faults.DiskFault read f is = tt
 fault_first faults.OutOfMemory read f is = tt
 
 -- fewer bytes than a header
-pub start_short : (owner s : List ℕ) → length s < 42 → start_at owner s ≡ Err NotAStore
+pub start_short : (owner s : List ℕ) → length s < header_len → start_at owner s ≡ Err NotAStore
 unfolding start_at
-start_short owner s short = let test : nat_le 42 (length s) ≡ false = grind (arith, nat_tests) in rw test refl
+start_short owner s short = let test : nat_le header_len (length s) ≡ false = grind (arith, nat_tests) in rw test refl
 
-pub start_long : (owner s : List ℕ) → 42 ≤ length s → start_at owner s ≡ start_of owner (take 42 s)
+pub start_long : (owner s : List ℕ) → header_len ≤ length s → start_at owner s ≡ start_of owner (take header_len s)
 unfolding start_at
-start_long owner s long = let test : nat_le 42 (length s) ≡ true = grind (arith, nat_tests) in rw test refl
+start_long owner s long = let test : nat_le header_len (length s) ≡ true = grind (arith, nat_tests) in rw test refl
 
 -- fewer bytes than a batch
-pub head_short : (past : Past) (rest : List ℕ) → length rest < 110 → head_at past rest ≡ Err (Damaged past.at)
+pub head_short : (past : Past) (rest : List ℕ) → length rest < batch_len → head_at past rest ≡ Err (Damaged past.at)
 unfolding head_at is_batch
 head_short past rest short =
-    let test : nat_le (110 + (head_of (take 13 rest)).size) (length rest) ≡ false = grind (arith, nat_tests) in rw test refl
+    let test : nat_le (batch_len + (head_of (take 13 rest)).size) (length rest) ≡ false = grind (arith, nat_tests) in rw test refl
 
 -- the test of a head that was read
 pub head_tested : (past : Past) (rest bytes : List ℕ) (head : Head) (left : ℕ) (ok : Bool) → bytes ≡ take 13 rest → head ≡ head_of bytes →
@@ -48,7 +49,7 @@ head_tested past rest bytes head left ok bytes_is head_is left_is ok_is = rw (ok
 
 -- a batch that was read behind its head
 pub turn_is : (owner : List ℕ) (past : Past) (rest : List ℕ) (head : Head) (batch : List ℕ) → head_at past rest ≡ Ok head →
-    batch ≡ take (110 + head.size) rest → turn_at owner past rest ≡ tagged_turn owner past head batch
+    batch ≡ take (batch_len + head.size) rest → turn_at owner past rest ≡ tagged_turn owner past head batch
 unfolding turn_at and_then
 turn_is owner past rest head batch head_is batch_is = rw (head_is, batch_is) refl
 

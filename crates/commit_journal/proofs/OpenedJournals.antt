@@ -1,6 +1,8 @@
 -- A journal that was opened on bytes that stand for batches stands for these batches.
 use Rattle.std.proofs.Common.{◌≡◌, ◌≤◌, ◌⊎◌, inl, inr, ℕ, ◌+◌, true, false, List, length, Option, None, Some, Ok, refl, sym, ap, subst, ◌∙◌}
 use Rattle.std.specs.Prelude.{is_some}
+use Rattle.cry_base.specs.Layout.{header_len}
+use Rattle.cry_base.specs.Limits.{most_store_bytes}
 use Rattle.cry_io.specs.Stops.{IsDurable}
 use Rattle.cry_io.specs.Told.{WhereBothTold}
 use Rattle.commit_journal.specs.declared.fault.OpenFault.{OpenFault}
@@ -19,16 +21,16 @@ use Rattle.commit_journal.proofs.Refilled.{filled_whole}
 use Rattle.commit_journal.proofs.Reopened.{opened_standing}
 
 -- the log that was opened is that of the batches
-opened_whole : (limit : ℕ) (owner : List ℕ) (bodies : List PlainBody) (bytes : List ℕ) (o : Opened) → limit ≤ 268435456 → StandsWithin limit owner bodies bytes →
+opened_whole : (limit : ℕ) (owner : List ℕ) (bodies : List PlainBody) (bytes : List ℕ) (o : Opened) → limit ≤ most_store_bytes → StandsWithin limit owner bodies bytes →
     opening_verdict limit owner bytes ≡ Ok (plain_opened o) → plain_opened o ≡ whole_log owner bodies
 opened_whole limit owner bodies bytes o known within is =
     let both : Ok (plain_opened o) ≡ Ok (whole_log owner bodies) = sym is ∙ opened_standing limit owner bodies bytes known within in cc
 
-pub placed_whole : (limit : ℕ) (owner : List ℕ) (bodies : List PlainBody) (bytes : List ℕ) (o : Opened) → limit ≤ 268435456 → StandsWithin limit owner bodies bytes →
-    opening_verdict limit owner bytes ≡ Ok (plain_opened o) → plain_log o.placed ≡ placed_from 42 0 0 bodies
+pub placed_whole : (limit : ℕ) (owner : List ℕ) (bodies : List PlainBody) (bytes : List ℕ) (o : Opened) → limit ≤ most_store_bytes → StandsWithin limit owner bodies bytes →
+    opening_verdict limit owner bytes ≡ Ok (plain_opened o) → plain_log o.placed ≡ placed_from header_len 0 0 bodies
 placed_whole limit owner bodies bytes o known within is = ap (λ (log : OwnedLog). log.placed) (opened_whole limit owner bodies bytes o known within is)
 
-pub journal_whole : (limit : ℕ) (owner : List ℕ) (bodies : List PlainBody) (bytes : List ℕ) (o : Opened) → limit ≤ 268435456 → StandsWithin limit owner bodies bytes →
+pub journal_whole : (limit : ℕ) (owner : List ℕ) (bodies : List PlainBody) (bytes : List ℕ) (o : Opened) → limit ≤ most_store_bytes → StandsWithin limit owner bodies bytes →
     opening_verdict limit owner bytes ≡ Ok (plain_opened o) → IsOpened owner limit o.journal → IsJournalOf (batches_from 0 0 bodies) o.journal
 journal_whole limit owner bodies bytes o known within is opened =
     let log = opened_whole limit owner bodies bytes o known within is in
@@ -40,14 +42,14 @@ journal_whole limit owner bodies bytes o known within is opened =
       tag = ap (λ (l : OwnedLog). l.tag) log ∙ ap (λ key. last_tag key bs) (sym opened.key);
     }
 
-pub slots_whole : (limit : ℕ) (owner : List ℕ) (bodies : List PlainBody) (bytes : List ℕ) (o : Opened) → limit ≤ 268435456 → StandsWithin limit owner bodies bytes →
+pub slots_whole : (limit : ℕ) (owner : List ℕ) (bodies : List PlainBody) (bytes : List ℕ) (o : Opened) → limit ≤ most_store_bytes → StandsWithin limit owner bodies bytes →
     opening_verdict limit owner bytes ≡ Ok (plain_opened o) → StandsWhole owner (batches_from 0 0 bodies) (slots_filled owner (plain_log o.placed) bytes)
 slots_whole limit owner bodies bytes o known within is =
     subst (λ placed. StandsWhole owner (batches_from 0 0 bodies) (slots_filled owner placed bytes)) (sym (placed_whole limit owner bodies bytes o known within is))
     (filled_whole owner bodies bytes within.0)
 
 -- no test fails
-pub not_refused : (limit : ℕ) (owner : List ℕ) (bodies : List PlainBody) (bytes : List ℕ) (fault : OpenFault) → limit ≤ 268435456 → StandsWithin limit owner bodies bytes →
+pub not_refused : (limit : ℕ) (owner : List ℕ) (bodies : List PlainBody) (bytes : List ℕ) (fault : OpenFault) → limit ≤ most_store_bytes → StandsWithin limit owner bodies bytes →
     IsFault fault (opening_verdict limit owner bytes) → (fault ≡ faults.DiskFault) ⊎ (fault ≡ faults.OutOfMemory)
 not_refused limit owner bodies bytes faults.NotAStore known within is = let ok = sym (opened_standing limit owner bodies bytes known within) ∙ is in absurd (cc)
 not_refused limit owner bodies bytes faults.WrongKey known within is = let ok = sym (opened_standing limit owner bodies bytes known within) ∙ is in absurd (cc)
@@ -60,7 +62,7 @@ not_refused limit owner bodies bytes faults.OutOfMemory known within is = inr re
 
 -- what the disk shows once the slots are filled stands whole, and a stop leaves nothing else
 pub opened_settled : (limit : ℕ) (owner : List ℕ) (bodies : List PlainBody) (bytes : List ℕ) (o : Opened) (was shows : Option (List ℕ)) (may_leave : List ℕ → Type 0) →
-    limit ≤ 268435456 → StandsWithin limit owner bodies bytes → was ≡ Some bytes → opening_verdict limit owner bytes ≡ Ok (plain_opened o) →
+    limit ≤ most_store_bytes → StandsWithin limit owner bodies bytes → was ≡ Some bytes → opening_verdict limit owner bytes ≡ Ok (plain_opened o) →
     WhereBothTold was shows (λ x y. y ≡ slots_filled owner (plain_log o.placed) x) → is_some shows ≡ is_some was → IsDurable may_leave shows →
     IsSettled (StandsWhole owner) (batches_from 0 0 bodies) shows may_leave
 opened_settled limit owner bodies bytes o was None may_leave known within shown is filled told durable =

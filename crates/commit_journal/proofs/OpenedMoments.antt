@@ -1,5 +1,6 @@
 -- The moments of calls that read a store, and of opening it for writing.
 use Rattle.std.proofs.Common.{◌≡◌, ◌≤◌, ◌⊎◌, ⊎_elim, inl, inr, ℕ, List, Option, Some, Ok, arith, sym, ◌∙◌}
+use Rattle.cry_base.specs.Limits.{most_store_bytes}
 use Rattle.cry_io.specs.Stops.{Elapses, IsDurable}
 use Rattle.cry_io.specs.Told.{WhereTold}
 use Rattle.batch_log.specs.Moments.{GoesOn, Throughout}
@@ -53,11 +54,11 @@ LeavesThroughout owner placed was since = WhereTold was (λ x. Throughout (λ s 
 
 -- ---- the whole opening
 
-pub still_gated : (limit : ℕ) (owner x c : List ℕ) → limit ≤ 268435456 → LeavesGated limit owner x c → StillStand limit owner x c
+pub still_gated : (limit : ℕ) (owner x c : List ℕ) → limit ≤ most_store_bytes → LeavesGated limit owner x c → StillStand limit owner x c
 still_gated limit owner x c known gated =
     ⊎_elim (λ same. still_same limit owner x c same) (λ some. still_left limit owner x c some.0 known some.1 some.2) gated
 
-pub keeps_held : (limit : ℕ) (owner : List ℕ) (was : Option (List ℕ)) (left : List ℕ → Type 0) (since : List ℕ → List ℕ → Type 0) → limit ≤ 268435456 →
+pub keeps_held : (limit : ℕ) (owner : List ℕ) (was : Option (List ℕ)) (left : List ℕ → Type 0) (since : List ℕ → List ℕ → Type 0) → limit ≤ most_store_bytes →
     OpensThroughout limit owner was left since → KeepsHeld limit owner was left since
 keeps_held limit owner was left since known stops low high bodies holds within from to s c at =
     let x = holds.shows in

@@ -2,6 +2,7 @@
 use Rattle.std.proofs.Common.{◌≡◌, ℕ, zero, suc, ◌+◌, ◌-◌, ◌<◌, true, false, cond, eqb, List, [], ◌∷◌, ◌++◌, length, take, drop, Result, Ok, Err, refl, sym, ap, ◌∙◌, arith, append_assoc}
 use Rattle.std.specs.Prelude.{nat_le, slice_range}
 use Rattle.std.proofs.lemmas.List.{append-nil, drop-drop, take-append-drop}
+use Rattle.cry_base.specs.Layout.{batch_len, header_len}
 use Rattle.commit_journal.specs.declared.fault.OpenFault.{OpenFault}
 use Rattle.commit_journal.specs.declared.fault.OpenFault.TheVariants as faults
 use Rattle.commit_journal.specs.declared.head.Head.{Head}
@@ -41,13 +42,13 @@ owned_before-end front past = ap (λ (ps : List PlainPlaced). Ok (record (ends_h
 
 -- a head is tested against the store limit
 pub owned_head_tested : (limit : ℕ) (past : Past) (rest : List ℕ) (head : Head) → head_at past rest ≡ Ok head →
-    owned_head limit past rest ≡ cond (nat_le (past.at + (110 + head.size)) limit) (Ok head) (Err (Damaged past.at))
+    owned_head limit past rest ≡ cond (nat_le (past.at + (batch_len + head.size)) limit) (Ok head) (Err (Damaged past.at))
 unfolding owned_head and_then
 owned_head_tested limit past rest head is = rw is refl
 
 -- a batch that was read behind its head
 pub owned_turn_is : (limit : ℕ) (owner : List ℕ) (past : Past) (rest : List ℕ) (head : Head) (batch : List ℕ) → owned_head limit past rest ≡ Ok head →
-    batch ≡ take (110 + head.size) rest → owned_at limit owner past rest ≡ owned_turn owner past head batch
+    batch ≡ take (batch_len + head.size) rest → owned_at limit owner past rest ≡ owned_turn owner past head batch
 unfolding owned_at and_then
 owned_turn_is limit owner past rest head batch head_is batch_is = rw (head_is, batch_is) refl
 
@@ -94,11 +95,11 @@ owned_fails fault limit owner past (byte ∷ rest) gate is =
 abbrev pub IsSoFarOwned : ℕ → List ℕ → List ℕ → List PlainPlaced → Past → Type 0
 IsSoFarOwned limit owner s front past = opening_verdict limit owner s ≡ owned_before front (owned_log limit owner past 0 (drop past.at s))
 
-pub owned_starts : (limit : ℕ) (owner s : List ℕ) (past : Past) → start_at owner s ≡ Ok past → past.at ≡ 42 → IsSoFarOwned limit owner s [] past
+pub owned_starts : (limit : ℕ) (owner s : List ℕ) (past : Past) → start_at owner s ≡ Ok past → past.at ≡ header_len → IsSoFarOwned limit owner s [] past
 unfolding opening_verdict and_then
 owned_starts limit owner s past is at =
-    ap (λ r. and_then r (λ p. owned_log limit owner p 0 (drop 42 s))) is
-    ∙ sym (owned_before-nil (owned_log limit owner past 0 (drop 42 s)))
+    ap (λ r. and_then r (λ p. owned_log limit owner p 0 (drop header_len s))) is
+    ∙ sym (owned_before-nil (owned_log limit owner past 0 (drop header_len s)))
     ∙ ap (λ n. owned_before [] (owned_log limit owner past 0 (drop n s))) (sym at)
 
 pub owned_more : (limit : ℕ) (owner s : List ℕ) (front : List PlainPlaced) (past : Past) (turn : PlainTurn) → eqb past.gate 1 ≡ true →

@@ -2,6 +2,7 @@
 use Rattle.std.proofs.Common.{◌≡◌, ℕ, ◌+◌, ◌-◌, List, [], ◌∷◌, ◌++◌, length, take, drop, append_assoc, arith, refl, sym, ap, ◌∙◌, length-append}
 use Rattle.std.proofs.Math.Seq.{drop-append_seam}
 use Rattle.std.proofs.lemmas.List.{append-nil}
+use Rattle.cry_base.specs.Layout.{batch_len, header_len}
 use Rattle.chacha_seal.specs.Sealing.{check_of}
 use Rattle.chacha_seal.proofs.SealingLemmas.{length-veil_of}
 use Rattle.commit_journal.specs.Image.{Batch, batch_head, batch_veil, masked_payload, batch_check, owner_tag, spell_batch, spell_header, spell_batches, image}
@@ -75,38 +76,38 @@ filled_from owner slot (body ∷ other ∷ bodies) before previous behind at num
     let bytes = spell_batch owner previous veil b in
     let tag = owner_tag owner previous b in
     let bs = batches_from b.number b.epoch (other ∷ bodies) in
-    let placed = placed_from (at + (110 + length b.payload)) b.number b.epoch (other ∷ bodies) in
+    let placed = placed_from (at + (batch_len + length b.payload)) b.number b.epoch (other ∷ bodies) in
     let slotted = spell_slotted owner tag slot bs in
     let others = spell_batches owner tag bs in
     let front = before ++ 1 ∷ bytes in
     let veil_size = length-veil_of owner b.epoch b.number in
-    let front_is : length front + 1 ≡ at + (110 + length b.payload) =
+    let front_is : length front + 1 ≡ at + (batch_len + length b.payload) =
     omega (arith, at_is, length-append before (1 ∷ bytes), length-batch owner previous veil b veil_size)
     in
     ap (λ r. slots_filled owner placed (written_at (at + 45 - 32) veil (before ++ 1 ∷ r))) (append_assoc bytes slotted behind)
     ∙ ap (slots_filled owner placed) (slot_filled owner before previous veil b (slotted ++ behind) at at_is veil_size)
     ∙ ap (slots_filled owner placed) (sym (append_assoc before (1 ∷ bytes) (slotted ++ behind)))
-    ∙ filled_from owner slot (other ∷ bodies) front tag behind (at + (110 + length b.payload)) b.number b.epoch slot_size front_is
+    ∙ filled_from owner slot (other ∷ bodies) front tag behind (at + (batch_len + length b.payload)) b.number b.epoch slot_size front_is
     ∙ append_assoc before (1 ∷ bytes) (others ++ behind)
     ∙ ap (λ r. before ++ 1 ∷ r) (sym (append_assoc bytes others behind))
 
 -- ---- the whole image
 
 filled_is : (owner : List ℕ) (bodies : List PlainBody) (bytes : List ℕ) (stands : StandsFor owner (batches_from 0 0 bodies) bytes) →
-    slots_filled owner (placed_from 42 0 0 bodies) bytes ≡ image owner (batches_from 0 0 bodies) ++ stands.gate ∷ stands.behind
+    slots_filled owner (placed_from header_len 0 0 bodies) bytes ≡ image owner (batches_from 0 0 bodies) ++ stands.gate ∷ stands.behind
 unfolding slotted_image image
 filled_is owner bodies bytes stands =
-    let placed = placed_from 42 0 0 bodies in
+    let placed = placed_from header_len 0 0 bodies in
     let bs = batches_from 0 0 bodies in
     let header = spell_header owner in
     let slotted = spell_slotted owner (check_of owner) stands.slot bs in
     let end = stands.gate ∷ stands.behind in
     ap (slots_filled owner placed) (stands.bytes_are ∙ append_assoc header slotted end)
-    ∙ filled_from owner stands.slot bodies header (check_of owner) end 42 0 0 stands.slot_size (ap (λ n. n + 1) (length-spell_header owner))
+    ∙ filled_from owner stands.slot bodies header (check_of owner) end header_len 0 0 stands.slot_size (ap (λ n. n + 1) (length-spell_header owner))
     ∙ sym (append_assoc header (spell_batches owner (check_of owner) bs) end)
 
 pub filled_whole : (owner : List ℕ) (bodies : List PlainBody) (bytes : List ℕ) → StandsFor owner (batches_from 0 0 bodies) bytes →
-    StandsWhole owner (batches_from 0 0 bodies) (slots_filled owner (placed_from 42 0 0 bodies) bytes)
+    StandsWhole owner (batches_from 0 0 bodies) (slots_filled owner (placed_from header_len 0 0 bodies) bytes)
 filled_whole owner bodies bytes stands = record {
   gate = stands.gate;
   behind = stands.behind;
@@ -149,7 +150,7 @@ length-slotted_image owner slot bs size =
     )
 
 pub filled_behind : (owner : List ℕ) (bodies : List PlainBody) (bytes : List ℕ) → StandsFor owner (batches_from 0 0 bodies) bytes →
-    let end = length (image owner (batches_from 0 0 bodies)) in drop end (slots_filled owner (placed_from 42 0 0 bodies) bytes) ≡ drop end bytes
+    let end = length (image owner (batches_from 0 0 bodies)) in drop end (slots_filled owner (placed_from header_len 0 0 bodies) bytes) ≡ drop end bytes
 filled_behind owner bodies bytes stands =
     let whole = image owner (batches_from 0 0 bodies) in
     let slotted = slotted_image owner stands.slot (batches_from 0 0 bodies) in

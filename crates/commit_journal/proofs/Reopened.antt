@@ -7,6 +7,8 @@ use Rattle.std.proofs.Math.Seq.{drop-append_seam}
 use Rattle.std.proofs.lemmas.Bool.Decides.{nat_tests}
 use Rattle.std.proofs.lemmas.List.Sums.{sum_by-cons}
 use Rattle.std.proofs.lemmas.Slice.Eq.{bytes_eq-Decides}
+use Rattle.cry_base.specs.Layout.{batch_len, header_len}
+use Rattle.cry_base.specs.Limits.{most_store_bytes}
 use Rattle.hmac_seal.specs.Hmac.{hmac}
 use Rattle.chacha_seal.specs.Sealing.{check_of, masked, owner_tag_key}
 use Rattle.chacha_seal.proofs.SealingLemmas.{masked-masked, length-veil_of}
@@ -57,7 +59,7 @@ owned_as_spelled owner past body slot gate slot_size may =
     ∙ ap (λ g. Ok (record (turn_of past head whole body) { past = record (turn_of past head whole body).past { tag = owner_tag owner past.tag b; gate = g } })) parts.gate_is
 
 turn_owned : (limit : ℕ) (owner : List ℕ) (past : Past) (body : PlainBody) (slot : List ℕ) (gate : ℕ) (more : List ℕ) → length slot ≡ 32 → MayFollow past.epoch.0 body →
-    Small past body → past.at + (110 + length (next_batch past body).payload) ≤ limit →
+    Small past body → past.at + (batch_len + length (next_batch past body).payload) ≤ limit →
     owned_at limit owner past (spell_batch owner past.tag slot (next_batch past body) ++ gate ∷ more) ≡ Ok (next_turn owner past body gate)
 turn_owned limit owner past body slot gate more slot_size may small fits_limit =
     let b = next_batch past body in
@@ -67,7 +69,7 @@ turn_owned limit owner past body slot gate more slot_size may small fits_limit =
     let rest = spell_batch owner past.tag slot b ++ gate ∷ more in
     let parts = slotted_parts owner past.tag slot b gate slot_size in
     let is : rest ≡ whole ++ more = with_gate owner past.tag slot b gate more in
-    let long : length rest ≡ 110 + size + length more = omega (arith, ap length is, length-append whole more, parts.long) in
+    let long : length rest ≡ batch_len + size + length more = omega (arith, ap length is, length-append whole more, parts.long) in
     let first : take 13 rest ≡ batch_head b =
     front (batch_head b) _ rest 13 (is ∙ append_assoc (batch_head b) _ more) (length-head_bytes b.type_of b.number b.epoch size)
     in
@@ -76,16 +78,16 @@ turn_owned limit owner past body slot gate more slot_size may small fits_limit =
     in
     let fits : is_batch past head (length rest) ≡ true = next_fits past body (length rest) may (omega arith) small.2 in
     let stands : head_at past rest ≡ Ok head = head_tested past rest (batch_head b) head (length rest) true (sym first) spelled refl (sym fits) in
-    let within : nat_le (past.at + (110 + size)) limit ≡ true = grind (arith, nat_tests) in
+    let within : nat_le (past.at + (batch_len + size)) limit ≡ true = grind (arith, nat_tests) in
     let owned : owned_head limit past rest ≡ Ok head =
     owned_head_tested limit past rest head stands ∙ ap (λ t. cond t (Ok head) (Err (Damaged past.at))) within
     in
-    let all : whole ≡ take (110 + size) rest = sym (front whole more rest (110 + size) is parts.long) in
+    let all : whole ≡ take (batch_len + size) rest = sym (front whole more rest (batch_len + size) is parts.long) in
     owned_turn_is limit owner past rest head whole owned all ∙ owned_as_spelled owner past body slot gate slot_size may
 
 -- a batch with any slot, and what follows it
 owns_over : (limit : ℕ) (owner : List ℕ) (past : Past) (body : PlainBody) (slot rest : List ℕ) (gate : ℕ) (more : List ℕ) → length slot ≡ 32 → MayFollow past.epoch.0 body →
-    Small past body → past.at + (110 + length (next_batch past body).payload) ≤ limit →
+    Small past body → past.at + (batch_len + length (next_batch past body).payload) ≤ limit →
     past.gate ∷ rest ≡ 1 ∷ (spell_batch owner past.tag slot (next_batch past body) ++ gate ∷ more) →
     owned_log limit owner past 0 rest ≡ owned_before ((next_turn owner past body gate).placed ∷ []) (owned_log limit owner (next_past owner past body gate) 0 more)
 owns_over limit owner past body slot rest gate more slot_size may small fits_limit is =
@@ -113,7 +115,7 @@ log_behind owner past bodies = record {
   placed = placed_from past.at past.number past.epoch.0 bodies;
   batches = past.number + length (batches_from past.number past.epoch.0 bodies);
   epoch = last_epoch past.epoch.0 (batches_from past.number past.epoch.0 bodies);
-  end = past.at + sum_by (λ (b : Batch). 110 + length b.payload) (batches_from past.number past.epoch.0 bodies);
+  end = past.at + sum_by (λ (b : Batch). batch_len + length b.payload) (batches_from past.number past.epoch.0 bodies);
   tag = tag_behind owner past.tag (batches_from past.number past.epoch.0 bodies);
 }
 
@@ -130,15 +132,15 @@ unfolding owned_before tag_behind
 one_more owner past body gate bodies =
     let b = next_batch past body in
     let bs = batches_from b.number b.epoch bodies in
-    let sum = sum_by-cons (λ (b : Batch). 110 + length b.payload) b bs in
+    let sum = sum_by-cons (λ (b : Batch). batch_len + length b.payload) b bs in
     same_log (placed_from past.at past.number past.epoch.0 (body ∷ bodies)) (b.number + length bs) (past.number + length (b ∷ bs)) (last_epoch b.epoch bs)
-    (past.at + (110 + length b.payload) + sum_by (λ (b : Batch). 110 + length b.payload) bs) (past.at + sum_by (λ (b : Batch). 110 + length b.payload) (b ∷ bs))
+    (past.at + (batch_len + length b.payload) + sum_by (λ (b : Batch). batch_len + length b.payload) bs) (past.at + sum_by (λ (b : Batch). batch_len + length b.payload) (b ∷ bs))
     (tag_behind owner (owner_tag owner past.tag b) bs)
     (let n = number_rises past.number past.epoch.0 body in omega (arith, n)) (omega (arith, sum))
 
-walk_owned : (limit : ℕ) (owner slot : List ℕ) (bodies : List PlainBody) (past : Past) (rest : List ℕ) (gate : ℕ) (behind : List ℕ) → limit ≤ 268435456 → length slot ≡ 32 →
+walk_owned : (limit : ℕ) (owner slot : List ℕ) (bodies : List PlainBody) (past : Past) (rest : List ℕ) (gate : ℕ) (behind : List ℕ) → limit ≤ most_store_bytes → length slot ≡ 32 →
     AreBodies past.epoch.0 bodies → past.number ≤ past.at → past.epoch.0 ≤ past.number →
-    past.at + sum_by (λ (b : Batch). 110 + length b.payload) (batches_from past.number past.epoch.0 bodies) ≤ limit → gate ≢ 1 →
+    past.at + sum_by (λ (b : Batch). batch_len + length b.payload) (batches_from past.number past.epoch.0 bodies) ≤ limit → gate ≢ 1 →
     past.gate ∷ rest ≡ slotted_rest owner slot past bodies ++ gate ∷ behind →
     owned_log limit owner past 0 rest ≡ Ok (log_behind owner past bodies)
 unfolding spell_slotted tag_behind
@@ -148,7 +150,7 @@ walk_owned limit owner slot [] past rest gate behind known slot_size are number_
     ∙ same_log [] past.number (past.number + 0) past.epoch.0 past.at (past.at + 0) past.tag (omega arith) (omega arith)
 walk_owned limit owner slot (body ∷ []) past rest gate behind known slot_size are number_small epoch_small fits shut is =
     let now = next_past owner past body gate in
-    let sum = sum_by-cons (λ (b : Batch). 110 + length b.payload) (next_batch past body) [] in
+    let sum = sum_by-cons (λ (b : Batch). batch_len + length b.payload) (next_batch past body) [] in
     owns_over limit owner past body slot rest gate behind slot_size (first_may past.epoch.0 body [] are) (omega arith, omega arith, omega arith) (omega arith) is
     ∙ ap (owned_before ((next_turn owner past body gate).placed ∷ []))
     (owned_closed limit owner now behind (closed_gate gate shut)
@@ -165,7 +167,7 @@ walk_owned limit owner slot (body ∷ other ∷ bodies) past rest gate behind kn
     let starts = begins_slotted owner tag slot next bs in
     let more = starts.0 ++ gate ∷ behind in
     let now = next_past owner past body 1 in
-    let sum = sum_by-cons (λ (b : Batch). 110 + length b.payload) b (next ∷ bs) in
+    let sum = sum_by-cons (λ (b : Batch). batch_len + length b.payload) b (next ∷ bs) in
     let n = number_rises past.number past.epoch.0 body in
     let e = epoch_bound past.number past.epoch.0 body in
     let whole : past.gate ∷ rest ≡ 1 ∷ (bytes ++ 1 ∷ more) =
@@ -180,7 +182,7 @@ walk_owned limit owner slot (body ∷ other ∷ bodies) past rest gate behind kn
 
 -- ---- the whole image
 
-pub opened_standing : (limit : ℕ) (owner : List ℕ) (bodies : List PlainBody) (bytes : List ℕ) → limit ≤ 268435456 → StandsWithin limit owner bodies bytes →
+pub opened_standing : (limit : ℕ) (owner : List ℕ) (bodies : List PlainBody) (bytes : List ℕ) → limit ≤ most_store_bytes → StandsWithin limit owner bodies bytes →
     opening_verdict limit owner bytes ≡ Ok (whole_log owner bodies)
 unfolding slotted_image opening_verdict and_then
 opened_standing limit owner bodies bytes known within =
@@ -195,15 +197,15 @@ opened_standing limit owner bodies bytes known within =
     let is : bytes ≡ (header ++ g ∷ []) ++ more =
     stands.bytes_are ∙ append_assoc header slotted end ∙ ap (λ r. header ++ r) next.2 ∙ sym (append_assoc header (g ∷ []) more)
     in
-    let long : length (header ++ g ∷ []) ≡ 42 = omega (arith, length-append header (g ∷ []), length-spell_header owner) in
-    let first : take 42 bytes ≡ header ++ g ∷ [] = front (header ++ g ∷ []) more bytes 42 is long in
-    let rest : drop 42 bytes ≡ more =
+    let long : length (header ++ g ∷ []) ≡ header_len = omega (arith, length-append header (g ∷ []), length-spell_header owner) in
+    let first : take header_len bytes ≡ header ++ g ∷ [] = front (header ++ g ∷ []) more bytes header_len is long in
+    let rest : drop header_len bytes ≡ more =
     ap (λ n. drop n bytes) (sym long) ∙ ap (λ r. drop (length (header ++ g ∷ [])) r) is ∙ drop-append_seam (header ++ g ∷ []) more
     in
-    let enough : 42 ≤ length bytes = omega (arith, ap length is, length-append (header ++ g ∷ []) more, long) in
+    let enough : header_len ≤ length bytes = omega (arith, ap length is, length-append (header ++ g ∷ []) more, long) in
     let start : start_at owner bytes ≡ Ok (first_past owner g) = start_long owner bytes enough ∙ ap (start_of owner) first ∙ start_spelled owner g in
-    ap (λ p. and_then p (λ past. owned_log limit owner past 0 (drop 42 bytes))) start
+    ap (λ p. and_then p (λ past. owned_log limit owner past 0 (drop header_len bytes))) start
     ∙ ap (λ r. owned_log limit owner (first_past owner g) 0 r) rest
     ∙ walk_owned limit owner stands.slot bodies (first_past owner g) more stands.gate stands.behind known stands.slot_size within.1 (omega arith) (omega arith) within.2 stands.closed (sym next.2)
-    ∙ same_log (placed_from 42 0 0 bodies) (0 + length bs) (length bs) (last_epoch 0 bs) (42 + sum_by (λ (b : Batch). 110 + length b.payload) bs) (length (image owner bs) + 1)
+    ∙ same_log (placed_from header_len 0 0 bodies) (0 + length bs) (length bs) (last_epoch 0 bs) (header_len + sum_by (λ (b : Batch). batch_len + length b.payload) bs) (length (image owner bs) + 1)
     (tag_behind owner (check_of owner) bs) (omega arith) (omega (arith, length-image owner bs))

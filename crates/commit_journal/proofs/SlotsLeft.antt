@@ -1,6 +1,8 @@
 -- Opening for writing that met a fault of the disk: the bytes stand for the batches for which they stood, with any bytes in the last slot.
 use Rattle.std.proofs.Common.{◌≡◌, ◌≢◌, ⊎_elim, inr, ℕ, ◌+◌, ◌-◌, ◌≤◌, List, [], ◌∷◌, ◌++◌, length, take, drop, slice_range, Ok, append_assoc, arith, sym, ap, subst, ◌∙◌, length-append}
 use Rattle.std.proofs.lemmas.List.{length-take-le, length-drop, drop-drop, take-append-drop}
+use Rattle.cry_base.specs.Layout.{batch_len, header_len}
+use Rattle.cry_base.specs.Limits.{most_store_bytes}
 use Rattle.cry_io.specs.Stops.{Torn}
 use Rattle.chacha_seal.specs.Sealing.{check_of}
 use Rattle.chacha_seal.proofs.SealingLemmas.{length-veil_of}
@@ -71,11 +73,11 @@ left_from owner slot (body ∷ other ∷ bodies) before previous behind new at n
     let bytes = spell_batch owner previous veil b in
     let tag = owner_tag owner previous b in
     let bs = batches_from b.number b.epoch (other ∷ bodies) in
-    let placed = placed_from (at + (110 + length b.payload)) b.number b.epoch (other ∷ bodies) in
+    let placed = placed_from (at + (batch_len + length b.payload)) b.number b.epoch (other ∷ bodies) in
     let slotted = spell_slotted owner tag slot bs in
     let front = before ++ 1 ∷ bytes in
     let veil_size = length-veil_of owner b.epoch b.number in
-    let front_is : length front + 1 ≡ at + (110 + length b.payload) =
+    let front_is : length front + 1 ≡ at + (batch_len + length b.payload) =
     omega (arith, at_is, length-append before (1 ∷ bytes), length-batch owner previous veil b veil_size)
     in
     let inner : before ++ (1 ∷ (bytes ++ slotted) ++ behind) ≡ before ++ 1 ∷ (bytes ++ (slotted ++ behind)) = ap (λ r. before ++ 1 ∷ r) (append_assoc bytes slotted behind) in
@@ -89,21 +91,21 @@ left_from owner slot (body ∷ other ∷ bodies) before previous behind new at n
     (λ others.
     let next : written_at (at + 45 - 32) veil (before ++ (1 ∷ (bytes ++ slotted) ++ behind)) ≡ front ++ (slotted ++ behind) =
     ap (written_at (at + 45 - 32) veil) inner ∙ slot_written owner before previous veil veil b (slotted ++ behind) at at_is veil_size veil_size ∙ stays in
-    let rest = left_from owner slot (other ∷ bodies) front tag behind new (at + (110 + length b.payload)) b.number b.epoch slot_size front_is
+    let rest = left_from owner slot (other ∷ bodies) front tag behind new (at + (batch_len + length b.payload)) b.number b.epoch slot_size front_is
     (subst (λ r. LeavesSlots owner placed r new) next others) in
     (rest.0, rest.1, rest.2 ∙ append_assoc before (1 ∷ bytes) (spell_slotted owner tag rest.0 bs ++ behind) ∙ ap (λ r. before ++ 1 ∷ r) (sym (append_assoc bytes (spell_slotted owner tag rest.0 bs) behind))))
     leaves
 
 pub left_standing : (owner : List ℕ) (bodies : List PlainBody) (bytes new : List ℕ) → StandsFor owner (batches_from 0 0 bodies) bytes →
-    LeavesSlots owner (placed_from 42 0 0 bodies) bytes new → StandsFor owner (batches_from 0 0 bodies) new
+    LeavesSlots owner (placed_from header_len 0 0 bodies) bytes new → StandsFor owner (batches_from 0 0 bodies) new
 unfolding slotted_image
 left_standing owner bodies bytes new stands leaves =
     let bs = batches_from 0 0 bodies in
     let header = spell_header owner in
     let end = stands.gate ∷ stands.behind in
     let split = stands.bytes_are ∙ append_assoc header (spell_slotted owner (check_of owner) stands.slot bs) end in
-    let left = left_from owner stands.slot bodies header (check_of owner) end new 42 0 0 stands.slot_size (ap (λ n. n + 1) (length-spell_header owner))
-    (subst (λ r. LeavesSlots owner (placed_from 42 0 0 bodies) r new) split leaves) in
+    let left = left_from owner stands.slot bodies header (check_of owner) end new header_len 0 0 stands.slot_size (ap (λ n. n + 1) (length-spell_header owner))
+    (subst (λ r. LeavesSlots owner (placed_from header_len 0 0 bodies) r new) split leaves) in
     record {
       slot = left.0;
       gate = stands.gate;
@@ -118,7 +120,7 @@ left_standing owner bodies bytes new stands leaves =
 pub still_same : (limit : ℕ) (owner x y : List ℕ) → y ≡ x → StillStand limit owner x y
 still_same limit owner x y same = λ bodies within. subst (λ b. StandsFor owner (batches_from 0 0 bodies) b) (sym same) within.0
 
-pub still_left : (limit : ℕ) (owner x y : List ℕ) (log : OwnedLog) → limit ≤ 268435456 → opening_verdict limit owner x ≡ Ok log → LeavesSlots owner log.placed x y → StillStand limit owner x y
+pub still_left : (limit : ℕ) (owner x y : List ℕ) (log : OwnedLog) → limit ≤ most_store_bytes → opening_verdict limit owner x ≡ Ok log → LeavesSlots owner log.placed x y → StillStand limit owner x y
 still_left limit owner x y log known is leaves = λ bodies within.
     let both : Ok log ≡ Ok (whole_log owner bodies) = sym is ∙ opened_standing limit owner bodies x known within in
     let same : log ≡ whole_log owner bodies = cc in

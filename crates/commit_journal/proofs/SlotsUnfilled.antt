@@ -7,6 +7,7 @@ use Rattle.std.proofs.lemmas.List.{append-nil, drop-drop, length-drop, length-ta
 use Rattle.std.proofs.lemmas.List.Elements.{All-cons, All-nil}
 use Rattle.std.proofs.lemmas.Slice.{between_is}
 use Rattle.std.proofs.lemmas.Slice.Eq.{bytes_eq-Decides}
+use Rattle.cry_base.specs.Layout.{batch_len, header_len}
 use Rattle.batch_log.specs.Steps.{IsGatedAt, written_at}
 use Rattle.chacha_seal.specs.Sealing.{veil_of}
 use Rattle.chacha_seal.proofs.SealingLemmas.{length-veil_of}
@@ -66,14 +67,14 @@ slot_taken at n s whole inside =
     ∙ ap (λ k. take k (drop (at + 13) s)) short
 
 -- and it is what the image has there
-pub unfilled_read : (owner s batch : List ℕ) (past : Past) (head : Head) (o : OwnedTurn) → batch ≡ take (110 + head.size) (drop past.at s) →
-    past.at + (110 + head.size) ≤ length s → IsTurnOf past head o.turn →
+pub unfilled_read : (owner s batch : List ℕ) (past : Past) (head : Head) (o : OwnedTurn) → batch ≡ take (batch_len + head.size) (drop past.at s) →
+    past.at + (batch_len + head.size) ≤ length s → IsTurnOf past head o.turn →
     o.unfilled ≡ unfilled_slot (past.at + 13) (slot_in batch) (veil_of owner head.epoch.0 head.number) → o.unfilled ≡ unfilled_of owner (plain_turn o.turn).placed s
 unfilled_read owner s batch past head o batch_is inside turn is =
     let at = past.at + 13 in
     let place : at ≡ o.turn.placed.place - 32 = omega (arith, turn.place) in
     is
-    ∙ ap (λ slot. unfilled_slot at slot (veil_of owner head.epoch.0 head.number)) (ap (λ b. slice_range b 13 45) batch_is ∙ slot_taken past.at (110 + head.size) s (omega arith) inside)
+    ∙ ap (λ slot. unfilled_slot at slot (veil_of owner head.epoch.0 head.number)) (ap (λ b. slice_range b 13 45) batch_is ∙ slot_taken past.at (batch_len + head.size) s (omega arith) inside)
     ∙ ap (λ n. unfilled_slot n (slice_range s n (n + 32)) (veil_of owner head.epoch.0 head.number)) place
     ∙ ap (λ e. unfilled_slot (o.turn.placed.place - 32) (slice_range s (o.turn.placed.place - 32) (o.turn.placed.place - 32 + 32)) (veil_of owner e head.number)) (sym turn.same_epoch)
     ∙ ap (λ n. unfilled_slot (o.turn.placed.place - 32) (slice_range s (o.turn.placed.place - 32) (o.turn.placed.place - 32 + 32)) (veil_of owner o.turn.placed.epoch.0 n)) (sym turn.batch)
@@ -119,7 +120,7 @@ unfilled_from [] low from x order are = tt
 unfilled_from (slot ∷ slots) low from x order are = let first = are.0 in (omega (arith, order, first), are.1, are.2)
 
 gated_by : (test : Bool) (owner : List ℕ) (from : ℕ) (p : PlainPlaced) (slots : List Unfilled) (x : List ℕ) → let place = p.place - 32 in let veil = veil_of owner p.epoch.0 p.batch in
-    bytes_eq (slice_range x place (place + 32)) veil ≡ test → from + 45 ≤ p.place → IsGatedAt (p.place - 45) 110 x → AreUnfilled (p.place + 65) slots x →
+    bytes_eq (slice_range x place (place + 32)) veil ≡ test → from + 45 ≤ p.place → IsGatedAt (p.place - 45) batch_len x → AreUnfilled (p.place + 65) slots x →
     AreUnfilled from (option_to_list (cond test None (Some (record { place = place; veil = veil }))) ++ slots) x
 gated_by true owner from p slots x is ahead gated rest = unfilled_from slots from (p.place + 65) x (omega (arith, ahead)) rest
 gated_by false owner from p slots x is ahead gated rest =
@@ -129,7 +130,7 @@ gated_by false owner from p slots x is ahead gated rest =
     let next : p.place + 65 ≡ place + 97 = omega (arith, ahead) in (
       omega (arith, ahead),
       (let unfilled : IsUnfilled (record { place = place; veil = veil }) x = record {
-        gated = subst (λ n. IsGatedAt n 110 x) gate gated;
+        gated = subst (λ n. IsGatedAt n batch_len x) gate gated;
         size = length-veil_of owner p.epoch.0 p.batch;
         differs = λ same.
             let wrong : true ≡ false = sym ((bytes_eq-Decides (slice_range x place (place + 32)) veil).1 same) ∙ is in
@@ -180,8 +181,8 @@ filled_alike owner (p ∷ ps) from x y gated same =
     filled_by (bytes_eq (slice_range x place (place + 32)) (veil_of owner p.epoch.0 p.batch)) owner from p ps (unfilled_in owner ps x) x y refl first
     (omega (arith, first, here)) same (λ z from_here. filled_alike owner ps (p.place + 65) x z gated.2 from_here)
 
-pub filled_is_filled : (owner : List ℕ) (ps : List PlainPlaced) (x : List ℕ) → AreGated 42 ps x → all_filled (unfilled_in owner ps x) x ≡ slots_filled owner ps x
-filled_is_filled owner ps x gated = filled_alike owner ps 42 x x gated (refl, refl)
+pub filled_is_filled : (owner : List ℕ) (ps : List PlainPlaced) (x : List ℕ) → AreGated header_len ps x → all_filled (unfilled_in owner ps x) x ≡ slots_filled owner ps x
+filled_is_filled owner ps x gated = filled_alike owner ps header_len x x gated (refl, refl)
 
 -- ---- and what is left where the disk failed
 
@@ -220,5 +221,5 @@ left_alike owner (p ∷ ps) from x y z gated same leaves =
     left_by (bytes_eq (slice_range x place (place + 32)) (veil_of owner p.epoch.0 p.batch)) owner from p ps (unfilled_in owner ps x) x y z refl first
     (omega (arith, first, here)) same (λ w from_here later. left_alike owner ps (p.place + 65) x w z gated.2 from_here later) leaves
 
-pub left_is_left : (owner : List ℕ) (ps : List PlainPlaced) (x z : List ℕ) → AreGated 42 ps x → LeavesUnfilled (unfilled_in owner ps x) x z → LeavesSlots owner ps x z
-left_is_left owner ps x z gated leaves = left_alike owner ps 42 x x z gated (refl, refl) leaves
+pub left_is_left : (owner : List ℕ) (ps : List PlainPlaced) (x z : List ℕ) → AreGated header_len ps x → LeavesUnfilled (unfilled_in owner ps x) x z → LeavesSlots owner ps x z
+left_is_left owner ps x z gated leaves = left_alike owner ps header_len x x z gated (refl, refl) leaves

@@ -3,6 +3,7 @@ use Rattle.std.proofs.Common.{◌≡◌, inl, inr, ℕ, suc, ◌+◌, ◌-◌, �
 use Rattle.std.specs.Prelude.{slice_index, slice_range}
 use Rattle.std.proofs.Math.ListN.{drop_of_length-le}
 use Rattle.std.proofs.lemmas.List.{places}
+use Rattle.cry_base.specs.Layout.{header_len}
 use Rattle.cry_io.specs.Stops.{IsDurable}
 use Rattle.cry_io.specs.Told.{WhereTold}
 use Rattle.batch_log.specs.Moments.{GoesOn, Throughout}
@@ -46,21 +47,21 @@ unfilled_stay (slot ∷ slots) from at veil x size ahead inside are =
     )
 
 -- the next one
-pub unfilled_here : (slots : List Unfilled) (i : ℕ) (d : Unfilled) (x : List ℕ) → i < length slots → AreUnfilled 42 (drop i slots) x → IsUnfilled (get_or slots i d) x
-unfilled_here slots i d x within are = (subst (λ (rest : List Unfilled). AreUnfilled 42 rest x) (drop-cons slots i d within) are).1
+pub unfilled_here : (slots : List Unfilled) (i : ℕ) (d : Unfilled) (x : List ℕ) → i < length slots → AreUnfilled header_len (drop i slots) x → IsUnfilled (get_or slots i d) x
+unfilled_here slots i d x within are = (subst (λ (rest : List Unfilled). AreUnfilled header_len rest x) (drop-cons slots i d within) are).1
 
 -- and those behind it, once it is filled
 pub unfilled_next : (slots : List Unfilled) (i : ℕ) (d : Unfilled) (x y : List ℕ) → let slot = get_or slots i d in i < length slots →
-    y ≡ written_at slot.place slot.veil x → AreUnfilled 42 (drop i slots) x → AreUnfilled 42 (drop (i + 1) slots) y
+    y ≡ written_at slot.place slot.veil x → AreUnfilled header_len (drop i slots) x → AreUnfilled header_len (drop (i + 1) slots) y
 unfilled_next slots i d x y within y_is are =
     let slot = get_or slots i d in
     let next : suc i ≡ i + 1 = omega arith in
-    let all = subst (λ (rest : List Unfilled). AreUnfilled 42 rest x) (drop-cons slots i d within ∙ ap (λ n. slot ∷ drop n slots) next) are in
+    let all = subst (λ (rest : List Unfilled). AreUnfilled header_len rest x) (drop-cons slots i d within ∙ ap (λ n. slot ∷ drop n slots) next) are in
     let first = all.0 in
     let inside = all.1.gated.inside in
     let stay = unfilled_stay (drop (i + 1) slots) (slot.place + 97) slot.place slot.veil x all.1.size (omega arith) (omega (arith, first, inside)) all.2 in
-    subst (λ r. AreUnfilled 42 (drop (i + 1) slots) r) (sym y_is)
-    (unfilled_from (drop (i + 1) slots) 42 (slot.place + 97) (written_at slot.place slot.veil x) (omega (arith, first)) stay)
+    subst (λ r. AreUnfilled header_len (drop (i + 1) slots) r) (sym y_is)
+    (unfilled_from (drop (i + 1) slots) header_len (slot.place + 97) (written_at slot.place slot.veil x) (omega (arith, first)) stay)
 
 -- one slot more
 pub filled_more : (slots : List Unfilled) (i : ℕ) (d : Unfilled) (x y : List ℕ) → let slot = get_or slots i d in i < length slots →
@@ -121,7 +122,7 @@ fills_one slots i d x y first start past since order goes within front before fi
 
 -- the same said of the log whose slots these are
 pub fills_log : (owner : List ℕ) (placed : List PlainPlaced) (slots : List Unfilled) (was : Option (List ℕ)) (since : List ℕ → List ℕ → Type 0) →
-    WhereTold was (λ x. slots ≡ unfilled_in owner placed x) → WhereTold was (AreGated 42 placed) → FillsThroughout slots was since →
+    WhereTold was (λ x. slots ≡ unfilled_in owner placed x) → WhereTold was (AreGated header_len placed) → FillsThroughout slots was since →
     LeavesThroughout owner placed was since
 fills_log owner placed slots was since are gated fills x x_is s c at =
     let both = fills x x_is s c at in (

@@ -6,6 +6,8 @@ use Rattle.std.proofs.Math.Seq.{drop-append_seam}
 use Rattle.std.proofs.lemmas.Bool.Decides.{nat_tests}
 use Rattle.std.proofs.lemmas.List.{append-nil}
 use Rattle.std.proofs.lemmas.Slice.Eq.{bytes_eq-Decides}
+use Rattle.cry_base.specs.Layout.{batch_len, header_len}
+use Rattle.cry_base.specs.Limits.{most_store_bytes}
 use Rattle.hmac_seal.specs.Hmac.{hmac}
 use Rattle.hmac_seal.proofs.HmacLemmas.{length-hmac}
 use Rattle.chacha_seal.specs.Sealing.{check_of, masked, owner_tag_key}
@@ -36,7 +38,7 @@ pub record Parts (head slot payload check tag : List ℕ) (gate size : ℕ) (who
   pub check_is : check_in size whole ≡ check
   pub tag_is : tag_in size whole ≡ tag
   pub gate_is : gate_in size whole ≡ gate
-  pub long : length whole ≡ 110 + size
+  pub long : length whole ≡ batch_len + size
 
 parts_of : (head slot payload check tag : List ℕ) (gate : ℕ) → length head ≡ 13 → length slot ≡ 32 → length check ≡ 32 → length tag ≡ 32 →
     Parts head slot payload check tag gate (length payload) (joined head slot payload check tag gate)
@@ -103,7 +105,7 @@ next_head past body = record {
 -- what is known behind the next batch
 abbrev pub next_past : List ℕ → Past → PlainBody → ℕ → Past
 next_past owner past body gate = record {
-  at = past.at + (110 + length (next_batch past body).payload);
+  at = past.at + (batch_len + length (next_batch past body).payload);
   number = (next_batch past body).number;
   epoch = record { 0 = (next_batch past body).epoch };
   tag = owner_tag owner past.tag (next_batch past body);
@@ -121,19 +123,19 @@ abbrev pub MayFollow : ℕ → PlainBody → Type 0
 MayFollow epoch (Commands payload) = (1 ≤ epoch) × IsSpellable payload
 MayFollow epoch NewEpoch = Unit {0}
 
-next_fits : (past : Past) (body : PlainBody) (left : ℕ) → MayFollow past.epoch.0 body → 110 + length (next_batch past body).payload ≤ left →
-    past.at + (110 + length (next_batch past body).payload) ≤ 268435456 → is_batch past (next_head past body) left ≡ true
+next_fits : (past : Past) (body : PlainBody) (left : ℕ) → MayFollow past.epoch.0 body → batch_len + length (next_batch past body).payload ≤ left →
+    past.at + (batch_len + length (next_batch past body).payload) ≤ most_store_bytes → is_batch past (next_head past body) left ≡ true
 unfolding is_batch
 next_fits past (Commands payload) left may inside small =
-    let one : nat_le (110 + length (spell_payload payload)) left ≡ true = grind (arith, nat_tests) in
-    let two : nat_le (past.at + (110 + length (spell_payload payload))) 268435456 ≡ true = grind (arith, nat_tests) in
+    let one : nat_le (batch_len + length (spell_payload payload)) left ≡ true = grind (arith, nat_tests) in
+    let two : nat_le (past.at + (batch_len + length (spell_payload payload))) most_store_bytes ≡ true = grind (arith, nat_tests) in
     let three : eqb (past.number + 1) (past.number + 1) ≡ true = eq-eqb _ _ refl in
     let four : nat_le 1 past.epoch.0 ≡ true = let begun = may.0 in grind (arith, nat_tests) in
     let five : eqb past.epoch.0 past.epoch.0 ≡ true = eq-eqb _ _ refl in
     rw (one, two, three, four, five) refl
 next_fits past NewEpoch left may inside small =
-    let one : nat_le 110 left ≡ true = grind (arith, nat_tests) in
-    let two : nat_le (past.at + 110) 268435456 ≡ true = grind (arith, nat_tests) in
+    let one : nat_le batch_len left ≡ true = grind (arith, nat_tests) in
+    let two : nat_le (past.at + batch_len) most_store_bytes ≡ true = grind (arith, nat_tests) in
     let three : eqb (past.number + 1) (past.number + 1) ≡ true = eq-eqb _ _ refl in
     let five : eqb (past.epoch.0 + 1) (past.epoch.0 + 1) ≡ true = eq-eqb _ _ refl in
     rw (one, two, three, five) refl
@@ -193,7 +195,7 @@ next_epoch past (Commands payload) fits = omega arith
 next_epoch past NewEpoch fits = fits
 
 pub turn_spelled : (owner : List ℕ) (past : Past) (body : PlainBody) (gate : ℕ) (more : List ℕ) → MayFollow past.epoch.0 body →
-    past.number + 1 < 2 ^ 32 → past.epoch.0 + 1 < 2 ^ 32 → past.at + (110 + length (next_batch past body).payload) ≤ 268435456 →
+    past.number + 1 < 2 ^ 32 → past.epoch.0 + 1 < 2 ^ 32 → past.at + (batch_len + length (next_batch past body).payload) ≤ most_store_bytes →
     turn_at owner past (spell_batch owner past.tag (batch_veil owner (next_batch past body)) (next_batch past body) ++ gate ∷ more)
     ≡ Ok (Some (next_turn owner past body gate))
 turn_spelled owner past body gate more may number_fits epoch_fits small =
@@ -204,7 +206,7 @@ turn_spelled owner past body gate more may number_fits epoch_fits small =
     let rest = spell_batch owner past.tag (batch_veil owner b) b ++ gate ∷ more in
     let parts = batch_parts owner past.tag b gate in
     let is : rest ≡ whole ++ more = with_gate owner past.tag b gate more in
-    let long : length rest ≡ 110 + size + length more = omega (arith, ap length is, length-append whole more, parts.long) in
+    let long : length rest ≡ batch_len + size + length more = omega (arith, ap length is, length-append whole more, parts.long) in
     let first : take 13 rest ≡ batch_head b =
     front (batch_head b) _ rest 13 (is ∙ append_assoc (batch_head b) _ more) (length-head_bytes b.type_of b.number b.epoch size)
     in
@@ -213,7 +215,7 @@ turn_spelled owner past body gate more may number_fits epoch_fits small =
     let spelled : head ≡ head_of (batch_head b) = sym (head_is b.type_of b.number b.epoch size number epoch (omega arith)) in
     let fits : is_batch past head (length rest) ≡ true = next_fits past body (length rest) may (omega arith) small in
     let stands : head_at past rest ≡ Ok head = head_tested past rest (batch_head b) head (length rest) true (sym first) spelled refl (sym fits) in
-    let all : whole ≡ take (110 + size) rest = sym (front whole more rest (110 + size) is parts.long) in
+    let all : whole ≡ take (batch_len + size) rest = sym (front whole more rest (batch_len + size) is parts.long) in
     turn_is owner past rest head whole stands all ∙ judged_as_spelled owner past body gate may
 
 -- ---- the walk over spelled batches
@@ -257,7 +259,7 @@ rest_of owner past bodies = spell_batches owner past.tag (batches_from past.numb
 
 pub walk_spelled : (owner : List ℕ) (bodies : List PlainBody) (past : Past) (rest : List ℕ) (gate : ℕ) (behind : List ℕ) →
     AreBodies past.epoch.0 bodies → past.number ≤ past.at → past.epoch.0 ≤ past.number →
-    past.at + length (rest_of owner past bodies) ≤ 268435456 → gate ≢ 1 →
+    past.at + length (rest_of owner past bodies) ≤ most_store_bytes → gate ≢ 1 →
     past.gate ∷ rest ≡ rest_of owner past bodies ++ gate ∷ behind →
     log_at owner past 0 rest ≡ Ok (placed_from past.at past.number past.epoch.0 bodies)
 unfolding spell_batches before
@@ -277,10 +279,10 @@ walk_spelled owner (body ∷ bodies) past rest gate behind are number_small epoc
     let open_gate : eqb past.gate 1 ≡ true = eq-eqb past.gate 1 heads.0 in
     let rest_is : rest ≡ bytes ++ g ∷ more = heads.1 ∙ append_assoc bytes others (gate ∷ behind) ∙ ap (λ r. bytes ++ r) next.2 in
     let long = length-spell_batch owner past.tag b in
-    let small : past.at + (110 + length b.payload) ≤ 268435456 = omega (arith, fits, long, length-append bytes others) in
+    let small : past.at + (batch_len + length b.payload) ≤ most_store_bytes = omega (arith, fits, long, length-append bytes others) in
     let turn = turn_spelled owner past body g more (first_may past.epoch.0 past.number body bodies are) (omega arith) (omega arith) small in
     let now = next_past owner past body g in
-    let far : now.at - past.at ≡ 110 + length b.payload = omega arith in
+    let far : now.at - past.at ≡ batch_len + length b.payload = omega arith in
     let whole = length-append bytes (g ∷ []) in
     let there : drop (now.at - past.at) rest ≡ more =
     ap (λ n. drop n rest) (far ∙ omega (arith, long, whole))
@@ -298,7 +300,7 @@ walk_spelled owner (body ∷ bodies) past rest gate behind are number_small epoc
 -- ---- the whole image
 
 abbrev pub first_past : List ℕ → ℕ → Past
-first_past owner gate = record { at = 42; number = 0; epoch = record { 0 = 0 }; tag = check_of owner; gate = gate }
+first_past owner gate = record { at = header_len; number = 0; epoch = record { 0 = 0 }; tag = check_of owner; gate = gate }
 
 abbrev pub magic : List ℕ
 magic = codes "CRYPTREE" ++ 1 ∷ []
@@ -326,8 +328,8 @@ unfolding spell_header
 length-header owner = omega (arith, length-check_of owner)
 
 pub image_read : (owner : List ℕ) (bodies : List PlainBody) (gate : ℕ) (behind : List ℕ) → AreBodies 0 bodies →
-    length (image owner (batches_from 0 0 bodies)) + 1 ≤ 268435456 → gate ≢ 1 →
-    log_verdict owner (image owner (batches_from 0 0 bodies) ++ gate ∷ behind) ≡ Ok (placed_from 42 0 0 bodies)
+    length (image owner (batches_from 0 0 bodies)) + 1 ≤ most_store_bytes → gate ≢ 1 →
+    log_verdict owner (image owner (batches_from 0 0 bodies) ++ gate ∷ behind) ≡ Ok (placed_from header_len 0 0 bodies)
 unfolding image log_verdict and_then
 image_read owner bodies gate behind are fits shut =
     let header = spell_header owner in
@@ -339,14 +341,14 @@ image_read owner bodies gate behind are fits shut =
     let is : s ≡ (header ++ g ∷ []) ++ more =
     append_assoc header batches (gate ∷ behind) ∙ ap (λ r. header ++ r) next.2 ∙ sym (append_assoc header (g ∷ []) more)
     in
-    let long : length (header ++ g ∷ []) ≡ 42 = omega (arith, length-append header (g ∷ []), length-header owner) in
-    let first : take 42 s ≡ header ++ g ∷ [] = front (header ++ g ∷ []) more s 42 is long in
-    let rest : drop 42 s ≡ more =
+    let long : length (header ++ g ∷ []) ≡ header_len = omega (arith, length-append header (g ∷ []), length-header owner) in
+    let first : take header_len s ≡ header ++ g ∷ [] = front (header ++ g ∷ []) more s header_len is long in
+    let rest : drop header_len s ≡ more =
     ap (λ n. drop n s) (sym long) ∙ ap (λ r. drop (length (header ++ g ∷ [])) r) is ∙ drop-append_seam (header ++ g ∷ []) more
     in
-    let enough : 42 ≤ length s = omega (arith, ap length is, length-append (header ++ g ∷ []) more, long) in
+    let enough : header_len ≤ length s = omega (arith, ap length is, length-append (header ++ g ∷ []) more, long) in
     let start : start_at owner s ≡ Ok (first_past owner g) = start_long owner s enough ∙ ap (start_of owner) first ∙ start_spelled owner g in
-    ap (λ p. and_then p (λ past. log_at owner past 0 (drop 42 s))) start
+    ap (λ p. and_then p (λ past. log_at owner past 0 (drop header_len s))) start
     ∙ ap (λ r. log_at owner (first_past owner g) 0 r) rest
     ∙ walk_spelled owner bodies (first_past owner g) more gate behind are (omega arith) (omega arith)
     (omega (arith, fits, length-append header batches, length-header owner)) shut (sym next.2)

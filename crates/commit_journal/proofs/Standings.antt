@@ -7,6 +7,7 @@ use Rattle.std.proofs.lemmas.List.{append-nil}
 use Rattle.std.proofs.lemmas.List.Elements.{All-head, All-tail}
 use Rattle.std.proofs.lemmas.List.Sums.{sum_by-cons}
 use Rattle.std.proofs.lemmas.Slice.Eq.{bytes_eq-Decides}
+use Rattle.cry_base.specs.Layout.{batch_len}
 use Rattle.hmac_seal.proofs.HmacLemmas.{length-hmac}
 use Rattle.chacha_seal.specs.Sealing.{masked, check_of}
 use Rattle.chacha_seal.proofs.SealingLemmas.{masked-masked, length-masked, length-veil_of, length-check_of}
@@ -44,15 +45,15 @@ pub length-spell_header : (owner : List ℕ) → length (spell_header owner) ≡
 unfolding spell_header
 length-spell_header owner = omega (arith, length-check_of owner)
 
-pub length-spell_batches : (owner previous : List ℕ) (bs : List Batch) → length (spell_batches owner previous bs) ≡ sum_by (λ b. 110 + length b.payload) bs
+pub length-spell_batches : (owner previous : List ℕ) (bs : List Batch) → length (spell_batches owner previous bs) ≡ sum_by (λ b. batch_len + length b.payload) bs
 unfolding spell_batches
 length-spell_batches owner previous [] = refl
 length-spell_batches owner previous (b ∷ bs) =
     let first = length-batch owner previous (batch_veil owner b) b (length-veil_of owner b.epoch b.number) in
     let others = length-spell_batches owner (owner_tag owner previous b) bs in
-    omega (arith, first, others, length-append (spell_batch owner previous (batch_veil owner b) b) (spell_batches owner (owner_tag owner previous b) bs), sum_by-cons (λ (b : Batch). 110 + length b.payload) b bs)
+    omega (arith, first, others, length-append (spell_batch owner previous (batch_veil owner b) b) (spell_batches owner (owner_tag owner previous b) bs), sum_by-cons (λ (b : Batch). batch_len + length b.payload) b bs)
 
-pub length-image : (owner : List ℕ) (bs : List Batch) → length (image owner bs) ≡ 41 + sum_by (λ b. 110 + length b.payload) bs
+pub length-image : (owner : List ℕ) (bs : List Batch) → length (image owner bs) ≡ 41 + sum_by (λ b. batch_len + length b.payload) bs
 unfolding image
 length-image owner bs =
     omega (arith, length-append (spell_header owner) (spell_batches owner (check_of owner) bs), length-spell_header owner, length-spell_batches owner (check_of owner) bs)

@@ -3,6 +3,7 @@ use Rattle.std.proofs.Common.{◌≡◌, ℕ, suc, ◌+◌, ◌-◌, ◌<◌, �
 use Rattle.std.specs.Prelude.{nat_le}
 use Rattle.std.proofs.lemmas.Bool.Decides.{nat_tests}
 use Rattle.std.proofs.lemmas.List.{drop-drop}
+use Rattle.cry_base.specs.Layout.{batch_len, header_len}
 use Rattle.commit_journal.specs.declared.fault.OpenFault.{OpenFault}
 use Rattle.commit_journal.specs.declared.head.Head.{Head}
 use Rattle.commit_journal.specs.declared.past.Past.{Past}
@@ -18,19 +19,19 @@ use Rattle.commit_journal.proofs.Walks.{Judges, owner_walks, turn_none, walk-ski
 
 -- ---- the header
 
-pub header_short : (who : Option (List ℕ)) (s : List ℕ) → length s < 42 → header_at who s ≡ Err NotAStore
+pub header_short : (who : Option (List ℕ)) (s : List ℕ) → length s < header_len → header_at who s ≡ Err NotAStore
 unfolding header_at
-header_short who s short = let test : nat_le 42 (length s) ≡ false = grind (arith, nat_tests) in rw test refl
+header_short who s short = let test : nat_le header_len (length s) ≡ false = grind (arith, nat_tests) in rw test refl
 
-pub header_long : (who : Option (List ℕ)) (s : List ℕ) → 42 ≤ length s → header_at who s ≡ header_of who (take 42 s)
+pub header_long : (who : Option (List ℕ)) (s : List ℕ) → header_len ≤ length s → header_at who s ≡ header_of who (take header_len s)
 unfolding header_at
-header_long who s long = let test : nat_le 42 (length s) ≡ true = grind (arith, nat_tests) in rw test refl
+header_long who s long = let test : nat_le header_len (length s) ≡ true = grind (arith, nat_tests) in rw test refl
 
 -- ---- one turn
 
 -- a batch that was read behind its head
 pub turn_is_by : (judge : Judges) (past : Past) (rest : List ℕ) (head : Head) (batch : List ℕ) → head_at past rest ≡ Ok head →
-    batch ≡ take (110 + head.size) rest → turn_by judge past rest ≡ judge past head batch
+    batch ≡ take (batch_len + head.size) rest → turn_by judge past rest ≡ judge past head batch
 unfolding turn_by and_then
 turn_is_by judge past rest head batch head_is batch_is = rw (head_is, batch_is) refl
 
@@ -63,11 +64,11 @@ steps_fail fault judge past (byte ∷ rest) gate is =
 abbrev pub IsReadSoFar : Option (List ℕ) → List ℕ → List PlainPlaced → Past → Type 0
 IsReadSoFar who s front past = read_log who s ≡ before front (walk_at (turn_by (read_turn who)) past 0 (drop past.at s))
 
-pub read_starts : (who : Option (List ℕ)) (s : List ℕ) (past : Past) → header_at who s ≡ Ok past → past.at ≡ 42 → IsReadSoFar who s [] past
+pub read_starts : (who : Option (List ℕ)) (s : List ℕ) (past : Past) → header_at who s ≡ Ok past → past.at ≡ header_len → IsReadSoFar who s [] past
 unfolding read_log and_then
 read_starts who s past is at =
-    ap (λ r. and_then r (λ p. walk_at (turn_by (read_turn who)) p 0 (drop 42 s))) is
-    ∙ sym (before-nil (walk_at (turn_by (read_turn who)) past 0 (drop 42 s)))
+    ap (λ r. and_then r (λ p. walk_at (turn_by (read_turn who)) p 0 (drop header_len s))) is
+    ∙ sym (before-nil (walk_at (turn_by (read_turn who)) past 0 (drop header_len s)))
     ∙ ap (λ n. before [] (walk_at (turn_by (read_turn who)) past 0 (drop n s))) (sym at)
 
 pub read_more : (who : Option (List ℕ)) (s : List ℕ) (front : List PlainPlaced) (past : Past) (turn : PlainTurn) → eqb past.gate 1 ≡ true →

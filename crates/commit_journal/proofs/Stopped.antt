@@ -7,6 +7,8 @@ use Rattle.std.proofs.Math.Seq.{drop-append_seam}
 use Rattle.std.proofs.lemmas.Bool.Decides.{nat_tests}
 use Rattle.std.proofs.lemmas.List.Sums.{sum_by-cons}
 use Rattle.std.proofs.lemmas.Slice.Eq.{bytes_eq-Decides}
+use Rattle.cry_base.specs.Layout.{batch_len, header_len}
+use Rattle.cry_base.specs.Limits.{most_store_bytes}
 use Rattle.hmac_seal.specs.Hmac.{hmac}
 use Rattle.hmac_seal.proofs.HmacLemmas.{length-hmac}
 use Rattle.chacha_seal.specs.Sealing.{check_of, owner_tag_key}
@@ -72,19 +74,19 @@ with_gate owner previous slot b gate more = simp append_assoc
 
 -- ---- an unpublished batch ends the log
 
-pub next_fits : (past : Past) (body : PlainBody) (left : ℕ) → MayFollow past.epoch.0 body → 110 + length (next_batch past body).payload ≤ left →
-    past.at + (110 + length (next_batch past body).payload) ≤ 268435456 → is_batch past (next_head past body) left ≡ true
+pub next_fits : (past : Past) (body : PlainBody) (left : ℕ) → MayFollow past.epoch.0 body → batch_len + length (next_batch past body).payload ≤ left →
+    past.at + (batch_len + length (next_batch past body).payload) ≤ most_store_bytes → is_batch past (next_head past body) left ≡ true
 unfolding is_batch
 next_fits past (Commands payload) left may inside small =
-    let one : nat_le (110 + length (spell_payload payload)) left ≡ true = grind (arith, nat_tests) in
-    let two : nat_le (past.at + (110 + length (spell_payload payload))) 268435456 ≡ true = grind (arith, nat_tests) in
+    let one : nat_le (batch_len + length (spell_payload payload)) left ≡ true = grind (arith, nat_tests) in
+    let two : nat_le (past.at + (batch_len + length (spell_payload payload))) most_store_bytes ≡ true = grind (arith, nat_tests) in
     let three : eqb (past.number + 1) (past.number + 1) ≡ true = eq-eqb _ _ refl in
     let four : nat_le 1 past.epoch.0 ≡ true = let begun = may.0 in grind (arith, nat_tests) in
     let five : eqb past.epoch.0 past.epoch.0 ≡ true = eq-eqb _ _ refl in
     rw (one, two, three, four, five) refl
 next_fits past NewEpoch left may inside small =
-    let one : nat_le 110 left ≡ true = grind (arith, nat_tests) in
-    let two : nat_le (past.at + 110) 268435456 ≡ true = grind (arith, nat_tests) in
+    let one : nat_le batch_len left ≡ true = grind (arith, nat_tests) in
+    let two : nat_le (past.at + batch_len) most_store_bytes ≡ true = grind (arith, nat_tests) in
     let three : eqb (past.number + 1) (past.number + 1) ≡ true = eq-eqb _ _ refl in
     let five : eqb (past.epoch.0 + 1) (past.epoch.0 + 1) ≡ true = eq-eqb _ _ refl in
     rw (one, two, three, five) refl
@@ -127,7 +129,7 @@ judged_unpublished owner past body slot gate slot_size differ shut =
     rw (tagged, unpublished, closed) refl
 
 abbrev pub Small : Past → PlainBody → Type 0
-Small past body = (past.number + 1 < 2 ^ 32) × (past.epoch.0 + 1 < 2 ^ 32) × (past.at + (110 + length (next_batch past body).payload) ≤ 268435456)
+Small past body = (past.number + 1 < 2 ^ 32) × (past.epoch.0 + 1 < 2 ^ 32) × (past.at + (batch_len + length (next_batch past body).payload) ≤ most_store_bytes)
 
 pub next_number : (past : Past) (body : PlainBody) → Small past body → (next_batch past body).number < 2 ^ 32
 next_number past (Commands payload) small = small.0
@@ -148,7 +150,7 @@ turn_unpublished owner past body slot gate more slot_size may small differ shut 
     let rest = spell_batch owner past.tag slot b ++ gate ∷ more in
     let parts = slotted_parts owner past.tag slot b gate slot_size in
     let is : rest ≡ whole ++ more = with_gate owner past.tag slot b gate more in
-    let long : length rest ≡ 110 + size + length more = omega (arith, ap length is, length-append whole more, parts.long) in
+    let long : length rest ≡ batch_len + size + length more = omega (arith, ap length is, length-append whole more, parts.long) in
     let first : take 13 rest ≡ batch_head b =
     front (batch_head b) _ rest 13 (is ∙ append_assoc (batch_head b) _ more) (length-head_bytes b.type_of b.number b.epoch size)
     in
@@ -157,7 +159,7 @@ turn_unpublished owner past body slot gate more slot_size may small differ shut 
     in
     let fits : is_batch past head (length rest) ≡ true = next_fits past body (length rest) may (omega arith) small.2 in
     let stands : head_at past rest ≡ Ok head = head_tested past rest (batch_head b) head (length rest) true (sym first) spelled refl (sym fits) in
-    let all : whole ≡ take (110 + size) rest = sym (front whole more rest (110 + size) is parts.long) in
+    let all : whole ≡ take (batch_len + size) rest = sym (front whole more rest (batch_len + size) is parts.long) in
     turn_is owner past rest head whole stands all ∙ judged_unpublished owner past body slot gate slot_size differ shut
 
 -- ---- the walk
@@ -258,7 +260,7 @@ slotted_rest owner slot past bodies = spell_slotted owner past.tag slot (batches
 
 walk_slotted : (owner slot : List ℕ) (bodies : List PlainBody) (past : Past) (rest : List ℕ) (gate : ℕ) (behind : List ℕ) → length slot ≡ 32 →
     AreBodies past.epoch.0 bodies → past.number ≤ past.at → past.epoch.0 ≤ past.number →
-    past.at + sum_by (λ (b : Batch). 110 + length b.payload) (batches_from past.number past.epoch.0 bodies) ≤ 268435456 → gate ≢ 1 →
+    past.at + sum_by (λ (b : Batch). batch_len + length b.payload) (batches_from past.number past.epoch.0 bodies) ≤ most_store_bytes → gate ≢ 1 →
     IsHonest owner slot (batches_from past.number past.epoch.0 bodies) →
     past.gate ∷ rest ≡ slotted_rest owner slot past bodies ++ gate ∷ behind →
     log_at owner past 0 rest ≡ Ok (placed_from past.at past.number past.epoch.0 (published_of owner slot (batches_from past.number past.epoch.0 bodies) bodies))
@@ -268,7 +270,7 @@ walk_slotted owner slot [] past rest gate behind slot_size are number_small epoc
     walk_closed owner past rest (ap (λ g. eqb g 1) heads.0 ∙ closed_gate gate shut)
     ∙ ap (λ bodies. Ok (placed_from past.at past.number past.epoch.0 bodies)) (sym (published_none owner slot))
 walk_slotted owner slot (body ∷ []) past rest gate behind slot_size are number_small epoch_small fits shut honest is =
-    let sum = sum_by-cons (λ (b : Batch). 110 + length b.payload) (next_batch past body) [] in
+    let sum = sum_by-cons (λ (b : Batch). batch_len + length b.payload) (next_batch past body) [] in
     walk_last owner past body slot rest gate behind slot_size (first_may past.epoch.0 body [] are) (omega arith, omega arith, omega arith) shut honest is
 walk_slotted owner slot (body ∷ other ∷ bodies) past rest gate behind slot_size are number_small epoch_small fits shut honest is =
     let b = next_batch past body in
@@ -280,7 +282,7 @@ walk_slotted owner slot (body ∷ other ∷ bodies) past rest gate behind slot_s
     let starts = begins_slotted owner tag slot next bs in
     let more = starts.0 ++ gate ∷ behind in
     let now = next_past owner past body 1 in
-    let sum = sum_by-cons (λ (b : Batch). 110 + length b.payload) b (next ∷ bs) in
+    let sum = sum_by-cons (λ (b : Batch). batch_len + length b.payload) b (next ∷ bs) in
     let n = number_rises past.number past.epoch.0 body in
     let e = epoch_bound past.number past.epoch.0 body in
     let whole : past.gate ∷ rest ≡ 1 ∷ (bytes ++ 1 ∷ more) =
@@ -321,8 +323,8 @@ begins owner previous slot (b ∷ bs) gate behind =
     let starts = begins_slotted owner previous slot b bs in (1, starts.0 ++ gate ∷ behind, ap (λ r. r ++ gate ∷ behind) starts.1)
 
 pub verdict_standing : (owner : List ℕ) (bodies : List PlainBody) (bytes : List ℕ) (stands : StandsFor owner (batches_from 0 0 bodies) bytes) → AreBodies 0 bodies →
-    42 + sum_by (λ (b : Batch). 110 + length b.payload) (batches_from 0 0 bodies) ≤ 268435456 → IsHonest owner stands.slot (batches_from 0 0 bodies) →
-    log_verdict owner bytes ≡ Ok (placed_from 42 0 0 (published_of owner stands.slot (batches_from 0 0 bodies) bodies))
+    header_len + sum_by (λ (b : Batch). batch_len + length b.payload) (batches_from 0 0 bodies) ≤ most_store_bytes → IsHonest owner stands.slot (batches_from 0 0 bodies) →
+    log_verdict owner bytes ≡ Ok (placed_from header_len 0 0 (published_of owner stands.slot (batches_from 0 0 bodies) bodies))
 unfolding slotted_image log_verdict and_then
 verdict_standing owner bodies bytes stands are fits honest =
     let header = spell_header owner in
@@ -334,13 +336,13 @@ verdict_standing owner bodies bytes stands are fits honest =
     let is : bytes ≡ (header ++ g ∷ []) ++ more =
     stands.bytes_are ∙ append_assoc header slotted end ∙ ap (λ r. header ++ r) next.2 ∙ sym (append_assoc header (g ∷ []) more)
     in
-    let long : length (header ++ g ∷ []) ≡ 42 = omega (arith, length-append header (g ∷ []), length-spell_header owner) in
-    let first : take 42 bytes ≡ header ++ g ∷ [] = front (header ++ g ∷ []) more bytes 42 is long in
-    let rest : drop 42 bytes ≡ more =
+    let long : length (header ++ g ∷ []) ≡ header_len = omega (arith, length-append header (g ∷ []), length-spell_header owner) in
+    let first : take header_len bytes ≡ header ++ g ∷ [] = front (header ++ g ∷ []) more bytes header_len is long in
+    let rest : drop header_len bytes ≡ more =
     ap (λ n. drop n bytes) (sym long) ∙ ap (λ r. drop (length (header ++ g ∷ [])) r) is ∙ drop-append_seam (header ++ g ∷ []) more
     in
-    let enough : 42 ≤ length bytes = omega (arith, ap length is, length-append (header ++ g ∷ []) more, long) in
+    let enough : header_len ≤ length bytes = omega (arith, ap length is, length-append (header ++ g ∷ []) more, long) in
     let start : start_at owner bytes ≡ Ok (first_past owner g) = start_long owner bytes enough ∙ ap (start_of owner) first ∙ start_spelled owner g in
-    ap (λ p. and_then p (λ past. log_at owner past 0 (drop 42 bytes))) start
+    ap (λ p. and_then p (λ past. log_at owner past 0 (drop header_len bytes))) start
     ∙ ap (λ r. log_at owner (first_past owner g) 0 r) rest
     ∙ walk_slotted owner stands.slot bodies (first_past owner g) more stands.gate stands.behind stands.slot_size are (omega arith) (omega arith) fits stands.closed honest (sym next.2)

@@ -4,6 +4,8 @@ use Rattle.std.specs.Prelude.{nat_le, MatchResult, ◌⊎◌}
 use Rattle.std.proofs.Math.Seq.{get_or-append_seam}
 use Rattle.std.proofs.lemmas.Bool.Decides.{nat_tests}
 use Rattle.std.proofs.lemmas.List.{drop-drop, get_or_append_left}
+use Rattle.cry_base.specs.Layout.{batch_len, header_len}
+use Rattle.cry_base.specs.Limits.{most_store_bytes}
 use Rattle.commit_journal.specs.declared.fault.OpenFault.{OpenFault}
 use Rattle.commit_journal.specs.declared.fault.OpenFault.TheVariants as faults
 use Rattle.commit_journal.specs.declared.head.Head.{Head}
@@ -26,7 +28,7 @@ use Rattle.commit_journal.proofs.Walks.{Judges, walk_shut}
 -- ---- one turn of the code
 
 pub next_of : (past : Past) (head : Head) (size : ℕ) (turn : Turn) → head.number ≡ past.number + 1 → head.epoch.0 ≤ past.epoch.0 + 1 →
-    past.at + (110 + head.size) ≤ size → past.at + (110 + head.size) ≤ 268435456 → IsTurnOf past head turn → IsNextTurn past size turn
+    past.at + (batch_len + head.size) ≤ size → past.at + (batch_len + head.size) ≤ most_store_bytes → IsTurnOf past head turn → IsNextTurn past size turn
 next_of past head size turn number epoch inside within is = record {
   batch = is.batch ∙ number;
   place = is.place;
@@ -38,7 +40,7 @@ next_of past head size turn number epoch inside within is = record {
 }
 
 pub goes_on_to : (past : Past) (head : Head) (size : ℕ) (next : Option Turn) → head.number ≡ past.number + 1 → head.epoch.0 ≤ past.epoch.0 + 1 →
-    past.at + (110 + head.size) ≤ size → past.at + (110 + head.size) ≤ 268435456 → IsNextOf past head next → GoesOnTo past size next
+    past.at + (batch_len + head.size) ≤ size → past.at + (batch_len + head.size) ≤ most_store_bytes → IsNextOf past head next → GoesOnTo past size next
 goes_on_to past head size None number epoch inside within is = tt
 goes_on_to past head size (Some turn) number epoch inside within is = next_of past head size turn number epoch inside within is
 
@@ -145,13 +147,13 @@ again_shown : (who : Option (List ℕ)) (past : Past) (s : List ℕ) (turn : Pla
 unfolding turn_by again_at and_then
 again_shown who past s turn is =
     let rest = drop past.at s in
-    let step = and_then_ok (head_at past rest) (λ h. read_turn who past h (take (110 + h.size) rest)) (Some turn) is in
-    ap (λ r. and_then (and_then r (λ h. again_turn who past h (take (110 + h.size) rest))) (λ t. Ok t.placed)) step.1
-    ∙ ap (λ r. and_then r (λ t. Ok t.placed)) (again_of who past step.0 (take (110 + step.0.size) rest) turn step.2)
+    let step = and_then_ok (head_at past rest) (λ h. read_turn who past h (take (batch_len + h.size) rest)) (Some turn) is in
+    ap (λ r. and_then (and_then r (λ h. again_turn who past h (take (batch_len + h.size) rest))) (λ t. Ok t.placed)) step.1
+    ∙ ap (λ r. and_then r (λ t. Ok t.placed)) (again_of who past step.0 (take (batch_len + step.0.size) rest) turn step.2)
 
 -- a batch that was read behind its head
 pub again_is : (who : Option (List ℕ)) (past : Past) (s : List ℕ) (head : Head) (batch : List ℕ) → head_at past (drop past.at s) ≡ Ok head →
-    batch ≡ take (110 + head.size) (drop past.at s) → again_at who past s ≡ again_turn who past head batch
+    batch ≡ take (batch_len + head.size) (drop past.at s) → again_at who past s ≡ again_turn who past head batch
 unfolding again_at and_then
 again_is who past s head batch head_is batch_is = rw (head_is, batch_is) refl
 
@@ -187,20 +189,20 @@ shows_more log new s turn owner given starts count is shows = λ batch p from to
 
 -- ---- what the log keeps of them
 
-starts_more : (n : ℕ) (starts : List Past) (past next : Past) → next.number ≡ past.number + 1 → 42 ≤ next.at → next.at ≤ 268435456 → AreStarts n (starts ++ past ∷ []) →
+starts_more : (n : ℕ) (starts : List Past) (past next : Past) → next.number ≡ past.number + 1 → header_len ≤ next.at → next.at ≤ most_store_bytes → AreStarts n (starts ++ past ∷ []) →
     AreStarts n ((starts ++ past ∷ []) ++ next ∷ [])
 starts_more n [] past next number low high are = (are.0, are.1, are.2, (number ∙ ap (λ k. k + 1) are.0, low, high, tt))
 starts_more n (first ∷ starts) past next number low high are = (are.0, are.1, are.2, starts_more (n + 1) starts past next number low high are.3)
 
 pub starts_at : (n i : ℕ) (starts more : List Past) → AreStarts n (starts ++ more) → i < length starts →
-    let past = get_or starts i nothing in (42 ≤ past.at) × (past.at ≤ 268435456) × (past.number ≡ n + i)
+    let past = get_or starts i nothing in (header_len ≤ past.at) × (past.at ≤ most_store_bytes) × (past.number ≡ n + i)
 starts_at n i [] more are within = absurd (omega (arith, within))
 starts_at n zero (first ∷ starts) more are within = (are.1, are.2, omega (arith, are.0))
 starts_at n (suc i) (first ∷ starts) more are within =
     let rest = starts_at (n + 1) i starts more are.3 (omega (arith, within)) in
     (rest.0, rest.1, omega (arith, rest.2))
 
-pub last_start : (n : ℕ) (starts : List Past) (past : Past) → AreStarts n (starts ++ past ∷ []) → (42 ≤ past.at) × (past.at ≤ 268435456) × (past.number ≡ n + length starts)
+pub last_start : (n : ℕ) (starts : List Past) (past : Past) → AreStarts n (starts ++ past ∷ []) → (header_len ≤ past.at) × (past.at ≤ most_store_bytes) × (past.number ≡ n + length starts)
 last_start n [] past are = (are.1, are.2, omega (arith, are.0))
 last_start n (first ∷ starts) past are =
     let rest = last_start (n + 1) starts past are.3 in
@@ -211,7 +213,7 @@ epochs_more : (before_it : ℕ) (given : List PlainPlaced) (p : PlainPlaced) →
 epochs_more before_it [] p are is = (is, tt)
 epochs_more before_it (q ∷ given) p are is = (are.0, epochs_more q.epoch.0 given p are.1 is)
 
-pub reading_starts : (past : Past) → past.at ≡ 42 → past.number ≡ 0 → past.epoch.0 ≡ 0 → IsReading [] [] past
+pub reading_starts : (past : Past) → past.at ≡ header_len → past.number ≡ 0 → past.epoch.0 ≡ 0 → IsReading [] [] past
 reading_starts past at number epoch = record {
   count = refl;
   places = (number, omega (arith, at), omega (arith, at), tt);
@@ -220,7 +222,7 @@ reading_starts past at number epoch = record {
 }
 
 pub reading_more : (given : List PlainPlaced) (starts : List Past) (past : Past) (turn : PlainTurn) → IsReading given starts past → IsTurnIn past turn →
-    turn.past.number ≡ past.number + 1 → past.at ≤ turn.past.at → turn.past.at ≤ 268435456 → IsReading (given ++ turn.placed ∷ []) (starts ++ past ∷ []) turn.past
+    turn.past.number ≡ past.number + 1 → past.at ≤ turn.past.at → turn.past.at ≤ most_store_bytes → IsReading (given ++ turn.placed ∷ []) (starts ++ past ∷ []) turn.past
 reading_more given starts past turn reading here number ahead within =
     let last = last_start 0 starts past reading.places in
     record {
@@ -231,7 +233,7 @@ reading_more given starts past turn reading here number ahead within =
     }
 
 pub start_place : (log : LogState) (batch : ℕ) → IsReading log.given log.starts log.past → 1 ≤ batch → batch ≤ length log.given →
-    let past = get_or log.starts (batch - 1) nothing in (42 ≤ past.at) × (past.at ≤ 268435456) × (past.number + 1 ≡ batch)
+    let past = get_or log.starts (batch - 1) nothing in (header_len ≤ past.at) × (past.at ≤ most_store_bytes) × (past.number + 1 ≡ batch)
 start_place log batch reading from to =
     let at = starts_at 0 (batch - 1) log.starts (log.past ∷ []) reading.places (omega (arith, reading.count, from, to)) in
     (at.0, at.1, omega (arith, at.2, from))

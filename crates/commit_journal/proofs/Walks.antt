@@ -3,6 +3,7 @@ use Rattle.std.proofs.Common.{◌≡◌, ℕ, zero, suc, ◌+◌, ◌-◌, ◌�
 use Rattle.std.specs.Prelude.{nat_le}
 use Rattle.std.proofs.lemmas.Bool.Decides.{nat_tests}
 use Rattle.std.proofs.lemmas.List.{take-append-le, drop-append-le}
+use Rattle.cry_base.specs.Layout.{batch_len, header_len}
 use Rattle.commit_journal.specs.declared.head.Head.{Head}
 use Rattle.commit_journal.specs.declared.past.Past.{Past}
 use Rattle.commit_journal.specs.Answering.{Fault, NotAStore, Damaged, and_then}
@@ -41,9 +42,9 @@ unfolding and_then
 walk-start owner rest (Ok past) = walk_is_log owner rest past 0
 walk-start owner rest (Err fault) = refl
 
-pub owner_walks : (owner bytes : List ℕ) → and_then (start_at owner bytes) (λ past. walk_at (turn_at owner) past 0 (drop 42 bytes)) ≡ log_verdict owner bytes
+pub owner_walks : (owner bytes : List ℕ) → and_then (start_at owner bytes) (λ past. walk_at (turn_at owner) past 0 (drop header_len bytes)) ≡ log_verdict owner bytes
 unfolding log_verdict
-owner_walks owner bytes = walk-start owner (drop 42 bytes) (start_at owner bytes)
+owner_walks owner bytes = walk-start owner (drop header_len bytes) (start_at owner bytes)
 
 -- ---- one turn
 
@@ -51,9 +52,9 @@ turn_ahead : (judge : Judges) (past : Past) (rest behind : List ℕ) (turn : Opt
 unfolding turn_by head_at and_then
 turn_ahead judge past rest behind turn is =
     let head = head_of (take 13 rest) in
-    let step = and_then_ok (head_at past rest) (λ h. judge past h (take (110 + h.size) rest)) turn is in
+    let step = and_then_ok (head_at past rest) (λ h. judge past h (take (batch_len + h.size) rest)) turn is in
     let guard = guard_ok (is_batch past head (length rest)) head step.0 (Damaged past.at) step.1 in
-    let inside : 110 + head.size ≤ length rest = batch_inside past head (length rest) guard.0 in
+    let inside : batch_len + head.size ≤ length rest = batch_inside past head (length rest) guard.0 in
     let first : take 13 rest ≡ take 13 (rest ++ behind) = sym (take-append-le 13 rest behind (omega arith)) in
     let test : true ≡ is_batch past head (length (rest ++ behind)) =
     sym (ap (is_batch past head) (length-append rest behind) ∙ batch_more past head (length rest) (length behind) guard.0)
@@ -61,10 +62,10 @@ turn_ahead judge past rest behind turn is =
     let stands : head_at past (rest ++ behind) ≡ Ok head =
     head_tested past (rest ++ behind) (take 13 rest) head (length (rest ++ behind)) true first refl refl test
     in
-    let whole : take (110 + head.size) (rest ++ behind) ≡ take (110 + head.size) rest = take-append-le (110 + head.size) rest behind inside in
-    ap (λ r. and_then r (λ h. judge past h (take (110 + h.size) (rest ++ behind)))) stands
+    let whole : take (batch_len + head.size) (rest ++ behind) ≡ take (batch_len + head.size) rest = take-append-le (batch_len + head.size) rest behind inside in
+    ap (λ r. and_then r (λ h. judge past h (take (batch_len + h.size) (rest ++ behind)))) stands
     ∙ ap (judge past head) whole
-    ∙ ap (λ h. judge past h (take (110 + h.size) rest)) guard.1
+    ∙ ap (λ h. judge past h (take (batch_len + h.size) rest)) guard.1
     ∙ step.2
 
 pub turn_none : (judge : Judges) (past : Past) → turn_by judge past [] ≡ Err (Damaged past.at)
@@ -133,28 +134,28 @@ walk_ahead judge behind (byte ∷ rest) = λ past skip. passed_ahead judge behin
 
 -- a header that is read is read with more bytes behind it
 abbrev IsHeaderOf : (List ℕ → Result Past Fault) → Type 0
-IsHeaderOf start = (s behind : List ℕ) (past : Past) → start s ≡ Ok past → (42 ≤ length s) × (start (s ++ behind) ≡ Ok past)
+IsHeaderOf start = (s behind : List ℕ) (past : Past) → start s ≡ Ok past → (header_len ≤ length s) × (start (s ++ behind) ≡ Ok past)
 
 pub log_ahead : (start : List ℕ → Result Past Fault) (judge : Judges) → IsHeaderOf start → (front behind : List ℕ) (placed : List PlainPlaced) →
-    and_then (start front) (λ past. walk_at (turn_by judge) past 0 (drop 42 front)) ≡ Ok placed →
-    and_then (start (front ++ behind)) (λ past. walk_at (turn_by judge) past 0 (drop 42 (front ++ behind))) ≡ Ok placed
+    and_then (start front) (λ past. walk_at (turn_by judge) past 0 (drop header_len front)) ≡ Ok placed →
+    and_then (start (front ++ behind)) (λ past. walk_at (turn_by judge) past 0 (drop header_len (front ++ behind))) ≡ Ok placed
 unfolding and_then
 log_ahead start judge header front behind placed is =
-    let step = and_then_ok (start front) (λ past. walk_at (turn_by judge) past 0 (drop 42 front)) placed is in
+    let step = and_then_ok (start front) (λ past. walk_at (turn_by judge) past 0 (drop header_len front)) placed is in
     let more = header front behind step.0 step.1 in
-    let rest : drop 42 (front ++ behind) ≡ drop 42 front ++ behind = drop-append-le 42 front behind more.0 in
-    ap (λ r. and_then r (λ past. walk_at (turn_by judge) past 0 (drop 42 (front ++ behind)))) more.1
+    let rest : drop header_len (front ++ behind) ≡ drop header_len front ++ behind = drop-append-le header_len front behind more.0 in
+    ap (λ r. and_then r (λ past. walk_at (turn_by judge) past 0 (drop header_len (front ++ behind)))) more.1
     ∙ ap (λ r. walk_at (turn_by judge) step.0 0 r) rest
-    ∙ walk_ahead judge behind (drop 42 front) step.0 0 placed step.2
+    ∙ walk_ahead judge behind (drop header_len front) step.0 0 placed step.2
 
 -- a test of the first 42 bytes
-header_of : (f : List ℕ → Result Past Fault) → IsHeaderOf (λ s. cond (nat_le 42 (length s)) (f (take 42 s)) (Err NotAStore))
+header_of : (f : List ℕ → Result Past Fault) → IsHeaderOf (λ s. cond (nat_le header_len (length s)) (f (take header_len s)) (Err NotAStore))
 header_of f s behind past is =
-    let long : 42 ≤ length s = long_enough (nat_le 42 (length s)) (f (take 42 s)) past (length s) refl is in
-    let test : nat_le 42 (length s) ≡ true = grind (arith, nat_tests) in
-    let longer : 42 ≤ length (s ++ behind) = omega (arith, length-append s behind, long) in
-    let again : nat_le 42 (length (s ++ behind)) ≡ true = grind (arith, nat_tests) in
-    (long, rw (again, take-append-le 42 s behind long) (sym (ap (λ t. cond t (f (take 42 s)) (Err NotAStore)) test) ∙ is))
+    let long : header_len ≤ length s = long_enough (nat_le header_len (length s)) (f (take header_len s)) past (length s) refl is in
+    let test : nat_le header_len (length s) ≡ true = grind (arith, nat_tests) in
+    let longer : header_len ≤ length (s ++ behind) = omega (arith, length-append s behind, long) in
+    let again : nat_le header_len (length (s ++ behind)) ≡ true = grind (arith, nat_tests) in
+    (long, rw (again, take-append-le header_len s behind long) (sym (ap (λ t. cond t (f (take header_len s)) (Err NotAStore)) test) ∙ is))
 
 pub holder_ahead : (front behind : List ℕ) (placed : List PlainPlaced) → holder_log front ≡ Ok placed → holder_log (front ++ behind) ≡ Ok placed
 unfolding holder_log unowned_start

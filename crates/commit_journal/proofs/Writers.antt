@@ -2,6 +2,8 @@
 use Rattle.std.proofs.Common.{◌≡◌, ℕ, zero, suc, ◌+◌, ◌-◌, Bool, true, false, cond, eqb, List, [], ◌∷◌, length, take, drop, Option, Some, Result, Ok, Err, refl, ap, ◌∙◌}
 use Rattle.std.specs.Prelude.{nat_le, ◌&&◌}
 use Rattle.std.specs.Str.{bytes_eq}
+use Rattle.cry_base.specs.Layout.{batch_len, header_len}
+use Rattle.cry_base.specs.Limits.{most_store_bytes}
 use Rattle.chacha_seal.specs.Sealing.{veil_of, masked}
 use Rattle.commit_journal.specs.declared.head.Head.{Head}
 use Rattle.commit_journal.specs.declared.past.Past.{Past}
@@ -32,18 +34,18 @@ second_of_two true b is = is
 second_of_two false b is = absurd (cc)
 
 -- a batch ends within the largest store
-ends_within : (past : Past) (head : Head) (left : ℕ) → is_batch past head left ≡ true → nat_le (past.at + (110 + head.size)) 268435456 ≡ true
+ends_within : (past : Past) (head : Head) (left : ℕ) → is_batch past head left ≡ true → nat_le (past.at + (batch_len + head.size)) most_store_bytes ≡ true
 unfolding is_batch
-ends_within past head left is = first_of_two (nat_le (past.at + (110 + head.size)) 268435456) _ (second_of_two (nat_le (110 + head.size) left) _ is)
+ends_within past head left is = first_of_two (nat_le (past.at + (batch_len + head.size)) most_store_bytes) _ (second_of_two (nat_le (batch_len + head.size) left) _ is)
 
 head_tested : (past : Past) (head : Head) (left : ℕ) (test : Bool) → is_batch past head left ≡ test →
-    and_then (cond test (Ok head) (Err (Damaged past.at))) (λ (h : Head). cond (nat_le (past.at + (110 + h.size)) 268435456) (Ok h) (Err (Damaged past.at)))
+    and_then (cond test (Ok head) (Err (Damaged past.at))) (λ (h : Head). cond (nat_le (past.at + (batch_len + h.size)) most_store_bytes) (Ok h) (Err (Damaged past.at)))
     ≡ cond test (Ok head) (Err (Damaged past.at))
 unfolding and_then
 head_tested past head left true is = rw (ends_within past head left is) refl
 head_tested past head left false is = refl
 
-pub same_head : (past : Past) (rest : List ℕ) → owned_head 268435456 past rest ≡ head_at past rest
+pub same_head : (past : Past) (rest : List ℕ) → owned_head most_store_bytes past rest ≡ head_at past rest
 unfolding owned_head head_at
 same_head past rest = head_tested past (head_of (take 13 rest)) (length rest) (is_batch past (head_of (take 13 rest)) (length rest)) refl
 
@@ -70,15 +72,15 @@ same_batch owner past head batch =
     (same_body past head batch body)
 
 behind_head : (owner : List ℕ) (past : Past) (rest : List ℕ) (head : Result Head Fault) →
-    as_turn (and_then head (λ h. owned_turn owner past h (take (110 + h.size) rest))) ≡ and_then head (λ h. tagged_recovered owner past h (take (110 + h.size) rest))
+    as_turn (and_then head (λ h. owned_turn owner past h (take (batch_len + h.size) rest))) ≡ and_then head (λ h. tagged_recovered owner past h (take (batch_len + h.size) rest))
 unfolding and_then
-behind_head owner past rest (Ok head) = same_batch owner past head (take (110 + head.size) rest)
+behind_head owner past rest (Ok head) = same_batch owner past head (take (batch_len + head.size) rest)
 behind_head owner past rest (Err fault) = refl
 
-same_turn : (owner : List ℕ) (past : Past) (rest : List ℕ) → as_turn (owned_at 268435456 owner past rest) ≡ turn_by (tagged_recovered owner) past rest
+same_turn : (owner : List ℕ) (past : Past) (rest : List ℕ) → as_turn (owned_at most_store_bytes owner past rest) ≡ turn_by (tagged_recovered owner) past rest
 unfolding owned_at turn_by
 same_turn owner past rest =
-    ap (λ h. as_turn (and_then h (λ (head : Head). owned_turn owner past head (take (110 + head.size) rest)))) (same_head past rest)
+    ap (λ h. as_turn (and_then h (λ (head : Head). owned_turn owner past head (take (batch_len + head.size) rest)))) (same_head past rest)
     ∙ behind_head owner past rest (head_at past rest)
 
 -- ---- the walk
@@ -97,14 +99,14 @@ same_end past true (Err fault) none = refl
 same_end past false turn none = refl
 
 abbrev IsSameWalk : List ℕ → List ℕ → Type 0
-IsSameWalk owner rest = (past : Past) (skip : ℕ) → batches_alone (owned_log 268435456 owner past skip rest) ≡ walk_at (turn_by (tagged_recovered owner)) past skip rest
+IsSameWalk owner rest = (past : Past) (skip : ℕ) → batches_alone (owned_log most_store_bytes owner past skip rest) ≡ walk_at (turn_by (tagged_recovered owner)) past skip rest
 
 same_step : (owner : List ℕ) (past : Past) (rest : List ℕ) (turn : Result PlainTurn Fault) → IsSameWalk owner rest →
-    batches_alone (and_then turn (λ t. owned_before (t.placed ∷ []) (owned_log 268435456 owner t.past (t.past.at - (past.at + 1)) rest)))
+    batches_alone (and_then turn (λ t. owned_before (t.placed ∷ []) (owned_log most_store_bytes owner t.past (t.past.at - (past.at + 1)) rest)))
     ≡ goes_on (as_turn turn) (λ t. walk_at (turn_by (tagged_recovered owner)) t.past (t.past.at - (past.at + 1)) rest)
 unfolding and_then goes_on
 same_step owner past rest (Ok turn) same =
-    placed_before (turn.placed ∷ []) (owned_log 268435456 owner turn.past (turn.past.at - (past.at + 1)) rest)
+    placed_before (turn.placed ∷ []) (owned_log most_store_bytes owner turn.past (turn.past.at - (past.at + 1)) rest)
     ∙ ap (before (turn.placed ∷ [])) (same turn.past (turn.past.at - (past.at + 1)))
 same_step owner past rest (Err fault) same = refl
 
@@ -116,32 +118,32 @@ if_open past true log placed is = is
 if_open past false log placed is = refl
 
 passed : (owner : List ℕ) (byte : ℕ) (rest : List ℕ) (past : Past) (skip : ℕ) → IsSameWalk owner rest →
-    batches_alone (owned_log 268435456 owner past skip (byte ∷ rest)) ≡ walk_at (turn_by (tagged_recovered owner)) past skip (byte ∷ rest)
+    batches_alone (owned_log most_store_bytes owner past skip (byte ∷ rest)) ≡ walk_at (turn_by (tagged_recovered owner)) past skip (byte ∷ rest)
 unfolding owned_log walk_at
 passed owner byte rest past (suc skip) same = same past skip
 passed owner byte rest past zero same =
     let turns = turn_by (tagged_recovered owner) in
     if_open past (eqb past.gate 1)
-    (and_then (owned_at 268435456 owner past (byte ∷ rest)) (λ t. owned_before (t.placed ∷ []) (owned_log 268435456 owner t.past (t.past.at - (past.at + 1)) rest)))
+    (and_then (owned_at most_store_bytes owner past (byte ∷ rest)) (λ t. owned_before (t.placed ∷ []) (owned_log most_store_bytes owner t.past (t.past.at - (past.at + 1)) rest)))
     (goes_on (turns past (byte ∷ rest)) (λ t. walk_at turns t.past (t.past.at - (past.at + 1)) rest))
-    (same_step owner past rest (owned_at 268435456 owner past (byte ∷ rest)) same
+    (same_step owner past rest (owned_at most_store_bytes owner past (byte ∷ rest)) same
     ∙ ap (λ t. goes_on t (λ next. walk_at turns next.past (next.past.at - (past.at + 1)) rest)) (same_turn owner past (byte ∷ rest)))
 
 same_walk : (owner rest : List ℕ) → IsSameWalk owner rest
 unfolding owned_log walk_at
 same_walk owner [] = λ past skip.
-    same_end past (eqb past.gate 1) (owned_at 268435456 owner past []) (same_turn owner past [] ∙ turn_none (tagged_recovered owner) past)
+    same_end past (eqb past.gate 1) (owned_at most_store_bytes owner past []) (same_turn owner past [] ∙ turn_none (tagged_recovered owner) past)
     ∙ ap (λ t. cond (eqb past.gate 1) (goes_on t (λ _. Ok [])) (Ok [])) (same_turn owner past [])
 same_walk owner (byte ∷ rest) = λ past skip. passed owner byte rest past skip (same_walk owner rest)
 
 -- ---- the whole image
 
 same_start : (owner rest : List ℕ) (start : Result Past Fault) →
-    batches_alone (and_then start (λ past. owned_log 268435456 owner past 0 rest)) ≡ and_then start (λ past. walk_at (turn_by (tagged_recovered owner)) past 0 rest)
+    batches_alone (and_then start (λ past. owned_log most_store_bytes owner past 0 rest)) ≡ and_then start (λ past. walk_at (turn_by (tagged_recovered owner)) past 0 rest)
 unfolding and_then
 same_start owner rest (Ok past) = same_walk owner rest past 0
 same_start owner rest (Err fault) = refl
 
-pub opened_as_read : (owner bytes : List ℕ) → batches_alone (opening_verdict 268435456 owner bytes) ≡ writer_log owner bytes
+pub opened_as_read : (owner bytes : List ℕ) → batches_alone (opening_verdict most_store_bytes owner bytes) ≡ writer_log owner bytes
 unfolding opening_verdict writer_log
-opened_as_read owner bytes = same_start owner (drop 42 bytes) (start_at owner bytes)
+opened_as_read owner bytes = same_start owner (drop header_len bytes) (start_at owner bytes)

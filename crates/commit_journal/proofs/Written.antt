@@ -5,6 +5,8 @@ use Rattle.std.specs.Str.{bytes_eq}
 use Rattle.std.proofs.Math.Seq.{drop-append_seam}
 use Rattle.std.proofs.lemmas.List.Sums.{sum_by-cons}
 use Rattle.std.proofs.lemmas.Slice.Eq.{bytes_eq-Decides}
+use Rattle.cry_base.specs.Layout.{batch_len, header_len}
+use Rattle.cry_base.specs.Limits.{most_store_bytes}
 use Rattle.hmac_seal.specs.Hmac.{hmac}
 use Rattle.chacha_seal.specs.Sealing.{check_of, masked, owner_tag_key}
 use Rattle.chacha_seal.proofs.SealingLemmas.{masked-masked, length-veil_of}
@@ -63,7 +65,7 @@ turn_recovered owner past body slot gate more slot_size may small =
     let rest = spell_batch owner past.tag slot b ++ gate ∷ more in
     let parts = slotted_parts owner past.tag slot b gate slot_size in
     let is : rest ≡ whole ++ more = with_gate owner past.tag slot b gate more in
-    let long : length rest ≡ 110 + size + length more = omega (arith, ap length is, length-append whole more, parts.long) in
+    let long : length rest ≡ batch_len + size + length more = omega (arith, ap length is, length-append whole more, parts.long) in
     let first : take 13 rest ≡ batch_head b =
     front (batch_head b) _ rest 13 (is ∙ append_assoc (batch_head b) _ more) (length-head_bytes b.type_of b.number b.epoch size)
     in
@@ -72,8 +74,8 @@ turn_recovered owner past body slot gate more slot_size may small =
     in
     let fits : is_batch past head (length rest) ≡ true = next_fits past body (length rest) may (omega arith) small.2 in
     let stands : head_at past rest ≡ Ok head = head_tested past rest (batch_head b) head (length rest) true (sym first) spelled refl (sym fits) in
-    let all : take (110 + size) rest ≡ whole = front whole more rest (110 + size) is parts.long in
-    ap (λ r. and_then r (λ h. tagged_recovered owner past h (take (110 + h.size) rest))) stands
+    let all : take (batch_len + size) rest ≡ whole = front whole more rest (batch_len + size) is parts.long in
+    ap (λ r. and_then r (λ h. tagged_recovered owner past h (take (batch_len + h.size) rest))) stands
     ∙ ap (tagged_recovered owner past head) all
     ∙ recovered_as_spelled owner past body slot gate slot_size may
 
@@ -112,7 +114,7 @@ writes_over owner past body slot rest gate more slot_size may small is =
 
 walk_written : (owner slot : List ℕ) (bodies : List PlainBody) (past : Past) (rest : List ℕ) (gate : ℕ) (behind : List ℕ) → length slot ≡ 32 →
     AreBodies past.epoch.0 bodies → past.number ≤ past.at → past.epoch.0 ≤ past.number →
-    past.at + sum_by (λ (b : Batch). 110 + length b.payload) (batches_from past.number past.epoch.0 bodies) ≤ 268435456 → gate ≢ 1 →
+    past.at + sum_by (λ (b : Batch). batch_len + length b.payload) (batches_from past.number past.epoch.0 bodies) ≤ most_store_bytes → gate ≢ 1 →
     past.gate ∷ rest ≡ slotted_rest owner slot past bodies ++ gate ∷ behind →
     walk_at (turn_by (tagged_recovered owner)) past 0 rest ≡ Ok (placed_from past.at past.number past.epoch.0 bodies)
 unfolding spell_slotted
@@ -120,7 +122,7 @@ walk_written owner slot [] past rest gate behind slot_size are number_small epoc
     let heads = same_heads past.gate gate rest behind is in
     walk_shut (turn_by (tagged_recovered owner)) past rest (ap (λ g. eqb g 1) heads.0 ∙ closed_gate gate shut)
 walk_written owner slot (body ∷ []) past rest gate behind slot_size are number_small epoch_small fits shut is =
-    let sum = sum_by-cons (λ (b : Batch). 110 + length b.payload) (next_batch past body) [] in
+    let sum = sum_by-cons (λ (b : Batch). batch_len + length b.payload) (next_batch past body) [] in
     writes_over owner past body slot rest gate behind slot_size (first_may past.epoch.0 body [] are) (omega arith, omega arith, omega arith) is
     ∙ ap (before ((next_turn owner past body gate).placed ∷ [])) (walk_shut (turn_by (tagged_recovered owner)) (next_past owner past body gate) behind (closed_gate gate shut))
     ∙ before_ok (next_turn owner past body gate).placed []
@@ -135,7 +137,7 @@ walk_written owner slot (body ∷ other ∷ bodies) past rest gate behind slot_s
     let starts = begins_slotted owner tag slot next bs in
     let more = starts.0 ++ gate ∷ behind in
     let now = next_past owner past body 1 in
-    let sum = sum_by-cons (λ (b : Batch). 110 + length b.payload) b (next ∷ bs) in
+    let sum = sum_by-cons (λ (b : Batch). batch_len + length b.payload) b (next ∷ bs) in
     let n = number_rises past.number past.epoch.0 body in
     let e = epoch_bound past.number past.epoch.0 body in
     let whole : past.gate ∷ rest ≡ 1 ∷ (bytes ++ 1 ∷ more) =
@@ -151,8 +153,8 @@ walk_written owner slot (body ∷ other ∷ bodies) past rest gate behind slot_s
 -- ---- the whole image
 
 pub written_standing : (owner : List ℕ) (bodies : List PlainBody) (bytes : List ℕ) → StandsFor owner (batches_from 0 0 bodies) bytes → AreBodies 0 bodies →
-    42 + sum_by (λ (b : Batch). 110 + length b.payload) (batches_from 0 0 bodies) ≤ 268435456 →
-    writer_log owner bytes ≡ Ok (placed_from 42 0 0 bodies)
+    header_len + sum_by (λ (b : Batch). batch_len + length b.payload) (batches_from 0 0 bodies) ≤ most_store_bytes →
+    writer_log owner bytes ≡ Ok (placed_from header_len 0 0 bodies)
 unfolding slotted_image writer_log and_then
 written_standing owner bodies bytes stands are fits =
     let turns = turn_by (tagged_recovered owner) in
@@ -165,13 +167,13 @@ written_standing owner bodies bytes stands are fits =
     let is : bytes ≡ (header ++ g ∷ []) ++ more =
     stands.bytes_are ∙ append_assoc header slotted end ∙ ap (λ r. header ++ r) next.2 ∙ sym (append_assoc header (g ∷ []) more)
     in
-    let long : length (header ++ g ∷ []) ≡ 42 = omega (arith, length-append header (g ∷ []), length-spell_header owner) in
-    let first : take 42 bytes ≡ header ++ g ∷ [] = front (header ++ g ∷ []) more bytes 42 is long in
-    let rest : drop 42 bytes ≡ more =
+    let long : length (header ++ g ∷ []) ≡ header_len = omega (arith, length-append header (g ∷ []), length-spell_header owner) in
+    let first : take header_len bytes ≡ header ++ g ∷ [] = front (header ++ g ∷ []) more bytes header_len is long in
+    let rest : drop header_len bytes ≡ more =
     ap (λ n. drop n bytes) (sym long) ∙ ap (λ r. drop (length (header ++ g ∷ [])) r) is ∙ drop-append_seam (header ++ g ∷ []) more
     in
-    let enough : 42 ≤ length bytes = omega (arith, ap length is, length-append (header ++ g ∷ []) more, long) in
+    let enough : header_len ≤ length bytes = omega (arith, ap length is, length-append (header ++ g ∷ []) more, long) in
     let start : start_at owner bytes ≡ Ok (first_past owner g) = start_long owner bytes enough ∙ ap (start_of owner) first ∙ start_spelled owner g in
-    ap (λ p. and_then p (λ past. walk_at turns past 0 (drop 42 bytes))) start
+    ap (λ p. and_then p (λ past. walk_at turns past 0 (drop header_len bytes))) start
     ∙ ap (λ r. walk_at turns (first_past owner g) 0 r) rest
     ∙ walk_written owner stands.slot bodies (first_past owner g) more stands.gate stands.behind stands.slot_size are (omega arith) (omega arith) fits stands.closed (sym next.2)

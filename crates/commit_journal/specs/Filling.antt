@@ -3,6 +3,7 @@
 use Rattle.std.specs.Prelude.{◌≡◌, ◌≢◌, ◌⊎◌, ◌≤◌, ℕ, ◌+◌, ◌-◌, if◌then◌else◌, List, [], ◌∷◌, ◌++◌, length, slice_range, Option, None, Some}
 use Rattle.std.specs.Option.{option_to_list}
 use Rattle.std.specs.Str.{bytes_eq}
+use Rattle.cry_base.specs.Layout.{batch_len}
 use Rattle.batch_log.specs.Steps.{IsGatedAt, written_at}
 use Rattle.chacha_seal.specs.Sealing.{veil_of}
 use Rattle.commit_journal.specs.declared.filling.Unfilled.{Unfilled}
@@ -35,7 +36,7 @@ pub record IsWithin (size : ℕ) (slot : Unfilled) : Type 0 where
 
 -- in an image: its batch stands behind an open gate, and it isn't its veil key
 pub record IsUnfilled (slot : Unfilled) (image : List ℕ) : Type 0 where
-  pub gated : IsGatedAt (slot.place - 13) 110 image
+  pub gated : IsGatedAt (slot.place - 13) batch_len image
   pub size : length slot.veil ≡ 32
   pub differs : slice_range image slot.place (slot.place + 32) ≢ slot.veil
 

@@ -2,6 +2,7 @@
 -- "Committing".
 use Rattle.std.specs.Prelude.{◌≡◌, ◌⊎◌, ◌≤◌, ◌+◌, ◌-◌, ℕ, Bool, false, nat_lt, if◌then◌else◌, List, [], ◌∷◌, ◌++◌, drop, length, Option}
 use Rattle.std.specs.Prelude.{None, Some}
+use Rattle.cry_base.specs.Layout.{batch_len, header_len}
 use Rattle.chacha_seal.specs.Sealing.{check_of}
 use Rattle.cry_io.specs.Told.{WhereBothTold}
 use Rattle.commit_journal.specs.declared.batch_type.BatchType.TheVariants.{Command, NewEpoch}
@@ -57,7 +58,7 @@ pub record IsBehind (b : Batch) (old new : JournalState) : Type 0 where
   pub owner : new.owner ≡ old.owner
   pub batches : new.batches ≡ b.number
   pub epoch : new.epoch ≡ b.epoch
-  pub end : new.end ≡ old.end + (110 + length b.payload)
+  pub end : new.end ≡ old.end + (batch_len + length b.payload)
   pub tag : new.tag ≡ owner_tag old.owner old.tag b
   pub limit : new.limit ≡ old.limit
   pub open_still : new.is_closed ≡ old.is_closed
@@ -85,12 +86,12 @@ MayJoin b old was shows = (bs : List Batch) → IsJournalOf bs old
 abbrev pub refusal : JournalState → ℕ → Option CommitFault
 refusal j payload =
     if j.is_closed then Some faults.Closed
-    else (if nat_lt j.limit (j.end + (110 + payload)) then Some (faults.Full (110 + payload) (j.limit - j.end)) else None)
+    else (if nat_lt j.limit (j.end + (batch_len + payload)) then Some (faults.Full (batch_len + payload) (j.limit - j.end)) else None)
 
 -- where the log would end with a batch of a payload of so many bytes, and with one that begins an epoch before it where
 -- this session has begun none
 abbrev pub end_with : JournalState → ℕ → ℕ
-end_with j payload = j.end + (110 + payload) + (if j.has_epoch then 0 else 110)
+end_with j payload = j.end + (batch_len + payload) + (if j.has_epoch then 0 else batch_len)
 
 -- the journal of a store that has no batch yet. What it has room for is not said
 abbrev pub empty_journal : List ℕ → ℕ → JournalState → JournalState
@@ -99,7 +100,7 @@ empty_journal owner limit j = record {
   batches = 0;
   epoch = 0;
   has_epoch = false;
-  end = 42;
+  end = header_len;
   tag = check_of owner;
   limit = limit;
   is_closed = false;

@@ -1,5 +1,7 @@
 -- Laws of the verdict on a log. This project's own, docs/FORMAT.md, "The file" and "Reading".
 use Rattle.std.specs.Prelude.{◌≡◌, ◌≢◌, ◌<◌, ◌≤◌, ◌+◌, ℕ, List, [], ◌∷◌, ◌++◌, length, Ok, slice_range, slice_index_or}
+use Rattle.cry_base.specs.Layout.{batch_len, header_len}
+use Rattle.cry_base.specs.Limits.{most_store_bytes}
 use Rattle.record_format.specs.declared.link.LinkRecord.{LinkRecord}
 use Rattle.record_format.specs.Plain.{PlainContent, PlainPayload}
 use Rattle.record_format.specs.Spellable.{IsSpellable}
@@ -29,7 +31,7 @@ placed_from at number epoch [] = []
 placed_from at number epoch (body ∷ bodies) =
     let batch = batch_of number epoch body in
     record { batch = batch.number; epoch = record { 0 = batch.epoch }; place = at + 45; body = body }
-    ∷ placed_from (at + (110 + length batch.payload)) batch.number batch.epoch bodies
+    ∷ placed_from (at + (batch_len + length batch.payload)) batch.number batch.epoch bodies
 
 -- a log may have these bodies: each command stands in an epoch, and its payload has a spelling
 abbrev pub AreBodies : ℕ → List PlainBody → Type 0
@@ -41,8 +43,8 @@ AreBodies epoch (NewEpoch ∷ bodies) = AreBodies (epoch + 1) bodies
 -- follows that gate is not looked at
 abbrev pub IsReadBack : Type 0
 IsReadBack = (owner : List ℕ) (bodies : List PlainBody) (gate : ℕ) (behind : List ℕ) → AreBodies 0 bodies →
-    length (image owner (batches_from 0 0 bodies)) + 1 ≤ 268435456 → gate ≢ 1 →
-    log_verdict owner (image owner (batches_from 0 0 bodies) ++ gate ∷ behind) ≡ Ok (placed_from 42 0 0 bodies)
+    length (image owner (batches_from 0 0 bodies)) + 1 ≤ most_store_bytes → gate ≢ 1 →
+    log_verdict owner (image owner (batches_from 0 0 bodies) ++ gate ∷ behind) ≡ Ok (placed_from header_len 0 0 bodies)
 
 -- a log that is read stays the same, whatever bytes follow the image: nothing behind its first closed gate is looked at
 abbrev pub IsBlindBehind : Type 0

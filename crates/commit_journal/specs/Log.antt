@@ -4,6 +4,8 @@ use Rattle.std.specs.Prelude.{ℕ, zero, suc, ◌+◌, ◌-◌, Bool, ◌==◌, 
 use Rattle.std.specs.Prelude.{codes, slice_index, slice_range, Option, None, Some, Result, Ok, Err}
 use Rattle.std.specs.Int.{w32, from_be_bytes}
 use Rattle.std.specs.Str.{bytes_eq}
+use Rattle.cry_base.specs.Layout.{batch_len, header_len}
+use Rattle.cry_base.specs.Limits.{most_store_bytes}
 use Rattle.hmac_seal.specs.Hmac.{hmac}
 use Rattle.chacha_seal.specs.Sealing.{check_of, owner_tag_key, masked}
 use Rattle.record_format.specs.Plain.{PlainPayload}
@@ -31,8 +33,8 @@ fits_epoch past head =
 -- a batch with this head may stand there, where so many bytes are left. A store has at most 268,435,456 bytes
 unfoldable pub is_batch : Past → Head → ℕ → Bool
 is_batch past head left =
-    nat_le (110 + head.size) left
-    && (nat_le (past.at + (110 + head.size)) 268435456
+    nat_le (batch_len + head.size) left
+    && (nat_le (past.at + (batch_len + head.size)) most_store_bytes
     && ((head.number == past.number + 1) && fits_epoch past head))
 
 -- the parts of a whole batch whose payload has so many bytes
@@ -80,7 +82,7 @@ abbrev pub turn_of : Past → Head → List ℕ → PlainBody → PlainTurn
 turn_of past head batch body = record {
   placed = record { batch = head.number; epoch = head.epoch; place = past.at + 45; body = body };
   past = record {
-    at = past.at + (110 + head.size);
+    at = past.at + (batch_len + head.size);
     number = head.number;
     epoch = head.epoch;
     tag = tag_in head.size batch;
@@ -111,7 +113,7 @@ head_at past rest =
 -- what stands behind an open gate, where these bytes are left
 unfoldable pub turn_at : List ℕ → Past → List ℕ → Result (Option PlainTurn) Fault
 turn_at owner past rest =
-    and_then (head_at past rest) (λ head. tagged_turn owner past head (take (110 + head.size) rest))
+    and_then (head_at past rest) (λ head. tagged_turn owner past head (take (batch_len + head.size) rest))
 
 -- batches read before those of the rest of the log
 unfoldable pub before : List PlainPlaced → Result (List PlainPlaced) Fault → Result (List PlainPlaced) Fault
@@ -138,14 +140,14 @@ unfoldable pub start_of : List ℕ → List ℕ → Result Past Fault
 start_of owner header =
     if bytes_eq (take 9 header) (codes "CRYPTREE" ++ 1 ∷ [])
     then (if bytes_eq (slice_range header 9 41) (check_of owner)
-    then Ok (record { at = 42; number = 0; epoch = record { 0 = 0 }; tag = slice_range header 9 41; gate = slice_index header 41 })
+    then Ok (record { at = header_len; number = 0; epoch = record { 0 = 0 }; tag = slice_range header 9 41; gate = slice_index header 41 })
     else Err WrongKey)
     else Err NotAStore
 
 -- what is known behind the header of an image
 unfoldable pub start_at : List ℕ → List ℕ → Result Past Fault
-start_at owner bytes = if nat_le 42 (length bytes) then start_of owner (take 42 bytes) else Err NotAStore
+start_at owner bytes = if nat_le header_len (length bytes) then start_of owner (take header_len bytes) else Err NotAStore
 
 -- the batches of an image, in order, or the first test that fails
 unfoldable pub log_verdict : List ℕ → List ℕ → Result (List PlainPlaced) Fault
-log_verdict owner bytes = and_then (start_at owner bytes) (λ past. log_at owner past 0 (drop 42 bytes))
+log_verdict owner bytes = and_then (start_at owner bytes) (λ past. log_at owner past 0 (drop header_len bytes))

@@ -3,6 +3,7 @@
 use Rattle.std.specs.Prelude.{◌≡◌, ◌≤◌, ℕ, zero, suc, ◌+◌, ◌-◌, ◌==◌, nat_le, if◌then◌else◌, List, [], ◌∷◌, ◌++◌, length, take, drop, codes}
 use Rattle.std.specs.Prelude.{slice_index, slice_range, Option, Some, Result, Ok, Err}
 use Rattle.std.specs.Str.{bytes_eq}
+use Rattle.cry_base.specs.Layout.{batch_len, header_len}
 use Rattle.chacha_seal.specs.Sealing.{veil_of, masked}
 use Rattle.commit_journal.specs.declared.head.Head.{Head}
 use Rattle.commit_journal.specs.declared.past.Past.{Past}
@@ -23,21 +24,21 @@ walk_at turn past zero (byte ∷ rest) =
 
 -- what stands behind an open gate, where these bytes are left, if the whole of a batch is judged so
 unfoldable pub turn_by : (Past → Head → List ℕ → Result (Option PlainTurn) Fault) → Past → List ℕ → Result (Option PlainTurn) Fault
-turn_by judge past rest = and_then (head_at past rest) (λ head. judge past head (take (110 + head.size) rest))
+turn_by judge past rest = and_then (head_at past rest) (λ head. judge past head (take (batch_len + head.size) rest))
 
 -- what is known behind the header, for who has no owner's key
 unfoldable pub unowned_start_of : List ℕ → Result Past Fault
 unowned_start_of header =
     if bytes_eq (take 9 header) (codes "CRYPTREE" ++ 1 ∷ [])
-    then Ok (record { at = 42; number = 0; epoch = record { 0 = 0 }; tag = slice_range header 9 41; gate = slice_index header 41 })
+    then Ok (record { at = header_len; number = 0; epoch = record { 0 = 0 }; tag = slice_range header 9 41; gate = slice_index header 41 })
     else Err NotAStore
 
 unfoldable pub unowned_start : List ℕ → Result Past Fault
-unowned_start bytes = if nat_le 42 (length bytes) then unowned_start_of (take 42 bytes) else Err NotAStore
+unowned_start bytes = if nat_le header_len (length bytes) then unowned_start_of (take header_len bytes) else Err NotAStore
 
 -- the batches that a holder reads, or the first test that fails: no owner tag is tested, and what a slot publishes is read
 unfoldable pub holder_log : List ℕ → Result (List PlainPlaced) Fault
-holder_log bytes = and_then (unowned_start bytes) (λ past. walk_at (turn_by published_turn) past 0 (drop 42 bytes))
+holder_log bytes = and_then (unowned_start bytes) (λ past. walk_at (turn_by published_turn) past 0 (drop header_len bytes))
 
 -- a batch unmasked with the veil key that the owner computes, published or not
 unfoldable pub recovered_turn : List ℕ → Past → Head → List ℕ → Result (Option PlainTurn) Fault
@@ -54,7 +55,7 @@ tagged_recovered owner past head batch =
 
 -- the batches that the owner who opens for writing reads, or the first test that fails
 unfoldable pub writer_log : List ℕ → List ℕ → Result (List PlainPlaced) Fault
-writer_log owner bytes = and_then (start_at owner bytes) (λ past. walk_at (turn_by (tagged_recovered owner)) past 0 (drop 42 bytes))
+writer_log owner bytes = and_then (start_at owner bytes) (λ past. walk_at (turn_by (tagged_recovered owner)) past 0 (drop header_len bytes))
 
 -- the epoch of a batch behind another one: an epoch batch begins the next, a command stands in the one that was begun last
 abbrev pub IsInEpoch : ℕ → ℕ → PlainBody → Type 0

@@ -4,6 +4,8 @@ use Rattle.std.specs.Prelude.{◌≡◌, ◌≢◌, ◌⊎◌, ◌≤◌, ℕ, z
 use Rattle.std.specs.Prelude.{◌++◌, length, take, drop, slice_range, Option, None, Some, Result, Ok, Err}
 pub use Rattle.batch_log.specs.Steps.{IsGatedAt, written_at}
 use Rattle.std.specs.Str.{bytes_eq}
+use Rattle.cry_base.specs.Layout.{batch_len, header_len}
+use Rattle.cry_base.specs.Limits.{most_store_bytes}
 use Rattle.chacha_seal.specs.Sealing.{veil_of, masked}
 use Rattle.commit_journal.specs.declared.head.Head.{Head}
 use Rattle.commit_journal.specs.declared.judge.Turn.{Turn}
@@ -22,7 +24,7 @@ use Rattle.commit_journal.specs.Turns.{plain_turn}
 -- the head of the batch behind an open gate, which ends within the store limit
 unfoldable pub owned_head : ℕ → Past → List ℕ → Result Head Fault
 owned_head limit past rest =
-    and_then (head_at past rest) (λ head. if nat_le (past.at + (110 + head.size)) limit then Ok head else Err (Damaged past.at))
+    and_then (head_at past rest) (λ head. if nat_le (past.at + (batch_len + head.size)) limit then Ok head else Err (Damaged past.at))
 
 -- the whole of it, unmasked with the veil key that the owner computes: whether it is published is not asked
 unfoldable pub owned_turn : List ℕ → Past → Head → List ℕ → Result PlainTurn Fault
@@ -34,7 +36,7 @@ owned_turn owner past head batch =
 
 unfoldable pub owned_at : ℕ → List ℕ → Past → List ℕ → Result PlainTurn Fault
 owned_at limit owner past rest =
-    and_then (owned_head limit past rest) (λ head. owned_turn owner past head (take (110 + head.size) rest))
+    and_then (owned_head limit past rest) (λ head. owned_turn owner past head (take (batch_len + head.size) rest))
 
 -- the batches of a log, and what the next batch follows: how many there are, the last epoch, the end, the last owner tag
 pub record OwnedLog : Type 0 where
@@ -66,7 +68,7 @@ owned_log limit owner past zero (byte ∷ rest) =
 
 -- the log of an image, or the first test that fails
 unfoldable pub opening_verdict : ℕ → List ℕ → List ℕ → Result OwnedLog Fault
-opening_verdict limit owner bytes = and_then (start_at owner bytes) (λ past. owned_log limit owner past 0 (drop 42 bytes))
+opening_verdict limit owner bytes = and_then (start_at owner bytes) (λ past. owned_log limit owner past 0 (drop header_len bytes))
 
 -- the image with the veil key in the slot of each of these batches. A slot stands 32 bytes before its payload
 unfoldable pub slots_filled : List ℕ → List PlainPlaced → List ℕ → List ℕ
@@ -94,7 +96,7 @@ LeavesGated limit owner old new = (new ≡ old)
 -- from this place on the batches stand in the bytes one behind another, each behind its open gate
 abbrev pub AreGated : ℕ → List PlainPlaced → List ℕ → Type 0
 AreGated from [] bytes = Unit {0}
-AreGated from (p ∷ ps) bytes = (from + 45 ≤ p.place) × IsGatedAt (p.place - 45) 110 bytes × AreGated (p.place + 65) ps bytes
+AreGated from (p ∷ ps) bytes = (from + 45 ≤ p.place) × IsGatedAt (p.place - 45) batch_len bytes × AreGated (p.place + 65) ps bytes
 
 -- a log that was walked, and a journal that was opened on it, without the room that they have
 abbrev pub plain_walked : Walked → OwnedLog
@@ -132,8 +134,8 @@ pub record IsOpened (owner : List ℕ) (limit : ℕ) (j : JournalState) : Type 0
 
 -- each batch has its bytes, and no more epochs were begun than there are batches
 pub record HasRoom (past : Past) : Type 0 where
-  pub behind : 42 + 110 * past.number ≤ past.at
-  pub within : past.at ≤ 268435456
+  pub behind : header_len + batch_len * past.number ≤ past.at
+  pub within : past.at ≤ most_store_bytes
   pub epochs : past.epoch.0 ≤ past.number
 
 -- the head is that of the next batch
@@ -149,7 +151,7 @@ HasType byte bodies.NewEpoch = byte ≡ 2
 pub record IsTurnOf (past : Past) (head : Head) (turn : Turn) : Type 0 where
   pub batch : turn.placed.batch ≡ head.number
   pub place : turn.placed.place ≡ past.at + 45
-  pub next : turn.past.at ≡ past.at + (110 + head.size)
+  pub next : turn.past.at ≡ past.at + (batch_len + head.size)
   pub number : turn.past.number ≡ head.number
   pub epoch : turn.past.epoch.0 ≡ head.epoch.0
   pub same_epoch : turn.placed.epoch.0 ≡ head.epoch.0
@@ -159,9 +161,9 @@ pub record IsTurnOf (past : Past) (head : Head) (turn : Turn) : Type 0 where
 pub record IsNextTurn (past : Past) (size : ℕ) (turn : Turn) : Type 0 where
   pub batch : turn.placed.batch ≡ past.number + 1
   pub place : turn.placed.place ≡ past.at + 45
-  pub ahead : past.at + 110 ≤ turn.past.at
+  pub ahead : past.at + batch_len ≤ turn.past.at
   pub inside : turn.past.at ≤ size
-  pub within : turn.past.at ≤ 268435456
+  pub within : turn.past.at ≤ most_store_bytes
   pub number : turn.past.number ≡ past.number + 1
   pub epoch : turn.past.epoch.0 ≤ past.epoch.0 + 1
 

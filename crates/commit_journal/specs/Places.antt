@@ -1,6 +1,7 @@
 -- Where the records of a payload stand. This project's own, docs/FORMAT.md, "Records" and "Notes and payloads".
 use Rattle.std.specs.Prelude.{◌≡◌, ℕ, ◌+◌, ◌*◌, ◌<◌, ◌≤◌, ◌^◌, length, take, Option, None, Some}
 use Rattle.std.specs.List.{sum_by}
+use Rattle.cry_base.specs.Limits.{most_store_bytes}
 use Rattle.record_format.specs.Plain.{PlainPayload, plain_payload}
 use Rattle.record_format.specs.Sizes.{note_size, content_size, payload_size}
 use Rattle.record_format.specs.Spellable.{IsSpellable}
@@ -46,13 +47,14 @@ HasSize size NewEpoch = Unit {0}
 
 -- a payload has a spelling, which ends within a store
 abbrev pub EndsWithin : ℕ → Body → Type 0
-EndsWithin place (Commands payload) = IsSpellable (plain_payload payload) × (place + payload_size (plain_payload payload) ≤ 268435456)
+EndsWithin place (Commands payload) =
+    IsSpellable (plain_payload payload) × (place + payload_size (plain_payload payload) ≤ most_store_bytes)
 EndsWithin place NewEpoch = Unit {0}
 
 -- a batch that stands behind the header of a store, and ends within it
 pub record IsStanding (p : Placed) : Type 0 where
   pub behind : 87 ≤ p.place
-  pub within : p.place ≤ 268435456
+  pub within : p.place ≤ most_store_bytes
   pub payload : EndsWithin p.place p.body
 
 -- each turn's batch stands

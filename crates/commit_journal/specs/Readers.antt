@@ -3,6 +3,7 @@
 use Rattle.std.specs.Prelude.{ℕ, ◌+◌, Bool, true, nat_le, if◌then◌else◌, List, [], ◌∷◌, ◌++◌, length, take, drop, codes, slice_index}
 use Rattle.std.specs.Prelude.{slice_range, Option, None, Some, Result, Ok, Err}
 use Rattle.std.specs.Str.{bytes_eq}
+use Rattle.cry_base.specs.Layout.{header_len}
 use Rattle.chacha_seal.specs.Keys.{KeyParts}
 use Rattle.hmac_seal.specs.Hmac.{hmac}
 use Rattle.chacha_seal.specs.Sealing.{check_of, masked}
@@ -29,12 +30,12 @@ unfoldable pub header_of : Option (List ℕ) → List ℕ → Result Past Fault
 header_of who header =
     if bytes_eq (take 9 header) (codes "CRYPTREE" ++ 1 ∷ [])
     then (if has_check who (slice_range header 9 41)
-    then Ok (record { at = 42; number = 0; epoch = record { 0 = 0 }; tag = slice_range header 9 41; gate = slice_index header 41 })
+    then Ok (record { at = header_len; number = 0; epoch = record { 0 = 0 }; tag = slice_range header 9 41; gate = slice_index header 41 })
     else Err WrongKey)
     else Err NotAStore
 
 unfoldable pub header_at : Option (List ℕ) → List ℕ → Result Past Fault
-header_at who bytes = if nat_le 42 (length bytes) then header_of who (take 42 bytes) else Err NotAStore
+header_at who bytes = if nat_le header_len (length bytes) then header_of who (take header_len bytes) else Err NotAStore
 
 -- who has the owner's key tests the owner tag
 unfoldable pub has_tag : Option (List ℕ) → Past → Head → List ℕ → Bool
@@ -66,4 +67,4 @@ again_turn who past head batch =
 
 -- the batches, in order, or the first test that fails
 unfoldable pub read_log : Option (List ℕ) → List ℕ → Result (List PlainPlaced) Fault
-read_log who bytes = and_then (header_at who bytes) (λ past. walk_at (turn_by (read_turn who)) past 0 (drop 42 bytes))
+read_log who bytes = and_then (header_at who bytes) (λ past. walk_at (turn_by (read_turn who)) past 0 (drop header_len bytes))

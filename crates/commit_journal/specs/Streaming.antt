@@ -1,6 +1,8 @@
 -- A log that is read batch by batch. This project's own, docs/FORMAT.md, "Reading".
 use Rattle.std.specs.Prelude.{◌≡◌, ◌<◌, ◌≤◌, ℕ, ◌+◌, ◌-◌, ◌==◌, if◌then◌else◌, List, [], ◌∷◌, ◌++◌, length, drop, take, get_or, Option}
 use Rattle.std.specs.Prelude.{None, Some, Result, Ok}
+use Rattle.cry_base.specs.Layout.{batch_len, header_len}
+use Rattle.cry_base.specs.Limits.{most_store_bytes}
 use Rattle.commit_journal.specs.declared.past.Past.{Past}
 use Rattle.commit_journal.specs.declared.placed.Placed.{Placed}
 use Rattle.commit_journal.specs.Answering.{Fault, and_then}
@@ -29,7 +31,7 @@ log_in log bytes = before log.given (walk_at (turn_by (read_turn log.owner)) log
 -- what a file of these bytes shows where a batch was given, by what was known before it
 unfoldable pub again_at : Option (List ℕ) → Past → List ℕ → Result PlainTurn Fault
 again_at who past bytes =
-    and_then (head_at past (drop past.at bytes)) (λ head. again_turn who past head (take (110 + head.size) (drop past.at bytes)))
+    and_then (head_at past (drop past.at bytes)) (λ head. again_turn who past head (take (batch_len + head.size) (drop past.at bytes)))
 
 -- what was known before the batch with this number. Where none was given, nothing was
 abbrev pub nothing : Past
@@ -71,7 +73,8 @@ Gives size old (Some p) new = GivesOne size old p new
 -- what is known before batches behind so many, or behind them: which batch comes next, and where it would stand
 abbrev pub AreStarts : ℕ → List Past → Type 0
 AreStarts number [] = Unit {0}
-AreStarts number (past ∷ starts) = (past.number ≡ number) × (42 ≤ past.at) × (past.at ≤ 268435456) × AreStarts (number + 1) starts
+AreStarts number (past ∷ starts) =
+    (past.number ≡ number) × (header_len ≤ past.at) × (past.at ≤ most_store_bytes) × AreStarts (number + 1) starts
 
 -- each batch that was given has its place, and they stand in their epochs
 pub record IsReading (given : List PlainPlaced) (starts : List Past) (past : Past) : Type 0 where

@@ -1,5 +1,6 @@
 //! A batch in memory, from its head to the gate behind it, as layout.rt draws it.
 ghost use Rattle.std.specs.Prelude.{◌≡◌, ◌+◌, ◌<◌, ◌≤◌, ◌^◌, ℕ, List, [], ◌∷◌, ◌++◌, length, take, drop};
+ghost use Rattle.cry_base.specs.Layout.{batch_len};
 ghost use Rattle.hmac_seal.specs.Hmac as mac;
 ghost use Rattle.chacha_seal.specs.Sealing as sealing;
 ghost use Rattle.record_format.specs.Plain.{plain_payload};
@@ -191,8 +192,8 @@ pub(crate) fn command_batch(
     requires spellable { IsSpellable (plain_payload payload.now) }
     requires small { payload_size (plain_payload payload.now) < 2 ^ 32 }
     requires empty { batch.old.items ≡ [] }
-    requires room { 110 + payload_size (plain_payload payload.now) ≤ batch.old.spare }
-    ensures long { length batch.new.items ≡ 110 + payload_size (plain_payload payload.now) }
+    requires room { batch_len + payload_size (plain_payload payload.now) ≤ batch.old.spare }
+    ensures long { length batch.new.items ≡ batch_len + payload_size (plain_payload payload.now) }
     ensures spelled { let b = journals.command_batch number epoch.0 (spell_payload (plain_payload payload.now)) in
         veil.now ≡ image.batch_veil owner.now.bytes b →
         batch.new.items ≡ image.spell_batch owner.now.bytes previous.now (image.empty_slot) b ++ 0 ∷ [] }

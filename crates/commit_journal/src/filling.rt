@@ -1,6 +1,8 @@
 //! The slots that aren't their veil keys: they are found as the log is read, and written once all of it was judged
 //! (docs/FORMAT.md, "Opening for writing").
 ghost use Rattle.std.specs.Prelude.{◌≡◌, ◌≤◌, ◌+◌, ◌++◌, length, is_some, OnErr, OnOk, All, option_to_list};
+ghost use Rattle.cry_base.specs.Layout.{header_len};
+ghost use Rattle.cry_base.specs.Limits.{most_store_bytes};
 ghost use Rattle.cry_io.specs.Counts.{CountsFault};
 ghost use Rattle.cry_io.specs.Stops.{IsDurable};
 ghost use Rattle.cry_io.specs.Told.{WhereTold, WhereBothTold};
@@ -30,7 +32,7 @@ pub(crate) struct Unfilled {
 #[tactic(auto, unfolding(crate::specs::Filling::unfilled_slot))]
 pub(crate) fn unfilled_slot(at: u64, veil: &[u8; 32], batch: &[u8]) -> Option<Unfilled>
     requires whole { 45 ≤ length batch.now }
-    requires fits { at ≤ 268435456 }
+    requires fits { at ≤ most_store_bytes }
     ensures { result ≡ filling.unfilled_slot (at + 13) (log.slot_in batch.now) veil.now }
 {
     let slot = array_at(batch, SLOT);
@@ -77,7 +79,7 @@ fn fill_slot<D: Disk>(disk: &mut D, slot: &Unfilled) -> Result<(), Failed>
 /// Writes its veil key into each of these slots, one after another, with a sync. It takes no memory.
 pub(crate) fn fill_slots<D: Disk>(disk: &mut D, slots: &[Unfilled]) -> Result<(), Failed>
     requires within { All (filling.IsWithin (D.size_of disk.old)) slots.now }
-    requires unfilled { WhereTold (D.shown disk.old) (filling.AreUnfilled 42 slots.now) }
+    requires unfilled { WhereTold (D.shown disk.old) (filling.AreUnfilled header_len slots.now) }
     requires nothing_pending { IsDurable (D.may_leave disk.old) (D.shown disk.old) }
     ensures filled { OnOk result (WhereBothTold (D.shown disk.old) (D.shown disk.new) (λ x y. y ≡ filling.all_filled slots.now x)) }
     ensures left { OnErr result (WhereBothTold (D.shown disk.old) (D.shown disk.new) (filling.LeavesUnfilled slots.now)) }

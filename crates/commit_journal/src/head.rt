@@ -1,6 +1,8 @@
 //! The head of a batch, as layout.rt draws it.
 ghost use Rattle.std.specs.Prelude.{◌≡◌, ◌+◌, ◌≤◌, ◌^◌, slice_range, IsTrue};
 ghost use Rattle.std.specs.Int.{w32, from_be_bytes};
+ghost use Rattle.cry_base.specs.Layout.{batch_len};
+ghost use Rattle.cry_base.specs.Limits.{most_store_bytes};
 ghost use Rattle.commit_journal.specs.Log as log;
 ghost use Rattle.commit_journal.specs.Opening as opening;
 
@@ -53,8 +55,8 @@ fn fits_epoch(past: &Past, head: &Head) -> bool
 pub(crate) fn is_batch(past: &Past, head: &Head, left: u64) -> bool
     requires { past.now.at ≤ 2 ^ 32 }
     ensures exact { result ≡ log.is_batch past.now head.now left }
-    ensures inside { IsTrue result → 110 + head.now.size ≤ left }
-    ensures small { IsTrue result → past.now.at + (110 + head.now.size) ≤ 268435456 }
+    ensures inside { IsTrue result → batch_len + head.now.size ≤ left }
+    ensures small { IsTrue result → past.now.at + (batch_len + head.now.size) ≤ most_store_bytes }
     ensures next { IsTrue result → opening.IsNext past.now head.now }
 {
     let len = BATCH_LEN + u64::from(head.size);

@@ -1,6 +1,8 @@
 //! A journal that is open for writing: it knows what its next batch follows, and commits it.
 ghost use Rattle.std.specs.Prelude.{◌≡◌, ◌↔◌, ◌+◌, ◌-◌, ◌*◌, ◌<◌, ◌≤◌, ◌^◌, [], ◌∷◌, ◌++◌, codes, false, if◌then◌else◌, is_some, max, None};
 ghost use Rattle.std.specs.Prelude.{Some, Err, IfOk, IfErr, OnErr, OnOk, IsTrue};
+ghost use Rattle.cry_base.specs.Layout.{batch_len, header_len};
+ghost use Rattle.cry_base.specs.Limits.{most_store_bytes};
 ghost use Rattle.cry_io.specs.Counts.{CountsFault};
 ghost use Rattle.cry_io.specs.Stops.{IsDurable};
 ghost use Rattle.cry_io.specs.Told.{WhereTold};
@@ -41,6 +43,8 @@ pub struct Journal {
 
 impl Model for Journal {
     ghost use Rattle.std.specs.Prelude.{◌≡◌, ◌+◌, ◌-◌, ◌*◌, ◌≤◌, []};
+    ghost use Rattle.cry_base.specs.Layout.{batch_len, header_len};
+    ghost use Rattle.cry_base.specs.Limits.{most_store_bytes};
     ghost use Rattle.commit_journal.specs.Journals.{JournalState};
 
     ghost Value = { JournalState };
@@ -54,11 +58,11 @@ impl Model for Journal {
       tag = j.past.tag;
       limit = j.limit;
       is_closed = j.closed;
-      room = j.batch.spare - 110;
+      room = j.batch.spare - batch_len;
     } };
 
-    ghost invariant = { λ j. (42 + 110 * j.past.number ≤ j.past.at) × (j.past.at ≤ 268435456)
-        × (j.past.epoch.0 ≤ j.past.number) × (j.limit ≤ 268435456) × (j.batch.items ≡ []) };
+    ghost invariant = { λ j. (header_len + batch_len * j.past.number ≤ j.past.at) × (j.past.at ≤ most_store_bytes)
+        × (j.past.epoch.0 ≤ j.past.number) × (j.limit ≤ most_store_bytes) × (j.batch.items ≡ []) };
 }
 
 fn header(check: &[u8; 32]) -> [u8; HEADER_LEN]
@@ -72,7 +76,7 @@ fn header(check: &[u8; 32]) -> [u8; HEADER_LEN]
 }
 
 fn epoch_len(has_epoch: bool) -> u64
-    ensures { result ≡ (if has_epoch then 0 else 110) }
+    ensures { result ≡ (if has_epoch then 0 else batch_len) }
 {
     if has_epoch { 0 } else { BATCH_LEN }
 }
@@ -89,13 +93,13 @@ impl Journal {
         limits: Limits,
     ) -> Result<Journal, CommitFault>
         requires blank { D.size_of disk.old ≡ 0 }
-        requires fits { 42 ≤ limits.store_bytes }
-        requires known { limits.store_bytes ≤ 268435456 }
+        requires fits { header_len ≤ limits.store_bytes }
+        requires known { limits.store_bytes ≤ most_store_bytes }
         ensures state { IfOk result (λ j. j ≡ journals.empty_journal owner.now.bytes limits.store_bytes j) }
         ensures stands { IfOk result (journals.IsJournalOf []) }
         ensures shows { OnOk result (WhereTold (D.shown disk.new) (λ s. s ≡ image owner.now.bytes [] ++ 0 ∷ [])) }
         ensures durable { OnOk result (IsDurable (D.may_leave disk.new) (D.shown disk.new)) }
-        ensures size { OnOk result (D.size_of disk.new ≡ 42) }
+        ensures size { OnOk result (D.size_of disk.new ≡ header_len) }
         ensures told { is_some (D.shown disk.new) ≡ is_some (D.shown disk.old) }
         ensures later { D.moment disk.old ≤ D.moment disk.new }
         ensures time { GoesOn (D.moment disk.old) (D.since disk.old) (D.since disk.new) }
@@ -110,7 +114,7 @@ impl Journal {
     /// A journal of no store yet, for which memory may be taken before its owner's key is there. It commits nothing before
     /// `found`. It takes no memory.
     pub fn blank(alloc: Global, limits: Limits) -> Journal
-        requires known { limits.store_bytes ≤ 268435456 }
+        requires known { limits.store_bytes ≤ most_store_bytes }
         ensures closed { IsTrue result.is_closed }
         ensures limit { result.limit ≡ limits.store_bytes }
     {
@@ -138,13 +142,13 @@ impl Journal {
     /// away. Another fault never comes.
     pub fn found<D: Disk>(&mut self, disk: &mut D, owner: &Key<OwnerK>) -> Result<(), CommitFault>
         requires blank { D.size_of disk.old ≡ 0 }
-        requires fits { 42 ≤ self.old.limit }
+        requires fits { header_len ≤ self.old.limit }
         ensures state { OnOk result (self.new ≡ journals.empty_journal owner.now.bytes self.old.limit self.old) }
         ensures stands { OnOk result (journals.IsJournalOf [] self.new) }
         ensures closed { OnErr result (IsTrue self.new.is_closed) }
         ensures shows { OnOk result (WhereTold (D.shown disk.new) (λ s. s ≡ image owner.now.bytes [] ++ 0 ∷ [])) }
         ensures durable { OnOk result (IsDurable (D.may_leave disk.new) (D.shown disk.new)) }
-        ensures size { OnOk result (D.size_of disk.new ≡ 42) }
+        ensures size { OnOk result (D.size_of disk.new ≡ header_len) }
         ensures told { is_some (D.shown disk.new) ≡ is_some (D.shown disk.old) }
         ensures later { D.moment disk.old ≤ D.moment disk.new }
         ensures time { GoesOn (D.moment disk.old) (D.since disk.old) (D.since disk.new) }
@@ -177,7 +181,7 @@ impl Journal {
     /// A journal that goes on behind a log. It takes no memory.
     pub(crate) fn behind(alloc: Global, owner: LogKey, past: Past, store_bytes: u64) -> Journal
         requires room { opening.HasRoom past }
-        requires known { store_bytes ≤ 268435456 }
+        requires known { store_bytes ≤ most_store_bytes }
         ensures { result ≡ opening.journal_behind owner.bytes store_bytes past result }
     {
         Journal {
@@ -223,10 +227,10 @@ impl Journal {
     /// Law: each batch has its bytes, all of them lie within the largest store, and no more epochs were begun than there are
     /// batches.
     pub fn journal_is_within(&self)
-        ensures bytes { 42 + 110 * self.now.batches ≤ self.now.end }
-        ensures within { self.now.end ≤ 268435456 }
+        ensures bytes { header_len + batch_len * self.now.batches ≤ self.now.end }
+        ensures within { self.now.end ≤ most_store_bytes }
         ensures epochs { self.now.epoch ≤ self.now.batches }
-        ensures bound { self.now.limit ≤ 268435456 }
+        ensures bound { self.now.limit ≤ most_store_bytes }
     {
         let _ = &self.past;
     }

@@ -1,5 +1,7 @@
 //! Judges a whole batch in memory (docs/FORMAT.md, "The file").
 ghost use Rattle.std.specs.Prelude.{◌≡◌, ◌≢◌, ◌+◌, ◌≤◌, ◌^◌, length, slice_range, option_copied, Err, IfOk};
+ghost use Rattle.cry_base.specs.Layout.{batch_len, header_len};
+ghost use Rattle.cry_base.specs.Limits.{most_store_bytes};
 ghost use Rattle.chacha_seal.specs.Sealing.{masked};
 ghost use Rattle.commit_journal.specs.Answering.{Answers};
 ghost use Rattle.commit_journal.specs.Placed.{plain_body};
@@ -36,7 +38,7 @@ pub(crate) fn array_at(bytes: &[u8], from: usize) -> [u8; 32]
 
 #[tactic(auto, unfolding(crate::specs::Log::tag_due))]
 pub(crate) fn tag_due(owner: &LogKey, previous: &[u8; 32], size: usize, batch: &[u8]) -> [u8; 32]
-    requires { length batch.now ≡ 110 + size }
+    requires { length batch.now ≡ batch_len + size }
     ensures { result ≡ log.tag_due owner.now.bytes previous.now size batch.now }
 {
     let mut tag = owner.tag_start();
@@ -79,7 +81,7 @@ pub(crate) fn body_of(
 /// Whether the slot of a batch is its veil key.
 #[tactic(auto, unfolding(crate::specs::Readers::is_published))]
 fn is_published(size: usize, batch: &[u8]) -> bool
-    requires whole { length batch.now ≡ 110 + size }
+    requires whole { length batch.now ≡ batch_len + size }
     ensures { result ≡ readers.is_published size batch.now }
 {
     let slot = array_at(batch, SLOT);
@@ -88,7 +90,7 @@ fn is_published(size: usize, batch: &[u8]) -> bool
 }
 
 fn unpublished(past: &Past, head: &Head) -> OpenFault
-    requires behind { past.now.at ≤ 268435456 }
+    requires behind { past.now.at ≤ most_store_bytes }
     ensures { result ≡ OpenFault.Tampered head.now.number (past.now.at + 13) }
 {
     OpenFault::Tampered {
@@ -106,9 +108,9 @@ pub(crate) fn unmask(
     veil: &[u8; 32],
     batch: &mut [u8],
 ) -> Result<Turn, OpenFault>
-    requires whole { length batch.old ≡ 110 + head.now.size }
-    requires behind { 42 ≤ past.now.at }
-    requires fits { past.now.at + (110 + head.now.size) ≤ 268435456 }
+    requires whole { length batch.old ≡ batch_len + head.now.size }
+    requires behind { header_len ≤ past.now.at }
+    requires fits { past.now.at + (batch_len + head.now.size) ≤ most_store_bytes }
     ensures answer { Answers plain_turn result (readers.unmasked_turn veil.now past.now head.now batch.old) }
     ensures turn { IfOk result (opening.IsTurnOf past.now head.now) }
     ensures stands { IfOk result (λ turn. IsStanding turn.placed) }
@@ -130,11 +132,11 @@ fn judge_published(
     head: &Head,
     batch: &mut [u8],
 ) -> Result<Option<Turn>, OpenFault>
-    requires whole { length batch.old ≡ 110 + head.now.size }
-    requires behind { 42 ≤ past.now.at }
-    requires fits { past.now.at + (110 + head.now.size) ≤ 268435456 }
+    requires whole { length batch.old ≡ batch_len + head.now.size }
+    requires behind { header_len ≤ past.now.at }
+    requires fits { past.now.at + (batch_len + head.now.size) ≤ most_store_bytes }
     ensures answer { Answers plain_option result (log.published_turn past.now head.now batch.old) }
-    ensures next { IfOk result (GoesOnAt (past.now.at + (110 + head.now.size))) }
+    ensures next { IfOk result (GoesOnAt (past.now.at + (batch_len + head.now.size))) }
     ensures turn { IfOk result (opening.IsNextOf past.now head.now) }
     ensures stands { IfOk result TurnStands }
     ensures no_disk { result ≢ Err OpenFault.DiskFault }
@@ -153,13 +155,13 @@ fn judge_published(
 }
 
 pub(crate) fn turn_of(past: &Past, head: &Head, body: Body, tag: [u8; 32], gate: u8) -> Turn
-    requires behind { 42 ≤ past.now.at }
-    requires fits { past.now.at + (110 + head.now.size) ≤ 268435456 }
+    requires behind { header_len ≤ past.now.at }
+    requires fits { past.now.at + (batch_len + head.now.size) ≤ most_store_bytes }
     requires size { HasSize head.now.size body }
     ensures stands { IsStanding result.placed }
     ensures placed { result.placed ≡ record { batch = head.now.number; epoch = head.now.epoch; place = past.now.at + 45; body = body } }
     ensures past { result.past ≡ record {
-      at = past.now.at + (110 + head.now.size);
+      at = past.now.at + (batch_len + head.now.size);
       number = head.now.number;
       epoch = head.now.epoch;
       tag =
@@ -187,7 +189,7 @@ pub(crate) fn turn_of(past: &Past, head: &Head, body: Body, tag: [u8; 32], gate:
 /// Whether the owner tag of a batch is the one that is due. Without the owner's key it isn't tested.
 #[tactic(auto, unfolding(crate::specs::Readers::has_tag))]
 pub(crate) fn has_tag(owner: Option<&LogKey>, past: &Past, head: &Head, batch: &[u8]) -> bool
-    requires whole { length batch.now ≡ 110 + head.now.size }
+    requires whole { length batch.now ≡ batch_len + head.now.size }
     ensures { result ≡ readers.has_tag (readers.key_bytes (option_copied owner.entry)) past.now head.now batch.now }
 {
     let size = head.size as usize;
@@ -202,7 +204,7 @@ pub(crate) fn has_tag(owner: Option<&LogKey>, past: &Past, head: &Head, batch: &
 
 /// The fault of a wrong owner tag.
 pub(crate) fn wrong_tag(past: &Past, head: &Head) -> OpenFault
-    requires behind { past.now.at ≤ 268435456 }
+    requires behind { past.now.at ≤ most_store_bytes }
     ensures { result ≡ OpenFault.Tampered head.now.number (past.now.at + 77 + head.now.size) }
 {
     OpenFault::Tampered {
@@ -221,12 +223,12 @@ pub(crate) fn judge_read(
     head: &Head,
     batch: &mut [u8],
 ) -> Result<Option<Turn>, OpenFault>
-    requires whole { length batch.old ≡ 110 + head.now.size }
-    requires behind { 42 ≤ past.now.at }
-    requires fits { past.now.at + (110 + head.now.size) ≤ 268435456 }
+    requires whole { length batch.old ≡ batch_len + head.now.size }
+    requires behind { header_len ≤ past.now.at }
+    requires fits { past.now.at + (batch_len + head.now.size) ≤ most_store_bytes }
     ensures answer { Answers plain_option result
         (readers.read_turn (readers.key_bytes (option_copied owner.entry)) past.now head.now batch.old) }
-    ensures next { IfOk result (GoesOnAt (past.now.at + (110 + head.now.size))) }
+    ensures next { IfOk result (GoesOnAt (past.now.at + (batch_len + head.now.size))) }
     ensures turn { IfOk result (opening.IsNextOf past.now head.now) }
     ensures stands { IfOk result TurnStands }
     ensures no_disk { result ≢ Err OpenFault.DiskFault }
@@ -247,9 +249,9 @@ pub(crate) fn judge_again(
     head: &Head,
     batch: &mut [u8],
 ) -> Result<Turn, OpenFault>
-    requires whole { length batch.old ≡ 110 + head.now.size }
-    requires behind { 42 ≤ past.now.at }
-    requires fits { past.now.at + (110 + head.now.size) ≤ 268435456 }
+    requires whole { length batch.old ≡ batch_len + head.now.size }
+    requires behind { header_len ≤ past.now.at }
+    requires fits { past.now.at + (batch_len + head.now.size) ≤ most_store_bytes }
     ensures answer { Answers plain_turn result
         (readers.again_turn (readers.key_bytes (option_copied owner.entry)) past.now head.now batch.old) }
     ensures turn { IfOk result (opening.IsTurnOf past.now head.now) }

@@ -1,6 +1,8 @@
 //! Laws of the logs, as whoever reads them reads them.
 ghost use Rattle.std.specs.List.{sum_by};
 ghost use Rattle.std.specs.Prelude.{◌≡◌, ◌++◌, ◌+◌, ◌≤◌, List, ℕ, drop, length, Ok};
+ghost use Rattle.cry_base.specs.Layout.{batch_len, header_len};
+ghost use Rattle.cry_base.specs.Limits.{most_store_bytes};
 ghost use Rattle.commit_journal.specs.Answering.{and_then};
 ghost use Rattle.commit_journal.specs.Image.{Batch};
 ghost use Rattle.commit_journal.specs.Laws.{AreBodies, batches_from, placed_from};
@@ -11,7 +13,7 @@ ghost use Rattle.commit_journal.specs.Standing.{StandsFor};
 
 /// Law: the walk from gate to gate, by the turns of a reader who has the owner's key, gives that reader's log.
 pub fn owner_walks_the_log()
-    ensures { (owner bytes : List ℕ) → and_then (start_at owner bytes) (λ past. walk_at (turn_at owner) past 0 (drop 42 bytes))
+    ensures { (owner bytes : List ℕ) → and_then (start_at owner bytes) (λ past. walk_at (turn_at owner) past 0 (drop header_len bytes))
         ≡ log_verdict owner bytes }
 {}
 
@@ -43,6 +45,6 @@ pub fn writers_epochs_count_up()
 pub fn standing_bytes_are_opened_whole()
     ensures { (owner : List ℕ) (bodies : List PlainBody) (bytes : List ℕ) → StandsFor owner (batches_from 0 0 bodies) bytes
         → AreBodies 0 bodies →
-        42 + sum_by (λ (b : Batch). 110 + length b.payload) (batches_from 0 0 bodies) ≤ 268435456
-        → writer_log owner bytes ≡ Ok (placed_from 42 0 0 bodies) }
+        header_len + sum_by (λ (b : Batch). batch_len + length b.payload) (batches_from 0 0 bodies) ≤ most_store_bytes
+        → writer_log owner bytes ≡ Ok (placed_from header_len 0 0 bodies) }
 {}

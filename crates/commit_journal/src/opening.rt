@@ -2,6 +2,8 @@
 //! (docs/FORMAT.md, "Opening for writing").
 ghost use Rattle.std.specs.Prelude.{◌≡◌, ◌≢◌, ◌⊎◌, ◌<◌, ◌≤◌, ◌+◌, ◌^◌, Err, drop, length, is_some, IfOk, IfErr, OnErr, OnOk, All};
 ghost use Rattle.std.specs.Option.{option_to_list};
+ghost use Rattle.cry_base.specs.Layout.{batch_len, header_len};
+ghost use Rattle.cry_base.specs.Limits.{most_store_bytes};
 ghost use Rattle.cry_io.specs.Stops.{IsDurable};
 ghost use Rattle.cry_io.specs.Told.{WhereTold, WhereBothTold};
 ghost use Rattle.batch_log.specs.Moments.{GoesOn};
@@ -52,8 +54,8 @@ fn read_owned_head<D: Disk>(disk: &mut D, limit: u64, past: &Past) -> Result<Hea
     requires inside { past.now.at ≤ D.size_of disk.old }
     ensures answer { WhereTold (D.shown disk.old)
         (λ s. Answers (λ head. head) result (opening.owned_head limit past.now (drop past.now.at s))) }
-    ensures inside { IfOk result (λ head. past.now.at + (110 + head.size) ≤ D.size_of disk.old) }
-    ensures small { IfOk result (λ head. past.now.at + (110 + head.size) ≤ 268435456) }
+    ensures inside { IfOk result (λ head. past.now.at + (batch_len + head.size) ≤ D.size_of disk.old) }
+    ensures small { IfOk result (λ head. past.now.at + (batch_len + head.size) ≤ most_store_bytes) }
     ensures next { IfOk result (opening.IsNext past.now) }
     ensures read_only { IsOnlyRead D.shown D.size_of D.may_leave disk.old disk.new }
     ensures moments { IsSameThroughout D.shown D.may_leave D.moment D.since disk.old disk.new }
@@ -75,7 +77,7 @@ fn read_owned<D: Disk>(
     limit: u64,
     past: &Past,
 ) -> Result<OwnedTurn, OpenFault>
-    requires behind { 42 ≤ past.now.at }
+    requires behind { header_len ≤ past.now.at }
     requires small { past.now.at ≤ 2 ^ 32 }
     requires inside { past.now.at ≤ D.size_of disk.old }
     ensures answer { WhereTold (D.shown disk.old)
@@ -109,7 +111,7 @@ fn walk<D: Disk>(
     ensures unfilled { IfOk result (λ w. WhereTold (D.shown disk.old)
         (λ s. w.unfilled.items ≡ filling.unfilled_in owner.now.bytes (plain_log w.placed) s)) }
     ensures within { IfOk result (λ w. All (filling.IsWithin (D.size_of disk.old)) w.unfilled.items) }
-    ensures gated { IfOk result (λ w. WhereTold (D.shown disk.old) (opening.AreGated 42 (plain_log w.placed))) }
+    ensures gated { IfOk result (λ w. WhereTold (D.shown disk.old) (opening.AreGated header_len (plain_log w.placed))) }
     ensures room { IfOk result (λ w. opening.HasRoom w.past) }
     ensures end { IfOk result (λ w. w.past.at ≤ D.size_of disk.old) }
     ensures epochs { IfOk result (λ w. AreInEpochs 0 (plain_log w.placed)) }
@@ -158,7 +160,7 @@ impl Journal {
         owner: &Key<OwnerK>,
         limits: Limits,
     ) -> Result<Opened, OpenFault>
-        requires known { limits.store_bytes ≤ 268435456 }
+        requires known { limits.store_bytes ≤ most_store_bytes }
         ensures verdict { WhereTold (D.shown disk.old)
             (λ s. Answers opening.plain_opened result (opening.opening_verdict limits.store_bytes owner.now.bytes s)) }
         ensures opened { IfOk result (λ o. opening.IsOpened owner.now.bytes limits.store_bytes o.journal) }

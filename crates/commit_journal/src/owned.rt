@@ -1,5 +1,7 @@
 //! Judges a whole batch in memory as its owner, whose key unmasks it whether it is published or not.
 ghost use Rattle.std.specs.Prelude.{◌≡◌, ◌≢◌, ◌+◌, ◌≤◌, length, Err, IfOk};
+ghost use Rattle.cry_base.specs.Layout.{batch_len, header_len};
+ghost use Rattle.cry_base.specs.Limits.{most_store_bytes};
 ghost use Rattle.chacha_seal.specs.Sealing.{veil_of};
 ghost use Rattle.commit_journal.specs.Answering.{Answers};
 ghost use Rattle.commit_journal.specs.Filling as filling;
@@ -34,9 +36,9 @@ pub(crate) fn judge_owned(
     head: &Head,
     batch: &mut [u8],
 ) -> Result<OwnedTurn, OpenFault>
-    requires whole { length batch.old ≡ 110 + head.now.size }
-    requires behind { 42 ≤ past.now.at }
-    requires fits { past.now.at + (110 + head.now.size) ≤ 268435456 }
+    requires whole { length batch.old ≡ batch_len + head.now.size }
+    requires behind { header_len ≤ past.now.at }
+    requires fits { past.now.at + (batch_len + head.now.size) ≤ most_store_bytes }
     ensures answer { Answers (λ o. plain_turn o.turn) result (opening.owned_turn owner.now.bytes past.now head.now batch.old) }
     ensures unfilled { IfOk result (λ o. o.unfilled ≡ filling.unfilled_slot (past.now.at + 13) (log.slot_in batch.old)
         (veil_of owner.now.bytes head.now.epoch.0 head.now.number)) }

@@ -2,6 +2,7 @@
 //! written (docs/FORMAT.md, "Reading").
 ghost use Rattle.std.specs.Prelude.{◌≡◌, ◌≢◌, ◌⊎◌, ◌<◌, ◌≤◌, ◌+◌, ◌^◌, [], ◌∷◌, ◌++◌, None, Ok, Err, drop, length, option_copied, IfOk};
 ghost use Rattle.std.specs.Prelude.{IfErr, OnOk, OnErr, IsTrue, MatchResult, All};
+ghost use Rattle.cry_base.specs.Layout.{header_len};
 ghost use Rattle.cry_io.specs.Told.{WhereTold};
 ghost use Rattle.commit_journal.specs.Answering.{Answers, IsFault};
 ghost use Rattle.commit_journal.specs.Log.{log_verdict};
@@ -42,7 +43,7 @@ fn has_check(owner: Option<&Key<OwnerK>>, check: &[u8; 32]) -> bool
 #[tactic(auto, unfolding(crate::specs::Readers::header_of))]
 fn header_of(owner: Option<&Key<OwnerK>>, header: &[u8; HEADER_LEN]) -> Result<Past, OpenFault>
     ensures answer { Answers (λ past. past) result (readers.header_of (readers.key_bytes (option_copied owner.entry)) header.now) }
-    ensures place { IfOk result (λ past. past.at ≡ 42) }
+    ensures place { IfOk result (λ past. past.at ≡ header_len) }
     ensures fresh { IfOk result (λ past. (past.number ≡ 0) × (past.epoch.0 ≡ 0)) }
     ensures no_disk { result ≢ Err OpenFault.DiskFault }
     ensures no_key { option_copied owner.entry ≡ None → result ≢ Err OpenFault.WrongKey }
@@ -66,9 +67,9 @@ fn header_of(owner: Option<&Key<OwnerK>>, header: &[u8; HEADER_LEN]) -> Result<P
 fn read_header<D: Disk>(disk: &mut D, owner: Option<&Key<OwnerK>>) -> Result<Past, OpenFault>
     ensures answer { WhereTold (D.shown disk.old)
         (λ s. Answers (λ past. past) result (readers.header_at (readers.key_bytes (option_copied owner.entry)) s)) }
-    ensures place { IfOk result (λ past. past.at ≡ 42) }
+    ensures place { IfOk result (λ past. past.at ≡ header_len) }
     ensures fresh { IfOk result (λ past. (past.number ≡ 0) × (past.epoch.0 ≡ 0)) }
-    ensures inside { OnOk result (42 ≤ D.size_of disk.old) }
+    ensures inside { OnOk result (header_len ≤ D.size_of disk.old) }
     ensures read_only { IsOnlyRead D.shown D.size_of D.may_leave disk.old disk.new }
     ensures counts { D.faults disk.old ≤ D.faults disk.new }
     ensures disk_fault { result ≡ Err OpenFault.DiskFault → D.faults disk.old < D.faults disk.new }
@@ -89,7 +90,7 @@ fn read_turn<D: Disk>(
     owner: Option<&LogKey>,
     past: &Past,
 ) -> Result<Option<Turn>, OpenFault>
-    requires behind { 42 ≤ past.now.at }
+    requires behind { header_len ≤ past.now.at }
     requires small { past.now.at ≤ 2 ^ 32 }
     ensures answer { WhereTold (D.shown disk.old)
         (λ s. Answers plain_option result (turn_by (readers.read_turn (readers.key_bytes (option_copied owner.entry))) past.now
@@ -115,7 +116,7 @@ fn read_again<D: Disk>(
     owner: Option<&LogKey>,
     past: &Past,
 ) -> Result<Turn, OpenFault>
-    requires behind { 42 ≤ past.now.at }
+    requires behind { header_len ≤ past.now.at }
     requires small { past.now.at ≤ 2 ^ 32 }
     ensures answer { WhereTold (D.shown disk.old)
         (λ s. Answers plain_turn result (streaming.again_at (readers.key_bytes (option_copied owner.entry)) past.now s)) }
@@ -195,7 +196,7 @@ impl PublicLog {
     }
 
     fn behind_header(alloc: Global, owner: Option<LogKey>, past: Past) -> PublicLog
-        requires { (past.at ≡ 42) × (past.number ≡ 0) × (past.epoch.0 ≡ 0) }
+        requires { (past.at ≡ header_len) × (past.number ≡ 0) × (past.epoch.0 ≡ 0) }
         ensures { result ≡ record { owner = readers.key_bytes owner; given = []; starts = []; past = past } }
     {
         PublicLog {

@@ -1,5 +1,7 @@
 //! Reads the header of a store file, and the head of a batch. The file is never written.
 ghost use Rattle.std.specs.Prelude.{◌≡◌, ◌≢◌, ◌<◌, ◌≤◌, ◌+◌, ◌^◌, Err, drop, slice_index, slice_range, IfOk, OnOk};
+ghost use Rattle.cry_base.specs.Layout.{batch_len, header_len};
+ghost use Rattle.cry_base.specs.Limits.{most_store_bytes};
 ghost use Rattle.cry_io.specs.Told.{WhereTold};
 ghost use Rattle.commit_journal.specs.Answering.{Answers};
 ghost use Rattle.commit_journal.specs.Log as log;
@@ -28,7 +30,7 @@ pub(crate) fn array_at(bytes: &[u8; HEADER_LEN]) -> [u8; 32]
 #[tactic(auto, unfolding(crate::specs::Log::start_of))]
 fn start_of(owner: &LogKey, header: &[u8; HEADER_LEN]) -> Result<Past, OpenFault>
     ensures answer { Answers (λ past. past) result (log.start_of owner.now.bytes header.now) }
-    ensures place { IfOk result (λ past. past.at ≡ 42) }
+    ensures place { IfOk result (λ past. past.at ≡ header_len) }
     ensures fresh { IfOk result (λ past. (past.number ≡ 0) × (past.epoch.0 ≡ 0)) }
     ensures gate { IfOk result (λ past. past.gate ≡ slice_index header.now 41) }
     ensures no_disk { result ≢ Err OpenFault.DiskFault }
@@ -51,9 +53,9 @@ fn start_of(owner: &LogKey, header: &[u8; HEADER_LEN]) -> Result<Past, OpenFault
 
 pub(crate) fn read_start<D: Disk>(disk: &mut D, owner: &LogKey) -> Result<Past, OpenFault>
     ensures answer { WhereTold (D.shown disk.old) (λ s. Answers (λ past. past) result (log.start_at owner.now.bytes s)) }
-    ensures place { IfOk result (λ past. past.at ≡ 42) }
+    ensures place { IfOk result (λ past. past.at ≡ header_len) }
     ensures fresh { IfOk result (λ past. (past.number ≡ 0) × (past.epoch.0 ≡ 0)) }
-    ensures inside { OnOk result (42 ≤ D.size_of disk.old) }
+    ensures inside { OnOk result (header_len ≤ D.size_of disk.old) }
     ensures gate { IfOk result (λ past. WhereTold (D.shown disk.old) (λ s. slice_index s 41 ≡ past.gate)) }
     ensures read_only { IsOnlyRead D.shown D.size_of D.may_leave disk.old disk.new }
     ensures moments { IsSameThroughout D.shown D.may_leave D.moment D.since disk.old disk.new }
@@ -72,8 +74,8 @@ pub(crate) fn read_start<D: Disk>(disk: &mut D, owner: &LogKey) -> Result<Past, 
 pub(crate) fn read_head<D: Disk>(disk: &mut D, past: &Past) -> Result<Head, OpenFault>
     requires small { past.now.at ≤ 2 ^ 32 }
     ensures answer { WhereTold (D.shown disk.old) (λ s. Answers (λ head. head) result (log.head_at past.now (drop past.now.at s))) }
-    ensures inside { IfOk result (λ head. past.now.at + (110 + head.size) ≤ D.size_of disk.old) }
-    ensures small { IfOk result (λ head. past.now.at + (110 + head.size) ≤ 268435456) }
+    ensures inside { IfOk result (λ head. past.now.at + (batch_len + head.size) ≤ D.size_of disk.old) }
+    ensures small { IfOk result (λ head. past.now.at + (batch_len + head.size) ≤ most_store_bytes) }
     ensures next { IfOk result (opening.IsNext past.now) }
     ensures read_only { IsOnlyRead D.shown D.size_of D.may_leave disk.old disk.new }
     ensures moments { IsSameThroughout D.shown D.may_leave D.moment D.since disk.old disk.new }

@@ -1,6 +1,8 @@
 //! Laws of bytes that stand for batches.
 ghost use Rattle.std.specs.Prelude.{◌≡◌, ◌≢◌, ◌≤◌, ◌+◌, ℕ, All, List, [], ◌∷◌, ◌++◌, length, map, true, Ok};
 ghost use Rattle.std.specs.List.{sum_by};
+ghost use Rattle.cry_base.specs.Layout.{batch_len, header_len};
+ghost use Rattle.cry_base.specs.Limits.{most_store_bytes};
 ghost use Rattle.commit_journal.specs.Gates.{gated, recovered, slot_payload};
 ghost use Rattle.commit_journal.specs.Image.{Batch, batch_veil, image, spell_batch, spell_batches};
 ghost use Rattle.commit_journal.specs.Laws.{AreBodies, batches_from, placed_from};
@@ -11,7 +13,7 @@ ghost use Rattle.commit_journal.specs.Standing.{HasSizes, StandsFor, StandsWhole
 
 /// Law: an image has 41 bytes, and 110 more than its payload for each batch.
 pub fn image_has_its_length()
-    ensures { (owner : List ℕ) (bs : List Batch) → length (image owner bs) ≡ 41 + sum_by (λ b. 110 + length b.payload) bs }
+    ensures { (owner : List ℕ) (bs : List Batch) → length (image owner bs) ≡ 41 + sum_by (λ b. batch_len + length b.payload) bs }
 {}
 
 /// Law: the image of more batches begins with that of the first ones, and the others follow the last owner tag. The last
@@ -44,9 +46,9 @@ pub fn standing_bytes_tell_their_batches()
 pub fn standing_bytes_are_read_as_published()
     ensures { (owner : List ℕ) (bodies : List PlainBody) (bytes : List ℕ) (stands : StandsFor owner (batches_from 0 0 bodies) bytes)
         → AreBodies 0 bodies →
-        42 + sum_by (λ (b : Batch). 110 + length b.payload) (batches_from 0 0 bodies) ≤ 268435456
+        header_len + sum_by (λ (b : Batch). batch_len + length b.payload) (batches_from 0 0 bodies) ≤ most_store_bytes
         → IsHonest owner stands.slot (batches_from 0 0 bodies) →
-        log_verdict owner bytes ≡ Ok (placed_from 42 0 0 (published_of owner stands.slot (batches_from 0 0 bodies) bodies)) }
+        log_verdict owner bytes ≡ Ok (placed_from header_len 0 0 (published_of owner stands.slot (batches_from 0 0 bodies) bodies)) }
 {}
 
 /// Law: a whole image is published to the last batch, its last slot is honest, and each slot unmasks the payload of its batch.

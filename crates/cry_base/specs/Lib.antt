@@ -1,4 +1,5 @@
 pub mod Lending
+pub mod Layout
 pub mod Limits
 pub mod Listed
 pub mod Naming

@@ -2,7 +2,23 @@
 use Rattle.std.specs.Prelude.{ℕ, Option, Some, None, ◌==◌, if◌then◌else◌}
 use Rattle.cry_base.specs.declared.limits.Limits.{Limits}
 
+-- the most bytes that a store file of version 1 may have
+abbrev pub most_store_bytes : ℕ
+most_store_bytes = 268435456
+
+-- the most bytes that one file in it may have
+abbrev pub most_file_bytes : ℕ
+most_file_bytes = 1048576
+
+-- the most bytes that a name may have
+abbrev pub most_name_bytes : ℕ
+most_name_bytes = 64
+
+-- the most names that a node may stand below the root
+abbrev pub most_depth : ℕ
+most_depth = 64
+
 -- the limits of version 1, the one version there is
 abbrev pub limits_of_version : ℕ → Option Limits
 limits_of_version version =
-    if version == 1 then Some (record { store_bytes = 268435456; file_bytes = 1048576 }) else None
+    if version == 1 then Some (record { store_bytes = most_store_bytes; file_bytes = most_file_bytes }) else None

@@ -2,6 +2,7 @@
 use Rattle.std.specs.Prelude.{◌≡◌, ℕ, Bool, false, not, ◌&&◌, ◌||◌, nat_le, ◌==◌, List, [], ◌∷◌, length, flat_map, IsTrue, if◌then◌else◌}
 use Rattle.std.specs.Prelude.{bytes_eq, codes}
 use Rattle.std.specs.List.{list_all}
+use Rattle.cry_base.specs.Limits.{most_name_bytes}
 
 -- from the one number up to the other
 unfoldable pub is_between : ℕ → ℕ → ℕ → Bool
@@ -13,7 +14,7 @@ is_name_byte b = is_between 65 90 b || is_between 97 122 b || is_between 48 57 b
 
 -- 1 to 64 such bytes, and neither "." nor ".."
 unfoldable pub is_name : List ℕ → Bool
-is_name name = is_between 1 64 (length name) && list_all is_name_byte name && not (bytes_eq name (codes "."))
+is_name name = is_between 1 most_name_bytes (length name) && list_all is_name_byte name && not (bytes_eq name (codes "."))
     && not (bytes_eq name (codes ".."))
 
 -- a slash before each name, and a slash alone where there is no name

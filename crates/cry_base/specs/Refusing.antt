@@ -2,6 +2,7 @@
 use Rattle.std.specs.Prelude.{ℕ, ◌+◌, ◌-◌, max, Bool, true, false, cond, not, ◌&&◌, ◌||◌, nat_lt, ◌==◌, List, [], ◌∷◌, map, length, find}
 use Rattle.std.specs.Prelude.{fold, Option, Some, None, option_map, is_some, is_none, bytes_eq}
 use Rattle.std.specs.List.{list_any, list_all}
+use Rattle.cry_base.specs.Limits.{most_depth}
 use Rattle.cry_base.specs.Naming.{is_name, is_path, is_root_path, parent_path, names_of}
 use Rattle.cry_base.specs.Requests.{Request, paths_of}
 use Rattle.cry_base.specs.Requests.Request.{AddHolder, MakeFolder, WriteFile, Remove, Rename, Relocate, Grant, Revoke}
@@ -134,11 +135,11 @@ depth_at s path = elim (node_at s path) [ None ↦ 0 | Some node ↦ depth_of s 
 -- 9: a node would stand more than 64 names below the root
 unfoldable pub goes_too_deep : Store → Request → Bool
 goes_too_deep s AddHolder = false
-goes_too_deep s (MakeFolder path) = nat_lt 64 (length (names_of path))
-goes_too_deep s (WriteFile path bytes) = nat_lt 64 (length (names_of path))
+goes_too_deep s (MakeFolder path) = nat_lt most_depth (length (names_of path))
+goes_too_deep s (WriteFile path bytes) = nat_lt most_depth (length (names_of path))
 goes_too_deep s (Remove path) = false
 goes_too_deep s (Rename path name) = false
-goes_too_deep s (Relocate path into) = nat_lt 64 (depth_at s into + 1 + height_of s (node_at s path))
+goes_too_deep s (Relocate path into) = nat_lt most_depth (depth_at s into + 1 + height_of s (node_at s path))
 goes_too_deep s (Grant holder path) = false
 goes_too_deep s (Revoke holder path) = false
 

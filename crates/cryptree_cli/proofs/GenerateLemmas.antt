@@ -7,7 +7,7 @@ use Rattle.cry_io.specs.Told.{WhereTold, WhereBothTold}
 use Rattle.cry_io.proofs.ToldLemmas.{told_again}
 use Rattle.journal_bytes.specs.Bytes.{batches_of}
 use Rattle.journal_bytes.specs.Script.{opened}
-use Rattle.key_links.specs.Fresh.{piece}
+use Rattle.key_links.specs.Fresh.{fresh_draw_len, piece}
 use Rattle.commit_journal.specs.Standing.{StandsWhole}
 use Rattle.public_fold.specs.Journal.{Journal}
 use Rattle.script_text.specs.Printing.{owner_line}
@@ -172,8 +172,8 @@ dry_behind limits o left need before between after shown store dry =
 
 pub unmade : (R D : Type 0) (left : R → Option (List ℕ)) (fault : ApplyFault) (random_old random_new : R) (disk_old disk_new : D) → is_some (left random_new) ≡ is_some (left random_old)
     → ((had need : ℕ) → fault ≡ faults.RandomShort had need
-    → (need ≡ 192) × (had < 192) × WhereBothTold (left random_old) (left random_new) (λ before after. (length before ≡ had) × (after ≡ [])))
-    → (fault ≡ faults.DiskFault → WhereBothTold (left random_old) (left random_new) (λ before after. length before ≡ 192 + length after))
+    → (need ≡ fresh_draw_len) × (had < fresh_draw_len) × WhereBothTold (left random_old) (left random_new) (λ before after. (length before ≡ had) × (after ≡ [])))
+    → (fault ≡ faults.DiskFault → WhereBothTold (left random_old) (left random_new) (λ before after. length before ≡ fresh_draw_len + length after))
     → fault ≢ faults.Closed → (fault ≡ faults.OutOfMemory → (random_new ≡ random_old) × (disk_new ≡ disk_old)) → (fault ≢ faults.DiskFault → disk_new ≡ disk_old)
     → IsUnmade left (apply_status fault) random_old random_new disk_old disk_new
 unmade R D left faults.RandomFault random_old random_new disk_old disk_new told short drew unclosed none kept = kept (λ e. absurd cc)

@@ -3,7 +3,7 @@ use Rattle.std.proofs.Common.{◌≡◌, ◌≢◌, ◌+◌, ◌<◌, ◌⊎◌,
 use Rattle.std.specs.Prelude.{is_some, true, false, IsTrue}
 use Rattle.cry_io.specs.Stops.{IsDurable}
 use Rattle.cry_io.specs.Told.{WhereTold, WhereBothTold}
-use Rattle.key_links.specs.Fresh.{fresh_image, piece}
+use Rattle.key_links.specs.Fresh.{fresh_draw_len, fresh_image, piece}
 use Rattle.journal_bytes.specs.Bytes.{image_of}
 use Rattle.journal_bytes.specs.Journals.{StandsWholeForJournal}
 use Rattle.journal_bytes.specs.Keys.{AreWhole}
@@ -64,7 +64,7 @@ never_fewer limits o before after shown status told store x was fewer =
     absurd (omega (arith, ap length (store.2 x again.0 was again.1), length-append store.0 again.0, store.1.all_drawn, fewer))
 
 -- a source that ended tells how short it was
-pub is_short : (left need : ℕ) (before after : Option (List ℕ)) → is_some after ≡ is_some before → (need ≡ 192) × (left < 192) × WhereBothTold before after (λ x y. (length x ≡ left) × (y ≡ []))
+pub is_short : (left need : ℕ) (before after : Option (List ℕ)) → is_some after ≡ is_some before → (need ≡ fresh_draw_len) × (left < fresh_draw_len) × WhereBothTold before after (λ x y. (length x ≡ left) × (y ≡ []))
     → IsShort left need before after
 is_short left need before after told short = record {
   need_is = short.0;
@@ -83,8 +83,8 @@ short_of faults.OutOfMemory left need is = absurd (let no : OutOfMemory ≡ Rand
 
 -- where fewer bytes were left than a store takes, the making of it ended so
 pub ends_short : (fault : ApplyFault) (before after : Option (List ℕ)) → is_some after ≡ is_some before
-    → ((left need : ℕ) → fault ≡ faults.RandomShort left need → (need ≡ 192) × (left < 192) × WhereBothTold before after (λ x y. (length x ≡ left) × (y ≡ [])))
-    → (fault ≡ faults.DiskFault → WhereBothTold before after (λ x y. length x ≡ 192 + length y))
+    → ((left need : ℕ) → fault ≡ faults.RandomShort left need → (need ≡ fresh_draw_len) × (left < fresh_draw_len) × WhereBothTold before after (λ x y. (length x ≡ left) × (y ≡ [])))
+    → (fault ≡ faults.DiskFault → WhereBothTold before after (λ x y. length x ≡ fresh_draw_len + length y))
     → fault ≢ faults.Closed → WhereTold before (EndsShort (apply_status fault))
 ends_short faults.RandomFault before after told short drew unclosed x was fewer = inr (inl refl)
 ends_short (faults.RandomShort left need) before after told short drew unclosed x was fewer =

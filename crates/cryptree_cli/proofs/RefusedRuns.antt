@@ -2,6 +2,7 @@
 use Rattle.std.proofs.Common.{◌≡◌, ◌≢◌, ◌⊎◌, ⊎_elim, inl, inr, ℕ, List, Option, None, Some, refl, sym, ap, ◌∙◌}
 use Rattle.std.specs.Prelude.{IsTrue}
 use Rattle.std.proofs.lemmas.Bool.{false≢true}
+use Rattle.cry_base.specs.Limits.{most_store_bytes}
 use Rattle.commit_journal.specs.Reading.{IsUntouched}
 use Rattle.commit_journal.specs.declared.fault.OpenFault.{OpenFault}
 use Rattle.commit_journal.specs.declared.fault.OpenFault.TheVariants as opening
@@ -53,7 +54,7 @@ no_refusal (opening.Tampered batch at) is other = absurd cc
 -- what is left of a store that isn't opened, but for a fault of the disk
 pub leaves_unopened : {D : Type 0} (shown : D → Option (List ℕ)) (size_of : D → ℕ) (may_leave : D → List ℕ → Type 0) (typed : Option (List ℕ)) (key : List ℕ) (old new : D) (fault : OpenFault) →
     open_status fault ≢ statuses.DiskFault → WhereTold typed (λ bytes. key_in_lines (lines_in bytes) ≡ Some key)
-    → (fault ≡ opening.DiskFault) ⊎ LeavesRefused shown size_of may_leave 268435456 key old new → LeavesTyped shown size_of may_leave typed old new
+    → (fault ≡ opening.DiskFault) ⊎ LeavesRefused shown size_of may_leave most_store_bytes key old new → LeavesTyped shown size_of may_leave typed old new
 leaves_unopened shown size_of may_leave typed key old new fault other hands either =
     ⊎_elim (λ disk. no_refusal fault disk other)
     (λ leaves. ⊎_elim (λ same. inl same) (λ filled. inr (filled.0, λ x y e f. (key, hands, filled.1 x y e f), filled.2)) leaves) either

@@ -3,6 +3,7 @@ use Rattle.std.proofs.Common.{◌≡◌, ℕ, List, [], false, Option, None, Som
 use Rattle.std.proofs.lemmas.Bool.{false≢true}
 use Rattle.commit_journal.specs.declared.fault.OpenFault.{OpenFault}
 use Rattle.commit_journal.specs.declared.fault.OpenFault.TheVariants as opening
+use Rattle.cry_base.specs.Limits.{most_file_bytes, most_store_bytes}
 use Rattle.cry_base.specs.declared.limits.Limits.{Limits}
 use Rattle.journal_bytes.specs.Journals.{IsSettled, ShowsJournal}
 use Rattle.journal_bytes.specs.Script.{opened}
@@ -110,12 +111,12 @@ unopened_ends fault why limits key m lines left was shown written may_leave Keep
 
 -- an owner who opened a journal's store stands where a session begins
 pub opened_stands : (key : List ℕ) (m : Journal) (o : OwnerView) (shown : Option (List ℕ)) (may_leave : List ℕ → Type 0) → IsOwnerOf m o
-    → IsFresh key 268435456 1048576 o → IsSettled key m shown may_leave → StandsAt version_limits key (opened m []) o shown
+    → IsFresh key most_store_bytes most_file_bytes o → IsSettled key m shown may_leave → StandsAt version_limits key (opened m []) o shown
 unfolding opened
 opened_stands key m o shown may_leave is fresh settled = record {
   owner_is = is;
   has_key = fresh.same_key;
-  has_limits = ap (λ n. let l : Limits = record { store_bytes = n; file_bytes = o.file_bytes } in l) fresh.limit ∙ ap (λ n. let l : Limits = record { store_bytes = 268435456; file_bytes = n } in l) fresh.bound;
+  has_limits = ap (λ n. let l : Limits = record { store_bytes = n; file_bytes = o.file_bytes } in l) fresh.limit ∙ ap (λ n. let l : Limits = record { store_bytes = most_store_bytes; file_bytes = n } in l) fresh.bound;
   has_begun = fresh.not_begun;
   disk_stands = (settled.shows.0, settled.shows.1, settled.shows.2.stands);
 }

@@ -5,6 +5,7 @@ use Rattle.commit_journal.proofs.KeptLemmas.{kept_starts, kept_then, prefix_same
 use Rattle.commit_journal.proofs.Standings.{whole_stands}
 use Rattle.journal_bytes.specs.Bytes.{batches_of}
 use Rattle.journal_bytes.specs.Journals.{HoldsBetween, IsSettled, Kept, StandsForJournal, StandsWholeForJournal}
+use Rattle.cry_base.specs.Limits.{most_store_bytes}
 use Rattle.cry_base.specs.Requests.{Request}
 use Rattle.cry_base.specs.declared.commands.Refusal.{Refusal}
 use Rattle.cry_base.specs.declared.limits.Limits.{Limits}
@@ -129,7 +130,7 @@ told_stands key m shown s is stands = λ x told. let same : s ≡ x = let both =
 
 -- what the opening of a store says of its moments
 abbrev pub OpeningKeeps : List ℕ → Journal → Option (List ℕ) → (List ℕ → Type 0) → (List ℕ → List ℕ → Type 0) → Type 0
-OpeningKeeps key m was could_leave since = (m1 m2 : Journal) → HoldsBetween key m1 m2 was could_leave → WhereTold was (StandsForJournal key m) → end_of m ≤ 268435456 → Kept key m1 m2 m2 since
+OpeningKeeps key m was could_leave since = (m1 m2 : Journal) → HoldsBetween key m1 m2 was could_leave → WhereTold was (StandsForJournal key m) → end_of m ≤ most_store_bytes → Kept key m1 m2 m2 since
 
 -- the disk wasn't touched
 pub kept_unread : (key : List ℕ) (m : Journal) (was : Option (List ℕ)) (could_leave : List ℕ → Type 0) (since : List ℕ → List ℕ → Type 0)
@@ -138,14 +139,14 @@ kept_unread key m was could_leave since only m1 m2 holds low = kept_starts (Stan
 
 -- the store wasn't opened
 pub kept_unopened : (given key : List ℕ) (m : Journal) (was : Option (List ℕ)) (could_leave : List ℕ → Type 0) (since : List ℕ → List ℕ → Type 0)
-    → given ≡ key → OpeningKeeps given m was could_leave since → WhereTold was (StandsForJournal given m) → end_of m ≤ 268435456 → KeepsUpTo key m was could_leave since m
+    → given ≡ key → OpeningKeeps given m was could_leave since → WhereTold was (StandsForJournal given m) → end_of m ≤ most_store_bytes → KeepsUpTo key m was could_leave since m
 kept_unopened given key m was could_leave since same keeps stands small m1 m2 holds low =
     let there = subst (λ k. HoldsBetween k m1 m2 was could_leave) (sym same) holds in
     kept_up_to_any key m1 m2 m since (subst (λ k. Kept k m1 m2 m2 since) same (keeps m1 m2 there stands small))
 
 -- it was opened, and the lines kept the journal up to what they reached
 pub kept_opened : (given key : List ℕ) (m : Journal) (was : Option (List ℕ)) (could_leave : List ℕ → Type 0) (first middle : ℕ) (past since : ℕ → List ℕ → List ℕ → Type 0)
-    → given ≡ key → OpeningKeeps given m was could_leave (past first) → WhereTold was (StandsForJournal given m) → end_of m ≤ 268435456
+    → given ≡ key → OpeningKeeps given m was could_leave (past first) → WhereTold was (StandsForJournal given m) → end_of m ≤ most_store_bytes
     → first ≤ middle → GoesOn middle past since
     → (reached : Journal) → LinesKeepUpTo key m (since middle) reached → KeepsUpTo key m was could_leave (since first) reached
 kept_opened given key m was could_leave first middle past since same keeps stands small order time reached lines m1 m2 holds low =

@@ -6,7 +6,7 @@ use Rattle.cry_base.specs.Requests.{Request}
 use Rattle.cry_base.specs.declared.limits.Limits.{Limits}
 use Rattle.cry_io.specs.Told.{WhereBothTold}
 use Rattle.journal_bytes.specs.Script.{opened}
-use Rattle.key_links.specs.Fresh.{piece}
+use Rattle.key_links.specs.Fresh.{fresh_draw_len, piece}
 use Rattle.public_fold.specs.Journal.{Journal}
 use Rattle.script_text.specs.Printing.{owner_line}
 use Rattle.store_gen.specs.Rule.{requests, script_of}
@@ -123,7 +123,7 @@ Fills status seed count key m seen may_leave KeepsTo before after =
 pub record Generates (status : Status) (seed count : ℕ) (left_before left_after shown : Option (List ℕ)) (may_leave : List ℕ → Type 0)
     (since : ℕ → List ℕ → List ℕ → Type 0) (written_before written_after : Option (List ℕ)) : Type 0 where
   pub drawn : List ℕ
-  pub drawn_length : length drawn ≡ 192
+  pub drawn_length : length drawn ≡ fresh_draw_len
   pub behind : Option (List ℕ)
   pub next : WhereBothTold left_before behind (λ before after. before ≡ drawn ++ after)
   pub behind_told : is_some behind ≡ is_some left_before
@@ -139,11 +139,12 @@ IsUnmade left statuses.RandomFault random_old random_new disk_old disk_new = dis
 IsUnmade left (statuses.RandomShort had need) random_old random_new disk_old disk_new =
     IsShort had need (left random_old) (left random_new) × (disk_new ≡ disk_old)
 IsUnmade left statuses.DiskFault random_old random_new disk_old disk_new =
-    WhereBothTold (left random_old) (left random_new) (λ before after. length before ≡ 192 + length after)
+    WhereBothTold (left random_old) (left random_new) (λ before after. length before ≡ fresh_draw_len + length after)
 IsUnmade left _ random_old random_new disk_old disk_new = ⊥
 
 -- the random source ended in the draw that makes the store, or behind it in a command's
 abbrev pub EndsDry : ℕ → ℕ → Option (List ℕ) → Option (List ℕ) → Type 0
 EndsDry left need before after = IsShort left need before after
-    ⊎ ((middle : Option (List ℕ)) × WhereBothTold before middle (λ x y. (drawn : List ℕ) × (length drawn ≡ 192) × (x ≡ drawn ++ y))
+    ⊎ ((middle : Option (List ℕ))
+    × WhereBothTold before middle (λ x y. (drawn : List ℕ) × (length drawn ≡ fresh_draw_len) × (x ≡ drawn ++ y))
     × RanDry left need middle after)

@@ -1,5 +1,6 @@
 -- What `run` leaves of a store that it refuses for its bytes. This project's own, docs/FORMAT.md, "The program".
 use Rattle.std.specs.Prelude.{◌≡◌, ◌⊎◌, ℕ, Bool, true, false, List, Option, Some}
+use Rattle.cry_base.specs.Limits.{most_store_bytes}
 use Rattle.commit_journal.specs.Reading.{IsUntouched}
 use Rattle.cry_io.specs.Stops.{IsDurable}
 use Rattle.cry_io.specs.Told.{WhereTold, WhereBothTold}
@@ -20,7 +21,7 @@ is_refusal _ = false
 -- nothing else was written
 abbrev pub FillsTyped : Option (List ℕ) → List ℕ → List ℕ → Type 0
 FillsTyped typed old new = (key : List ℕ) × WhereTold typed (λ bytes. key_in_lines (lines_in bytes) ≡ Some key)
-    × IsFilled 268435456 key old new
+    × IsFilled most_store_bytes key old new
 
 -- nothing was written; or the slots of a log that passes every test were filled, and stay so
 abbrev pub LeavesTyped : {D : Type 0} → (D → Option (List ℕ)) → (D → ℕ) → (D → List ℕ → Type 0) → Option (List ℕ) → D → D → Type 0

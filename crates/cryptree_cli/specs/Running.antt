@@ -2,6 +2,7 @@
 use Rattle.std.specs.Prelude.{◌≡◌, ◌≤◌, ◌<◌, ◌⊎◌, ℕ, ◌+◌, ◌*◌, ◌==◌, nat_lt, Bool, true, false, List, [], ◌∷◌, ◌++◌, drop, length, Option}
 use Rattle.std.specs.Prelude.{Some, None, Result, Ok, Err}
 use Rattle.commit_journal.specs.Answering.{Damaged, NotAStore, Tampered, WrongKey}
+use Rattle.cry_base.specs.Limits.{most_file_bytes, most_store_bytes}
 use Rattle.cry_base.specs.Requests.{Request}
 use Rattle.cry_base.specs.declared.commands.Reply.{Reply}
 use Rattle.cry_base.specs.declared.limits.Limits.{Limits}
@@ -264,7 +265,7 @@ open_status opening.OutOfMemory = statuses.OutOfMemory
 
 -- the sizes of the one version of stores that there is
 abbrev pub version_limits : Limits
-version_limits = record { store_bytes = 268435456; file_bytes = 1048576 }
+version_limits = record { store_bytes = most_store_bytes; file_bytes = most_file_bytes }
 
 -- a first line that hands in no owner's key is bad, unless the input failed or memory was wanting first
 abbrev pub FirstIsBad : Status → Type 0

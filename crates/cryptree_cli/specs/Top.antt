@@ -10,7 +10,7 @@ use Rattle.cryptree_cli.specs.declared.words.Form.{Form}
 use Rattle.cryptree_cli.specs.declared.words.Form.TheVariants.{Make, Run, Open, Audit, Help, Version}
 use Rattle.cryptree_cli.specs.declared.words.Form.TheVariants as forms
 use Rattle.cryptree_cli.specs.declared.texts.TheConstants.{HELP, VERSION}
-use Rattle.key_links.specs.Fresh.{piece, fresh_image}
+use Rattle.key_links.specs.Fresh.{fresh_draw_len, fresh_image, piece}
 use Rattle.script_text.specs.Printing.{owner_line}
 use Rattle.cryptree_cli.specs.Words.{form_of_words}
 
@@ -61,7 +61,7 @@ PrintsFront piece before after = (n : ℕ) × (n ≤ length piece) × (after ≡
 pub record Makes (Prints : List ℕ → List ℕ → List ℕ → Type 0) (left_before left_after shown : Option (List ℕ)) (may_leave : List ℕ
     → Type 0) (written_before written_after : Option (List ℕ)) : Type 0 where
   pub drawn : List ℕ
-  pub drawn_length : length drawn ≡ 192
+  pub drawn_length : length drawn ≡ fresh_draw_len
   pub next : WhereBothTold left_before left_after (λ before after. before ≡ drawn ++ after)
   pub shows : WhereTold shown (λ s. s ≡ fresh_image drawn)
   pub settled : WhereTold shown (λ s. IsSettled (piece drawn 0) (made_with (root_keys drawn)) shown may_leave)
@@ -69,12 +69,12 @@ pub record Makes (Prints : List ℕ → List ℕ → List ℕ → Type 0) (left_
 
 -- the source ended after so many bytes of the 192 that `make` draws, and they are gone
 pub record IsShort (left need : ℕ) (left_before left_after : Option (List ℕ)) : Type 0 where
-  pub need_is : need ≡ 192
-  pub fewer : left < 192
+  pub need_is : need ≡ fresh_draw_len
+  pub fewer : left < fresh_draw_len
   pub had : WhereTold left_before (λ bytes. length bytes ≡ left)
   pub gone : WhereTold left_after (λ bytes. bytes ≡ [])
 
 -- a draw of 192 bytes from a source that has fewer: it ends so, if memory was there and the source didn't fail
 abbrev pub EndsShort : Status → List ℕ → Type 0
 EndsShort status bytes =
-    length bytes < 192 → (status ≡ RandomShort (length bytes) 192) ⊎ ((status ≡ RandomFault) ⊎ (status ≡ OutOfMemory))
+    length bytes < fresh_draw_len → (status ≡ RandomShort (length bytes) fresh_draw_len) ⊎ ((status ≡ RandomFault) ⊎ (status ≡ OutOfMemory))

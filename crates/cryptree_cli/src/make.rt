@@ -1,5 +1,6 @@
 //! The command `make`: the disk's size, all memory, one draw, the store, the owner's line, in this order.
 ghost use Rattle.std.specs.Prelude.{◌≡◌, ◌≢◌, ◌<◌, ◌≤◌, ◌⊎◌, ◌↔◌, ℕ, [], is_some, IfOk, IsTrue};
+ghost use Rattle.key_links.specs.Fresh.{fresh_store_len};
 ghost use Rattle.cry_io.specs.Stops.{IsDurable};
 ghost use Rattle.cry_io.specs.Told.{WhereTold, WhereBothTold};
 ghost use Rattle.script_text.specs.Printing.{owner_line};
@@ -36,7 +37,7 @@ pub(crate) fn make<R: Source, D: Disk, W: Sink>(
     ensures cut_short { result ≡ Status.WriteFault → Makes PrintsFront
         (R.left random.old) (R.left random.new) (D.shown disk.new) (D.may_leave disk.new) (W.written out.old) (W.written out.new) }
     ensures stays { (result ≡ Status.Done) ⊎ (result ≡ Status.WriteFault) →
-        IsDurable (D.may_leave disk.new) (D.shown disk.new) × (D.size_of disk.new ≡ 819) }
+        IsDurable (D.may_leave disk.new) (D.shown disk.new) × (D.size_of disk.new ≡ fresh_store_len) }
 
     ensures random_kept { IsTrue (is_before_draw result) → random.new ≡ random.old }
     ensures disk_kept { IsTrue (is_before_write result) → disk.new ≡ disk.old }

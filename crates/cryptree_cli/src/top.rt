@@ -1,5 +1,6 @@
 //! The call that the program makes.
 ghost use Rattle.std.specs.Prelude.{◌≡◌, ◌≢◌, ◌<◌, ◌≤◌, ◌⊎◌, ◌↔◌, ℕ, [], length, is_some, None, IsTrue, IsSome};
+ghost use Rattle.key_links.specs.Fresh.{fresh_draw_len, fresh_store_len};
 ghost use Rattle.commit_journal.specs.Holding.{GoesOn};
 ghost use Rattle.cry_io.specs.Stops.{IsDurable};
 ghost use Rattle.cry_io.specs.Told.{WhereTold, WhereBothTold};
@@ -67,7 +68,7 @@ pub fn top<S: Source, R: Source, D: Disk, W: Sink>(
 
     // With room on the random source and no fault, `make` is done, if there is memory.
     ensures complete { IsMake words.now.items → D.size_of disk.old ≡ 0 →
-        WhereTold (R.left random.old) (λ bytes. 192 ≤ length bytes →
+        WhereTold (R.left random.old) (λ bytes. fresh_draw_len ≤ length bytes →
         R.faults random.new ≤ R.faults random.old → D.faults disk.new ≤ D.faults disk.old →
         W.faults out.new ≤ W.faults out.old → (result ≡ Status.Done) ⊎ (result ≡ Status.OutOfMemory)) }
 
@@ -77,7 +78,7 @@ pub fn top<S: Source, R: Source, D: Disk, W: Sink>(
     ensures cut_short { IsMake words.now.items → result ≡ Status.WriteFault → Makes PrintsFront
         (R.left random.old) (R.left random.new) (D.shown disk.new) (D.may_leave disk.new) (W.written out.old) (W.written out.new) }
     ensures stays { IsMake words.now.items → (result ≡ Status.Done) ⊎ (result ≡ Status.WriteFault) →
-        IsDurable (D.may_leave disk.new) (D.shown disk.new) × (D.size_of disk.new ≡ 819) }
+        IsDurable (D.may_leave disk.new) (D.shown disk.new) × (D.size_of disk.new ≡ fresh_store_len) }
 
     // So is `gen`, where the random source didn't end.
     ensures gen_complete { IsGen words.now.items → D.size_of disk.old ≡ 0 → ((left need : ℕ) → result ≢ Status.RandomShort left need) →

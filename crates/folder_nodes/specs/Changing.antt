@@ -1,5 +1,6 @@
 -- When a change of a tree may be made.
 use Rattle.std.specs.Prelude.{◌≡◌, ◌≢◌, ℕ, ◌+◌, ◌<◌, ◌≤◌, false, Option, Some, None, IsSome}
+use Rattle.cry_base.specs.Limits.{most_depth}
 use Rattle.cry_base.specs.Refusing.{has_child, height_of}
 use Rattle.cry_base.specs.Store.{Store, folder_entry, file_entry, folder_node, depth_of, is_within}
 use Rattle.cry_base.specs.declared.ids.FolderId.{FolderId}
@@ -8,7 +9,7 @@ use Rattle.cry_base.specs.declared.roles.Node.TheVariants.{Folder, File}
 
 -- the folder stands, and something may be put into it
 abbrev pub HasPlace : Store → ℕ → Type 0
-HasPlace s f = IsSome (folder_entry s f) × (depth_of s (folder_node f) < 64)
+HasPlace s f = IsSome (folder_entry s f) × (depth_of s (folder_node f) < most_depth)
 
 -- a folder may be put there: the root where no folder was ever made
 abbrev pub HasPlaceFor : Store → Option FolderId → Type 0
@@ -29,7 +30,7 @@ CanRemove s (File x) = IsSome (file_entry s x.0)
 abbrev pub CanShift : Store → ℕ → ℕ → Type 0
 CanShift s g q =
     IsSome (folder_entry s g) × (g ≢ 1) × IsSome (folder_entry s q) × (is_within s q g ≡ false)
-    × (depth_of s (folder_node q) + 1 + height_of s (Some (folder_node g)) ≤ 64)
+    × (depth_of s (folder_node q) + 1 + height_of s (Some (folder_node g)) ≤ most_depth)
 
 -- the node may go into the folder
 abbrev pub CanMove : Store → Node → ℕ → Type 0

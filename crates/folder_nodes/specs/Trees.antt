@@ -1,5 +1,6 @@
 -- When the folders and files of a plain store are a tree below folder 1.
 use Rattle.std.specs.Prelude.{◌≡◌, ◌≢◌, ℕ, ◌<◌, ◌≤◌, length, Some, All, AllPairs}
+use Rattle.cry_base.specs.Limits.{most_depth}
 use Rattle.cry_base.specs.Store.{Store, FolderEntry, FileEntry, folder_entry, way_up, way_to_root}
 
 -- a tree: numbers ascend and were made, folder 1 is at the top, and no node stands more than 64 names below it
@@ -12,4 +13,4 @@ pub record IsTree (s : Store) : Type 0 where
   pub parents_stand : All (λ (e : FolderEntry). e.id ≢ 1 → (p : FolderEntry) × (folder_entry s e.parent ≡ Some p)) s.folders
   pub ways_end : (f : ℕ) → length (way_up 66 s.folders f) ≤ 65
   pub files_stand : All (λ (e : FileEntry). (p : FolderEntry) × (folder_entry s e.folder ≡ Some p)
-      × (length (way_to_root s e.folder) ≤ 64)) s.files
+      × (length (way_to_root s e.folder) ≤ most_depth)) s.files

@@ -11,6 +11,7 @@ use Rattle.commit_journal.specs.Logs.{holder_log, turn_by, unowned_start, unowne
 use Rattle.commit_journal.specs.Placed.{PlainBody, Commands, NewEpoch, PlainPlaced}
 use Rattle.commit_journal.proofs.Followed.{and_then_ok, batch_inside, before_ok, guard_ok, long_enough}
 use Rattle.commit_journal.proofs.Walks.{Judges, owner_walks, turn_none}
+use Rattle.cry_base.specs.Layout.{batch_len, header_len}
 use Rattle.cry_base.specs.Sets.{In}
 use Rattle.cry_base.proofs.Members.{In-flat_map}
 use Rattle.record_format.specs.Plain.{PlainPayload}
@@ -98,16 +99,16 @@ payload_read head bytes payload e = commands_only _ (payload_or_place bytes) pay
 
 -- the payload of a batch that is so long, as the bytes behind its gate have it
 same_slot : (rest : List ℕ) (size : ℕ) → size ≡ (head_of (take 13 rest)).size
-    → masked (slot_in (take (110 + size) rest)) (payload_in size (take (110 + size) rest)) ≡ slot_payload (take (size_in rest) rest)
+    → masked (slot_in (take (batch_len + size) rest)) (payload_in size (take (batch_len + size) rest)) ≡ slot_payload (take (size_in rest) rest)
 unfolding slot_payload size_in head_in
 same_slot rest size is =
     let n = (head_of (take 13 rest)).size in
     let short = take (109 + n) rest in
     let head : take 13 short ≡ take 13 rest = take_first 13 (109 + n) rest (omega arith) in
-    ap (λ k. masked (slot_in (take (110 + k) rest)) (payload_in k (take (110 + k) rest))) is
+    ap (λ k. masked (slot_in (take (batch_len + k) rest)) (payload_in k (take (batch_len + k) rest))) is
     ∙ (λ i. masked
-    ((take_range (110 + n) rest 13 45 (omega arith) (omega arith) ∙ sym (take_range (109 + n) rest 13 45 (omega arith) (omega arith))) i)
-    ((take_range (110 + n) rest 45 (45 + n) (omega arith) (omega arith) ∙ sym (take_range (109 + n) rest 45 (45 + n) (omega arith) (omega arith))) i))
+    ((take_range (batch_len + n) rest 13 45 (omega arith) (omega arith) ∙ sym (take_range (109 + n) rest 13 45 (omega arith) (omega arith))) i)
+    ((take_range (batch_len + n) rest 45 (45 + n) (omega arith) (omega arith) ∙ sym (take_range (109 + n) rest 45 (45 + n) (omega arith) (omega arith))) i))
     ∙ ap (λ h. masked (slot_in short) (payload_in (head_of h).size short)) (sym head)
 
 -- where the gate behind a batch stands
@@ -135,18 +136,18 @@ module _ (judge : Judges) (gives : Gives judge) where
 
   -- what a turn gave, and how far on it goes
   record IsNext (past : Past) (rest : List ℕ) (turn : PlainTurn) : Type 0 where
-    inside : 110 + (head_of (take 13 rest)).size ≤ length rest
-    given : IsGiven past (head_of (take 13 rest)) (take (110 + (head_of (take 13 rest)).size) rest) turn
+    inside : batch_len + (head_of (take 13 rest)).size ≤ length rest
+    given : IsGiven past (head_of (take 13 rest)) (take (batch_len + (head_of (take 13 rest)).size) rest) turn
 
   turn_next : (past : Past) (rest : List ℕ) (turn : PlainTurn) → turn_by judge past rest ≡ Ok (Some turn) → IsNext past rest turn
   unfolding turn_by head_at
   turn_next past rest turn e =
       let head = head_of (take 13 rest) in
-      let step = and_then_ok (head_at past rest) (λ h. judge past h (take (110 + h.size) rest)) (Some turn) e in
+      let step = and_then_ok (head_at past rest) (λ h. judge past h (take (batch_len + h.size) rest)) (Some turn) e in
       let guard = guard_ok (is_batch past head (length rest)) head step.0 (Damaged past.at) step.1 in
       record {
         inside = batch_inside past head (length rest) guard.0;
-        given = gives past head (take (110 + head.size) rest) turn (subst (λ (h : Head). judge past h (take (110 + h.size) rest) ≡ Ok (Some turn)) (sym guard.1) step.2);
+        given = gives past head (take (batch_len + head.size) rest) turn (subst (λ (h : Head). judge past h (take (batch_len + h.size) rest) ≡ Ok (Some turn)) (sym guard.1) step.2);
       }
 
   -- a body that was given stands in the batch behind the gate
@@ -183,11 +184,11 @@ module _ (judge : Judges) (gives : Gives judge) where
       let head = head_of (take 13 whole) in
       let step = before_ok (t.placed ∷ []) (walk_at (turn_by judge) t.past (t.past.at - (past.at + 1)) rest) log e in
       let is = next.given.is_turn in
-      let at : t.past.at ≡ past.at + (110 + head.size) = ap (λ (x : PlainTurn). x.past.at) is in
-      let gate : t.past.gate ≡ get_or (take (110 + head.size) whole) (109 + head.size) 0 = ap (λ (x : PlainTurn). x.past.gate) is in
+      let at : t.past.at ≡ past.at + (batch_len + head.size) = ap (λ (x : PlainTurn). x.past.at) is in
+      let gate : t.past.gate ≡ get_or (take (batch_len + head.size) whole) (109 + head.size) 0 = ap (λ (x : PlainTurn). x.past.gate) is in
       let skip : t.past.at - (past.at + 1) ≡ size_in whole = far whole (t.past.at - (past.at + 1)) (omega (arith, at)) in
       let here : t.past.gate ≡ get_or whole (size_in whole) 0 =
-      gate ∙ get_or-take (110 + head.size) whole (109 + head.size) 0 (omega arith) ∙ ap (λ n. get_or whole n 0) (sym (far_is whole))
+      gate ∙ get_or-take (batch_len + head.size) whole (109 + head.size) 0 (omega arith) ∙ ap (λ n. get_or whole n 0) (sym (far_is whole))
       in
       let rests : AreIn (gated_at (size_in whole) whole) step.0 =
       walked byte t.past (size_in whole) step.0 here (subst (λ n. walk_at (turn_by judge) t.past n rest ≡ Ok step.0) skip step.1)
@@ -222,20 +223,20 @@ module _ (judge : Judges) (gives : Gives judge) where
   walked_in (byte ∷ rest) b past skip log gate e = step_in byte rest (walked_in rest) b past skip log gate e
 
   -- from the header on
-  log_in : (bytes : List ℕ) (past : Past) (log : List PlainPlaced) → 42 ≤ length bytes → past.gate ≡ get_or bytes 41 0 → walk_at (turn_by judge) past 0 (drop 42 bytes) ≡ Ok log → AreIn (gated bytes) log
+  log_in : (bytes : List ℕ) (past : Past) (log : List PlainPlaced) → header_len ≤ length bytes → past.gate ≡ get_or bytes 41 0 → walk_at (turn_by judge) past 0 (drop header_len bytes) ≡ Ok log → AreIn (gated bytes) log
   unfolding gated
   log_in bytes past log long gate e =
-      let parts : drop 41 bytes ≡ get_or bytes 41 0 ∷ drop 42 bytes = drop_more bytes 41 0 (omega (arith, long)) in
-      subst (λ xs. AreIn (gated_at 0 xs) log) (sym parts) (walked_in (drop 42 bytes) (get_or bytes 41 0) past 0 log gate e)
+      let parts : drop 41 bytes ≡ get_or bytes 41 0 ∷ drop header_len bytes = drop_more bytes 41 0 (omega (arith, long)) in
+      subst (λ xs. AreIn (gated_at 0 xs) log) (sym parts) (walked_in (drop header_len bytes) (get_or bytes 41 0) past 0 log gate e)
 
 -- ---- the header
 
-header_gate : (bytes : List ℕ) → get_or (take 42 bytes) 41 0 ≡ get_or bytes 41 0
-header_gate bytes = get_or-take 42 bytes 41 0 (omega arith)
+header_gate : (bytes : List ℕ) → get_or (take header_len bytes) 41 0 ≡ get_or bytes 41 0
+header_gate bytes = get_or-take header_len bytes 41 0 (omega arith)
 
 -- what is known behind a header
 record IsStart (bytes : List ℕ) (past : Past) : Type 0 where
-  long : 42 ≤ length bytes
+  long : header_len ≤ length bytes
   gate : past.gate ≡ get_or bytes 41 0
 
 same_past : (a b : Past) → (let r : Result Past Fault = Ok a in r) ≡ Ok b → a ≡ b
@@ -260,10 +261,10 @@ unowned_starts bytes past e =
 owned_starts : (owner bytes : List ℕ) (past : Past) → start_at owner bytes ≡ Ok past → IsStart bytes past
 unfolding start_at start_of
 owned_starts owner bytes past e =
-    let long = long_enough (nat_le 42 (length bytes)) (start_of owner (take 42 bytes)) past (length bytes) refl e in
-    let header = take 42 bytes in
-    let behind : Past = record { at = 42; number = 0; epoch = record { 0 = 0 }; tag = slice_range header 9 41; gate = slice_index header 41 } in
-    let known : behind ≡ past = two_tests (bytes_eq (take 9 header) (codes "CRYPTREE" ++ 1 ∷ [])) (bytes_eq (slice_range header 9 41) (check_of owner)) behind past (long_start (nat_le 42 (length bytes)) (start_of owner header) past e) in
+    let long = long_enough (nat_le header_len (length bytes)) (start_of owner (take header_len bytes)) past (length bytes) refl e in
+    let header = take header_len bytes in
+    let behind : Past = record { at = header_len; number = 0; epoch = record { 0 = 0 }; tag = slice_range header 9 41; gate = slice_index header 41 } in
+    let known : behind ≡ past = two_tests (bytes_eq (take 9 header) (codes "CRYPTREE" ++ 1 ∷ [])) (bytes_eq (slice_range header 9 41) (check_of owner)) behind past (long_start (nat_le header_len (length bytes)) (start_of owner header) past e) in
     record { long = long; gate = sym (ap (λ (p : Past). p.gate) known) ∙ header_gate bytes }
 
 -- ---- logs
@@ -271,7 +272,7 @@ owned_starts owner bytes past e =
 holders_in : (bytes : List ℕ) (log : List PlainPlaced) → holder_log bytes ≡ Ok log → AreIn (gated bytes) log
 unfolding holder_log
 holders_in bytes log e =
-    let step = and_then_ok (unowned_start bytes) (λ past. walk_at (turn_by published_turn) past 0 (drop 42 bytes)) log e in
+    let step = and_then_ok (unowned_start bytes) (λ past. walk_at (turn_by published_turn) past 0 (drop header_len bytes)) log e in
     let start = unowned_starts bytes step.0 step.1 in
     log_in published_turn published_gives bytes step.0 log start.long start.gate step.2
 
@@ -281,10 +282,10 @@ owner_turns owner = refl
 
 owners_in : (owner bytes : List ℕ) (log : List PlainPlaced) → log_verdict owner bytes ≡ Ok log → AreIn (gated bytes) log
 owners_in owner bytes log e =
-    let step = and_then_ok (start_at owner bytes) (λ past. walk_at (turn_at owner) past 0 (drop 42 bytes)) log (owner_walks owner bytes ∙ e) in
+    let step = and_then_ok (start_at owner bytes) (λ past. walk_at (turn_at owner) past 0 (drop header_len bytes)) log (owner_walks owner bytes ∙ e) in
     let start = owned_starts owner bytes step.0 step.1 in
     log_in (tagged_turn owner) (tagged_gives owner) bytes step.0 log start.long start.gate
-    (ap (λ (turns : Past → List ℕ → Result (Option PlainTurn) Fault). walk_at turns step.0 0 (drop 42 bytes)) (sym (owner_turns owner)) ∙ step.2)
+    (ap (λ (turns : Past → List ℕ → Result (Option PlainTurn) Fault). walk_at turns step.0 0 (drop header_len bytes)) (sym (owner_turns owner)) ∙ step.2)
 
 -- ---- payloads of bytes have a form
 

@@ -7,6 +7,7 @@ use Rattle.chacha_seal.specs.Sealing.{sealed}
 use Rattle.commit_journal.specs.Laws.{AreBodies, batch_of, placed_from}
 use Rattle.commit_journal.specs.Placed.{PlainBody, Commands, NewEpoch, PlainPlaced}
 use Rattle.commit_journal.specs.Places.{content_offset, link_offset}
+use Rattle.cry_base.specs.Layout.{batch_len, header_len}
 use Rattle.cry_base.specs.Sets.{In}
 use Rattle.cry_base.proofs.Members.{In-append, In-flat_map, In-map}
 use Rattle.holder_client.specs.Placing.{PlacedContent, PlacedLink, body_contents, body_links, contents_at, links_at, log_contents, log_links}
@@ -108,7 +109,7 @@ body_placed place number epoch (b ∷ bodies) body i =
     let batch = batch_of number epoch b in
     ⊎_elim
     (λ (e : body ≡ b). (record { batch = batch.number; epoch = record { 0 = batch.epoch }; place = place + 45; body = b }, inl refl, sym e))
-    (λ u. let w = body_placed (place + (110 + length batch.payload)) batch.number batch.epoch bodies body u in (w.0, inr w.1, w.2)) i
+    (λ u. let w = body_placed (place + (batch_len + length batch.payload)) batch.number batch.epoch bodies body u in (w.0, inr w.1, w.2)) i
 
 link_of_body : (batch place : ℕ) (body : PlainBody) (payload : PlainPayload) (l : LinkRecord) → body ≡ Commands payload → In l payload.links → (q : PlacedLink) × In q (body_links batch place body) × (q.link ≡ l)
 unfolding body_links
@@ -221,7 +222,7 @@ module _ (owner : List ℕ) (m : Journal) (valid : IsValid m) (whole : AreWhole 
   unfolding log_of
   own_link l i =
       let w = own_payload (ALink l) i in
-      let at = body_placed 42 0 0 (bodies_of owner m) (Commands w.0) w.1 in
+      let at = body_placed header_len 0 0 (bodies_of owner m) (Commands w.0) w.1 in
       let inside = link_in w.0 l w.2 in
       let q = log_link (log_of owner m) at.0 w.0 l at.1 at.2 inside in
       let under = (journal_walked owner m valid whole).each_link q.0 q.1 in
@@ -256,7 +257,7 @@ module _ (owner : List ℕ) (m : Journal) (valid : IsValid m) (whole : AreWhole 
   unfolding log_of
   own_content c i =
       let w = own_payload (AContent c) i in
-      let at = body_placed 42 0 0 (bodies_of owner m) (Commands w.0) w.1 in
+      let at = body_placed header_len 0 0 (bodies_of owner m) (Commands w.0) w.1 in
       let inside = content_in w.0 c w.2 in
       let q = log_content (log_of owner m) at.0 w.0 c at.1 at.2 inside in
       let b = journal_content owner m valid whole q.0 q.1 in

@@ -7,6 +7,7 @@ use Rattle.std.proofs.lemmas.Slice.Eq.{bytes_eq-Decides}
 use Rattle.chacha_seal.specs.Keys.{KeyParts}
 use Rattle.chacha_seal.specs.Sealing.{sealed, seal_tag}
 use Rattle.commit_journal.specs.Answering.{Fault, Damaged, Tampered, and_then}
+use Rattle.cry_base.specs.Layout.{header_len}
 use Rattle.cry_base.specs.declared.roles.Edge.{Edge}
 use Rattle.cry_base.specs.declared.roles.Role.{Role}
 use Rattle.holder_client.specs.Found.{IsFree, IsLinkFor, link_here, content_here}
@@ -92,16 +93,16 @@ has_source k e l ring key kind head are there =
 -- ---- the definition's answer
 
 wanting_or : (r : Reading) (o : Opened) (e : Edge) (key : Option (List ℕ)) (link : Option PlacedLink) → link ≡ None →
-    needed key (λ k. needed link (λ l. and_then (open_link l.batch l.at k l.link) (with_key o e.to))) ≡ Err (Damaged 42)
+    needed key (λ k. needed link (λ l. and_then (open_link l.batch l.at k l.link) (with_key o e.to))) ≡ Err (Damaged header_len)
 unfolding needed
 wanting_or r o e None link none = refl
 wanting_or r o e (Some k) link none = rw none refl
 
-pub link_wanting : (r : Reading) (o : Opened) (e : Edge) → link_for r.stand.keys r.log e ≡ None → visit_edge r o e ≡ Err (Damaged 42)
+pub link_wanting : (r : Reading) (o : Opened) (e : Edge) → link_for r.stand.keys r.log e ≡ None → visit_edge r o e ≡ Err (Damaged header_len)
 unfolding visit_edge
 link_wanting r o e none = wanting_or r o e (opened.key_of o.keys e.from) (link_for r.stand.keys r.log e) none
 
-pub key_wanting : (r : Reading) (o : Opened) (e : Edge) → opened.key_of o.keys e.from ≡ None → visit_edge r o e ≡ Err (Damaged 42)
+pub key_wanting : (r : Reading) (o : Opened) (e : Edge) → opened.key_of o.keys e.from ≡ None → visit_edge r o e ≡ Err (Damaged header_len)
 unfolding visit_edge needed
 key_wanting r o e none = rw none refl
 
@@ -190,18 +191,18 @@ free_fault faults.OutOfMemory wanted free = tt
 -- ---- texts
 
 wanting_text_or : (key : Option (List ℕ)) (content : Option PlacedContent) (go_on : ℕ → List ℕ → Result Opened Fault) → content ≡ None →
-    needed key (λ k. needed content (λ c. and_then (open_content c.batch c.at k c.content) (go_on c.at))) ≡ Err (Damaged 42)
+    needed key (λ k. needed content (λ c. and_then (open_content c.batch c.at k c.content) (go_on c.at))) ≡ Err (Damaged header_len)
 unfolding needed
 wanting_text_or None content go_on none = refl
 wanting_text_or (Some k) content go_on none = rw none refl
 
 pub content_wanting : (r : Reading) (o : Opened) (role : Role) (kind object : ℕ) (go_on : ℕ → List ℕ → Result Opened Fault) → content_for r.log kind object ≡ None →
-    visit_text r o role kind object go_on ≡ Err (Damaged 42)
+    visit_text r o role kind object go_on ≡ Err (Damaged header_len)
 unfolding visit_text
 content_wanting r o role kind object go_on none = wanting_text_or (opened.key_of o.keys role) (content_for r.log kind object) go_on none
 
 pub text_key_wanting : (r : Reading) (o : Opened) (role : Role) (kind object : ℕ) (go_on : ℕ → List ℕ → Result Opened Fault) → opened.key_of o.keys role ≡ None →
-    visit_text r o role kind object go_on ≡ Err (Damaged 42)
+    visit_text r o role kind object go_on ≡ Err (Damaged header_len)
 unfolding visit_text needed
 text_key_wanting r o role kind object go_on none = rw none refl
 

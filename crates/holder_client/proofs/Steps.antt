@@ -3,6 +3,7 @@ use Rattle.std.proofs.Common.{◌≡◌, ℕ, true, false, List, [], ◌∷◌, 
 use Rattle.commit_journal.specs.Answering.{Fault, Damaged, and_then}
 use Rattle.commit_journal.specs.Logs.{writer_log}
 use Rattle.commit_journal.specs.Placed.{PlainPlaced}
+use Rattle.cry_base.specs.Layout.{header_len}
 use Rattle.cry_base.specs.declared.roles.Role.TheVariants.{Owner}
 use Rattle.holder_client.specs.Asking.{OpenStore, open_with, opened_store, with_root}
 use Rattle.holder_client.specs.Folding.{folded}
@@ -23,7 +24,7 @@ unfolding opened_store open_with read_through and_then of_bytes then_on
 fold_second owner bytes log fault e f = rw (e, f) refl
 
 pub root_third : (owner bytes : List ℕ) (log : List PlainPlaced) (stand : Stand) → writer_log owner bytes ≡ Ok log → folded nothing log ≡ Ok stand → folder_stands stand.store 1 ≡ false →
-    opened_store owner bytes ≡ Err (OfBytes (Damaged 42))
+    opened_store owner bytes ≡ Err (OfBytes (Damaged header_len))
 unfolding opened_store open_with read_through and_then of_bytes then_on with_root
 root_third owner bytes log stand e f g = rw (e, f, g) refl
 

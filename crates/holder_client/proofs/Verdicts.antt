@@ -2,6 +2,7 @@
 use Rattle.std.proofs.Common.{◌≡◌, ℕ, ◌<◌, false, List, ◌++◌, length, Option, Some, Result, Ok, Err, refl, sym, ap, ◌∙◌, arith}
 use Rattle.std.specs.Prelude.{nat_le}
 use Rattle.std.proofs.lemmas.Bool.Decides.{nat_tests}
+use Rattle.cry_base.specs.Layout.{header_len}
 use Rattle.cry_base.specs.declared.client.Bundle.{Bundle}
 use Rattle.cry_base.specs.declared.client.Bundle.TheVariants as bundles
 use Rattle.commit_journal.specs.Answering.{Fault, NotAStore, and_then}
@@ -49,24 +50,24 @@ same_behind asking front behind placed is = same_log asking (front ++ behind) fr
 
 -- ---- no header
 
-owner_short : (owner bytes : List ℕ) → length bytes < 42 → log_verdict owner bytes ≡ Err NotAStore
+owner_short : (owner bytes : List ℕ) → length bytes < header_len → log_verdict owner bytes ≡ Err NotAStore
 unfolding log_verdict and_then
 owner_short owner bytes short = rw (start_short owner bytes short) refl
 
-holder_short : (bytes : List ℕ) → length bytes < 42 → holder_log bytes ≡ Err NotAStore
+holder_short : (bytes : List ℕ) → length bytes < header_len → holder_log bytes ≡ Err NotAStore
 unfolding holder_log unowned_start and_then
-holder_short bytes short = let test : nat_le 42 (length bytes) ≡ false = grind (arith, nat_tests) in rw test refl
+holder_short bytes short = let test : nat_le header_len (length bytes) ≡ false = grind (arith, nat_tests) in rw test refl
 
-writer_short : (owner bytes : List ℕ) → length bytes < 42 → writer_log owner bytes ≡ Err NotAStore
+writer_short : (owner bytes : List ℕ) → length bytes < header_len → writer_log owner bytes ≡ Err NotAStore
 unfolding writer_log and_then
 writer_short owner bytes short = rw (start_short owner bytes short) refl
 
-bundle_short : (bundle : Bundle) (bytes : List ℕ) → length bytes < 42 → bundle_log bundle bytes ≡ Err NotAStore
+bundle_short : (bundle : Bundle) (bytes : List ℕ) → length bytes < header_len → bundle_log bundle bytes ≡ Err NotAStore
 unfolding bundle_log
 bundle_short (bundles.Owner key) bytes short = owner_short key bytes short
 bundle_short (bundles.Holder h key) bytes short = holder_short bytes short
 
-asked_short : (asking : Asking) (bytes : List ℕ) → length bytes < 42 → asked_log asking bytes ≡ Err NotAStore
+asked_short : (asking : Asking) (bytes : List ℕ) → length bytes < header_len → asked_log asking bytes ≡ Err NotAStore
 unfolding asked_log
 asked_short (ToList bundle) bytes short = bundle_short bundle bytes short
 asked_short (ToOpen bundle path) bytes short = bundle_short bundle bytes short
@@ -81,7 +82,7 @@ judged_fault (ToOpen bundle path) fault = refl
 judged_fault (ToAudit bundle) fault = refl
 judged_fault (ToWrite owner) fault = refl
 
-pub no_header : (asking : Asking) (bytes : List ℕ) → length bytes < 42 → verdict asking bytes ≡ Some (OfBytes NotAStore)
+pub no_header : (asking : Asking) (bytes : List ℕ) → length bytes < header_len → verdict asking bytes ≡ Some (OfBytes NotAStore)
 no_header asking bytes short = verdict_judges asking bytes ∙ ap (judged asking) (asked_short asking bytes short) ∙ judged_fault asking NotAStore
 
 -- ---- one reading

@@ -2,6 +2,7 @@
 -- for writing".
 use Rattle.std.specs.Prelude.{ℕ, Bool, ◌&&◌, if◌then◌else◌, List, [], ◌∷◌, ◌++◌, map, filter, find, Option, None, Some, Result, Ok, Err}
 use Rattle.std.specs.Str.{bytes_eq}
+use Rattle.cry_base.specs.Layout.{header_len}
 use Rattle.cry_base.specs.Naming.{is_path, parent_path}
 use Rattle.cry_base.specs.Store.{Store, FolderEntry, FileEntry, folder_node, path_of}
 use Rattle.cry_base.specs.declared.client.Bundle.{Bundle}
@@ -63,7 +64,7 @@ pub record OpenStore : Type 0 where
 
 -- the root stands; a log that doesn't make it is damaged behind the header
 unfoldable pub with_root : Reading → Result Reading Failure
-with_root r = if folder_stands r.stand.store 1 then Ok r else Err (OfBytes (Damaged 42))
+with_root r = if folder_stands r.stand.store 1 then Ok r else Err (OfBytes (Damaged header_len))
 
 -- opening for writing: every visit of the owner's, and then the keys of the holders
 unfoldable pub open_with : List ℕ → Result (List PlainPlaced) Fault → Result OpenStore Failure

@@ -3,6 +3,7 @@ use Rattle.std.specs.Prelude.{◌≡◌, ◌≢◌, ◌==◌, ℕ, ◌≤◌, Bo
 use Rattle.chacha_seal.specs.Keys.{KeyParts}
 use Rattle.commit_journal.specs.Placed.{PlainPlaced, plain_placed}
 use Rattle.commit_journal.specs.declared.placed.Placed.{Placed}
+use Rattle.cry_base.specs.Limits.{most_file_bytes}
 use Rattle.cry_base.specs.Naming.{is_name}
 use Rattle.cry_base.specs.Stepping.{with_file}
 use Rattle.cry_base.specs.Store.{Store, HolderEntry}
@@ -91,4 +92,4 @@ HasParts text name bytes = IsTrue (opened.is_file_text text) × (text ≡ length
 
 -- no file has more bytes than a file of any store may have
 abbrev pub AreSized : Titles → Type 0
-AreSized names = (x : ℕ) → length (bytes_in (title_at names.files x)) ≤ 1048576
+AreSized names = (x : ℕ) → length (bytes_in (title_at names.files x)) ≤ most_file_bytes

@@ -1,6 +1,8 @@
 -- What visits open, each with the keys that those before led to. This project's own, docs/FORMAT.md, "Reading".
 use Rattle.std.specs.Prelude.{ℕ, Bool, false, ◌&&◌, ◌==◌, nat_le, if◌then◌else◌, cond, List, [], ◌∷◌, length, take, drop, map, Option, None}
 use Rattle.std.specs.Prelude.{Some, Result, Ok, Err}
+use Rattle.cry_base.specs.Layout.{header_len}
+use Rattle.cry_base.specs.Limits.{most_file_bytes}
 use Rattle.cry_base.specs.Naming.{is_name}
 use Rattle.cry_base.specs.Store.{Store, HolderEntry}
 use Rattle.cry_base.specs.Stepping.{with_folder, with_file}
@@ -33,7 +35,7 @@ key_of (key ∷ keys) role = if same_role key.0 role then Some key.1 else key_of
 
 -- what a visit needs: its record, and the key of its source. Were one wanting, the store would be damaged behind its header
 unfoldable pub needed : {A B : Type 0} → Option A → (A → Result B Fault) → Result B Fault
-needed None go_on = Err (Damaged 42)
+needed None go_on = Err (Damaged header_len)
 needed (Some x) go_on = go_on x
 
 -- one key more
@@ -59,7 +61,7 @@ is_folder_text f text = if f == 1 then length text == 0 else is_name text
 -- a file's text is a byte from 1 to 64, a name of so many bytes, and at most 1,048,576 bytes
 unfoldable pub is_file_text : List ℕ → Bool
 is_file_text [] = false
-is_file_text (n ∷ rest) = nat_le n (length rest) && (is_name (take n rest) && nat_le (length (drop n rest)) 1048576)
+is_file_text (n ∷ rest) = nat_le n (length rest) && (is_name (take n rest) && nat_le (length (drop n rest)) most_file_bytes)
 
 -- the name of a folder; a text of another form is damaged at its content's first byte
 unfoldable pub with_name_at : Opened → ℕ → ℕ → List ℕ → Result Opened Fault

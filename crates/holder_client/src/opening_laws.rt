@@ -3,6 +3,7 @@ ghost use Rattle.std.specs.Prelude.{◌≡◌, ◌++◌, ◌∷◌, [], IsSome, 
 ghost use Rattle.commit_journal.specs.Answering.{Damaged, Fault};
 ghost use Rattle.commit_journal.specs.Logs.{writer_log};
 ghost use Rattle.commit_journal.specs.Placed.{PlainPlaced};
+ghost use Rattle.cry_base.specs.Layout.{header_len};
 ghost use Rattle.cry_base.specs.declared.roles.Role.{Role};
 ghost use Rattle.cry_base.specs.declared.roles.Role.TheVariants.{Owner};
 ghost use Rattle.holder_client.specs.Asking.{opened_store};
@@ -26,7 +27,7 @@ pub fn opening_goes_by_steps()
         opened_store owner bytes ≡ Err (OfBytes fault) }
     ensures root { (owner bytes : List ℕ) (log : List PlainPlaced) (stand : Stand) → writer_log owner bytes ≡ Ok log
         → folded nothing log ≡ Ok stand → folder_stands stand.store 1 ≡ false →
-        opened_store owner bytes ≡ Err (OfBytes (Damaged 42)) }
+        opened_store owner bytes ≡ Err (OfBytes (Damaged header_len)) }
     ensures visits { (owner bytes : List ℕ) (log : List PlainPlaced) (stand : Stand) → writer_log owner bytes ≡ Ok log
         → folded nothing log ≡ Ok stand → folder_stands stand.store 1 ≡ true →
         opened_store owner bytes ≡ opened_by (record { log = log; stand = stand })

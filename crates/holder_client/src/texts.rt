@@ -1,6 +1,7 @@
 //! Names, bytes and holders' keys that are opened, each with the key of its folder, its file or the owner (docs/FORMAT.md,
 //! "Reading").
 ghost use Rattle.std.specs.Prelude.{◌≡◌, ◌≢◌, ◌≤◌, Bool, Err, IfOk, IfSome, IsTrue, MatchOption, OnOk, false, length};
+ghost use Rattle.cry_base.specs.Limits.{most_file_bytes};
 ghost use Rattle.cry_base.specs.Naming.{is_name};
 ghost use Rattle.cry_base.specs.Store.{Store};
 ghost use Rattle.cry_base.specs.declared.roles.Role.{Role as TheRole};
@@ -74,7 +75,7 @@ pub(crate) fn open_file(
     ensures answer { (told : TheRole → Bool) (r : spec.Reading) (o : spec.Opened) → plain_found found ≡ content_for r.log 2 file.0
         → IsTrue (told (file_role file.0)) → HoldsKeys told ring.now o.keys →
         AnswersBy (λ parts behind. IsFiledBy file.0 parts o behind) result (spec.visit r (ToFile file.0) o) }
-    ensures form { IfOk result (λ parts. IsTrue (is_name parts.name.items) × (length parts.bytes.items ≤ 1048576)) }
+    ensures form { IfOk result (λ parts. IsTrue (is_name parts.name.items) × (length parts.bytes.items ≤ most_file_bytes)) }
     ensures seen { result ≢ Err ClientFault.Unseen }
     ensures no_disk { result ≢ Err ClientFault.DiskFault }
 {

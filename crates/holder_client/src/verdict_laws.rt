@@ -1,5 +1,6 @@
 //! Laws of the verdict over every image.
 ghost use Rattle.std.specs.Prelude.{◌≡◌, ◌<◌, ◌++◌, List, ℕ, length, Ok, Some, None};
+ghost use Rattle.cry_base.specs.Layout.{header_len};
 ghost use Rattle.cry_base.specs.Refusing.{refusal_of};
 ghost use Rattle.cry_base.specs.Requests.{Request};
 ghost use Rattle.cry_base.specs.Stepping.{effect};
@@ -15,7 +16,7 @@ ghost use Rattle.public_fold.specs.Told.{told_store};
 
 /// Law: fewer bytes than a header are no store, whoever asks for whatever.
 pub fn cut_header_is_no_store()
-    ensures { (asking : Asking) (bytes : List ℕ) → length bytes < 42 → verdict asking bytes ≡ Some (OfBytes NotAStore) }
+    ensures { (asking : Asking) (bytes : List ℕ) → length bytes < header_len → verdict asking bytes ≡ Some (OfBytes NotAStore) }
 {}
 
 /// Law: the verdict hangs on the log that is read, and on nothing else in the bytes; so what follows the log's closed

@@ -1,6 +1,7 @@
 -- A command that fits into a store draws few keys: each renewed role is the end of a link that its payload has.
 use Rattle.std.proofs.Common.{◌≡◌, ⊎_elim, inl, inr, ℕ, suc, ◌+◌, ◌*◌, ◌≤◌, ◌<◌, Bool, true, false, not, ◌||◌, List, [], ◌∷◌, ◌++◌, filter, length, replicate, None, arith, refl, sym, ap, subst, ◌∙◌, length-append}
 use Rattle.std.proofs.lemmas.Bool.{cases_Bool, false≢true, not_from_false, or_right}
+use Rattle.cry_base.specs.Limits.{most_store_bytes}
 use Rattle.cry_base.specs.Refusing.{refusal_of}
 use Rattle.cry_base.specs.Requests.{Request}
 use Rattle.cry_base.specs.Sets.{In, has}
@@ -86,7 +87,7 @@ module _ (s t : Store) (k : KeyState) (c : Change) (links : List Link) (mv : IsM
         e.2,
       ))
 
-pub few_draws : (m : Journal) (has_begun : Bool) (r : Request) (file_bytes : ℕ) → IsValid m → refusal_of (store_of m) r file_bytes ≡ None → due_end m has_begun r ≤ 268435456 → 32 * draws_of m r < 4294967296
+pub few_draws : (m : Journal) (has_begun : Bool) (r : Request) (file_bytes : ℕ) → IsValid m → refusal_of (store_of m) r file_bytes ≡ None → due_end m has_begun r ≤ most_store_bytes → 32 * draws_of m r < 4294967296
 unfolding draws_of due_end due_payload entry_step note_step store_of keys_of steps_of begun_keys first_key
 few_draws m has_begun r file_bytes valid none low =
     let at = stand_after nothing m in

@@ -10,6 +10,8 @@ use Rattle.chacha_seal.proofs.SealingLemmas.{length-sealed}
 use Rattle.commit_journal.specs.Answering.{Damaged, and_then}
 use Rattle.commit_journal.specs.Laws.{batch_of, placed_from}
 use Rattle.commit_journal.specs.Placed.{PlainBody, PlainPlaced, Commands}
+use Rattle.cry_base.specs.Layout.{batch_len, header_len}
+use Rattle.cry_base.specs.Limits.{most_file_bytes}
 use Rattle.cry_base.specs.Refusing.{refusal_of}
 use Rattle.cry_base.specs.Requests.{Request}
 use Rattle.cry_base.specs.Requests.Request.{AddHolder, MakeFolder, WriteFile, Remove, Rename, Relocate, Grant, Revoke}
@@ -190,7 +192,7 @@ pieces_sized k before c ps sizes x i =
     let plan_of = renewed k before c in
     sizes x.piece (content_from (keys_then k c plan_of) (next_serial k + length (given k c plan_of) + length (published_edges before c plan_of)) ps x i).0
 
-pub command_contents : (at : Stand) (r : Request) (drawn : List (List ℕ)) → IsSound at.store → AreShort at.store → refusal_of at.store r 1048576 ≡ None → HasKeySize r (first_key drawn)
+pub command_contents : (at : Stand) (r : Request) (drawn : List (List ℕ)) → IsSound at.store → AreShort at.store → refusal_of at.store r most_file_bytes ≡ None → HasKeySize r (first_key drawn)
     → (c : Content) → In c (entry_step at (Did r drawn)).contents → IsSized c.piece
 unfolding entry_step note_step
 command_contents at r drawn sound short none size =
@@ -198,7 +200,7 @@ command_contents at r drawn sound short none size =
     pieces_sized at.keys (edges at.store) (change_of at.store note) (pieces_of note (effect at.store r (first_key drawn)))
     (command_sized at.store r (first_key drawn) [] sound short none size)
 
-command_fits : (at : Stand) (r : Request) (check : List ℕ) (drawn : List (List ℕ)) (told : Stepped) → IsSound at.store → refusal_of at.store r 1048576 ≡ None → entry_fits at (Did r drawn) ≡ true
+command_fits : (at : Stand) (r : Request) (check : List ℕ) (drawn : List (List ℕ)) (told : Stepped) → IsSound at.store → refusal_of at.store r most_file_bytes ≡ None → entry_fits at (Did r drawn) ≡ true
     → told.after ≡ (entry_step at (Did r drawn)).after → note_fits (shown at) (note_of at.store r check) told ≡ true
 unfolding entry_fits note_fits has_count
 command_fits at r check drawn told sound none fit same =
@@ -207,20 +209,20 @@ command_fits at r check drawn told sound none fit same =
     let step = entry_step at (Did r drawn) in
     let one = and_parts (nat_lt 0 at.keys.epoch) (fits s (note_of s r []) && nat_lt step.after.count (2 ^ 32 - 1)) fit in
     let two = and_parts (fits s (note_of s r [])) (nat_lt step.after.count (2 ^ 32 - 1)) one.1 in
-    let here : fits (public_of s) note ≡ true = fits_public s note ∙ notes.rest_fits s note sound.tree (notes.note_fits s r check sound.tree (accepted s r 1048576 none)) in
+    let here : fits (public_of s) note ≡ true = fits_public s note ∙ notes.rest_fits s note sound.tree (notes.note_fits s r check sound.tree (accepted s r most_file_bytes none)) in
     and_from (nat_lt 0 at.keys.epoch) (fits (public_of s) note && nat_lt told.after.count (2 ^ 32 - 1)) one.0
     (and_from (fits (public_of s) note) (nat_lt told.after.count (2 ^ 32 - 1)) here (ap (λ (k : KeyState). nat_lt k.count (2 ^ 32 - 1)) same ∙ two.1))
 
-command_behind : (at : Stand) (place : ℕ) (keys : List KeyParts) (r : Request) (drawn : List (List ℕ)) → IsSound at.store → AreShort at.store → refusal_of at.store r 1048576 ≡ None → entry_fits at (Did r drawn) ≡ true
+command_behind : (at : Stand) (place : ℕ) (keys : List KeyParts) (r : Request) (drawn : List (List ℕ)) → IsSound at.store → AreShort at.store → refusal_of at.store r most_file_bytes ≡ None → entry_fits at (Did r drawn) ≡ true
     → HasKeySize r (first_key drawn) → stand_behind (shown at) place (entry_body keys at (Did r drawn)) ≡ Ok (shown (stand_then at (Did r drawn)))
 unfolding entry_body stand_then entry_store told_stand
 command_behind at place keys r drawn sound short none fit size =
     let s = at.store in
     let check = check_of (first_key drawn) in
     let note = note_of s r check in
-    let told_is = told_command at r check drawn 1048576 none in
+    let told_is = told_command at r check drawn most_file_bytes none in
     behind_step (shown at) place keys note (entry_step at (Did r drawn)) told_is (command_fits at r check drawn (told_step (shown at) note) sound none fit told_is.after) (command_contents at r drawn sound short none size)
-    ∙ (λ i. Ok (record { store = sym (accepted_told s r (first_key drawn) check 1048576 none) i; keys = told_is.after i }))
+    ∙ (λ i. Ok (record { store = sym (accepted_told s r (first_key drawn) check most_file_bytes none) i; keys = told_is.after i }))
 
 -- a new holder's key is one of those drawn
 holder_given : (at : Stand) (drawn : List (List ℕ)) → 1 ≤ length (entry_step at (Did AddHolder drawn)).given
@@ -299,11 +301,11 @@ drawn_sizes : (r : Request) (drawn : List (List ℕ)) → Sized (Did r drawn) �
 unfolding drawn_by
 drawn_sizes r drawn sizes = sizes
 
-did_sound : (at : Stand) (r : Request) (drawn : List (List ℕ)) → refusal_of at.store r 1048576 ≡ None → IsSound at.store → IsSound (stand_then at (Did r drawn)).store
+did_sound : (at : Stand) (r : Request) (drawn : List (List ℕ)) → refusal_of at.store r most_file_bytes ≡ None → IsSound at.store → IsSound (stand_then at (Did r drawn)).store
 unfolding stand_then entry_store
-did_sound at r drawn none sound = effect_sound at.store r (first_key drawn) 1048576 none sound
+did_sound at r drawn none sound = effect_sound at.store r (first_key drawn) most_file_bytes none sound
 
-did_short : (at : Stand) (r : Request) (drawn : List (List ℕ)) → refusal_of at.store r 1048576 ≡ None → AreShort at.store → AreShort (stand_then at (Did r drawn)).store
+did_short : (at : Stand) (r : Request) (drawn : List (List ℕ)) → refusal_of at.store r most_file_bytes ≡ None → AreShort at.store → AreShort (stand_then at (Did r drawn)).store
 unfolding stand_then entry_store
 did_short at r drawn none short = effect_short at.store r (first_key drawn) none short
 
@@ -316,9 +318,9 @@ follows keys (Session ∷ entries) at place number epoch sound short follow fit 
     let body = entry_body later at Session in
     let batch = batch_of number epoch body in
     let next = stand_then at Session in
-    let log = placed_from (place + (110 + length batch.payload)) batch.number batch.epoch (bodies_from later next entries) in
+    let log = placed_from (place + (batch_len + length batch.payload)) batch.number batch.epoch (bodies_from later next entries) in
     next_behind (shown at) (shown next) (place + 45) body log (shown (stand_after next entries)) (session_behind at (place + 45) later)
-    (follows later entries next (place + (110 + length batch.payload)) batch.number batch.epoch (session_sound at sound) (session_short at short) follow.1
+    (follows later entries next (place + (batch_len + length batch.payload)) batch.number batch.epoch (session_sound at sound) (session_short at short) follow.1
     (and_parts (entry_fits at Session) (all_fit next entries) fit).1 (All-tail Sized Session entries sizes))
 follows keys (Made drawn ∷ entries) at place number epoch sound short follow fit sizes = absurd follow.0
 follows keys (Did r drawn ∷ entries) at place number epoch sound short follow fit sizes =
@@ -326,11 +328,11 @@ follows keys (Did r drawn ∷ entries) at place number epoch sound short follow 
     let body = entry_body later at (Did r drawn) in
     let batch = batch_of number epoch body in
     let next = stand_then at (Did r drawn) in
-    let log = placed_from (place + (110 + length batch.payload)) batch.number batch.epoch (bodies_from later next entries) in
+    let log = placed_from (place + (batch_len + length batch.payload)) batch.number batch.epoch (bodies_from later next entries) in
     let fits_both = and_parts (entry_fits at (Did r drawn)) (all_fit next entries) fit in
     let size = key_sized at r drawn follow.0.1 (drawn_sizes r drawn (All-head Sized (Did r drawn) entries sizes)) in
     next_behind (shown at) (shown next) (place + 45) body log (shown (stand_after next entries)) (command_behind at (place + 45) later r drawn sound short follow.0.0 fits_both.0 size)
-    (follows later entries next (place + (110 + length batch.payload)) batch.number batch.epoch (did_sound at r drawn follow.0.0 sound) (did_short at r drawn follow.0.0 short) follow.1
+    (follows later entries next (place + (batch_len + length batch.payload)) batch.number batch.epoch (did_sound at r drawn follow.0.0 sound) (did_short at r drawn follow.0.0 short) follow.1
     fits_both.1 (All-tail Sized (Did r drawn) entries sizes))
 
 first_shown : shown nothing ≡ nothing
@@ -345,7 +347,7 @@ made_short : (drawn : List (List ℕ)) → AreShort (stand_then begun (Made draw
 unfolding stand_then entry_store
 made_short drawn = root_short
 
-begins : (keys : List KeyParts) (m : Journal) → BeginsWell m → all_fit nothing m ≡ true → All Sized m → folded (shown nothing) (placed_from 42 0 0 (bodies_from keys nothing m)) ≡ Ok (shown (stand_after nothing m))
+begins : (keys : List KeyParts) (m : Journal) → BeginsWell m → all_fit nothing m ≡ true → All Sized m → folded (shown nothing) (placed_from header_len 0 0 (bodies_from keys nothing m)) ≡ Ok (shown (stand_after nothing m))
 unfolding folded bodies_from stand_after all_fit
 begins keys [] b fit sizes = absurd b
 begins keys (Session ∷ []) b fit sizes = absurd b
@@ -357,15 +359,15 @@ begins keys (Session ∷ Made drawn ∷ es) b fit sizes =
     let later = bytes.keys_then first begun (Made drawn) in
     let made = entry_body later begun (Made drawn) in
     let second = batch_of batch.number batch.epoch made in
-    let place = 42 + (110 + length batch.payload) in
+    let place = header_len + (batch_len + length batch.payload) in
     let next = stand_then begun (Made drawn) in
-    let log = placed_from (place + (110 + length second.payload)) second.number second.epoch (bodies_from later next es) in
+    let log = placed_from (place + (batch_len + length second.payload)) second.number second.epoch (bodies_from later next es) in
     let outer = and_parts (entry_fits nothing Session) (entry_fits begun (Made drawn) && all_fit next es) fit in
     let inner = and_parts (entry_fits begun (Made drawn)) (all_fit next es) outer.1 in
     let rest = All-tail Sized Session (Made drawn ∷ es) sizes in
-    next_behind (shown nothing) (shown begun) (42 + 45) body (placed_from place batch.number batch.epoch (made ∷ bodies_from later next es)) (shown (stand_after next es)) (session_behind nothing (42 + 45) first)
+    next_behind (shown nothing) (shown begun) (header_len + 45) body (placed_from place batch.number batch.epoch (made ∷ bodies_from later next es)) (shown (stand_after next es)) (session_behind nothing (header_len + 45) first)
     (next_behind (shown begun) (shown next) (place + 45) made log (shown (stand_after next es)) (made_behind (place + 45) later drawn inner.0)
-    (follows later es next (place + (110 + length second.payload)) second.number second.epoch (made_sound drawn) (made_short drawn) b.1 inner.1 (All-tail Sized (Made drawn) es rest)))
+    (follows later es next (place + (batch_len + length second.payload)) second.number second.epoch (made_sound drawn) (made_short drawn) b.1 inner.1 (All-tail Sized (Made drawn) es rest)))
 begins keys (Session ∷ Did request drawn ∷ es) b fit sizes = absurd b
 begins keys (Made drawn ∷ es) b fit sizes = absurd b
 begins keys (Did request drawn ∷ es) b fit sizes = absurd b
@@ -373,5 +375,5 @@ begins keys (Did request drawn ∷ es) b fit sizes = absurd b
 pub journal_followed : (owner : List ℕ) (m : Journal) → IsValid m → AreWhole owner m → fold_of owner m ≡ Ok (public_stand m)
 unfolding fold_of log_of bodies_of public_stand store_of keys_of
 journal_followed owner m valid whole =
-    ap (λ z. folded z (placed_from 42 0 0 (bodies_from (owner_parts owner ∷ []) nothing m))) (sym first_shown)
+    ap (λ z. folded z (placed_from header_len 0 0 (bodies_from (owner_parts owner ∷ []) nothing m))) (sym first_shown)
     ∙ begins (owner_parts owner ∷ []) m valid.0 (journal_all_fit m valid) whole.drawn_sizes

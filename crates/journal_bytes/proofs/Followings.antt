@@ -1,5 +1,6 @@
 -- The logs of bytes that stand for a journal, as whoever reads them reads them.
 use Rattle.std.proofs.Common.{◌≡◌, ℕ, ◌+◌, ◌≤◌, List, length, Ok, arith}
+use Rattle.cry_base.specs.Limits.{most_store_bytes}
 use Rattle.commit_journal.specs.Image.{image}
 use Rattle.commit_journal.specs.Laws.{batches_from, AreBodies}
 use Rattle.commit_journal.specs.Logs.{holder_log, writer_log}
@@ -25,5 +26,5 @@ writer_reads owner m bytes stands are =
     let bs = batches_from 0 0 (bodies_of owner m) in
     let size : length (image owner bs) + 1 ≡ end_of m = valid_weighs owner m stands.valid stands.whole_keys in
     let long = length-image owner bs in
-    let end : end_of m ≤ 268435456 = stands.valid.1 in
+    let end : end_of m ≤ most_store_bytes = stands.valid.1 in
     written_standing owner (bodies_of owner m) bytes stands.stands are (omega arith)

@@ -6,6 +6,8 @@ use Rattle.std.proofs.lemmas.Bool.Decides.{nat_tests}
 use Rattle.std.proofs.lemmas.List.{append-nil}
 use Rattle.std.proofs.lemmas.List.Elements.{All-nil, All-cons}
 use Rattle.std.proofs.lemmas.List.Sums.{sum_by-cons}
+use Rattle.cry_base.specs.Layout.{batch_len}
+use Rattle.cry_base.specs.Limits.{most_store_bytes}
 use Rattle.chacha_seal.specs.Keys.{KeyParts}
 use Rattle.commit_journal.specs.Gates.{recovered}
 use Rattle.commit_journal.specs.Holding.{IsPrefix}
@@ -121,12 +123,12 @@ batch_epoch number epoch (Commands payload) = omega arith
 batch_epoch number epoch NewEpoch = omega arith
 
 sizes_from : (number epoch : ℕ) (bodies : List PlainBody) → epoch ≤ number →
-    number + sum_by (λ (b : Batch). 110 + length b.payload) (batches_from number epoch bodies) ≤ 268435456 → All HasSizes (batches_from number epoch bodies)
+    number + sum_by (λ (b : Batch). batch_len + length b.payload) (batches_from number epoch bodies) ≤ most_store_bytes → All HasSizes (batches_from number epoch bodies)
 sizes_from number epoch [] small fits = All-nil HasSizes
 sizes_from number epoch (body ∷ bodies) small fits =
     let batch = batch_of number epoch body in
     let others = batches_from batch.number batch.epoch bodies in
-    let sum = sum_by-cons (λ (b : Batch). 110 + length b.payload) batch others in
+    let sum = sum_by-cons (λ (b : Batch). batch_len + length b.payload) batch others in
     let n = batch_number number epoch body in
     let e = batch_epoch number epoch body in
     All-cons HasSizes batch others (record { number = omega arith; epoch = omega arith; payload = omega arith })
@@ -137,7 +139,7 @@ unfolding batches_of image_of
 batches_fit owner m valid whole =
     let size : length (image owner (batches_from 0 0 (bodies_of owner m))) + 1 ≡ end_of m = valid_weighs owner m valid whole in
     let long = length-image owner (batches_from 0 0 (bodies_of owner m)) in
-    let end : end_of m ≤ 268435456 = valid.1 in
+    let end : end_of m ≤ most_store_bytes = valid.1 in
     sizes_from 0 0 (bodies_of owner m) (omega arith) (omega arith)
 
 pub journal_recovered : (owner : List ℕ) (m : Journal) (bytes : List ℕ) → StandsForJournal owner m bytes → recovered owner bytes ≡ batches_of owner m

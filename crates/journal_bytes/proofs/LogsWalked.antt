@@ -7,6 +7,8 @@ use Rattle.chacha_seal.specs.Sealing.{check_of}
 use Rattle.commit_journal.specs.Laws.{batch_of, placed_from}
 use Rattle.commit_journal.specs.Placed.{PlainPlaced}
 use Rattle.commit_journal.specs.Places.{content_offset, link_offset}
+use Rattle.cry_base.specs.Layout.{batch_len, header_len}
+use Rattle.cry_base.specs.Limits.{most_file_bytes}
 use Rattle.cry_base.specs.Refusing.{refusal_of}
 use Rattle.cry_base.specs.Requests.{Request}
 use Rattle.cry_base.specs.Requests.Request.{AddHolder}
@@ -106,7 +108,7 @@ abbrev IsDrawn : Stand → Request → List (List ℕ) → Type 0
 IsDrawn at r drawn =
     (q : KeyParts) × In q (entry_keys at (Did r drawn)) × (newest (entry_step at (Did r drawn)).after.keys (holder_role (at.store.holders_made + 1)) ≡ Some q.serial) × (q.bytes ≡ first_key drawn)
 
-holder_entry_drawn : (at : Stand) (drawn : List (List ℕ)) (links : List Link) → IsSound at.store → KeysHold at.store at.keys links → refusal_of at.store AddHolder 1048576 ≡ None
+holder_entry_drawn : (at : Stand) (drawn : List (List ℕ)) (links : List Link) → IsSound at.store → KeysHold at.store at.keys links → refusal_of at.store AddHolder most_file_bytes ≡ None
     → IsFed at (Did AddHolder drawn) → IsDrawn at AddHolder drawn
 unfolding entry_keys drawn_by entry_step note_step note_of change_of no_change
 holder_entry_drawn at drawn links sound ok none fed =
@@ -114,15 +116,15 @@ holder_entry_drawn at drawn links sound ok none fed =
     let h = s.holders_made + 1 in
     let note = note_of s AddHolder [] in
     holder_drawn s (effect s AddHolder (first_key drawn)) at.keys h (change_of s note) links (pieces_of note (effect s AddHolder (first_key drawn))) drawn
-    (command_moves s AddHolder (first_key drawn) [] 1048576 none sound) ok refl refl fed.many
+    (command_moves s AddHolder (first_key drawn) [] most_file_bytes none sound) ok refl refl fed.many
 
-did_drawn : (at : Stand) (r : Request) (drawn : List (List ℕ)) (links : List Link) → r ≡ AddHolder → IsSound at.store → KeysHold at.store at.keys links → refusal_of at.store r 1048576 ≡ None
+did_drawn : (at : Stand) (r : Request) (drawn : List (List ℕ)) (links : List Link) → r ≡ AddHolder → IsSound at.store → KeysHold at.store at.keys links → refusal_of at.store r most_file_bytes ≡ None
     → IsFed at (Did r drawn) → IsDrawn at r drawn
 did_drawn at r drawn links is sound ok none fed =
     subst (λ z. IsDrawn at z drawn) (sym is)
-    (holder_entry_drawn at drawn links sound ok (subst (λ z. refusal_of at.store z 1048576 ≡ None) is none) (subst (λ z. IsFed at (Did z drawn)) is fed))
+    (holder_entry_drawn at drawn links sound ok (subst (λ z. refusal_of at.store z most_file_bytes ≡ None) is none) (subst (λ z. IsFed at (Did z drawn)) is fed))
 
-did_holders : (at : Stand) (r : Request) (drawn : List (List ℕ)) (links : List Link) → IsSound at.store → KeysHold at.store at.keys links → refusal_of at.store r 1048576 ≡ None → IsFed at (Did r drawn)
+did_holders : (at : Stand) (r : Request) (drawn : List (List ℕ)) (links : List Link) → IsSound at.store → KeysHold at.store at.keys links → refusal_of at.store r most_file_bytes ≡ None → IsFed at (Did r drawn)
     → (e : HolderEntry) → In e (effect at.store r (first_key drawn)).holders → In e at.store.holders ⊎ IsHolderKeyed (entry_keys at (Did r drawn)) (entry_step at (Did r drawn)).after e
 did_holders at r drawn links sound ok none fed e i = ⊎_elim
     (λ old. inl old)
@@ -131,7 +133,7 @@ did_holders at r drawn links sound ok none fed e i = ⊎_elim
     (command_holders at.store r (first_key drawn) e i)
 
 did_walked : (keys : List KeyParts) (at : Stand) (r : Request) (drawn : List (List ℕ)) (links : List Link) (batch place : ℕ) (ls : List PlacedLink) (cs : List PlacedContent) → IsSound at.store → KeysHold at.store at.keys links
-    → refusal_of at.store r 1048576 ≡ None → entry_fits at (Did r drawn) ≡ true → IsFed at (Did r drawn) → IsWalked keys at.store at.keys ls cs
+    → refusal_of at.store r most_file_bytes ≡ None → entry_fits at (Did r drawn) ≡ true → IsFed at (Did r drawn) → IsWalked keys at.store at.keys ls cs
     → IsWalked (bytes.keys_then keys at (Did r drawn)) (stand_then at (Did r drawn)).store (stand_then at (Did r drawn)).keys
     (ls ++ body_links batch place (entry_body (bytes.keys_then keys at (Did r drawn)) at (Did r drawn))) (cs ++ body_contents batch place (entry_body (bytes.keys_then keys at (Did r drawn)) at (Did r drawn)))
 unfolding bytes.keys_then stand_then entry_store entry_body body_links body_contents step_payload entry_step note_step entry_fits
@@ -141,9 +143,9 @@ did_walked keys at r drawn links batch place ls cs sound ok none fit fed is =
     let t = effect s r (first_key drawn) in
     let more = entry_keys at (Did r drawn) in
     let whole = step_payload (keys ++ more) (declared_note (note_of s r (check_of (first_key drawn)))) (entry_step at (Did r drawn)) in
-    step_walked keys more s t at.keys (change_of s note) links (pieces_of note t) (command_moves s r (first_key drawn) [] 1048576 none sound) ok (fresh_once s note) (pieces_due note t)
+    step_walked keys more s t at.keys (change_of s note) links (pieces_of note t) (command_moves s r (first_key drawn) [] most_file_bytes none sound) ok (fresh_once s note) (pieces_due note t)
     batch (place + link_offset whole 0) (place + content_offset whole 0) ls cs (begun_from at note (entry_step at (Did r drawn)) fit) (have_then keys at (Did r drawn) is.have fed)
-    (command_kept s r (first_key drawn) (accepted s r 1048576 none) sound.counted (effect_sound s r (first_key drawn) 1048576 none sound).tree)
+    (command_kept s r (first_key drawn) (accepted s r most_file_bytes none) sound.counted (effect_sound s r (first_key drawn) most_file_bytes none sound).tree)
     (did_holders at r drawn links sound ok none fed) is
 
 -- before the root is made
@@ -201,15 +203,15 @@ session_entry keys at batch place ls cs is =
     same_walked keys (bytes.keys_then keys at Session) at.store (next_epoch at.keys) ls (ls ++ []) cs (cs ++ [])
     (sym (session_keys keys at)) (sym (append-nil ls)) (sym (append-nil cs)) (session_walked keys at.store at.keys ls cs is)
 
-did_holds : (at : Stand) (r : Request) (drawn : List (List ℕ)) (links : List Link) → IsSound at.store → KeysHold at.store at.keys links → refusal_of at.store r 1048576 ≡ None
+did_holds : (at : Stand) (r : Request) (drawn : List (List ℕ)) (links : List Link) → IsSound at.store → KeysHold at.store at.keys links → refusal_of at.store r most_file_bytes ≡ None
     → IsSound (stand_then at (Did r drawn)).store × KeysHold (stand_then at (Did r drawn)).store (stand_then at (Did r drawn)).keys (links ++ (entry_step at (Did r drawn)).links)
 unfolding stand_then entry_store entry_step note_step
 did_holds at r drawn links sound ok none =
     let s = at.store in
     let t = effect s r (first_key drawn) in
     let note = note_of s r [] in (
-      effect_sound s r (first_key drawn) 1048576 none sound,
-      keys_after s t at.keys (change_of s note) links (command_moves s r (first_key drawn) [] 1048576 none sound) ok (pieces_of note t),
+      effect_sound s r (first_key drawn) most_file_bytes none sound,
+      keys_after s t at.keys (change_of s note) links (command_moves s r (first_key drawn) [] most_file_bytes none sound) ok (pieces_of note t),
     )
 
 session_holds : (at : Stand) (links : List Link) → IsSound at.store → KeysHold at.store at.keys links → IsSound (stand_then at Session).store × KeysHold (stand_then at Session).store (stand_then at Session).keys links
@@ -242,11 +244,11 @@ walk (Session ∷ entries) keys at links ls cs place number epoch sound ok follo
     let batch = batch_of number epoch body in
     let next = stand_then at Session in
     let p : PlainPlaced = record { batch = batch.number; epoch = record { 0 = batch.epoch }; place = place + 45; body = body } in
-    let log = placed_from (place + (110 + length batch.payload)) batch.number batch.epoch (bodies_from later next entries) in
+    let log = placed_from (place + (batch_len + length batch.payload)) batch.number batch.epoch (bodies_from later next entries) in
     let holds = session_holds at links sound ok in
     joined keys (entry_keys at Session) (keys_from next entries) (stand_after next entries).store (stand_after next entries).keys ls cs p log
     (subst (λ z. IsWalked (z ++ keys_from next entries) (stand_after next entries).store (stand_after next entries).keys ((ls ++ body_links p.batch p.place p.body) ++ log_links log) ((cs ++ body_contents p.batch p.place p.body) ++ log_contents log)) (then_keys keys at Session)
-    (walk entries later next links (ls ++ body_links p.batch p.place p.body) (cs ++ body_contents p.batch p.place p.body) (place + (110 + length batch.payload)) batch.number batch.epoch
+    (walk entries later next links (ls ++ body_links p.batch p.place p.body) (cs ++ body_contents p.batch p.place p.body) (place + (batch_len + length batch.payload)) batch.number batch.epoch
     holds.0 holds.1 follow.1 (and_parts (entry_fits at Session) (all_fit next entries) fit).1 fed.1 (session_entry keys at p.batch p.place ls cs is)))
 walk (Made drawn ∷ entries) keys at links ls cs place number epoch sound ok follow fit fed is = absurd follow.0
 walk (Did r drawn ∷ entries) keys at links ls cs place number epoch sound ok follow fit fed is =
@@ -255,12 +257,12 @@ walk (Did r drawn ∷ entries) keys at links ls cs place number epoch sound ok f
     let batch = batch_of number epoch body in
     let next = stand_then at (Did r drawn) in
     let p : PlainPlaced = record { batch = batch.number; epoch = record { 0 = batch.epoch }; place = place + 45; body = body } in
-    let log = placed_from (place + (110 + length batch.payload)) batch.number batch.epoch (bodies_from later next entries) in
+    let log = placed_from (place + (batch_len + length batch.payload)) batch.number batch.epoch (bodies_from later next entries) in
     let holds = did_holds at r drawn links sound ok follow.0.0 in
     let both = and_parts (entry_fits at (Did r drawn)) (all_fit next entries) fit in
     joined keys (entry_keys at (Did r drawn)) (keys_from next entries) (stand_after next entries).store (stand_after next entries).keys ls cs p log
     (subst (λ z. IsWalked (z ++ keys_from next entries) (stand_after next entries).store (stand_after next entries).keys ((ls ++ body_links p.batch p.place p.body) ++ log_links log) ((cs ++ body_contents p.batch p.place p.body) ++ log_contents log)) (then_keys keys at (Did r drawn))
-    (walk entries later next (links ++ (entry_step at (Did r drawn)).links) (ls ++ body_links p.batch p.place p.body) (cs ++ body_contents p.batch p.place p.body) (place + (110 + length batch.payload)) batch.number batch.epoch
+    (walk entries later next (links ++ (entry_step at (Did r drawn)).links) (ls ++ body_links p.batch p.place p.body) (cs ++ body_contents p.batch p.place p.body) (place + (batch_len + length batch.payload)) batch.number batch.epoch
     holds.0 holds.1 follow.1 both.1 fed.1 (did_walked keys at r drawn links p.batch p.place ls cs sound ok follow.0.0 both.0 fed.0 is)))
 
 -- ---- journals
@@ -320,7 +322,7 @@ two_contents p q log none = sym (more_contents q log) ∙ ap (λ z. z ++ log_con
 
 begins : (owner : List ℕ) (m : Journal) → length owner ≡ 32 → BeginsWell m → all_fit nothing m ≡ true → AreFed nothing m
     → IsWalked ((owner_parts owner ∷ []) ++ keys_from nothing m) (stand_after nothing m).store (stand_after nothing m).keys
-    (log_links (placed_from 42 0 0 (bodies_from (owner_parts owner ∷ []) nothing m))) (log_contents (placed_from 42 0 0 (bodies_from (owner_parts owner ∷ []) nothing m)))
+    (log_links (placed_from header_len 0 0 (bodies_from (owner_parts owner ∷ []) nothing m))) (log_contents (placed_from header_len 0 0 (bodies_from (owner_parts owner ∷ []) nothing m)))
 unfolding keys_from stand_after all_fit bodies_from
 begins owner [] size b fit fed = absurd b
 begins owner (Session ∷ []) size b fit fed = absurd b
@@ -333,18 +335,18 @@ begins owner (Session ∷ Made drawn ∷ es) size b fit fed =
     let later = bytes.keys_then first begun (Made drawn) in
     let made = entry_body later begun (Made drawn) in
     let second = batch_of batch.number batch.epoch made in
-    let place = 42 + (110 + length batch.payload) in
+    let place = header_len + (batch_len + length batch.payload) in
     let next = stand_then begun (Made drawn) in
-    let p : PlainPlaced = record { batch = batch.number; epoch = record { 0 = batch.epoch }; place = 42 + 45; body = body } in
+    let p : PlainPlaced = record { batch = batch.number; epoch = record { 0 = batch.epoch }; place = header_len + 45; body = body } in
     let q : PlainPlaced = record { batch = second.number; epoch = record { 0 = second.epoch }; place = place + 45; body = made } in
-    let log = placed_from (place + (110 + length second.payload)) second.number second.epoch (bodies_from later next es) in
+    let log = placed_from (place + (batch_len + length second.payload)) second.number second.epoch (bodies_from later next es) in
     let outer = and_parts (entry_fits nothing Session) (entry_fits begun (Made drawn) && all_fit next es) fit in
     let inner = and_parts (entry_fits begun (Made drawn)) (all_fit next es) outer.1 in
     let holds = root_holds drawn in
     let none = session_body first p.batch p.place in
     let at = stand_after next es in
     let made_is = made_walked first drawn q.batch q.place inner.0 fed.1.0 (begun_walked owner size) in
-    let rest = walk es later next (entry_step begun (Made drawn)).links (body_links q.batch q.place made) (body_contents q.batch q.place made) (place + (110 + length second.payload)) second.number second.epoch
+    let rest = walk es later next (entry_step begun (Made drawn)).links (body_links q.batch q.place made) (body_contents q.batch q.place made) (place + (batch_len + length second.payload)) second.number second.epoch
     holds.0 holds.1 b.1 inner.1 fed.1.1 made_is in
     same_walked (later ++ keys_from next es) (keys ++ (entry_keys nothing Session ++ (entry_keys begun (Made drawn) ++ keys_from next es))) at.store at.keys
     (body_links q.batch q.place made ++ log_links log) (log_links (p ∷ q ∷ log))

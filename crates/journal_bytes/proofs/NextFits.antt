@@ -4,6 +4,7 @@ use Rattle.std.specs.Prelude.{nat_lt}
 use Rattle.std.proofs.lemmas.Bool.{and_from, and_parts, cases_lt, false≢true}
 use Rattle.std.proofs.lemmas.List.{length-replicate}
 use Rattle.std.proofs.lemmas.List.Elements.{All-replicate}
+use Rattle.cry_base.specs.Limits.{most_file_bytes, most_store_bytes}
 use Rattle.cry_base.specs.Refusing.{refusal_of}
 use Rattle.cry_base.specs.Requests.{Request}
 use Rattle.move_plan.specs.Fitting.{fits, public_of}
@@ -28,8 +29,8 @@ unfolding all_fit stand_after
 last_fits at [] entry fit = (and_parts (entry_fits at entry) true fit).0
 last_fits at (x ∷ entries) entry fit = last_fits (stand_then at x) entries entry (and_parts (entry_fits at x) (all_fit (stand_then at x) (entries ++ entry ∷ [])) fit).1
 
-module _ (m : Journal) (has_begun : Bool) (r : Request) (file_bytes : ℕ) (valid : IsValid m) (bound : file_bytes ≤ 1048576) (none : refusal_of (store_of m) r file_bytes ≡ None) where
-  fits_low : (check : List ℕ) → due_end m has_begun r ≤ 268435456
+module _ (m : Journal) (has_begun : Bool) (r : Request) (file_bytes : ℕ) (valid : IsValid m) (bound : file_bytes ≤ most_file_bytes) (none : refusal_of (store_of m) r file_bytes ≡ None) where
+  fits_low : (check : List ℕ) → due_end m has_begun r ≤ most_store_bytes
       → note_fits (begun (not has_begun) (public_stand m)) (note_of (store_of m) r check) (told_step (begun (not has_begun) (public_stand m)) (note_of (store_of m) r check)) ≡ true
   unfolding note_fits has_count entry_fits public_stand store_of keys_of
   fits_low check low =
@@ -48,6 +49,6 @@ module _ (m : Journal) (has_begun : Bool) (r : Request) (file_bytes : ℕ) (vali
 
   pub fits_or_full : (check : List ℕ)
       → note_fits (begun (not has_begun) (public_stand m)) (note_of (store_of m) r check) (told_step (begun (not has_begun) (public_stand m)) (note_of (store_of m) r check)) ≡ false
-      → 268435456 < due_end m has_begun r
+      → most_store_bytes < due_end m has_begun r
   fits_or_full check not_fit =
-      ⊎_elim (λ (past : 268435456 < due_end m has_begun r). past) (λ (low : due_end m has_begun r ≤ 268435456). absurd (false≢true (sym not_fit ∙ fits_low check low))) (cases_lt 268435456 (due_end m has_begun r))
+      ⊎_elim (λ (past : most_store_bytes < due_end m has_begun r). past) (λ (low : due_end m has_begun r ≤ most_store_bytes). absurd (false≢true (sym not_fit ∙ fits_low check low))) (cases_lt most_store_bytes (due_end m has_begun r))

@@ -4,6 +4,8 @@ use Rattle.std.specs.List.{sum_by}
 use Rattle.std.proofs.lemmas.Bool.{le-ltb, ltb-false}
 use Rattle.std.proofs.lemmas.List.Elements.{All-append, All-cons, All-nil}
 use Rattle.std.proofs.lemmas.List.Sums.{sum_by-append, sum_by-cons}
+use Rattle.cry_base.specs.Layout.{batch_len, header_len}
+use Rattle.cry_base.specs.Limits.{most_file_bytes, most_store_bytes}
 use Rattle.cry_base.specs.Refusing.{causes, changes_root, finds_name_taken, finds_no_holder, finds_no_path, goes_too_deep, grants_again, has_bad_name, is_too_long, moves_into_itself, needs_folder, refusal_of, removes_children, revokes_nothing, writes_folder}
 use Rattle.cry_base.specs.Requests.{Request}
 use Rattle.cry_base.specs.Requests.Request.{AddHolder, MakeFolder, WriteFile, Remove, Rename, Relocate, Grant, Revoke}
@@ -80,16 +82,16 @@ payloads-append at [] ys = refl
 payloads-append at (x ∷ xs) ys = ap (λ l. entry_payload at x ∷ l) (payloads-append (stand_then at x) xs ys)
 
 -- one entry more makes the log longer by its batch
-end_then : (m : Journal) (entry : Entry) → end_of (m ++ entry ∷ []) ≡ end_of m + (110 + entry_payload (stand_after nothing m) entry)
+end_then : (m : Journal) (entry : Entry) → end_of (m ++ entry ∷ []) ≡ end_of m + (batch_len + entry_payload (stand_after nothing m) entry)
 unfolding end_of payloads_from
 end_then m entry =
     let more = entry_payload (stand_after nothing m) entry ∷ [] in
     let joined = payloads-append nothing m (entry ∷ []) in
-    let sum = sum_by-append (λ (len : ℕ). 110 + len) (payloads_from nothing m) more in
-    let one = sum_by-cons (λ (len : ℕ). 110 + len) (entry_payload (stand_after nothing m) entry) [] in
-    ap (λ l. 42 + sum_by (λ (len : ℕ). 110 + len) l) joined ∙ omega (arith, sum, one)
+    let sum = sum_by-append (λ (len : ℕ). batch_len + len) (payloads_from nothing m) more in
+    let one = sum_by-cons (λ (len : ℕ). batch_len + len) (entry_payload (stand_after nothing m) entry) [] in
+    ap (λ l. header_len + sum_by (λ (len : ℕ). batch_len + len) l) joined ∙ omega (arith, sum, one)
 
-end_between : (m : Journal) (has_begun : Bool) → end_of (between m has_begun) ≡ end_of m + cond has_begun 0 110
+end_between : (m : Journal) (has_begun : Bool) → end_of (between m has_begun) ≡ end_of m + cond has_begun 0 batch_len
 unfolding entry_payload
 end_between m true = ap end_of (append-nil m) ∙ omega arith
 end_between m false = end_then m Session
@@ -98,7 +100,7 @@ session_follows : (at : Stand) (has_begun : Bool) → FollowOn at (cond has_begu
 session_follows at true = tt
 session_follows at false = (tt, tt)
 
-pub session_valid : (m : Journal) (has_begun : Bool) (r : Request) → IsValid m → due_end m has_begun r ≤ 268435456 → IsValid (between m has_begun)
+pub session_valid : (m : Journal) (has_begun : Bool) (r : Request) → IsValid m → due_end m has_begun r ≤ most_store_bytes → IsValid (between m has_begun)
 unfolding due_end
 session_valid m has_begun r valid low =
     let first = end_between m has_begun in
@@ -112,13 +114,13 @@ session_whole owner m has_begun whole =
     let session : (b : Bool) → All sized (cond b [] (Session ∷ [])) = λ b. elim b as (λ b. All sized (cond b [] (Session ∷ []))) [ true ↦ All-nil sized | false ↦ one ] in
     record { owner_size = whole.owner_size; drawn_sizes = All-append sized m (cond has_begun [] (Session ∷ [])) whole.drawn_sizes (session has_begun) }
 
-module _ (m : Journal) (has_begun : Bool) (r : Request) (drawn : List (List ℕ)) (file_bytes : ℕ) (valid : IsValid m) (bound : file_bytes ≤ 1048576) (none : refusal_of (store_of m) r file_bytes ≡ None)
+module _ (m : Journal) (has_begun : Bool) (r : Request) (drawn : List (List ℕ)) (file_bytes : ℕ) (valid : IsValid m) (bound : file_bytes ≤ most_file_bytes) (none : refusal_of (store_of m) r file_bytes ≡ None)
     (many : length drawn ≡ draws_of m r) (sizes : All (λ (key : List ℕ). length key ≡ 32) drawn) where
   command_next : IsNext (stand_after nothing (between m has_begun)) (Did r drawn)
   unfolding store_of draws_of
   command_next =
       subst (λ at. IsNext at (Did r drawn)) (sym (stand_between m has_begun))
-      (refusal_still (stand_after nothing m).store r file_bytes 1048576 bound none, many ∙ sym (given_begun (stand_after nothing m) r (not has_begun) drawn []))
+      (refusal_still (stand_after nothing m).store r file_bytes most_file_bytes bound none, many ∙ sym (given_begun (stand_after nothing m) r (not has_begun) drawn []))
 
   pub end_then_is : end_of (journal_then m has_begun r drawn) ≡ due_end m has_begun r
   unfolding due_end
@@ -130,10 +132,10 @@ module _ (m : Journal) (has_begun : Bool) (r : Request) (drawn : List (List ℕ)
       let first = end_between m has_begun in
       omega (arith, last, size, first)
 
-  pub between_valid : due_end m has_begun r ≤ 268435456 → IsValid (between m has_begun)
+  pub between_valid : due_end m has_begun r ≤ most_store_bytes → IsValid (between m has_begun)
   between_valid low = session_valid m has_begun r valid low
 
-  pub next_valid : due_end m has_begun r ≤ 268435456 → IsValid (journal_then m has_begun r drawn)
+  pub next_valid : due_end m has_begun r ≤ most_store_bytes → IsValid (journal_then m has_begun r drawn)
   next_valid low =
       let last = end_then_is in
       (begins-append (between m has_begun) (Did r drawn ∷ []) (between_valid low).0 (command_next, tt), omega (arith, last, low))

@@ -3,6 +3,7 @@ use Rattle.std.proofs.Common.{◌≡◌, ◌≢◌, ⊎_elim, inl, ℕ, ◌≤�
 use Rattle.std.specs.Prelude.{if◌then◌else◌, nat_le}
 use Rattle.std.proofs.Math.Seq.{drop-append_seam, take-append_seam}
 use Rattle.std.proofs.lemmas.Bool.{and_from, and_parts, eq-eqb, eqb-true, le-leb, ne_eqb}
+use Rattle.cry_base.specs.Limits.{most_file_bytes}
 use Rattle.cry_base.specs.Naming.{is_name}
 use Rattle.cry_base.specs.Refusing.{refusal_of}
 use Rattle.cry_base.specs.Requests.{Request}
@@ -45,16 +46,16 @@ root_text p kind object size =
     let both = and_parts _ (length (text_of p) == 0) at in
     empty (text_of p) (eqb-true (length (text_of p)) 0 both.1)
 
-effect_bare : (s : Store) (r : Request) (key : List ℕ) → IsSound s → AreShort s → refusal_of s r 1048576 ≡ None → HasKeySize r key → HasBareRoot s → HasBareRoot (effect s r key)
+effect_bare : (s : Store) (r : Request) (key : List ℕ) → IsSound s → AreShort s → refusal_of s r most_file_bytes ≡ None → HasKeySize r key → HasBareRoot s → HasBareRoot (effect s r key)
 effect_bare s r key sound short none size bare e i one = ⊎_elim
     (λ now.
     let p : Piece = now.0 in
     let there : In p (pieces_of (note_of s r []) (effect s r key)) = subst (λ (ps : List Piece). In p ps) (sym now.1) (inl refl) in
     sym now.4 ∙ root_text p now.2 (now.3 ∙ one) (command_sized s r key [] sound short none size p there))
     (λ left. let d = left.1 in sym d.3 ∙ bare d.0 d.1 (d.2 ∙ one))
-    ((command_kept s r key (accepted s r 1048576 none) sound.counted (effect_sound s r key 1048576 none sound).tree).folders e i)
+    ((command_kept s r key (accepted s r most_file_bytes none) sound.counted (effect_sound s r key most_file_bytes none sound).tree).folders e i)
 
-effect_plain : (s : Store) (r : Request) (key : List ℕ) → IsSound s → refusal_of s r 1048576 ≡ None → HasKeySize r key → IsPlain s → IsPlain (effect s r key)
+effect_plain : (s : Store) (r : Request) (key : List ℕ) → IsSound s → refusal_of s r most_file_bytes ≡ None → HasKeySize r key → IsPlain s → IsPlain (effect s r key)
 effect_plain s r key sound none size plain = record { short = effect_short s r key none plain.short; bare_root = effect_bare s r key sound plain.short none size plain.bare_root }
 
 root_bare : HasBareRoot root_store
@@ -70,7 +71,7 @@ after_plain [] at sound plain f fed = plain
 after_plain (Session ∷ entries) at sound plain f fed = after_plain entries (stand_then at Session) sound plain f.1 fed.1
 after_plain (Made keys ∷ entries) at sound plain f fed = absurd f.0
 after_plain (Did r keys ∷ entries) at sound plain f fed =
-    after_plain entries (stand_then at (Did r keys)) (effect_sound at.store r (first_key keys) 1048576 f.0.0 sound)
+    after_plain entries (stand_then at (Did r keys)) (effect_sound at.store r (first_key keys) most_file_bytes f.0.0 sound)
     (effect_plain at.store r (first_key keys) sound f.0.0 (key_sized at r keys fed.0.many fed.0.sizes) plain) f.1 fed.1
 
 begun_plain : (m : Journal) → BeginsWell m → AreFed nothing m → IsPlain (stand_after nothing m).store
@@ -111,7 +112,7 @@ file_form s tree plain e i =
     let both = length-append e.name e.bytes in
     let rest = e.name ++ e.bytes in
     let n = length e.name in
-    and_from (nat_le n (length rest)) (is_name (take n rest) && nat_le (length (drop n rest)) 1048576) (le-leb n (length rest) (omega (arith, both)))
-    (and_from (is_name (take n rest)) (nat_le (length (drop n rest)) 1048576)
+    and_from (nat_le n (length rest)) (is_name (take n rest) && nat_le (length (drop n rest)) most_file_bytes) (le-leb n (length rest) (omega (arith, both)))
+    (and_from (is_name (take n rest)) (nat_le (length (drop n rest)) most_file_bytes)
     (ap is_name (take-append_seam e.name e.bytes) ∙ tree.file_name e i)
-    (le-leb (length (drop n rest)) 1048576 (subst (λ xs. length xs ≤ 1048576) (sym (drop-append_seam e.name e.bytes)) (plain.short e i))))
+    (le-leb (length (drop n rest)) most_file_bytes (subst (λ xs. length xs ≤ most_file_bytes) (sym (drop-append_seam e.name e.bytes)) (plain.short e i))))

@@ -1,5 +1,7 @@
 -- What readers see of bytes that stand for a journal: the journal as the bytes publish it.
 use Rattle.std.proofs.Common.{◌≡◌, ℕ, ◌+◌, ◌≤◌, true, false, cond, List, [], ◌∷◌, length, All, Ok, arith, refl, sym, ap, subst, ◌∙◌}
+use Rattle.cry_base.specs.Layout.{header_len}
+use Rattle.cry_base.specs.Limits.{most_store_bytes}
 use Rattle.chacha_seal.specs.Keys.{KeyParts}
 use Rattle.commit_journal.specs.Image.{Batch, image}
 use Rattle.commit_journal.specs.Laws.{batches_from, placed_from, AreBodies}
@@ -43,7 +45,7 @@ has_batches owner [] begins none = begins
 has_batches owner (entry ∷ entries) begins none = cc
 
 pub journal_read : (owner : List ℕ) (m : Journal) (bytes : List ℕ) → StandsForJournal owner m bytes → AreBodies 0 (bodies_of owner m) → IsHonestFor owner bytes m →
-    log_verdict owner bytes ≡ Ok (placed_from 42 0 0 (bodies_of owner (published_journal owner bytes m)))
+    log_verdict owner bytes ≡ Ok (placed_from header_len 0 0 (bodies_of owner (published_journal owner bytes m)))
 unfolding published_journal batches_of image_of
 journal_read owner m bytes stands are honest =
     let bs = batches_from 0 0 (bodies_of owner m) in
@@ -51,7 +53,7 @@ journal_read owner m bytes stands are honest =
     let slot : last_slot bytes ≡ stands.stands.slot = slot_is owner bs bytes stands.stands sizes (has_batches owner m stands.valid.0) in
     let size : length (image owner bs) + 1 ≡ end_of m = valid_weighs owner m stands.valid stands.whole_keys in
     let long = length-image owner bs in
-    let end : end_of m ≤ 268435456 = stands.valid.1 in
+    let end : end_of m ≤ most_store_bytes = stands.valid.1 in
     verdict_standing owner (bodies_of owner m) bytes stands.stands are (omega arith) (subst (λ (s : List ℕ). IsHonest owner s bs) slot honest)
-    ∙ ap (λ s. Ok (placed_from 42 0 0 (published_of owner s bs (bodies_of owner m)))) (sym slot)
-    ∙ ap (λ bodies. Ok (placed_from 42 0 0 bodies)) (sym (bodies_published owner (last_slot bytes) bs m))
+    ∙ ap (λ s. Ok (placed_from header_len 0 0 (published_of owner s bs (bodies_of owner m)))) (sym slot)
+    ∙ ap (λ bodies. Ok (placed_from header_len 0 0 bodies)) (sym (bodies_published owner (last_slot bytes) bs m))

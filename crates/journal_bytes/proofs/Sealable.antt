@@ -3,6 +3,7 @@ use Rattle.std.proofs.Common.{◌≡◌, ◌≢◌, ⊎_elim, inl, inr, ℕ, ◌
 use Rattle.std.specs.Prelude.{unwrap_or}
 use Rattle.std.proofs.lemmas.Bool.{eqb-true, false≢true}
 use Rattle.std.proofs.lemmas.List.{length-map}
+use Rattle.cry_base.specs.Limits.{most_file_bytes}
 use Rattle.cry_base.specs.Sets.{In}
 use Rattle.cry_base.specs.Refusing.{refusal_of}
 use Rattle.cry_base.specs.Requests.{Request}
@@ -241,7 +242,7 @@ unfolding stand_after stand_then entry_store
 after_sound [] at sound f = sound
 after_sound (Session ∷ entries) at sound f = after_sound entries (stand_then at Session) sound f.1
 after_sound (Made keys ∷ entries) at sound f = absurd f.0
-after_sound (Did request keys ∷ entries) at sound f = after_sound entries (stand_then at (Did request keys)) (effect_sound at.store request (first_key keys) 1048576 f.0.0 sound) f.1
+after_sound (Did request keys ∷ entries) at sound f = after_sound entries (stand_then at (Did request keys)) (effect_sound at.store request (first_key keys) most_file_bytes f.0.0 sound) f.1
 
 pub begun_sound : (m : Journal) → BeginsWell m → IsSound (stand_after nothing m).store
 unfolding stand_after stand_then entry_store nothing

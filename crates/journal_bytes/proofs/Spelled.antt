@@ -12,6 +12,8 @@ use Rattle.commit_journal.specs.Laws.{AreBodies}
 use Rattle.commit_journal.specs.Log.{log_verdict}
 use Rattle.commit_journal.specs.Logs.{holder_log, writer_log}
 use Rattle.commit_journal.specs.Placed.{PlainBody}
+use Rattle.cry_base.specs.Layout.{batch_len}
+use Rattle.cry_base.specs.Limits.{most_file_bytes, most_store_bytes}
 use Rattle.cry_base.specs.Refusing.{id_of, refusal_of}
 use Rattle.cry_base.specs.Requests.{Request}
 use Rattle.cry_base.specs.Requests.Request.{AddHolder, MakeFolder, WriteFile, Remove, Rename, Relocate, Grant, Revoke}
@@ -429,7 +431,7 @@ session_ready keys at links is fit fed =
       count = omega arith;
     }
 
-did_ready : (keys : List KeyParts) (at : Stand) (links : List Link) (r : Request) (drawn : List (List ℕ)) → IsReady keys at links → refusal_of at.store r 1048576 ≡ None → entry_fits at (Did r drawn) ≡ true → IsFed at (Did r drawn)
+did_ready : (keys : List KeyParts) (at : Stand) (links : List Link) (r : Request) (drawn : List (List ℕ)) → IsReady keys at links → refusal_of at.store r most_file_bytes ≡ None → entry_fits at (Did r drawn) ≡ true → IsFed at (Did r drawn)
     → IsReady (bytes.keys_then keys at (Did r drawn)) (stand_then at (Did r drawn)) (links ++ (entry_step at (Did r drawn)).links)
 unfolding stand_then entry_store entry_step note_step entry_fits
 did_ready keys at links r drawn is none fit fed =
@@ -438,12 +440,12 @@ did_ready keys at links r drawn is none fit fed =
     let t = effect s r (first_key drawn) in
     let c = change_of s note in
     let ps = pieces_of note t in
-    let mv = command_moves s r (first_key drawn) [] 1048576 none is.sound in
+    let mv = command_moves s r (first_key drawn) [] most_file_bytes none is.sound in
     let told = fit_told at note (entry_step at (Did r drawn)) fit in
     let same = same_epoch at.keys (edges s) c ps in
     let low = is.epoch in
     record {
-      sound = effect_sound s r (first_key drawn) 1048576 none is.sound;
+      sound = effect_sound s r (first_key drawn) most_file_bytes none is.sound;
       short = effect_short s r (first_key drawn) none is.short;
       ok = keys_after s t at.keys c links mv is.ok ps;
       have = have_then keys at (Did r drawn) is.have fed;
@@ -452,12 +454,12 @@ did_ready keys at links r drawn is none fit fed =
       count = told.1;
     }
 
-command_note : (s : Store) (r : Request) (key : List ℕ) → IsSound s → refusal_of s r 1048576 ≡ None → made s + 1 < 4294967296 → IsNote (declared_note (note_of s r (check_of key)))
+command_note : (s : Store) (r : Request) (key : List ℕ) → IsSound s → refusal_of s r most_file_bytes ≡ None → made s + 1 < 4294967296 → IsNote (declared_note (note_of s r (check_of key)))
 command_note s r key sound none few =
     let check = check_of key in
-    note_small s (note_of s r check) sound (notes.note_fits s r check sound.tree (accepted s r 1048576 none)) few (note_of_weighs s r check (length-check_of key)).0
+    note_small s (note_of s r check) sound (notes.note_fits s r check sound.tree (accepted s r most_file_bytes none)) few (note_of_weighs s r check (length-check_of key)).0
 
-did_spelled : (keys : List KeyParts) (at : Stand) (links : List Link) (r : Request) (drawn : List (List ℕ)) → IsReady keys at links → refusal_of at.store r 1048576 ≡ None → entry_fits at (Did r drawn) ≡ true → IsFed at (Did r drawn) → made at.store + 1 < 4294967296
+did_spelled : (keys : List KeyParts) (at : Stand) (links : List Link) (r : Request) (drawn : List (List ℕ)) → IsReady keys at links → refusal_of at.store r most_file_bytes ≡ None → entry_fits at (Did r drawn) ≡ true → IsFed at (Did r drawn) → made at.store + 1 < 4294967296
     → IsSpellable (step_payload (bytes.keys_then keys at (Did r drawn)) (declared_note (note_of at.store r (check_of (first_key drawn)))) (entry_step at (Did r drawn)))
 unfolding entry_step note_step entry_fits drawn_by
 did_spelled keys at links r drawn is none fit fed few =
@@ -466,11 +468,11 @@ did_spelled keys at links r drawn is none fit fed few =
     let t = effect s r (first_key drawn) in
     let c = change_of s note in
     let ps = pieces_of note t in
-    let mv = command_moves s r (first_key drawn) [] 1048576 none is.sound in
+    let mv = command_moves s r (first_key drawn) [] most_file_bytes none is.sound in
     let told = fit_told at note (entry_step at (Did r drawn)) fit in
     let same = same_epoch at.keys (edges s) c ps in
     let low = is.epoch in
-    let sound_after = effect_sound s r (first_key drawn) 1048576 none is.sound in
+    let sound_after = effect_sound s r (first_key drawn) most_file_bytes none is.sound in
     let more = effect_made s r (first_key drawn) in
     let later = bytes.keys_then keys at (Did r drawn) in
     let small = step_small later s t at.keys c links ps mv is.ok (fresh_once s note) (pieces_due note t) sound_after.counted (omega (arith, more, few)) (have_then keys at (Did r drawn) is.have fed) is.below (omega (arith, same, low)) told.1 in
@@ -504,7 +506,7 @@ did_made : (at : Stand) (r : Request) (drawn : List (List ℕ)) → made (stand_
 unfolding stand_then entry_store
 did_made at r drawn = effect_made at.store r (first_key drawn)
 
-spell : (entries : List Entry) (keys : List KeyParts) (at : Stand) (links : List Link) → IsReady keys at links → made at.store + spent (payloads_from at entries) ≤ 268435456 → FollowOn at entries → all_fit at entries ≡ true → AreFed at entries
+spell : (entries : List Entry) (keys : List KeyParts) (at : Stand) (links : List Link) → IsReady keys at links → made at.store + spent (payloads_from at entries) ≤ most_store_bytes → FollowOn at entries → all_fit at entries ≡ true → AreFed at entries
     → AreBodies at.keys.epoch (bodies_from keys at entries)
 unfolding bodies_from payloads_from all_fit
 spell [] keys at links is low follow fit fed = tt
@@ -512,7 +514,7 @@ spell (Session ∷ entries) keys at links is low follow fit fed =
     let later = bytes.keys_then keys at Session in
     let next = stand_then at Session in
     let both = and_parts (entry_fits at Session) (all_fit next entries) fit in
-    let sum = sum_by-cons (λ len. 110 + len) (entry_payload at Session) (payloads_from next entries) in
+    let sum = sum_by-cons (λ len. batch_len + len) (entry_payload at Session) (payloads_from next entries) in
     let same = session_made at in
     session_bodies later at (bodies_from later next entries)
     (spell entries later next links (session_ready keys at links is both.0 fed.0) (omega (arith, low, sum, same)) follow.1 both.1 fed.1)
@@ -521,7 +523,7 @@ spell (Did r drawn ∷ entries) keys at links is low follow fit fed =
     let later = bytes.keys_then keys at (Did r drawn) in
     let next = stand_then at (Did r drawn) in
     let both = and_parts (entry_fits at (Did r drawn)) (all_fit next entries) fit in
-    let sum = sum_by-cons (λ len. 110 + len) (entry_payload at (Did r drawn)) (payloads_from next entries) in
+    let sum = sum_by-cons (λ len. batch_len + len) (entry_payload at (Did r drawn)) (payloads_from next entries) in
     let more = did_made at r drawn in
     did_bodies later at r drawn (bodies_from later next entries) (did_begun at r drawn both.0)
     (did_spelled keys at links r drawn is follow.0.0 both.0 fed.0 (omega (arith, low, sum)))
@@ -598,7 +600,7 @@ next_made : (drawn : List (List ℕ)) → made (stand_then begun (Made drawn)).s
 unfolding stand_then entry_store
 next_made drawn = root_made
 
-begins : (owner : List ℕ) (m : Journal) → length owner ≡ 32 → BeginsWell m → end_of m ≤ 268435456 → all_fit nothing m ≡ true → AreFed nothing m → AreBodies nothing.keys.epoch (bodies_from (owner_parts owner ∷ []) nothing m)
+begins : (owner : List ℕ) (m : Journal) → length owner ≡ 32 → BeginsWell m → end_of m ≤ most_store_bytes → all_fit nothing m ≡ true → AreFed nothing m → AreBodies nothing.keys.epoch (bodies_from (owner_parts owner ∷ []) nothing m)
 unfolding bodies_from payloads_from all_fit end_of
 begins owner [] size b low fit fed = absurd b
 begins owner (Session ∷ []) size b low fit fed = absurd b
@@ -611,8 +613,8 @@ begins owner (Session ∷ Made drawn ∷ es) size b low fit fed =
     let outer = and_parts (entry_fits nothing Session) (entry_fits begun (Made drawn) && all_fit next es) fit in
     let inner = and_parts (entry_fits begun (Made drawn)) (all_fit next es) outer.1 in
     let have = begun_have owner size fed.0 in
-    let sum = sum_by-cons (λ len. 110 + len) (entry_payload nothing Session) (entry_payload begun (Made drawn) ∷ payloads_from next es) in
-    let others = sum_by-cons (λ len. 110 + len) (entry_payload begun (Made drawn)) (payloads_from next es) in
+    let sum = sum_by-cons (λ len. batch_len + len) (entry_payload nothing Session) (entry_payload begun (Made drawn) ∷ payloads_from next es) in
+    let others = sum_by-cons (λ len. batch_len + len) (entry_payload begun (Made drawn)) (payloads_from next es) in
     let one = next_made drawn in
     session_bodies first nothing (entry_body later begun (Made drawn) ∷ bodies_from later next es)
     (root_bodies later drawn (bodies_from later next es) (root_spelled first drawn have inner.0 fed.1.0)

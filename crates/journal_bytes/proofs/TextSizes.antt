@@ -2,6 +2,7 @@
 use Rattle.std.proofs.Common.{◌≡◌, ◌≢◌, ⊎_elim, inl, inr, ℕ, ◌+◌, ◌≤◌, Bool, true, false, cond, not, ◌==◌, ◌&&◌, ◌||◌, List, [], ◌∷◌, ◌++◌, length, Option, Some, None, arith, refl, sym, ap, subst, ◌∙◌, append-nil, length-append}
 use Rattle.std.specs.Prelude.{if◌then◌else◌, is_none, nat_le, nat_lt}
 use Rattle.std.proofs.lemmas.Bool.{and_from, and_parts, false≢true, le-leb, leb-true, ltb-false, ne_eqb, not-false, or_parts}
+use Rattle.cry_base.specs.Limits.{most_file_bytes}
 use Rattle.cry_base.specs.Naming.{is_between, is_name, is_path, is_root_path, last_name, names_of, parent_path}
 use Rattle.cry_base.specs.Refusing.{causes, changes_root, finds_no_path, has_bad_name, id_of, is_folder, is_too_long, refusal_of, writes_folder}
 use Rattle.cry_base.specs.Requests.{Request, paths_of}
@@ -105,9 +106,9 @@ holder_of t h p i =
 -- ---- no file has more bytes than a file may have
 
 abbrev pub AreShort : Store → Type 0
-AreShort s = (e : FileEntry) → In e s.files → length e.bytes ≤ 1048576
+AreShort s = (e : FileEntry) → In e s.files → length e.bytes ≤ most_file_bytes
 
-more_short : (s : Store) (folder : ℕ) (name bytes : List ℕ) → length bytes ≤ 1048576 → AreShort s → AreShort (with_new_file s folder name bytes)
+more_short : (s : Store) (folder : ℕ) (name bytes : List ℕ) → length bytes ≤ most_file_bytes → AreShort s → AreShort (with_new_file s folder name bytes)
 unfolding with_new_file
 more_short s folder name bytes low short e i =
     let new : FileEntry = record { id = s.files_made + 1; folder = folder; name = name; bytes = bytes } in ⊎_elim
@@ -115,24 +116,24 @@ more_short s folder name bytes low short e i =
     (λ v. ⊎_elim (λ (q : e ≡ new). let same : length e.bytes ≡ length bytes = ap (λ (z : FileEntry). length z.bytes) q in omega (arith, same, low)) (λ n. absurd n) v)
     ((In-append FileEntry e s.files (new ∷ [])).0 i)
 
-changed_short : (s : Store) (x : ℕ) (change : FileEntry → FileEntry) → ((e : FileEntry) → length e.bytes ≤ 1048576 → length (change e).bytes ≤ 1048576) → AreShort s → AreShort (with_file s x change)
+changed_short : (s : Store) (x : ℕ) (change : FileEntry → FileEntry) → ((e : FileEntry) → length e.bytes ≤ most_file_bytes → length (change e).bytes ≤ most_file_bytes) → AreShort s → AreShort (with_file s x change)
 unfolding with_file
 changed_short s x change keeps short e i =
     let w = (In-map FileEntry FileEntry (λ e. cond (e.id == x) (change e) e) e s.files).0 i in
-    subst (λ (z : FileEntry). length z.bytes ≤ 1048576) (sym w.2)
-    (elim (w.0.id == x) as (λ b. length (cond b (change w.0) w.0).bytes ≤ 1048576) [ true ↦ keeps w.0 (short w.0 w.1) | false ↦ short w.0 w.1 ])
+    subst (λ (z : FileEntry). length z.bytes ≤ most_file_bytes) (sym w.2)
+    (elim (w.0.id == x) as (λ b. length (cond b (change w.0) w.0).bytes ≤ most_file_bytes) [ true ↦ keeps w.0 (short w.0 w.1) | false ↦ short w.0 w.1 ])
 
 less_short : (s : Store) (x : ℕ) → AreShort s → AreShort (without_file s x)
 unfolding without_file
 less_short s x short e i = short e (In-filter FileEntry (λ e. not (e.id == x)) e s.files i).0
 
-not_long : (s : Store) (path bytes : List ℕ) → refusal_of s (WriteFile path bytes) 1048576 ≡ None → length bytes ≤ 1048576
+not_long : (s : Store) (path bytes : List ℕ) → refusal_of s (WriteFile path bytes) most_file_bytes ≡ None → length bytes ≤ most_file_bytes
 unfolding causes is_too_long
 not_long s path bytes none =
-    ltb-false 1048576 (length bytes)
-    (no_cause s (WriteFile path bytes) 1048576 (nat_lt 1048576 (length bytes)) TooLong none (inr (inr (inr (inr (inr (inr (inr (inr (inr (inr (inr (inr (inl refl))))))))))))))
+    ltb-false most_file_bytes (length bytes)
+    (no_cause s (WriteFile path bytes) most_file_bytes (nat_lt most_file_bytes (length bytes)) TooLong none (inr (inr (inr (inr (inr (inr (inr (inr (inr (inr (inr (inr (inl refl))))))))))))))
 
-bytes_short : (s : Store) (o : Option Node) (path bytes : List ℕ) → length bytes ≤ 1048576 → AreShort s → AreShort (with_bytes_at s o path bytes)
+bytes_short : (s : Store) (o : Option Node) (path bytes : List ℕ) → length bytes ≤ most_file_bytes → AreShort s → AreShort (with_bytes_at s o path bytes)
 unfolding with_bytes_at
 bytes_short s None path bytes low short = more_short s (id_of (node_at s (parent_path path))) (last_name (names_of path)) bytes low short
 bytes_short s (Some (Folder f)) path bytes low short = short
@@ -156,7 +157,7 @@ moved_short s None into short = short
 moved_short s (Some (Folder f)) into short = short
 moved_short s (Some (File x)) into short = changed_short s x.0 (λ e. record e { folder = into }) (λ e h. h) short
 
-pub effect_short : (s : Store) (r : Request) (key : List ℕ) → refusal_of s r 1048576 ≡ None → AreShort s → AreShort (effect s r key)
+pub effect_short : (s : Store) (r : Request) (key : List ℕ) → refusal_of s r most_file_bytes ≡ None → AreShort s → AreShort (effect s r key)
 unfolding effect with_new_holder with_new_folder without_grant
 effect_short s AddHolder key none short = short
 effect_short s (MakeFolder path) key none short = short
@@ -173,10 +174,10 @@ root_short e i = absurd i
 
 -- ---- each text has its size
 
-found_short : (s : Store) (x : ℕ) → AreShort s → length (bytes_of_file s x) ≤ 1048576
+found_short : (s : Store) (x : ℕ) → AreShort s → length (bytes_of_file s x) ≤ most_file_bytes
 unfolding file_entry
 found_short s x short =
-    (elim (file_entry s x) as (λ (o : Option FileEntry). file_entry s x ≡ o → length (elim o as (λ z. List ℕ) [ None ↦ [] | Some e ↦ e.bytes ]) ≤ 1048576) [
+    (elim (file_entry s x) as (λ (o : Option FileEntry). file_entry s x ≡ o → length (elim o as (λ z. List ℕ) [ None ↦ [] | Some e ↦ e.bytes ]) ≤ most_file_bytes) [
       | None ↦ λ q. omega arith
       | Some e ↦ λ q. short e (find-found FileEntry (λ y. y.id == x) s.files e q).0
     ]) refl
@@ -185,7 +186,7 @@ text_long : (name bytes : List ℕ) → length (file_text name bytes) ≡ 1 + le
 text_long name bytes = let both = length-append name bytes in omega (arith, both)
 
 -- a file's text
-text_sized : (p : Piece) (x : ℕ) (name bytes : List ℕ) → IsOf p 2 x → text_of p ≡ file_text name bytes → is_name name ≡ true → length bytes ≤ 1048576 → IsSized p
+text_sized : (p : Piece) (x : ℕ) (name bytes : List ℕ) → IsOf p 2 x → text_of p ≡ file_text name bytes → is_name name ≡ true → length bytes ≤ most_file_bytes → IsSized p
 text_sized p x name bytes of is named low =
     let n = name_size name named in
     let first = n.0 in let last = n.1 in
@@ -209,7 +210,7 @@ found_named s path x e tree =
     let there = file_own s w.0 x.0 tree w.1 w.2 in
     ap is_name (sym (file_name_found s path x w.0 tree e there)) ∙ tree.file_name w.0 w.1
 
-written_sized : (s : Store) (path bytes : List ℕ) (o : Option Node) (p : Piece) → IsSound s → IsAccepted s (WriteFile path bytes) → length bytes ≤ 1048576 → node_at s path ≡ o → is_folder o ≡ false
+written_sized : (s : Store) (path bytes : List ℕ) (o : Option Node) (p : Piece) → IsSound s → IsAccepted s (WriteFile path bytes) → length bytes ≤ most_file_bytes → node_at s path ≡ o → is_folder o ≡ false
     → In p (pieces_of (write_note s o (id_of (node_at s (parent_path path)))) (with_bytes_at s o path bytes)) → text_of p ≡ file_text (name_at path) bytes → IsSized p
 unfolding write_note pieces_of with_bytes_at is_folder
 written_sized s path bytes None p sound a low e file i is =
@@ -250,7 +251,7 @@ HasKeySize (Relocate path into) key = Unit {0}
 HasKeySize (Grant h path) key = Unit {0}
 HasKeySize (Revoke h path) key = Unit {0}
 
-sized : (s : Store) (r : Request) (key check : List ℕ) → IsSound s → AreShort s → refusal_of s r 1048576 ≡ None → IsAccepted s r → HasKeySize r key
+sized : (s : Store) (r : Request) (key check : List ℕ) → IsSound s → AreShort s → refusal_of s r most_file_bytes ≡ None → IsAccepted s r → HasKeySize r key
     → (p : Piece) → In p (pieces_of (note_of s r check) (effect s r key)) → text_of p ≡ due_text s r ++ due_key r key → IsSized p
 unfolding note_of effect pieces_of due_text due_key finds_no_path writes_folder paths_of has_bad_name changes_root
 sized s AddHolder key check sound short none a size p i is =
@@ -274,10 +275,10 @@ sized s (Grant h path) key check sound short none a size p i is = absurd i
 sized s (Revoke h path) key check sound short none a size p i is = absurd i
 
 -- each text that an accepted command seals has a length of its kind
-pub command_sized : (s : Store) (r : Request) (key check : List ℕ) → IsSound s → AreShort s → refusal_of s r 1048576 ≡ None → HasKeySize r key
+pub command_sized : (s : Store) (r : Request) (key check : List ℕ) → IsSound s → AreShort s → refusal_of s r most_file_bytes ≡ None → HasKeySize r key
     → (p : Piece) → In p (pieces_of (note_of s r check) (effect s r key)) → IsSized p
 command_sized s r key check sound short none size p i =
-    let a = accepted s r 1048576 none in
+    let a = accepted s r most_file_bytes none in
     sized s r key check sound short none a size p i (sealed s r key check a sound.counted sound.tree p i)
 
 -- the root's name is empty

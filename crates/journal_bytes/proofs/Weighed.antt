@@ -7,6 +7,7 @@ use Rattle.std.proofs.lemmas.List.Sums.{sum_by-cons}
 use Rattle.chacha_seal.specs.Keys.{KeyParts}
 use Rattle.chacha_seal.specs.Sealing.{check_of}
 use Rattle.chacha_seal.proofs.SealingLemmas.{length-check_of}
+use Rattle.cry_base.specs.Layout.{batch_len}
 use Rattle.cry_base.specs.Requests.{Request}
 use Rattle.cry_base.specs.Requests.Request.{AddHolder, MakeFolder, WriteFile, Remove, Rename, Relocate, Grant, Revoke}
 use Rattle.cry_base.specs.Sets.{In}
@@ -170,7 +171,7 @@ batch_weight number epoch (Commands payload) = refl
 batch_weight number epoch NewEpoch = refl
 
 entries_weigh : (keys : List KeyParts) (at : Stand) (entries : List Entry) (number epoch : ℕ) → HaveKeys keys at.keys → AreFed at entries →
-    sum_by (λ (b : Batch). 110 + length b.payload) (batches_from number epoch (bodies_from keys at entries)) ≡ sum_by (λ len. 110 + len) (payloads_from at entries)
+    sum_by (λ (b : Batch). batch_len + length b.payload) (batches_from number epoch (bodies_from keys at entries)) ≡ sum_by (λ len. batch_len + len) (payloads_from at entries)
 unfolding bodies_from payloads_from stand_then
 entries_weigh keys at [] number epoch have fed = refl
 entries_weigh keys at (entry ∷ entries) number epoch have fed =
@@ -180,10 +181,10 @@ entries_weigh keys at (entry ∷ entries) number epoch have fed =
     let have_more : HaveKeys then (entry_step at entry).after = have_then keys at entry have fed.0 in
     let first : length batch.payload ≡ entry_payload at entry = batch_weight number epoch body ∙ body_weighs then at entry have_more in
     let others = entries_weigh then (stand_then at entry) entries batch.number batch.epoch have_more fed.1 in
-    sum_by-cons (λ (b : Batch). 110 + length b.payload) batch (batches_from batch.number batch.epoch (bodies_from then (stand_then at entry) entries))
-    ∙ ap (λ n. 110 + n + sum_by (λ (b : Batch). 110 + length b.payload) (batches_from batch.number batch.epoch (bodies_from then (stand_then at entry) entries))) first
-    ∙ ap (λ n. 110 + entry_payload at entry + n) others
-    ∙ sym (sum_by-cons (λ (len : ℕ). 110 + len) (entry_payload at entry) (payloads_from (stand_then at entry) entries))
+    sum_by-cons (λ (b : Batch). batch_len + length b.payload) batch (batches_from batch.number batch.epoch (bodies_from then (stand_then at entry) entries))
+    ∙ ap (λ n. batch_len + n + sum_by (λ (b : Batch). batch_len + length b.payload) (batches_from batch.number batch.epoch (bodies_from then (stand_then at entry) entries))) first
+    ∙ ap (λ n. batch_len + entry_payload at entry + n) others
+    ∙ sym (sum_by-cons (λ (len : ℕ). batch_len + len) (entry_payload at entry) (payloads_from (stand_then at entry) entries))
 
 -- ---- valid journals
 
@@ -225,7 +226,7 @@ begins_fed (Made drawn ∷ entries) begins sizes = absurd begins
 begins_fed (Did request drawn ∷ entries) begins sizes = absurd begins
 
 payloads_weigh : (keys : List KeyParts) (at : Stand) (entries : List Entry) (number epoch : ℕ) → HaveKeys keys at.keys → AreFed at entries →
-    map (λ (b : Batch). 110 + length b.payload) (batches_from number epoch (bodies_from keys at entries)) ≡ map (λ len. 110 + len) (payloads_from at entries)
+    map (λ (b : Batch). batch_len + length b.payload) (batches_from number epoch (bodies_from keys at entries)) ≡ map (λ len. batch_len + len) (payloads_from at entries)
 unfolding bodies_from payloads_from stand_then
 payloads_weigh keys at [] number epoch have fed = refl
 payloads_weigh keys at (entry ∷ entries) number epoch have fed =
@@ -235,11 +236,11 @@ payloads_weigh keys at (entry ∷ entries) number epoch have fed =
     let have_more : HaveKeys then (entry_step at entry).after = have_then keys at entry have fed.0 in
     let first : length batch.payload ≡ entry_payload at entry = batch_weight number epoch body ∙ body_weighs then at entry have_more in
     let others = payloads_weigh then (stand_then at entry) entries batch.number batch.epoch have_more fed.1 in
-    ap (λ n. (110 + n) ∷ map (λ (b : Batch). 110 + length b.payload) (batches_from batch.number batch.epoch (bodies_from then (stand_then at entry) entries))) first
-    ∙ ap (λ r. (110 + entry_payload at entry) ∷ r) others
+    ap (λ n. (batch_len + n) ∷ map (λ (b : Batch). batch_len + length b.payload) (batches_from batch.number batch.epoch (bodies_from then (stand_then at entry) entries))) first
+    ∙ ap (λ r. (batch_len + entry_payload at entry) ∷ r) others
 
 pub valid_payloads : (owner : List ℕ) (m : Journal) → IsValid m → AreWhole owner m →
-    map (λ (b : Batch). 110 + length b.payload) (batches_of owner m) ≡ map (λ len. 110 + len) (payloads_from nothing m)
+    map (λ (b : Batch). batch_len + length b.payload) (batches_of owner m) ≡ map (λ len. batch_len + len) (payloads_from nothing m)
 unfolding batches_of bodies_of
 valid_payloads owner m valid whole =
     payloads_weigh (owner_parts owner ∷ []) nothing m 0 0 (have_at_first owner whole.owner_size) (begins_fed m valid.0 whole.drawn_sizes)

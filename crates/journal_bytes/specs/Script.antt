@@ -1,6 +1,7 @@
 -- What a list of commands is answered, and the journal that it leaves. This project's own, docs/FORMAT.md.
 use Rattle.std.specs.Prelude.{ℕ, zero, suc, ◌+◌, ◌*◌, Bool, true, false, cond, nat_lt, List, [], ◌∷◌, ◌++◌, length, take, drop, replicate}
 use Rattle.std.specs.Prelude.{Option, Some, None}
+use Rattle.cry_base.specs.Layout.{batch_len}
 use Rattle.cry_base.specs.Requests.{Request}
 use Rattle.cry_base.specs.Requests.Request.{AddHolder, MakeFolder, WriteFile, Remove, Rename, Relocate, Grant, Revoke}
 use Rattle.cry_base.specs.Refusing.{refusal_of}
@@ -23,7 +24,7 @@ due_payload m r = entry_payload (stand_after nothing m) (Did r (replicate 32 0 �
 
 -- the end of the log once it is committed: with an epoch's batch before it where the session has begun none
 unfoldable pub due_end : Journal → Bool → Request → ℕ
-due_end m begun r = end_of m + cond begun 0 110 + 110 + due_payload m r
+due_end m begun r = end_of m + cond begun 0 batch_len + batch_len + due_payload m r
 
 -- the refusal of a command, if there is one: that of the plain store, and full where its batch would go past the store limit
 unfoldable pub answer_with : Option Refusal → Bool → Option Refusal

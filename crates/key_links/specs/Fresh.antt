@@ -11,6 +11,18 @@ use Rattle.commit_journal.specs.declared.batch_type.BatchType.TheVariants.{Comma
 use Rattle.commit_journal.specs.Image.{Batch, image}
 use Rattle.key_links.specs.Sealed.{sealed_link, sealed_content}
 
+-- the bytes that are drawn: six keys of 32
+abbrev pub fresh_draw_len : ℕ
+fresh_draw_len = 192
+
+-- the bytes of its root's payload: five links and one content
+abbrev pub root_payload_len : ℕ
+root_payload_len = 557
+
+-- the bytes of the whole store: header, first epoch's batch, root's batch
+abbrev pub fresh_store_len : ℕ
+fresh_store_len = 819
+
 -- key i of those drawn, 32 bytes: the owner's, and then the root's
 abbrev pub piece : List ℕ → ℕ → List ℕ
 piece drawn i = take 32 (drop (32 * i) drawn)

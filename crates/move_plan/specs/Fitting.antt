@@ -1,5 +1,6 @@
 -- Which notes fit a store. This project's own, docs/FORMAT.md, "The key step".
 use Rattle.std.specs.Prelude.{ℕ, ◌+◌, Bool, true, false, not, ◌&&◌, ◌||◌, nat_lt, nat_le, ◌==◌, is_some, Some, [], map}
+use Rattle.cry_base.specs.Limits.{most_depth}
 use Rattle.cry_base.specs.Refusing.{has_child, height_of}
 use Rattle.cry_base.specs.Store.{Store, FolderEntry, FileEntry, HolderEntry, folder_node, folder_entry, file_entry, holder_entry, has_grant}
 use Rattle.cry_base.specs.Store.{depth_of, is_within}
@@ -13,7 +14,7 @@ unfoldable pub folder_stands : Store → ℕ → Bool
 folder_stands s f = is_some (folder_entry s f)
 
 unfoldable pub has_depth_left : Store → ℕ → Bool
-has_depth_left s f = folder_stands s f && nat_lt (depth_of s (folder_node f)) 64
+has_depth_left s f = folder_stands s f && nat_lt (depth_of s (folder_node f)) most_depth
 
 unfoldable pub file_stands : Store → ℕ → Bool
 file_stands s x = is_some (file_entry s x)
@@ -27,7 +28,7 @@ unfoldable pub may_go_into : Store → ℕ → ℕ → Bool
 may_go_into s g q =
     is_other_folder s g && folder_stands s q
     && not (parent_of_folder s g == q) && not (is_within s q g)
-    && nat_le (depth_of s (folder_node q) + 1 + height_of s (Some (folder_node g))) 64
+    && nat_le (depth_of s (folder_node q) + 1 + height_of s (Some (folder_node g))) most_depth
 
 -- the condition of each note, as the table in docs/FORMAT.md says, where the root stands
 unfoldable pub row_fits : Store → Note → Bool

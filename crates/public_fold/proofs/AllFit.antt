@@ -3,6 +3,8 @@ use Rattle.std.proofs.Common.{◌≡◌, ℕ, ◌+◌, ◌-◌, ◌^◌, ◌≤�
 use Rattle.std.specs.Prelude.{nat_lt}
 use Rattle.std.proofs.lemmas.Bool.{and_from, lt-ltb}
 use Rattle.std.proofs.lemmas.List.Sums.{sum_by-cons}
+use Rattle.cry_base.specs.Layout.{batch_len, header_len}
+use Rattle.cry_base.specs.Limits.{most_file_bytes, most_store_bytes}
 use Rattle.cry_base.specs.Store.{Store, no_store, root_store}
 use Rattle.cry_base.specs.Stepping.{effect}
 use Rattle.move_plan.specs.Change.{Change, change_of}
@@ -25,7 +27,7 @@ use Rattle.public_fold.proofs.KeyMoves.{IsSound, effect_sound, root_sound, comma
 use Rattle.public_fold.proofs.SerialsKept.{spent, count_after, few_fresh}
 
 -- what is below the store's limit in bytes is below the largest number of four bytes
-small : (n : ℕ) → n ≤ 268435456 → nat_lt n (2 ^ 32 - 1) ≡ true
+small : (n : ℕ) → n ≤ most_store_bytes → nat_lt n (2 ^ 32 - 1) ≡ true
 small n h = lt-ltb n (2 ^ 32 - 1) (omega arith)
 
 root_fits : fits no_store Root ≡ true
@@ -36,14 +38,14 @@ same_epoch : (k : KeyState) (s : Store) (c : Change) (pieces : List Piece) → (
 unfolding key_step step_with published
 same_epoch k s c pieces = refl
 
-after_fit : (entries : List Entry) (at : Stand) (links : List Link) → IsSound at.store → KeysHold at.store at.keys links → 1 ≤ at.keys.epoch → at.keys.epoch + spent (payloads_from at entries) ≤ 268435456 → at.keys.count + spent (payloads_from at entries) ≤ 268435456 → FollowOn at entries
+after_fit : (entries : List Entry) (at : Stand) (links : List Link) → IsSound at.store → KeysHold at.store at.keys links → 1 ≤ at.keys.epoch → at.keys.epoch + spent (payloads_from at entries) ≤ most_store_bytes → at.keys.count + spent (payloads_from at entries) ≤ most_store_bytes → FollowOn at entries
     → all_fit at entries ≡ true
 unfolding all_fit entry_fits note_fits has_count stand_then entry_store entry_step note_step payloads_from entry_payload next_epoch
 after_fit [] at links sound ok begun low few f = refl
 after_fit (Session ∷ entries) at links sound ok begun low few f =
     let rest = payloads_from (stand_then at Session) entries in
-    let sum : spent (0 ∷ rest) ≡ (110 + 0) + spent rest = sum_by-cons (λ len. 110 + len) 0 rest in
-    let all : at.keys.epoch + spent (0 ∷ rest) ≤ 268435456 = low in
+    let sum : spent (0 ∷ rest) ≡ (batch_len + 0) + spent rest = sum_by-cons (λ len. batch_len + len) 0 rest in
+    let all : at.keys.epoch + spent (0 ∷ rest) ≤ most_store_bytes = low in
     and_from (nat_lt at.keys.epoch (2 ^ 32 - 1)) (all_fit (stand_then at Session) entries) (small at.keys.epoch (omega arith))
     (after_fit entries (stand_then at Session) links sound (epoch_holds at.store at.keys links ok) (omega arith) (omega arith) (omega arith) f.1)
 after_fit (Made keys ∷ entries) at links sound ok begun low few f = absurd f.0
@@ -52,22 +54,22 @@ after_fit (Did request keys ∷ entries) at links sound ok begun low few f =
     let t = effect s request (first_key keys) in
     let note = note_of s request [] in
     let c = change_of s note in
-    let mv = command_moves s request (first_key keys) [] 1048576 f.0.0 sound in
+    let mv = command_moves s request (first_key keys) [] most_file_bytes f.0.0 sound in
     let step : Stepped = note_step at note t in
     let rest = payloads_from (stand_then at (Did request keys)) entries in
-    let sum : spent (payload_len note step ∷ rest) ≡ (110 + payload_len note step) + spent rest = sum_by-cons (λ len. 110 + len) (payload_len note step) rest in
-    let all : at.keys.epoch + spent (payload_len note step ∷ rest) ≤ 268435456 = low in
-    let counts : at.keys.count + spent (payload_len note step ∷ rest) ≤ 268435456 = few in
-    let more : step.after.count ≤ at.keys.count + (110 + payload_len note step) = count_after s t at.keys c links mv ok note (pieces_of note t) (few_fresh s note) in
+    let sum : spent (payload_len note step ∷ rest) ≡ (batch_len + payload_len note step) + spent rest = sum_by-cons (λ len. batch_len + len) (payload_len note step) rest in
+    let all : at.keys.epoch + spent (payload_len note step ∷ rest) ≤ most_store_bytes = low in
+    let counts : at.keys.count + spent (payload_len note step ∷ rest) ≤ most_store_bytes = few in
+    let more : step.after.count ≤ at.keys.count + (batch_len + payload_len note step) = count_after s t at.keys c links mv ok note (pieces_of note t) (few_fresh s note) in
     let same : step.after.epoch ≡ at.keys.epoch = same_epoch at.keys s c (pieces_of note t) in
-    let fitting : fits s note ≡ true = notes.rest_fits s note sound.tree (notes.note_fits s request [] sound.tree (accepted s request 1048576 f.0.0)) in
+    let fitting : fits s note ≡ true = notes.rest_fits s note sound.tree (notes.note_fits s request [] sound.tree (accepted s request most_file_bytes f.0.0)) in
     and_from (nat_lt 0 at.keys.epoch && (fits s note && nat_lt step.after.count (2 ^ 32 - 1))) (all_fit (stand_then at (Did request keys)) entries)
     (and_from (nat_lt 0 at.keys.epoch) (fits s note && nat_lt step.after.count (2 ^ 32 - 1)) (lt-ltb 0 at.keys.epoch (omega arith))
     (and_from (fits s note) (nat_lt step.after.count (2 ^ 32 - 1)) fitting (small step.after.count (omega arith))))
-    (after_fit entries (stand_then at (Did request keys)) (links ++ step.links) (effect_sound s request (first_key keys) 1048576 f.0.0 sound)
+    (after_fit entries (stand_then at (Did request keys)) (links ++ step.links) (effect_sound s request (first_key keys) most_file_bytes f.0.0 sound)
     (keys_after s t at.keys c links mv ok (pieces_of note t)) (omega arith) (omega arith) (omega arith) f.1)
 
-begun_fit : (m : Journal) → BeginsWell m → end_of m ≤ 268435456 → all_fit nothing m ≡ true
+begun_fit : (m : Journal) → BeginsWell m → end_of m ≤ most_store_bytes → all_fit nothing m ≡ true
 unfolding all_fit entry_fits note_fits has_count stand_then entry_store entry_step note_step payloads_from entry_payload next_epoch nothing no_keys end_of
 begun_fit [] b low = absurd b
 begun_fit (Session ∷ []) b low = absurd b
@@ -78,10 +80,10 @@ begun_fit (Session ∷ Made keys ∷ es) b low =
     let k : KeyState = next_epoch no_keys in
     let c = change_of no_store Root in
     let rest = payloads_from at es in
-    let first : spent (0 ∷ payload_len Root step ∷ rest) ≡ (110 + 0) + spent (payload_len Root step ∷ rest) = sum_by-cons (λ len. 110 + len) 0 (payload_len Root step ∷ rest) in
-    let sum : spent (payload_len Root step ∷ rest) ≡ (110 + payload_len Root step) + spent rest = sum_by-cons (λ len. 110 + len) (payload_len Root step) rest in
-    let all : 42 + spent (0 ∷ payload_len Root step ∷ rest) ≤ 268435456 = low in
-    let more : step.after.count ≤ k.count + (110 + payload_len Root step) = count_after no_store root_store k c [] root_moves nothing_holds Root (pieces_of Root root_store) (few_fresh no_store Root) in
+    let first : spent (0 ∷ payload_len Root step ∷ rest) ≡ (batch_len + 0) + spent (payload_len Root step ∷ rest) = sum_by-cons (λ len. batch_len + len) 0 (payload_len Root step ∷ rest) in
+    let sum : spent (payload_len Root step ∷ rest) ≡ (batch_len + payload_len Root step) + spent rest = sum_by-cons (λ len. batch_len + len) (payload_len Root step) rest in
+    let all : header_len + spent (0 ∷ payload_len Root step ∷ rest) ≤ most_store_bytes = low in
+    let more : step.after.count ≤ k.count + (batch_len + payload_len Root step) = count_after no_store root_store k c [] root_moves nothing_holds Root (pieces_of Root root_store) (few_fresh no_store Root) in
     let same : step.after.epoch ≡ k.epoch = same_epoch k no_store c (pieces_of Root root_store) in
     let tail = after_fit es at step.links root_sound (keys_after no_store root_store k c [] root_moves nothing_holds (pieces_of Root root_store)) (omega arith) (omega arith) (omega arith) b.1 in
     let made = and_from (nat_lt 0 1) (fits no_store Root && nat_lt step.after.count (2 ^ 32 - 1)) (lt-ltb 0 1 (omega arith)) (and_from (fits no_store Root) (nat_lt step.after.count (2 ^ 32 - 1)) root_fits (small step.after.count (omega arith))) in

@@ -1,6 +1,7 @@
 -- No link leaves a key that is dirty after its command.
 use Rattle.std.proofs.Common.{◌≡◌, ℕ, ◌+◌, ◌||◌, List, [], ◌∷◌, ◌++◌, length, inl, inr, ⊎_elim, sym, ap, ◌∙◌, subst}
 use Rattle.std.proofs.lemmas.Bool.{or_cases, false≢true}
+use Rattle.cry_base.specs.Limits.{most_file_bytes}
 use Rattle.cry_base.specs.Sets.{In, has}
 use Rattle.cry_base.specs.Sets.Path.{Here}
 use Rattle.cry_base.specs.Store.{Store, no_store, root_store}
@@ -77,10 +78,10 @@ after_clean (Did request keys ∷ entries) at links sound ok f step i =
     let t = effect s request (first_key keys) in
     let note = note_of s request [] in
     let c = change_of s note in
-    let mv = command_moves s request (first_key keys) [] 1048576 f.0.0 sound in
+    let mv = command_moves s request (first_key keys) [] most_file_bytes f.0.0 sound in
     let here : Stepped = note_step at note t in ⊎_elim
     (λ q. subst LeavesClean (sym q) (links_clean s t at.keys c links mv ok (pieces_of note t)))
-    (λ r. after_clean entries (stand_then at (Did request keys)) (links ++ here.links) (effect_sound s request (first_key keys) 1048576 f.0.0 sound)
+    (λ r. after_clean entries (stand_then at (Did request keys)) (links ++ here.links) (effect_sound s request (first_key keys) most_file_bytes f.0.0 sound)
     (keys_after s t at.keys c links mv ok (pieces_of note t)) f.1 step r) i
 
 begun_clean : (m : Journal) → BeginsWell m → (step : Stepped) → In step (steps_from nothing m) → LeavesClean step

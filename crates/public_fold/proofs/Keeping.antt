@@ -3,6 +3,7 @@ use Rattle.std.proofs.Common.{◌≡◌, ◌≢◌, ℕ, suc, ◌+◌, ◌-◌, 
 use Rattle.std.specs.Prelude.{is_none, is_some, max}
 use Rattle.std.specs.List.{fold}
 use Rattle.std.proofs.lemmas.Bool.{and_parts, false≢true, or_parts, or_from, not-false, ne_eqb, ltb-false, cases_Bool, cond-true}
+use Rattle.cry_base.specs.Limits.{most_file_bytes}
 use Rattle.cry_base.specs.Sets.{In}
 use Rattle.cry_base.specs.Naming.{is_name, last_name, names_of, is_path, parent_path, is_root_path}
 use Rattle.cry_base.specs.Requests.{Request, paths_of}
@@ -247,7 +248,7 @@ after_tree [] at c ok f = ok
 after_tree (Session ∷ entries) at c ok f = after_tree entries (stand_then at Session) c ok f.1
 after_tree (Made keys ∷ entries) at c ok f = absurd f.0
 after_tree (Did request keys ∷ entries) at c ok f =
-    after_tree entries (stand_then at (Did request keys)) (effect_counted at.store request (first_key keys) c) (effect_tree at.store request (first_key keys) (accepted at.store request 1048576 f.0.0) c ok) f.1
+    after_tree entries (stand_then at (Did request keys)) (effect_counted at.store request (first_key keys) c) (effect_tree at.store request (first_key keys) (accepted at.store request most_file_bytes f.0.0) c ok) f.1
 
 begun_tree : (m : Journal) → BeginsWell m → HasTree (stand_after nothing m).store
 unfolding stand_after stand_then entry_store

@@ -2,6 +2,7 @@
 use Rattle.std.proofs.Common.{◌≡◌, ◌≢◌, ℕ, zero, suc, ◌+◌, ◌≤◌, true, false, not, ◌==◌, ◌&&◌, ◌||◌, ◌⊎◌, ◌↔◌, List, [], ◌∷◌, ◌++◌, Option, Some, None, inl, inr, ⊎_elim, refl, sym, ap, ◌∙◌, subst, arith, append_assoc, append-nil}
 use Rattle.std.specs.Prelude.{is_none}
 use Rattle.std.proofs.lemmas.Bool.{and_parts, and_from, or_parts, eqb-true, eq-eqb, not-false, false≢true}
+use Rattle.cry_base.specs.Limits.{most_file_bytes}
 use Rattle.cry_base.specs.Sets.{In}
 use Rattle.cry_base.specs.Naming.{parent_path, is_root_path}
 use Rattle.cry_base.specs.Requests.{Request, paths_of}
@@ -481,8 +482,8 @@ after_holds (Did request keys ∷ entries) at links sound ok f =
     let t = effect s request (first_key keys) in
     let note = note_of s request [] in
     let step = note_step at note t in
-    let on = after_holds entries (stand_then at (Did request keys)) (links ++ step.links) (effect_sound s request (first_key keys) 1048576 f.0.0 sound)
-    (keys_after s t at.keys (change_of s note) links (command_moves s request (first_key keys) [] 1048576 f.0.0 sound) ok (pieces_of note t)) f.1 in
+    let on = after_holds entries (stand_then at (Did request keys)) (links ++ step.links) (effect_sound s request (first_key keys) most_file_bytes f.0.0 sound)
+    (keys_after s t at.keys (change_of s note) links (command_moves s request (first_key keys) [] most_file_bytes f.0.0 sound) ok (pieces_of note t)) f.1 in
     more_links (stand_after (stand_then at (Did request keys)) entries).store (stand_after (stand_then at (Did request keys)) entries).keys
     ((links ++ step.links) ++ links_of (steps_from (stand_then at (Did request keys)) entries)) (links ++ (step.links ++ links_of (steps_from (stand_then at (Did request keys)) entries)))
     (append_assoc links step.links (links_of (steps_from (stand_then at (Did request keys)) entries))) on

@@ -2,6 +2,8 @@
 use Rattle.std.proofs.Common.{◌≡◌, ℕ, ◌+◌, ◌≤◌, List, [], ◌∷◌, ◌++◌, length, refl, sym, ap, subst, arith}
 use Rattle.std.specs.List.{sum_by}
 use Rattle.std.proofs.lemmas.List.Sums.{sum_by-append}
+use Rattle.cry_base.specs.Layout.{batch_len, header_len}
+use Rattle.cry_base.specs.Limits.{most_store_bytes}
 use Rattle.public_fold.specs.Journal.{Entry, Journal, Stand, nothing, entry_step, stand_then, stand_after, steps_from, steps_of}
 use Rattle.public_fold.specs.Journal.Entry.{Session, Made, Did}
 use Rattle.public_fold.specs.Lengths.{entry_payload, payloads_from, end_of}
@@ -27,13 +29,13 @@ unfolding payloads_from stand_after
 payloads-append at [] ys = refl
 payloads-append at (x ∷ xs) ys = ap (λ l. entry_payload at x ∷ l) (payloads-append (stand_then at x) xs ys)
 
-sum_grows : (xs ys : List ℕ) → 42 + sum_by (λ len. 110 + len) xs ≤ 42 + sum_by (λ len. 110 + len) (xs ++ ys)
-sum_grows xs ys = rw (sum_by-append (λ len. 110 + len) xs ys) (omega arith)
+sum_grows : (xs ys : List ℕ) → header_len + sum_by (λ len. batch_len + len) xs ≤ header_len + sum_by (λ len. batch_len + len) (xs ++ ys)
+sum_grows xs ys = rw (sum_by-append (λ len. batch_len + len) xs ys) (omega arith)
 
 -- the log never gets shorter
 pub end_grows : (m more : Journal) → end_of m ≤ end_of (m ++ more)
 unfolding end_of
-end_grows m more = subst (λ l. 42 + sum_by (λ len. 110 + len) (payloads_from nothing m) ≤ 42 + sum_by (λ len. 110 + len) l) (sym (payloads-append nothing m more))
+end_grows m more = subst (λ l. header_len + sum_by (λ len. batch_len + len) (payloads_from nothing m) ≤ header_len + sum_by (λ len. batch_len + len) l) (sym (payloads-append nothing m more))
     (sum_grows (payloads_from nothing m) (payloads_from (stand_after nothing m) more))
 
 follow_front : (at : Stand) (xs ys : List Entry) → FollowOn at (xs ++ ys) → FollowOn at xs
@@ -50,4 +52,4 @@ begins_front (Made keys ∷ es) more h b = b
 begins_front (Did request keys ∷ es) more h b = b
 
 pub prefix_valid : (m more : Journal) → 2 ≤ length m → IsValid (m ++ more) → IsValid m
-prefix_valid m more h v = (begins_front m more h v.0, let g : end_of m ≤ end_of (m ++ more) = end_grows m more in let w : end_of (m ++ more) ≤ 268435456 = v.1 in omega arith)
+prefix_valid m more h v = (begins_front m more h v.0, let g : end_of m ≤ end_of (m ++ more) = end_grows m more in let w : end_of (m ++ more) ≤ most_store_bytes = v.1 in omega arith)

@@ -5,6 +5,8 @@ use Rattle.std.specs.List.{sum_by}
 use Rattle.std.proofs.lemmas.Bool.{or_right, or_parts, and_parts, and_from, or_cases, or_left, not_from_false, false≢true, cases_Bool, ltb-true, lt-ltb, ltb-false, eqb-true, eq-eqb, cases_order}
 use Rattle.std.proofs.lemmas.List.{length-map}
 use Rattle.std.proofs.lemmas.List.Sums.{sum_by-cons}
+use Rattle.cry_base.specs.Layout.{batch_len, header_len}
+use Rattle.cry_base.specs.Limits.{most_file_bytes, most_store_bytes}
 use Rattle.cry_base.specs.Sets.{In, has}
 use Rattle.cry_base.specs.Store.{Store, FileEntry, root_store, no_store}
 use Rattle.cry_base.specs.Stepping.{effect}
@@ -256,7 +258,7 @@ module _ (s t : Store) (k : KeyState) (c : Change) (links : List Link) (mv : IsM
       }
 
   -- a step takes no more serials than its payload has bytes
-  pub count_after : (note : Note) (pieces : List Piece) → length c.fresh ≤ 5 → (key_step k (edges s) c pieces).after.count ≤ k.count + (110 + payload_len note (key_step k (edges s) c pieces))
+  pub count_after : (note : Note) (pieces : List Piece) → length c.fresh ≤ 5 → (key_step k (edges s) c pieces).after.count ≤ k.count + (batch_len + payload_len note (key_step k (edges s) c pieces))
   unfolding key_step step_with published payload_len given links_from contents_from
   count_after note pieces few =
       let p = renewed k (edges s) c in
@@ -282,16 +284,16 @@ serials_epoch k low ok = record {
 
 -- the bytes of batches with such payloads
 abbrev pub spent : List ℕ → ℕ
-spent lens = sum_by (λ len. 110 + len) lens
+spent lens = sum_by (λ len. batch_len + len) lens
 
-after_serials : (entries : List Entry) (at : Stand) (links : List Link) → IsSound at.store → KeysHold at.store at.keys links → SerialsHold at.keys → at.keys.count + spent (payloads_from at entries) ≤ 268435456 → FollowOn at entries
-    → SerialsHold (stand_after at entries).keys × ((stand_after at entries).keys.count ≤ 268435456)
+after_serials : (entries : List Entry) (at : Stand) (links : List Link) → IsSound at.store → KeysHold at.store at.keys links → SerialsHold at.keys → at.keys.count + spent (payloads_from at entries) ≤ most_store_bytes → FollowOn at entries
+    → SerialsHold (stand_after at entries).keys × ((stand_after at entries).keys.count ≤ most_store_bytes)
 unfolding stand_after stand_then entry_store entry_step note_step payloads_from entry_payload next_epoch
 after_serials [] at links sound ok serials low f = (serials, omega arith)
 after_serials (Session ∷ entries) at links sound ok serials low f =
     let rest = payloads_from (stand_then at Session) entries in
-    let sum : spent (0 ∷ rest) ≡ (110 + 0) + spent rest = sum_by-cons (λ len. 110 + len) 0 rest in
-    let all : at.keys.count + spent (0 ∷ rest) ≤ 268435456 = low in
+    let sum : spent (0 ∷ rest) ≡ (batch_len + 0) + spent rest = sum_by-cons (λ len. batch_len + len) 0 rest in
+    let all : at.keys.count + spent (0 ∷ rest) ≤ most_store_bytes = low in
     after_serials entries (stand_then at Session) links sound (epoch_holds at.store at.keys links ok) (serials_epoch at.keys (omega arith) serials) (omega arith) f.1
 after_serials (Made keys ∷ entries) at links sound ok serials low f = absurd f.0
 after_serials (Did request keys ∷ entries) at links sound ok serials low f =
@@ -299,13 +301,13 @@ after_serials (Did request keys ∷ entries) at links sound ok serials low f =
     let t = effect s request (first_key keys) in
     let note = note_of s request [] in
     let c = change_of s note in
-    let mv = command_moves s request (first_key keys) [] 1048576 f.0.0 sound in
+    let mv = command_moves s request (first_key keys) [] most_file_bytes f.0.0 sound in
     let step : Stepped = note_step at note t in
     let rest = payloads_from (stand_then at (Did request keys)) entries in
-    let sum : spent (payload_len note step ∷ rest) ≡ (110 + payload_len note step) + spent rest = sum_by-cons (λ len. 110 + len) (payload_len note step) rest in
-    let all : at.keys.count + spent (payload_len note step ∷ rest) ≤ 268435456 = low in
-    let more : step.after.count ≤ at.keys.count + (110 + payload_len note step) = count_after s t at.keys c links mv ok note (pieces_of note t) (few_fresh s note) in
-    after_serials entries (stand_then at (Did request keys)) (links ++ step.links) (effect_sound s request (first_key keys) 1048576 f.0.0 sound)
+    let sum : spent (payload_len note step ∷ rest) ≡ (batch_len + payload_len note step) + spent rest = sum_by-cons (λ len. batch_len + len) (payload_len note step) rest in
+    let all : at.keys.count + spent (payload_len note step ∷ rest) ≤ most_store_bytes = low in
+    let more : step.after.count ≤ at.keys.count + (batch_len + payload_len note step) = count_after s t at.keys c links mv ok note (pieces_of note t) (few_fresh s note) in
+    after_serials entries (stand_then at (Did request keys)) (links ++ step.links) (effect_sound s request (first_key keys) most_file_bytes f.0.0 sound)
     (keys_after s t at.keys c links mv ok (pieces_of note t)) (serials_after s t at.keys c links mv ok (pieces_of note t) serials) (omega arith) f.1
 
 -- the first epoch has the owner's key alone
@@ -324,7 +326,7 @@ first_serials = record {
   below = λ r n e. let z : n ≡ 0 = (owner_alone r n e).1 in omega arith;
 }
 
-begun_serials : (m : Journal) → BeginsWell m → end_of m ≤ 268435456 → SerialsHold (stand_after nothing m).keys × ((stand_after nothing m).keys.count ≤ 268435456)
+begun_serials : (m : Journal) → BeginsWell m → end_of m ≤ most_store_bytes → SerialsHold (stand_after nothing m).keys × ((stand_after nothing m).keys.count ≤ most_store_bytes)
 unfolding stand_after stand_then entry_store entry_step note_step payloads_from entry_payload next_epoch nothing no_keys end_of
 begun_serials [] b low = absurd b
 begun_serials (Session ∷ []) b low = absurd b
@@ -335,10 +337,10 @@ begun_serials (Session ∷ Made keys ∷ es) b low =
     let k : KeyState = next_epoch no_keys in
     let c = change_of no_store Root in
     let rest = payloads_from at es in
-    let first : spent (0 ∷ payload_len Root step ∷ rest) ≡ (110 + 0) + spent (payload_len Root step ∷ rest) = sum_by-cons (λ len. 110 + len) 0 (payload_len Root step ∷ rest) in
-    let sum : spent (payload_len Root step ∷ rest) ≡ (110 + payload_len Root step) + spent rest = sum_by-cons (λ len. 110 + len) (payload_len Root step) rest in
-    let all : 42 + spent (0 ∷ payload_len Root step ∷ rest) ≤ 268435456 = low in
-    let more : step.after.count ≤ k.count + (110 + payload_len Root step) = count_after no_store root_store k c [] root_moves nothing_holds Root (pieces_of Root root_store) (few_fresh no_store Root) in
+    let first : spent (0 ∷ payload_len Root step ∷ rest) ≡ (batch_len + 0) + spent (payload_len Root step ∷ rest) = sum_by-cons (λ len. batch_len + len) 0 (payload_len Root step ∷ rest) in
+    let sum : spent (payload_len Root step ∷ rest) ≡ (batch_len + payload_len Root step) + spent rest = sum_by-cons (λ len. batch_len + len) (payload_len Root step) rest in
+    let all : header_len + spent (0 ∷ payload_len Root step ∷ rest) ≤ most_store_bytes = low in
+    let more : step.after.count ≤ k.count + (batch_len + payload_len Root step) = count_after no_store root_store k c [] root_moves nothing_holds Root (pieces_of Root root_store) (few_fresh no_store Root) in
     after_serials es at step.links root_sound (keys_after no_store root_store k c [] root_moves nothing_holds (pieces_of Root root_store))
     (serials_after no_store root_store k c [] root_moves nothing_holds (pieces_of Root root_store) first_serials) (omega arith) b.1
 begun_serials (Session ∷ Did request keys ∷ es) b low = absurd b
@@ -349,6 +351,6 @@ pub journal_serials : (m : Journal) → IsValid m → SerialsHold (keys_of m)
 unfolding keys_of
 journal_serials m v = (begun_serials m v.0 v.1).0
 
-pub journal_count : (m : Journal) → IsValid m → (keys_of m).count ≤ 268435456
+pub journal_count : (m : Journal) → IsValid m → (keys_of m).count ≤ most_store_bytes
 unfolding keys_of
 journal_count m v = (begun_serials m v.0 v.1).1

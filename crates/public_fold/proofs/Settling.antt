@@ -3,6 +3,7 @@ use Rattle.std.proofs.Common.{◌≡◌, ℕ, ◌+◌, ◌≤◌, Bool, true, fa
 use Rattle.std.specs.Prelude.{option_map, is_none}
 use Rattle.std.specs.List.{find}
 use Rattle.std.proofs.lemmas.Bool.{false≢true, or_parts, ne_eqb, not_from_false, not-true, eqb-false}
+use Rattle.cry_base.specs.Limits.{most_file_bytes}
 use Rattle.cry_base.specs.Sets.{In}
 use Rattle.cry_base.specs.Requests.{Request, paths_of}
 use Rattle.cry_base.specs.Requests.Request.{AddHolder, MakeFolder, WriteFile, Remove, Rename, Relocate, Grant, Revoke}
@@ -204,7 +205,7 @@ after_settled [] at c ok f = ok
 after_settled (Session ∷ entries) at c ok f = after_settled entries (stand_then at Session) c ok f.1
 after_settled (Made keys ∷ entries) at c ok f = absurd f.0
 after_settled (Did request keys ∷ entries) at c ok f =
-    after_settled entries (stand_then at (Did request keys)) (effect_counted at.store request (first_key keys) c) (effect_settled at.store request (first_key keys) 1048576 f.0.0 c ok) f.1
+    after_settled entries (stand_then at (Did request keys)) (effect_counted at.store request (first_key keys) c) (effect_settled at.store request (first_key keys) most_file_bytes f.0.0 c ok) f.1
 
 begun_settled : (m : Journal) → BeginsWell m → IsSettled (stand_after nothing m).store
 unfolding stand_after stand_then entry_store

@@ -1,5 +1,6 @@
 -- How long a store file is. This project's own, docs/FORMAT.md, "Notes and payloads" and "The store file".
 use Rattle.std.specs.Prelude.{ℕ, ◌+◌, ◌*◌, List, [], ◌∷◌, length, sum_by}
+use Rattle.cry_base.specs.Layout.{batch_len, header_len}
 use Rattle.record_format.specs.Noted.{Note}
 use Rattle.record_format.specs.Noted.Note.{Root, NewHolder, NewFolder, NewFile, Rewrite, NameFile, NameFolder, DropFile, DropFolder}
 use Rattle.record_format.specs.Noted.Note.{ShiftFile, ShiftFolder, Give, Take}
@@ -46,4 +47,4 @@ payloads_from at (entry ∷ entries) = entry_payload at entry ∷ payloads_from 
 
 -- the end of the log: the header's 42 bytes, and 110 more than its payload for each batch
 unfoldable pub end_of : Journal → ℕ
-end_of m = 42 + sum_by (λ len. 110 + len) (payloads_from nothing m)
+end_of m = header_len + sum_by (λ len. batch_len + len) (payloads_from nothing m)

@@ -1,5 +1,6 @@
 -- Which journals there are. This project's own, docs/FORMAT.md.
 use Rattle.std.specs.Prelude.{◌≡◌, ◌≤◌, List, [], ◌∷◌, length, None}
+use Rattle.cry_base.specs.Limits.{most_file_bytes, most_store_bytes}
 use Rattle.cry_base.specs.Refusing.{refusal_of}
 use Rattle.public_fold.specs.Journal.{Entry, Journal, Stand, nothing, entry_step, stand_then}
 use Rattle.public_fold.specs.Journal.Entry.{Session, Made, Did}
@@ -9,7 +10,7 @@ use Rattle.public_fold.specs.Lengths.{end_of}
 abbrev pub IsNext : Stand → Entry → Type 0
 IsNext at Session = Unit {0}
 IsNext at (Made keys) = ⊥
-IsNext at (Did request keys) = (refusal_of at.store request 1048576 ≡ None)
+IsNext at (Did request keys) = (refusal_of at.store request most_file_bytes ≡ None)
     × (length keys ≡ length (entry_step at (Did request keys)).given)
 
 -- so may each of the entries, one after another
@@ -29,4 +30,4 @@ BeginsWell (Did request keys ∷ entries) = ⊥
 
 -- a journal of the one version there is: its log ends within the store limit
 abbrev pub IsValid : Journal → Type 0
-IsValid m = BeginsWell m × (end_of m ≤ 268435456)
+IsValid m = BeginsWell m × (end_of m ≤ most_store_bytes)

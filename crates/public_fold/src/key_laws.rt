@@ -1,5 +1,6 @@
 //! Laws of the keys of a journal.
 ghost use Rattle.std.specs.Prelude.{◌≤◌, IsTrue};
+ghost use Rattle.cry_base.specs.Limits.{most_store_bytes};
 ghost use Rattle.cry_base.specs.Sets.{In};
 ghost use Rattle.public_fold.specs.Journal.{Journal, nothing, keys_of, steps_of, store_of};
 ghost use Rattle.public_fold.specs.KeyStep.{Stepped};
@@ -18,7 +19,7 @@ pub fn keys_hold_in_journals()
 /// an epoch stays within the store's limit in bytes, so it never runs over.
 pub fn serials_hold_in_journals()
     ensures serials { (m : Journal) → IsValid m → SerialsHold (keys_of m) }
-    ensures count { (m : Journal) → IsValid m → (keys_of m).count ≤ 268435456 }
+    ensures count { (m : Journal) → IsValid m → (keys_of m).count ≤ most_store_bytes }
 {}
 
 /// No link of a valid journal leaves a key whose role is dirty after the command that published it.

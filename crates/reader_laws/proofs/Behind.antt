@@ -11,6 +11,7 @@ use Rattle.commit_journal.specs.Placed.{PlainBody, Commands, NewEpoch, PlainPlac
 use Rattle.commit_journal.specs.Places.{content_offset}
 use Rattle.commit_journal.proofs.Epochs.{holder_too}
 use Rattle.commit_journal.proofs.Walks.{Turns}
+use Rattle.cry_base.specs.Layout.{batch_len, header_len}
 use Rattle.cry_base.specs.Sets.{In}
 use Rattle.cry_base.specs.declared.client.Bundle.{Bundle}
 use Rattle.cry_base.specs.declared.client.Bundle.TheVariants as bundles
@@ -53,8 +54,8 @@ published_moves from head batch t =
 holder_moves : MovesOn (turn_by published_turn)
 unfolding turn_by
 holder_moves from rest t e =
-    let w = then_told _ (Option PlainTurn) (head_at from.past rest) (λ head. published_turn from.past head (take (110 + head.size) rest)) (Some t) e in
-    published_moves from w.0 (take (110 + w.0.size) rest) t w.2
+    let w = then_told _ (Option PlainTurn) (head_at from.past rest) (λ head. published_turn from.past head (take (batch_len + head.size) rest)) (Some t) e in
+    published_moves from w.0 (take (batch_len + w.0.size) rest) t w.2
 
 recovered_on : (owner : List ℕ) (from : PlainTurn) (head : _) (batch : List ℕ) (t : PlainTurn) → tagged_recovered owner from.past head batch ≡ Ok (Some t) → Moves from.past.at t
 unfolding tagged_recovered recovered_turn
@@ -69,8 +70,8 @@ recovered_on owner from head batch t =
 recovered_moves : (owner : List ℕ) → MovesOn (turn_by (tagged_recovered owner))
 unfolding turn_by
 recovered_moves owner from rest t e =
-    let w = then_told _ (Option PlainTurn) (head_at from.past rest) (λ head. tagged_recovered owner from.past head (take (110 + head.size) rest)) (Some t) e in
-    recovered_on owner from w.0 (take (110 + w.0.size) rest) t w.2
+    let w = then_told _ (Option PlainTurn) (head_at from.past rest) (λ head. tagged_recovered owner from.past head (take (batch_len + head.size) rest)) (Some t) e in
+    recovered_on owner from w.0 (take (batch_len + w.0.size) rest) t w.2
 
 -- ---- the walk
 
@@ -118,47 +119,47 @@ module _ (turn : Turns) (moves : MovesOn turn) where
 unfoldable pub begun_turn : List ℕ → PlainTurn
 begun_turn header = record {
   placed = record { batch = 0; epoch = record { 0 = 0 }; place = 0; body = NewEpoch };
-  past = record { at = 42; number = 0; epoch = record { 0 = 0 }; tag = slice_range header 9 41; gate = slice_index header 41 };
+  past = record { at = header_len; number = 0; epoch = record { 0 = 0 }; tag = slice_range header 9 41; gate = slice_index header 41 };
 }
 
 -- a log read from there
 module _ (turn : Turns) (moves : MovesOn turn) (header rest : List ℕ) (log : List PlainPlaced) where
-  begun_behind : walk_at turn (begun_turn header).past 0 rest ≡ Ok log → AreBehind 42 log
+  begun_behind : walk_at turn (begun_turn header).past 0 rest ≡ Ok log → AreBehind header_len log
   unfolding begun_turn
   begun_behind e = walk_behind turn moves rest (begun_turn header) 0 log e
 
-  known_behind : (b : Bool) → and_then (if b then Ok (begun_turn header).past else Err NotAStore) (λ past. walk_at turn past 0 rest) ≡ Ok log → AreBehind 42 log
+  known_behind : (b : Bool) → and_then (if b then Ok (begun_turn header).past else Err NotAStore) (λ past. walk_at turn past 0 rest) ≡ Ok log → AreBehind header_len log
   unfolding and_then
   known_behind true e = begun_behind e
   known_behind false e = absurd cc
 
-  owned_behind : (b d : Bool) → and_then (if b then (if d then Ok (begun_turn header).past else Err WrongKey) else Err NotAStore) (λ past. walk_at turn past 0 rest) ≡ Ok log → AreBehind 42 log
+  owned_behind : (b d : Bool) → and_then (if b then (if d then Ok (begun_turn header).past else Err WrongKey) else Err NotAStore) (λ past. walk_at turn past 0 rest) ≡ Ok log → AreBehind header_len log
   unfolding and_then
   owned_behind true true e = begun_behind e
   owned_behind true false e = absurd cc
   owned_behind false d e = absurd cc
 
-holder_behind : (bytes : List ℕ) (log : List PlainPlaced) → holder_log bytes ≡ Ok log → AreBehind 42 log
+holder_behind : (bytes : List ℕ) (log : List PlainPlaced) → holder_log bytes ≡ Ok log → AreBehind header_len log
 unfolding holder_log unowned_start unowned_start_of begun_turn and_then
 holder_behind bytes log =
-    let header = take 42 bytes in
-    let walk = known_behind (turn_by published_turn) holder_moves header (drop 42 bytes) log (bytes_eq (take 9 header) (codes "CRYPTREE" ++ 1 ∷ [])) in
-    elim (nat_le 42 (length bytes)) as (λ b. and_then (if b then unowned_start_of header else Err NotAStore) (λ past. walk_at (turn_by published_turn) past 0 (drop 42 bytes)) ≡ Ok log → AreBehind 42 log) [
+    let header = take header_len bytes in
+    let walk = known_behind (turn_by published_turn) holder_moves header (drop header_len bytes) log (bytes_eq (take 9 header) (codes "CRYPTREE" ++ 1 ∷ [])) in
+    elim (nat_le header_len (length bytes)) as (λ b. and_then (if b then unowned_start_of header else Err NotAStore) (λ past. walk_at (turn_by published_turn) past 0 (drop header_len bytes)) ≡ Ok log → AreBehind header_len log) [
       | true ↦ walk
       | false ↦ λ e. absurd cc
     ]
 
-reader_behind : (bundle : Bundle) (bytes : List ℕ) (log : List PlainPlaced) → bundle_log bundle bytes ≡ Ok log → AreBehind 42 log
+reader_behind : (bundle : Bundle) (bytes : List ℕ) (log : List PlainPlaced) → bundle_log bundle bytes ≡ Ok log → AreBehind header_len log
 unfolding bundle_log
 reader_behind (bundles.Owner key) bytes log e = holder_behind bytes log (holder_too key bytes log e)
 reader_behind (bundles.Holder h key) bytes log e = holder_behind bytes log e
 
-writer_behind : (owner bytes : List ℕ) (log : List PlainPlaced) → writer_log owner bytes ≡ Ok log → AreBehind 42 log
+writer_behind : (owner bytes : List ℕ) (log : List PlainPlaced) → writer_log owner bytes ≡ Ok log → AreBehind header_len log
 unfolding writer_log start_at start_of begun_turn and_then
 writer_behind owner bytes log =
-    let header = take 42 bytes in
-    let walk = owned_behind (turn_by (tagged_recovered owner)) (recovered_moves owner) header (drop 42 bytes) log (bytes_eq (take 9 header) (codes "CRYPTREE" ++ 1 ∷ [])) (bytes_eq (slice_range header 9 41) (check_of owner)) in
-    elim (nat_le 42 (length bytes)) as (λ b. and_then (if b then start_of owner header else Err NotAStore) (λ past. walk_at (turn_by (tagged_recovered owner)) past 0 (drop 42 bytes)) ≡ Ok log → AreBehind 42 log) [
+    let header = take header_len bytes in
+    let walk = owned_behind (turn_by (tagged_recovered owner)) (recovered_moves owner) header (drop header_len bytes) log (bytes_eq (take 9 header) (codes "CRYPTREE" ++ 1 ∷ [])) (bytes_eq (slice_range header 9 41) (check_of owner)) in
+    elim (nat_le header_len (length bytes)) as (λ b. and_then (if b then start_of owner header else Err NotAStore) (λ past. walk_at (turn_by (tagged_recovered owner)) past 0 (drop header_len bytes)) ≡ Ok log → AreBehind header_len log) [
       | true ↦ walk
       | false ↦ λ e. absurd cc
     ]
@@ -178,29 +179,29 @@ unfolding body_contents
 body_behind batch place NewEpoch c i = absurd i
 body_behind batch place (Commands q) c i = let far : place + content_offset q 0 ≤ c.at = at_least batch (place + content_offset q 0) q.contents c i in omega (arith, far)
 
-contents_behind : (log : List PlainPlaced) (c : PlacedContent) → AreBehind 42 log → In c (log_contents log) → 42 + 45 ≤ c.at
+contents_behind : (log : List PlainPlaced) (c : PlacedContent) → AreBehind header_len log → In c (log_contents log) → header_len + 45 ≤ c.at
 unfolding log_contents
 contents_behind log c behind i =
     let w = (In-flat_map PlainPlaced PlacedContent (λ p. body_contents p.batch p.place p.body) c log).0 i in
     let p : PlainPlaced = w.0 in
-    let low : 42 + 45 ≤ p.place = behind p w.1 in
+    let low : header_len + 45 ≤ p.place = behind p w.1 in
     let far : p.place ≤ c.at = body_behind p.batch p.place p.body c w.2 in
     omega (arith, low, far)
 
 -- no fault of a record is told at the header's end
-never_there : (log : List PlainPlaced) → AreBehind 42 log → IsOfRecord log (Damaged 42) → ⊥
+never_there : (log : List PlainPlaced) → AreBehind header_len log → IsOfRecord log (Damaged header_len) → ⊥
 never_there log behind = ⊎_elim
     (λ l. let e = l.2 in cc)
     (λ c. ⊎_elim
     (λ e. cc)
-    (λ (e : Damaged 42 ≡ Damaged c.0.at).
-    let same : 42 ≡ c.0.at = cc in
-    let far : 42 + 45 ≤ c.0.at = contents_behind log c.0 behind c.1 in
+    (λ (e : Damaged header_len ≡ Damaged c.0.at).
+    let same : header_len ≡ c.0.at = cc in
+    let far : header_len + 45 ≤ c.0.at = contents_behind log c.0 behind c.1 in
     omega (arith, same, far))
     c.2)
 
-pub reader_never : (bundle : Bundle) (bytes : List ℕ) (log : List PlainPlaced) → bundle_log bundle bytes ≡ Ok log → IsOfRecord log (Damaged 42) → ⊥
+pub reader_never : (bundle : Bundle) (bytes : List ℕ) (log : List PlainPlaced) → bundle_log bundle bytes ≡ Ok log → IsOfRecord log (Damaged header_len) → ⊥
 reader_never bundle bytes log e = never_there log (reader_behind bundle bytes log e)
 
-pub writer_never : (owner bytes : List ℕ) (log : List PlainPlaced) → writer_log owner bytes ≡ Ok log → IsOfRecord log (Damaged 42) → ⊥
+pub writer_never : (owner bytes : List ℕ) (log : List PlainPlaced) → writer_log owner bytes ≡ Ok log → IsOfRecord log (Damaged header_len) → ⊥
 writer_never owner bytes log e = never_there log (writer_behind owner bytes log e)

@@ -5,6 +5,7 @@ use Rattle.chacha_seal.specs.Keys.{KeyParts}
 use Rattle.chacha_seal.specs.Sealing.{check_of}
 use Rattle.commit_journal.specs.Laws.{batch_of, placed_from}
 use Rattle.commit_journal.specs.Placed.{NewEpoch}
+use Rattle.cry_base.specs.Layout.{batch_len, header_len}
 use Rattle.cry_base.specs.Naming.{parent_path}
 use Rattle.cry_base.specs.Refusing.{id_of}
 use Rattle.cry_base.specs.Requests.{Request}
@@ -127,19 +128,19 @@ after_checked [] keys at place number epoch h follow = no_check at.store h
 after_checked (Session ∷ entries) keys at place number epoch h follow =
     let later = bytes.keys_then keys at Session in
     let batch = batch_of number epoch NewEpoch in
-    after_checked entries later (stand_then at Session) (place + (110 + length batch.payload)) batch.number batch.epoch h follow.1
+    after_checked entries later (stand_then at Session) (place + (batch_len + length batch.payload)) batch.number batch.epoch h follow.1
 after_checked (Made drawn ∷ entries) keys at place number epoch h follow = absurd follow.0
 after_checked (Did r drawn ∷ entries) keys at place number epoch h follow =
     let later = bytes.keys_then keys at (Did r drawn) in
     let body = entry_body later at (Did r drawn) in
     let batch = batch_of number epoch body in
     let next = stand_then at (Did r drawn) in
-    let rest : Option (List ℕ) = published_check h (placed_from (place + (110 + length batch.payload)) batch.number batch.epoch (bodies_from later next entries)) in
+    let rest : Option (List ℕ) = published_check h (placed_from (place + (batch_len + length batch.payload)) batch.number batch.epoch (bodies_from later next entries)) in
     first_on (List ℕ) (holder_check at.store h) (body_check h body) rest
     ∙ ap (λ o. first_of o rest) (did_checked keys at r drawn h)
-    ∙ after_checked entries later next (place + (110 + length batch.payload)) batch.number batch.epoch h follow.1
+    ∙ after_checked entries later next (place + (batch_len + length batch.payload)) batch.number batch.epoch h follow.1
 
-begun_checked : (owner : List ℕ) (m : Journal) (h : ℕ) → BeginsWell m → published_check h (placed_from 42 0 0 (bodies_from (owner_parts owner ∷ []) nothing m)) ≡ holder_check (stand_after nothing m).store h
+begun_checked : (owner : List ℕ) (m : Journal) (h : ℕ) → BeginsWell m → published_check h (placed_from header_len 0 0 (bodies_from (owner_parts owner ∷ []) nothing m)) ≡ holder_check (stand_after nothing m).store h
 unfolding published_check bodies_from stand_after no_store
 begun_checked owner [] h begins = absurd begins
 begun_checked owner (Session ∷ []) h begins = absurd begins
@@ -151,7 +152,7 @@ begun_checked owner (Session ∷ Made drawn ∷ es) h begins =
     let one = batch_of 0 0 (entry_body first nothing Session) in
     let two = batch_of one.number one.epoch (entry_body later begun (Made drawn)) in
     unfold entry_body body_check step_payload told_note check_in stand_then entry_store root_store holder_entry in
-    after_checked es later (stand_then begun (Made drawn)) (42 + (110 + length one.payload) + (110 + length two.payload)) two.number two.epoch h begins.1
+    after_checked es later (stand_then begun (Made drawn)) (header_len + (batch_len + length one.payload) + (batch_len + length two.payload)) two.number two.epoch h begins.1
 begun_checked owner (Session ∷ Did r drawn ∷ es) h begins = absurd begins
 begun_checked owner (Made drawn ∷ es) h begins = absurd begins
 begun_checked owner (Did r drawn ∷ es) h begins = absurd begins

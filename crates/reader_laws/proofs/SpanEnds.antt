@@ -1,6 +1,7 @@
 -- What is opened for writing is known behind the last batch that is read.
 use Rattle.std.proofs.Common.{◌≡◌, ◌≢◌, ℕ, zero, suc, ◌+◌, ◌-◌, ◌<◌, true, false, eqb, eq-eqb, List, [], ◌∷◌, drop, Option, None, Some, Result, Ok, Err, refl, sym, ap, subst, ◌∙◌, arith}
 use Rattle.std.proofs.lemmas.List.{drop-drop}
+use Rattle.cry_base.specs.Layout.{header_len}
 use Rattle.commit_journal.specs.Answering.{Fault, Damaged, and_then}
 use Rattle.commit_journal.specs.Log.{PlainTurn}
 use Rattle.commit_journal.specs.Opening.{OwnedLog, ends_here, opening_verdict, owned_at, owned_before, owned_log}
@@ -71,7 +72,7 @@ module _ (limit : ℕ) (owner bytes : List ℕ) where
       opening_verdict limit owner bytes ≡ Ok (record (ends_here (past_behind bytes (last_span spans))) { placed = log })
   unfolding opening_verdict and_then
   opened_is spans log are shut =
-      ap (λ (start : Result Past Fault). and_then start (λ past. owned_log limit owner past 0 (drop 42 bytes))) (starts_with (OwnerWrites owner limit) bytes are.store are.checked)
+      ap (λ (start : Result Past Fault). and_then start (λ past. owned_log limit owner past 0 (drop header_len bytes))) (starts_with (OwnerWrites owner limit) bytes are.store are.checked)
       ∙ owned_read spans None log (reads_all (OwnerWrites owner limit) bytes spans log are)
       (gate_told (behind bytes (last_of None spans)).gate (subst (λ (b : Option Span). (behind bytes b).gate ≢ 1) (last_is spans) shut))
       ∙ ap (λ (b : Option Span). Ok (record (ends_here (past_behind bytes b)) { placed = log })) (sym (last_is spans))

@@ -4,6 +4,7 @@ use Rattle.std.specs.Prelude.{codes, nat_le, slice_get, slice_range}
 use Rattle.std.specs.Str.{bytes_eq}
 use Rattle.std.proofs.lemmas.Bool.Decides.{nat_tests}
 use Rattle.std.proofs.lemmas.Slice.Eq.{bytes_eq-Decides}
+use Rattle.cry_base.specs.Layout.{header_len}
 use Rattle.chacha_seal.specs.Sealing.{check_of}
 use Rattle.commit_journal.specs.Answering.{Fault, NotAStore, WrongKey, and_then}
 use Rattle.commit_journal.specs.Log.{log_verdict, start_at, start_of, turn_at}
@@ -108,7 +109,7 @@ is_named bytes = bytes_eq (take 9 (header_in bytes)) (codes "CRYPTREE" ++ 1 ∷ 
 
 abbrev started : LogReader → List ℕ → Result Past Fault
 started who bytes =
-    cond (nat_le 42 (length bytes))
+    cond (nat_le header_len (length bytes))
     (cond (is_named bytes) (cond (has_check who bytes) (Ok (past_behind bytes None)) (Err WrongKey)) (Err NotAStore))
     (Err NotAStore)
 
@@ -139,24 +140,24 @@ module _ (who : LogReader) (bytes : List ℕ) where
   starts_checked true is store = Started store (tells_check who bytes is) refl
   starts_checked false is store = OtherStart store (tells_not (has_check who bytes) (told_check who bytes) is) refl
 
-  starts_named : (test : Bool) → is_named bytes ≡ test → 42 ≤ length bytes →
+  starts_named : (test : Bool) → is_named bytes ≡ test → header_len ≤ length bytes →
       Starts who bytes (cond test (cond (has_check who bytes) (Ok (past_behind bytes None)) (Err WrongKey)) (Err NotAStore))
   starts_named true is long = starts_checked (has_check who bytes) refl (long, (bytes_eq-Decides _ _).0 is)
   starts_named false is long = NoStart (λ store. tells_not (is_named bytes) (λ (named : take 9 (header_in bytes) ≡ codes "CRYPTREE" ++ 1 ∷ []). (bytes_eq-Decides _ _).1 named) is store.1) refl
 
-  starts_long : (test : Bool) → nat_le 42 (length bytes) ≡ test →
+  starts_long : (test : Bool) → nat_le header_len (length bytes) ≡ test →
       Starts who bytes (cond test (cond (is_named bytes) (cond (has_check who bytes) (Ok (past_behind bytes None)) (Err WrongKey)) (Err NotAStore)) (Err NotAStore))
   starts_long true is = starts_named (is_named bytes) refl (long is)
     where
-      long : nat_le 42 (length bytes) ≡ true → 42 ≤ length bytes
+      long : nat_le header_len (length bytes) ≡ true → header_len ≤ length bytes
       long test = grind (arith, nat_tests)
   starts_long false is = NoStart (λ store. short is store.0) refl
     where
-      short : nat_le 42 (length bytes) ≡ false → 42 ≤ length bytes → ⊥
+      short : nat_le header_len (length bytes) ≡ false → header_len ≤ length bytes → ⊥
       short test enough = grind (arith, nat_tests)
 
   starts : Starts who bytes (start_for who bytes)
-  starts = subst (Starts who bytes) (sym (started_so who bytes)) (starts_long (nat_le 42 (length bytes)) refl)
+  starts = subst (Starts who bytes) (sym (started_so who bytes)) (starts_long (nat_le header_len (length bytes)) refl)
 
   started_with : (start : Result Past Fault) → Starts who bytes start → IsStore bytes → HasOwnerCheck who bytes → start ≡ Ok (past_behind bytes None)
   started_with start (NoStart none is) store checked = absurd (none store)
@@ -169,7 +170,7 @@ module _ (who : LogReader) (bytes : List ℕ) where
   -- ---- the whole image
 
   abbrev log_behind : Result Past Fault → Result (List PlainPlaced) Fault
-  log_behind start = and_then start (λ past. walk_at (turn_by (judge_of who)) past 0 (drop 42 bytes))
+  log_behind start = and_then start (λ past. walk_at (turn_by (judge_of who)) past 0 (drop header_len bytes))
 
   log_told : (start : Result Past Fault) → Starts who bytes start → IsAnswer who bytes (log_behind start)
   unfolding and_then

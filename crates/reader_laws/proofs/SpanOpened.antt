@@ -2,6 +2,7 @@
 use Rattle.std.proofs.Common.{◌≡◌, ℕ, zero, suc, ◌+◌, ◌-◌, Bool, true, false, cond, eqb, List, [], ◌∷◌, take, drop, Option, Some, Result, Ok, Err, refl, ap, ◌∙◌}
 use Rattle.std.specs.Prelude.{nat_le}
 use Rattle.std.specs.Str.{bytes_eq}
+use Rattle.cry_base.specs.Layout.{batch_len, header_len}
 use Rattle.chacha_seal.specs.Sealing.{masked, veil_of}
 use Rattle.commit_journal.specs.Answering.{Fault, Damaged, Tampered, and_then}
 use Rattle.commit_journal.specs.Log.{PlainTurn, before, body_of, goes_on, head_at, payload_in, placed_body, start_at, tag_due, tag_in, turn_of}
@@ -44,18 +45,18 @@ same_batch owner past head batch =
 
 -- the batch of a head that is within the limit
 if_within : (test : Bool) (owner : List ℕ) (past : Past) (head : Head) (rest : List ℕ) →
-    as_turn (and_then (cond test (Ok head) (Err (Damaged past.at))) (λ (h : Head). owned_turn owner past h (take (110 + h.size) rest)))
-    ≡ cond test (tagged_recovered owner past head (take (110 + head.size) rest)) (Err (Damaged past.at))
+    as_turn (and_then (cond test (Ok head) (Err (Damaged past.at))) (λ (h : Head). owned_turn owner past h (take (batch_len + h.size) rest)))
+    ≡ cond test (tagged_recovered owner past head (take (batch_len + head.size) rest)) (Err (Damaged past.at))
 unfolding and_then
-if_within true owner past head rest = same_batch owner past head (take (110 + head.size) rest)
+if_within true owner past head rest = same_batch owner past head (take (batch_len + head.size) rest)
 if_within false owner past head rest = refl
 
 module _ (limit : ℕ) (owner : List ℕ) where
   behind_head : (past : Past) (rest : List ℕ) (head : Result Head Fault) →
-      as_turn (and_then (and_then head (λ (h : Head). cond (nat_le (past.at + (110 + h.size)) limit) (Ok h) (Err (Damaged past.at)))) (λ (h : Head). owned_turn owner past h (take (110 + h.size) rest)))
-      ≡ and_then head (λ h. judge_of (OwnerWrites owner limit) past h (take (110 + h.size) rest))
+      as_turn (and_then (and_then head (λ (h : Head). cond (nat_le (past.at + (batch_len + h.size)) limit) (Ok h) (Err (Damaged past.at)))) (λ (h : Head). owned_turn owner past h (take (batch_len + h.size) rest)))
+      ≡ and_then head (λ h. judge_of (OwnerWrites owner limit) past h (take (batch_len + h.size) rest))
   unfolding and_then
-  behind_head past rest (Ok head) = if_within (nat_le (past.at + (110 + head.size)) limit) owner past head rest
+  behind_head past rest (Ok head) = if_within (nat_le (past.at + (batch_len + head.size)) limit) owner past head rest
   behind_head past rest (Err fault) = refl
 
   pub same_turn : (past : Past) (rest : List ℕ) → as_turn (owned_at limit owner past rest) ≡ turn_by (judge_of (OwnerWrites owner limit)) past rest
@@ -122,6 +123,6 @@ module _ (limit : ℕ) (owner : List ℕ) where
   same_start rest (Err fault) = refl
 
   pub opened_so : (bytes : List ℕ) →
-      batches_alone (opening_verdict limit owner bytes) ≡ and_then (start_at owner bytes) (λ past. walk_at (turn_by (judge_of (OwnerWrites owner limit))) past 0 (drop 42 bytes))
+      batches_alone (opening_verdict limit owner bytes) ≡ and_then (start_at owner bytes) (λ past. walk_at (turn_by (judge_of (OwnerWrites owner limit))) past 0 (drop header_len bytes))
   unfolding opening_verdict
-  opened_so bytes = same_start (drop 42 bytes) (start_at owner bytes)
+  opened_so bytes = same_start (drop header_len bytes) (start_at owner bytes)

@@ -5,6 +5,7 @@ use Rattle.std.specs.Str.{bytes_eq}
 use Rattle.std.proofs.lemmas.Bool.{eqb-true}
 use Rattle.std.proofs.lemmas.Bool.Decides.{nat_tests}
 use Rattle.std.proofs.lemmas.Slice.Eq.{bytes_eq-Decides}
+use Rattle.cry_base.specs.Layout.{batch_len}
 use Rattle.hmac_seal.specs.Hmac.{hmac}
 use Rattle.chacha_seal.specs.Sealing.{masked, veil_of}
 use Rattle.commit_journal.specs.Answering.{Fault, Damaged, Tampered, and_then}
@@ -41,13 +42,13 @@ abbrev pub judge_of : LogReader → Judges
 judge_of (OwnerReads owner) = tagged_turn owner
 judge_of HolderReads = published_turn
 judge_of (OwnerWrites owner limit) = λ past head batch.
-    cond (nat_le (past.at + (110 + head.size)) limit) (tagged_recovered owner past head batch) (Err (Damaged past.at))
+    cond (nat_le (past.at + (batch_len + head.size)) limit) (tagged_recovered owner past head batch) (Err (Damaged past.at))
 
 -- the tests and the veil key, as the code has them
 abbrev is_within : LogReader → ℕ → ℕ → Bool
 is_within (OwnerReads owner) at size = true
 is_within HolderReads at size = true
-is_within (OwnerWrites owner limit) at size = nat_le (at + (110 + size)) limit
+is_within (OwnerWrites owner limit) at size = nat_le (at + (batch_len + size)) limit
 
 abbrev has_tag : LogReader → Past → Head → List ℕ → Bool
 has_tag (OwnerReads owner) past head batch = bytes_eq (tag_due owner past.tag head.size batch) (tag_in head.size batch)
@@ -237,7 +238,7 @@ module _ (who : LogReader) (bytes : List ℕ) (before : Option Span) (opened : (
       subst (Turns who bytes before) (sym (judged_so who past (head_in bytes s) (batch_in bytes s))) (turns_within (is_within who s.start s.size) refl stands)
 
   turns_head : (test : Bool) → is_batch past (head_in bytes s) (length (drop past.at bytes)) ≡ test →
-      Turns who bytes before (and_then (cond test (Ok (head_in bytes s)) (Err (Damaged past.at))) (λ h. judge_of who past h (take (110 + h.size) (drop past.at bytes))))
+      Turns who bytes before (and_then (cond test (Ok (head_in bytes s)) (Err (Damaged past.at))) (λ h. judge_of who past h (take (batch_len + h.size) (drop past.at bytes))))
   unfolding and_then
   turns_head true is = turns_judged is
   turns_head false is =
@@ -283,7 +284,7 @@ module _ (who : LogReader) (bytes : List ℕ) (before : Option Span) where
 
   no_batch : let s = next_span bytes before in (test : Bool) → is_batch (past_behind bytes before) (head_in bytes s) (length (drop s.start bytes)) ≡ test →
       (IsBatch who bytes before s → ⊥) →
-      and_then (cond test (Ok (head_in bytes s)) (Err (Damaged s.start))) (λ h. judge_of who (past_behind bytes before) h (take (110 + h.size) (drop s.start bytes))) ≡ Err (Damaged s.start)
+      and_then (cond test (Ok (head_in bytes s)) (Err (Damaged s.start))) (λ h. judge_of who (past_behind bytes before) h (take (batch_len + h.size) (drop s.start bytes))) ≡ Err (Damaged s.start)
   unfolding and_then
   no_batch true is none =
       let s = next_span bytes before in

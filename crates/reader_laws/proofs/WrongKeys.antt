@@ -8,6 +8,7 @@ use Rattle.chacha_seal.specs.Sealing.{check_of}
 use Rattle.commit_journal.specs.Answering.{NotAStore, WrongKey, and_then}
 use Rattle.commit_journal.specs.Log.{log_at, log_verdict, start_at, start_of}
 use Rattle.commit_journal.specs.Placed.{PlainPlaced}
+use Rattle.cry_base.specs.Layout.{header_len}
 use Rattle.cry_base.specs.Store.{HolderEntry, holder_entry}
 use Rattle.cry_base.specs.declared.client.Bundle.{Bundle}
 use Rattle.cry_base.specs.declared.client.Bundle.TheVariants as bundles
@@ -33,19 +34,19 @@ other_bytes xs ys other = false_from_ne_true (bytes_eq xs ys) (λ t. other ((byt
 
 module _ (owner key bytes : List ℕ) (log : List PlainPlaced) (other : check_of owner ≡ check_of key → ⊥) where
   abbrev header : List ℕ
-  header = take 42 bytes
+  header = take header_len bytes
 
   abbrev check : List ℕ
   check = slice_range header 9 41
 
   known : (a b d : Bool) → bytes_eq check (check_of owner) ≡ d
-      → and_then (if a then (if b then (if d then Ok (begun_turn header).past else Err WrongKey) else Err NotAStore) else Err NotAStore) (λ past. log_at owner past 0 (drop 42 bytes)) ≡ Ok log
-      → and_then (if a then (if b then (if bytes_eq check (check_of key) then Ok (begun_turn header).past else Err WrongKey) else Err NotAStore) else Err NotAStore) (λ past. log_at key past 0 (drop 42 bytes)) ≡ Err WrongKey
+      → and_then (if a then (if b then (if d then Ok (begun_turn header).past else Err WrongKey) else Err NotAStore) else Err NotAStore) (λ past. log_at owner past 0 (drop header_len bytes)) ≡ Ok log
+      → and_then (if a then (if b then (if bytes_eq check (check_of key) then Ok (begun_turn header).past else Err WrongKey) else Err NotAStore) else Err NotAStore) (λ past. log_at key past 0 (drop header_len bytes)) ≡ Err WrongKey
   unfolding and_then
   known true true true is e =
       let same : check ≡ check_of owner = (bytes_eq-Decides check (check_of owner)).0 is in
       let no_match : bytes_eq check (check_of key) ≡ false = other_bytes check (check_of key) (λ q. other (sym same ∙ q)) in
-      ap (λ d. and_then (if d then Ok (begun_turn header).past else Err WrongKey) (λ past. log_at key past 0 (drop 42 bytes))) no_match
+      ap (λ d. and_then (if d then Ok (begun_turn header).past else Err WrongKey) (λ past. log_at key past 0 (drop header_len bytes))) no_match
   known true true false is e = absurd cc
   known true false d is e = absurd cc
   known false b d is e = absurd cc
@@ -53,7 +54,7 @@ module _ (owner key bytes : List ℕ) (log : List PlainPlaced) (other : check_of
   pub wrong_owner : log_verdict owner bytes ≡ Ok log → log_verdict key bytes ≡ Err WrongKey
   unfolding log_verdict start_at start_of begun_turn
   wrong_owner e =
-      known (nat_le 42 (length bytes)) (bytes_eq (take 9 header) (codes "CRYPTREE" ++ 1 ∷ [])) (bytes_eq check (check_of owner)) refl e
+      known (nat_le header_len (length bytes)) (bytes_eq (take 9 header) (codes "CRYPTREE" ++ 1 ∷ [])) (bytes_eq check (check_of owner)) refl e
 
 -- ---- a holder's
 

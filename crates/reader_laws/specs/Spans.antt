@@ -4,6 +4,7 @@ use Rattle.std.specs.Prelude.{◌≡◌, ◌≢◌, ◌≤◌, ℕ, zero, suc, �
 use Rattle.std.specs.Prelude.{slice_index, slice_range, Option, None, Some, Result, Ok, Err}
 use Rattle.hmac_seal.specs.Hmac.{hmac}
 use Rattle.chacha_seal.specs.Sealing.{check_of, masked, veil_of}
+use Rattle.cry_base.specs.Layout.{batch_len, header_len}
 use Rattle.cry_base.specs.declared.ids.Epoch.{Epoch}
 use Rattle.commit_journal.specs.Answering.{Fault, NotAStore, WrongKey, Damaged, Tampered}
 use Rattle.commit_journal.specs.Log.{body_of, check_in, gate_in, head_of, is_batch, payload_in, slot_in, tag_due, tag_in}
@@ -19,10 +20,10 @@ pub data LogReader : Type 0 where
 -- ---- the header
 
 abbrev pub header_in : List ℕ → List ℕ
-header_in bytes = take 42 bytes
+header_in bytes = take header_len bytes
 
 abbrev pub IsStore : List ℕ → Type 0
-IsStore bytes = (42 ≤ length bytes) × (take 9 (header_in bytes) ≡ codes "CRYPTREE" ++ 1 ∷ [])
+IsStore bytes = (header_len ≤ length bytes) × (take 9 (header_in bytes) ≡ codes "CRYPTREE" ++ 1 ∷ [])
 
 -- where the reader has the owner's key, the owner check is that key's
 abbrev pub HasOwnerCheck : LogReader → List ℕ → Type 0
@@ -39,7 +40,7 @@ pub record Span : Type 0 where
 
 -- the bytes of the batch in a span, and what its first 13 say: its number, its epoch, and how many bytes its payload has
 abbrev pub batch_in : List ℕ → Span → List ℕ
-batch_in bytes s = take (110 + s.size) (drop s.start bytes)
+batch_in bytes s = take (batch_len + s.size) (drop s.start bytes)
 
 abbrev pub number_in : List ℕ → Span → ℕ
 number_in bytes s = (head_of (take 13 (drop s.start bytes))).number
@@ -61,14 +62,14 @@ pub record Known : Type 0 where
 -- it is read from the batch in a span; behind the header it is 0 and 0, the owner check, and the header's gate
 abbrev pub behind : List ℕ → Option Span → Known
 behind bytes None = record {
-  at = 42;
+  at = header_len;
   number = 0;
   epoch = record { 0 = 0 };
   tag = slice_range (header_in bytes) 9 41;
   gate = slice_index (header_in bytes) 41;
 }
 behind bytes (Some s) = record {
-  at = s.start + (110 + s.size);
+  at = s.start + (batch_len + s.size);
   number = number_in bytes s;
   epoch = epoch_in bytes s;
   tag = tag_in s.size (batch_in bytes s);
@@ -88,7 +89,7 @@ pub record Follows (bytes : List ℕ) (before : Option Span) (s : Span) : Type 0
 abbrev pub EndsWithin : LogReader → Span → Type 0
 EndsWithin (OwnerReads owner) s = Unit {0}
 EndsWithin HolderReads s = Unit {0}
-EndsWithin (OwnerWrites owner limit) s = s.start + (110 + s.size) ≤ limit
+EndsWithin (OwnerWrites owner limit) s = s.start + (batch_len + s.size) ≤ limit
 
 -- a batch stands there
 abbrev pub IsBatch : LogReader → List ℕ → Option Span → Span → Type 0

@@ -3,6 +3,7 @@ ghost use Rattle.std.specs.Prelude.{◌≡◌, Err, List, Ok, ℕ};
 ghost use Rattle.commit_journal.specs.Answering.{Damaged, Fault};
 ghost use Rattle.commit_journal.specs.Logs.{writer_log};
 ghost use Rattle.commit_journal.specs.Placed.{PlainPlaced};
+ghost use Rattle.cry_base.specs.Layout.{header_len};
 ghost use Rattle.cry_base.specs.declared.client.Bundle.{Bundle};
 ghost use Rattle.holder_client.specs.Folding.{folded};
 ghost use Rattle.holder_client.specs.Judging.{bundle_log, who_of};
@@ -33,15 +34,15 @@ pub fn visits_fail_at_records_alone()
 pub fn nothing_wants_at_visits()
     ensures names { (bundle : Bundle) (bytes : List ℕ) (log : List PlainPlaced) (stand : Stand)
         → bundle_log bundle bytes ≡ Ok log → folded nothing log ≡ Ok stand
-        → names_visited bundle (record { log = log; stand = stand }) ≡ Err (Damaged 42) → ⊥ }
+        → names_visited bundle (record { log = log; stand = stand }) ≡ Err (Damaged header_len) → ⊥ }
     ensures files { (bundle : Bundle) (bytes : List ℕ) (log : List PlainPlaced) (stand : Stand) (xs : List ℕ) (named : Opened)
         → bundle_log bundle bytes ≡ Ok log → folded nothing log ≡ Ok stand → AreAllowed stand.store (who_of bundle) xs
         → let r : Reading = record { log = log; stand = stand } in
-        names_visited bundle r ≡ Ok named → files_visited r xs named ≡ Err (Damaged 42) → ⊥ }
+        names_visited bundle r ≡ Ok named → files_visited r xs named ≡ Err (Damaged header_len) → ⊥ }
     ensures all { (bundle : Bundle) (bytes : List ℕ) (log : List PlainPlaced) (stand : Stand)
         → bundle_log bundle bytes ≡ Ok log → folded nothing log ≡ Ok stand
-        → all_visited bundle (record { log = log; stand = stand }) ≡ Err (Damaged 42) → ⊥ }
+        → all_visited bundle (record { log = log; stand = stand }) ≡ Err (Damaged header_len) → ⊥ }
     ensures writing { (key bytes : List ℕ) (log : List PlainPlaced) (stand : Stand)
         → writer_log key bytes ≡ Ok log → folded nothing log ≡ Ok stand
-        → visited_to_write key (record { log = log; stand = stand }) ≡ Err (Damaged 42) → ⊥ }
+        → visited_to_write key (record { log = log; stand = stand }) ≡ Err (Damaged header_len) → ⊥ }
 {}

@@ -1,5 +1,6 @@
 //! Laws of what a log answers, without a walk.
 ghost use Rattle.std.specs.Prelude.{◌≡◌, ◌↔◌, List, Ok, Result, ℕ};
+ghost use Rattle.cry_base.specs.Limits.{most_store_bytes};
 ghost use Rattle.commit_journal.specs.Answering.{Fault, and_then};
 ghost use Rattle.commit_journal.specs.Log.{log_verdict};
 ghost use Rattle.commit_journal.specs.Logs.{holder_log, writer_log};
@@ -15,7 +16,7 @@ pub fn walks_answer_by_spans()
     ensures holder { (bytes : List ℕ) (answer : Result (List PlainPlaced) Fault)
         → (holder_log bytes ≡ answer) ↔ IsAnswer HolderReads bytes answer }
     ensures writer { (owner bytes : List ℕ) (answer : Result (List PlainPlaced) Fault)
-        → (writer_log owner bytes ≡ answer) ↔ IsAnswer (OwnerWrites owner 268435456) bytes answer }
+        → (writer_log owner bytes ≡ answer) ↔ IsAnswer (OwnerWrites owner most_store_bytes) bytes answer }
     ensures opened { (limit : ℕ) (owner bytes : List ℕ) (answer : Result (List PlainPlaced) Fault)
         → (and_then (opening_verdict limit owner bytes) (λ (log : OwnedLog). Ok log.placed) ≡ answer)
         ↔ IsAnswer (OwnerWrites owner limit) bytes answer }

@@ -2,6 +2,7 @@
 use Rattle.std.proofs.Common.{◌≡◌, ℕ, ◌+◌, ◌*◌, ◌^◌, ◌-◌, ◌<◌, true, false, cond, ◌&&◌, List, [], ◌∷◌, map, Some, None, inl, inr, ⊎_elim, refl, sym, ap, ◌∙◌, subst, arith}
 use Rattle.std.specs.Prelude.{nat_lt}
 use Rattle.std.proofs.lemmas.Bool.{and_parts, ltb-true}
+use Rattle.cry_base.specs.Limits.{most_file_bytes}
 use Rattle.cry_base.specs.Sets.{In, Path}
 use Rattle.cry_base.specs.Requests.{Request}
 use Rattle.cry_base.specs.Store.{Store, no_store, root_store}
@@ -139,20 +140,20 @@ session_kept at p ok = record {
 }
 
 -- an accepted command moves edges and roles
-pub moves : (at : Stand) (request : Request) (keys : List (List ℕ)) → IsSound at.store → refusal_of at.store request 1048576 ≡ None
+pub moves : (at : Stand) (request : Request) (keys : List (List ℕ)) → IsSound at.store → refusal_of at.store request most_file_bytes ≡ None
     → IsMove at.store (change_of at.store (note_of at.store request [])) (effect at.store request (first_key keys))
-moves at request keys sound e = command_moves at.store request (first_key keys) [] 1048576 e sound
+moves at request keys sound e = command_moves at.store request (first_key keys) [] most_file_bytes e sound
 
-pub did_kept : (at : Stand) (p : Past) (request : Request) (keys : List (List ℕ)) → Kept at p → refusal_of at.store request 1048576 ≡ None → (entry_step at (Did request keys)).after.count < 2 ^ 32
+pub did_kept : (at : Stand) (p : Past) (request : Request) (keys : List (List ℕ)) → Kept at p → refusal_of at.store request most_file_bytes ≡ None → (entry_step at (Did request keys)).after.count < 2 ^ 32
     → Kept (stand_then at (Did request keys)) (past_entry at p (Did request keys))
 unfolding stand_then entry_store entry_step note_step past_entry
 did_kept at p request keys ok e count =
     let s = at.store in
     let t = effect s request (first_key keys) in
     let note = note_of s request [] in
-    step_kept s t at.keys (change_of s note) p (pieces_of note t) (moves at request keys ok.sound e) ok.keys ok.below ok.holds (effect_sound s request (first_key keys) 1048576 e ok.sound) count
+    step_kept s t at.keys (change_of s note) p (pieces_of note t) (moves at request keys ok.sound e) ok.keys ok.below ok.holds (effect_sound s request (first_key keys) most_file_bytes e ok.sound) count
 
-did_step : (at : Stand) (p : Past) (request : Request) (keys : List (List ℕ)) → Kept at p → refusal_of at.store request 1048576 ≡ None
+did_step : (at : Stand) (p : Past) (request : Request) (keys : List (List ℕ)) → Kept at p → refusal_of at.store request most_file_bytes ≡ None
     → IsStep (state_of at p) (move_of (edges at.store) (change_of at.store (note_of at.store request [])) (entry_step at (Did request keys))) (state_of (stand_then at (Did request keys)) (past_entry at p (Did request keys)))
 unfolding stand_then entry_store entry_step note_step past_entry
 did_step at p request keys ok e =
@@ -161,7 +162,7 @@ did_step at p request keys ok e =
     let note = note_of s request [] in
     is_step s t at.keys (change_of s note) p (pieces_of note t) (moves at request keys ok.sound e) ok.keys ok.below
 
-did_fits : (at : Stand) (p : Past) (request : Request) (keys : List (List ℕ)) → Kept at p → refusal_of at.store request 1048576 ≡ None
+did_fits : (at : Stand) (p : Past) (request : Request) (keys : List (List ℕ)) → Kept at p → refusal_of at.store request most_file_bytes ≡ None
     → Fits is_root_role (state_of at p) (move_of (edges at.store) (change_of at.store (note_of at.store request [])) (entry_step at (Did request keys))) (state_of (stand_then at (Did request keys)) (past_entry at p (Did request keys)))
 unfolding stand_then entry_store entry_step note_step past_entry
 did_fits at p request keys ok e =
@@ -220,13 +221,13 @@ way_more stay Path.Here = Path.Here
 way_more stay (Path.On {b = b} {c = c} way i) = Path.On (way_more stay way) (stay (b, c) i)
 
 -- an entry that brings a role into reach is a gain
-did_gains : (at : Stand) (p : Past) (request : Request) (keys : List (List ℕ)) (h : ℕ) (r : Role) → Kept at p → refusal_of at.store request 1048576 ≡ None
+did_gains : (at : Stand) (p : Past) (request : Request) (keys : List (List ℕ)) (h : ℕ) (r : Role) → Kept at p → refusal_of at.store request most_file_bytes ≡ None
     → Brings (state_of at p) (state_of (stand_then at (Did request keys)) (past_entry at p (Did request keys))) (holder_role h) r → IsGain at (Did request keys) h
 unfolding stand_then entry_store
 did_gains at p request keys h r ok e b =
     let s = at.store in
     let t = effect s request (first_key keys) in
-    brings_gain s t h ok.sound.settled (effect_sound s request (first_key keys) 1048576 e ok.sound) (moves at request keys ok.sound e).ends_after request (first_key keys) refl r
+    brings_gain s t h ok.sound.settled (effect_sound s request (first_key keys) most_file_bytes e ok.sound) (moves at request keys ok.sound e).ends_after request (first_key keys) refl r
     ((ok.keys.keyed r).1 b.0) b.1 b.2
 
 opened_later : (entries : List Entry) (at : Stand) (p : Past) (links : List (ℕ × ℕ)) (published : List Published) (h k : ℕ) → ((l : ℕ × ℕ) → In l links → In l (trails published))

@@ -2,6 +2,7 @@
 use Rattle.std.proofs.Common.{◌≡◌, ℕ, ◌+◌, ◌^◌, ◌<◌, true, List, [], ◌∷◌, ◌++◌, map, length, Some, None, inl, inr, ◌⊎◌, ⊎_elim, refl, sym, ap, ◌∙◌, subst, append_assoc, append-nil}
 use Rattle.std.proofs.lemmas.Bool.{and_parts}
 use Rattle.std.proofs.lemmas.List.{map-append}
+use Rattle.cry_base.specs.Limits.{most_file_bytes}
 use Rattle.cry_base.specs.Sets.{In, Path}
 use Rattle.cry_base.specs.Requests.{Request}
 use Rattle.cry_base.specs.Store.{Store, no_store, root_store}
@@ -62,13 +63,13 @@ written_unseen s t k note p mv ok below sound h c i hidden =
       out = λ way. hidden (reached_shown t h c.piece sound sealed way);
     }
 
-did_unseen : (at : Stand) (p : Past) (request : Request) (keys : List (List ℕ)) → Kept at p → refusal_of at.store request 1048576 ≡ None
+did_unseen : (at : Stand) (p : Past) (request : Request) (keys : List (List ℕ)) → Kept at p → refusal_of at.store request most_file_bytes ≡ None
     → (h : ℕ) (c : Content) → In c (entry_step at (Did request keys)).contents → (IsShownNode (stand_then at (Did request keys)).store h (node_of_piece c.piece) → ⊥)
     → IsUnseen (stand_then at (Did request keys)) h (sealing_role c.piece) c.key_serial
 unfolding stand_then entry_store entry_step note_step
 did_unseen at p request keys ok e h c i hidden =
     written_unseen at.store (effect at.store request (first_key keys)) at.keys (note_of at.store request []) p (moves at request keys ok.sound e) ok.keys ok.below
-    (effect_sound at.store request (first_key keys) 1048576 e ok.sound) h c i hidden
+    (effect_sound at.store request (first_key keys) most_file_bytes e ok.sound) h c i hidden
 
 made_unseen : (keys : List (List ℕ)) (h : ℕ) (c : Content) → In c (entry_step (stand_then nothing Session) (Made keys)).contents → (IsShownNode (made_stand keys).store h (node_of_piece c.piece) → ⊥)
     → IsUnseen (made_stand keys) h (sealing_role c.piece) c.key_serial

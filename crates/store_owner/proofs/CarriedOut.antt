@@ -5,6 +5,7 @@ use Rattle.chacha_seal.specs.Keys.{KeyParts}
 use Rattle.chacha_seal.specs.Sealing.{check_of}
 use Rattle.chacha_seal.specs.Serials.{Counting}
 use Rattle.commit_journal.specs.Journals.{IsBehind, JournalState, Joins, next_command}
+use Rattle.cry_base.specs.Layout.{batch_len}
 use Rattle.cry_base.specs.Requests.{Request}
 use Rattle.cry_base.specs.Store.{Store}
 use Rattle.folder_nodes.specs.Titles.{tree_store}
@@ -44,7 +45,7 @@ pub batches_for : (has : Bool) (new between old : ℕ) → new ≡ between + 1 �
 batches_for true new between old a b = omega arith
 batches_for false new between old a b = omega arith
 
-pub ends_for : (has : Bool) (end between limit now size due : ℕ) → between ≡ end + cond has 0 110 → now ≡ limit → due ≡ size → end + (110 + size) + cond has 0 110 ≤ limit → between + (110 + due) ≤ now
+pub ends_for : (has : Bool) (end between limit now size due : ℕ) → between ≡ end + cond has 0 batch_len → now ≡ limit → due ≡ size → end + (batch_len + size) + cond has 0 batch_len ≤ limit → between + (batch_len + due) ≤ now
 ends_for true end between limit now size due a b c d = omega arith
 ends_for false end between limit now size due a b c d = omega arith
 

@@ -1,6 +1,8 @@
 -- No more is counted than the log has bytes.
 use Rattle.std.proofs.Common.{◌≡◌, ℕ, ◌+◌, ◌*◌, ◌≤◌, Bool, cond, length, arith, refl}
 use Rattle.std.proofs.Math.Nat.{mul-le-mul_right}
+use Rattle.cry_base.specs.Layout.{batch_len}
+use Rattle.cry_base.specs.Limits.{most_store_bytes}
 use Rattle.commit_journal.specs.Journals.{JournalState, end_with}
 use Rattle.record_format.specs.Noted.{Note}
 use Rattle.public_fold.specs.Lengths.{note_len}
@@ -21,19 +23,19 @@ size_least note s text size is =
     let at : note_len note + 8 + 98 * length s.links.items + (58 + text) * length s.contents.items ≤ size = omega (arith, is) in
     added (note_len note) (length s.contents.items) (length s.links.items) ((58 + text) * length s.contents.items) 0 size (scaled text (length s.contents.items)) at
 
-grown : (a b c l k end n size new : ℕ) → a + b + c ≤ end → l + k ≤ size → new ≡ end + n + (110 + size) → (a + 1) + (b + l) + (c + k) ≤ new
+grown : (a b c l k end n size new : ℕ) → a + b + c ≤ end → l + k ≤ size → new ≡ end + n + (batch_len + size) → (a + 1) + (b + l) + (c + k) ≤ new
 grown a b c l k end n size new below least on = omega (arith, below, least, on)
 
-pub within_on : (c : Counted) (note : Note) (s : Skeleton) (text end between size new : ℕ) (has : Bool) → IsWithin c end → between ≡ end + cond has 0 110 → size ≡ skeleton_size note s text
-    → new ≡ between + (110 + size) → IsWithin (counted_with c s) new
+pub within_on : (c : Counted) (note : Note) (s : Skeleton) (text end between size new : ℕ) (has : Bool) → IsWithin c end → between ≡ end + cond has 0 batch_len → size ≡ skeleton_size note s text
+    → new ≡ between + (batch_len + size) → IsWithin (counted_with c s) new
 within_on c note s text end between size new has below began is on =
-    let to : new ≡ end + cond has 0 110 + (110 + size) = omega (arith, began, on) in
-    grown c.commands c.links c.contents (length s.links.items) (length s.contents.items) end (cond has 0 110) size new below (size_least note s text size is) to
+    let to : new ≡ end + cond has 0 batch_len + (batch_len + size) = omega (arith, began, on) in
+    grown c.commands c.links c.contents (length s.links.items) (length s.contents.items) end (cond has 0 batch_len) size new below (size_least note s text size is) to
 
-most : (a b c l k end size limit n : ℕ) → a + b + c ≤ end → l + k ≤ size → end + (110 + size) + n ≤ limit → limit ≤ 268435456 → (a + 1) + (b + l) + (c + k) ≤ 268435456
+most : (a b c l k end size limit n : ℕ) → a + b + c ≤ end → l + k ≤ size → end + (batch_len + size) + n ≤ limit → limit ≤ most_store_bytes → (a + 1) + (b + l) + (c + k) ≤ most_store_bytes
 most a b c l k end size limit n below least fits low = omega (arith, below, least, fits, low)
 
-pub within_limit : (c : Counted) (note : Note) (s : Skeleton) (text : ℕ) (j : JournalState) → IsWithin c j.end → end_with j (skeleton_size note s text) ≤ j.limit → j.limit ≤ 268435456
-    → IsWithin (counted_with c s) 268435456
+pub within_limit : (c : Counted) (note : Note) (s : Skeleton) (text : ℕ) (j : JournalState) → IsWithin c j.end → end_with j (skeleton_size note s text) ≤ j.limit → j.limit ≤ most_store_bytes
+    → IsWithin (counted_with c s) most_store_bytes
 within_limit c note s text j below fits low =
     most c.commands c.links c.contents (length s.links.items) (length s.contents.items) j.end (skeleton_size note s text) j.limit _ below (size_least note s text (skeleton_size note s text) refl) fits low

@@ -2,6 +2,7 @@
 use Rattle.std.proofs.Common.{◌≡◌, ◌≤◌, ⊎_elim, inl, inr, ℕ, false, cond, List, [], ◌∷◌, ◌++◌, Option, None, append-nil, append_assoc, refl, sym, ap, subst, ◌∙◌}
 use Rattle.std.specs.Prelude.{is_some}
 use Rattle.cry_io.specs.Told.{WhereBothTold}
+use Rattle.cry_base.specs.Limits.{most_file_bytes, most_store_bytes}
 use Rattle.cry_base.specs.Requests.{Request}
 use Rattle.commit_journal.specs.Holding.{IsBetween}
 use Rattle.commit_journal.specs.Image.{Batch}
@@ -20,7 +21,7 @@ use Rattle.store_owner.specs.Applying.{IsInterrupted, IsSealed}
 use Rattle.store_owner.specs.Owned.{IsOwnerOf, OwnerView, limits_in}
 use Rattle.store_owner.proofs.OwnerGoesOn.{batches_are, between_owner, between_shown, between_stands, ends_low_is, told_some, valid_then}
 
-module _ (m : Journal) (r : Request) (drawn : List (List ℕ)) (old : OwnerView) (was shows : Option (List ℕ)) (is : IsOwnerOf m old) (low : old.journal.limit ≤ 268435456) (bound : old.file_bytes ≤ 1048576)
+module _ (m : Journal) (r : Request) (drawn : List (List ℕ)) (old : OwnerView) (was shows : Option (List ℕ)) (is : IsOwnerOf m old) (low : old.journal.limit ≤ most_store_bytes) (bound : old.file_bytes ≤ most_file_bytes)
     (fine : answer (limits_in old) m old.journal.has_epoch r ≡ None) where
   abbrev begun : Journal
   begun = between m old.journal.has_epoch

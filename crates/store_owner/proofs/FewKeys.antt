@@ -1,6 +1,8 @@
 -- A command that a sound owner has room for draws few keys: each renewed role is the end of a link that its payload has.
 use Rattle.std.proofs.Common.{◌≡◌, ℕ, ◌+◌, ◌*◌, ◌≤◌, ◌<◌, true, not, List, ◌++◌, length, arith, ap, length-append}
 use Rattle.std.specs.Prelude.{if◌then◌else◌}
+use Rattle.cry_base.specs.Layout.{batch_len}
+use Rattle.cry_base.specs.Limits.{most_store_bytes}
 use Rattle.commit_journal.specs.Journals.{end_with}
 use Rattle.role_graph.specs.Edges.{edges}
 use Rattle.move_plan.specs.Change.{change_of}
@@ -46,10 +48,10 @@ few_given at links note s holds f is =
     let published = ap length is.links in
     omega (arith, short, joined, fresh, many, linked, keys, published)
 
-few_within : (keys links note texts end more limit : ℕ) → keys ≤ links + 5 → end + (110 + (note + 8 + 98 * links + texts)) + more ≤ limit → limit ≤ 268435456 → 32 * keys < 4294967296
+few_within : (keys links note texts end more limit : ℕ) → keys ≤ links + 5 → end + (batch_len + (note + 8 + 98 * links + texts)) + more ≤ limit → limit ≤ most_store_bytes → 32 * keys < 4294967296
 few_within keys links note texts end more limit many within low = omega arith
 
-pub few_keys : (o : OwnerView) (note : Note) (s : Skeleton) (text : ℕ) → IsSound o → o.journal.limit ≤ 268435456
+pub few_keys : (o : OwnerView) (note : Note) (s : Skeleton) (text : ℕ) → IsSound o → o.journal.limit ≤ most_store_bytes
     → ((at : Stand) → IsSeenAs o.state at → IsSkeleton (told_step (begun (not o.journal.has_epoch) at) note) s)
     → ((at : Stand) → IsSeenAs o.state at → note_fits (begun (not o.journal.has_epoch) at) note (told_step (begun (not o.journal.has_epoch) at) note) ≡ true)
     → end_with o.journal (skeleton_size note s text) ≤ o.journal.limit → 32 * length s.keys.items < 4294967296
@@ -58,5 +60,5 @@ few_keys o note s text sound limit skeleton fits within =
     let at = begun (not o.journal.has_epoch) was in
     let fit = fits was sound.seen in
     let stands = begun_holds (not o.journal.has_epoch) sound.turns note sound.fit fit in
-    few_within (length s.keys.items) (length s.links.items) (note_len note) ((58 + text) * length s.contents.items) o.journal.end (if o.journal.has_epoch then 0 else 110) o.journal.limit
+    few_within (length s.keys.items) (length s.links.items) (note_len note) ((58 + text) * length s.contents.items) o.journal.end (if o.journal.has_epoch then 0 else batch_len) o.journal.limit
     (few_given at stands.0 note s stands.1 fit (skeleton was sound.seen)) within limit

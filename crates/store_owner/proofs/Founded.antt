@@ -1,6 +1,8 @@
 -- The journal and the bytes of a store once its two batches are committed.
 use Rattle.std.proofs.Common.{◌≡◌, ℕ, ◌+◌, List, [], ◌∷◌, ◌++◌, Option, arith, sym, ap, ◌∙◌}
 use Rattle.std.specs.Prelude.{false, is_some, max}
+use Rattle.cry_base.specs.Layout.{batch_len, header_len}
+use Rattle.key_links.specs.Fresh.{fresh_store_len, root_payload_len}
 use Rattle.cry_io.specs.Told.{WhereTold}
 use Rattle.cry_io.proofs.ToldLemmas.{told_again}
 use Rattle.record_format.specs.Plain.{PlainPayload}
@@ -13,7 +15,7 @@ use Rattle.commit_journal.specs.Journals.{IsBehind, IsJournalOf, JournalState, J
 use Rattle.store_owner.specs.Making.{IsMadeJournal, made_batches}
 
 module _ (owner : List ℕ) (payload : PlainPayload) (start none first second last : JournalState)
-    (spellable : IsSpellable payload) (size : payload_size payload ≡ 557) (empty : none ≡ empty_journal owner start.limit start)
+    (spellable : IsSpellable payload) (size : payload_size payload ≡ root_payload_len) (empty : none ≡ empty_journal owner start.limit start)
     (began : IsBehind (next_epoch none) none first) (did : IsBehind (next_command first (spell_payload payload)) first second) where
   none_owner : none.owner ≡ owner
   none_owner = ap (λ (j : JournalState). j.owner) empty
@@ -24,7 +26,7 @@ module _ (owner : List ℕ) (payload : PlainPayload) (start none first second la
   none_epoch : none.epoch ≡ 0
   none_epoch = ap (λ (j : JournalState). j.epoch) empty
 
-  none_end : none.end ≡ 42
+  none_end : none.end ≡ header_len
   none_end = ap (λ (j : JournalState). j.end) empty
 
   first_owner : first.owner ≡ owner
@@ -37,9 +39,9 @@ module _ (owner : List ℕ) (payload : PlainPayload) (start none first second la
   first_epoch = began.epoch ∙ ap (λ n. n + 1) none_epoch
 
   pub first_end : first.end ≡ 152
-  first_end = began.end ∙ ap (λ n. n + 110) none_end
+  first_end = began.end ∙ ap (λ n. n + batch_len) none_end
 
-  pub second_end : second.end ≡ 819
+  pub second_end : second.end ≡ fresh_store_len
   second_end = let long = length-spell_payload payload spellable in let e = did.end in let f = first_end in omega (arith, e, f, long, size)
 
   pub made_state : last ≡ record second { has_epoch = false } → IsMadeJournal owner start.limit last
@@ -64,7 +66,7 @@ module _ (owner : List ℕ) (payload : PlainPayload) (start none first second la
       does.ended (next_epoch none ∷ []) (begins.stands [] stands) y.0 z y.1 is y_is
       ∙ (λ i. image (first_owner i) (epoch_batch (none_batches i + 1) (none_epoch i + 1) ∷ command_batch (first_batches i + 1) (first_epoch i) (spell_payload payload) ∷ []) ++ 0 ∷ [])
 
-  pub made_size : (low one two : ℕ) → low ≡ 42 → one ≡ max low first.end → two ≡ max one second.end → two ≡ 819
+  pub made_size : (low one two : ℕ) → low ≡ header_len → one ≡ max low first.end → two ≡ max one second.end → two ≡ fresh_store_len
   made_size low one two a b c =
       let at_one : one ≡ 152 = b ∙ (λ i. max (a i) (first_end i)) in
       c ∙ (λ i. max (at_one i) (second_end i))

@@ -3,6 +3,7 @@ use Rattle.std.proofs.Common.{◌≡◌, ℕ, ◌≤◌, true, cond, List, [], �
 use Rattle.std.proofs.lemmas.List.Elements.{All-cons, All-nil}
 use Rattle.commit_journal.specs.Image.{Batch}
 use Rattle.commit_journal.specs.Journals.{IsJournalOf}
+use Rattle.cry_base.specs.Limits.{most_file_bytes}
 use Rattle.cry_base.specs.Sets.{In}
 use Rattle.cry_base.specs.Store.{FileEntry, FolderEntry, Store, no_store, root_store}
 use Rattle.folder_nodes.specs.Titles.{bytes_in, name_in, title_at, tree_store}
@@ -100,7 +101,7 @@ module _ (o : OwnerView) (root : title_at o.names.folders 1 ≡ Some (record { i
     files_made = sym (ap (λ (s : Store). s.files_made) store_seen);
   }
 
-  no_files : (x : FileEntry) → In x (own_store o).files → length x.bytes ≤ 1048576
+  no_files : (x : FileEntry) → In x (own_store o).files → length x.bytes ≤ most_file_bytes
   unfolding tree_store
   no_files x i =
       let none = ap (map (λ (e : FileEntry). record e { name = name_in (title_at o.names.files e.id); bytes = bytes_in (title_at o.names.files e.id) })) files_seen in
@@ -111,7 +112,7 @@ module _ (o : OwnerView) (root : title_at o.names.folders 1 ≡ Some (record { i
 module _ (o : OwnerView) (owner : List ℕ) (drawn : List (List ℕ)) (limit : ℕ) (long : length owner ≡ 32) (five : length drawn ≡ 5) (sizes : AreKeys drawn) (same_key : o.key ≡ owner)
     (state : IsMadeJournal owner limit o.journal) (stands : IsJournalOf (made_batches (root_payload owner drawn)) o.journal)
     (root : title_at o.names.folders 1 ≡ Some (record { id = 1; name = []; bytes = [] })) (seen : IsSeenAs o.state (told_stand first_stand Root))
-    (held : HoldsKeys (all_keys owner (made_with drawn)) (keys_of (made_with drawn)) o.ring (counting (keys_of (made_with drawn)))) (none : o.counter ≡ None) (bounded : o.file_bytes ≤ 1048576) where
+    (held : HoldsKeys (all_keys owner (made_with drawn)) (keys_of (made_with drawn)) o.ring (counting (keys_of (made_with drawn)))) (none : o.counter ≡ None) (bounded : o.file_bytes ≤ most_file_bytes) where
   counts_are : (k : KeyState) → o.counter ≡ cond o.journal.has_epoch (Some (counting k)) None
   counts_are k = none ∙ ap (λ b. cond b (Some (counting k)) None) (sym state.not_begun)
 

@@ -7,7 +7,7 @@ use Rattle.commit_journal.specs.Image.{Batch, image}
 use Rattle.cry_base.specs.Listed.{Listed}
 use Rattle.cry_base.specs.declared.limits.Limits.{Limits}
 use Rattle.cry_io.specs.Told.{WhereBothTold, WhereTold}
-use Rattle.key_links.specs.Fresh.{fresh_image, piece}
+use Rattle.key_links.specs.Fresh.{fresh_draw_len, fresh_image, fresh_store_len, piece}
 use Rattle.public_fold.specs.Journal.Entry.{Made, Session}
 use Rattle.journal_bytes.specs.Bytes.{image_of}
 use Rattle.store_owner.specs.declared.apply_fault.ApplyFault.{ApplyFault}
@@ -64,14 +64,14 @@ module _ (a b c d e f : List ℕ) (la : IsLong a) (lb : IsLong b) (lc : IsLong c
   pub rest_here : b ∷ c ∷ d ∷ e ∷ f ∷ [] ≡ root_keys (a ++ last_five)
   rest_here = λ i. sym second i ∷ sym third i ∷ sym fourth i ∷ sym fifth i ∷ sym sixth i ∷ []
 
-  pub all_long : length (a ++ last_five) ≡ 192
+  pub all_long : length (a ++ last_five) ≡ fresh_draw_len
   all_long = simp length-append (omega (arith, la, lb, lc, ld, le, lf))
 
 -- what six keys are by their bytes
 pub record ArePieces (keys : List (List ℕ)) : Type 0 where
   pub first : slice_index_or keys 0 [] ≡ piece (joined keys) 0
   pub rest : drop 1 keys ≡ root_keys (joined keys)
-  pub long : length (joined keys) ≡ 192
+  pub long : length (joined keys) ≡ fresh_draw_len
   pub first_long : length (slice_index_or keys 0 []) ≡ 32
   pub rest_long : AreKeys (drop 1 keys)
 
@@ -143,12 +143,12 @@ makes_all (Ok o) limits drawn before after shown is shows bytes = (drawn, is, by
 makes_all (Err fault) limits drawn before after shown is shows bytes = tt
 
 -- once six keys were drawn their bytes are gone
-pub six_are_gone : (keys : List (List ℕ)) → length keys ≡ 6 → AreKeys keys → (x y : List ℕ) → x ≡ joined keys ++ y → length x ≡ 192 + length y
+pub six_are_gone : (keys : List (List ℕ)) → length keys ≡ 6 → AreKeys keys → (x y : List ℕ) → x ≡ joined keys ++ y → length x ≡ fresh_draw_len + length y
 six_are_gone keys six sizes x y is = ap length is ∙ length-append (joined keys) y ∙ ap (λ n. n + length y) (six_pieces keys six sizes).long
 
 -- a source that ended before the last byte of six keys
 pub short_of_six : (fault : ApplyFault) (before after : Option (List ℕ)) (left need : ℕ) → IsFillFault {T = Listed (List ℕ)} 6 (Err fault) → WhereBothTold before after (DrawsKeys 6 (Err fault))
-    → fault ≡ answers.RandomShort left need → (need ≡ 192) × (left < 192) × WhereBothTold before after (λ x y. (length x ≡ left) × (y ≡ []))
+    → fault ≡ answers.RandomShort left need → (need ≡ fresh_draw_len) × (left < fresh_draw_len) × WhereBothTold before after (λ x y. (length x ≡ left) × (y ≡ []))
 short_of_six fault before after left need told bytes is =
     let small : 32 * 6 < 4294967296 = omega arith in
     let t = subst (λ (f : ApplyFault). IsFillFault {T = Listed (List ℕ)} 6 (Err f)) is told small in
@@ -156,7 +156,7 @@ short_of_six fault before after left need told bytes is =
     (t.0, omega (arith, t.0, t.1), λ x y was now. ((drew x y was now).0 small, (drew x y was now).1))
 
 -- the log of a fresh store is within its disk
-pub inside_fresh : (result : Result OwnerView ApplyFault) (limits : Limits) (drawn : List ℕ) (size : ℕ) → IfOk result (IsMade drawn limits) → OnOk result (size ≡ 819)
+pub inside_fresh : (result : Result OwnerView ApplyFault) (limits : Limits) (drawn : List ℕ) (size : ℕ) → IfOk result (IsMade drawn limits) → OnOk result (size ≡ fresh_store_len)
     → IfOk result (λ (o : OwnerView). o.journal.end ≤ size)
 inside_fresh (Ok o) limits drawn size is all = let e = is.journal.ends_at in omega (arith, e, all)
 inside_fresh (Err fault) limits drawn size is all = tt

@@ -1,6 +1,7 @@
 -- What a command takes, as its skeleton and the journal tell it.
 use Rattle.std.proofs.Common.{◌≡◌, ℕ, ◌+◌, ◌*◌, Bool, false, cond, List, [], ◌∷◌, length, replicate, None, ◌++◌, arith, sym, ap, ◌∙◌}
 use Rattle.std.proofs.lemmas.List.{length-map}
+use Rattle.cry_base.specs.Layout.{batch_len}
 use Rattle.cry_base.specs.Refusing.{refusal_of}
 use Rattle.cry_base.specs.Requests.{Request}
 use Rattle.cry_base.specs.Store.{Store}
@@ -61,7 +62,7 @@ payload_told m new r check file_bytes t valid of size none s is =
     ∙ ap (λ n. note_len (note_of at.store r []) + 8 + 98 * length (entry_step at (Did r drawn)).links + n) (sym (due_weighs m r drawn file_bytes valid none))
     ∙ sym (payload_due at r false drawn)
 
-moved : (e p n : ℕ) → e + (110 + p) + n ≡ e + n + 110 + p
+moved : (e p n : ℕ) → e + (batch_len + p) + n ≡ e + n + batch_len + p
 moved e p n = omega arith
 
 pub end_told : (m : Journal) (r : Request) (o : OwnerView) → IsOwnerOf m o → end_with o.journal (due_payload m r) ≡ due_end m o.journal.has_epoch r
@@ -70,4 +71,4 @@ end_told m r o is =
     let end : o.journal.end ≡ end_of m =
     is.stands.end ∙ ap (λ owner. length (image owner (batches_of o.key m)) + 1) is.same_key ∙ valid_weighs o.key m is.valid is.whole_keys
     in
-    ap (λ e. e + (110 + due_payload m r) + cond o.journal.has_epoch 0 110) end ∙ moved (end_of m) (due_payload m r) (cond o.journal.has_epoch 0 110)
+    ap (λ e. e + (batch_len + due_payload m r) + cond o.journal.has_epoch 0 batch_len) end ∙ moved (end_of m) (due_payload m r) (cond o.journal.has_epoch 0 batch_len)

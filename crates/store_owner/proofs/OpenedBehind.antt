@@ -20,6 +20,7 @@ use Rattle.commit_journal.proofs.Standings.{whole_stands}
 use Rattle.commit_journal.proofs.Reopened.{opened_standing}
 use Rattle.commit_journal.proofs.Standings.{length-image}
 use Rattle.commit_journal.proofs.Writers.{opened_as_read}
+use Rattle.cry_base.specs.Limits.{most_file_bytes, most_store_bytes}
 use Rattle.cry_base.specs.Sets.{In}
 use Rattle.cry_base.specs.Store.{Store, FolderEntry, FileEntry, folder_entry}
 use Rattle.cry_base.proofs.Finding.{found-find}
@@ -69,15 +70,15 @@ contents_kept contents s are present = record {
 }
 
 -- no file that stands has more bytes than one may have
-tree_sized : (t : Store) (names : Titles) → AreSized names → (x : FileEntry) → In x (tree_store t names).files → length x.bytes ≤ 1048576
+tree_sized : (t : Store) (names : Titles) → AreSized names → (x : FileEntry) → In x (tree_store t names).files → length x.bytes ≤ most_file_bytes
 unfolding tree_store
 tree_sized t names sized x i =
     let titled : FileEntry → FileEntry = λ e. record e { name = name_in (title_at names.files e.id); bytes = bytes_in (title_at names.files e.id) } in
     let w = (In-map FileEntry FileEntry titled x t.files).0 i in
-    subst (λ (e : FileEntry). length e.bytes ≤ 1048576) (sym w.2) (sized w.0.id)
+    subst (λ (e : FileEntry). length e.bytes ≤ most_file_bytes) (sym w.2) (sized w.0.id)
 
 pub behind_sound : (key : List ℕ) (o : OpenedLog) (contents : Contents) (store_bytes file_bytes : ℕ) (s : OpenStore) → IsOpened key store_bytes o.journal → AreInEpochs 0 (plain_log o.placed)
-    → o.journal.batches ≡ length o.placed.items → o.journal.epoch ≡ epoch_behind 0 (plain_log o.placed) → file_bytes ≤ 1048576
+    → o.journal.batches ≡ length o.placed.items → o.journal.epoch ≡ epoch_behind 0 (plain_log o.placed) → file_bytes ≤ most_file_bytes
     → opened_of key (plain_log o.placed) ≡ Ok s → AreContents contents s → ArePresent contents.state.keys.keys contents.view.ring → AreSized contents.view.names
     → IsSound (owner_at key o.journal contents.state contents.view.names contents.view.ring file_bytes none_counted)
 behind_sound key o contents store_bytes file_bytes s opened epochs count last low is are present sized =
@@ -121,7 +122,7 @@ same_verdict limit key s o result is answer =
     let placed : placed_in (opening_verdict limit key s) ≡ Ok (plain_log o.placed) = ap placed_in is in
     subst (λ l. OpensAs result (open_with key l)) (sym placed) answer
 
-pub largest_verdict : (limit : ℕ) (key s : List ℕ) (result : Result OwnerView OpenFault) → limit ≡ 268435456 → OpensAs result (open_with key (placed_in (opening_verdict limit key s))) → OpensAs result (opened_store key s)
+pub largest_verdict : (limit : ℕ) (key s : List ℕ) (result : Result OwnerView OpenFault) → limit ≡ most_store_bytes → OpensAs result (open_with key (placed_in (opening_verdict limit key s))) → OpensAs result (opened_store key s)
 unfolding opened_store
 largest_verdict limit key s result most answer =
     subst (λ l. OpensAs result (open_with key l)) (opened_as_read key s) (subst (λ n. OpensAs result (open_with key (placed_in (opening_verdict n key s)))) most answer)
@@ -159,7 +160,7 @@ keeps_journal m o key s store_bytes file_bytes valid whole fresh stands is keeps
     (subst (λ (at : Stand). visit_all (reading_with log at) (visits_of at) (starts_with key at) ≡ Ok s.opened) same were.done)
     (subst (λ (at : Stand). IsKept at s.opened o.ring o.names) same keeps.1) fresh.not_begun fresh.not_counted
 
-pub journal_stands : (limit file_bytes : ℕ) (key : List ℕ) (o : OpenedLog) (shown : Option (List ℕ)) (result : Result OwnerView OpenFault) → limit ≤ 268435456 → IsOpened key limit o.journal
+pub journal_stands : (limit file_bytes : ℕ) (key : List ℕ) (o : OpenedLog) (shown : Option (List ℕ)) (result : Result OwnerView OpenFault) → limit ≤ most_store_bytes → IsOpened key limit o.journal
     → WhereTold shown (λ s. opening_verdict limit key s ≡ Ok (plain_opened o)) → OpensAs result (open_with key (Ok (plain_log o.placed)))
     → IfOk result (λ (v : OwnerView). v.journal ≡ o.journal) → IfOk result (IsFresh key limit file_bytes)
     → IfOk result (λ (v : OwnerView). (m : Journal) → WhereTold shown (λ s. StandsForJournal key m s → end_of m ≤ limit → IsOwnerOf m v))
@@ -178,7 +179,7 @@ on_any : {X E : Type 0} (P : Type 0) (r : Result X E) → P → OnOk r P
 on_any P (Ok x) p = p
 on_any P (Err e) p = tt
 
-settled : (limit : ℕ) (key : List ℕ) (o : OpenedLog) (was shows : Option (List ℕ)) (may_leave : List ℕ → Type 0) → limit ≤ 268435456
+settled : (limit : ℕ) (key : List ℕ) (o : OpenedLog) (was shows : Option (List ℕ)) (may_leave : List ℕ → Type 0) → limit ≤ most_store_bytes
     → WhereTold was (λ s. opening_verdict limit key s ≡ Ok (plain_opened o)) → WhereBothTold was shows (λ x y. y ≡ slots_filled key (plain_log o.placed) x)
     → is_some shows ≡ is_some was → IsDurable may_leave shows → (m : Journal) → WhereTold was (λ s. StandsForJournal key m s → end_of m ≤ limit → IsSettled key m shows may_leave)
 unfolding batches_of
@@ -189,7 +190,7 @@ settled limit key o was shows may_leave known verdict filled told durable m s is
       leaves = λ c left. record { valid = stands.valid; whole_keys = stands.whole_keys; stands = done.leaves c left };
     }
 
-pub journal_settled : (limit : ℕ) (key : List ℕ) (o : OpenedLog) (was shows : Option (List ℕ)) (may_leave : List ℕ → Type 0) (result : Result OwnerView OpenFault) → limit ≤ 268435456
+pub journal_settled : (limit : ℕ) (key : List ℕ) (o : OpenedLog) (was shows : Option (List ℕ)) (may_leave : List ℕ → Type 0) (result : Result OwnerView OpenFault) → limit ≤ most_store_bytes
     → WhereTold was (λ s. opening_verdict limit key s ≡ Ok (plain_opened o)) → WhereBothTold was shows (λ x y. y ≡ slots_filled key (plain_log o.placed) x)
     → is_some shows ≡ is_some was → IsDurable may_leave shows
     → OnOk result ((m : Journal) → WhereTold was (λ s. StandsForJournal key m s → end_of m ≤ limit → IsSettled key m shows may_leave))
@@ -229,7 +230,7 @@ no_fault (faults.Tampered batch at) wanted s ok is = absurd (let both : Ok s ≡
 no_fault faults.DiskFault wanted s ok is = inl refl
 no_fault faults.OutOfMemory wanted s ok is = inr refl
 
-pub journal_never : (limit : ℕ) (key : List ℕ) (shown : Option (List ℕ)) (result : Result OwnerView OpenFault) → limit ≤ 268435456
+pub journal_never : (limit : ℕ) (key : List ℕ) (shown : Option (List ℕ)) (result : Result OwnerView OpenFault) → limit ≤ most_store_bytes
     → WhereTold shown (λ s. OpensAs result (open_with key (placed_in (opening_verdict limit key s))))
     → IfErr result (λ (fault : OpenFault). (m : Journal) → WhereTold shown (λ s. StandsForJournal key m s → end_of m ≤ limit → (fault ≡ faults.DiskFault) ⊎ (fault ≡ faults.OutOfMemory)))
 unfolding batches_of log_of and_then
@@ -250,7 +251,7 @@ journal_left limit key was shows left m = λ x y e f stands low. record {
 }
 
 -- and so does whatever keeps it from going on once the slots are filled
-pub journal_filled : (limit : ℕ) (key : List ℕ) (o : OpenedLog) (was shows : Option (List ℕ)) → limit ≤ 268435456
+pub journal_filled : (limit : ℕ) (key : List ℕ) (o : OpenedLog) (was shows : Option (List ℕ)) → limit ≤ most_store_bytes
     → WhereTold was (λ s. opening_verdict limit key s ≡ Ok (plain_opened o)) → WhereBothTold was shows (λ x y. y ≡ slots_filled key (plain_log o.placed) x)
     → (m : Journal) → WhereBothTold was shows (λ x y. StandsForJournal key m x → end_of m ≤ limit → StandsForJournal key m y)
 unfolding batches_of

@@ -7,6 +7,7 @@ use Rattle.commit_journal.specs.Opening.{OwnedLog}
 use Rattle.commit_journal.specs.Placed.{PlainPlaced}
 use Rattle.commit_journal.specs.declared.fault.OpenFault.{OpenFault}
 use Rattle.commit_journal.specs.declared.fault.OpenFault.TheVariants as faults
+use Rattle.cry_base.specs.Layout.{header_len}
 use Rattle.cry_base.specs.Store.{Store, folder_entry}
 use Rattle.cry_base.specs.declared.roles.Role.TheVariants.{Owner}
 use Rattle.holder_client.specs.Answering.{IsFault, client_fault}
@@ -36,14 +37,14 @@ rooted_ok : (at : Stand) → folder_stands at.store 1 ≡ true → rooted at ≡
 unfolding rooted
 rooted_ok at stands = rw stands refl
 
-rooted_err : (at : Stand) → folder_stands at.store 1 ≡ false → rooted at ≡ Err (Damaged 42)
+rooted_err : (at : Stand) → folder_stands at.store 1 ≡ false → rooted at ≡ Err (Damaged header_len)
 unfolding rooted
 rooted_err at stands = rw stands refl
 
 rooted_told : (at x : Stand) → rooted at ≡ Ok x → (folder_stands at.store 1 ≡ true) × (at ≡ x)
 unfolding rooted
 rooted_told at x is =
-    (elim (folder_stands at.store 1) as (λ b. (let r : Result Stand Fault = if b then Ok at else Err (Damaged 42) in r) ≡ Ok x → (b ≡ true) × (at ≡ x)) [
+    (elim (folder_stands at.store 1) as (λ b. (let r : Result Stand Fault = if b then Ok at else Err (Damaged header_len) in r) ≡ Ok x → (b ≡ true) × (at ≡ x)) [
       | true ↦ λ e. (refl, same_ok Stand at x e)
       | false ↦ λ e. absurd cc
     ]) is
@@ -58,7 +59,7 @@ step_on : (owner : List ℕ) (log : List PlainPlaced) (at : Stand) → folded no
 unfolding opened_of and_then
 step_on owner log at folds stands = rw (folds, rooted_ok at stands) refl
 
-pub rootless : (owner : List ℕ) (log : List PlainPlaced) (at : Stand) → folded nothing log ≡ Ok at → folder_stands at.store 1 ≡ false → opened_of owner log ≡ Err (Damaged 42)
+pub rootless : (owner : List ℕ) (log : List PlainPlaced) (at : Stand) → folded nothing log ≡ Ok at → folder_stands at.store 1 ≡ false → opened_of owner log ≡ Err (Damaged header_len)
 unfolding opened_of and_then
 rootless owner log at folds stands = rw (folds, rooted_err at stands) refl
 
@@ -121,7 +122,7 @@ by_root owner r =
     Ok (record { reading = r; opened = o })))
 
 root_or : (owner : List ℕ) (log : List PlainPlaced) (at : Stand) (b : Bool) → folder_stands at.store 1 ≡ b
-    → by_root owner (if b then Ok (reading_with log at) else Err (OfBytes (Damaged 42))) ≡ of_bytes (and_then (if b then Ok at else Err (Damaged 42)) (opened_at owner log))
+    → by_root owner (if b then Ok (reading_with log at) else Err (OfBytes (Damaged header_len))) ≡ of_bytes (and_then (if b then Ok at else Err (Damaged header_len)) (opened_at owner log))
 unfolding then_on of_bytes and_then opened_at
 root_or owner log at true stands = by_visits (reading_with log at) (visit_all (reading_with log at) (visits_of at) (starts_with owner at))
 root_or owner log at false stands = refl

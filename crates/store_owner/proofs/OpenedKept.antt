@@ -1,5 +1,6 @@
 -- What opening a store kept at each moment, of journals.
 use Rattle.std.proofs.Common.{◌≤◌, ⊎_elim, inl, ℕ, List, Option, sym, subst, ◌∙◌}
+use Rattle.cry_base.specs.Limits.{most_store_bytes}
 use Rattle.cry_io.specs.Told.{WhereTold}
 use Rattle.commit_journal.specs.Holding.{IsKept}
 use Rattle.commit_journal.specs.Image.{Batch}
@@ -22,7 +23,7 @@ same_batches key held m x c one two stands =
       stands = subst (λ (bs : List Batch). StandsFor key bs c) (sym (journal_recovered key m x two) ∙ journal_recovered key held x one) stands;
     }
 
-pub journals_kept : (limit : ℕ) (key : List ℕ) (was : Option (List ℕ)) (left : List ℕ → Type 0) (since : List ℕ → List ℕ → Type 0) → limit ≤ 268435456 →
+pub journals_kept : (limit : ℕ) (key : List ℕ) (was : Option (List ℕ)) (left : List ℕ → Type 0) (since : List ℕ → List ℕ → Type 0) → limit ≤ most_store_bytes →
     OpensThroughout limit key was left since →
     (m m1 m2 : Journal) → HoldsBetween key m1 m2 was left → WhereTold was (StandsForJournal key m) → end_of m ≤ limit → Kept key m1 m2 m2 since
 unfolding batches_of

@@ -12,6 +12,7 @@ use Rattle.commit_journal.specs.Laws.{batch_of}
 use Rattle.commit_journal.specs.Placed.{Commands}
 use Rattle.commit_journal.specs.Standing.{StandsWhole}
 use Rattle.cry_io.specs.Told.{WhereBothTold}
+use Rattle.cry_base.specs.Limits.{most_file_bytes, most_store_bytes}
 use Rattle.cry_base.specs.Refusing.{refusal_of}
 use Rattle.cry_base.specs.Requests.{Request}
 use Rattle.cry_base.specs.Sets.{In}
@@ -81,7 +82,7 @@ not_refused m r o fine =
     let both = answered (refusal_of (stand_after nothing m).store r o.file_bytes) (nat_lt o.journal.limit (due_end m o.journal.has_epoch r)) fine in
     (both.0, ltb-false o.journal.limit (due_end m o.journal.has_epoch r) both.1)
 
-pub ends_low_is : (m : Journal) (r : Request) (o : OwnerView) → o.journal.limit ≤ 268435456 → answer (limits_in o) m o.journal.has_epoch r ≡ None → due_end m o.journal.has_epoch r ≤ 268435456
+pub ends_low_is : (m : Journal) (r : Request) (o : OwnerView) → o.journal.limit ≤ most_store_bytes → answer (limits_in o) m o.journal.has_epoch r ≡ None → due_end m o.journal.has_epoch r ≤ most_store_bytes
 ends_low_is m r o low fine = let end = (not_refused m r o fine).1 in omega (arith, end, low)
 
 -- ---- what is seen of a stand
@@ -189,7 +190,7 @@ pub told_some : (o : Option (List ℕ)) → is_some o ≡ true → (x : List ℕ
 told_some None = λ e. absurd cc
 told_some (Some x) = λ e. (x, refl)
 
-module _ (m : Journal) (r : Request) (drawn : List (List ℕ)) (old : OwnerView) (was : Option (List ℕ)) (is : IsOwnerOf m old) (low : old.journal.limit ≤ 268435456) (bound : old.file_bytes ≤ 1048576)
+module _ (m : Journal) (r : Request) (drawn : List (List ℕ)) (old : OwnerView) (was : Option (List ℕ)) (is : IsOwnerOf m old) (low : old.journal.limit ≤ most_store_bytes) (bound : old.file_bytes ≤ most_file_bytes)
     (fine : answer (limits_in old) m old.journal.has_epoch r ≡ None) (done : IsSealed r drawn old was) where
   abbrev at : Stand
   at = begun (not old.journal.has_epoch) (stand_after nothing m)
@@ -197,7 +198,7 @@ module _ (m : Journal) (r : Request) (drawn : List (List ℕ)) (old : OwnerView)
   accepted_is : refusal_of (store_of m) r old.file_bytes ≡ None
   accepted_is = (not_refused m r old fine).0
 
-  ends_low : due_end m old.journal.has_epoch r ≤ 268435456
+  ends_low : due_end m old.journal.has_epoch r ≤ most_store_bytes
   ends_low = let end = (not_refused m r old fine).1 in omega (arith, end, low)
 
   told_skeleton_is : IsSkeleton (told_step (begun (not old.journal.has_epoch) (public_stand m)) (note_of (store_of m) r (replicate 32 0))) done.skeleton
@@ -282,7 +283,7 @@ module _ (m : Journal) (r : Request) (drawn : List (List ℕ)) (old : OwnerView)
 
 -- ---- what is committed
 
-module _ (m : Journal) (r : Request) (drawn : List (List ℕ)) (old new : OwnerView) (was shows : Option (List ℕ)) (is : IsOwnerOf m old) (low : old.journal.limit ≤ 268435456) (bound : old.file_bytes ≤ 1048576)
+module _ (m : Journal) (r : Request) (drawn : List (List ℕ)) (old new : OwnerView) (was shows : Option (List ℕ)) (is : IsOwnerOf m old) (low : old.journal.limit ≤ most_store_bytes) (bound : old.file_bytes ≤ most_file_bytes)
     (fine : answer (limits_in old) m old.journal.has_epoch r ≡ None) (out : IsCarriedOut r drawn old new was shows) where
   stands_then : IsJournalOf (batches_of old.key (journal_then m old.journal.has_epoch r drawn)) new.journal
   stands_then = subst (λ bs. IsJournalOf bs new.journal) (sym (batches_are m r drawn old was is low bound fine out.sealed)) (out.commits.stands (batches_of old.key (between m old.journal.has_epoch)) (between_stands m r drawn old was is low bound fine out.sealed))

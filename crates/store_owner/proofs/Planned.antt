@@ -2,6 +2,8 @@
 use Rattle.std.proofs.Common.{◌≡◌, ℕ, ◌+◌, ◌^◌, ◌≤◌, ◌<◌, ◌⊎◌, ⊎_elim, Bool, true, false, nat_lt, not, List, ◌++◌, length, replicate, Some, None, arith, ap, subst, ◌∙◌}
 use Rattle.std.proofs.lemmas.Bool.{le-ltb, lt-ltb}
 use Rattle.commit_journal.specs.Journals.{end_with}
+use Rattle.cry_base.specs.Layout.{batch_len}
+use Rattle.cry_base.specs.Limits.{most_store_bytes}
 use Rattle.cry_base.specs.Refusing.{refusal_of}
 use Rattle.cry_base.specs.Requests.{Request}
 use Rattle.cry_base.specs.declared.commands.Refusal.{Refusal}
@@ -68,8 +70,8 @@ not_within a b h = ⊎_elim (λ (l : a ≤ b). absurd (h l)) (λ (l : b < a). l)
 pub not_low : (a b : ℕ) → (a < b → ⊥) → b ≤ a
 not_low a b h = ⊎_elim (λ (l : b ≤ a). l) (λ (l : a < b). absurd (h l)) (le_or_lt b a)
 
-not_below : (size whole limit end more : ℕ) → limit ≤ 268435456 → size ≡ whole → (size < 2 ^ 64 → ⊥) → limit < end + (110 + whole) + more
+not_below : (size whole limit end more : ℕ) → limit ≤ most_store_bytes → size ≡ whole → (size < 2 ^ 64 → ⊥) → limit < end + (batch_len + whole) + more
 not_below size whole limit end more low same far = let high : 2 ^ 64 ≤ size = not_low size (2 ^ 64) far in omega (arith, high, same, low)
 
-pub far_past : (o : OwnerView) (size whole : ℕ) → o.journal.limit ≤ 268435456 → size ≡ whole → (size < 2 ^ 64 → ⊥) → o.journal.limit < end_with o.journal whole
+pub far_past : (o : OwnerView) (size whole : ℕ) → o.journal.limit ≤ most_store_bytes → size ≡ whole → (size < 2 ^ 64 → ⊥) → o.journal.limit < end_with o.journal whole
 far_past o size whole limit same far = not_below size whole o.journal.limit o.journal.end _ limit same far

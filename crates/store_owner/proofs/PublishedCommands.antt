@@ -16,6 +16,7 @@ use Rattle.commit_journal.specs.Stopping.{KeepsPublished, TakesNothingBack}
 use Rattle.commit_journal.proofs.KeptLemmas.{prefix_same, prefix_trans}
 use Rattle.commit_journal.proofs.OpenedMoments.{still_gated}
 use Rattle.commit_journal.proofs.Standings.{last_slot_standing, recovered_standing, whole_stands}
+use Rattle.cry_base.specs.Limits.{most_file_bytes, most_store_bytes}
 use Rattle.cry_base.specs.Requests.{Request}
 use Rattle.cry_base.specs.declared.commands.Reply.{Reply}
 use Rattle.cry_io.specs.Stops.{IsDurable}
@@ -224,7 +225,7 @@ step_published key low high added j was might since more valid whole owner of ad
 
 -- ---- a command
 
-module _ (m : Journal) (r : Request) (drawn : List (List ℕ)) (old : OwnerView) (was : Option (List ℕ)) (might : List ℕ → Type 0) (is : IsOwnerOf m old) (low : old.journal.limit ≤ 268435456) (bound : old.file_bytes ≤ 1048576)
+module _ (m : Journal) (r : Request) (drawn : List (List ℕ)) (old : OwnerView) (was : Option (List ℕ)) (might : List ℕ → Type 0) (is : IsOwnerOf m old) (low : old.journal.limit ≤ most_store_bytes) (bound : old.file_bytes ≤ most_file_bytes)
     (fine : answer (limits_in old) m old.journal.has_epoch r ≡ None) (rests : RestsAt old.key m was might) where
   abbrev begun : Journal
   begun = between m old.journal.has_epoch
@@ -256,7 +257,7 @@ module _ (m : Journal) (r : Request) (drawn : List (List ℕ)) (old : OwnerView)
 
 -- ---- opening
 
-pub opening_published : (limit : ℕ) (key : List ℕ) (was : Option (List ℕ)) (left : List ℕ → Type 0) (since : List ℕ → List ℕ → Type 0) → limit ≤ 268435456
+pub opening_published : (limit : ℕ) (key : List ℕ) (was : Option (List ℕ)) (left : List ℕ → Type 0) (since : List ℕ → List ℕ → Type 0) → limit ≤ most_store_bytes
     → OpensThroughout limit key was left since → (m : Journal) → StaysPublished key was left
     → WhereTold was (λ x. StandsForJournal key m x → end_of m ≤ limit → PublishesUpTo key m since)
 unfolding batches_of

@@ -1,6 +1,7 @@
 -- What opening leaves of a store, whether it is refused or not.
 use Rattle.std.proofs.Common.{◌≡◌, ◌≤◌, ◌⊎◌, ⊎_elim, inl, inr, ℕ, ◌-◌, List, [], ◌∷◌, length, drop, Option, Result, Ok, Err, refl, sym, ap, subst, ◌∙◌}
 use Rattle.std.specs.Prelude.{IfErr, OnOk}
+use Rattle.cry_base.specs.Limits.{most_store_bytes}
 use Rattle.chacha_seal.specs.Sealing.{veil_of}
 use Rattle.cry_io.specs.Told.{WhereTold, WhereBothTold}
 use Rattle.commit_journal.specs.Opening.{LeavesGated, LeavesSlots, opening_verdict, plain_opened, slots_filled, written_at}
@@ -36,7 +37,7 @@ module _ (limit : ℕ) (key : List ℕ) (o : OpenedLog) (was shows : Option (Lis
   is_gated = λ x y e f. gated limit key x y (is_filled x y e f)
 
   -- the gate behind a journal's log, and what stands behind it, stay
-  pub behind_kept : limit ≤ 268435456 → (m : Journal) → WhereBothTold was shows (λ x y. StandsForJournal key m x → end_of m ≤ limit → let end = length (image_of key m) in drop end y ≡ drop end x)
+  pub behind_kept : limit ≤ most_store_bytes → (m : Journal) → WhereBothTold was shows (λ x y. StandsForJournal key m x → end_of m ≤ limit → let end = length (image_of key m) in drop end y ≡ drop end x)
   unfolding batches_of image_of
   behind_kept known m = λ x y e f stands fits.
       let bodies = bodies_of key m in

@@ -8,6 +8,7 @@ use Rattle.cry_base.specs.declared.roles.Role.{Role}
 use Rattle.cry_base.specs.declared.roles.Role.TheVariants.{Owner}
 use Rattle.key_links.specs.Ringed.{Ringed, found, key_of, parts_of}
 use Rattle.std.specs.Option.{option_map}
+use Rattle.key_links.specs.Fresh.{root_payload_len}
 use Rattle.record_format.specs.Noted.Note.{Root}
 use Rattle.record_format.specs.Spellable.{longest_text, shortest_text}
 use Rattle.record_format.specs.declared.note.Note.TheVariants as declared
@@ -115,7 +116,7 @@ root_sealable =
     (subst (λ (a : Stand). IsSealable (told_step a Root)) begun_once
     (turns_sealable (Began ∷ []) Root once_fits (subst (λ (a : Stand). note_fits a Root (told_step a Root) ≡ true) (sym begun_once) root_fits)))
 
-pub root_size : payload_len Root root_step ≡ 557
+pub root_size : payload_len Root root_step ≡ root_payload_len
 unfolding journal_bytes begun_keys
 root_size = refl
 

@@ -4,6 +4,7 @@ use Rattle.std.proofs.lemmas.Bool.{ltb-true}
 use Rattle.std.proofs.lemmas.List.Elements.{All-head}
 use Rattle.chacha_seal.specs.Keys.{KeyParts}
 use Rattle.chacha_seal.specs.Serials.{Counting}
+use Rattle.cry_base.specs.Limits.{most_file_bytes}
 use Rattle.cry_base.specs.Refusing.{has_bad_name, refusal_of}
 use Rattle.cry_base.specs.Requests.{Request}
 use Rattle.cry_base.specs.Requests.Request.{AddHolder, MakeFolder, WriteFile, Remove, Rename, Relocate, Grant, Revoke}
@@ -98,7 +99,7 @@ keyed at s (Relocate path into) check drawn long sizes = tt
 keyed at s (Grant h path) check drawn long sizes = tt
 keyed at s (Revoke h path) check drawn long sizes = tt
 
-lengths : (at : Stand) (s : Store) (r : Request) (key check : List ℕ) (n : ℕ) → n ≤ 1048576 → has_bad_name r ≡ false → refusal_of s r n ≡ None → IsSized s → IsKeyFor r key
+lengths : (at : Stand) (s : Store) (r : Request) (key check : List ℕ) (n : ℕ) → n ≤ most_file_bytes → has_bad_name r ≡ false → refusal_of s r n ≡ None → IsSized s → IsKeyFor r key
     → HasLength (told_step at (note_of s r check)) (due_text s r ++ due_key r key)
 unfolding told_step note_step key_step step_with published
 lengths at s r key check n small good none sized is x i =

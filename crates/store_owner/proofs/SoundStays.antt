@@ -4,6 +4,7 @@ use Rattle.std.specs.Prelude.{◌==◌}
 use Rattle.std.proofs.lemmas.Bool.{and_from, and_parts, eq-eqb, eqb-true}
 use Rattle.chacha_seal.specs.Keys.{KeyParts}
 use Rattle.chacha_seal.specs.Serials.{Counting}
+use Rattle.cry_base.specs.Limits.{most_file_bytes}
 use Rattle.cry_base.specs.Refusing.{has_bad_name, id_of, refusal_of}
 use Rattle.cry_base.specs.Requests.{Request}
 use Rattle.cry_base.specs.Requests.Request.{AddHolder, MakeFolder, WriteFile, Remove, Rename, Relocate, Grant, Revoke}
@@ -85,35 +86,35 @@ session_epoch false at note = refl
 
 -- what stands beside the number has no more bytes than a file may have
 abbrev IsSizedAt : Titles → ℕ → Type 0
-IsSizedAt n x = length (bytes_in (title_at n.files x)) ≤ 1048576
+IsSizedAt n x = length (bytes_in (title_at n.files x)) ≤ most_file_bytes
 
 same_sized : (old new : Titles) (x : ℕ) → title_at new.files x ≡ title_at old.files x → IsSizedAt old x → IsSizedAt new x
-same_sized old new x same sized = subst (λ (o : Option Title). length (bytes_in o) ≤ 1048576) (sym same) sized
+same_sized old new x same sized = subst (λ (o : Option Title). length (bytes_in o) ≤ most_file_bytes) (sym same) sized
 
 kept_sized : (old new : Titles) (x : ℕ) → AreKept old new → IsSizedAt old x → IsSizedAt new x
 kept_sized old new x are = same_sized old new x (ap (λ ts. title_at ts x) are.files)
 
 -- a title with so many bytes stands where another one stood, or may have stood
-one_sized : (b : Bool) (t : Title) (o : Option Title) → (b ≡ true → length t.bytes ≤ 1048576) → length (bytes_in o) ≤ 1048576 → length (bytes_in (cond b (Some t) o)) ≤ 1048576
+one_sized : (b : Bool) (t : Title) (o : Option Title) → (b ≡ true → length t.bytes ≤ most_file_bytes) → length (bytes_in o) ≤ most_file_bytes → length (bytes_in (cond b (Some t) o)) ≤ most_file_bytes
 one_sized true t o new old = new refl
 one_sized false t o new old = old
 
-file_sized : (old new : Titles) (y x : ℕ) (name bytes : List ℕ) → IsSet old new (File (record { 0 = y })) name bytes → (y ≡ x → length bytes ≤ 1048576) → IsSizedAt old x → IsSizedAt new x
+file_sized : (old new : Titles) (y x : ℕ) (name bytes : List ℕ) → IsSet old new (File (record { 0 = y })) name bytes → (y ≡ x → length bytes ≤ most_file_bytes) → IsSizedAt old x → IsSizedAt new x
 file_sized old new y x name bytes set low sized =
-    subst (λ (o : Option Title). length (bytes_in o) ≤ 1048576) (sym (set (File (record { 0 = x }))))
+    subst (λ (o : Option Title). length (bytes_in o) ≤ most_file_bytes) (sym (set (File (record { 0 = x }))))
     (one_sized (y == x) (record { id = y; name = name; bytes = bytes }) (title_at old.files x) (λ t. low (eqb-true y x t)) sized)
 
 -- the file that is made has the bytes that it is given
-made_sized : (old new : Titles) (y : ℕ) (name bytes : List ℕ) → IsSet old new (File (record { 0 = y })) name bytes → length bytes ≤ 1048576 → IsSizedAt new y
+made_sized : (old new : Titles) (y : ℕ) (name bytes : List ℕ) → IsSet old new (File (record { 0 = y })) name bytes → length bytes ≤ most_file_bytes → IsSizedAt new y
 made_sized old new y name bytes set low =
-    subst (λ (o : Option Title). length (bytes_in o) ≤ 1048576)
+    subst (λ (o : Option Title). length (bytes_in o) ≤ most_file_bytes)
     (sym (set (File (record { 0 = y })) ∙ ap (λ b. cond b (Some (new_title (File (record { 0 = y })) name bytes)) (title_at old.files y)) (eq-eqb y y refl))) low
 
-gone_sized : (b : Bool) (o : Option Title) → length (bytes_in o) ≤ 1048576 → length (bytes_in (cond b None o)) ≤ 1048576
+gone_sized : (b : Bool) (o : Option Title) → length (bytes_in o) ≤ most_file_bytes → length (bytes_in (cond b None o)) ≤ most_file_bytes
 gone_sized true o old = omega arith
 gone_sized false o old = old
 
-written_sized : (made : ℕ) (old new : Titles) (x : ℕ) (o : Option Node) (name bytes : List ℕ) → IsWritten made old new o name bytes → length bytes ≤ 1048576 → IsSizedAt old x → IsSizedAt new x
+written_sized : (made : ℕ) (old new : Titles) (x : ℕ) (o : Option Node) (name bytes : List ℕ) → IsWritten made old new o name bytes → length bytes ≤ most_file_bytes → IsSizedAt old x → IsSizedAt new x
 written_sized made old new x None name bytes set low sized = file_sized old new (made + 1) x name bytes set (λ e. low) sized
 written_sized made old new x (Some (Folder f)) name bytes are low sized = kept_sized old new x are sized
 written_sized made old new x (Some (File y)) name bytes set low sized = file_sized old new y.0 x name bytes set (λ e. low) sized
@@ -121,7 +122,7 @@ written_sized made old new x (Some (File y)) name bytes set low sized = file_siz
 removed_sized : (old new : Titles) (x : ℕ) (o : Option Node) → IsRemoved old new o → IsSizedAt old x → IsSizedAt new x
 removed_sized old new x None are sized = kept_sized old new x are sized
 removed_sized old new x (Some node) gone sized =
-    subst (λ (o : Option Title). length (bytes_in o) ≤ 1048576) (sym (gone (File (record { 0 = x }))))
+    subst (λ (o : Option Title). length (bytes_in o) ≤ most_file_bytes) (sym (gone (File (record { 0 = x }))))
     (gone_sized (is_node node (File (record { 0 = x }))) (title_at old.files x) sized)
 
 renamed_sized : (old new : Titles) (x : ℕ) (o : Option Node) (name : List ℕ) → IsRenamed old new o name → IsSizedAt old x → IsSizedAt new x
@@ -130,7 +131,7 @@ renamed_sized old new x (Some (Folder f)) name set sized = same_sized old new x 
 renamed_sized old new x (Some (File y)) name set sized =
     file_sized old new y.0 x name (bytes_in (title_at old.files y.0)) set (λ e. subst (IsSizedAt old) (sym e) sized) sized
 
-titles_stay : (s : Store) (r : Request) (n : ℕ) (old new : Titles) (x : ℕ) → n ≤ 1048576 → refusal_of s r n ≡ None → AreTitlesAfter s r old new → IsSizedAt old x → IsSizedAt new x
+titles_stay : (s : Store) (r : Request) (n : ℕ) (old new : Titles) (x : ℕ) → n ≤ most_file_bytes → refusal_of s r n ≡ None → AreTitlesAfter s r old new → IsSizedAt old x → IsSizedAt new x
 titles_stay s AddHolder n old new x small none are sized = kept_sized old new x are sized
 titles_stay s (MakeFolder path) n old new x small none set sized = same_sized old new x (set (File (record { 0 = x }))) sized
 titles_stay s (WriteFile path bytes) n old new x small none set sized = written_sized s.files_made old new x (node_at s path) (name_at path) bytes set (few_bytes s path bytes n small none) sized
@@ -188,7 +189,7 @@ files_after s (ShiftFolder g q) x i = stood s (ShiftFolder g q) x i
 files_after s (Give h f) x i = stood s (Give h f) x i
 files_after s (Take h f) x i = stood s (Take h f) x i
 
-written_makes : (s : Store) (o : Option Node) (f : ℕ) (old new : Titles) (name bytes : List ℕ) → MakesFile (write_note s o f) → IsWritten s.files_made old new o name bytes → length bytes ≤ 1048576 → IsSizedAt new (s.files_made + 1)
+written_makes : (s : Store) (o : Option Node) (f : ℕ) (old new : Titles) (name bytes : List ℕ) → MakesFile (write_note s o f) → IsWritten s.files_made old new o name bytes → length bytes ≤ most_file_bytes → IsSizedAt new (s.files_made + 1)
 unfolding write_note
 written_makes s None f old new name bytes makes set low = made_sized old new (s.files_made + 1) name bytes set low
 written_makes s (Some (Folder g)) f old new name bytes makes set low = absurd makes
@@ -213,7 +214,7 @@ shifts_none (Some (Folder f)) into makes = makes
 shifts_none (Some (File x)) into makes = makes
 
 -- a file that a command makes has no more bytes than a file may have
-made_stays : (s : Store) (r : Request) (check : List ℕ) (n : ℕ) (old new : Titles) → n ≤ 1048576 → refusal_of s r n ≡ None → AreTitlesAfter s r old new → MakesFile (note_of s r check) → IsSizedAt new (s.files_made + 1)
+made_stays : (s : Store) (r : Request) (check : List ℕ) (n : ℕ) (old new : Titles) → n ≤ most_file_bytes → refusal_of s r n ≡ None → AreTitlesAfter s r old new → MakesFile (note_of s r check) → IsSizedAt new (s.files_made + 1)
 unfolding note_of
 made_stays s AddHolder check n old new small none are makes = absurd makes
 made_stays s (MakeFolder path) check n old new small none set makes = absurd makes
@@ -245,13 +246,13 @@ told_files at note = refl
 
 -- so of all files behind a command
 files_stay : (r : Request) (old new : OwnerView) (begins : Bool) (at : Stand) → IsSeenAs old.state at → IsSeenAs new.state (told_stand (begun begins at) (note_of (own_store old) r (replicate 32 0)))
-    → old.file_bytes ≤ 1048576 → refusal_of (own_store old) r old.file_bytes ≡ None → AreTitlesAfter (own_store old) r old.names new.names
-    → ((x : FileEntry) → In x (own_store old).files → length x.bytes ≤ 1048576) → (x : FileEntry) → In x (own_store new).files → length x.bytes ≤ 1048576
+    → old.file_bytes ≤ most_file_bytes → refusal_of (own_store old) r old.file_bytes ≡ None → AreTitlesAfter (own_store old) r old.names new.names
+    → ((x : FileEntry) → In x (own_store old).files → length x.bytes ≤ most_file_bytes) → (x : FileEntry) → In x (own_store new).files → length x.bytes ≤ most_file_bytes
 files_stay r old new begins at seen after small none titles sized x i =
     let note = note_of (own_store old) r (replicate 32 0) in
     let own = own_file new x i in
     let there = subst (λ fs. In own.0 fs) (ap (λ (s : Store). s.files) (sym after.store) ∙ told_files (begun begins at) note) own.1 in
-    subst (λ (b : List ℕ). length b ≤ 1048576) (sym own.2)
+    subst (λ (b : List ℕ). length b ≤ most_file_bytes) (sym own.2)
     (⊎_elim
     (λ (w : (y : FileEntry) × In y at.store.files × (y.id ≡ own.0.id)).
     let old_one = subst (λ fs. In w.0 fs) (ap (λ (s : Store). s.files) seen.store) w.1 in
@@ -308,5 +309,5 @@ stays_sound r drawn old new was shows sound good none fits out batches epoch =
           (subst (HoldsKeys (keys_with sound.keys (told_step at note) drawn) after.keys new.ring) holds.is_counted holds);
       counts = out.ends_as ∙ ap Some (holds.is_counted ∙ ap (λ (z : Stand). counting z.keys) stands) ∙ ap (λ b. cond b (Some (counting (turns_stand nothing (sound.turns ++ session_turns has note)).keys)) None) (sym out.has_begun);
       sized = files_stay r old new (not has) first sound.seen (out.seen_then first (own_store old) sound.seen (own_kept old)) sound.bounded none (out.titles_then (own_store old) (own_kept old).tree) sound.sized;
-      bounded = subst (λ n. n ≤ 1048576) (sym out.same_bound) sound.bounded;
+      bounded = subst (λ n. n ≤ most_file_bytes) (sym out.same_bound) sound.bounded;
     }

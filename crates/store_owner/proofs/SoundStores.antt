@@ -1,6 +1,8 @@
 -- The store that an owner keeps, whatever it was opened on, and how many of each kind were ever made in it.
 use Rattle.std.proofs.Common.{ℕ, suc, ◌+◌, ◌*◌, ◌≤◌, ◌<◌, List, [], ◌∷◌, length, refl, ap, arith}
 use Rattle.std.specs.List.{range_with_len}
+use Rattle.cry_base.specs.Layout.{batch_len, header_len}
+use Rattle.cry_base.specs.Limits.{most_store_bytes}
 use Rattle.cry_base.specs.Stepping.{with_new_holder, with_new_folder, with_new_file, with_folder, with_file, without_folder, without_file, without_grant}
 use Rattle.cry_base.specs.Store.{Store, no_store, root_store}
 use Rattle.folder_nodes.specs.Titles.{tree_store}
@@ -78,10 +80,10 @@ from_nothing : (turns : List Turn) → AreWithin (length turns) (record { store 
 unfolding nothing
 from_nothing turns = turns_within nothing turns
 
-few : (n m made : ℕ) → n ≤ m → 42 + 110 * m ≤ 268435456 → made ≤ n → made < 4294967295
+few : (n m made : ℕ) → n ≤ m → header_len + batch_len * m ≤ most_store_bytes → made ≤ n → made < 4294967295
 few n m made a b c = omega arith
 
-module _ (o : OwnerView) (sound : IsSound o) (room : 42 + 110 * o.journal.batches ≤ 268435456) where
+module _ (o : OwnerView) (sound : IsSound o) (room : header_len + batch_len * o.journal.batches ≤ most_store_bytes) where
   made_few : (made : ℕ) → made ≤ length sound.turns → made < 4294967295
   made_few made low = few (length sound.turns) o.journal.batches made sound.numbered room low
 

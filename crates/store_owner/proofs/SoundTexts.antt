@@ -2,6 +2,7 @@
 use Rattle.std.proofs.Common.{◌≡◌, ℕ, ◌+◌, ◌≤◌, true, false, ◌||◌, List, [], ◌∷◌, ◌++◌, length, Option, Some, None, inl, inr, ⊎_elim, refl, sym, ap, ◌∙◌, subst, arith, append-nil, length-append}
 use Rattle.std.specs.Prelude.{◌==◌, is_none}
 use Rattle.std.proofs.lemmas.Bool.{false≢true, or_parts, ltb-false}
+use Rattle.cry_base.specs.Limits.{most_file_bytes}
 use Rattle.cry_base.specs.Naming.{is_name, parent_path}
 use Rattle.cry_base.specs.Refusing.{causes, changes_root, finds_no_path, has_bad_name, id_of, is_folder, is_too_long, refusal_of, writes_folder}
 use Rattle.cry_base.specs.Requests.{Request, paths_of}
@@ -59,7 +60,7 @@ IsOf kind text = (shortest_text kind ≤ length text) × (length text ≤ longes
 name_fits : (p : Piece) (name : List ℕ) → p.kind ≡ 1 → length name ≤ 64 → IsOf p.kind name
 name_fits p name is low = subst (λ k. IsOf k name) (sym is) (omega arith, low)
 
-file_fits : (p : Piece) (name bytes : List ℕ) → p.kind ≡ 2 → is_name name ≡ true → length bytes ≤ 1048576 → IsOf p.kind (file_text name bytes)
+file_fits : (p : Piece) (name bytes : List ℕ) → p.kind ≡ 2 → is_name name ≡ true → length bytes ≤ most_file_bytes → IsOf p.kind (file_text name bytes)
 file_fits p name bytes is named low =
     let size = name_size name named in
     let from : 1 ≤ length name = size.0 in
@@ -85,9 +86,9 @@ IsKeyFor (Revoke h path) key = Unit {0}
 
 -- no file of the store has more bytes than a file may have
 abbrev pub IsSized : Store → Type 0
-IsSized s = (x : ℕ) → length (bytes_of_file s x) ≤ 1048576
+IsSized s = (x : ℕ) → length (bytes_of_file s x) ≤ most_file_bytes
 
-written : (s t : Store) (path bytes : List ℕ) (o : Option Node) (f : ℕ) (p : Piece) → is_folder o ≡ false → is_name (name_at path) ≡ true → length bytes ≤ 1048576
+written : (s t : Store) (path bytes : List ℕ) (o : Option Node) (f : ℕ) (p : Piece) → is_folder o ≡ false → is_name (name_at path) ≡ true → length bytes ≤ most_file_bytes
     → In p (pieces_of (write_note s o f) t) → IsOf p.kind (file_text (name_at path) bytes)
 unfolding write_note pieces_of is_folder
 written s t path bytes None f p e named low i = file_fits p (name_at path) bytes (file_kind t (s.files_made + 1) p i) named low
@@ -116,7 +117,7 @@ pub not_long : (s : Store) (r : Request) (n : ℕ) → refusal_of s r n ≡ None
 unfolding causes
 not_long s r n e = no_cause s r n (is_too_long n r) TooLong e (inr (inr (inr (inr (inr (inr (inr (inr (inr (inr (inr (inr (inl refl)))))))))))))
 
-pub few_bytes : (s : Store) (path bytes : List ℕ) (n : ℕ) → n ≤ 1048576 → refusal_of s (WriteFile path bytes) n ≡ None → length bytes ≤ 1048576
+pub few_bytes : (s : Store) (path bytes : List ℕ) (n : ℕ) → n ≤ most_file_bytes → refusal_of s (WriteFile path bytes) n ≡ None → length bytes ≤ most_file_bytes
 unfolding is_too_long
 few_bytes s path bytes n small none =
     let low : length bytes ≤ n = ltb-false n (length bytes) (unfold is_too_long in (not_long s (WriteFile path bytes) n none)) in omega arith
@@ -125,7 +126,7 @@ unended : (kind : ℕ) (text : List ℕ) → IsOf kind text → IsOf kind (text 
 unended kind text fits = subst (IsOf kind) (sym (append-nil text)) fits
 
 -- each piece that is due in the store before, with the kind that the store after tells
-pub due_fits : (s t : Store) (r : Request) (key check : List ℕ) (n : ℕ) → n ≤ 1048576 → has_bad_name r ≡ false → refusal_of s r n ≡ None → IsSized s → IsKeyFor r key
+pub due_fits : (s t : Store) (r : Request) (key check : List ℕ) (n : ℕ) → n ≤ most_file_bytes → has_bad_name r ≡ false → refusal_of s r n ≡ None → IsSized s → IsKeyFor r key
     → (p : Piece) → In p (pieces_of (note_of s r check) t) → IsOf p.kind (due_text s r ++ due_key r key)
 unfolding note_of pieces_of due_text due_key finds_no_path writes_folder paths_of changes_root
 due_fits s t AddHolder key check n small good none sized keyed p i = key_fits p key (holder_kind t (s.holders_made + 1) p i) keyed
@@ -153,10 +154,10 @@ due_fits s t (Revoke h path) key check n small good none sized keyed p i = absur
 abbrev bytes_then : Option FileEntry → List ℕ
 bytes_then o = elim o [ None ↦ [] | Some e ↦ e.bytes ]
 
-pub files_sized : (s : Store) → ((x : FileEntry) → In x s.files → length x.bytes ≤ 1048576) → IsSized s
+pub files_sized : (s : Store) → ((x : FileEntry) → In x s.files → length x.bytes ≤ most_file_bytes) → IsSized s
 unfolding file_entry
 files_sized s sized x =
-    (elim (file_entry s x) as (λ (o : Option FileEntry). file_entry s x ≡ o → length (bytes_then o) ≤ 1048576) [
+    (elim (file_entry s x) as (λ (o : Option FileEntry). file_entry s x ≡ o → length (bytes_then o) ≤ most_file_bytes) [
       | None ↦ λ is. omega arith
       | Some e ↦ λ is. sized e (find-found FileEntry (λ y. y.id == x) s.files e is).0
     ]) refl

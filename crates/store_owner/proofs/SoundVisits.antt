@@ -4,6 +4,7 @@ use Rattle.std.specs.Prelude.{IsSome, drop, nat_le, nat_lt, take, Result, Ok, Er
 use Rattle.std.proofs.lemmas.Bool.{and_parts, leb-true}
 use Rattle.commit_journal.specs.Answering.{Fault, Damaged, and_then}
 use Rattle.commit_journal.specs.Placed.{PlainPlaced}
+use Rattle.cry_base.specs.Limits.{most_file_bytes}
 use Rattle.cry_base.specs.Naming.{is_name}
 use Rattle.cry_base.specs.Sets.{In}
 use Rattle.cry_base.specs.Stepping.{with_file, with_folder, with_new_file, with_new_folder, with_new_holder, without_file, without_folder, without_grant}
@@ -58,7 +59,7 @@ chosen false x y at e = absurd cc
 
 -- no file of the store has more bytes than a file may have
 abbrev AreSized : Store → Type 0
-AreSized s = (x : FileEntry) → In x s.files → length x.bytes ≤ 1048576
+AreSized s = (x : FileEntry) → In x s.files → length x.bytes ≤ most_file_bytes
 
 -- keys that are open stay so, files keep to their size, and the holders' numbers stay
 record IsKept (o after : Opened) : Type 0 where
@@ -115,21 +116,21 @@ name_kept o after f at text e =
     (record { keys = λ role some. some; sizes = λ sized. sized; numbers = refl })
 
 -- a file that is changed keeps to its size where its new bytes do
-changed_sized : (s : Store) (n : ℕ) (name bytes : List ℕ) → length bytes ≤ 1048576 → AreSized s → AreSized (with_file s n (λ e. record e { name = name; bytes = bytes }))
+changed_sized : (s : Store) (n : ℕ) (name bytes : List ℕ) → length bytes ≤ most_file_bytes → AreSized s → AreSized (with_file s n (λ e. record e { name = name; bytes = bytes }))
 unfolding with_file
 changed_sized s n name bytes low sized x i =
     let w = (In-map FileEntry FileEntry (λ e. cond (e.id == n) (record e { name = name; bytes = bytes }) e) x s.files).0 i in
-    subst (λ (z : FileEntry). length z.bytes ≤ 1048576) (sym w.2)
-    (elim (w.0.id == n) as (λ b. length (cond b (record w.0 { name = name; bytes = bytes }) w.0).bytes ≤ 1048576) [ true ↦ low | false ↦ sized w.0 w.1 ])
+    subst (λ (z : FileEntry). length z.bytes ≤ most_file_bytes) (sym w.2)
+    (elim (w.0.id == n) as (λ b. length (cond b (record w.0 { name = name; bytes = bytes }) w.0).bytes ≤ most_file_bytes) [ true ↦ low | false ↦ sized w.0 w.1 ])
 
 parts_kept : (o : Opened) (x : ℕ) (text : List ℕ) → is_file_text text ≡ true → IsKept o (with_parts o x text)
 unfolding is_file_text with_parts with_file
 parts_kept o x [] t = record { keys = λ role some. some; sizes = λ sized. sized; numbers = refl }
 parts_kept o x (n ∷ rest) t =
-    let a = and_parts (nat_le n (length rest)) (is_name (take n rest) && nat_le (length (drop n rest)) 1048576) t in
-    let b = and_parts (is_name (take n rest)) (nat_le (length (drop n rest)) 1048576) a.1 in record {
+    let a = and_parts (nat_le n (length rest)) (is_name (take n rest) && nat_le (length (drop n rest)) most_file_bytes) t in
+    let b = and_parts (is_name (take n rest)) (nat_le (length (drop n rest)) most_file_bytes) a.1 in record {
       keys = λ role some. some;
-      sizes = λ sized. unfold with_file in (changed_sized o.store x (take n rest) (drop n rest) (leb-true (length (drop n rest)) 1048576 b.1) sized);
+      sizes = λ sized. unfold with_file in (changed_sized o.store x (take n rest) (drop n rest) (leb-true (length (drop n rest)) most_file_bytes b.1) sized);
       numbers = refl;
     }
 
@@ -290,7 +291,7 @@ role_open s r o after (File x) done first other has =
 
 -- ---- the store before the visits has no bytes
 
-one_more_sized : (s : Store) (new : FileEntry) (x : FileEntry) → new.bytes ≡ [] → AreSized s → In x (s.files ++ new ∷ []) → length x.bytes ≤ 1048576
+one_more_sized : (s : Store) (new : FileEntry) (x : FileEntry) → new.bytes ≡ [] → AreSized s → In x (s.files ++ new ∷ []) → length x.bytes ≤ most_file_bytes
 one_more_sized s new x none sized i = ⊎_elim
     (λ u. sized x u)
     (λ v. ⊎_elim (λ (e : x ≡ new). let empty : length x.bytes ≡ 0 = ap (λ (z : FileEntry). length z.bytes) e ∙ ap length none in omega arith) (λ n. absurd n) v)
@@ -309,8 +310,8 @@ told_sized s (DropFile n) sized x i = sized x (In-filter FileEntry (λ e. not (e
 told_sized s (DropFolder f) sized x i = sized x i
 told_sized s (ShiftFile n g) sized x i =
     let w = (In-map FileEntry FileEntry (λ e. cond (e.id == n) (record e { folder = g }) e) x s.files).0 i in
-    subst (λ (z : FileEntry). length z.bytes ≤ 1048576) (sym w.2)
-    (elim (w.0.id == n) as (λ b. length (cond b (record w.0 { folder = g }) w.0).bytes ≤ 1048576) [ true ↦ sized w.0 w.1 | false ↦ sized w.0 w.1 ])
+    subst (λ (z : FileEntry). length z.bytes ≤ most_file_bytes) (sym w.2)
+    (elim (w.0.id == n) as (λ b. length (cond b (record w.0 { folder = g }) w.0).bytes ≤ most_file_bytes) [ true ↦ sized w.0 w.1 | false ↦ sized w.0 w.1 ])
 told_sized s (ShiftFolder g q) sized x i = sized x i
 told_sized s (Give h f) sized x i = sized x i
 told_sized s (Take h f) sized x i = sized x i

@@ -5,7 +5,7 @@ use Rattle.commit_journal.specs.Journals.{JournalState, command_batch, epoch_bat
 use Rattle.cry_base.specs.Store.{root_store}
 use Rattle.cry_base.specs.declared.limits.Limits.{Limits}
 use Rattle.cry_io.specs.Told.{WhereBothTold, WhereTold}
-use Rattle.key_links.specs.Fresh.{fresh_image, piece}
+use Rattle.key_links.specs.Fresh.{fresh_draw_len, fresh_image, fresh_store_len, piece}
 use Rattle.record_format.specs.Noted.Note.{Root}
 use Rattle.record_format.specs.declared.note.Note.TheVariants as declared
 use Rattle.record_format.specs.Plain.{PlainPayload}
@@ -43,7 +43,7 @@ pub record IsMadeJournal (owner : List ℕ) (limit : ℕ) (j : JournalState) : T
   pub two_batches : j.batches ≡ 2
   pub first_epoch : j.epoch ≡ 1
   pub not_begun : j.has_epoch ≡ false
-  pub ends_at : j.end ≡ 819
+  pub ends_at : j.end ≡ fresh_store_len
   pub same_limit : j.limit ≡ limit
   pub is_open : j.is_closed ≡ false
 
@@ -53,7 +53,7 @@ root_keys drawn = piece drawn 1 ∷ piece drawn 2 ∷ piece drawn 3 ∷ piece dr
 
 -- the owner of the store that these bytes make: it stands for the journal of the root alone, whose session has ended
 pub record IsMade (drawn : List ℕ) (limits : Limits) (o : OwnerView) : Type 0 where
-  pub all_drawn : length drawn ≡ 192
+  pub all_drawn : length drawn ≡ fresh_draw_len
   pub same_key : o.key ≡ piece drawn 0
   pub owner : IsOwnerOf (made_with (root_keys drawn)) o
   pub journal : IsMadeJournal (piece drawn 0) limits.store_bytes o.journal

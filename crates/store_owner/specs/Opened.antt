@@ -1,5 +1,6 @@
 -- What an owner keeps of what the owner's key opened of a store. This project's own, docs/FORMAT.md, "Opening for writing".
 use Rattle.std.specs.Prelude.{◌≡◌, ◌⊎◌, ℕ, if◌then◌else◌, false, List, [], ◌∷◌, ◌++◌, Option, None, Result, Ok, Err}
+use Rattle.cry_base.specs.Layout.{header_len}
 use Rattle.cry_base.specs.Sets.{In}
 use Rattle.cry_base.specs.Store.{HolderEntry}
 use Rattle.cry_base.specs.declared.roles.Role.TheVariants.{Owner}
@@ -50,7 +51,7 @@ pub record IsKept (at : Stand) (after : Opened) (ring : Ringed) (names : Titles)
 
 -- the root stands; a log that doesn't make it is damaged behind the header
 unfoldable pub rooted : Stand → Result Stand Fault
-rooted at = if folder_stands at.store 1 then Ok at else Err (Damaged 42)
+rooted at = if folder_stands at.store 1 then Ok at else Err (Damaged header_len)
 
 -- what the owner's visits open
 unfoldable pub opened_at : List ℕ → List PlainPlaced → Stand → Result OpenStore Fault

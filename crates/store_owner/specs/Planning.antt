@@ -5,6 +5,7 @@ use Rattle.std.specs.Prelude.{None, Result, Ok, Err}
 use Rattle.chacha_seal.specs.Sealing.{check_of}
 use Rattle.chacha_seal.specs.Serials.{Counting}
 use Rattle.commit_journal.specs.Journals.{JournalState, Joins, end_with, next_epoch}
+use Rattle.cry_base.specs.Layout.{batch_len}
 use Rattle.cry_base.specs.Requests.{Request}
 use Rattle.cry_base.specs.Requests.Request.{AddHolder}
 use Rattle.cry_base.specs.Store.{Store}
@@ -110,6 +111,6 @@ pub record HasBegun (old new : JournalState) (counter : Option Counting) (starts
   pub room : new.room ≡ old.room
   pub owner : new.owner ≡ old.owner
   pub limit : new.limit ≡ old.limit
-  pub end : new.end ≡ old.end + cond old.has_epoch 0 110
+  pub end : new.end ≡ old.end + cond old.has_epoch 0 batch_len
   pub batches : new.batches ≡ old.batches + cond old.has_epoch 0 1
   pub epoch : new.epoch ≡ old.epoch + cond old.has_epoch 0 1

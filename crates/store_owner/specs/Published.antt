@@ -13,6 +13,7 @@ use Rattle.commit_journal.specs.Journals.{IsJournalOf, JournalState}
 use Rattle.commit_journal.specs.Publishing.{last_slot, without_last}
 use Rattle.commit_journal.specs.Standing.{StandsFor, StandsUnpublished, StandsWhole}
 use Rattle.commit_journal.specs.Stopping.{TakesNothingBack}
+use Rattle.cry_base.specs.Limits.{most_file_bytes, most_store_bytes}
 use Rattle.cry_base.specs.Requests.{Request}
 use Rattle.cry_base.specs.declared.commands.Reply.{Reply}
 use Rattle.cry_io.specs.Stops.{IsDurable}
@@ -61,7 +62,8 @@ AddsPublished added old was might since =
 -- each owner of a journal where the command is accepted, over a disk that rests there
 abbrev pub PublishesWithin : Request → List (List ℕ) → OwnerView → Option (List ℕ) → (List ℕ → Type 0) → (List ℕ → List ℕ → Type 0)
     → Type 0
-PublishesWithin r drawn o was might since = (m : Journal) → IsOwnerOf m o → o.journal.limit ≤ 268435456 → o.file_bytes ≤ 1048576
+PublishesWithin r drawn o was might since = (m : Journal) → IsOwnerOf m o
+    → o.journal.limit ≤ most_store_bytes → o.file_bytes ≤ most_file_bytes
     → answer (limits_in o) m o.journal.has_epoch r ≡ None → RestsAt o.key m was might
     → PublishesUpTo o.key (journal_then m o.journal.has_epoch r drawn) since
 

@@ -3,6 +3,7 @@ use Rattle.std.specs.Prelude.{◌≡◌, ◌≤◌, ℕ, false, cond, List, leng
 use Rattle.chacha_seal.specs.Keys.{KeyParts}
 use Rattle.commit_journal.specs.Logs.{AreInEpochs, epoch_behind}
 use Rattle.commit_journal.specs.Placed.{PlainPlaced}
+use Rattle.cry_base.specs.Limits.{most_file_bytes}
 use Rattle.cry_base.specs.Sets.{In}
 use Rattle.cry_base.specs.Store.{Store, FileEntry}
 use Rattle.cry_base.specs.declared.roles.Role.{Role}
@@ -38,8 +39,8 @@ pub record IsSound (o : OwnerView) : Type 0 where
   pub same_epoch : o.journal.epoch ≡ (turns_stand nothing turns).keys.epoch
   pub held : HoldsKeys keys (turns_stand nothing turns).keys o.ring (counting (turns_stand nothing turns).keys)
   pub counts : o.counter ≡ cond o.journal.has_epoch (Some (counting (turns_stand nothing turns).keys)) None
-  pub sized : (x : FileEntry) → In x (own_store o).files → length x.bytes ≤ 1048576
-  pub bounded : o.file_bytes ≤ 1048576
+  pub sized : (x : FileEntry) → In x (own_store o).files → length x.bytes ≤ most_file_bytes
+  pub bounded : o.file_bytes ≤ most_file_bytes
 
 -- What an owner has who opened a log and has begun no epoch: what is seen is what the log's payloads leave, each of which fits, with
 -- the root; as many batches, and the epoch of the last one; the present key of each role, whatever its bytes; no file with more
@@ -55,5 +56,5 @@ pub record IsOpenedWith (log : List PlainPlaced) (at : Stand) (o : OwnerView) : 
       × (key.id ≡ role_id role) × (key.serial ≡ n)
   pub not_begun : o.journal.has_epoch ≡ false
   pub not_counted : o.counter ≡ None
-  pub sized : (x : FileEntry) → In x (own_store o).files → length x.bytes ≤ 1048576
-  pub bounded : o.file_bytes ≤ 1048576
+  pub sized : (x : FileEntry) → In x (own_store o).files → length x.bytes ≤ most_file_bytes
+  pub bounded : o.file_bytes ≤ most_file_bytes

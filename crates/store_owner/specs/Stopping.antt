@@ -1,6 +1,7 @@
 -- What a stop at any moment of a command leaves on the disk, by the batches and by the journal that its bytes stand for. This project's
 -- own, docs/FORMAT.md, "Committing".
 use Rattle.std.specs.Prelude.{◌≡◌, ◌≤◌, ℕ, cond, List, [], ◌∷◌, ◌++◌, Option, None}
+use Rattle.cry_base.specs.Limits.{most_file_bytes, most_store_bytes}
 use Rattle.cry_base.specs.Requests.{Request}
 use Rattle.cry_io.specs.Stops.{IsDurable}
 use Rattle.commit_journal.specs.Holding as holding
@@ -47,6 +48,7 @@ pub record AddsBatches (added : List Batch) (old : JournalState) (was shows : Op
 -- each owner of a journal where the command is accepted: a stop leaves the journal, or it with the session begun, or with the command too
 abbrev pub StopsWithin : Request → List (List ℕ) → OwnerView → Option (List ℕ) → Option (List ℕ) → (List ℕ → Type 0) → (List ℕ → Type 0)
     → (List ℕ → List ℕ → Type 0) → Type 0
-StopsWithin r drawn o was shows might may since = (m : Journal) → IsOwnerOf m o → o.journal.limit ≤ 268435456 → o.file_bytes ≤ 1048576
+StopsWithin r drawn o was shows might may since = (m : Journal) → IsOwnerOf m o
+    → o.journal.limit ≤ most_store_bytes → o.file_bytes ≤ most_file_bytes
     → answer (limits_in o) m o.journal.has_epoch r ≡ None
     → StopsBetween o.key m (journal_then m o.journal.has_epoch r drawn) was shows might may since

@@ -3,6 +3,7 @@ ghost use Rattle.std.specs.Prelude.{◌≡◌, ◌*◌, ◌++◌, ◌<◌, ◌^�
 ghost use Rattle.commit_journal.specs.Holding.{IsBetween};
 ghost use Rattle.commit_journal.specs.Journals.{end_with};
 ghost use Rattle.commit_journal.specs.Standing.{StandsWhole};
+ghost use Rattle.cry_base.specs.Limits.{most_file_bytes, most_store_bytes};
 ghost use Rattle.cry_base.specs.Refusing.{refusal_of};
 ghost use Rattle.cry_base.specs.Requests.{Request};
 ghost use Rattle.cry_base.specs.declared.commands.Refusal.{Refusal};
@@ -37,10 +38,10 @@ use cry_io::Disk;
 pub fn owners_go_on()
     ensures owner { (m : Journal) (r : Request) (drawn : List (List ℕ)) (old new : OwnerView) (was shows : Option (List ℕ))
         → IsOwnerOf m old
-        → old.journal.limit ≤ 268435456 → old.file_bytes ≤ 1048576 → answer (limits_in old) m old.journal.has_epoch r ≡ None
+        → old.journal.limit ≤ most_store_bytes → old.file_bytes ≤ most_file_bytes → answer (limits_in old) m old.journal.has_epoch r ≡ None
         → IsCarriedOut r drawn old new was shows → IsOwnerOf (journal_then m old.journal.has_epoch r drawn) new }
     ensures disk { (m : Journal) (r : Request) (drawn : List (List ℕ)) (old new : OwnerView) (was shows : Option (List ℕ)) → IsOwnerOf m old
-        → old.journal.limit ≤ 268435456 → old.file_bytes ≤ 1048576 → answer (limits_in old) m old.journal.has_epoch r ≡ None
+        → old.journal.limit ≤ most_store_bytes → old.file_bytes ≤ most_file_bytes → answer (limits_in old) m old.journal.has_epoch r ≡ None
         → IsCarriedOut r drawn old new was shows
         → WhereBothTold was shows (λ x y. StandsWhole old.key (batches_of old.key m) x
         → StandsWhole old.key (batches_of old.key (journal_then m old.journal.has_epoch r drawn)) y) }
@@ -49,7 +50,7 @@ pub fn owners_go_on()
         → old.journal.end ≤ new.journal.end }
     ensures behind { (m : Journal) (r : Request) (drawn : List (List ℕ)) (old new : OwnerView) (was shows : Option (List ℕ))
         → IsOwnerOf m old
-        → old.journal.limit ≤ 268435456 → old.file_bytes ≤ 1048576 → answer (limits_in old) m old.journal.has_epoch r ≡ None
+        → old.journal.limit ≤ most_store_bytes → old.file_bytes ≤ most_file_bytes → answer (limits_in old) m old.journal.has_epoch r ≡ None
         → IsCarriedOut r drawn old new was shows
         → WhereBothTold was shows (λ x y. StandsWhole old.key (batches_of old.key m) x → drop new.journal.end y ≡ drop new.journal.end x) }
 {}
@@ -58,7 +59,7 @@ pub fn owners_go_on()
 /// whole of the journal, it shows bytes that stand for the journal, or for it with the session begun, or with the command too.
 pub fn interrupted_commands_leave_a_journal()
     ensures { (m : Journal) (r : Request) (drawn : List (List ℕ)) (old : OwnerView) (was shows : Option (List ℕ)) → IsOwnerOf m old
-        → old.journal.limit ≤ 268435456 → old.file_bytes ≤ 1048576 → answer (limits_in old) m old.journal.has_epoch r ≡ None
+        → old.journal.limit ≤ most_store_bytes → old.file_bytes ≤ most_file_bytes → answer (limits_in old) m old.journal.has_epoch r ≡ None
         → IsInterrupted r drawn old was shows
         → WhereBothTold was shows (λ x y. StandsWhole old.key (batches_of old.key m) x
         → IsBetween (StandsForJournal old.key) m (journal_then m old.journal.has_epoch r drawn) y) }
@@ -76,16 +77,16 @@ pub fn commands_are_measured()
         → refusal_of (store_of m) r o.file_bytes ≡ None
         → IsSkeleton (told_step (begun (not o.journal.has_epoch) (public_stand m)) (note_of (store_of m) r (replicate 32 0))) s
         → length s.keys.items ≡ draws_of m r }
-    ensures few { (m : Journal) (r : Request) (o : OwnerView) → IsOwnerOf m o → o.file_bytes ≤ 1048576
+    ensures few { (m : Journal) (r : Request) (o : OwnerView) → IsOwnerOf m o → o.file_bytes ≤ most_file_bytes
         → refusal_of (store_of m) r o.file_bytes ≡ None
-        → due_end m o.journal.has_epoch r ≤ 268435456 → 32 * draws_of m r < 2 ^ 32 }
+        → due_end m o.journal.has_epoch r ≤ most_store_bytes → 32 * draws_of m r < 2 ^ 32 }
     ensures end { (m : Journal) (r : Request) (o : OwnerView) → IsOwnerOf m o
         → end_with o.journal (due_payload m r) ≡ due_end m o.journal.has_epoch r }
-    ensures fits { (m : Journal) (r : Request) (o : OwnerView) → IsOwnerOf m o → o.file_bytes ≤ 1048576
+    ensures fits { (m : Journal) (r : Request) (o : OwnerView) → IsOwnerOf m o → o.file_bytes ≤ most_file_bytes
         → refusal_of (store_of m) r o.file_bytes ≡ None
         → note_fits (begun (not o.journal.has_epoch) (public_stand m)) (note_of (store_of m) r (replicate 32 0))
         (told_step (begun (not o.journal.has_epoch) (public_stand m)) (note_of (store_of m) r (replicate 32 0))) ≡ false
-        → 268435456 < due_end m o.journal.has_epoch r }
+        → most_store_bytes < due_end m o.journal.has_epoch r }
 {}
 
 /// Law: an owner who answers a command goes on as the session does, with the session's reply, where the disk tells what it shows. Where the

@@ -1,5 +1,6 @@
 //! How many commands an owner accepted, and how many records it published.
 ghost use Rattle.std.specs.Prelude.{◌≡◌};
+ghost use Rattle.cry_base.specs.Limits.{most_store_bytes};
 ghost use Rattle.store_owner.specs.Counted.{IsWithin, counted_with};
 
 use crate::change::Change;
@@ -29,7 +30,7 @@ pub(crate) const ROOT: Counted = Counted {
 impl Counted {
     /// What is counted once the command of this change stands.
     pub(crate) fn with(self, change: &Change) -> Counted
-        requires within { IsWithin (counted_with self change.now.ready.skeleton) 268435456 }
+        requires within { IsWithin (counted_with self change.now.ready.skeleton) most_store_bytes }
         ensures { result ≡ counted_with self change.now.ready.skeleton }
     {
         let skeleton = change.ready.skeleton();

@@ -2,13 +2,14 @@
 ghost use Rattle.std.specs.Prelude.{◌≡◌, ◌≢◌, ◌<◌, ◌≤◌, ◌+◌, ℕ, Err, IfErr, IfOk, None, OnOk, Some, [], ◌∷◌, ◌++◌, is_some, length};
 ghost use Rattle.commit_journal.specs.Image.{image};
 ghost use Rattle.commit_journal.specs.Journals.{IsJournalOf};
+ghost use Rattle.cry_base.specs.Limits.{most_file_bytes, most_store_bytes};
 ghost use Rattle.cry_base.specs.declared.roles.Role.{Role as AnyRole};
 ghost use Rattle.cry_base.specs.declared.roles.Role.TheVariants.{Owner as OwnerRole};
 ghost use Rattle.cry_io.specs.Counts.{CountsFault};
 ghost use Rattle.cry_io.specs.Stops.{IsDurable};
 ghost use Rattle.cry_io.specs.Told.{WhereBothTold, WhereTold};
 ghost use Rattle.folder_nodes.specs.Titles.{title_at};
-ghost use Rattle.key_links.specs.Fresh.{fresh_image};
+ghost use Rattle.key_links.specs.Fresh.{fresh_draw_len, fresh_image, fresh_store_len, root_payload_len};
 ghost use Rattle.key_links.specs.Ringed.{key_of};
 ghost use Rattle.record_format.specs.Plain.{plain_payload};
 ghost use Rattle.record_format.specs.Sizes.{payload_size};
@@ -71,7 +72,7 @@ struct Making {
 
 impl Blank {
     fn new(alloc: Global, limits: Limits) -> Mem<Blank>
-        requires known { limits.store_bytes ≤ 268435456 }
+        requires known { limits.store_bytes ≤ most_store_bytes }
         ensures state { IfOk result (λ blank. IsSeenAs blank.state nothing) }
         ensures no_key { IfOk result (λ blank. (role : AnyRole) → role ≢ OwnerRole → key_of blank.ring role ≡ None) }
         ensures limit { IfOk result (λ blank. blank.journal.limit ≡ limits.store_bytes) }
@@ -98,7 +99,7 @@ impl Blank {
         ensures records_room { IfOk result (λ room. IsSpaceFor room ready.now.skeleton) }
         ensures ring_room { OnOk result (6 ≤ self.new.ring.spare) }
         ensures names_room { OnOk result (1 ≤ self.new.names.spare) }
-        ensures journal_room { OnOk result (557 ≤ self.new.journal.room) }
+        ensures journal_room { OnOk result (root_payload_len ≤ self.new.journal.room) }
     {
         self.journal.prepare(ROOT_PAYLOAD_LEN)?;
         self.state.reserve(alloc, ready)?;
@@ -128,8 +129,8 @@ impl Blank {
         requires ring_room { 6 ≤ self.old.ring.spare }
         requires records_room { IsSpaceFor room ready.skeleton }
         requires names_room { 1 ≤ self.old.names.spare }
-        requires journal_room { 557 ≤ self.old.journal.room }
-        requires least { 819 ≤ self.old.journal.limit }
+        requires journal_room { root_payload_len ≤ self.old.journal.room }
+        requires least { fresh_store_len ≤ self.old.journal.limit }
         requires five { length keys.now ≡ 5 }
         ensures stands { OnOk result (IsJournalOf (made_batches (root_payload owner.now keys.now)) self.new.journal) }
         ensures journal { OnOk result (IsMadeJournal owner.now self.old.journal.limit self.new.journal) }
@@ -140,7 +141,7 @@ impl Blank {
         ensures shows { OnOk result (WhereTold (D.shown disk.new) (λ s. s
             ≡ image owner.now (made_batches (root_payload owner.now keys.now)) ++ 0 ∷ [])) }
         ensures durable { OnOk result (IsDurable (D.may_leave disk.new) (D.shown disk.new)) }
-        ensures size { OnOk result (D.size_of disk.new ≡ 819) }
+        ensures size { OnOk result (D.size_of disk.new ≡ fresh_store_len) }
         ensures told { is_some (D.shown disk.new) ≡ is_some (D.shown disk.old) }
         ensures fault { IfErr result (λ fault. fault ≡ ApplyFault.DiskFault) }
         ensures counts { CountsFault result (D.faults disk.old) (D.faults disk.new) }
@@ -157,7 +158,7 @@ impl Blank {
     /// The owner of what was written under this key.
     fn into_owner(self, key: [u8; 32], limits: Limits) -> Owner
         requires sound { IsSound (owner_at key self.journal self.state self.names self.ring limits.file_bytes root_counted) }
-        requires end { 819 ≤ self.journal.end }
+        requires end { fresh_store_len ≤ self.journal.end }
         ensures { result ≡ owner_at key self.journal self.state self.names self.ring limits.file_bytes root_counted }
     {
         let Blank {
@@ -173,7 +174,7 @@ impl Blank {
 impl Making {
     /// Prepares it, with all its memory but that of the keys.
     fn prepare(alloc: Global, limits: Limits) -> Mem<Making>
-        requires known { limits.store_bytes ≤ 268435456 }
+        requires known { limits.store_bytes ≤ most_store_bytes }
         ensures skeleton { IfOk result (λ making. IsSkeleton (told_step first_stand Root) making.ready.skeleton) }
         ensures can { IfOk result (λ making. CanSettle making.blank.state making.ready) }
         ensures seen { IfOk result (λ making. IsSeenAs (settled making.blank.state making.ready) (told_stand first_stand Root)) }
@@ -182,7 +183,7 @@ impl Making {
         ensures ring_room { IfOk result (λ making. 6 ≤ making.blank.ring.spare) }
         ensures records_room { IfOk result (λ making. IsSpaceFor making.room making.ready.skeleton) }
         ensures names_room { IfOk result (λ making. 1 ≤ making.blank.names.spare) }
-        ensures journal_room { IfOk result (λ making. 557 ≤ making.blank.journal.room) }
+        ensures journal_room { IfOk result (λ making. root_payload_len ≤ making.blank.journal.room) }
         ensures limit { IfOk result (λ making. making.blank.journal.limit ≡ limits.store_bytes) }
     {
         let blank = Blank::new(alloc, limits)?;
@@ -205,7 +206,7 @@ fn with_room(alloc: Global, mut blank: Blank, ready: Prepared) -> Mem<Making>
     ensures ring_room { IfOk result (λ making. 6 ≤ making.blank.ring.spare) }
     ensures records_room { IfOk result (λ making. IsSpaceFor making.room making.ready.skeleton) }
     ensures names_room { IfOk result (λ making. 1 ≤ making.blank.names.spare) }
-    ensures journal_room { IfOk result (λ making. 557 ≤ making.blank.journal.room) }
+    ensures journal_room { IfOk result (λ making. root_payload_len ≤ making.blank.journal.room) }
     ensures limit { IfOk result (λ making. making.blank.journal.limit ≡ blank.journal.limit) }
 {
     let room = blank.furnish(alloc, &ready)?;
@@ -231,16 +232,16 @@ fn made<D: Disk>(
     requires ring_room { 6 ≤ making.blank.ring.spare }
     requires records_room { IsSpaceFor making.room making.ready.skeleton }
     requires names_room { 1 ≤ making.blank.names.spare }
-    requires journal_room { 557 ≤ making.blank.journal.room }
+    requires journal_room { root_payload_len ≤ making.blank.journal.room }
     requires limit { making.blank.journal.limit ≡ limits.store_bytes }
-    requires least { 819 ≤ limits.store_bytes }
-    requires files { limits.file_bytes ≤ 1048576 }
+    requires least { fresh_store_len ≤ limits.store_bytes }
+    requires files { limits.file_bytes ≤ most_file_bytes }
     requires six { length drawn.now ≡ 6 }
     requires sizes { AreKeys drawn.now }
     ensures made { IfOk result (IsMade (joined drawn.now) limits) }
     ensures shows { OnOk result (WhereTold (D.shown disk.new) (λ s. s ≡ fresh_image (joined drawn.now))) }
     ensures durable { OnOk result (IsDurable (D.may_leave disk.new) (D.shown disk.new)) }
-    ensures size { OnOk result (D.size_of disk.new ≡ 819) }
+    ensures size { OnOk result (D.size_of disk.new ≡ fresh_store_len) }
     ensures told { is_some (D.shown disk.new) ≡ is_some (D.shown disk.old) }
     ensures fault { IfErr result (λ fault. fault ≡ ApplyFault.DiskFault) }
     ensures counts { CountsFault result (D.faults disk.old) (D.faults disk.new) }
@@ -273,18 +274,18 @@ impl Owner {
         limits: Limits,
     ) -> Result<Owner, ApplyFault>
         requires blank { D.size_of disk.old ≡ 0 }
-        requires least { 819 ≤ limits.store_bytes }
-        requires known { limits.store_bytes ≤ 268435456 }
-        requires files { limits.file_bytes ≤ 1048576 }
+        requires least { fresh_store_len ≤ limits.store_bytes }
+        requires known { limits.store_bytes ≤ most_store_bytes }
+        requires files { limits.file_bytes ≤ most_file_bytes }
         ensures made { IfOk result (Makes limits (R.left random.old) (R.left random.new) (D.shown disk.new)) }
         ensures durable { OnOk result (IsDurable (D.may_leave disk.new) (D.shown disk.new)) }
-        ensures size { OnOk result (D.size_of disk.new ≡ 819) }
+        ensures size { OnOk result (D.size_of disk.new ≡ fresh_store_len) }
         ensures inside { IfOk result (λ o. o.journal.end ≤ D.size_of disk.new) }
         ensures short { (left need : ℕ) → result ≡ Err (ApplyFault.RandomShort left need) →
-            (need ≡ 192) × (left < 192) × WhereBothTold (R.left random.old) (R.left random.new) (λ before after. (length before ≡ left)
-            × (after ≡ [])) }
+            (need ≡ fresh_draw_len) × (left < fresh_draw_len)
+            × WhereBothTold (R.left random.old) (R.left random.new) (λ before after. (length before ≡ left) × (after ≡ [])) }
         ensures drew { result ≡ Err ApplyFault.DiskFault
-            → WhereBothTold (R.left random.old) (R.left random.new) (λ before after. length before ≡ 192 + length after) }
+            → WhereBothTold (R.left random.old) (R.left random.new) (λ before after. length before ≡ fresh_draw_len + length after) }
         ensures not_closed { result ≢ Err ApplyFault.Closed }
         ensures no_memory { result ≡ Err ApplyFault.OutOfMemory → (random.new ≡ random.old) × (disk.new ≡ disk.old) }
         ensures untouched { IfErr result (λ fault. fault ≢ ApplyFault.DiskFault → disk.new ≡ disk.old) }
@@ -338,7 +339,7 @@ fn seal_root(
     requires five { length keys.now ≡ 5 }
     ensures payload { plain_payload result ≡ root_payload owner.now keys.now }
     ensures spellable { IsSpellable (plain_payload result) }
-    ensures size { payload_size (plain_payload result) ≡ 557 }
+    ensures size { payload_size (plain_payload result) ≡ root_payload_len }
     ensures held { HoldsKeys (all_keys owner.now (made_with keys.now)) (keys_of (made_with keys.now)) ring.new
         (counting (keys_of (made_with keys.now))) }
 {
@@ -359,16 +360,16 @@ fn write_store<D: Disk>(
     payload: &Payload,
 ) -> Result<(), CommitFault>
     requires blank { D.size_of disk.old ≡ 0 }
-    requires room { 557 ≤ journal.old.room }
-    requires least { 819 ≤ journal.old.limit }
+    requires room { root_payload_len ≤ journal.old.room }
+    requires least { fresh_store_len ≤ journal.old.limit }
     requires spellable { IsSpellable (plain_payload payload.now) }
-    requires size { payload_size (plain_payload payload.now) ≡ 557 }
+    requires size { payload_size (plain_payload payload.now) ≡ root_payload_len }
     ensures stands { OnOk result (IsJournalOf (made_batches (plain_payload payload.now)) journal.new) }
     ensures state { OnOk result (IsMadeJournal owner.now journal.old.limit journal.new) }
     ensures shows { OnOk result (WhereTold (D.shown disk.new) (λ s. s ≡ image owner.now (made_batches (plain_payload payload.now)) ++ 0
         ∷ [])) }
     ensures durable { OnOk result (IsDurable (D.may_leave disk.new) (D.shown disk.new)) }
-    ensures size { OnOk result (D.size_of disk.new ≡ 819) }
+    ensures size { OnOk result (D.size_of disk.new ≡ fresh_store_len) }
     ensures told { is_some (D.shown disk.new) ≡ is_some (D.shown disk.old) }
     ensures fault { IfErr result (λ fault. fault ≡ CommitFault.DiskFault) }
     ensures counts { CountsFault result (D.faults disk.old) (D.faults disk.new) }

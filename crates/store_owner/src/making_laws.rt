@@ -1,5 +1,6 @@
 //! Laws of a store that was just made.
 ghost use Rattle.std.specs.Prelude.{◌≡◌, ◌≤◌, ℕ, List, None, Some, [], ◌∷◌, length};
+ghost use Rattle.cry_base.specs.Limits.{most_file_bytes};
 ghost use Rattle.commit_journal.specs.Journals.{IsJournalOf};
 ghost use Rattle.folder_nodes.specs.Titles.{title_at};
 ghost use Rattle.record_format.specs.Noted.Note.{Root};
@@ -21,13 +22,13 @@ pub fn makers_own_the_store()
         → IsMadeJournal owner limit o.journal → IsJournalOf (made_batches (root_payload owner drawn)) o.journal
         → title_at o.names.folders 1 ≡ Some (record { id = 1; name = []; bytes = [] }) → IsSeenAs o.state (told_stand first_stand Root)
         → HoldsKeys (all_keys owner (made_with drawn)) (keys_of (made_with drawn)) o.ring (counting (keys_of (made_with drawn)))
-        → o.counter ≡ None → o.file_bytes ≤ 1048576
+        → o.counter ≡ None → o.file_bytes ≤ most_file_bytes
         → IsOwnerOf (made_with drawn) o }
     ensures sound { (o : OwnerView) (owner : List ℕ) (drawn : List (List ℕ)) (limit : ℕ) → length owner ≡ 32 → length drawn ≡ 5
         → AreKeys drawn → o.key ≡ owner
         → IsMadeJournal owner limit o.journal → IsJournalOf (made_batches (root_payload owner drawn)) o.journal
         → title_at o.names.folders 1 ≡ Some (record { id = 1; name = []; bytes = [] }) → IsSeenAs o.state (told_stand first_stand Root)
         → HoldsKeys (all_keys owner (made_with drawn)) (keys_of (made_with drawn)) o.ring (counting (keys_of (made_with drawn)))
-        → o.counter ≡ None → o.file_bytes ≤ 1048576
+        → o.counter ≡ None → o.file_bytes ≤ most_file_bytes
         → IsSound o }
 {}

@@ -1,5 +1,6 @@
 //! Opens a store for writing (docs/FORMAT.md, "Opening for writing").
 ghost use Rattle.std.specs.Prelude.{◌≡◌, ◌≢◌, ◌⊎◌, ◌<◌, ◌≤◌, All, Err, IfErr, IfOk, OnErr, OnOk, Ok, drop, is_some, length, map};
+ghost use Rattle.cry_base.specs.Limits.{most_file_bytes, most_store_bytes};
 ghost use Rattle.cry_base.specs.declared.roles.Role.TheVariants.{Owner as OwnerRole};
 ghost use Rattle.cry_io.specs.Stops.{IsDurable};
 ghost use Rattle.cry_io.specs.Told.{WhereTold, WhereBothTold};
@@ -87,7 +88,7 @@ fn owner_behind(
     opened: Opened,
     limits: Limits,
 ) -> Result<Owner, OpenFault>
-    requires files { limits.file_bytes ≤ 1048576 }
+    requires files { limits.file_bytes ≤ most_file_bytes }
     requires opened { IsOpened key limits.store_bytes opened.journal }
     requires stands { All IsStanding opened.placed.items }
     requires epochs { AreInEpochs 0 (plain_log opened.placed) }
@@ -131,11 +132,11 @@ impl Owner {
         key: [u8; 32],
         limits: Limits,
     ) -> Result<Owner, OpenFault>
-        requires known { limits.store_bytes ≤ 268435456 }
-        requires files { limits.file_bytes ≤ 1048576 }
+        requires known { limits.store_bytes ≤ most_store_bytes }
+        requires files { limits.file_bytes ≤ most_file_bytes }
         ensures verdict { WhereTold (D.shown disk.old)
             (λ s. OpensAs result (open_with key (placed_in (opening_verdict limits.store_bytes key s)))) }
-        ensures largest { limits.store_bytes ≡ 268435456 → WhereTold (D.shown disk.old) (λ s. OpensAs result (opened_store key s)) }
+        ensures largest { limits.store_bytes ≡ most_store_bytes → WhereTold (D.shown disk.old) (λ s. OpensAs result (opened_store key s)) }
         ensures stands { IfOk result (λ o. (m : AnyJournal) → WhereTold (D.shown disk.old)
             (λ s. StandsForJournal key m s → end_of m ≤ limits.store_bytes → IsOwnerOf m o)) }
         ensures settled { OnOk result ((m : AnyJournal) → WhereTold (D.shown disk.old)

@@ -4,6 +4,7 @@ ghost use Rattle.std.specs.Prelude.{length};
 ghost use Rattle.commit_journal.specs.Holding.{GoesOn};
 ghost use Rattle.commit_journal.specs.Journals.{IsBehind, Joins, next_command, MayJoin, next_epoch};
 ghost use Rattle.commit_journal.specs.Stopping.{KeepsPublished};
+ghost use Rattle.cry_base.specs.Layout.{batch_len};
 ghost use Rattle.cry_base.specs.Refusing.{has_bad_name, refusal_of};
 ghost use Rattle.cry_base.specs.Requests.{request_of};
 ghost use Rattle.cry_base.specs.Store.{Store};
@@ -438,7 +439,7 @@ fn begin<D: Disk>(
 ) -> Result<Counter, CommitFault>
     requires open { journal.old.is_closed ≡ false }
     requires inside { journal.old.end ≤ D.size_of disk.old }
-    requires room { journal.old.end + 110 ≤ journal.old.limit }
+    requires room { journal.old.end + batch_len ≤ journal.old.limit }
     requires counts { is_some counter ≡ journal.old.has_epoch }
     ensures begun { IfOk result (λ starts. HasBegun journal.old journal.new counter starts (D.shown disk.old) (D.shown disk.new)) }
     ensures interrupted { OnErr result ((journal.old.has_epoch ≡ false)
@@ -477,7 +478,7 @@ fn commit_within<D: Disk>(
     requires begun { IsTrue journal.old.has_epoch }
     requires spellable { IsSpellable (plain_payload payload.now) }
     requires room { payload_size (plain_payload payload.now) ≤ journal.old.room }
-    requires ends { journal.old.end + (110 + payload_size (plain_payload payload.now)) ≤ journal.old.limit }
+    requires ends { journal.old.end + (batch_len + payload_size (plain_payload payload.now)) ≤ journal.old.limit }
     ensures behind { OnOk result (IsBehind (next_command journal.old (spell_payload (plain_payload payload.now))) journal.old journal.new) }
     ensures joined { OnOk result (Joins (next_command journal.old (spell_payload (plain_payload payload.now))) journal.old journal.new
         (D.shown disk.old) (D.shown disk.new)) }

@@ -5,6 +5,8 @@ ghost use Rattle.chacha_seal.specs.Serials.{Counting};
 ghost use Rattle.commit_journal.specs.Journals.{end_with};
 ghost use Rattle.commit_journal.specs.Logs.{AreInEpochs, epoch_behind};
 ghost use Rattle.commit_journal.specs.Placed.{PlainPlaced};
+ghost use Rattle.cry_base.specs.Layout.{batch_len, header_len};
+ghost use Rattle.cry_base.specs.Limits.{most_file_bytes, most_store_bytes};
 ghost use Rattle.cry_base.specs.Refusing.{has_bad_name, refusal_of};
 ghost use Rattle.cry_base.specs.Requests.{Request};
 ghost use Rattle.cry_base.specs.Sets.{In};
@@ -38,10 +40,14 @@ ghost use Rattle.store_owner.specs.Sound.{IsOpenedWith, IsSound, granted_in, own
 /// and epoch more.
 pub fn sound_owners_keep_a_store()
     ensures store { (o : OwnerView) → IsStoreOf o.state.tree o.names (granted_in o) (own_store o) }
-    ensures folders { (o : OwnerView) → IsSound o → 42 + 110 * o.journal.batches ≤ 268435456 → o.state.tree.folders_made < 4294967295 }
-    ensures files { (o : OwnerView) → IsSound o → 42 + 110 * o.journal.batches ≤ 268435456 → o.state.tree.files_made < 4294967295 }
-    ensures holders { (o : OwnerView) → IsSound o → 42 + 110 * o.journal.batches ≤ 268435456 → length o.state.checks < 4294967295 }
-    ensures epoch { (o : OwnerView) → IsSound o → 42 + 110 * o.journal.batches ≤ 268435456 → o.state.keys.epoch < 4294967295 }
+    ensures folders { (o : OwnerView) → IsSound o
+        → header_len + batch_len * o.journal.batches ≤ most_store_bytes → o.state.tree.folders_made < 4294967295 }
+    ensures files { (o : OwnerView) → IsSound o
+        → header_len + batch_len * o.journal.batches ≤ most_store_bytes → o.state.tree.files_made < 4294967295 }
+    ensures holders { (o : OwnerView) → IsSound o
+        → header_len + batch_len * o.journal.batches ≤ most_store_bytes → length o.state.checks < 4294967295 }
+    ensures epoch { (o : OwnerView) → IsSound o
+        → header_len + batch_len * o.journal.batches ≤ most_store_bytes → o.state.keys.epoch < 4294967295 }
 {}
 
 /// Law: a command that isn't refused, and whose note fits, can be sealed by the keys of the owner's ring.
@@ -61,7 +67,7 @@ pub fn sound_owners_can_seal()
 
 /// Law: a command whose note fits, and whose batches end within the store limit, draws few keys: their bytes are counted by 32 bits.
 pub fn sound_owners_draw_few_keys()
-    ensures { (o : OwnerView) (note : Note) (s : Skeleton) (text : ℕ) → IsSound o → o.journal.limit ≤ 268435456
+    ensures { (o : OwnerView) (note : Note) (s : Skeleton) (text : ℕ) → IsSound o → o.journal.limit ≤ most_store_bytes
         → ((at : Stand) → IsSeenAs o.state at → IsSkeleton (told_step (begun (not o.journal.has_epoch) at) note) s)
         → ((at : Stand) → IsSeenAs o.state at → note_fits (begun (not o.journal.has_epoch) at) note
         (told_step (begun (not o.journal.has_epoch) at) note) ≡ true)
@@ -96,7 +102,7 @@ pub fn owners_visits_open_all()
         → (h n : ℕ) → newest at.keys.keys (holder_role h) ≡ Some n → (e : HolderEntry) × In e after.store.holders × (e.number ≡ h) }
     ensures sized { (log : List PlainPlaced) (at : Stand) (start after : Opened) → folded nothing log ≡ Ok at → start.store ≡ at.store
         → visit_all (record { log = log; stand = at }) (all_visits at.store TheOwner ++ holder_visits at.store) start ≡ Ok after
-        → (x : FileEntry) → In x after.store.files → length x.bytes ≤ 1048576 }
+        → (x : FileEntry) → In x after.store.files → length x.bytes ≤ most_file_bytes }
 {}
 
 /// Law: an owner is sound who has what the payloads of a log leave, each of which fits, and the present key of each role; and

@@ -5,6 +5,7 @@ use Rattle.chacha_seal.specs.Keys.{KeyParts}
 use Rattle.chacha_seal.specs.Sealing.{sealed}
 use Rattle.closure_laws.specs.History.{Derives, history, published_from, trails}
 use Rattle.commit_journal.specs.Laws.{batch_of, placed_from}
+use Rattle.cry_base.specs.Layout.{batch_len, header_len}
 use Rattle.cry_base.specs.Sets.{In}
 use Rattle.cry_base.specs.Sets.Path.{Here, On}
 use Rattle.cry_base.proofs.Members.{In-map}
@@ -54,7 +55,7 @@ log_serials keys at (entry ∷ entries) place number epoch n =
     let body = entry_body keys_with at entry in
     let batch = batch_of number epoch body in
     let here = body_links batch.number (place + 45) body in
-    let next = place + (110 + length batch.payload) in
+    let next = place + (batch_len + length batch.payload) in
     let rest = log_links (placed_from next batch.number batch.epoch (bodies_from keys_with (stand_then at entry) entries)) in
     map-append (λ (l : PlacedLink). (l.link.from_serial.0, l.link.to_serial.0)) here rest
     ∙ ap (λ (pairs : List (ℕ × ℕ)). pairs ++ serials_of rest) (body_serials keys_with at entry batch.number (place + 45))
@@ -63,7 +64,7 @@ log_serials keys at (entry ∷ entries) place number epoch n =
 
 pub journal_serials : (owner : List ℕ) (m : Journal) → serials_of (log_links (log_of owner m)) ≡ trails (history m)
 unfolding log_of bodies_of history steps_of
-journal_serials owner m = log_serials (owner_parts owner ∷ []) nothing m 42 0 0 1
+journal_serials owner m = log_serials (owner_parts owner ∷ []) nothing m header_len 0 0 1
 
 -- ---- right keys
 

@@ -9,6 +9,7 @@ use Rattle.chacha_seal.specs.Sealing.{sealed}
 use Rattle.closure_laws.specs.History.{Derives, Published, history, own_serial, published_from}
 use Rattle.closure_laws.specs.Seen.{IsSeen, Sight, sight_of}
 use Rattle.commit_journal.specs.Laws.{batch_of, placed_from}
+use Rattle.cry_base.specs.Layout.{batch_len, header_len}
 use Rattle.cry_base.specs.Sets.{In}
 use Rattle.cry_base.specs.declared.roles.Node.TheVariants.{Folder, File}
 use Rattle.cry_base.specs.declared.roles.Role.{Role}
@@ -110,15 +111,15 @@ log_content keys at (entry ∷ entries) place number epoch have fed p i =
     ))
     (λ later.
     let w = subst (λ (ks : List KeyParts). IsOfHistory ks (published_from (batch.number + 1) (steps_from next entries)) p) all
-    (log_content keys_with next entries (place + (110 + length batch.payload)) batch.number batch.epoch have_more fed.1 p later)
+    (log_content keys_with next entries (place + (batch_len + length batch.payload)) batch.number batch.epoch have_more fed.1 p later)
     in
     let v = subst (λ n. IsOfHistory (keys ++ (entry_keys at entry ++ keys_from next entries)) (published_from (n + 1) (steps_from next entries)) p) (batch_number number epoch body) w in
     (v.0, inr v.1, v.2, v.3))
-    ((In-append PlacedContent p (body_contents batch.number (place + 45) body) (log_contents (placed_from (place + (110 + length batch.payload)) batch.number batch.epoch (bodies_from keys_with next entries)))).0 i)
+    ((In-append PlacedContent p (body_contents batch.number (place + 45) body) (log_contents (placed_from (place + (batch_len + length batch.payload)) batch.number batch.epoch (bodies_from keys_with next entries)))).0 i)
 
 pub journal_content : (owner : List ℕ) (m : Journal) → IsValid m → AreWhole owner m → (p : PlacedContent) → In p (log_contents (log_of owner m)) → IsOfHistory (all_keys owner m) (history m) p
 unfolding log_of bodies_of all_keys history steps_of
-journal_content owner m valid whole p i = log_content (owner_parts owner ∷ []) nothing m 42 0 0 (have_at_first owner whole.owner_size) (begins_fed m valid.0 whole.drawn_sizes) p i
+journal_content owner m valid whole p i = log_content (owner_parts owner ∷ []) nothing m header_len 0 0 (have_at_first owner whole.owner_size) (begins_fed m valid.0 whole.drawn_sizes) p i
 
 -- ---- what a key of the journal opens of them
 

@@ -1,5 +1,6 @@
 use Rattle.std.proofs.Common.{◌≡◌, ◌≤◌, ℕ, List, Some, drop}
 use Rattle.std.specs.Prelude.{is_some}
+use Rattle.cry_base.specs.Layout.{header_len}
 use Rattle.cry_io.specs.Stops.{IsDurable}
 use Rattle.batch_log.specs.Moments.{GoesOn}
 use Rattle.commit_journal.specs.Filling.{AreUnfilled, LeavesUnfilled, all_filled}
@@ -15,7 +16,7 @@ invariant-loop-slot g l = record {
   time : GoesOn (g.D.Disk.moment l.fn.disk) (g.D.Disk.since l.fn.disk) (g.D.Disk.since l.disk);
   stops : FillsThroughout l.slots (g.D.Disk.shown l.fn.disk) (g.D.Disk.since l.disk (g.D.Disk.moment l.fn.disk));
   counts : g.D.Disk.faults l.fn.disk ≤ g.D.Disk.faults l.disk;
-  unfilled : (y : List ℕ) → g.D.Disk.shown l.disk ≡ Some y → AreUnfilled 42 (drop l.slot-index l.slots) y;
+  unfilled : (y : List ℕ) → g.D.Disk.shown l.disk ≡ Some y → AreUnfilled header_len (drop l.slot-index l.slots) y;
   so_far : (x y : List ℕ) → g.D.Disk.shown l.fn.disk ≡ Some x → g.D.Disk.shown l.disk ≡ Some y →
       all_filled l.slots x ≡ all_filled (drop l.slot-index l.slots) y;
   left : (x y z : List ℕ) → g.D.Disk.shown l.fn.disk ≡ Some x → g.D.Disk.shown l.disk ≡ Some y

@@ -1,6 +1,7 @@
 use Rattle.std.proofs.Common.{◌≡◌, ◌+◌, length, drop, Option, sym, ◌∙◌, ap, subst, take, arith}
 use Rattle.std.specs.Prelude.{All, option_to_list, slice_range}
 use Rattle.std.proofs.lemmas.Result.{IfOk-weaker, err_from_is_err_and}
+use Rattle.cry_base.specs.Layout.{batch_len}
 use Rattle.commit_journal.specs.declared.filling.Unfilled.{Unfilled}
 use Rattle.commit_journal.specs.Filling.{IsWithin}
 use Rattle.commit_journal.specs.Opening.{owned_at, owned_head, owned_turn}
@@ -16,7 +17,7 @@ unfolding owned_at
 returns-in_err-head-clause-answer g c = λ s is.
     let p = err_from_is_err_and c.from_residual.result c.from_residual.ensures.1 in
     rw (p.1, p.2) (fault_first c.in_err-head.field-0.0 (owned_head c.args.limit c.args.past.now (drop c.args.past.now.at s))
-    (λ head. owned_turn c.args.owner.now.bytes c.args.past.now head (take (110 + head.size) (drop c.args.past.now.at s)))
+    (λ head. owned_turn c.args.owner.now.bytes c.args.past.now head (take (batch_len + head.size) (drop c.args.past.now.at s)))
     (c.in_err-head.ensures.answer s is))
 
 pub returns-clause-answer : goal.returns-clause-answer
@@ -25,10 +26,10 @@ returns-clause-answer g c = λ s is.
     let head = c.in_ok-head.head in
     let n = c.in_ok-batch.batch.len in
     let sized = g.met.D.Disk.size_is_shown c.args.disk.now s is in
-    let long : n ≡ 110 + head.size = c.in_ok-batch.ensures.len in
+    let long : n ≡ batch_len + head.size = c.in_ok-batch.ensures.len in
     let loan : length c.deref_mut.result.now ≡ n = c.deref_mut.ensures.len in
     let bytes = c.in_ok-read_at.ensures.bytes s (c.in_ok-head.ensures.read_only.same_bytes ∙ is) ∙ ap (λ k. slice_range s past.at (past.at + k)) loan in
-    let whole : c.deref_mut-2.result.now ≡ take (110 + head.size) (drop past.at s) =
+    let whole : c.deref_mut-2.result.now ≡ take (batch_len + head.size) (drop past.at s) =
     filled n past.at s c.read_at.new.buf c.in_ok-batch.batch.items c.deref_mut-2.result.now
     (omega (arith, sized, long, c.in_ok-head.ensures.inside)) bytes c.deref_mut-2.ensures.value
     ∙ ap (λ k. take k (drop past.at s)) long
@@ -44,10 +45,10 @@ returns-clause-unfilled g c =
     ok_both c.judge_owned.result _ _ _
     (λ o turn slot. λ s is.
     let sized = g.met.D.Disk.size_is_shown c.args.disk.now s is in
-    let long : n ≡ 110 + head.size = c.in_ok-batch.ensures.len in
+    let long : n ≡ batch_len + head.size = c.in_ok-batch.ensures.len in
     let loan : length c.deref_mut.result.now ≡ n = c.deref_mut.ensures.len in
     let bytes = c.in_ok-read_at.ensures.bytes s (c.in_ok-head.ensures.read_only.same_bytes ∙ is) ∙ ap (λ k. slice_range s past.at (past.at + k)) loan in
-    let whole : c.deref_mut-2.result.now ≡ take (110 + head.size) (drop past.at s) =
+    let whole : c.deref_mut-2.result.now ≡ take (batch_len + head.size) (drop past.at s) =
     filled n past.at s c.read_at.new.buf c.in_ok-batch.batch.items c.deref_mut-2.result.now
     (omega (arith, sized, long, c.in_ok-head.ensures.inside)) bytes c.deref_mut-2.ensures.value
     ∙ ap (λ k. take k (drop past.at s)) long

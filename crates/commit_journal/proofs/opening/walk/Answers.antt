@@ -4,6 +4,7 @@ use Rattle.std.proofs.lemmas.Bool.Decides.{nat_tests}
 use Rattle.std.proofs.lemmas.List.{map_push}
 use Rattle.std.proofs.lemmas.List.Elements.{All-nil, All-cons, All-append}
 use Rattle.std.proofs.lemmas.Result.{err_from_is_err_and}
+use Rattle.cry_base.specs.Layout.{header_len}
 use Rattle.commit_journal.specs.Filling.{IsWithin, unfilled_in, unfilled_of}
 use Rattle.commit_journal.specs.Log.{start_at}
 use Rattle.commit_journal.specs.Opening.{owned_log, opening_verdict, owned_at, owned_before}
@@ -24,7 +25,7 @@ unfolding opening_verdict
 returns-in_err-past-clause-verdict g c = λ s is.
     let p = err_from_is_err_and c.from_residual.result c.from_residual.ensures.1 in
     let owner = c.args.owner.now.bytes in
-    rw (p.1, p.2) (fault_first c.in_err-past.field-0.0 (start_at owner s) (λ past. owned_log c.args.limit owner past 0 (drop 42 s)) (c.in_err-past.ensures.answer s is))
+    rw (p.1, p.2) (fault_first c.in_err-past.field-0.0 (start_at owner s) (λ past. owned_log c.args.limit owner past 0 (drop header_len s)) (c.in_err-past.ensures.answer s is))
 
 pub loop-past-init : goal.loop-past-init
 loop-past-init g c =
@@ -122,7 +123,7 @@ returns-clause-verdict g c = λ s is.
 
 pub returns-clause-gated : goal.returns-clause-gated
 returns-clause-gated g c = λ s is.
-    gated_all (map plain_placed c.loop-past.log.items) 42 c.loop-past.past.at s (c.loop-past.invariant.gated s is).0
+    gated_all (map plain_placed c.loop-past.log.items) header_len c.loop-past.past.at s (c.loop-past.invariant.gated s is).0
 
 pub returns-clause-epochs : goal.returns-clause-epochs
 returns-clause-epochs g c = counts_all (map plain_placed c.loop-past.log.items) c.loop-past.past c.loop-past.invariant.counted

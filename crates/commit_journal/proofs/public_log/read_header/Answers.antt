@@ -1,5 +1,6 @@
 use Rattle.std.proofs.Common.{◌≡◌, take, arith}
 use Rattle.std.specs.Prelude.{option_copied}
+use Rattle.cry_base.specs.Layout.{header_len}
 use Rattle.commit_journal.specs.Readers.{key_bytes}
 use Rattle.commit_journal.proofs.Stepped.{header_short, header_long}
 use Rattle.commit_journal.proofs.public_log.read_header.Goals as goal
@@ -12,7 +13,7 @@ returns-then-size-clause-answer g c = λ s is.
 pub returns-clause-answer : goal.returns-clause-answer
 returns-clause-answer g c = λ s is.
     let sized = g.met.D.Disk.size_is_shown c.args.disk.now s is in
-    let header : c.read_at.new.buf ≡ take 42 s = c.in_ok-read_at.ensures.bytes s is in
+    let header : c.read_at.new.buf ≡ take header_len s = c.in_ok-read_at.ensures.bytes s is in
     rw (header_long (key_bytes (option_copied c.args.owner)) s (omega (arith, sized, c.size.ensures)), ← header) c.header_of.ensures.answer
 
 pub returns-clause-disk_fault : goal.returns-clause-disk_fault

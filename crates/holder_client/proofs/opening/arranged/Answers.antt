@@ -1,4 +1,5 @@
 use Rattle.std.proofs.Common.{◌≤◌, ℕ, List, length, sym, subst}
+use Rattle.cry_base.specs.Limits.{most_file_bytes}
 use Rattle.folder_nodes.specs.Titles.{Title, bytes_in, title_at}
 use Rattle.holder_client.proofs.Naming.{same_names}
 use Rattle.holder_client.proofs.opening.arranged.Goals as goal
@@ -12,4 +13,4 @@ returns-clause-opened c = λ bare o is. record {
 
 pub returns-clause-sized : goal.returns-clause-sized
 returns-clause-sized c = λ are.
-    subst (λ (ts : List Title). (x : ℕ) → length (bytes_in (title_at ts x)) ≤ 1048576) (sym c.arrange.ensures.files) are
+    subst (λ (ts : List Title). (x : ℕ) → length (bytes_in (title_at ts x)) ≤ most_file_bytes) (sym c.arrange.ensures.files) are

@@ -1,4 +1,5 @@
 use Rattle.std.proofs.Common.{◌+◌, true, arith, refl, subst}
+use Rattle.cry_base.specs.Layout.{batch_len}
 use Rattle.commit_journal.specs.Journals.{JournalState, IsBehind, next_epoch}
 use Rattle.commit_journal.specs.contracts.journal.Journal.{the_view}
 use Rattle.commit_journal.proofs.JournalLemmas.{joins}
@@ -16,7 +17,7 @@ returns-clause-joined g c =
       alloc = inside.alloc;
       owner = inside.owner;
       past = record {
-        at = inside.past.at + 110;
+        at = inside.past.at + batch_len;
         number = inside.past.number + 1;
         epoch = record { 0 = inside.past.epoch.0 + 1 };
         tag = c.epoch_batch.result.tag;

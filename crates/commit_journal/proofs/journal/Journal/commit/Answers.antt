@@ -1,4 +1,5 @@
 use Rattle.std.proofs.Common.{◌+◌, arith, refl, ap, subst, ◌∙◌}
+use Rattle.cry_base.specs.Layout.{batch_len}
 use Rattle.record_format.specs.Plain.{plain_payload}
 use Rattle.record_format.specs.Spelling.{spell_payload}
 use Rattle.commit_journal.specs.Journals.{JournalState, IsBehind, next_command}
@@ -23,7 +24,7 @@ returns-clause-joined g c =
       alloc = inside.alloc;
       owner = inside.owner;
       past = record {
-        at = inside.past.at + (110 + c.payload_len-size.result);
+        at = inside.past.at + (batch_len + c.payload_len-size.result);
         number = inside.past.number + 1;
         epoch = inside.past.epoch;
         tag = c.command_batch-tag.result;
@@ -38,7 +39,7 @@ returns-clause-joined g c =
       owner = refl;
       batches = refl;
       epoch = refl;
-      end = ap (λ n. inside.past.at + (110 + n)) c.payload_len-size.ensures.spelled;
+      end = ap (λ n. inside.past.at + (batch_len + n)) c.payload_len-size.ensures.spelled;
       tag = c.command_batch-tag.ensures.tag c.veil_key-veil.ensures;
       limit = refl;
       open_still = refl;

@@ -1,4 +1,5 @@
 use Rattle.std.proofs.Common.{◌≡◌, ℕ, List, inl, inr, sym, ap, subst, ◌∙◌}
+use Rattle.cry_base.specs.Layout.{header_len}
 use Rattle.commit_journal.specs.declared.filling.Unfilled.{Unfilled}
 use Rattle.chacha_seal.specs.Keys.{KeyParts}
 use Rattle.commit_journal.specs.Filling.{AreUnfilled, LeavesUnfilled, all_filled}
@@ -20,8 +21,8 @@ fill_slots-requires-clause-unfilled g c = λ x x_is.
     let walked = c.in_ok-placed.field-0 in
     let read = sym c.in_ok-placed.ensures.read_only.same_bytes ∙ x_is in
     let listed : c.as_slice.result.now ≡ walked.unfilled.items = cc in
-    subst (λ (slots : List Unfilled). AreUnfilled 42 slots x) (sym (listed ∙ c.in_ok-placed.ensures.unfilled x read))
-    (unfilled_are owner (plain_log walked.placed) 42 x (c.in_ok-placed.ensures.gated x read))
+    subst (λ (slots : List Unfilled). AreUnfilled header_len slots x) (sym (listed ∙ c.in_ok-placed.ensures.unfilled x read))
+    (unfilled_are owner (plain_log walked.placed) header_len x (c.in_ok-placed.ensures.gated x read))
 
 pub returns-clause-filled : goal.returns-clause-filled
 returns-clause-filled g c = λ x y x_is y_is.

@@ -1,6 +1,7 @@
 use Rattle.std.proofs.Common.{drop, sym}
 use Rattle.std.specs.Prelude.{option_copied}
 use Rattle.std.proofs.lemmas.Result.{err_from_is_err_and}
+use Rattle.cry_base.specs.Layout.{header_len}
 use Rattle.commit_journal.specs.Logs.{turn_by, walk_at}
 use Rattle.commit_journal.specs.Readers.{key_bytes, header_at, read_log, read_turn}
 use Rattle.commit_journal.specs.Streaming.{log_in}
@@ -13,7 +14,7 @@ unfolding read_log
 returns-in_err-past-clause-failed g c = λ s is.
     let p = err_from_is_err_and c.from_residual.result c.from_residual.ensures.1 in
     let who = key_bytes (option_copied c.args.owner) in
-    rw (p.1, p.2) (fault_first c.in_err-past.field-0.0 (header_at who s) (λ past. walk_at (turn_by (read_turn who)) past 0 (drop 42 s)) (c.in_err-past.ensures.answer s is))
+    rw (p.1, p.2) (fault_first c.in_err-past.field-0.0 (header_at who s) (λ past. walk_at (turn_by (read_turn who)) past 0 (drop header_len s)) (c.in_err-past.ensures.answer s is))
 
 pub returns-clause-log : goal.returns-clause-log
 unfolding log_in

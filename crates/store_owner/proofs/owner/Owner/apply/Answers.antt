@@ -1,4 +1,5 @@
 use Rattle.std.proofs.Common.{◌≡◌, ◌<◌, ◌≤◌, ◌*◌, ◌^◌, ◌++◌, ◌∙◌, List, Err, Ok, ap, length, refl, replicate, subst, sym, ℕ}
+use Rattle.cry_base.specs.Limits.{most_file_bytes, most_store_bytes}
 use Rattle.cry_base.specs.Requests.{request_of}
 use Rattle.cry_base.specs.declared.memory.OutOfMemory.{OutOfMemory}
 use Rattle.cry_io.specs.Stops.{IsDurable}
@@ -70,8 +71,8 @@ returns-clause-answers g c = λ m is.
     let shows = g.D.Disk.shown c.carry_out.new.disk in
     let before = g.R.Source.left c.args.random.now in
     let after = g.R.Source.left c.fill.new.random in
-    let limit : o.journal.limit ≤ 268435456 = subst (λ (x : OwnerView). x.journal.limit ≤ 268435456) c.self.view_is c.journal_is_within.ensures.bound in
-    let bounded : o.file_bytes ≤ 1048576 = subst (λ (x : OwnerView). x.file_bytes ≤ 1048576) c.self.view_is (c.self.invariant (sym c.is_closed.ensures ∙ c.if-is_closed.false)).0.bounded in
+    let limit : o.journal.limit ≤ most_store_bytes = subst (λ (x : OwnerView). x.journal.limit ≤ most_store_bytes) c.self.view_is c.journal_is_within.ensures.bound in
+    let bounded : o.file_bytes ≤ most_file_bytes = subst (λ (x : OwnerView). x.file_bytes ≤ most_file_bytes) c.self.view_is (c.self.invariant (sym c.is_closed.ensures ∙ c.if-is_closed.false)).0.bounded in
     let store = c.owners_keep_the_store.ensures m o is in
     let refused = sym (c.resolved.ensures.cause (store_of m) store) ∙ ap why_of c.in-Ok.is in
     let might = g.D.Disk.may_leave c.args.disk.now in
@@ -147,9 +148,9 @@ returns-in-Err-fill-clause-short g c = λ left need is.
     let planned : AnswersPlan {E = OutOfMemory} (Ok (verdicts.Planned p c.in-Ok-Planned.room)) r o mid =
     subst (λ (v : Verdict). AnswersPlan {E = OutOfMemory} (Ok v) r o mid) c.in-Ok-Planned.field-0-is c.in-Ok-Planned.ensures.answers in
     let sound : IsSound o = subst IsSound c.self.view_is (c.self.invariant (sym c.is_closed.ensures ∙ c.if-is_closed.false)).0 in
-    let limit : o.journal.limit ≤ 268435456 = subst (λ (x : OwnerView). x.journal.limit ≤ 268435456) c.self.view_is c.journal_is_within.ensures.bound in
+    let limit : o.journal.limit ≤ most_store_bytes = subst (λ (x : OwnerView). x.journal.limit ≤ most_store_bytes) c.self.view_is c.journal_is_within.ensures.bound in
     let few = c.sound_owners_draw_few_keys.ensures mid (told_note p.note) p.ready.skeleton (length (p.text.items ++ due_key r (replicate 32 0)))
-    (sound_still o mid c.plan.ensures.room sound) (limit_still o mid c.plan.ensures.room 268435456 limit)
+    (sound_still o mid c.plan.ensures.room sound) (limit_still o mid c.plan.ensures.room most_store_bytes limit)
     planned.0.is_skeleton planned.0.fits planned.1.ends_within
     in
     let count : c.in-Ok-reserve.keys ≡ length p.ready.skeleton.keys.items =
@@ -195,8 +196,8 @@ returns-clause-published g c = λ m is rests.
     let drawn = c.as_slice.result.now in
     let was = g.D.Disk.shown c.args.disk.now in
     let shows = g.D.Disk.shown c.carry_out.new.disk in
-    let limit : o.journal.limit ≤ 268435456 = subst (λ (x : OwnerView). x.journal.limit ≤ 268435456) c.self.view_is c.journal_is_within.ensures.bound in
-    let bounded : o.file_bytes ≤ 1048576 = subst (λ (x : OwnerView). x.file_bytes ≤ 1048576) c.self.view_is (c.self.invariant (sym c.is_closed.ensures ∙ c.if-is_closed.false)).0.bounded in
+    let limit : o.journal.limit ≤ most_store_bytes = subst (λ (x : OwnerView). x.journal.limit ≤ most_store_bytes) c.self.view_is c.journal_is_within.ensures.bound in
+    let bounded : o.file_bytes ≤ most_file_bytes = subst (λ (x : OwnerView). x.file_bytes ≤ most_file_bytes) c.self.view_is (c.self.invariant (sym c.is_closed.ensures ∙ c.if-is_closed.false)).0.bounded in
     let might = g.D.Disk.may_leave c.args.disk.now in
     let may = g.D.Disk.may_leave c.carry_out.new.disk in
     let since = g.D.Disk.since c.carry_out.new.disk (g.D.Disk.moment c.args.disk.now) in

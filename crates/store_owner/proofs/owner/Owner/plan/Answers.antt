@@ -1,6 +1,7 @@
 use Rattle.std.proofs.Common.{◌≡◌, ◌≤◌, ◌<◌, ◌∙◌, Err, ap, arith, refl, subst, sym}
 use Rattle.std.proofs.lemmas.Bool.{false≢true}
 use Rattle.commit_journal.specs.Journals.{JournalState, end_with}
+use Rattle.cry_base.specs.Limits.{most_file_bytes, most_store_bytes}
 use Rattle.cry_base.specs.Requests.{request_of}
 use Rattle.folder_nodes.specs.Titles.{tree_store}
 use Rattle.record_format.specs.Told.{told_note}
@@ -19,8 +20,8 @@ pub returns-in-Err-Unfit-clause-answers : goal.returns-in-Err-Unfit-clause-answe
 returns-in-Err-Unfit-clause-answers c =
     let o : OwnerView = c.args.self.now in
     let r = request_of c.args.command.now in
-    let limit : o.journal.limit ≤ 268435456 = subst (λ (x : OwnerView). x.journal.limit ≤ 268435456) c.self.view_is c.journal_is_within.ensures.bound in
-    let bounded : o.file_bytes ≤ 1048576 = subst (λ (x : OwnerView). x.file_bytes ≤ 1048576) c.self.view_is (c.self.invariant (ap (λ (x : OwnerView). x.journal.is_closed) c.self.view_is ∙ c.requires.open)).0.bounded in (
+    let limit : o.journal.limit ≤ most_store_bytes = subst (λ (x : OwnerView). x.journal.limit ≤ most_store_bytes) c.self.view_is c.journal_is_within.ensures.bound in
+    let bounded : o.file_bytes ≤ most_file_bytes = subst (λ (x : OwnerView). x.file_bytes ≤ most_file_bytes) c.self.view_is (c.self.invariant (ap (λ (x : OwnerView). x.journal.is_closed) c.self.view_is ∙ c.requires.open)).0.bounded in (
       refl,
       λ m is.
           let store = c.owners_keep_the_store.ensures m o is in
@@ -34,7 +35,7 @@ pub returns-in_default-clause-answers : goal.returns-in_default-clause-answers
 returns-in_default-clause-answers c =
     let o : OwnerView = c.args.self.now in
     let r = request_of c.args.command.now in
-    let limit : o.journal.limit ≤ 268435456 = subst (λ (x : OwnerView). x.journal.limit ≤ 268435456) c.self.view_is c.journal_is_within.ensures.bound in
+    let limit : o.journal.limit ≤ most_store_bytes = subst (λ (x : OwnerView). x.journal.limit ≤ most_store_bytes) c.self.view_is c.journal_is_within.ensures.bound in
     let change = c.in-Ok.change in
     let size : skeleton_size (told_note change.note) c.skeleton.result.now c.sealed_len-text.result ≡ planned_size r change =
     ap (λ (s : Skeleton). skeleton_size (told_note change.note) s c.sealed_len-text.result) c.skeleton.ensures
@@ -52,7 +53,7 @@ pub returns-then-not-fits-clause-answers : goal.returns-then-not-fits-clause-ans
 returns-then-not-fits-clause-answers c =
     let o : OwnerView = c.args.self.now in
     let r = request_of c.args.command.now in
-    let limit : o.journal.limit ≤ 268435456 = subst (λ (x : OwnerView). x.journal.limit ≤ 268435456) c.self.view_is c.journal_is_within.ensures.bound in
+    let limit : o.journal.limit ≤ most_store_bytes = subst (λ (x : OwnerView). x.journal.limit ≤ most_store_bytes) c.self.view_is c.journal_is_within.ensures.bound in
     let change = c.in-Ok.change in
     let size : skeleton_size (told_note change.note) c.skeleton.result.now c.sealed_len-text.result ≡ planned_size r change =
     ap (λ (s : Skeleton). skeleton_size (told_note change.note) s c.sealed_len-text.result) c.skeleton.ensures
@@ -75,8 +76,8 @@ pub returns-clause-answers : goal.returns-clause-answers
 returns-clause-answers c =
     let o : OwnerView = c.args.self.now in
     let r = request_of c.args.command.now in
-    let limit : o.journal.limit ≤ 268435456 = subst (λ (x : OwnerView). x.journal.limit ≤ 268435456) c.self.view_is c.journal_is_within.ensures.bound in
-    let bounded : o.file_bytes ≤ 1048576 = subst (λ (x : OwnerView). x.file_bytes ≤ 1048576) c.self.view_is (c.self.invariant (ap (λ (x : OwnerView). x.journal.is_closed) c.self.view_is ∙ c.requires.open)).0.bounded in
+    let limit : o.journal.limit ≤ most_store_bytes = subst (λ (x : OwnerView). x.journal.limit ≤ most_store_bytes) c.self.view_is c.journal_is_within.ensures.bound in
+    let bounded : o.file_bytes ≤ most_file_bytes = subst (λ (x : OwnerView). x.file_bytes ≤ most_file_bytes) c.self.view_is (c.self.invariant (ap (λ (x : OwnerView). x.journal.is_closed) c.self.view_is ∙ c.requires.open)).0.bounded in
     let change = c.in-Ok.change in
     let size : skeleton_size (told_note change.note) c.skeleton.result.now c.sealed_len-text.result ≡ planned_size r change =
     ap (λ (s : Skeleton). skeleton_size (told_note change.note) s c.sealed_len-text.result) c.skeleton.ensures
@@ -107,6 +108,6 @@ returns-clause-answers c =
           let due = size_due m r o change c.in-Ok.ensures.drafted is store (c.commands_are_measured.ensures.payload m r o change.ready.skeleton is accepted (skeleton_due m r o change c.in-Ok.ensures.drafted is store)) in
           let end = c.commands_are_measured.ensures.end m r o is in
           let skeleton = skeleton_due m r o change c.in-Ok.ensures.drafted is store in
-          let ends : due_end m o.journal.has_epoch r ≤ 268435456 = let w = within_end o (planned_size r change) (due_payload m r) (due_end m o.journal.has_epoch r) due end within in omega (arith, w, limit) in
+          let ends : due_end m o.journal.has_epoch r ≤ most_store_bytes = let w = within_end o (planned_size r change) (due_payload m r) (due_end m o.journal.has_epoch r) due end within in omega (arith, w, limit) in
           (c.commands_are_measured.ensures.draws m r o change.ready.skeleton is accepted skeleton, c.commands_are_measured.ensures.few m r o is bounded accepted ends),
     )
