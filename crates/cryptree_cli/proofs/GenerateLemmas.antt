@@ -15,12 +15,14 @@ use Rattle.store_gen.specs.Rule.{requests}
 use Rattle.store_owner.specs.Counted.{root_counted}
 use Rattle.store_owner.specs.Making as making
 use Rattle.store_owner.specs.Owned.{OwnerView}
+use Rattle.store_owner.specs.Sessions.{StandsAt}
 use Rattle.store_owner.specs.Tallied.{counted_in, tally_in, tally_of}
 use Rattle.store_owner.specs.declared.apply_fault.ApplyFault.{ApplyFault}
 use Rattle.store_owner.specs.declared.apply_fault.ApplyFault.TheVariants as faults
 use Rattle.store_owner.specs.declared.tally.Tally.{Tally}
 use Rattle.cryptree_cli.specs.Figures.{spell_figures}
 use Rattle.cryptree_cli.specs.Generating.{Begins, EndsDry, Fills, Generates, HasApplied, HasFilled, IsStop, IsUnmade, StopsApplying, Tells, script_lines, unheard}
+use Rattle.cryptree_cli.specs.Published.{LinesPublish}
 use Rattle.cryptree_cli.specs.Running.{RanCut, RanDry, Seen, apply_status, version_limits}
 use Rattle.cryptree_cli.specs.Status.{is_before_print, is_make_answer}
 use Rattle.cryptree_cli.specs.Stopping.{LinesKeepUpTo}
@@ -147,8 +149,9 @@ pub generated : RootCounted → (status : Status) (seed count : ℕ) (o : OwnerV
     → making.Makes version_limits left_before left_between shown_between o
     → ((key : List ℕ) (m : Journal) → Begins key m o shown_between
     → Fills status seed count key m (unheard left_between left_after shown_after) may_leave (LinesKeepUpTo key m (since moment)) before after)
+    → ((key : List ℕ) (m : Journal) → StandsAt version_limits key (opened m []) o shown_between → LinesPublish status key m (since moment) may_leave)
     → WhereTold shown_after (λ s. Generates status seed count left_before left_after shown_after may_leave since before after)
-generated root status seed count o left_before left_between left_after shown_between shown_after may_leave since moment before after left_told shown_told store fills = λ x now.
+generated root status seed count o left_before left_between left_after shown_between shown_after may_leave since moment before after left_told shown_told store fills publish = λ x now.
     let drawn : List ℕ = store.0 in
     let s = told_again shown_after shown_between x (sym shown_told) now in
     let whole = fresh_stands drawn o store.1.owner store.1.same_key s.0 (store.3 s.0 s.1) in
@@ -160,6 +163,7 @@ generated root status seed count o left_before left_between left_after shown_bet
       behind_told = left_told;
       moment = moment;
       fills = fills (piece drawn 0) (making.made_with (making.root_keys drawn)) (begins root drawn o shown_between s.0 store.1 s.1 whole.stands);
+      published = publish (piece drawn 0) (making.made_with (making.root_keys drawn)) (begins root drawn o shown_between s.0 store.1 s.1 whole.stands).stands;
     }
 
 -- behind the making the random source ended in a command's draw

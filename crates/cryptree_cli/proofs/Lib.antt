@@ -14,6 +14,8 @@ pub mod ListingLemmas
 pub mod MakeLemmas
 pub mod OutsideLemmas
 pub mod OwnerStepLemmas
+pub mod PublishedLines
+pub mod PublishedRuns
 pub mod ReadFaults
 pub mod RefusedRuns
 pub mod RunEnds

@@ -12,6 +12,7 @@ use Rattle.public_fold.specs.Journal.{Journal}
 use Rattle.store_owner.specs.Applying.{Answers, DiskCounts, IsKeptBy, UnlessDiskFault}
 use Rattle.store_owner.specs.Drawing.{FillsByCount}
 use Rattle.store_owner.specs.Owned.{IsOwnerOf, OwnerView}
+use Rattle.store_owner.specs.Published.{PublishesOn}
 use Rattle.store_owner.specs.Tallied.{CountsCommand}
 use Rattle.store_owner.specs.Taking.{FallsShort, TakesKeys}
 use Rattle.store_owner.specs.declared.apply_fault.ApplyFault.{ApplyFault}
@@ -33,6 +34,7 @@ pub step_answers : {R D : Type 0} (left : R → Option (List ℕ)) (random_fault
     (disk_faults : D → ℕ) (may_leave : D → List ℕ → Type 0) (since : D → ℕ → List ℕ → List ℕ → Type 0) (result : Result Reply ApplyFault)
     (r : Request) (o n : OwnerView) (x y : R) (d e : D)
     → ((m : Journal) → IsOwnerOf m o → Answers result m r o n (left x) (left y) (shown d) (shown e) (may_leave d) (may_leave e) (since e (moment d)))
+    → PublishesOn result o (shown d) (may_leave d) (may_leave e) (since e (moment d))
     → moment d ≤ moment e → GoesOn (moment d) (since d) (since e)
     → ((result ≡ Err faults.Closed) ↔ IsTrue o.journal.is_closed) → o.journal.is_closed ≡ false
     → IsKeptBy result o n x y d e → UnlessDiskFault result (IsDurable (may_leave e) (shown e)) → CountsCommand result r o n
@@ -45,8 +47,9 @@ pub step_answers : {R D : Type 0} (left : R → Option (List ℕ)) (random_fault
     (may_leave d) (may_leave e) (since d) (since e))
     (λ fault. FailsIn (scene left random_faults shown moment disk_faults o x d) r fault (scene left random_faults shown moment disk_faults n y e)
     (may_leave d) (may_leave e) (since d) (since e) × (fault ≢ faults.DiskFault → IsDurable (may_leave e) (shown e)))
-step_answers left rf shown moment df may_leave since (Ok (replies.Refused why)) r o n x y d e answers later time closed unclosed kept calm counted st lt dc rc draws short = record {
+step_answers left rf shown moment df may_leave since (Ok (replies.Refused why)) r o n x y d e answers published later time closed unclosed kept calm counted st lt dc rc draws short = record {
   answers = answers;
+  published = published;
   later = later;
   time = time;
   left_told = lt;
@@ -57,8 +60,9 @@ step_answers left rf shown moment df may_leave since (Ok (replies.Refused why)) 
   random_counts = rc;
   disk_counts = dc;
 }
-step_answers left rf shown moment df may_leave since (Ok replies.Done) r o n x y d e answers later time closed unclosed kept calm counted st lt dc rc draws short = record {
+step_answers left rf shown moment df may_leave since (Ok replies.Done) r o n x y d e answers published later time closed unclosed kept calm counted st lt dc rc draws short = record {
   answers = answers;
+  published = published;
   later = later;
   time = time;
   left_told = lt;
@@ -69,8 +73,9 @@ step_answers left rf shown moment df may_leave since (Ok replies.Done) r o n x y
   random_counts = rc;
   disk_counts = dc;
 }
-step_answers left rf shown moment df may_leave since (Ok (replies.Made holder key)) r o n x y d e answers later time closed unclosed kept calm counted st lt dc rc draws short = record {
+step_answers left rf shown moment df may_leave since (Ok (replies.Made holder key)) r o n x y d e answers published later time closed unclosed kept calm counted st lt dc rc draws short = record {
   answers = answers;
+  published = published;
   later = later;
   time = time;
   left_told = lt;
@@ -81,9 +86,10 @@ step_answers left rf shown moment df may_leave since (Ok (replies.Made holder ke
   random_counts = rc;
   disk_counts = dc;
 }
-step_answers left rf shown moment df may_leave since (Err faults.RandomFault) r o n x y d e answers later time closed unclosed kept calm counted st lt dc rc draws short = (
+step_answers left rf shown moment df may_leave since (Err faults.RandomFault) r o n x y d e answers published later time closed unclosed kept calm counted st lt dc rc draws short = (
   record {
     answers = answers;
+    published = published;
     later = later;
     time = time;
     left_told = lt;
@@ -99,9 +105,10 @@ step_answers left rf shown moment df may_leave since (Err faults.RandomFault) r 
   },
   λ no. calm,
 )
-step_answers left rf shown moment df may_leave since (Err (faults.RandomShort had need)) r o n x y d e answers later time closed unclosed kept calm counted st lt dc rc draws short = (
+step_answers left rf shown moment df may_leave since (Err (faults.RandomShort had need)) r o n x y d e answers published later time closed unclosed kept calm counted st lt dc rc draws short = (
   record {
     answers = answers;
+    published = published;
     later = later;
     time = time;
     left_told = lt;
@@ -117,9 +124,10 @@ step_answers left rf shown moment df may_leave since (Err (faults.RandomShort ha
   },
   λ no. calm,
 )
-step_answers left rf shown moment df may_leave since (Err faults.DiskFault) r o n x y d e answers later time closed unclosed kept calm counted st lt dc rc draws short = (
+step_answers left rf shown moment df may_leave since (Err faults.DiskFault) r o n x y d e answers published later time closed unclosed kept calm counted st lt dc rc draws short = (
   record {
     answers = answers;
+    published = published;
     later = later;
     time = time;
     left_told = lt;
@@ -135,12 +143,13 @@ step_answers left rf shown moment df may_leave since (Err faults.DiskFault) r o 
   },
   λ no. absurd (no refl),
 )
-step_answers left rf shown moment df may_leave since (Err faults.Closed) r o n x y d e answers later time closed unclosed kept calm counted st lt dc rc draws short =
+step_answers left rf shown moment df may_leave since (Err faults.Closed) r o n x y d e answers published later time closed unclosed kept calm counted st lt dc rc draws short =
     let shut : IsTrue o.journal.is_closed = closed.0 refl in
     absurd cc
-step_answers left rf shown moment df may_leave since (Err faults.OutOfMemory) r o n x y d e answers later time closed unclosed kept calm counted st lt dc rc draws short = (
+step_answers left rf shown moment df may_leave since (Err faults.OutOfMemory) r o n x y d e answers published later time closed unclosed kept calm counted st lt dc rc draws short = (
   record {
     answers = answers;
+    published = published;
     later = later;
     time = time;
     left_told = lt;

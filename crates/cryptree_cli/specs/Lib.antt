@@ -8,6 +8,7 @@ pub mod Lines
 pub mod Listing
 pub mod Outside
 pub mod OwnerSteps
+pub mod Published
 pub mod Refusing
 pub mod Running
 pub mod Script

@@ -11,6 +11,7 @@ ghost use Rattle.journal_bytes.specs.Bytes.{image_of};
 ghost use Rattle.journal_bytes.specs.Script.{opened};
 ghost use Rattle.store_owner.specs.Sessions.{StandsAt};
 ghost use Rattle.cryptree_cli.specs.Lines.{IsUnended, bytes_ahead, lines_ahead};
+ghost use Rattle.cryptree_cli.specs.Published.{LinesPublish, PublishesTyped};
 ghost use Rattle.cryptree_cli.specs.Refusing.{Refuses, is_refusal};
 ghost use Rattle.cryptree_cli.specs.Running as running;
 ghost use Rattle.cryptree_cli.specs.Running.{CountsOwner, Ends, EndsTyped, KeepsFrom, FirstIsBad, GivesOwner, HasBadLine, Judges};
@@ -51,6 +52,8 @@ pub(crate) fn run<S: Source, R: Source, D: Disk, W: Sink>(
     ensures ran { WhereTold (S.left input.old) (λ typed. EndsTyped result typed
         (seen_from (R.left random.old) (R.left random.new) (D.shown disk.old) (D.shown disk.new) (W.written out.old) (W.written out.new))
         (D.may_leave disk.old) (D.since disk.new (D.moment disk.old)) (D.may_leave disk.new)) }
+    ensures published { WhereTold (S.left input.old) (λ typed. PublishesTyped result typed (D.shown disk.old) (D.may_leave disk.old)
+        (D.since disk.new (D.moment disk.old)) (D.may_leave disk.new)) }
     ensures later { D.moment disk.old ≤ D.moment disk.new }
     ensures time { GoesOn (D.moment disk.old) (D.since disk.old) (D.since disk.new) }
     ensures lines { RanLines result lines_typed (S.left input.old) (W.written out.old) (W.written out.new) }
@@ -138,6 +141,8 @@ fn apply_lines<S: Source, R: Source, D: Disk, W: Sink>(
         Ends result version_limits key m (lines_ahead reader left)
         (seen_from (R.left random.old) (R.left random.new) was (D.shown disk.new) (W.written out.old) (W.written out.new))
         (D.may_leave disk.new) (LinesKeepUpTo key m (D.since disk.new (D.moment disk.old)))) }
+    ensures published { (key : List ℕ) (m : Journal) → StandsAt version_limits key (opened m []) owner (D.shown disk.old)
+        → LinesPublish result key m (D.since disk.new (D.moment disk.old)) (D.may_leave disk.new) }
     ensures later { D.moment disk.old ≤ D.moment disk.new }
     ensures time { GoesOn (D.moment disk.old) (D.since disk.old) (D.since disk.new) }
     ensures lines { RanLines result (lines_ahead reader) (S.left input.old) (W.written out.old) (W.written out.new) }

@@ -8,6 +8,7 @@ ghost use Rattle.cryptree_cli.specs.Changed.{AreLinesOf, AreSightsOf, PrintsWrit
 ghost use Rattle.cryptree_cli.specs.Generating.{AsksGen, EndsDry, Generates, IsGen, IsUnmade};
 ghost use Rattle.cryptree_cli.specs.Journals.{AnswersJournal, AuditsJournal, line_of, view_of};
 ghost use Rattle.cryptree_cli.specs.Listing.{AuditAnswers, ListAnswers, OpenAnswers, Reads, is_before_read, is_list_answer, is_open_answer};
+ghost use Rattle.cryptree_cli.specs.Published.{PublishesTyped};
 ghost use Rattle.cryptree_cli.specs.Refusing.{Refuses, is_refusal};
 ghost use Rattle.cryptree_cli.specs.Running.{EndsTyped, FirstIsBad, HasBadLine, JudgesTyped, RanDry, RanLines, RanTaking, ReadsWholeTyped};
 ghost use Rattle.cryptree_cli.specs.Running.{TakesTo, is_after_opening, is_before_opening, is_run_answer, key_in_lines, lines_in};
@@ -120,9 +121,12 @@ pub fn top<S: Source, R: Source, D: Disk, W: Sink>(
 
     // On a disk that shows a journal it ends as that journal's session does, whatever it ends with, and whether or not the random
     // source tells what it has: there are keys for the accepted commands with which the session goes so. With the same keys it says what
-    // a stop may leave at each moment of the call, and behind it (specs/Stopping).
+    // a stop may leave at each moment of the call, and behind it (specs/Stopping). Whatever it ends with, no stop at a moment of it takes
+    // back what was published then; and once it ended behind the opening, all that was published at any moment stays (specs/Published).
     ensures ran { IsRun words.now.items → WhereTold (S.left input.old) (λ typed. EndsTyped result typed
         (seen_from (R.left random.old) (R.left random.new) (D.shown disk.old) (D.shown disk.new) (W.written out.old) (W.written out.new))
+        (D.may_leave disk.old) (D.since disk.new (D.moment disk.old)) (D.may_leave disk.new)) }
+    ensures run_published { IsRun words.now.items → WhereTold (S.left input.old) (λ typed. PublishesTyped result typed (D.shown disk.old)
         (D.may_leave disk.old) (D.since disk.new (D.moment disk.old)) (D.may_leave disk.new)) }
     ensures run_later { IsRun words.now.items → D.moment disk.old ≤ D.moment disk.new }
     ensures run_time { IsRun words.now.items → GoesOn (D.moment disk.old) (D.since disk.old) (D.since disk.new) }

@@ -17,7 +17,8 @@ returns-in-Ok-make-clause-generates g c = λ blank.
     inr (generated c.tallies_are_those_of_journals.ensures.made c.fill.result c.args.seed c.args.count c.in-Ok-make.owner (g.R.Source.left c.args.random.now) (g.R.Source.left c.make.new.random) (g.R.Source.left c.fill.new.random)
     (g.D.Disk.shown c.make.new.disk) (g.D.Disk.shown c.fill.new.disk) (g.D.Disk.may_leave c.fill.new.disk) (g.D.Disk.since c.fill.new.disk) (g.D.Disk.moment c.make.new.disk)
     (g.W.Sink.written c.args.out.now) (g.W.Sink.written c.fill.new.out) c.in-Ok-make.ensures.source_told c.fill.ensures.disk_told c.in-Ok-make.ensures.made
-    (λ key m begins. c.fill.ensures.fills c.args.seed c.args.count key m c.requires c.in-Ok.ensures begins))
+    (λ key m begins. c.fill.ensures.fills c.args.seed c.args.count key m c.requires c.in-Ok.ensures begins)
+    (λ key m stands. c.fill.ensures.published key m stands))
 
 pub returns-in-Ok-make-clause-calm : goal.returns-in-Ok-make-clause-calm
 returns-in-Ok-make-clause-calm g c = λ other. inr (c.fill.ensures.calm other)
