@@ -202,7 +202,7 @@ module _ (D : Type 0) (shown : D → Option (List ℕ)) (may_leave : D → List 
   all_more now (StopsBehind {before = before} runs left is) j more longer holds = all_more before runs j more longer holds
   all_more now (StopsIn {before = before} runs run left is) j more longer holds = all_more before runs j more longer holds
 
-  run_leaves : (before after : D) (l h : Journal) → HoldsBetween key l h (shown before) (may_leave before) → (run : RunOver shown may_leave moment since key before after)
+  pub run_leaves : (before after : D) (l h : Journal) → HoldsBetween key l h (shown before) (may_leave before) → (run : RunOver shown may_leave moment since key before after)
       → Leaves key l h (shown before) (shown after) run.written_before run.written_after run.typed (since after (moment before)) (may_leave after)
   run_leaves before after l h held run =
       let at = held.shows.2 in
@@ -211,7 +211,7 @@ module _ (D : Type 0) (shown : D → Option (List ℕ)) (may_leave : D → List 
       held at.from at.to shows (λ s c is left. counted after (moment before) s c run.later is left) run.status (run.ran key at.held run.hands_in shows)
 
   -- a disk that shows what a stop left, which lay between the two
-  left_between : (l h : Journal) (bytes : List ℕ) (d : D) → IsBetween (StandsForJournal key) l h bytes → IsLeft shown may_leave bytes d → HoldsBetween key l h (shown d) (may_leave d)
+  pub left_between : (l h : Journal) (bytes : List ℕ) (d : D) → IsBetween (StandsForJournal key) l h bytes → IsLeft shown may_leave bytes d → HoldsBetween key l h (shown d) (may_leave d)
   left_between l h bytes d lies is = record {
     shows = (bytes, is.0, lies);
     leaves = λ c left.

@@ -1,2 +1,3 @@
-pub mod Made
+pub mod Kept
 pub mod Left
+pub mod Made

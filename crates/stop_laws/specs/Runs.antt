@@ -1,15 +1,16 @@
 -- Runs of the program over one store, one after another, with stops in and between them. This project's own, docs/MODEL.md.
 --
--- A run is told by what `top` promises of it (its clauses `ran`, `run_later`). It is over a disk as the run before left it, or as a stop
--- left it. A stop comes behind a run, or at any moment in one. It leaves bytes that the disk might leave then; the disk shows these, and
--- nothing is pending. A command was acknowledged where its whole reply line was taken. A run that met a stop at a moment in it is told like
--- one that met a fault of the disk then: the clause of its exit says what it had acknowledged.
+-- A run is told by what `top` promises of it (its clauses `ran`, `run_published`, `run_later`). It is over a disk as the run before left it,
+-- or as a stop left it. A stop comes behind a run, or at any moment in one. It leaves bytes that the disk might leave then; the disk shows
+-- these, and nothing is pending. A command was acknowledged where its whole reply line was taken. A run that met a stop at a moment in it is
+-- told like one that met a fault of the disk then: the clause of its exit says what it had acknowledged.
 use Rattle.std.specs.Prelude.{◌≡◌, ◌≤◌, ◌⊎◌, ℕ, List, Option, Some}
 use Rattle.commit_journal.specs.Holding.{IsPrefix}
 use Rattle.cry_base.specs.Requests.{Request}
 use Rattle.cry_io.specs.Stops.{IsDurable}
 use Rattle.cry_io.specs.Told.{WhereBothTold}
 use Rattle.cryptree_cli.specs.Lines.{InputLine}
+use Rattle.cryptree_cli.specs.Published.{PublishesTyped}
 use Rattle.cryptree_cli.specs.Running.{EndsTyped, SessionOver, key_in_lines, lines_behind, lines_in, seen_from, version_limits}
 use Rattle.cryptree_cli.specs.Script.{Asks, PrintsCut}
 use Rattle.cryptree_cli.specs.declared.status.Status.{Status}
@@ -30,6 +31,7 @@ pub record RunOver {D : Type 0} (shown : D → Option (List ℕ)) (may_leave : D
   pub later : moment before ≤ moment after
   pub ran : EndsTyped status typed (seen_from left_before left_after (shown before) (shown after) written_before written_after)
       (may_leave before) (since after (moment before)) (may_leave after)
+  pub published : PublishesTyped status typed (shown before) (may_leave before) (since after (moment before)) (may_leave after)
 
 -- behind a stop a disk shows what was left, and nothing is pending
 abbrev pub IsLeft : {D : Type 0} → (D → Option (List ℕ)) → (D → List ℕ → Type 0) → List ℕ → D → Type 0

@@ -3,11 +3,13 @@ ghost use Rattle.std.specs.Prelude.{ℕ, List, ◌++◌};
 ghost use Rattle.commit_journal.specs.Holding.{IsPrefix};
 ghost use Rattle.cry_base.specs.Requests.{Request};
 ghost use Rattle.cry_base.specs.declared.limits.Limits.{Limits};
+ghost use Rattle.cry_io.specs.Stops.{IsDurable};
 ghost use Rattle.public_fold.specs.Journal.{Journal};
 ghost use Rattle.journal_bytes.specs.Journals.{HoldsBetween};
 ghost use Rattle.journal_bytes.specs.Script.{Going, script_going};
 ghost use Rattle.stop_laws.specs.Coming.{IsOfRuns};
-ghost use Rattle.stop_laws.specs.Runs.{HoldsAll, Runs};
+ghost use Rattle.store_owner.specs.Published.{HasPublished, KeepsAllPublished, StaysPublished};
+ghost use Rattle.stop_laws.specs.Runs.{HoldsAll, IsLeft, RunOver, Runs};
 
 use cry_io::Disk;
 
@@ -33,4 +35,38 @@ pub fn stops_leave_nothing_but_accepted_commands<D: Disk>(start: &D, now: &D)
     ensures { (key : List ℕ) (m1 m2 : Journal) → HoldsBetween key m1 m2 (D.shown start.now) (D.may_leave start.now) →
         (runs : Runs D.shown D.may_leave D.moment D.since key start.now now.now) (bytes : List ℕ) → D.may_leave now.now bytes →
         IsOfRuns D.shown D.may_leave D.moment D.since key m1 m2 start.now now.now runs bytes }
+{}
+
+/// Law: over every list of runs and stops, a stop at any moment of a run, whatever that ended with, leaves all batches that were published
+/// then, where so it was at the start; and whatever further runs and stops leave behind it has them too.
+pub fn nothing_published_is_taken_back<D: Disk>(
+    start: &D,
+    before: &D,
+    after: &D,
+    next: &D,
+    last: &D,
+)
+    ensures now { (key : List ℕ) (m1 m2 : Journal) → HoldsBetween key m1 m2 (D.shown start.now) (D.may_leave start.now) →
+        StaysPublished key (D.shown start.now) (D.may_leave start.now) →
+        Runs D.shown D.may_leave D.moment D.since key start.now before.now →
+        RunOver D.shown D.may_leave D.moment D.since key before.now after.now →
+        KeepsAllPublished key (D.since after.now (D.moment before.now)) }
+    ensures later { (key : List ℕ) (m1 m2 : Journal) → HoldsBetween key m1 m2 (D.shown start.now) (D.may_leave start.now) →
+        StaysPublished key (D.shown start.now) (D.may_leave start.now) →
+        Runs D.shown D.may_leave D.moment D.since key start.now before.now →
+        RunOver D.shown D.may_leave D.moment D.since key before.now after.now →
+        (shown left bytes : List ℕ) → D.since after.now (D.moment before.now) shown left → IsLeft D.shown D.may_leave left next.now →
+        Runs D.shown D.may_leave D.moment D.since key next.now last.now → D.may_leave last.now bytes →
+        HasPublished key shown bytes }
+{}
+
+/// Law: so it is with a disk on which nothing is pending; and over every list of runs and stops, behind them no stop takes back what is
+/// published then.
+pub fn what_is_published_stays<D: Disk>(start: &D, now: &D)
+    ensures calm { (key : List ℕ) → IsDurable (D.may_leave start.now) (D.shown start.now)
+        → StaysPublished key (D.shown start.now) (D.may_leave start.now) }
+    ensures stays { (key : List ℕ) (m1 m2 : Journal) → HoldsBetween key m1 m2 (D.shown start.now) (D.may_leave start.now) →
+        StaysPublished key (D.shown start.now) (D.may_leave start.now) →
+        Runs D.shown D.may_leave D.moment D.since key start.now now.now →
+        StaysPublished key (D.shown now.now) (D.may_leave now.now) }
 {}

@@ -1,0 +1,64 @@
+-- What runs and stops leave of what was published.
+use Rattle.std.proofs.Common.{◌≡◌, ◌≤◌, ℕ, List, Option, Some, sym, subst, ◌∙◌}
+use Rattle.commit_journal.specs.Holding.{IsBetween, IsPrefix}
+use Rattle.commit_journal.proofs.KeptLemmas.{prefix_same, prefix_trans}
+use Rattle.cry_io.specs.Stops.{IsDurable}
+use Rattle.journal_bytes.specs.Bytes.{batches_of}
+use Rattle.journal_bytes.specs.Journals.{HoldsBetween, ShowsJournal, StandsForJournal}
+use Rattle.journal_bytes.proofs.Grown.{batches_grow, journal_recovered}
+use Rattle.public_fold.specs.Journal.{Journal}
+use Rattle.store_owner.specs.Published.{HasPublished, KeepsAllPublished, StaysPublished, published_batches}
+use Rattle.store_owner.proofs.PublishedCommands.{published_front}
+use Rattle.stop_laws.specs.Runs.{IsLeft, RunOver, Runs}
+use Rattle.stop_laws.specs.Runs.Runs.{Begun, Ran, StopsBehind, StopsIn}
+use Rattle.stop_laws.proofs.Left.{all_left, left_between, run_leaves}
+
+-- where nothing is pending, what is left is what is shown
+pub calm_stays : (key : List ℕ) (shown : Option (List ℕ)) (may_leave : List ℕ → Type 0) → IsDurable may_leave shown → StaysPublished key shown may_leave
+calm_stays key shown may_leave durable s is c left =
+    let same : s ≡ c = let both = sym is ∙ durable c left in cc in
+    subst (HasPublished key s) same (published_front key s)
+
+module _ (D : Type 0) (shown : D → Option (List ℕ)) (may_leave : D → List ℕ → Type 0) (moment : D → ℕ) (since : D → ℕ → List ℕ → List ℕ → Type 0)
+    (counted : (d : D) (t : ℕ) (s c : List ℕ) → t ≤ moment d → shown d ≡ Some s → may_leave d c → since d t s c) (key : List ℕ) where
+  abbrev Came : D → D → Type 0
+  Came start now = Runs shown may_leave moment since key start now
+
+  abbrev Run : D → D → Type 0
+  Run before after = RunOver shown may_leave moment since key before after
+
+  -- one run
+  run_keeps : (before after : D) (l h : Journal) → HoldsBetween key l h (shown before) (may_leave before) → StaysPublished key (shown before) (may_leave before)
+      → (run : Run before after) → KeepsAllPublished key (since after (moment before))
+  run_keeps before after l h held stays run =
+      let at = held.shows.2 in
+      let shows : ShowsJournal key at.held (shown before) = (held.shows.0, held.shows.1, at.stands_for) in
+      (run.published key at.held run.hands_in shows stays).kept
+
+  module _ (start : D) (m1 m2 : Journal) (holds : HoldsBetween key m1 m2 (shown start) (may_leave start)) (stays : StaysPublished key (shown start) (may_leave start)) where
+    pub all_stay : (now : D) → Came start now → StaysPublished key (shown now) (may_leave now)
+    all_stay now Begun = stays
+    all_stay now (Ran {before = before} {after = after} runs run) = λ s is c left.
+        let so_far = all_left D shown may_leave moment since counted key start m1 m2 holds before runs in
+        run_keeps before now so_far.0 so_far.1 so_far.3 (all_stay before runs) run s c (counted now (moment before) s c run.later is left)
+    all_stay now (StopsBehind {before = before} {after = after} {bytes = bytes} runs left is) = calm_stays key (shown now) (may_leave now) is.1
+    all_stay now (StopsIn {before = before} {after = after} {next = next} {there = there} {bytes = bytes} runs run at is) = calm_stays key (shown now) (may_leave now) is.1
+
+    pub all_keep : (before after : D) → Came start before → Run before after → KeepsAllPublished key (since after (moment before))
+    all_keep before after runs run =
+        let so_far = all_left D shown may_leave moment since counted key start m1 m2 holds before runs in
+        run_keeps before after so_far.0 so_far.1 so_far.3 (all_stay before runs) run
+
+    -- behind a stop, and whatever comes then
+    pub later_keep : (before after next last : D) → Came start before → Run before after → (s c bytes : List ℕ) → since after (moment before) s c → IsLeft shown may_leave c next → Came next last
+        → may_leave last bytes → HasPublished key s bytes
+    later_keep before after next last runs run s c bytes at is more left =
+        let so_far = all_left D shown may_leave moment since counted key start m1 m2 holds before runs in
+        let k = (run_leaves D shown may_leave moment since counted key start before after so_far.0 so_far.1 so_far.3 run).kept s c at in
+        let here : IsBetween (StandsForJournal key) k.held k.held c = record { held = k.held; from = prefix_same k.held; to = prefix_same k.held; stands_for = k.stands_for } in
+        let then = all_left D shown may_leave moment since counted key next k.held k.held (left_between D shown may_leave moment since counted key start k.held k.held c next here is) last more in
+        let end = then.3.leaves bytes left in
+        let longer = batches_grow key k.held end.held (prefix_trans k.held then.0 end.held then.2 end.from) in
+        let of_c = subst (IsPrefix (published_batches key s)) (journal_recovered key k.held c k.stands_for) (all_keep before after runs run s c at) in
+        subst (IsPrefix (published_batches key s)) (sym (journal_recovered key end.held bytes end.stands_for))
+        (prefix_trans (published_batches key s) (batches_of key k.held) (batches_of key end.held) of_c longer)

@@ -1,0 +1,13 @@
+use Rattle.stop_laws.proofs.Kept.{all_keep, later_keep}
+use Rattle.stop_laws.proofs.laws.nothing_published_is_taken_back.Goals as goal
+
+pub returns : goal.returns
+returns g c =
+    let D = g.D.Disk in
+    record {
+      now = λ key m1 m2 holds stays runs run. all_keep g.row.D.Denot D.shown D.may_leave D.moment D.since (λ d t s left early shown leaves. g.met.D.Disk.counts_now d t s left early shown leaves)
+          key c.args.start.now m1 m2 holds stays c.args.before.now c.args.after.now runs run;
+      later = λ key m1 m2 holds stays runs run s l bytes at is more left.
+          later_keep g.row.D.Denot D.shown D.may_leave D.moment D.since (λ d t s left early shown leaves. g.met.D.Disk.counts_now d t s left early shown leaves)
+          key c.args.start.now m1 m2 holds stays c.args.before.now c.args.after.now c.args.next.now c.args.last.now runs run s l bytes at is more left;
+    }
