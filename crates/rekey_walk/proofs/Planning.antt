@@ -48,3 +48,13 @@ planned_is dirty es wanted leading up told = same_list (filter (has same_role le
     (plan_told dirty es wanted r).1 (both.0, (told r).0 (has-in Role same_role same_role_tells leading r both.1)))
     (λ r i. let both = (plan_told dirty es wanted r).0 i in
     filter-In Role (has same_role leading) r dirty both.0 (in-has Role same_role same_role_tells leading r ((told r).1 both.1)))
+
+-- of two ascending lists, those of the one that are in the other are those of the other that are in the one
+pub common_is : (xs ys : List Role) → IsAscending xs → IsAscending ys → filter (has same_role ys) xs ≡ filter (has same_role xs) ys
+common_is xs ys up above = same_list (filter (has same_role ys) xs) (filter (has same_role xs) ys)
+    (filter_ascends (has same_role ys) xs up) (filter_ascends (has same_role xs) ys above) (turned_in xs ys) (turned_in ys xs)
+  where
+    turned_in : (here there : List Role) (r : Role) → In r (filter (has same_role there) here) → In r (filter (has same_role here) there)
+    turned_in here there r i =
+        let both = In-filter Role (has same_role there) r here i in
+        filter-In Role (has same_role here) r there (has-in Role same_role same_role_tells there r both.1) (in-has Role same_role same_role_tells here r both.0)

@@ -98,11 +98,23 @@ pub fn plan(alloc: Global, dirty: &Dirty, edges: &[Edge], wanted: &[Role]) -> Me
         return Ok(List::new(alloc));
     }
     let leading = leading_to(alloc, edges, wanted)?;
-    common(alloc, dirty.as_slice(), &leading)
+    common(alloc, dirty, &leading)
+}
+
+/// The dirty roles that are in the set, in their order. It looks at each of the fewer: where much is dirty, a step is to
+/// pay for what leads to its wanted roles alone.
+pub(crate) fn common(alloc: Global, dirty: &Dirty, set: &RoleSet) -> Mem<List<Role>>
+    ensures { IfOk result (λ l. l.items ≡ filter (has same_role set.now) dirty.now) }
+{
+    if set.as_slice().len() < dirty.as_slice().len() {
+        those_in(alloc, set.as_slice(), &dirty.roles)
+    } else {
+        those_in(alloc, dirty.as_slice(), set)
+    }
 }
 
 /// Those of the roles that are in the set.
-pub(crate) fn common(alloc: Global, roles: &[Role], set: &RoleSet) -> Mem<List<Role>>
+fn those_in(alloc: Global, roles: &[Role], set: &RoleSet) -> Mem<List<Role>>
     ensures { IfOk result (λ l. l.items ≡ filter (has same_role set.now) roles.now) }
 {
     let mut found = List::new(alloc);

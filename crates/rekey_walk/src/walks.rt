@@ -54,5 +54,5 @@ pub fn plan_in(
         return Ok(List::new(alloc));
     }
     let leading = walk(alloc, roles, Way::Against, removed, wanted, steps)?;
-    common(alloc, dirty.as_slice(), &leading)
+    common(alloc, dirty, &leading)
 }

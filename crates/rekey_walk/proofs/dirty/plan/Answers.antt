@@ -19,6 +19,6 @@ returns c =
     let es = c.args.edges.now in
     let wanted = c.args.wanted.now in
     let leading = c.in_ok-leading.leading in
-    let told = planned_is dirty es wanted leading c.as_slice-2.ensures.ascending c.in_ok-leading.ensures in
-    IfOk-weaker c.common.result (λ l. l.items ≡ filter (has same_role leading) c.as_slice-2.result.now) (λ l. l.items ≡ plan dirty es wanted)
-    (λ l e. e ∙ (ap (filter (has same_role leading)) c.as_slice-2.ensures.roles ∙ told)) c.common.ensures
+    let told = planned_is dirty es wanted leading c.as_slice.ensures.ascending c.in_ok-leading.ensures in
+    IfOk-weaker c.common.result (λ l. l.items ≡ filter (has same_role leading) dirty) (λ l. l.items ≡ plan dirty es wanted)
+    (λ l e. e ∙ told) c.common.ensures

@@ -24,17 +24,17 @@ pub returns-clause-plan : goal.returns-clause-plan
 returns-clause-plan c =
     let s : Store = public_store c.args.roles.now.shape.now.tree c.args.roles.now.grants.now.pairs in
     let leading = c.in_ok-leading.leading in
-    let told = is_planned s c.args.removed.now c.args.wanted.now leading c.in_ok-leading.ensures.reached c.args.dirty.now c.as_slice-2.ensures.ascending in
-    IfOk-weaker c.common.result (λ (l : Listed Role). l.items ≡ filter (has same_role leading) c.as_slice-2.result.now)
+    let told = is_planned s c.args.removed.now c.args.wanted.now leading c.in_ok-leading.ensures.reached c.args.dirty.now c.as_slice.ensures.ascending in
+    IfOk-weaker c.common.result (λ (l : Listed Role). l.items ≡ filter (has same_role leading) c.args.dirty.now)
     (λ (l : Listed Role). l.items ≡ plan c.args.dirty.now (edges_but c.args.removed.now (edges s)) c.args.wanted.now)
-    (λ l e. e ∙ (ap (filter (has same_role leading)) c.as_slice-2.ensures.roles ∙ told)) c.common.ensures
+    (λ l e. e ∙ told) c.common.ensures
 
 pub returns-clause-steps : goal.returns-clause-steps
 returns-clause-steps c =
     let s : Store = public_store c.args.roles.now.shape.now.tree c.args.roles.now.grants.now.pairs in
     let leading = c.in_ok-leading.leading in
     let removed = c.args.removed.now in
-    IfOk-weaker c.common.result (λ (l : Listed Role). l.items ≡ filter (has same_role leading) c.as_slice-2.result.now)
+    IfOk-weaker c.common.result (λ (l : Listed Role). l.items ≡ filter (has same_role leading) c.args.dirty.now)
     (λ (l : Listed Role). c.walk.new.steps ≤ c.args.steps.now + 2 * count_into (edges s) (reach_along (turned (edges_but removed (edges s))) c.args.wanted.now) + length c.args.wanted.now)
     (λ l e. plan_steps s removed c.args.wanted.now leading c.in_ok-leading.ensures.reached c.args.steps.now c.walk.new.steps c.in_ok-leading.ensures.steps) c.common.ensures
 
@@ -43,7 +43,7 @@ returns-clause-whole c =
     let s : Store = public_store c.args.roles.now.shape.now.tree c.args.roles.now.grants.now.pairs in
     let leading = c.in_ok-leading.leading in
     let removed = c.args.removed.now in
-    IfOk-weaker c.common.result (λ (l : Listed Role). l.items ≡ filter (has same_role leading) c.as_slice-2.result.now)
+    IfOk-weaker c.common.result (λ (l : Listed Role). l.items ≡ filter (has same_role leading) c.args.dirty.now)
     (λ (l : Listed Role). c.walk.new.steps ≤ c.args.steps.now + 2 * length (edges s) + length c.args.wanted.now)
     (λ l e. planned_whole (edges s) (reach_along (turned (edges_but removed (edges s))) c.args.wanted.now) c.args.steps.now c.walk.new.steps (length c.args.wanted.now)
     (plan_steps s removed c.args.wanted.now leading c.in_ok-leading.ensures.reached c.args.steps.now c.walk.new.steps c.in_ok-leading.ensures.steps)) c.common.ensures
