@@ -1,8 +1,8 @@
 -- What a look-up finds among rows when one comes or goes.
-use Rattle.std.proofs.Common.{◌≡◌, ℕ, ◌<◌, ◌≤◌, Bool, true, false, cond, not, ◌==◌, List, [], ◌∷◌, ◌++◌, filter, find, Some, None, refl, sym, ap, ◌∙◌, arith, ⊎_elim}
-use Rattle.std.specs.Prelude.{nat_lt}
+use Rattle.std.proofs.Common.{◌≡◌, ℕ, ◌<◌, ◌≤◌, Bool, true, false, cond, not, ◌==◌, List, [], ◌∷◌, ◌++◌, filter, find, Some, None, refl, sym, ap, subst, ◌∙◌, arith, ⊎_elim}
+use Rattle.std.specs.Prelude.{nat_lt, IsSome}
 use Rattle.std.proofs.lemmas.Bool.{eqb-true, eq-eqb, ne_eqb, lt-ltb, cases_lt, ltb-true, false≢true}
-use Rattle.sorted_table.specs.Rows.{row_at, with_row, without}
+use Rattle.sorted_table.specs.Rows.{row_at, replaced, with_row, without}
 
 -- what is found in front stays found, and else the look-up goes on behind
 find-append : (X : Type 0) (p : X → Bool) (xs ys : List X) → find p xs ≡ None → find p (xs ++ ys) ≡ find p ys
@@ -91,6 +91,38 @@ found_without T rank rows gone k =
       | true ↦ λ t. find-none-kept T p q (λ x h. ne_eqb (rank x) k (λ e. false≢true (sym (ap not (eq-eqb (rank x) gone (e ∙ sym (eqb-true gone k t)))) ∙ h))) rows
       | false ↦ λ t. find-kept T p q (λ x e. ap not (ne_eqb (rank x) gone (λ same. false≢true (sym t ∙ eq-eqb gone k (sym same ∙ eqb-true (rank x) k e))))) rows
     ]) refl
+
+-- a row that takes the place of another is found, and the others as before
+pub found_replaced : (T : Type 0) (rank : T → ℕ) (rows : List T) (row : T) (k : ℕ) → IsSome (row_at rank rows (rank row))
+    → row_at rank (replaced rank rows row) k ≡ cond (rank row == k) (Some row) (row_at rank rows k)
+found_replaced T rank rows row k there =
+    (elim (rank row == k) as (λ b. rank row == k ≡ b → row_at rank (replaced rank rows row) k ≡ cond b (Some row) (row_at rank rows k)) [
+      | true ↦ λ t. at_own rows (subst (λ n. IsSome (row_at rank rows n)) (eqb-true (rank row) k t) there) t
+      | false ↦ λ t. at_others rows t
+    ]) refl
+  where
+    at_own : (xs : List T) → IsSome (row_at rank xs k) → rank row == k ≡ true → row_at rank (replaced rank xs row) k ≡ Some row
+    at_own [] some t = absurd (false≢true some)
+    at_own (x ∷ xs) some t =
+        let own : rank row ≡ k = eqb-true (rank row) k t in
+        (elim (rank x == rank row) as (λ b. rank x == rank row ≡ b → find (λ r. rank r == k) (cond b row x ∷ replaced rank xs row) ≡ Some row) [
+          | true ↦ λ e. ap (λ b. cond b (Some row) (row_at rank (replaced rank xs row) k)) t
+          | false ↦ λ e.
+              let other : rank x == k ≡ false = subst (λ n. rank x == n ≡ false) own e in
+              ap (λ b. cond b (Some x) (row_at rank (replaced rank xs row) k)) other
+              ∙ at_own xs (subst IsSome (ap (λ b. cond b (Some x) (row_at rank xs k)) other) some) t
+        ]) refl
+
+    at_others : (xs : List T) → rank row == k ≡ false → row_at rank (replaced rank xs row) k ≡ row_at rank xs k
+    at_others [] t = refl
+    at_others (x ∷ xs) t =
+        (elim (rank x == rank row) as (λ b. rank x == rank row ≡ b → find (λ r. rank r == k) (cond b row x ∷ replaced rank xs row) ≡ row_at rank (x ∷ xs) k) [
+          | true ↦ λ e.
+              let other : rank x == k ≡ false = subst (λ n. n == k ≡ false) (sym (eqb-true (rank x) (rank row) e)) t in
+              ap (λ b. cond b (Some row) (row_at rank (replaced rank xs row) k)) t
+              ∙ at_others xs t ∙ sym (ap (λ b. cond b (Some x) (row_at rank xs k)) other)
+          | false ↦ λ e. ap (λ o. cond (rank x == k) (Some x) o) (at_others xs t)
+        ]) refl
 
 -- rows without a rank, in two parts
 pub without-append : (T : Type 0) (rank : T → ℕ) (front rows : List T) (k : ℕ) → without rank (front ++ rows) k ≡ without rank front k ++ without rank rows k

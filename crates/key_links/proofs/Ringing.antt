@@ -12,7 +12,6 @@ use Rattle.key_links.specs.declared.any_key.AnyKey.{AnyKey}
 use Rattle.key_links.specs.declared.any_key.AnyKey.TheVariants as any
 use Rattle.key_links.specs.Ringed.{Ringed, role_of, parts_of, rank_of, key_rank, found, key_of, serial_in, IsWithKey, IsWithoutKey, IsAlone}
 use Rattle.key_links.proofs.Looked.{find-neither, found_without}
-use Rattle.key_links.proofs.BesideKeys.{behind}
 use Rattle.key_links.specs.ByKind.{IsFoundBeside}
 use Rattle.key_links.proofs.Ranks.{same_rank}
 use Rattle.sorted_table.proofs.Found.{row_at-Some}
@@ -23,19 +22,14 @@ pub found_is : (keys : List AnyKey) (role : Role) (key : AnyKey) → found keys 
 unfolding found key_rank
 found_is keys role key e = same_rank (role_of key) role ((row_at-Some AnyKey key_rank keys (rank_of role) key e).1)
 
--- a key that was put in, where none of its place stood
-pub with_key : (old : Ringed) (spare : ℕ) (front rows after : List AnyKey) (key : AnyKey) → IsFoundBeside key rows after →
-    front ++ rows ≡ without key_rank old.keys (key_rank key) → row_at key_rank front (key_rank key) ≡ None →
-    IsWithKey (record { keys = front ++ after; spare = spare }) old (role_of key) (parts_of key)
+-- a key that was put in
+pub with_key : (old : Ringed) (spare : ℕ) (after : List AnyKey) (key : AnyKey) → IsFoundBeside key old.keys after →
+    IsWithKey (record { keys = after; spare = spare }) old (role_of key) (parts_of key)
 unfolding key_of found key_rank
-with_key old spare front rows after key came is none =
-    let look : (k : ℕ) → row_at key_rank (front ++ after) k ≡ cond (key_rank key == k) (Some key) (cond (key_rank key == k) None (row_at key_rank old.keys k)) =
-    λ k. behind key front rows after none came k
-    ∙ ap (λ o. cond (key_rank key == k) (Some key) o) (ap (λ keys. row_at key_rank keys k) is ∙ found_without AnyKey key_rank old.keys (key_rank key) k) in
-    record {
-      here = ap (option_map parts_of) (look (key_rank key) ∙ ap (λ b. cond b (Some key) (cond b None (row_at key_rank old.keys (key_rank key)))) (eq-eqb (key_rank key) (key_rank key) refl));
-      others = λ other apart. ap (option_map parts_of) (look (rank_of other) ∙ ap (λ b. cond b (Some key) (cond b None (row_at key_rank old.keys (rank_of other)))) (ne_eqb (key_rank key) (rank_of other) (λ same. apart (sym (same_rank (role_of key) other same)))));
-    }
+with_key old spare after key look = record {
+  here = ap (option_map parts_of) (look (key_rank key) ∙ ap (λ b. cond b (Some key) (row_at key_rank old.keys (key_rank key))) (eq-eqb (key_rank key) (key_rank key) refl));
+  others = λ other apart. ap (option_map parts_of) (look (rank_of other) ∙ ap (λ b. cond b (Some key) (row_at key_rank old.keys (rank_of other))) (ne_eqb (key_rank key) (rank_of other) (λ same. apart (sym (same_rank (role_of key) other same)))));
+}
 
 -- the key of a role taken out
 pub without_key : (old new : Ringed) (role : Role) → new.keys ≡ without key_rank old.keys (rank_of role) → IsWithoutKey new old role

@@ -1,5 +1,5 @@
 //! Keys in a table for each kind of role, or for two whose keys come in turn.
-ghost use Rattle.std.specs.Prelude.{◌≡◌, ◌+◌, ◌≤◌, [], None, IsOk, OnOk};
+ghost use Rattle.std.specs.Prelude.{◌≡◌, ◌+◌, ◌≤◌, [], IsOk, OnOk};
 ghost use Rattle.std.specs.Option.{option_copied};
 ghost use Rattle.key_links.specs.ByKind.{IsFoundBeside, either};
 ghost use Rattle.key_links.specs.Ringed.{key_rank};
@@ -72,19 +72,39 @@ impl KeysByKind {
         first_of(upper, first_of(self.ways.find(place), lower))
     }
 
-    /// Puts the key beside the others, of which none has its place, where there is room. It takes no memory.
-    pub(crate) fn insert(&mut self, key: AnyKey)
-        requires room { 1 ≤ self.old.spare }
-        requires absent { row_at key_rank self.old.rows (key_rank key) ≡ None }
+    /// Puts the key in the place of the one that has its place, or beside the others where none has, where there is room. One that
+    /// is replaced moves no other. It takes no memory.
+    pub(crate) fn put(&mut self, key: AnyKey)
+        requires { 1 ≤ self.old.spare }
         ensures rows { IsFoundBeside key self.old.rows self.new.rows }
         ensures spare { self.old.spare ≤ self.new.spare + 1 }
     {
+        // What has the place in a table before the key's own would be found first.
+        let place = key.place();
         match key.role() {
-            Role::Owner | Role::Holder(_) => self.holders.insert(key),
-            Role::Clear(_) | Role::Sub(_) => self.entries.insert(key),
-            Role::Back(_) | Role::Files(_) => self.ways.insert(key),
-            Role::Data(_) => self.titles.insert(key),
-            Role::File(_) => self.files.insert(key),
+            Role::Owner | Role::Holder(_) => put_row(&mut self.holders, key),
+            Role::Clear(_) | Role::Sub(_) => {
+                let _ = self.holders.remove(&place);
+                put_row(&mut self.entries, key);
+            }
+            Role::Back(_) | Role::Files(_) => {
+                let _ = self.holders.remove(&place);
+                let _ = self.entries.remove(&place);
+                put_row(&mut self.ways, key);
+            }
+            Role::Data(_) => {
+                let _ = self.holders.remove(&place);
+                let _ = self.entries.remove(&place);
+                let _ = self.ways.remove(&place);
+                put_row(&mut self.titles, key);
+            }
+            Role::File(_) => {
+                let _ = self.holders.remove(&place);
+                let _ = self.entries.remove(&place);
+                let _ = self.ways.remove(&place);
+                let _ = self.titles.remove(&place);
+                put_row(&mut self.files, key);
+            }
         }
     }
 
@@ -108,5 +128,18 @@ fn first_of<'a>(first: Option<&'a AnyKey>, second: Option<&'a AnyKey>) -> Option
     match first {
         Some(key) => Some(key),
         None => second,
+    }
+}
+
+/// Puts the key in the place of the one that has its place, or beside the others where none has.
+fn put_row(rows: &mut Table<AnyKey>, key: AnyKey)
+    requires { 1 ≤ rows.old.spare }
+    ensures rows { IsFoundBeside key rows.old.rows rows.new.rows }
+    ensures spare { rows.old.spare ≤ rows.new.spare + 1 }
+{
+    if rows.find(&key.place()).is_some() {
+        rows.replace(key);
+    } else {
+        rows.insert(key);
     }
 }

@@ -127,8 +127,8 @@ impl KeyRing {
         ensures key { IsWithKey self.new self.old (role_of key) (parts_of key) }
         ensures spare { self.old.spare ≤ self.new.spare + 1 }
     {
-        self.empty(&key.place());
-        self.held.insert(key);
+        empty_root(&mut self.root, &key.place());
+        self.held.put(key);
     }
 
     // Takes out the key at the place.

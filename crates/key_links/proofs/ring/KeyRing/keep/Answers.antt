@@ -1,19 +1,16 @@
-use Rattle.std.proofs.Common.{ap, ◌∙◌}
+use Rattle.std.proofs.Common.{◌++◌, ap, subst}
 use Rattle.std.specs.Option.{option_to_list}
-use Rattle.sorted_table.specs.Rows.{without}
-use Rattle.key_links.specs.Ringed.{key_rank}
-use Rattle.key_links.proofs.Ringing.{emptied, with_key}
+use Rattle.key_links.specs.ByKind.{IsFoundBeside}
+use Rattle.key_links.proofs.BesideKeys.{cleared}
+use Rattle.key_links.proofs.Ringing.{with_key}
 use Rattle.key_links.proofs.ring.KeyRing.keep.Goals as goal
-
-pub insert-requires-clause-absent : goal.insert-requires-clause-absent
-insert-requires-clause-absent c =
-    (emptied c.empty.new.self (option_to_list c.self.inside.root) c.self.inside.held.rows c.args.self.now.keys (key_rank c.args.key)
-    (ap (λ r. r.keys) c.self.view_is) (c.empty.ensures.keys ∙ ap (λ n. without key_rank c.args.self.now.keys n) c.place.ensures)).1
 
 pub returns-clause-key : goal.returns-clause-key
 returns-clause-key c =
-    let keys = c.empty.ensures.keys ∙ ap (λ n. without key_rank c.args.self.now.keys n) c.place.ensures in
-    let whole = ap (λ r. r.keys) c.self.view_is in
+    let old = c.args.self.now in
     let root = option_to_list c.self.inside.root in
-    with_key c.args.self.now c.insert.new.self.spare root c.self.inside.held.rows c.insert.new.self.rows c.args.key c.insert.ensures.rows (whole ∙ keys)
-    (emptied c.empty.new.self root c.self.inside.held.rows c.args.self.now.keys (key_rank c.args.key) whole keys).0
+    let root' = option_to_list c.empty_root.new.root in
+    let after = root' ++ c.put.new.self.rows in
+    with_key old c.put.new.self.spare after c.args.key
+    (subst (λ keys. IsFoundBeside c.args.key keys after) (ap (λ r. r.keys) c.self.view_is)
+    (cleared c.args.key root c.self.inside.held.rows root' c.put.new.self.rows c.place.result.0 c.place.ensures c.empty_root.ensures c.put.ensures.rows))
