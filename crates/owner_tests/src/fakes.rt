@@ -3,7 +3,7 @@ ghost use Rattle.std.specs.Prelude.{◌≡◌, ◌≤◌, [], ◌∷◌, length,
 ghost use Rattle.cry_io.specs.Events.{Stays};
 ghost use Rattle.cry_io.specs.Leaving.{shown_of};
 
-use cry_base::{Limits, List, Mem};
+use cry_base::{Limits, List, Mem, Text};
 use cry_io::{MemDisk, MemSource};
 use std::alloc::Global;
 use std::test::Fail;
@@ -39,7 +39,7 @@ fn blank(alloc: Global) -> Mem<MemDisk>
     MemDisk::make(
         alloc,
         List::new(alloc),
-        4096,
+        8192,
         16_384,
         List::new(alloc),
         None,
@@ -55,11 +55,18 @@ fn rising(alloc: Global) -> Mem<MemSource> {
     Ok(MemSource::make(bytes, 7, List::new(alloc)))
 }
 
-/// The bytes from 255 down to 0.
+/// The bytes from 255 down to 0, four times.
 pub(crate) fn falling(alloc: Global) -> Mem<MemSource> {
     let mut bytes = List::new(alloc);
-    for i in 0..=255u8 {
-        bytes.push(255 - i)?;
+    for _ in 0..4 {
+        append_falling(&mut bytes)?;
     }
     Ok(MemSource::make(bytes, 7, List::new(alloc)))
+}
+
+fn append_falling(bytes: &mut Text) -> Mem<()> {
+    for byte in 0..=255u8 {
+        bytes.push(255 - byte)?;
+    }
+    Ok(())
 }

@@ -1,4 +1,4 @@
-//! Tests of an owner over fakes. They stand in a crate of their own, so that they are proved from the owner's contract alone, and
+//! Tests of an owner over fakes. They stand in a crate of their own, so that they are proved from contracts alone, and
 //! `store_owner` isn't proved with them again.
 #![tactic(auto)]
 
@@ -6,3 +6,7 @@
 mod fakes;
 #[cfg(test)]
 mod limit;
+#[cfg(test)]
+mod memory;
+#[cfg(test)]
+mod script;

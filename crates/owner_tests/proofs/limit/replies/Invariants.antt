@@ -1,6 +1,0 @@
-use Rattle.std.proofs.Common.{◌≡◌, ◌≤◌, false, length}
-use Rattle.cry_io.specs.Leaving.{shown_of}
-use Rattle.owner_tests.proofs.limit.replies.Given as goal
-
-abbrev pub invariant-loop-command : goal.invariant-loop-command
-invariant-loop-command l = l.store.owner.journal.is_closed ≡ false → l.store.owner.journal.end ≤ length (shown_of l.store.disk.events)
