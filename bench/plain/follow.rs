@@ -51,8 +51,8 @@ pub struct State {
     pub next: u64, // serial
     serials: [Vec<u64>; 8],
     dirty: BTreeSet<Role>,
-    /// Where the last content of each kind and id stands, and the last link of each kind and target: of the kinds that an owner opens, no two
-    /// links that stand have one target.
+    /// Where the last content of each kind and id stands, and the last link of each kind and target: of the kinds that an owner opens,
+    /// no two links that stand have one target.
     pub contents: [Vec<usize>; 4],
     pub links: [Vec<usize>; 10],
 }

@@ -1,4 +1,5 @@
-//! Opens a cryptree store by its owner's key as docs/FORMAT.md says it, in plain Rust with nothing proved: what the program is measured against.
+//! Opens a cryptree store by its owner's key as docs/FORMAT.md says it, in plain Rust with nothing proved: bench/beside_plain measures the
+//! program beside it.
 //!
 //!     rustc --edition 2024 -O bench/plain/main.rs -o PLAIN
 //!     PLAIN STORE open      opens the store for writing, as `run` does before its first command

@@ -91,7 +91,10 @@ impl Opened {
         let text = self.open(key, at, at + 14, at + 26..at + 26 + be32(&self.image[at + 22..]) as usize)?;
         let is_formed = match (kind, &self.image[text.clone()]) {
             (1, name) => is_name(name) || id == 1,
-            (2, [length, rest @ ..]) => rest.split_at_checked(*length as usize).is_some_and(|(name, bytes)| is_name(name) && bytes.len() <= FILE_LIMIT),
+            (2, [length, rest @ ..]) => {
+                let parts = rest.split_at_checked(*length as usize);
+                parts.is_some_and(|(name, bytes)| is_name(name) && bytes.len() <= FILE_LIMIT)
+            }
             _ => true,
         };
         if is_formed { Ok(text) } else { Err(damaged(at)) }
