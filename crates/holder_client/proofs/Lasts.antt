@@ -159,6 +159,10 @@ nothing_indexed index no_links no_contents = record {
 pub at_item : {X : Type 0} (xs : List X) (i : ℕ) (x : X) → i < length xs → x ≡ get_or xs i x → IsAt xs i x
 at_item xs i x within is = slice_get-get_or xs i x within ∙ ap Some (sym is)
 
+-- one item stands at a place
+pub same_item : {X : Type 0} (xs : List X) (i : ℕ) (x y : X) → IsAt xs i x → IsAt xs i y → x ≡ y
+same_item xs i x y one other = let both : Some x ≡ Some y = sym one ∙ other in cc
+
 pub at_mapped : {X Y : Type 0} (f : X → Y) (xs : List X) (i : ℕ) (x : X) → IsAt xs i x → IsAt (map f xs) i (f x)
 at_mapped f xs i x is =
     let inside : i < length (map f xs) = subst (λ n. i < n) (sym (length-map xs f)) (slice_get_within xs i x is) in
