@@ -16,7 +16,6 @@ use Rattle.holder_client.specs.Answering.{IsFault}
 use Rattle.holder_client.specs.declared.fault.ClientFault.{ClientFault}
 use Rattle.holder_client.specs.declared.last_links.FoundLink.{FoundLink}
 use Rattle.holder_client.specs.declared.fault.ClientFault.TheVariants as faults
-use Rattle.public_fold.specs.Standing.{PublicView}
 use Rattle.std.specs.Option.{IsSome}
 use Rattle.holder_client.specs.Holding.{ArePresent, HoldsKeys, HasKind}
 use Rattle.holder_client.specs.Placing.{PlacedLink, PlacedContent, last_one, is_for_edge, log_links, link_for, content_for}

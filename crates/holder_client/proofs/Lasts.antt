@@ -34,7 +34,7 @@ use Rattle.holder_client.specs.declared.fault.ClientFault.{ClientFault}
 use Rattle.holder_client.specs.declared.records.FoundContent.{FoundContent}
 use Rattle.holder_client.specs.Found.{FindsAt, IsFree, IsLinkFor, plain_content_found, content_here, has_present_serials, head_of_edge, is_of, is_sought, link_here, newest_for, only_if, plain_link}
 use Rattle.holder_client.specs.Indexed.{HasLastContents, HasLastLinks, IsContentAt, IsIndexOf, IsLastAt, head_of_content, head_of_link, same_content_heads, same_link_heads}
-use Rattle.holder_client.specs.Placing.{PlacedContent, PlacedLink, body_contents, body_links, contents_at, content_for, is_for_edge, last_one, link_for, links_at, log_contents, log_links}
+use Rattle.holder_client.specs.Placing.{PlacedContent, PlacedLink, body_contents, body_links, contents_at, content_for, is_for_edge, last_one, links_at, log_contents, log_links}
 use Rattle.holder_client.specs.Spots.{IsAt, contents_in}
 use Rattle.holder_client.proofs.Following.{last_passes}
 use Rattle.holder_client.proofs.NewestLinks.{for_present}

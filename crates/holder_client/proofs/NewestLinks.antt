@@ -1,6 +1,6 @@
 -- In a log whose payloads fit, no link of an edge follows the one that leads from present key to present key.
 use Rattle.std.proofs.Common.{◌≡◌, ◌≢◌, ℕ, ◌+◌, ◌*◌, ◌^◌, ◌<◌, ◌≤◌, Bool, true, false, cond, ◌==◌, ◌&&◌, ◌⊎◌, List, [], ◌∷◌, ◌++◌, length, Option, Some, None, Ok, inl, inr, ⊎_elim, refl, sym, ap, ◌∙◌, subst, arith}
-use Rattle.std.specs.Prelude.{if◌then◌else◌, nat_lt, unwrap_or}
+use Rattle.std.specs.Prelude.{nat_lt, unwrap_or}
 use Rattle.std.proofs.lemmas.Bool.{and_from, and_parts, eq-eqb, eqb-true, false_from_ne_true, false≢true, ltb-true}
 use Rattle.commit_journal.specs.Placed.{Commands, PlainPlaced}
 use Rattle.commit_journal.specs.Places.{link_offset}
@@ -15,7 +15,7 @@ use Rattle.holder_client.specs.Found.{has_present_serials, head_of_edge, is_soug
 use Rattle.holder_client.specs.Holding.{HasKind, IsReadingIn}
 use Rattle.holder_client.specs.Placing.{PlacedLink, body_links, is_for_edge, last_one, link_for, links_at, log_links}
 use Rattle.holder_client.specs.Visiting.{Reading}
-use Rattle.holder_client.proofs.FoldedHolds.{first_stand, for_edge, log_each}
+use Rattle.holder_client.proofs.FoldedHolds.{for_edge, log_each}
 use Rattle.holder_client.proofs.Following.{IsLinkOf, head_of, last_passes, source_is, target_is}
 use Rattle.key_links.specs.Ended.{kind_from, kind_to, role_with, row_numbered, source_role, target_role}
 use Rattle.move_plan.specs.Change.{Change, change_of}

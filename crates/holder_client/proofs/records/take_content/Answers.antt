@@ -1,8 +1,7 @@
-use Rattle.std.proofs.Common.{◌≡◌, List, get_or, map, rules, sym, ap, subst, ◌∙◌}
+use Rattle.std.proofs.Common.{◌≡◌, get_or, map, rules, sym, ap, subst, ◌∙◌}
 use Rattle.commit_journal.specs.Placed.{plain_body}
 use Rattle.record_format.specs.Plain.{PlainContent, plain_content}
 use Rattle.record_format.specs.declared.payload.Payload.{Payload}
-use Rattle.record_format.specs.Spellable.{IsContent}
 use Rattle.holder_client.specs.Found.{content_here}
 use Rattle.holder_client.specs.Spots.{IsAt, contents_in}
 use Rattle.holder_client.proofs.Lasts.{at_item, at_mapped, same_item, standing_form}
