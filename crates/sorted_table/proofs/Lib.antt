@@ -3,3 +3,4 @@ pub mod Ordered
 pub mod Placed
 pub mod Rising
 pub mod Searched
+mod Shifted

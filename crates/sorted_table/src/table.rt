@@ -1,7 +1,8 @@
 //! Rows in ascending order of their ranks.
-ghost use Rattle.std.specs.Prelude.{◌≡◌, ◌+◌, ◌≤◌, ◌&&◌, [], length, nat_le, filter, IsOk, IsSome, OnOk, IfOk, IfErr, IsTrue, MatchOption};
+ghost use Rattle.std.specs.Prelude.{◌≡◌, ◌+◌, ◌-◌, ◌<◌, ◌≤◌, ◌&&◌, [], cond, length, nat_le, nat_lt, filter, IsOk, IsSome, OnOk, IfOk, IfErr, IsTrue, MatchOption};
 ghost use Rattle.std.specs.Prelude.{◌↔◌, ◌≢◌, None, AllPairs};
 ghost use Rattle.std.specs.Fn.{CalledAt};
+ghost use Rattle.std.specs.List.{HoldsAt, insert, remove};
 ghost use Rattle.std.specs.List.Retain.{IsFiltered};
 ghost use Rattle.std.specs.List.Sorted.{IsPermutation};
 ghost use Rattle.std.specs.Option.{option_copied};
@@ -120,7 +121,8 @@ impl<T: Ranked + Drop> Table<T> {
         self.rows[at] = row;
     }
 
-    /// Takes the row with the key's rank out, and adds one whose rank no other row has. It takes no memory.
+    /// Takes the row with the key's rank out, and adds one whose rank no other row has. It takes no memory, and moves the rows
+    /// between the two places alone.
     pub fn exchange<K: Key<T>>(&mut self, key: &K, row: T)
         requires there { IsSome (row_at T.rank self.old.rows (K.sought key.now)) }
         requires absent { row_at T.rank (without T.rank self.old.rows (K.sought key.now)) (T.rank row) ≡ None }
@@ -130,11 +132,12 @@ impl<T: Ranked + Drop> Table<T> {
         let Ok(from) = place_of(&self.rows, key) else {
             unreachable!();
         };
-        let _ = self.rows.remove(from);
-        let Err(to) = place_of(&self.rows, &SameRank(&row)) else {
-            unreachable!();
+        let to = match place_of(&self.rows, &SameRank(&row)) {
+            Ok(at) => at,
+            Err(at) => at,
         };
-        let _ = self.rows.insert(to, row);
+        self.rows[from] = row;
+        shift(&mut self.rows, from, to);
     }
 
     /// Takes the row with the key's rank out, where there is one.
@@ -223,4 +226,17 @@ fn place_of<T: Ranked, K: Key<T>>(rows: &[T], key: &K) -> Result<usize, usize>
     ensures absent { IfErr result (IsGapFor T.rank rows.now (K.sought key.now)) }
 {
     rows.binary_search_by(|row| key.compare_row(row))
+}
+
+// Moves the row at the place `from` to before what is at the place `to`.
+fn shift<T>(rows: &mut [T], from: usize, to: usize)
+    requires from { from < length rows.old }
+    requires to { to ≤ length rows.old }
+    ensures { HoldsAt (λ row. rows.new ≡ insert (remove rows.old from) (cond (nat_lt from to) (to - 1) to) row) rows.old from }
+{
+    if from < to {
+        rows[from..to].rotate_left(1);
+    } else {
+        rows[to..from + 1].rotate_right(1);
+    }
 }

@@ -1,8 +1,13 @@
-use Rattle.std.proofs.Common.{◌≡◌, ◌∙◌, ap, sym, subst, refl, arith}
+use Rattle.std.proofs.Common.{◌≡◌, ℕ, ◌⊎◌, ◌++◌, List, length, take, vec_len, None, ◌∙◌, sym, subst, arith, inl, inr}
+use Rattle.std.proofs.Math.Seq.{take-append_seam}
+use Rattle.sorted_table.specs.Places.{IsAt, IsGapFor}
 use Rattle.sorted_table.specs.Rows.{IsRising, row_at, with_row, without}
-use Rattle.sorted_table.proofs.Placed.{row_at-here, row_at-gap, without-here, with_row-gap}
+use Rattle.sorted_table.proofs.Placed.{row_at-gap}
 use Rattle.sorted_table.proofs.Rising.{rising-with_row, rising-without}
+use Rattle.sorted_table.proofs.Shifted.{exchanged}
+use Rattle.sorted_table.proofs.table.Table.exchange.Given.{Over}
 use Rattle.sorted_table.proofs.table.Table.exchange.Goals as goal
+use Rattle.sorted_table.proofs.table.Table.exchange.Goals.{in-Ok-place_of, in-Err}
 
 pub unreachable-requires : goal.unreachable-requires
 unreachable-requires g c =
@@ -11,40 +16,38 @@ unreachable-requires g c =
     let some = rw (← c.self.view_is, nowhere) at c.requires.there in
     cc
 
-pub place_of-requires-2 : goal.place_of-requires-2
-place_of-requires-2 g c =
-    let found = c.in-Ok.ensures.found in
-    let left = without-here _ g.T.Ranked.rank c.self.inside.rows.items _ c.in-Ok.from c.self.invariant (rw c.deref.ensures.value at found) in
-    subst (IsRising g.T.Ranked.rank) (left ∙ sym c.remove.ensures.items ∙ sym c.deref-2.ensures.value) (rising-without _ g.T.Ranked.rank c.self.inside.rows.items c.self.invariant _)
+-- the rows that are written back
+rows_then : (g : Over) (c : goal.After-self-2-1 g) → c.shift.new.rows
+    ≡ with_row g.T.Ranked.rank (without g.T.Ranked.rank c.self.inside.rows.items (g.K.Key.sought c.args.key.now)) c.args.row
+rows_then g c =
+    let rank = g.T.Ranked.rank in
+    let rows = c.self.inside.rows.items in
+    let sought = g.K.Key.sought c.args.key.now in
+    let row = c.args.row in
+    let is_at : IsAt rank rows sought c.in-Ok.from = rw c.deref.ensures.value at c.in-Ok.ensures.found in
+    let absent : row_at rank (without rank rows sought) (rank row) ≡ None = rw (← c.self.view_is) at c.requires.absent in
+    let place : IsAt rank rows (rank row) c.match-place_of-2.to ⊎ IsGapFor rank rows (rank row) c.match-place_of-2.to =
+    elim c.match-place_of-2.branch [
+      | in-Ok-place_of w ↦ inl (subst (IsAt rank rows (rank row)) (sym w.to-is)
+          (rw c.deref-2.ensures.value at w.in-Ok-place_of.ensures.found))
+      | in-Err w ↦ inr (subst (IsGapFor rank rows (rank row)) (sym w.to-is)
+          (rw c.deref-2.ensures.value at w.in-Err.ensures.absent))
+    ] in
+    let moved = rw c.deref_mut.ensures.value at c.shift.ensures in
+    exchanged _ rank rows _ c.in-Ok.from c.match-place_of-2.to row c.self.invariant is_at c.shift.new.rows absent place moved
 
-pub unreachable-requires-in_default-place_of : goal.unreachable-requires-in_default-place_of
-unreachable-requires-in_default-place_of g c =
-    let found = c.in-Ok.ensures.found in
-    let left = without-here _ g.T.Ranked.rank c.self.inside.rows.items _ c.in-Ok.from c.self.invariant (rw c.deref.ensures.value at found) in
-    let rest : without g.T.Ranked.rank c.self.inside.rows.items (g.K.Key.sought c.args.key.now) ≡ c.deref-2.result.now = left ∙ sym c.remove.ensures.items ∙ sym c.deref-2.ensures.value in
-    let rising = subst (IsRising g.T.Ranked.rank) rest (rising-without _ g.T.Ranked.rank c.self.inside.rows.items c.self.invariant _) in
-    let here = row_at-here _ g.T.Ranked.rank c.deref-2.result.now _ c.in_default-place_of.field-0 rising c.in_default-place_of.ensures.found c.args.row in
-    let absent = rw (← c.self.view_is) at c.requires.absent in
-    let nothing = ap (λ l. row_at g.T.Ranked.rank l (g.T.Ranked.rank c.args.row)) (sym rest) ∙ absent in
-    cc
+-- and all of them are
+size : (g : Over) (c : goal.After-self-2-1 g) → vec_len c.self.inside.rows ≡ length c.shift.new.rows
+size g c = omega (arith, c.deref.ensures.len, c.shift.auto.rows, c.deref_mut.ensures.len)
+
+written : (T : Type 0) (after more : List T) (n : ℕ) → n ≡ length after → take n (after ++ more) ≡ after
+written T after more n same = rw same (take-append_seam after more)
+
+pub returns-clause-rows : goal.returns-clause-rows
+returns-clause-rows g c = rw (← c.self.view_is) (written _ _ _ _ (size g c) ∙ rows_then g c)
 
 pub invariant_of-self : goal.invariant_of-self
 invariant_of-self g c =
-    let found = c.in-Ok.ensures.found in
-    let left = without-here _ g.T.Ranked.rank c.self.inside.rows.items _ c.in-Ok.from c.self.invariant (rw c.deref.ensures.value at found) in
-    let rest : without g.T.Ranked.rank c.self.inside.rows.items (g.K.Key.sought c.args.key.now) ≡ c.remove.new.self.items = left ∙ sym c.remove.ensures.items in
-    let rising = subst (IsRising g.T.Ranked.rank) rest (rising-without _ g.T.Ranked.rank c.self.inside.rows.items c.self.invariant _) in
-    let absent = c.in-Err.ensures.absent in
-    let gap = with_row-gap _ g.T.Ranked.rank c.remove.new.self.items _ c.in-Err.to (rw c.deref-2.ensures.value at absent) c.args.row refl in
-    let stored = c.insert.ensures.succeeds (omega arith) in
-    subst (IsRising g.T.Ranked.rank) (gap ∙ sym (rw stored at c.insert.ensures.items)) (rising-with_row _ g.T.Ranked.rank c.remove.new.self.items rising c.args.row)
-
-pub returns-clause-rows : goal.returns-clause-rows
-returns-clause-rows g c =
-    let found = c.in-Ok.ensures.found in
-    let left = without-here _ g.T.Ranked.rank c.self.inside.rows.items _ c.in-Ok.from c.self.invariant (rw c.deref.ensures.value at found) in
-    let rest : without g.T.Ranked.rank c.self.inside.rows.items (g.K.Key.sought c.args.key.now) ≡ c.remove.new.self.items = left ∙ sym c.remove.ensures.items in
-    let absent = c.in-Err.ensures.absent in
-    let gap = with_row-gap _ g.T.Ranked.rank c.remove.new.self.items _ c.in-Err.to (rw c.deref-2.ensures.value at absent) c.args.row refl in
-    let stored = c.insert.ensures.succeeds (omega arith) in
-    rw (← c.self.view_is) (rw stored at c.insert.ensures.items ∙ sym gap ∙ ap (λ l. with_row g.T.Ranked.rank l c.args.row) (sym rest))
+    let rank = g.T.Ranked.rank in
+    let left = rising-without _ rank c.self.inside.rows.items c.self.invariant (g.K.Key.sought c.args.key.now) in
+    subst (IsRising rank) (sym (written _ _ _ _ (size g c) ∙ rows_then g c)) (rising-with_row _ rank _ left c.args.row)
