@@ -4,6 +4,7 @@ use Rattle.std.specs.List.{insert, remove, HoldsAt}
 use Rattle.std.proofs.lemmas.Bool.{cases_order, cases_lt, lt-ltb, le-ltb}
 use Rattle.std.proofs.lemmas.List.{length-take-le}
 use Rattle.std.proofs.lemmas.List.Edits.{get_or-remove_below, get_or-remove_above, length-remove}
+use Rattle.std.proofs.Math.Seq.{get_or-append_seam, take-append_seam}
 use borrow.Rule.Slice.PartMut.{put_mid, mid_of}
 use Rattle.cry_base.specs.Sets.{In}
 use Rattle.sorted_table.specs.Places.{IsAt, IsGapFor}
@@ -89,6 +90,25 @@ shifted_down T rows after from to d le within is =
     ∙ ap (λ k. put_mid to k rows (drop j (mid_of to k rows) ++ take j (mid_of to k rows))) size
     ∙ falls T rows to j from d (omega (arith, le)) within
     ∙ ap (λ p. insert (remove rows from) p (get_or rows from d)) (sym (place_below from to le))
+
+-- what stands in a buffer once all rows are written back
+pub written : (T : Type 0) (after more : List T) (n : ℕ) → n ≡ length after → take n (after ++ more) ≡ after
+written T after more n same = rw same (take-append_seam after more)
+
+last_removed : (T : Type 0) (rows : List T) (row : T) → remove (rows ++ row ∷ []) (length rows) ≡ rows
+last_removed T [] row = refl
+last_removed T (x ∷ rows) row = ap (λ (l : List T). x ∷ l) (last_removed T rows row)
+
+-- a row that came last, and went from there to before others
+pub inserted : (T : Type 0) (rows after : List T) (last to : ℕ) (row : T) → last ≡ length rows → to ≤ last
+    → HoldsAt (λ r. after ≡ insert (remove (rows ++ row ∷ []) last) (place_then last to) r) (rows ++ row ∷ []) last
+    → after ≡ insert rows to row
+inserted T rows after last to row end le moved =
+    moved row
+    ∙ ap (λ n. insert (remove (rows ++ row ∷ []) last) (place_then last to) (get_or (rows ++ row ∷ []) n row)) end
+    ∙ ap (λ r. insert (remove (rows ++ row ∷ []) last) (place_then last to) r) (get_or-append_seam rows row [] row)
+    ∙ ap (λ p. insert (remove (rows ++ row ∷ []) last) p row) (place_below last to le)
+    ∙ ap (λ l. insert l to row) (ap (λ n. remove (rows ++ row ∷ []) n) end ∙ last_removed T rows row)
 
 -- a row that was put into the place of another stands in the place of that one
 removed_set : (T : Type 0) (rows : List T) (i : ℕ) (row : T) → i < length rows → remove (set rows i row) i ≡ remove rows i

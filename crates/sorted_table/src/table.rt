@@ -106,7 +106,9 @@ impl<T: Ranked + Drop> Table<T> {
         let Err(at) = place_of(&self.rows, &SameRank(&row)) else {
             unreachable!();
         };
-        let _ = self.rows.insert(at, row);
+        let last = self.rows.len();
+        let _ = self.rows.push(row);
+        shift(&mut self.rows, last, at);
     }
 
     /// Puts a row into the place of the one that has its rank.

@@ -1,10 +1,9 @@
-use Rattle.std.proofs.Common.{◌≡◌, ℕ, ◌⊎◌, ◌++◌, List, length, take, vec_len, None, ◌∙◌, sym, subst, arith, inl, inr}
-use Rattle.std.proofs.Math.Seq.{take-append_seam}
+use Rattle.std.proofs.Common.{◌≡◌, ◌⊎◌, length, vec_len, None, ◌∙◌, sym, subst, arith, inl, inr}
 use Rattle.sorted_table.specs.Places.{IsAt, IsGapFor}
 use Rattle.sorted_table.specs.Rows.{IsRising, row_at, with_row, without}
 use Rattle.sorted_table.proofs.Placed.{row_at-gap}
 use Rattle.sorted_table.proofs.Rising.{rising-with_row, rising-without}
-use Rattle.sorted_table.proofs.Shifted.{exchanged}
+use Rattle.sorted_table.proofs.Shifted.{exchanged, written}
 use Rattle.sorted_table.proofs.table.Table.exchange.Given.{Over}
 use Rattle.sorted_table.proofs.table.Table.exchange.Goals as goal
 use Rattle.sorted_table.proofs.table.Table.exchange.Goals.{in-Ok-place_of, in-Err}
@@ -39,9 +38,6 @@ rows_then g c =
 -- and all of them are
 size : (g : Over) (c : goal.After-self-2-1 g) → vec_len c.self.inside.rows ≡ length c.shift.new.rows
 size g c = omega (arith, c.deref.ensures.len, c.shift.auto.rows, c.deref_mut.ensures.len)
-
-written : (T : Type 0) (after more : List T) (n : ℕ) → n ≡ length after → take n (after ++ more) ≡ after
-written T after more n same = rw same (take-append_seam after more)
 
 pub returns-clause-rows : goal.returns-clause-rows
 returns-clause-rows g c = rw (← c.self.view_is) (written _ _ _ _ (size g c) ∙ rows_then g c)
