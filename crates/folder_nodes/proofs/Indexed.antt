@@ -1,18 +1,19 @@
 -- The index by groups follows the rows.
-use Rattle.std.proofs.Common.{cond, not, false, ◌==◌, ◌⊎◌, ◌↔◌, ◌≡◌, ◌≢◌, ℕ, ◌<◌, ◌≤◌, Bool, true, ◌&&◌, List, [], ◌∷◌, map, filter, Some, None, refl, sym, ap, ◌∙◌, subst, inl, inr, ⊎_elim, arith, nat_le}
+use Rattle.std.proofs.Common.{cond, not, false, ◌==◌, ◌⊎◌, ◌↔◌, ◌≡◌, ◌≢◌, ℕ, suc, ◌<◌, ◌≤◌, Bool, true, ◌&&◌, List, [], ◌∷◌, length, map, filter, Some, None, refl, sym, ap, ◌∙◌, subst, inl, inr, ⊎_elim, arith, nat_le}
 use Rattle.std.specs.Prelude.{IsSome}
 use Rattle.std.specs.Ordering.{nat_cmp}
 use Rattle.std.specs.declared.cmp.Ordering.{Ordering}
 use Rattle.std.specs.declared.cmp.Ordering.TheVariants.{Equal}
 use Rattle.std.proofs.lemmas.Bool.Decides.{nat_tests}
-use Rattle.std.specs.List.{All, AllPairs}
+use Rattle.std.specs.List.{All, AllPairs, list_any}
 use Rattle.std.specs.List.Sorted.{IsPermutation}
 use Rattle.std.proofs.lemmas.Bool.{and_parts, and_from, eq-eqb, eqb-false, eqb-true, le-leb, leb-true, ne_eqb}
 use Rattle.std.proofs.lemmas.List.Elements.{All-head, All-tail, All-map}
 use Rattle.std.proofs.lemmas.List.Kept.{AllPairs-cons}
 use Rattle.std.proofs.lemmas.List.Sorted.{All-permutation, IsPermutation-sym}
 use Rattle.cry_base.specs.Sets.{In}
-use Rattle.cry_base.proofs.Members.{In-map, In-filter, filter-In}
+use Rattle.std.proofs.lemmas.List.Folds.{list_any_none}
+use Rattle.cry_base.proofs.Members.{In-any, In-map, In-filter, filter-In}
 use Rattle.sorted_table.specs.Rows.{IsRising, replaced, row_at, with_row, without}
 use Rattle.sorted_table.proofs.Found.{row_at-Some, row_at-None, row_at-absent, In-with_row, In-without}
 use Rattle.folder_nodes.specs.Indexing.{IsIndexed, spot_of}
@@ -194,6 +195,18 @@ module _ (T : Type 0) (rank group : T → ℕ) where
       and_from (nat_le (spot_rank g 0) (by_spot (place r))) (nat_le (by_spot (place r)) (spot_rank g 4294967295))
       (le-leb _ _ (omega (arith, same))) (le-leb _ _ (omega (arith, same, small))) in
       (In-map Spot ℕ (λ q. q.id) (rank r) found).1 (place r, subst (λ l. In (place r) l) (sym e) (filter-In Spot (is_under g) (place r) spots (index.listed r i) passes), refl)
+
+  -- so some are found just where a row is of the group
+  pub under_some : (rows : List T) (spots found : List Spot) (g : ℕ) → IsIndexed rank group rows spots → found ≡ filter (is_under g) spots
+      → not (length found == 0) ≡ list_any (λ r. group r == g) rows
+  under_some rows spots [] g index e = sym (list_any_none (λ r. group r == g) rows (in-All T (λ r. (group r == g) ≡ false) rows
+      (λ r i. ne_eqb (group r) g (λ same. absurd (under_all rows spots [] g index e r i same)))))
+  under_some rows spots (q ∷ found) g index e =
+      let i : In q (filter (is_under g) spots) = subst (λ l. In q l) e (inl refl) in
+      let w = index.only q (In-filter Spot (is_under g) q spots i).0 in
+      let same : group w.0 ≡ g = sym (ap (λ (z : Spot). z.group) w.2) ∙ (under_told rows spots index g q i).0 in
+      ap not (ne_eqb (suc (length found)) 0 (λ (none : suc (length found) ≡ 0). absurd (omega (arith, none))))
+      ∙ sym ((In-any T (λ r. group r == g) (λ r. group r ≡ g) (λ r. (eqb-true (group r) g, eq-eqb (group r) g)) rows).1 (w.0, w.1, same))
 
   -- in different rows two places differ
   pub places_apart : (rows : List T) → IsRising rank rows → All (λ r. rank r < 4294967296) rows → AllPairs (λ p q. by_spot p ≢ by_spot q) (map place rows)

@@ -1,8 +1,10 @@
 //! Rows that are found by their numbers, and all those of a group together.
-ghost use Rattle.std.specs.Prelude.{◌≡◌, ℕ, ◌+◌, ◌≤◌, ◌<◌, [], All, cond, map, None, IsOk, IsSome, OnOk, IfOk};
+ghost use Rattle.std.specs.Prelude.{◌≡◌, ℕ, ◌+◌, ◌≤◌, ◌<◌, ◌==◌, ◌&&◌, [], All, cond, filter, map, nat_le, None, IsOk, IsSome, OnOk, IfOk};
+ghost use Rattle.std.specs.List.{list_any};
 ghost use Rattle.std.specs.Option.{option_copied};
 ghost use Rattle.cry_base.specs.Sets.{In};
 ghost use Rattle.folder_nodes.specs.Indexing as index;
+ghost use Rattle.folder_nodes.specs.Ranking.{spot_rank};
 ghost use Rattle.folder_nodes.specs.declared.spots.Spot.{Spot as TheSpot};
 ghost use Rattle.sorted_table.specs.Rows.{IsRising, row_at, with_row, without, replaced};
 
@@ -94,12 +96,17 @@ impl<T: Member> Grouped<T> {
         ensures all { (r : T) → In r self.now.rows → T.group r ≡ group → In (T.rank r) (map (λ (q : TheSpot). q.id) result.now) }
     {
         let group = group_in(self.is_arranged, group);
-        let first = Spot { group, id: 0 };
-        let last = Spot {
-            group,
-            id: u32::MAX,
-        };
-        self.spots.rows_between(&first, &last)
+        spots_under(&self.spots, group)
+    }
+
+    /// Whether a row is of the group. Where the index isn't arranged, it looks at all rows.
+    pub(crate) fn has_group(&self, group: u64) -> bool
+        ensures { result ≡ list_any (λ r. T.group r == group) self.now.rows }
+    {
+        if !self.is_arranged {
+            return has_member(self.rows.as_slice(), group);
+        }
+        !spots_under(&self.spots, group).is_empty()
     }
 
     /// Takes the memory of one change.
@@ -197,6 +204,27 @@ impl<T: Member + Copy> Grouped<T> {
             is_arranged: self.is_arranged,
         })
     }
+}
+
+/// The places in the group, in ascending order.
+fn spots_under(spots: &Table<Spot>, group: u64) -> &[Spot]
+    ensures places { result.now ≡ filter (λ q. nat_le (spot_rank group 0) (spot_rank q.group q.id)
+        && nat_le (spot_rank q.group q.id) (spot_rank group 4294967295)) spots.now.rows }
+    ensures rising { IsRising (λ (q : TheSpot). spot_rank q.group q.id) result.now }
+{
+    let first = Spot { group, id: 0 };
+    let last = Spot {
+        group,
+        id: u32::MAX,
+    };
+    spots.rows_between(&first, &last)
+}
+
+/// Whether a row is of the group.
+fn has_member<T: Member>(rows: &[T], group: u64) -> bool
+    ensures { result ≡ list_any (λ r. T.group r == group) rows.now }
+{
+    rows.iter().any(|row| row.group_number() == group)
 }
 
 /// Where the row stands in an index that is arranged, or in one that isn't.

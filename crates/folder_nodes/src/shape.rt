@@ -131,12 +131,16 @@ impl Shape {
         self.files.in_group(u64::from(f))
     }
 
-    /// Whether the folder has no child. It looks at all folders and files.
+    /// Whether the folder has no child. Before `arrange` it looks at all folders and files.
     pub fn is_empty_folder(&self, f: FolderId) -> bool
         requires { IsSome (folder_entry self.now.tree f.0) }
         ensures { result ≡ not (has_child self.now.tree f.0) }
     {
-        are_in_no_row(self.folders.as_slice(), self.files.as_slice(), f.0)
+        let number = u64::from(f.0);
+        if self.folders.has_group(number) {
+            return false;
+        }
+        !self.files.has_group(number)
     }
 
     /// An equal shape, with memory of its own.
@@ -172,26 +176,4 @@ impl Shape {
         self.folders.arrange(alloc)?;
         self.files.arrange(alloc)
     }
-}
-
-/// Whether no row is of a folder or file in this folder.
-fn are_in_no_row(folders: &[FolderRow], files: &[FileRow], f: u32) -> bool
-    ensures { result ≡ not (list_any (λ r. r.parent == f) folders.now || list_any (λ r. r.folder.0 == f) files.now) }
-{
-    if has_folders(folders, f) {
-        return false;
-    }
-    !has_files(files, f)
-}
-
-fn has_folders(rows: &[FolderRow], f: u32) -> bool
-    ensures { result ≡ list_any (λ r. r.parent == f) rows.now }
-{
-    rows.iter().any(|row| row.parent == f)
-}
-
-fn has_files(rows: &[FileRow], f: u32) -> bool
-    ensures { result ≡ list_any (λ r. r.folder.0 == f) rows.now }
-{
-    rows.iter().any(|row| row.folder.0 == f)
 }

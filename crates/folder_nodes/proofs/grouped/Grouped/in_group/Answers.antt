@@ -5,8 +5,8 @@ use Rattle.folder_nodes.proofs.grouped.Grouped.in_group.Goals as goal
 
 pub returns-clause-rising : goal.returns-clause-rising
 returns-clause-rising g c =
-    under_rising g.row.T.Denot g.T.Ranked.rank (group_in c.self.inside.is_arranged g.T.Member.group) c.self.inside.rows.rows c.self.inside.spots.rows c.rows_between.result.now c.self.invariant c.group_in-group.result c.rows_between.ensures.rows c.rows_between.ensures.rising
+    under_rising g.row.T.Denot g.T.Ranked.rank (group_in c.self.inside.is_arranged g.T.Member.group) c.self.inside.rows.rows c.self.inside.spots.rows c.spots_under.result.now c.self.invariant c.group_in-group.result c.spots_under.ensures.places c.spots_under.ensures.rising
 
 pub returns-clause-all : goal.returns-clause-all
 returns-clause-all g c =
-    rw (← c.self.view_is) (λ r i same. under_all g.row.T.Denot g.T.Ranked.rank (group_in c.self.inside.is_arranged g.T.Member.group) c.self.inside.rows.rows c.self.inside.spots.rows c.rows_between.result.now c.group_in-group.result c.self.invariant c.rows_between.ensures.rows r i (ap (λ k. cond c.self.inside.is_arranged k 0) same ∙ sym c.group_in-group.ensures))
+    rw (← c.self.view_is) (λ r i same. under_all g.row.T.Denot g.T.Ranked.rank (group_in c.self.inside.is_arranged g.T.Member.group) c.self.inside.rows.rows c.self.inside.spots.rows c.spots_under.result.now c.group_in-group.result c.self.invariant c.spots_under.ensures.places r i (ap (λ k. cond c.self.inside.is_arranged k 0) same ∙ sym c.group_in-group.ensures))
