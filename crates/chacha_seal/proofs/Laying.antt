@@ -1,95 +1,87 @@
--- The loop that lays the stream over a text, one byte at a time.
-use Rattle.std.proofs.Common.{◌≡◌, ◌≢◌, ℕ, ◌+◌, ◌/◌, ◌%◌, ◌^◌, ◌<◌, ◌≤◌, List, [], ◌∷◌, ◌++◌, length, take, drop, get_or, set, bit_xor, arith, refl, ap, ◌∙◌}
+-- The loops that lay the stream over a text, a word at a time.
+use Rattle.std.proofs.Common.{◌≡◌, ℕ, ◌+◌, ◌*◌, ◌/◌, ◌%◌, ◌^◌, ◌<◌, ◌≤◌, List, length, take, get_or, set, bit_xor, arith, refl, ap, sym, ◌∙◌}
 use Rattle.std.specs.Int.{w32, to_le_bytes}
+use Rattle.std.proofs.lemmas.Grind.{common_steps}
 use Rattle.std.proofs.lemmas.List.{append-nil, drop_all, take_all}
 use Rattle.rand_chacha.specs.ChaCha.{ChaCha, key_of, next_word, word_at}
-use Rattle.chacha_seal.specs.Stream.{stream_byte, xor_from, xor_stream}
-use Rattle.chacha_seal.proofs.StreamLemmas.{lay_more}
+use Rattle.chacha_seal.specs.Stream.{laid, stream_byte, word_for, xor_from, xor_stream}
+use Rattle.chacha_seal.proofs.StreamLemmas.{lay_more, length-xor_from}
 
--- the generator of this key and number whose next word is the first that no byte before place i needs
-abbrev pub drawn_to : List ℕ → ℕ → ℕ → ChaCha
-drawn_to key number i = record { key = key_of key; stream = number; word_pos = (i + 3) / 4 }
+-- the generator of this key and number whose next word has the place `word`
+abbrev pub at_word : List ℕ → ℕ → ℕ → ChaCha
+at_word key number word = record { key = key_of key; stream = number; word_pos = word }
 
--- the bytes of the word that the byte at place i needs
-abbrev pub word_for : List ℕ → ℕ → ℕ → List ℕ
-word_for key number i = to_le_bytes w32 (word_at 10 (key_of key) number (i / 4))
-
--- before place i: the words that are drawn, the one in hand, and the bytes that are done
-pub record Laid (key : List ℕ) (number i : ℕ) (words : ChaCha) (word text before : List ℕ) : Type 0 where
-  pub drawn : words ≡ drawn_to key number i
-  pub long : length word ≡ 4
-  pub in_hand : i % 4 ≢ 0 → word ≡ word_for key number i
-  pub done : text ≡ xor_from key number 0 (take i before) ++ drop i before
-
-pub laid_none : (key : List ℕ) (number : ℕ) (words : ChaCha) (text : List ℕ)
-    → words ≡ drawn_to key number 0 → Laid key number 0 words (0 ∷ 0 ∷ 0 ∷ 0 ∷ []) text text
+-- before any byte the text is as it was
+pub laid_none : (key : List ℕ) (number i : ℕ) (text : List ℕ) → i ≡ 0 → text ≡ laid key number i text
 unfolding xor_from
-laid_none key number words text drawn = record {
-  drawn = drawn;
-  long = refl;
-  in_hand = λ no. absurd (no refl);
-  done = refl;
-}
+laid_none key number i text none = rw none refl
 
--- what the two branches of the test leave: the generator behind the word that is in hand
-pub record Ready (key : List ℕ) (number i : ℕ) (words : ChaCha) (word : List ℕ) : Type 0 where
-  pub drawn : words ≡ drawn_to key number (i + 1)
-  pub in_hand : word ≡ word_for key number i
+pub length-laid : (key : List ℕ) (number i : ℕ) (before text : List ℕ)
+    → text ≡ laid key number i before → length text ≡ length before
+length-laid key number i before text done =
+    let parts : length (take i before) ≡ length (xor_from key number 0 (take i before))
+    = sym (length-xor_from key number 0 (take i before)) in
+    rw done (grind (arith, common_steps, parts))
 
--- at a place that is no multiple of four the word in hand serves
-pub ready_kept : (key : List ℕ) (number i : ℕ) (words : ChaCha) (word text before : List ℕ)
-    (words' : ChaCha) (word' : List ℕ)
-    → Laid key number i words word text before → i % 4 ≢ 0 → words' ≡ words → word' ≡ word
-    → Ready key number i words' word'
-ready_kept key number i words word text before words' word' laid inside same_words same_word =
-    let place : (i + 3) / 4 ≡ (i + 1 + 3) / 4 = omega arith in
-    let at : ℕ → ChaCha = λ pos. record { key = key_of key; stream = number; word_pos = pos } in
-    record {
-      drawn = same_words ∙ (laid.drawn ∙ ap at place);
-      in_hand = same_word ∙ laid.in_hand inside;
-    }
+-- byte k of the word at a place is byte k behind that place
+pub byte_of_word : (key : List ℕ) (number at k i : ℕ) (word : List ℕ)
+    → word ≡ word_for key number at → at % 4 ≡ 0 → k < 4 → i ≡ at + k
+    → get_or word k 0 ≡ stream_byte key number i
+unfolding stream_byte
+byte_of_word key number at k i word same whole inside place =
+    let behind : at / 4 ≡ i / 4 = omega arith in
+    let within : k ≡ i % 4 = omega arith in
+    let at_both : word_for key number at ≡ word_for key number i
+    = ap (λ pos. to_le_bytes w32 (word_at 10 (key_of key) number pos)) behind in
+    ap (λ w. get_or w k 0) (same ∙ at_both) ∙ ap (λ n. get_or (word_for key number i) n 0) within
 
--- at a multiple of four the next word is drawn
-pub ready_drawn : (key : List ℕ) (number i : ℕ) (words : ChaCha) (word text before : List ℕ)
-    (words' : ChaCha) (word' : List ℕ)
-    → Laid key number i words word text before → i % 4 ≡ 0 → i < 2 ^ 64
-    → (drawn : ℕ) (after : ChaCha) → (drawn, after) ≡ next_word 10 words
-    → words' ≡ after → word' ≡ to_le_bytes w32 drawn
-    → Ready key number i words' word'
-ready_drawn key number i words word text before words' word' laid multiple bound drawn after step
-    same_words same_word =
-    let stepped : (drawn, after) ≡ next_word 10 (drawn_to key number i) = step ∙ ap (next_word 10) laid.drawn in
-    let this : (i + 3) / 4 ≡ i / 4 = omega arith in
-    let next : ((i + 3) / 4 + 1) % 2 ^ 68 ≡ (i + 1 + 3) / 4 = omega arith in
-    let at : ℕ → ChaCha = λ pos. record { key = key_of key; stream = number; word_pos = pos } in
-    record {
-      drawn = same_words ∙ (ap (λ (p : ℕ × ChaCha). p.1) stepped ∙ ap at next);
-      in_hand = same_word ∙ (ap (λ (p : ℕ × ChaCha). to_le_bytes w32 p.0) stepped
-          ∙ ap (λ pos. to_le_bytes w32 (word_at 10 (key_of key) number pos)) this);
-    }
+-- the text with this byte laid over the one at place i
+abbrev pub over : List ℕ → ℕ → ℕ → List ℕ
+over text i byte = set text i (bit_xor (get_or text i 0) byte)
 
 -- one byte more
-pub laid_more : (key : List ℕ) (number i : ℕ) (words : ChaCha) (word text before : List ℕ)
-    (words' : ChaCha) (word' : List ℕ)
-    → Laid key number i words word text before → Ready key number i words' word' → i < length before
-    → Laid key number (i + 1) words' word'
-    (set text i (bit_xor (get_or text i 0) (get_or word' (i % 4) 0))) before
-unfolding stream_byte
-laid_more key number i words word text before words' word' laid ready below = record {
-  drawn = ready.drawn;
-  long = ap length ready.in_hand;
-  in_hand = λ inside. let same : i / 4 ≡ (i + 1) / 4 = omega arith in
-      ready.in_hand ∙ ap (λ pos. to_le_bytes w32 (word_at 10 (key_of key) number pos)) same;
-  done = let byte : get_or word' (i % 4) 0 ≡ stream_byte key number i
-      = ap (λ w. get_or w (i % 4) 0) ready.in_hand in
-      rw byte (lay_more key number i before text below laid.done);
-}
+pub laid_more : (key : List ℕ) (number i next : ℕ) (before text : List ℕ) (byte : ℕ)
+    → i < length before → next ≡ i + 1 → text ≡ laid key number i before → byte ≡ stream_byte key number i
+    → over text i byte ≡ laid key number next before
+laid_more key number i next before text byte below after done same =
+    rw (same, after) (lay_more key number i before text below done)
+
+-- four bytes more
+pub laid_word : (key : List ℕ) (number at : ℕ) (before text word : List ℕ)
+    → at % 4 ≡ 0 → word ≡ word_for key number at → text ≡ laid key number at before → at + 4 ≤ length before
+    → over (over (over (over text at (get_or word 0 0)) (at + 1) (get_or word 1 0)) (at + 2) (get_or word 2 0)) (at + 3) (get_or word 3 0)
+    ≡ laid key number (at + 4) before
+laid_word key number at before text word whole same done below =
+    laid_more key number (at + 3) (at + 4) before _ _ (omega arith) (omega arith)
+    (laid_more key number (at + 2) (at + 3) before _ _ (omega arith) (omega arith)
+    (laid_more key number (at + 1) (at + 2) before _ _ (omega arith) (omega arith)
+    (laid_more key number at (at + 1) before text _ (omega arith) refl done
+    (byte_of_word key number at 0 at word same whole (omega arith) (omega arith)))
+    (byte_of_word key number at 1 (at + 1) word same whole (omega arith) refl))
+    (byte_of_word key number at 2 (at + 2) word same whole (omega arith) refl))
+    (byte_of_word key number at 3 (at + 3) word same whole (omega arith) refl)
+
+-- behind the last byte nothing changes
+pub laid_past : (key : List ℕ) (number i j : ℕ) (before : List ℕ) → length before ≤ i → length before ≤ j
+    → laid key number i before ≡ laid key number j before
+laid_past key number i j before whole past =
+    rw (take_all i before whole, drop_all i before whole, take_all j before past, drop_all j before past) refl
 
 -- no byte is left
-pub laid_all : (key : List ℕ) (number i : ℕ) (words : ChaCha) (word text before : List ℕ)
-    → Laid key number i words word text before → length before ≤ i → text ≡ xor_stream key number before
+pub laid_all : (key : List ℕ) (number i : ℕ) (before : List ℕ)
+    → length before ≤ i → laid key number i before ≡ xor_stream key number before
 unfolding xor_stream
-laid_all key number i words word text before laid whole =
-    let all : take i before ≡ before = take_all i before whole in
-    let none : drop i before ≡ [] = drop_all i before whole in
-    laid.done ∙ rw (all, none, append-nil) refl
+laid_all key number i before whole = rw (take_all i before whole, drop_all i before whole, append-nil) refl
+
+-- a word is drawn: it is the one at its place, and the generator stands behind it
+pub drawn_word : (key : List ℕ) (number i : ℕ) (words : ChaCha) (drawn : ℕ) (after : ChaCha)
+    → words ≡ at_word key number i → (drawn, after) ≡ next_word 10 words → i < 2 ^ 64
+    → (after ≡ at_word key number (i + 1)) × (to_le_bytes w32 drawn ≡ word_for key number (4 * i))
+drawn_word key number i words drawn after before step bound =
+    let stepped : (drawn, after) ≡ next_word 10 (at_word key number i) = step ∙ ap (next_word 10) before in
+    let next : (i + 1) % 2 ^ 68 ≡ i + 1 = omega arith in
+    let place : i ≡ 4 * i / 4 = omega arith in (
+      ap (λ (p : ℕ × ChaCha). p.1) stepped ∙ ap (at_word key number) next,
+      ap (λ (p : ℕ × ChaCha). to_le_bytes w32 p.0) stepped
+          ∙ ap (λ pos. to_le_bytes w32 (word_at 10 (key_of key) number pos)) place,
+    )

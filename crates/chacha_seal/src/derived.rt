@@ -4,6 +4,7 @@ ghost use Rattle.chacha_seal.specs.Sealing as spec;
 
 use crate::{Key, OwnerK};
 use hmac_seal::{Hmac, hmac};
+use std::marker::Model;
 
 const FOR_CIPHER: u8 = 1;
 
@@ -13,26 +14,66 @@ const FOR_CHECK: u8 = 4;
 
 const FOR_OWNER_TAG: u8 = 5;
 
-/// The two keys that one seals with: that of its stream, and that of its tags.
-#[derive(Clone, Copy)]
-pub(crate) struct SealingKeys {
-    pub(crate) cipher: [u8; 32],
-    pub(crate) tag: [u8; 32],
+/// What the bytes of a key are sealed with. Contracts see the bytes.
+#[derive(Drop)]
+pub(crate) struct Derived {
+    bytes: [u8; 32],
+    cipher: [u8; 32],
+    tag: Hmac,
 }
 
-/// Derives both from one start, since HMAC takes the key in first.
-#[tactic(auto, unfolding(crate::specs::Sealing::cipher_key, crate::specs::Sealing::tag_key))]
-pub(crate) fn sealing_keys(key: &[u8; 32]) -> SealingKeys
-    ensures cipher { result.cipher ≡ spec.cipher_key key.now }
-    ensures tag { result.tag ≡ spec.tag_key key.now }
-{
-    let mut tag = Hmac::start(key);
-    let mut cipher = tag.copy();
-    cipher.add(&[FOR_CIPHER]);
-    tag.add(&[FOR_TAG]);
-    SealingKeys {
-        cipher: cipher.end(),
-        tag: tag.end(),
+impl Model for Derived {
+    ghost use Rattle.std.specs.Prelude.{◌≡◌, ℕ, List, []};
+    ghost use Rattle.hmac_seal.specs.Holding.{Holds};
+    ghost use Rattle.chacha_seal.specs.Sealing.{cipher_key, tag_key};
+
+    ghost Value = { List ℕ };
+
+    ghost view = { λ derived. derived.bytes };
+
+    ghost invariant = { λ derived. (derived.cipher ≡ cipher_key derived.bytes) × Holds derived.tag (tag_key derived.bytes) [] };
+}
+
+impl Derived {
+    /// Derives both keys from one start, since HMAC takes the key in first.
+    #[tactic(auto, unfolding(crate::specs::Sealing::cipher_key, crate::specs::Sealing::tag_key))]
+    pub(crate) fn of(bytes: &[u8; 32]) -> Derived
+        ensures { result ≡ bytes.now }
+    {
+        let mut tag = Hmac::start(bytes);
+        let mut cipher = tag.copy();
+        cipher.add(&[FOR_CIPHER]);
+        tag.add(&[FOR_TAG]);
+        Derived {
+            bytes: *bytes,
+            cipher: cipher.end(),
+            tag: Hmac::start(&tag.end()),
+        }
+    }
+
+    /// The bytes that it was derived of.
+    pub(crate) fn bytes(&self) -> &[u8; 32]
+        ensures { result.now ≡ self.now }
+    {
+        &self.bytes
+    }
+
+    /// The key of the stream that one seals with.
+    pub(crate) fn cipher(&self) -> [u8; 32]
+        ensures { result ≡ spec.cipher_key self.now }
+    {
+        self.cipher
+    }
+
+    /// The tag of a header and the cipher bytes behind it.
+    #[tactic(auto, unfolding(crate::specs::Sealing::seal_tag))]
+    pub(crate) fn tag(&self, header: &[u8], cipher: &[u8]) -> [u8; 32]
+        ensures { result ≡ spec.seal_tag self.now header.now cipher.now }
+    {
+        let mut tag = self.tag.copy();
+        tag.add(header);
+        tag.add(cipher);
+        tag.end()
     }
 }
 

@@ -1,38 +1,35 @@
 //! Keys, and keys whose serial isn't settled yet.
-ghost use Rattle.std.specs.Prelude.{◌≡◌, length};
+ghost use Rattle.std.specs.Prelude.{◌≡◌, length, IfSome};
 ghost use Rattle.chacha_seal.specs.Sealing.{cipher_key, seal_tag};
 
-use crate::derived::{SealingKeys, sealing_keys};
+use crate::derived::Derived;
 use crate::{HolderK, Nonce, OwnerK};
 use cry_base::{HolderId, Serial};
-use hmac_seal::Hmac;
+use std::cell::OnceCell;
 use std::fmt;
 use std::marker::{Model, PhantomData};
 
 /// 32 secret bytes of one kind, with the number of the folder, file or holder whose key they are (0
-/// for the owner's), and with the key's serial. What it seals and tags with is derived once, when the key is made: a folder's
-/// key seals many records.
+/// for the owner's), and with the key's serial. What it seals and tags with is derived at its first use and kept: a folder's
+/// key seals many records, and many keys seal none.
 #[derive(Drop)]
 pub struct Key<K> {
     id: u32,
     serial: Serial,
     bytes: [u8; 32],
-    cipher: [u8; 32],
-    tag: Hmac,
+    derived: OnceCell<Derived>,
     kind: PhantomData<K>,
 }
 
 impl<K> Model for Key<K> {
-    ghost use Rattle.std.specs.Prelude.{◌≡◌, []};
-    ghost use Rattle.hmac_seal.specs.Holding.{Holds};
+    ghost use Rattle.std.specs.Prelude.{◌≡◌, length};
     ghost use Rattle.chacha_seal.specs.Keys.{KeyParts};
-    ghost use Rattle.chacha_seal.specs.Sealing.{cipher_key, tag_key};
 
     ghost Value = { KeyParts };
 
     ghost view = { λ key. record { id = key.id; serial = key.serial.0; bytes = key.bytes } };
 
-    ghost invariant = { λ key. (key.cipher ≡ cipher_key key.bytes) × Holds key.tag (tag_key key.bytes) [] };
+    ghost invariant = { λ key. length key.bytes ≡ 32 };
 }
 
 impl Key<OwnerK> {
@@ -57,13 +54,11 @@ impl<K> Key<K> {
     pub(crate) fn of_parts(id: u32, serial: Serial, bytes: [u8; 32]) -> Key<K>
         ensures { result ≡ record { id = id; serial = serial.0; bytes = bytes } }
     {
-        let SealingKeys { cipher, tag } = sealing_keys(&bytes);
         Key {
             id,
             serial,
             bytes,
-            cipher,
-            tag: Hmac::start(&tag),
+            derived: OnceCell::new(),
             kind: PhantomData,
         }
     }
@@ -86,18 +81,32 @@ impl<K> Key<K> {
     pub(crate) fn cipher(&self) -> [u8; 32]
         ensures { result ≡ cipher_key self.now.bytes }
     {
-        self.cipher
+        match self.derived() {
+            Some(derived) => derived.cipher(),
+            None => Derived::of(&self.bytes).cipher(),
+        }
     }
 
     /// The tag that it makes of a header and the cipher bytes behind it.
-    #[tactic(auto, unfolding(crate::specs::Sealing::seal_tag))]
     pub(crate) fn tag(&self, header: &[u8], cipher: &[u8]) -> [u8; 32]
         ensures { result ≡ seal_tag self.now.bytes header.now cipher.now }
     {
-        let mut tag = self.tag.copy();
-        tag.add(header);
-        tag.add(cipher);
-        tag.end()
+        match self.derived() {
+            Some(derived) => derived.tag(header, cipher),
+            None => Derived::of(&self.bytes).tag(header, cipher),
+        }
+    }
+
+    /// What it seals with. No contract says what a cell keeps, so what was derived of other bytes wouldn't count: none ever is.
+    fn derived(&self) -> Option<&Derived>
+        ensures { IfSome result (λ derived. derived.now ≡ self.now.bytes) }
+    {
+        let derived = self.derived.try_get_or_init(|| Derived::of(&self.bytes))?;
+        if *derived.bytes() == self.bytes {
+            Some(derived)
+        } else {
+            None
+        }
     }
 
     /// The secret bytes.

@@ -1,5 +1,5 @@
 //! The stream of ChaCha20, laid over a text.
-ghost use Rattle.std.specs.Prelude.{◌≡◌};
+ghost use Rattle.std.specs.Prelude.{◌≡◌, ℕ, ◌+◌, ◌%◌, ◌<◌, ◌≤◌, List, length};
 ghost use Rattle.chacha_seal.specs.Stream as spec;
 
 use rand_chacha::ChaCha20Rng;
@@ -12,11 +12,35 @@ pub(crate) fn xor_stream(key: [u8; 32], number: u64, text: &mut [u8])
 {
     let mut words = ChaCha20Rng::from_seed(key);
     words.set_stream(number);
-    let mut word = [0; 4];
-    for i in 0..text.len() {
-        if i % 4 == 0 {
-            word = words.next_word().to_le_bytes();
-        }
-        text[i] ^= word[i % 4];
+    for i in 0..text.len().div_ceil(4) {
+        xor_word(words.next_word().to_le_bytes(), text, 4 * i);
+    }
+}
+
+/// Lays a word of the stream over the four bytes of the text from `at` on, or over what is left of it.
+fn xor_word(word: [u8; 4], text: &mut [u8], at: usize)
+    requires within { at < length text.old }
+    ensures { (key before : List ℕ) (number : ℕ) → at % 4 ≡ 0 → word ≡ spec.word_for key number at
+        → text.old ≡ spec.laid key number at before → text.new ≡ spec.laid key number (at + 4) before }
+{
+    if text.len() - at < 4 {
+        xor_rest(word, text, at);
+        return;
+    }
+    text[at] ^= word[0];
+    text[at + 1] ^= word[1];
+    text[at + 2] ^= word[2];
+    text[at + 3] ^= word[3];
+}
+
+/// Lays the first bytes of a word over the last of the text, of which there are fewer than four.
+fn xor_rest(word: [u8; 4], text: &mut [u8], at: usize)
+    requires within { at ≤ length text.old }
+    requires less_than_a_word { length text.old < at + 4 }
+    ensures { (key before : List ℕ) (number : ℕ) → at % 4 ≡ 0 → word ≡ spec.word_for key number at
+        → text.old ≡ spec.laid key number at before → text.new ≡ spec.laid key number (at + 4) before }
+{
+    for i in at..text.len() {
+        text[i] ^= word[i - at];
     }
 }

@@ -1,22 +1,20 @@
-use Rattle.std.proofs.Common.{rules, ◌<◌, ◌^◌, length, refl, ◌∙◌}
-use Rattle.chacha_seal.proofs.Laying.{Ready, laid_all, laid_more, laid_none, ready_drawn, ready_kept}
+use Rattle.std.proofs.Common.{rules, arith, ◌≡◌, ◌+◌, ◌*◌, ◌<◌, ◌^◌, refl, ap, ◌∙◌}
+use Rattle.chacha_seal.specs.Stream.{laid}
+use Rattle.chacha_seal.proofs.Laying.{drawn_word, laid_all, laid_none}
 use Rattle.chacha_seal.proofs.stream.xor_stream.Goals as goal
-use Rattle.chacha_seal.proofs.stream.xor_stream.Goals.{then-i-eq0, else-i-eq0}
 
 pub loop-i-init : goal.loop-i-init
-loop-i-init c = laid_none _ _ _ _ (rw (c.set_stream.ensures, c.from_seed-words.ensures) refl)
+loop-i-init c = (rw (c.set_stream.ensures, c.from_seed-words.ensures) refl, laid_none _ _ 0 _ refl)
 
 pub loop-i-preserved : goal.loop-i-preserved
 loop-i-preserved c =
-    let below : c.loop-i.i < length c.args.text.now = c.loop-i-test.true in
     let bound : c.loop-i.i < 2 ^ 64 = search rules in
-    let ready : Ready c.args.key c.args.number c.loop-i.i c.if-i-eq0.words c.if-i-eq0.word =
-    elim c.if-i-eq0.branch [
-      | then-i-eq0 w ↦ ready_drawn _ _ _ _ _ _ _ _ _ c.loop-i.invariant w.if-i-eq0.true bound
-          _ _ w.next_word.ensures w.words-is (w.word-is ∙ w.to_le_bytes-word.ensures)
-      | else-i-eq0 w ↦ ready_kept _ _ _ _ _ _ _ _ _ c.loop-i.invariant w.if-i-eq0.false w.words-is w.word-is
-    ] in
-    laid_more _ _ _ _ _ _ _ _ _ c.loop-i.invariant ready below
+    let four : 4 * c.loop-i.i + 4 ≡ 4 * (c.loop-i.i + 1) = omega arith in
+    let drawn = drawn_word _ _ _ _ _ _ c.loop-i.invariant.0 c.next_word.ensures bound in (
+      drawn.0,
+      c.xor_word.ensures _ _ _ (omega arith) (c.to_le_bytes.ensures ∙ drawn.1) c.loop-i.invariant.1
+          ∙ ap (λ at. laid c.args.key c.args.number at c.args.text.now) four,
+    )
 
 pub returns : goal.returns
-returns c = laid_all _ _ _ _ _ _ _ c.loop-i.invariant c.loop-i-test.false
+returns c = c.loop-i.invariant.1 ∙ laid_all _ _ _ _ (omega arith)
