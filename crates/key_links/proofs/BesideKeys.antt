@@ -4,10 +4,15 @@ use Rattle.std.specs.Prelude.{IsSome, is_some}
 use Rattle.std.specs.Option.{option_copied}
 use Rattle.std.proofs.lemmas.Bool.{eqb-true}
 use Rattle.sorted_table.specs.Rows.{row_at, replaced, with_row, without}
-use Rattle.key_links.specs.ByKind.{IsFoundBeside, either}
+use Rattle.key_links.specs.ByKind.{IsFoundBeside}
 use Rattle.key_links.specs.Ringed.{key_rank}
 use Rattle.key_links.specs.declared.any_key.AnyKey.{AnyKey}
-use Rattle.key_links.proofs.Looked.{find-neither, found_replaced, found_with, found_without, without-append}
+use Rattle.key_links.proofs.Looked.{found_replaced, found_with, found_without, without-append}
+
+-- the first, where there is one, and else the second
+unfoldable pub either : {T : Type 0} → Option T → Option T → Option T
+either (Some x) second = Some x
+either None second = second
 
 either_cond : (b : Bool) (key : AnyKey) (o p q : Option AnyKey) → either (cond b o p) q ≡ cond b (either o q) (either p q)
 either_cond true key o p q = refl
@@ -22,9 +27,6 @@ found_either (x ∷ front) rows k =
       | true ↦ refl
       | false ↦ found_either front rows k
     ])
-
-pub neither : (front rows : List AnyKey) (k : ℕ) → row_at key_rank (front ++ rows) k ≡ None → (row_at key_rank front k ≡ None) × (row_at key_rank rows k ≡ None)
-neither front rows k none = find-neither AnyKey (λ key. key_rank key == k) front rows none
 
 -- a key that comes into one table
 pub here : (key : AnyKey) (rows after : List AnyKey) → after ≡ with_row key_rank rows key → IsFoundBeside key rows after
@@ -73,21 +75,6 @@ cleared key front rows front' after at place free is = λ k.
     ])
     ∙ ap (λ o. cond (key_rank key == k) (Some key) o) (sym (found_either front rows k))
 
-either_more : (o p q : Option AnyKey) → either (either o p) q ≡ either o (either p q)
-unfolding either
-either_more (Some x) p q = refl
-either_more None p q = refl
-
--- what is found in five lists
-pub found_in_five : (a b c d e : List AnyKey) (k : ℕ) →
-    either (either (row_at key_rank a k) (row_at key_rank b k)) (either (row_at key_rank c k) (either (row_at key_rank d k) (row_at key_rank e k))) ≡ row_at key_rank (a ++ (b ++ (c ++ (d ++ e)))) k
-found_in_five a b c d e k =
-    either_more (row_at key_rank a k) (row_at key_rank b k) (either (row_at key_rank c k) (either (row_at key_rank d k) (row_at key_rank e k)))
-    ∙ ap (λ o. either (row_at key_rank a k) (either (row_at key_rank b k) (either (row_at key_rank c k) o))) (sym (found_either d e k))
-    ∙ ap (λ o. either (row_at key_rank a k) (either (row_at key_rank b k) o)) (sym (found_either c (d ++ e) k))
-    ∙ ap (λ o. either (row_at key_rank a k) o) (sym (found_either b (c ++ (d ++ e)) k))
-    ∙ sym (found_either a (b ++ (c ++ (d ++ e))) k)
-
 -- what is left of five lists
 pub left_of_five : (a b c d e : List AnyKey) (k : ℕ) →
     without key_rank a k ++ (without key_rank b k ++ (without key_rank c k ++ (without key_rank d k ++ without key_rank e k))) ≡ without key_rank (a ++ (b ++ (c ++ (d ++ e)))) k
@@ -96,13 +83,3 @@ left_of_five a b c d e k =
     ∙ ap (λ l. without key_rank a k ++ (without key_rank b k ++ l)) (sym (without-append AnyKey key_rank c (d ++ e) k))
     ∙ ap (λ l. without key_rank a k ++ l) (sym (without-append AnyKey key_rank b (c ++ (d ++ e)) k))
     ∙ sym (without-append AnyKey key_rank a (b ++ (c ++ (d ++ e))) k)
-
--- a place that is free in all five lists is free in each
-pub none_in_five : (a b c d e : List AnyKey) (k : ℕ) → row_at key_rank (a ++ (b ++ (c ++ (d ++ e)))) k ≡ None →
-    (row_at key_rank a k ≡ None) × (row_at key_rank b k ≡ None) × (row_at key_rank c k ≡ None) × (row_at key_rank d k ≡ None) × (row_at key_rank e k ≡ None)
-none_in_five a b c d e k none =
-    let first = neither a (b ++ (c ++ (d ++ e))) k none in
-    let second = neither b (c ++ (d ++ e)) k first.1 in
-    let third = neither c (d ++ e) k second.1 in
-    let last = neither d e k third.1 in
-    (first.0, second.0, third.0, last.0, last.1)

@@ -1,6 +1,7 @@
 pub mod BesideKeys
 pub mod Ends
 pub mod InPlace
+pub mod InTables
 pub mod Looked
 pub mod Ranks
 pub mod Ringing

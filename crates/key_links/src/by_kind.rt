@@ -1,8 +1,8 @@
 //! Keys in a table for each kind of role, or for two whose keys come in turn.
 ghost use Rattle.std.specs.Prelude.{◌≡◌, ◌+◌, ◌≤◌, [], IsOk, OnOk};
 ghost use Rattle.std.specs.Option.{option_copied};
-ghost use Rattle.key_links.specs.ByKind.{IsFoundBeside, either};
-ghost use Rattle.key_links.specs.Ringed.{key_rank};
+ghost use Rattle.key_links.specs.ByKind.{IsFoundBeside};
+ghost use Rattle.key_links.specs.Ringed.{key_rank, rank_of};
 ghost use Rattle.sorted_table.specs.Rows.{row_at, without};
 
 use crate::any_key::{AnyKey, Place};
@@ -11,8 +11,8 @@ use sorted_table::Table;
 use std::alloc::Global;
 use std::marker::Model;
 
-/// Keys of which no two have one place. A key that comes for a new folder or file stands behind all in its table, so that it
-/// moves none of the others. `spare` is how many more fit without memory, of whatever kinds.
+/// Keys of which no two have one place, each in the table of its kind. A key that comes for a new folder or file stands behind
+/// all in its table, so that it moves none of the others. `spare` is how many more fit without memory, of whatever kinds.
 #[derive(Drop)]
 pub(crate) struct KeysByKind {
     holders: Table<AnyKey>,
@@ -24,6 +24,7 @@ pub(crate) struct KeysByKind {
 
 impl Model for KeysByKind {
     ghost use Rattle.std.specs.Prelude.{◌++◌, min};
+    ghost use Rattle.key_links.specs.ByKind.{AreSorted};
     ghost use Rattle.key_links.specs.declared.any_key.AnyKey.{AnyKey as TheKey};
     ghost use Rattle.sorted_table.specs.Tabled.{Tabled};
 
@@ -33,6 +34,8 @@ impl Model for KeysByKind {
       rows = k.holders.rows ++ (k.entries.rows ++ (k.ways.rows ++ (k.titles.rows ++ k.files.rows)));
       spare = min k.holders.spare (min k.entries.spare (min k.ways.spare (min k.titles.spare k.files.spare)));
     } };
+
+    ghost invariant = { λ k. AreSorted k.holders.rows k.entries.rows k.ways.rows k.titles.rows k.files.rows };
 }
 
 impl KeysByKind {
@@ -63,13 +66,18 @@ impl KeysByKind {
         self.files.reserve(keys)
     }
 
-    /// The key at the place.
-    pub(crate) fn find(&self, place: &Place) -> Option<&AnyKey>
+    /// The key at the place, which is the role's.
+    pub(crate) fn find(&self, role: Role, place: &Place) -> Option<&AnyKey>
+        requires { place.now.0 ≡ rank_of role }
         ensures { option_copied result ≡ row_at key_rank self.now.rows place.now.0 }
     {
-        let upper = first_of(self.holders.find(place), self.entries.find(place));
-        let lower = first_of(self.titles.find(place), self.files.find(place));
-        first_of(upper, first_of(self.ways.find(place), lower))
+        match role {
+            Role::Owner | Role::Holder(_) => self.holders.find(place),
+            Role::Clear(_) | Role::Sub(_) => self.entries.find(place),
+            Role::Back(_) | Role::Files(_) => self.ways.find(place),
+            Role::Data(_) => self.titles.find(place),
+            Role::File(_) => self.files.find(place),
+        }
     }
 
     /// Puts the key in the place of the one that has its place, or beside the others where none has, where there is room. One that
@@ -79,32 +87,12 @@ impl KeysByKind {
         ensures rows { IsFoundBeside key self.old.rows self.new.rows }
         ensures spare { self.old.spare ≤ self.new.spare + 1 }
     {
-        // What has the place in a table before the key's own would be found first.
-        let place = key.place();
         match key.role() {
             Role::Owner | Role::Holder(_) => put_row(&mut self.holders, key),
-            Role::Clear(_) | Role::Sub(_) => {
-                let _ = self.holders.remove(&place);
-                put_row(&mut self.entries, key);
-            }
-            Role::Back(_) | Role::Files(_) => {
-                let _ = self.holders.remove(&place);
-                let _ = self.entries.remove(&place);
-                put_row(&mut self.ways, key);
-            }
-            Role::Data(_) => {
-                let _ = self.holders.remove(&place);
-                let _ = self.entries.remove(&place);
-                let _ = self.ways.remove(&place);
-                put_row(&mut self.titles, key);
-            }
-            Role::File(_) => {
-                let _ = self.holders.remove(&place);
-                let _ = self.entries.remove(&place);
-                let _ = self.ways.remove(&place);
-                let _ = self.titles.remove(&place);
-                put_row(&mut self.files, key);
-            }
+            Role::Clear(_) | Role::Sub(_) => put_row(&mut self.entries, key),
+            Role::Back(_) | Role::Files(_) => put_row(&mut self.ways, key),
+            Role::Data(_) => put_row(&mut self.titles, key),
+            Role::File(_) => put_row(&mut self.files, key),
         }
     }
 
@@ -118,16 +106,6 @@ impl KeysByKind {
         let _ = self.ways.remove(place);
         let _ = self.titles.remove(place);
         let _ = self.files.remove(place);
-    }
-}
-
-/// The first of two keys, where there is one, and else the second.
-fn first_of<'a>(first: Option<&'a AnyKey>, second: Option<&'a AnyKey>) -> Option<&'a AnyKey>
-    ensures { option_copied result ≡ either (option_copied first.entry) (option_copied second.entry) }
-{
-    match first {
-        Some(key) => Some(key),
-        None => second,
     }
 }
 

@@ -117,7 +117,7 @@ impl KeyRing {
         let place = Place::of(role);
         match &self.root {
             Some(key) if place.is_of(key) => Some(key),
-            _ => self.held.find(&place),
+            _ => self.held.find(role, &place),
         }
     }
 

@@ -1,31 +1,52 @@
 use Rattle.std.proofs.Common.{ap, ◌∙◌}
-use Rattle.std.specs.Option.{option_copied}
 use Rattle.sorted_table.specs.Rows.{row_at}
 use Rattle.sorted_table.specs.Tabled.{Tabled}
-use Rattle.key_links.specs.ByKind.{either}
 use Rattle.key_links.specs.Ringed.{key_rank}
 use Rattle.key_links.specs.declared.any_key.AnyKey.{AnyKey}
-use Rattle.key_links.proofs.BesideKeys.{found_in_five}
+use Rattle.key_links.proofs.InTables.{entry_found, entry_rank, file_found, file_rank, holder_found, holder_rank, title_found, title_rank, way_found, way_rank}
 use Rattle.key_links.proofs.by_kind.KeysByKind.find.Goals as goal
 
-pub returns : goal.returns
-returns c =
+pub returns-in-Owner : goal.returns-in-Owner
+returns-in-Owner c =
     let i = c.self.inside in
     let k = c.args.place.now.0 in
-    let upper =
-    c.first_of-upper.ensures
-    ∙ ap (λ o. either o (option_copied c.find-2.result)) c.find.ensures.row
-    ∙ ap (λ o. either (row_at key_rank i.holders.rows k) o) c.find-2.ensures.row in
-    let lower =
-    c.first_of-lower.ensures
-    ∙ ap (λ o. either o (option_copied c.find-4.result)) c.find-3.ensures.row
-    ∙ ap (λ o. either (row_at key_rank i.titles.rows k) o) c.find-4.ensures.row in
-    let rest =
-    c.first_of.ensures
-    ∙ ap (λ o. either o (option_copied c.first_of-lower.result)) c.find-5.ensures.row
-    ∙ ap (λ o. either (row_at key_rank i.ways.rows k) o) lower in
-    c.first_of-2.ensures
-    ∙ ap (λ o. either o (option_copied c.first_of.result)) upper
-    ∙ ap (λ o. either (either (row_at key_rank i.holders.rows k) (row_at key_rank i.entries.rows k)) o) rest
-    ∙ found_in_five i.holders.rows i.entries.rows i.ways.rows i.titles.rows i.files.rows k
+    let rank = holder_rank c.args.role k c.in-Owner.is c.requires in
+    c.find.ensures.row
+    ∙ holder_found i.holders.rows i.entries.rows i.ways.rows i.titles.rows i.files.rows k c.self.invariant rank
+    ∙ ap (λ (t : Tabled AnyKey). row_at key_rank t.rows k) c.self.view_is
+
+pub returns-in-Clear : goal.returns-in-Clear
+returns-in-Clear c =
+    let i = c.self.inside in
+    let k = c.args.place.now.0 in
+    let rank = entry_rank c.args.role k c.in-Clear.is c.requires in
+    c.find-in-Clear.ensures.row
+    ∙ entry_found i.holders.rows i.entries.rows i.ways.rows i.titles.rows i.files.rows k c.self.invariant rank.0 rank.1
+    ∙ ap (λ (t : Tabled AnyKey). row_at key_rank t.rows k) c.self.view_is
+
+pub returns-in-Back : goal.returns-in-Back
+returns-in-Back c =
+    let i = c.self.inside in
+    let k = c.args.place.now.0 in
+    let rank = way_rank c.args.role k c.in-Back.is c.requires in
+    c.find-in-Back.ensures.row
+    ∙ way_found i.holders.rows i.entries.rows i.ways.rows i.titles.rows i.files.rows k c.self.invariant rank.0 rank.1
+    ∙ ap (λ (t : Tabled AnyKey). row_at key_rank t.rows k) c.self.view_is
+
+pub returns-in-Data : goal.returns-in-Data
+returns-in-Data c =
+    let i = c.self.inside in
+    let k = c.args.place.now.0 in
+    let rank = title_rank c.args.role k _ c.in-Data.is c.requires in
+    c.find-in-Data.ensures.row
+    ∙ title_found i.holders.rows i.entries.rows i.ways.rows i.titles.rows i.files.rows k c.self.invariant rank
+    ∙ ap (λ (t : Tabled AnyKey). row_at key_rank t.rows k) c.self.view_is
+
+pub returns-in-File : goal.returns-in-File
+returns-in-File c =
+    let i = c.self.inside in
+    let k = c.args.place.now.0 in
+    let rank = file_rank c.args.role k _ c.in-File.is c.requires in
+    c.find-in-File.ensures.row
+    ∙ file_found i.holders.rows i.entries.rows i.ways.rows i.titles.rows i.files.rows k c.self.invariant rank
     ∙ ap (λ (t : Tabled AnyKey). row_at key_rank t.rows k) c.self.view_is
