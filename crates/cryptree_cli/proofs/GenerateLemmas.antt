@@ -26,7 +26,7 @@ use Rattle.cryptree_cli.specs.Published.{LinesPublish}
 use Rattle.cryptree_cli.specs.Running.{RanCut, RanDry, Seen, apply_status, version_limits}
 use Rattle.cryptree_cli.specs.Status.{is_before_print, is_make_answer}
 use Rattle.cryptree_cli.specs.Stopping.{LinesKeepUpTo}
-use Rattle.cryptree_cli.specs.Top.{PrintsAll, PrintsFront}
+use Rattle.cryptree_cli.specs.Outside.{PrintsAll, PrintsFront}
 use Rattle.cryptree_cli.specs.declared.status.Status.{Status}
 use Rattle.cryptree_cli.specs.declared.status.Status.TheVariants.{Done, WriteFault, DiskFault, RandomFault, RandomShort, OutOfMemory}
 use Rattle.cryptree_cli.specs.declared.words.Form.{Form}

@@ -30,7 +30,7 @@ use Rattle.cryptree_cli.specs.declared.status.Status.{Status}
 use Rattle.cryptree_cli.specs.declared.status.Status.TheVariants as statuses
 use Rattle.cryptree_cli.specs.Input.{ReadsInput, TakesLines, input_answer}
 use Rattle.cryptree_cli.specs.Listing.{AnswersAs, AnswersFor, AuditGives, GivesText, InputDecides, IsExactly, Reads, TakesInput, client_status, input_status, is_store_answer, line_answer, seen_text, view_answer}
-use Rattle.cryptree_cli.specs.Top.{PrintsAll, PrintsFront}
+use Rattle.cryptree_cli.specs.Outside.{PrintsAll, PrintsFront}
 
 -- the end of a line may be counted to the line, or to what follows
 ended : (word path rest : List ℕ) → (word ++ (path ++ 10 ∷ [])) ++ rest ≡ (word ++ path) ++ 10 ∷ rest

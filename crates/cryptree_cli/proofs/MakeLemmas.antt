@@ -19,7 +19,7 @@ use Rattle.cryptree_cli.specs.declared.status.Status.{Status}
 use Rattle.cryptree_cli.specs.declared.status.Status.TheVariants.{Done, Usage, BadScript, ReadFault, NotAStore, Damaged, WrongKey, Tampered, WriteFault, DiskFault, RandomFault, RandomShort, OutOfMemory, NotBlank, NoHolder, Unseen}
 use Rattle.cryptree_cli.specs.Running.{apply_status}
 use Rattle.cryptree_cli.specs.Status.{is_make_answer}
-use Rattle.cryptree_cli.specs.Top.{EndsShort, IsShort, Makes}
+use Rattle.cryptree_cli.specs.Making.{EndsShort, IsShort, Makes}
 
 -- the image of a fresh store is that of its journal
 fresh_is : (drawn : List ℕ) → image_of (piece drawn 0) (making.made_with (making.root_keys drawn)) ++ 0 ∷ [] ≡ fresh_image drawn

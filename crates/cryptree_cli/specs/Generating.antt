@@ -1,7 +1,5 @@
 -- What `gen` leaves and prints. This project's own, docs/FORMAT.md, "Generated scripts" and "The program".
-use Rattle.std.specs.Prelude.{◌≡◌, ◌≤◌, ◌⊎◌, ℕ, ◌+◌, List, [], ◌++◌, length, map, Option, Some, None, Result, Ok, Err, is_some}
-use Rattle.std.specs.Prelude.{Bool, true, false, IsTrue}
-use Rattle.cry_base.specs.Listed.{Listed}
+use Rattle.std.specs.Prelude.{◌≡◌, ◌≤◌, ◌⊎◌, ℕ, ◌+◌, List, [], ◌++◌, length, map, Option, None, Result, Ok, Err, is_some}
 use Rattle.cry_base.specs.Requests.{Request}
 use Rattle.cry_base.specs.declared.limits.Limits.{Limits}
 use Rattle.cry_io.specs.Told.{WhereBothTold}
@@ -20,25 +18,12 @@ use Rattle.cryptree_cli.specs.Lines.{InputLine}
 use Rattle.cryptree_cli.specs.Lines.InputLine.{Whole}
 use Rattle.cryptree_cli.specs.Running.{DrawsNext, LeavesAt, RanCut, RanDry, RanShort, RanUndrawn, RanUnwritten, Seen, SessionOver}
 use Rattle.cryptree_cli.specs.Running.{seen_from, version_limits}
+use Rattle.cryptree_cli.specs.Making.{IsShort}
+use Rattle.cryptree_cli.specs.Outside.{PrintsAll, PrintsFront}
 use Rattle.cryptree_cli.specs.Published.{LinesPublish}
 use Rattle.cryptree_cli.specs.Stopping.{LinesKeepUpTo}
-use Rattle.cryptree_cli.specs.Top.{IsShort, PrintsAll, PrintsFront}
-use Rattle.cryptree_cli.specs.Words.{form_of_words}
 use Rattle.cryptree_cli.specs.declared.status.Status.{Status}
 use Rattle.cryptree_cli.specs.declared.status.Status.TheVariants as statuses
-use Rattle.cryptree_cli.specs.declared.words.Form.{Form}
-use Rattle.cryptree_cli.specs.declared.words.Form.TheVariants as forms
-
--- the words ask for the store of this number and so many lines; for that of any
-abbrev pub AsksGen : List (Listed ℕ) → ℕ → ℕ → Type 0
-AsksGen words seed count = form_of_words words ≡ Some (forms.Gen seed count)
-
-abbrev pub is_gen : Option Form → Bool
-is_gen (Some (forms.Gen seed count)) = true
-is_gen _ = false
-
-abbrev pub IsGen : List (Listed ℕ) → Type 0
-IsGen words = IsTrue (is_gen (form_of_words words))
 
 -- this is a script that may be asked for
 abbrev pub IsScript : List ℕ → Type 0

@@ -6,8 +6,10 @@ pub mod Journals
 pub mod KeyLine
 pub mod Lines
 pub mod Listing
+pub mod Making
 pub mod Outside
 pub mod OwnerSteps
+pub mod Promises
 pub mod Published
 pub mod Refusing
 pub mod Running
@@ -15,5 +17,4 @@ pub mod Script
 pub mod Status
 pub mod Stopping
 pub mod Taking
-pub mod Top
 pub mod Words

@@ -20,7 +20,7 @@ use Rattle.cryptree_cli.specs.declared.input.InputFault.TheVariants.{BadLine, Fa
 use Rattle.cryptree_cli.specs.declared.status.Status.{Status}
 use Rattle.cryptree_cli.specs.declared.status.Status.TheVariants as statuses
 use Rattle.cryptree_cli.specs.Input.{IsUnjudged, TakesLines, input_answer}
-use Rattle.cryptree_cli.specs.Top.{PrintsAll, PrintsFront}
+use Rattle.cryptree_cli.specs.Outside.{PrintsAll, PrintsFront}
 
 -- how the program ends where a test of the store fails
 abbrev pub failure_status : Failure → Status

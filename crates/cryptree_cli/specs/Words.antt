@@ -4,6 +4,7 @@ use Rattle.std.specs.Prelude.{if◌then◌else◌, nat_eq, option_and_then, opti
 use Rattle.std.specs.Cmp.Lexicographic.{pointwise}
 use Rattle.std.specs.Str.Parse.{digits_value}
 use Rattle.cry_base.specs.Listed.{Listed}
+use Rattle.cryptree_cli.specs.declared.texts.TheConstants.{HELP, VERSION}
 use Rattle.cryptree_cli.specs.declared.words.Form.{Form}
 use Rattle.cryptree_cli.specs.declared.words.Form.TheVariants.{Make, Run, Open, Audit, Gen, Help, Version}
 use Rattle.cryptree_cli.specs.declared.words.Form.TheVariants as forms
@@ -70,3 +71,35 @@ form_of_words _ = None
 abbrev pub path_in_words : List (Listed ℕ) → List ℕ
 path_in_words (store ∷ random ∷ command ∷ path ∷ []) = path.items
 path_in_words _ = []
+
+-- ---- what the words ask for
+
+-- the words ask for a store to be made
+abbrev pub IsMake : List (Listed ℕ) → Type 0
+IsMake words = form_of_words words ≡ Some Make
+
+-- or for the store of this number and so many lines
+abbrev pub AsksGen : List (Listed ℕ) → ℕ → ℕ → Type 0
+AsksGen words seed count = form_of_words words ≡ Some (Gen seed count)
+
+-- the words ask for commands to be applied
+abbrev pub IsRun : List (Listed ℕ) → Type 0
+IsRun words = form_of_words words ≡ Some Run
+
+-- the words ask for a key's view
+abbrev pub IsList : List (Listed ℕ) → Type 0
+IsList words = form_of_words words ≡ Some forms.List
+
+-- or for the one line of it that has a path
+abbrev pub IsOpen : List (Listed ℕ) → Type 0
+IsOpen words = form_of_words words ≡ Some Open
+
+-- or for all that it leads to
+abbrev pub IsAudit : List (Listed ℕ) → Type 0
+IsAudit words = form_of_words words ≡ Some Audit
+
+-- the text that the words ask for, where they ask for one
+abbrev pub text_of : Option Form → Option (List ℕ)
+text_of (Some Help) = Some HELP.now
+text_of (Some Version) = Some VERSION.now
+text_of _ = None

@@ -1,11 +1,12 @@
 //! The command `make`: the disk's size, all memory, one draw, the store, the owner's line, in this order.
 ghost use Rattle.std.specs.Prelude.{◌≡◌, ◌≢◌, ◌<◌, ◌≤◌, ◌⊎◌, ◌↔◌, ℕ, [], is_some, IfOk, IsTrue};
-ghost use Rattle.key_links.specs.Fresh.{fresh_store_len};
 ghost use Rattle.cry_io.specs.Stops.{IsDurable};
 ghost use Rattle.cry_io.specs.Told.{WhereTold, WhereBothTold};
+ghost use Rattle.key_links.specs.Fresh.{fresh_store_len};
 ghost use Rattle.script_text.specs.Printing.{owner_line};
+ghost use Rattle.cryptree_cli.specs.Making.{EndsShort, IsShort, Makes};
+ghost use Rattle.cryptree_cli.specs.Outside.{PrintsAll, PrintsFront};
 ghost use Rattle.cryptree_cli.specs.Status.{is_make_answer, is_before_draw, is_before_write, is_before_print};
-ghost use Rattle.cryptree_cli.specs.Top.{Makes, PrintsAll, PrintsFront, IsShort, EndsShort};
 
 use crate::outside::print;
 use crate::run::{LIMITS, apply_status};

@@ -2,8 +2,7 @@
 ghost use Rattle.std.specs.Prelude.{◌≡◌, ◌<◌, ◌≤◌, ◌⊎◌, is_some};
 ghost use Rattle.cry_io.specs.Counts.{CountsFault};
 ghost use Rattle.cry_io.specs.Told.{WhereBothTold};
-ghost use Rattle.cryptree_cli.specs.Outside.{Prints};
-ghost use Rattle.cryptree_cli.specs.Top.{PrintsAll, PrintsFront};
+ghost use Rattle.cryptree_cli.specs.Outside.{Prints, PrintsAll, PrintsFront};
 
 use crate::status::Status;
 use cry_io::{Failed, Sink};

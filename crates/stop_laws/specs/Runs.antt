@@ -1,6 +1,6 @@
 -- Runs of the program over one store, one after another, with stops in and between them. This project's own, docs/MODEL.md.
 --
--- A run is told by what `top` promises of it (its clauses `ran`, `run_published`, `run_later`). It is over a disk as the run before left it,
+-- A run is told by what `top` promises of it (`ran`, `published` and `later` of `RunEnds`). It is over a disk as the run before left it,
 -- or as a stop left it. A stop comes behind a run, or at any moment in one. It leaves bytes that the disk might leave then; the disk shows
 -- these, and nothing is pending. A command was acknowledged where its whole reply line was taken. A run that met a stop at a moment in it is
 -- told like one that met a fault of the disk then: the clause of its exit says what it had acknowledged.

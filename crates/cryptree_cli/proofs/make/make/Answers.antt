@@ -3,7 +3,8 @@ use Rattle.cry_io.specs.Told.{WhereBothTold, WhereTold}
 use Rattle.script_text.specs.Printing.{owner_line}
 use Rattle.cryptree_cli.specs.declared.status.Status.{Status}
 use Rattle.cryptree_cli.specs.Running.{version_limits}
-use Rattle.cryptree_cli.specs.Top.{EndsShort, PrintsAll, PrintsFront}
+use Rattle.cryptree_cli.specs.Making.{EndsShort}
+use Rattle.cryptree_cli.specs.Outside.{PrintsAll, PrintsFront}
 use Rattle.cryptree_cli.proofs.MakeLemmas.{ends_short, is_short, makes, never_fewer, short_of}
 use Rattle.cryptree_cli.proofs.make.make.Goals as goal
 

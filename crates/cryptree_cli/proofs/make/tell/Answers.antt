@@ -1,7 +1,7 @@
 use Rattle.std.proofs.Common.{◌≡◌, List, ℕ, ◌++◌, arith, ap, ◌∙◌, subst}
 use Rattle.std.specs.Prelude.{true, false}
 use Rattle.script_text.specs.Printing.{owner_line}
-use Rattle.cryptree_cli.specs.Top.{PrintsFront}
+use Rattle.cryptree_cli.specs.Outside.{PrintsFront}
 use Rattle.script_text.proofs.PrintedLengths.{length-owner_line}
 use Rattle.cryptree_cli.proofs.make.tell.Goals as goal
 

@@ -1,14 +1,12 @@
-use Rattle.std.proofs.Common.{◌≡◌, ◌⊎◌, List, ℕ, Option, Some, arith, sym, ap, ◌∙◌, subst}
+use Rattle.std.proofs.Common.{◌≡◌, List, ℕ, Option, Some, arith, refl, sym, ap, ◌∙◌, subst}
 use Rattle.std.specs.Prelude.{IfSome}
-use Rattle.cry_io.specs.Told.{WhereBothTold, WhereTold}
-use Rattle.cryptree_cli.specs.declared.status.Status.TheVariants.{Done, WriteFault}
 use Rattle.cryptree_cli.specs.declared.texts.TheConstants.{HELP, VERSION}
 use Rattle.cryptree_cli.specs.declared.words.Form.TheVariants.{Help, Version}
 use Rattle.cryptree_cli.specs.declared.words.Form.{Form}
-use Rattle.cryptree_cli.specs.Generating.{Generates, IsUnmade}
-use Rattle.cryptree_cli.specs.Journals.{AnswersJournal, line_of}
-use Rattle.cryptree_cli.specs.Top.{text_of, PrintsAll, PrintsFront}
-use Rattle.cryptree_cli.specs.Words.{HasFewLines, form_of_words}
+use Rattle.cryptree_cli.specs.Promises.Gen.{GenEnds}
+use Rattle.cryptree_cli.specs.Promises.Open.{OpenEnds}
+use Rattle.cryptree_cli.specs.Promises.Text.{TextEnds}
+use Rattle.cryptree_cli.specs.Words.{HasFewLines, form_of_words, text_of}
 use Rattle.cryptree_cli.proofs.AuditAnswers.{audit_as_journal}
 use Rattle.cryptree_cli.proofs.ChangedAnswers.{audit_written, line_written, view_written}
 use Rattle.cryptree_cli.proofs.GenerateLemmas.{of_asked}
@@ -16,68 +14,29 @@ use Rattle.cryptree_cli.proofs.JournalAnswers.{line_as_journal, view_as_journal}
 use Rattle.cryptree_cli.proofs.MakeLemmas.{done_or_no_memory}
 use Rattle.cryptree_cli.proofs.top.top.Goals as goal
 
-pub returns-in-Some-Help-clause-text : goal.returns-in-Some-Help-clause-text
-returns-in-Some-Help-clause-text g c = λ x asked.
-    let form : form_of_words c.args.words.now.items ≡ Some Help =
-    sym c.form_of.ensures.form ∙ c.in-Some-Help.is ∙ ap (λ f. Some f) c.in-Some-Help.field-0-is
-    in
-    let some : Some HELP.now ≡ Some x = sym (ap text_of form) ∙ asked in
-    let text : HELP.now ≡ x = cc in
-    subst (λ (t : List ℕ).
-    (c.tell.result ≡ Done) × WhereBothTold (g.W.Sink.written c.args.out.now) (g.W.Sink.written c.tell.new.out) (PrintsAll t)
-    ⊎ (c.tell.result ≡ WriteFault) × WhereBothTold (g.W.Sink.written c.args.out.now) (g.W.Sink.written c.tell.new.out) (PrintsFront t))
-    text c.tell.ensures.done
-
-pub returns-in-Some-Version-clause-text : goal.returns-in-Some-Version-clause-text
-returns-in-Some-Version-clause-text g c = λ x asked.
-    let form : form_of_words c.args.words.now.items ≡ Some Version =
-    sym c.form_of.ensures.form ∙ c.in-Some-Version.is ∙ ap (λ f. Some f) c.in-Some-Version.field-0-is
-    in
-    let some : Some VERSION.now ≡ Some x = sym (ap text_of form) ∙ asked in
-    let text : VERSION.now ≡ x = cc in
-    let out = c.tell-in-Some-Version.new.out in
-    let result = c.tell-in-Some-Version.result in
-    subst (λ (t : List ℕ).
-    (result ≡ Done) × WhereBothTold (g.W.Sink.written c.args.out.now) (g.W.Sink.written out) (PrintsAll t)
-    ⊎ (result ≡ WriteFault) × WhereBothTold (g.W.Sink.written c.args.out.now) (g.W.Sink.written out) (PrintsFront t))
-    text c.tell-in-Some-Version.ensures.done
-
-pub returns-in-Some-Make-clause-complete : goal.returns-in-Some-Make-clause-complete
-returns-in-Some-Make-clause-complete g c = λ is blank x was enough random disk out.
+pub returns-in-Some-Make-clause-makes : goal.returns-in-Some-Make-clause-makes
+returns-in-Some-Make-clause-makes g c = λ is.
     let make = c.make.ensures in
-    done_or_no_memory c.make.result make.answers
-    (λ e. make.not_blank.0 e blank)
-    (λ e. omega (arith, make.random_fault e, random))
-    (λ e. omega (arith, make.disk_fault e, disk))
-    (λ e. omega (arith, make.write_fault e, out))
-    (λ left need e. let short = make.short left need e in omega (arith, short.had x was, short.fewer, enough))
-
-pub returns-in-Some-List-clause-listed_journal : goal.returns-in-Some-List-clause-listed_journal
-returns-in-Some-List-clause-listed_journal g c = λ is typed was image now.
-    view_as_journal c.list.result typed image (g.W.Sink.written c.args.out.now) (g.W.Sink.written c.list.new.out) (c.list.ensures.reads.answered typed was image now)
-
-pub returns-in-Some-Open-clause-opened_journal : goal.returns-in-Some-Open-clause-opened_journal
-returns-in-Some-Open-clause-opened_journal g c = λ is typed was image now.
-    subst (λ path. AnswersJournal (line_of path) c.open.result typed image (g.W.Sink.written c.args.out.now) (g.W.Sink.written c.open.new.out)) c.path_in.ensures
-    (line_as_journal c.path_in.result.now c.open.result typed image (g.W.Sink.written c.args.out.now) (g.W.Sink.written c.open.new.out)
-    (c.open.ensures.reads.answered typed was image now))
-
-pub returns-in-Some-Audit-clause-audited_journal : goal.returns-in-Some-Audit-clause-audited_journal
-returns-in-Some-Audit-clause-audited_journal g c = λ is typed was image now.
-    audit_as_journal c.audit.result typed image (g.W.Sink.written c.args.out.now) (g.W.Sink.written c.audit.new.out) (c.audit.ensures.reads.answered typed was image now)
-
-pub returns-in-Some-List-clause-listed_written : goal.returns-in-Some-List-clause-listed_written
-returns-in-Some-List-clause-listed_written g c = λ is typed was image now.
-    view_written c.list.result typed image (g.W.Sink.written c.args.out.now) (g.W.Sink.written c.list.new.out) (c.list.ensures.reads.answered typed was image now)
-
-pub returns-in-Some-Open-clause-opened_written : goal.returns-in-Some-Open-clause-opened_written
-returns-in-Some-Open-clause-opened_written g c = λ is typed was image now.
-    line_written c.path_in.result.now c.open.result typed image (g.W.Sink.written c.args.out.now) (g.W.Sink.written c.open.new.out)
-    (c.open.ensures.reads.answered typed was image now)
-
-pub returns-in-Some-Audit-clause-audited_written : goal.returns-in-Some-Audit-clause-audited_written
-returns-in-Some-Audit-clause-audited_written g c = λ is typed was image now.
-    audit_written c.audit.result typed image (g.W.Sink.written c.args.out.now) (g.W.Sink.written c.audit.new.out) (c.audit.ensures.reads.answered typed was image now)
+    record {
+      answers = make.answers;
+      not_blank = make.not_blank;
+      short = make.short;
+      short_only = make.short_only;
+      complete = λ blank x was enough random disk out.
+          done_or_no_memory c.make.result make.answers
+          (λ e. make.not_blank.0 e blank)
+          (λ e. omega (arith, make.random_fault e, random))
+          (λ e. omega (arith, make.disk_fault e, disk))
+          (λ e. omega (arith, make.write_fault e, out))
+          (λ left need e. let short = make.short left need e in omega (arith, short.had x was, short.fewer, enough));
+      made = make.made;
+      cut_short = make.cut_short;
+      stays = make.stays;
+      input_kept = refl;
+      random_kept = make.random_kept;
+      disk_kept = make.disk_kept;
+      out_kept = make.out_kept;
+    }
 
 -- ---- `gen`
 
@@ -86,20 +45,127 @@ generate_store-requires g c =
     subst (λ (o : Option Form). IfSome o HasFewLines) (c.in-Some-Gen.is ∙ ap (λ f. Some f) c.in-Some-Gen.field-0-is) c.form_of.ensures.few_lines
 
 pub returns-in-Some-Gen-clause-generates : goal.returns-in-Some-Gen-clause-generates
-returns-in-Some-Gen-clause-generates g c = λ seed count asked blank.
-    of_asked (λ n m. IsUnmade g.R.Source.left c.generate_store.result c.args.random.now c.generate_store.new.random c.args.disk.now c.generate_store.new.disk
-    ⊎ WhereTold (g.D.Disk.shown c.generate_store.new.disk) (λ s. Generates c.generate_store.result n m (g.R.Source.left c.args.random.now) (g.R.Source.left c.generate_store.new.random)
-    (g.D.Disk.shown c.generate_store.new.disk) (g.D.Disk.may_leave c.generate_store.new.disk) (g.D.Disk.since c.generate_store.new.disk)
-    (g.W.Sink.written c.args.out.now) (g.W.Sink.written c.generate_store.new.out)))
-    c.in-Some-Gen.seed c.in-Some-Gen.count seed count (form_of_words c.args.words.now.items)
-    (sym c.form_of.ensures.form ∙ c.in-Some-Gen.is ∙ ap (λ f. Some f) c.in-Some-Gen.field-0-is) asked (c.generate_store.ensures.generates blank)
-
-pub returns-in-Some-Gen-clause-gen_complete : goal.returns-in-Some-Gen-clause-gen_complete
-returns-in-Some-Gen-clause-gen_complete g c = λ is blank enough random disk out.
+returns-in-Some-Gen-clause-generates g c = λ seed count asked.
     let gen = c.generate_store.ensures in
-    done_or_no_memory c.generate_store.result gen.answers
-    (λ e. gen.not_blank.0 e blank)
-    (λ e. omega (arith, gen.random_fault e, random))
-    (λ e. omega (arith, gen.disk_fault e, disk))
-    (λ e. omega (arith, gen.write_fault e, out))
-    enough
+    of_asked (λ n m. GenEnds g.S.Source g.R.Source g.D.Disk g.W.Sink c.generate_store.result c.args.input.now c.args.input.now
+    c.args.random.now c.generate_store.new.random c.args.disk.now c.generate_store.new.disk c.args.out.now c.generate_store.new.out n m)
+    c.in-Some-Gen.seed c.in-Some-Gen.count seed count (form_of_words c.args.words.now.items)
+    (sym c.form_of.ensures.form ∙ c.in-Some-Gen.is ∙ ap (λ f. Some f) c.in-Some-Gen.field-0-is) asked
+    (record {
+      answers = gen.answers;
+      not_blank = gen.not_blank;
+      short = gen.short;
+      complete = λ blank enough random disk out.
+          done_or_no_memory c.generate_store.result gen.answers
+          (λ e. gen.not_blank.0 e blank)
+          (λ e. omega (arith, gen.random_fault e, random))
+          (λ e. omega (arith, gen.disk_fault e, disk))
+          (λ e. omega (arith, gen.write_fault e, out))
+          enough;
+      generates = gen.generates;
+      calm = gen.calm;
+      input_kept = refl;
+      blank_kept = gen.blank_kept;
+      out_kept = gen.out_kept;
+    })
+
+-- ---- `run`
+
+pub returns-in-Some-Run-clause-runs : goal.returns-in-Some-Run-clause-runs
+returns-in-Some-Run-clause-runs g c = λ is.
+    let run = c.run.ensures in
+    record {
+      answers = run.answers;
+      first_line = run.first_line;
+      key_line = run.key_line;
+      judged = run.judged;
+      bad_line = run.bad_line;
+      short = run.short;
+      lines = run.lines;
+      takes = run.takes;
+      read_to_end = run.read_to_end;
+      read_whole_lines = run.read_whole_lines;
+      ran = run.ran;
+      published = run.published;
+      later = run.later;
+      time = run.time;
+      stays = run.stays;
+      settled = run.settled;
+      refused = run.refused;
+      unopened = run.unopened;
+    }
+
+-- ---- `list`, `open` and `audit`
+
+pub returns-in-Some-List-clause-lists : goal.returns-in-Some-List-clause-lists
+returns-in-Some-List-clause-lists g c = λ is.
+    let list = c.list.ensures in
+    let before = g.W.Sink.written c.args.out.now in
+    let after = g.W.Sink.written c.list.new.out in
+    record {
+      answers = list.answers;
+      reads = list.reads;
+      journal = λ typed was image now. view_as_journal c.list.result typed image before after (list.reads.answered typed was image now);
+      written = λ typed was image now. view_written c.list.result typed image before after (list.reads.answered typed was image now);
+      random_kept = refl;
+      disk_unread = list.disk_unread;
+      out_kept = list.out_kept;
+    }
+
+pub returns-in-Some-Open-clause-opens : goal.returns-in-Some-Open-clause-opens
+returns-in-Some-Open-clause-opens g c = λ is.
+    let ends = c.open.ensures in
+    let path = c.path_in.result.now in
+    let before = g.W.Sink.written c.args.out.now in
+    let after = g.W.Sink.written c.open.new.out in
+    subst (λ named. OpenEnds g.S.Source g.R.Source g.D.Disk g.W.Sink c.open.result c.args.input.now c.open.new.input
+    c.args.random.now c.args.random.now c.args.disk.now c.open.new.disk c.args.out.now c.open.new.out named) c.path_in.ensures
+    (record {
+      answers = ends.answers;
+      reads = ends.reads;
+      journal = λ typed was image now. line_as_journal path c.open.result typed image before after (ends.reads.answered typed was image now);
+      written = λ typed was image now. line_written path c.open.result typed image before after (ends.reads.answered typed was image now);
+      random_kept = refl;
+      disk_unread = ends.disk_unread;
+      out_kept = ends.out_kept;
+    })
+
+pub returns-in-Some-Audit-clause-audits : goal.returns-in-Some-Audit-clause-audits
+returns-in-Some-Audit-clause-audits g c = λ is.
+    let audit = c.audit.ensures in
+    let before = g.W.Sink.written c.args.out.now in
+    let after = g.W.Sink.written c.audit.new.out in
+    record {
+      answers = audit.answers;
+      reads = audit.reads;
+      journal = λ typed was image now. audit_as_journal c.audit.result typed image before after (audit.reads.answered typed was image now);
+      written = λ typed was image now. audit_written c.audit.result typed image before after (audit.reads.answered typed was image now);
+      random_kept = refl;
+      disk_unread = audit.disk_unread;
+      out_kept = audit.out_kept;
+    }
+
+-- ---- the texts
+
+pub returns-in-Some-Help-clause-tells : goal.returns-in-Some-Help-clause-tells
+returns-in-Some-Help-clause-tells g c = λ x asked.
+    let form : form_of_words c.args.words.now.items ≡ Some Help =
+    sym c.form_of.ensures.form ∙ c.in-Some-Help.is ∙ ap (λ f. Some f) c.in-Some-Help.field-0-is
+    in
+    let some : Some HELP.now ≡ Some x = sym (ap text_of form) ∙ asked in
+    let text : HELP.now ≡ x = cc in
+    subst (λ (t : List ℕ). TextEnds g.W.Sink c.tell.result c.args.input.now c.args.input.now c.args.random.now c.args.random.now
+    c.args.disk.now c.args.disk.now c.args.out.now c.tell.new.out t) text
+    (record { answers = c.tell.ensures.done; input_kept = refl; random_kept = refl; disk_kept = refl })
+
+pub returns-in-Some-Version-clause-tells : goal.returns-in-Some-Version-clause-tells
+returns-in-Some-Version-clause-tells g c = λ x asked.
+    let form : form_of_words c.args.words.now.items ≡ Some Version =
+    sym c.form_of.ensures.form ∙ c.in-Some-Version.is ∙ ap (λ f. Some f) c.in-Some-Version.field-0-is
+    in
+    let some : Some VERSION.now ≡ Some x = sym (ap text_of form) ∙ asked in
+    let text : VERSION.now ≡ x = cc in
+    let out = c.tell-in-Some-Version.new.out in
+    subst (λ (t : List ℕ). TextEnds g.W.Sink c.tell-in-Some-Version.result c.args.input.now c.args.input.now c.args.random.now
+    c.args.random.now c.args.disk.now c.args.disk.now c.args.out.now out t) text
+    (record { answers = c.tell-in-Some-Version.ensures.done; input_kept = refl; random_kept = refl; disk_kept = refl })
