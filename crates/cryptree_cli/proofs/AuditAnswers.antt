@@ -1,6 +1,6 @@
 -- What is answered to an audit of an image that stands for a journal is what the journal's history derives.
 use Rattle.std.proofs.Common.{refl, ◌≡◌, ℕ, List, [], ◌∷◌, map, Option, Result, Ok, Err, ap, subst, sym, ◌∙◌}
-use Rattle.audit_laws.specs.Audited.{audit_answer, seen_items}
+use Rattle.audit_laws.specs.Audited.{seen_items}
 use Rattle.audit_laws.proofs.Answered.{audit_answered, audit_refused}
 use Rattle.commit_journal.specs.Answering.{NotAStore, WrongKey, Damaged, Tampered}
 use Rattle.cry_base.specs.Listed.{Listed}
@@ -15,7 +15,7 @@ use Rattle.trail_audit.specs.Derived.{MayAnswer, Passes, PlainSeen, plain_seen}
 use Rattle.cryptree_cli.specs.declared.status.Status.{Status}
 use Rattle.cryptree_cli.specs.declared.status.Status.TheVariants as statuses
 use Rattle.cryptree_cli.specs.Journals.{AuditsJournal, seen_answer}
-use Rattle.cryptree_cli.specs.Listing.{AnswersAs, AnswersFor, AuditAnswers, AuditGives, IsExactly, failure_status, seen_text}
+use Rattle.cryptree_cli.specs.Listing.{AnswersAs, AnswersFor, AuditAnswers, AuditGives, IsExactly, seen_text}
 
 abbrev Answered : Type 1
 Answered = Result (List ℕ) Status → Type 0

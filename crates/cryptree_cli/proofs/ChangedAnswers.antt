@@ -1,5 +1,5 @@
 -- What is printed of any image to whoever has a key of a journal was written by the journal, or a forged record stands in the image.
-use Rattle.std.proofs.Common.{◌≡◌, ⊎_elim, inl, inr, ℕ, List, [], ◌∷◌, Option, Result, Ok, Err, refl, sym, ap, subst}
+use Rattle.std.proofs.Common.{◌≡◌, ⊎_elim, inl, inr, ℕ, List, [], ◌∷◌, Option, Result, Ok, Err, refl, sym, subst}
 use Rattle.std.specs.Prelude.{◌⊎◌}
 use Rattle.cry_base.specs.declared.client.Bundle.{Bundle}
 use Rattle.forgery_laws.specs.Written.{AreBytes, HasForged, HasKeyOf}

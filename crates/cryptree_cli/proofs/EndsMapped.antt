@@ -2,7 +2,7 @@
 use Rattle.std.proofs.Common.{⊎_elim, inl, inr, ℕ, List, []}
 use Rattle.cry_base.specs.declared.limits.Limits.{Limits}
 use Rattle.cryptree_cli.specs.Lines.{InputLine}
-use Rattle.cryptree_cli.specs.Running.{Ends, HasRun, IsUnopened, RanCut, RanShort, RanUndrawn, RanUnwritten, Seen}
+use Rattle.cryptree_cli.specs.Running.{Ends, HasRun, IsUnopened, RanCut, RanUnwritten, Seen}
 use Rattle.cryptree_cli.specs.declared.status.Status.{Status}
 use Rattle.cryptree_cli.specs.declared.status.Status.TheVariants as statuses
 use Rattle.public_fold.specs.Journal.{Journal}

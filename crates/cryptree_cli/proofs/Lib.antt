@@ -16,6 +16,7 @@ pub mod OutsideLemmas
 pub mod OwnerStepLemmas
 pub mod PublishedLines
 pub mod PublishedRuns
+pub mod ReaderPromises
 pub mod ReadFaults
 pub mod RefusedRuns
 pub mod RunEnds

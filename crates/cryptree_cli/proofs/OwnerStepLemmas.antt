@@ -1,9 +1,8 @@
 -- What an owner promises of a command, put together as what `run` asks of it.
-use Rattle.std.proofs.Common.{◌≡◌, ◌<◌, ◌≤◌, ◌↔◌, ℕ, List, Option, Result, Ok, Err, ap, arith, false, refl}
+use Rattle.std.proofs.Common.{◌≡◌, ◌≤◌, ◌↔◌, ℕ, List, Option, Result, Ok, Err, ap, arith, false, refl}
 use Rattle.std.specs.Prelude.{IsTrue, MatchResult, OnOk, is_some, ◌≢◌}
 use Rattle.commit_journal.specs.Holding.{GoesOn}
 use Rattle.cry_base.specs.Requests.{Request}
-use Rattle.cry_base.specs.declared.commands.Refusal.{Refusal}
 use Rattle.cry_base.specs.declared.commands.Reply.{Reply}
 use Rattle.cry_base.specs.declared.commands.Reply.TheVariants as replies
 use Rattle.cry_io.specs.Stops.{IsDurable}

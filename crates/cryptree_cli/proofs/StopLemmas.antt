@@ -1,5 +1,5 @@
 -- What a stop leaves of commands, one after another.
-use Rattle.std.proofs.Common.{◌≡◌, ◌≤◌, ⊎_elim, inl, inr, ℕ, cond, List, [], ◌∷◌, ◌++◌, Option, Some, None, append_assoc, arith, sym, subst, ◌∙◌}
+use Rattle.std.proofs.Common.{◌≡◌, ◌≤◌, ⊎_elim, inl, ℕ, cond, List, [], ◌∷◌, ◌++◌, Option, Some, None, append_assoc, arith, sym, subst, ◌∙◌}
 use Rattle.commit_journal.specs.Holding.{GoesOn, IsKept, IsPrefix}
 use Rattle.commit_journal.proofs.KeptLemmas.{kept_starts, kept_then, prefix_same, prefix_trans, settled_holds}
 use Rattle.commit_journal.proofs.Standings.{whole_stands}

@@ -2,8 +2,8 @@
 --
 -- A run is told by what `top` promises of it (`ran`, `published` and `later` of `RunEnds`). It is over a disk as the run before left it,
 -- or as a stop left it. A stop comes behind a run, or at any moment in one. It leaves bytes that the disk might leave then; the disk shows
--- these, and nothing is pending. A command was acknowledged where its whole reply line was taken. A run that met a stop at a moment in it is
--- told like one that met a fault of the disk then: the clause of its exit says what it had acknowledged.
+-- these, and nothing is pending. A command was acknowledged where its whole reply line was taken. A run that met a stop at a moment in it
+-- is told like one that met a fault of the disk then: the clause of its exit says what it had acknowledged.
 use Rattle.std.specs.Prelude.{◌≡◌, ◌≤◌, ◌⊎◌, ℕ, List, Option, Some}
 use Rattle.commit_journal.specs.Holding.{IsPrefix}
 use Rattle.cry_base.specs.Requests.{Request}

@@ -1,4 +1,4 @@
-use Rattle.std.proofs.Common.{◌≡◌, List, ℕ, Option, Some, arith, refl, sym, ap, ◌∙◌, subst}
+use Rattle.std.proofs.Common.{◌≡◌, List, ℕ, Option, Some, arith, refl, rules, sym, ap, ◌∙◌, subst}
 use Rattle.std.specs.Prelude.{IfSome}
 use Rattle.cryptree_cli.specs.declared.texts.TheConstants.{HELP, VERSION}
 use Rattle.cryptree_cli.specs.declared.words.Form.TheVariants.{Help, Version}
@@ -7,21 +7,19 @@ use Rattle.cryptree_cli.specs.Promises.Gen.{GenEnds}
 use Rattle.cryptree_cli.specs.Promises.Open.{OpenEnds}
 use Rattle.cryptree_cli.specs.Promises.Text.{TextEnds}
 use Rattle.cryptree_cli.specs.Words.{HasFewLines, form_of_words, text_of}
-use Rattle.cryptree_cli.proofs.AuditAnswers.{audit_as_journal}
-use Rattle.cryptree_cli.proofs.ChangedAnswers.{audit_written, line_written, view_written}
 use Rattle.cryptree_cli.proofs.GenerateLemmas.{of_asked}
-use Rattle.cryptree_cli.proofs.JournalAnswers.{line_as_journal, view_as_journal}
 use Rattle.cryptree_cli.proofs.MakeLemmas.{done_or_no_memory}
+use Rattle.cryptree_cli.proofs.ReaderPromises.{audit_ends, list_ends, open_ends}
 use Rattle.cryptree_cli.proofs.top.top.Goals as goal
 
 pub returns-in-Some-Make-clause-makes : goal.returns-in-Some-Make-clause-makes
 returns-in-Some-Make-clause-makes g c = λ is.
     let make = c.make.ensures in
     record {
-      answers = make.answers;
-      not_blank = make.not_blank;
-      short = make.short;
-      short_only = make.short_only;
+      answers = search rules;
+      not_blank = search rules;
+      short = search rules;
+      short_only = search rules;
       complete = λ blank x was enough random disk out.
           done_or_no_memory c.make.result make.answers
           (λ e. make.not_blank.0 e blank)
@@ -29,20 +27,21 @@ returns-in-Some-Make-clause-makes g c = λ is.
           (λ e. omega (arith, make.disk_fault e, disk))
           (λ e. omega (arith, make.write_fault e, out))
           (λ left need e. let short = make.short left need e in omega (arith, short.had x was, short.fewer, enough));
-      made = make.made;
-      cut_short = make.cut_short;
-      stays = make.stays;
+      made = search rules;
+      cut_short = search rules;
+      stays = search rules;
       input_kept = refl;
-      random_kept = make.random_kept;
-      disk_kept = make.disk_kept;
-      out_kept = make.out_kept;
+      random_kept = search rules;
+      disk_kept = search rules;
+      out_kept = search rules;
     }
 
 -- ---- `gen`
 
 pub generate_store-requires : goal.generate_store-requires
 generate_store-requires g c =
-    subst (λ (o : Option Form). IfSome o HasFewLines) (c.in-Some-Gen.is ∙ ap (λ f. Some f) c.in-Some-Gen.field-0-is) c.form_of.ensures.few_lines
+    subst (λ (o : Option Form). IfSome o HasFewLines) (c.in-Some-Gen.is ∙ ap (λ f. Some f) c.in-Some-Gen.field-0-is)
+    c.form_of.ensures.few_lines
 
 pub returns-in-Some-Gen-clause-generates : goal.returns-in-Some-Gen-clause-generates
 returns-in-Some-Gen-clause-generates g c = λ seed count asked.
@@ -52,9 +51,9 @@ returns-in-Some-Gen-clause-generates g c = λ seed count asked.
     c.in-Some-Gen.seed c.in-Some-Gen.count seed count (form_of_words c.args.words.now.items)
     (sym c.form_of.ensures.form ∙ c.in-Some-Gen.is ∙ ap (λ f. Some f) c.in-Some-Gen.field-0-is) asked
     (record {
-      answers = gen.answers;
-      not_blank = gen.not_blank;
-      short = gen.short;
+      answers = search rules;
+      not_blank = search rules;
+      short = search rules;
       complete = λ blank enough random disk out.
           done_or_no_memory c.generate_store.result gen.answers
           (λ e. gen.not_blank.0 e blank)
@@ -62,88 +61,26 @@ returns-in-Some-Gen-clause-generates g c = λ seed count asked.
           (λ e. omega (arith, gen.disk_fault e, disk))
           (λ e. omega (arith, gen.write_fault e, out))
           enough;
-      generates = gen.generates;
-      calm = gen.calm;
+      generates = search rules;
+      calm = search rules;
       input_kept = refl;
-      blank_kept = gen.blank_kept;
-      out_kept = gen.out_kept;
+      blank_kept = search rules;
+      out_kept = search rules;
     })
-
--- ---- `run`
-
-pub returns-in-Some-Run-clause-runs : goal.returns-in-Some-Run-clause-runs
-returns-in-Some-Run-clause-runs g c = λ is.
-    let run = c.run.ensures in
-    record {
-      answers = run.answers;
-      first_line = run.first_line;
-      key_line = run.key_line;
-      judged = run.judged;
-      bad_line = run.bad_line;
-      short = run.short;
-      lines = run.lines;
-      takes = run.takes;
-      read_to_end = run.read_to_end;
-      read_whole_lines = run.read_whole_lines;
-      ran = run.ran;
-      published = run.published;
-      later = run.later;
-      time = run.time;
-      stays = run.stays;
-      settled = run.settled;
-      refused = run.refused;
-      unopened = run.unopened;
-    }
 
 -- ---- `list`, `open` and `audit`
 
 pub returns-in-Some-List-clause-lists : goal.returns-in-Some-List-clause-lists
-returns-in-Some-List-clause-lists g c = λ is.
-    let list = c.list.ensures in
-    let before = g.W.Sink.written c.args.out.now in
-    let after = g.W.Sink.written c.list.new.out in
-    record {
-      answers = list.answers;
-      reads = list.reads;
-      journal = λ typed was image now. view_as_journal c.list.result typed image before after (list.reads.answered typed was image now);
-      written = λ typed was image now. view_written c.list.result typed image before after (list.reads.answered typed was image now);
-      random_kept = refl;
-      disk_unread = list.disk_unread;
-      out_kept = list.out_kept;
-    }
+returns-in-Some-List-clause-lists g c = λ is. search (rules, list_ends)
 
 pub returns-in-Some-Open-clause-opens : goal.returns-in-Some-Open-clause-opens
 returns-in-Some-Open-clause-opens g c = λ is.
-    let ends = c.open.ensures in
-    let path = c.path_in.result.now in
-    let before = g.W.Sink.written c.args.out.now in
-    let after = g.W.Sink.written c.open.new.out in
     subst (λ named. OpenEnds g.S.Source g.R.Source g.D.Disk g.W.Sink c.open.result c.args.input.now c.open.new.input
     c.args.random.now c.args.random.now c.args.disk.now c.open.new.disk c.args.out.now c.open.new.out named) c.path_in.ensures
-    (record {
-      answers = ends.answers;
-      reads = ends.reads;
-      journal = λ typed was image now. line_as_journal path c.open.result typed image before after (ends.reads.answered typed was image now);
-      written = λ typed was image now. line_written path c.open.result typed image before after (ends.reads.answered typed was image now);
-      random_kept = refl;
-      disk_unread = ends.disk_unread;
-      out_kept = ends.out_kept;
-    })
+    (search (rules, open_ends))
 
 pub returns-in-Some-Audit-clause-audits : goal.returns-in-Some-Audit-clause-audits
-returns-in-Some-Audit-clause-audits g c = λ is.
-    let audit = c.audit.ensures in
-    let before = g.W.Sink.written c.args.out.now in
-    let after = g.W.Sink.written c.audit.new.out in
-    record {
-      answers = audit.answers;
-      reads = audit.reads;
-      journal = λ typed was image now. audit_as_journal c.audit.result typed image before after (audit.reads.answered typed was image now);
-      written = λ typed was image now. audit_written c.audit.result typed image before after (audit.reads.answered typed was image now);
-      random_kept = refl;
-      disk_unread = audit.disk_unread;
-      out_kept = audit.out_kept;
-    }
+returns-in-Some-Audit-clause-audits g c = λ is. search (rules, audit_ends)
 
 -- ---- the texts
 
