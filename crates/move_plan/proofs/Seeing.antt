@@ -1,15 +1,11 @@
 -- What is looked up in the tree and the grants is what the store that they tell of has.
-use Rattle.std.proofs.Common.{◌≡◌, ℕ, zero, suc, ◌+◌, Bool, true, false, ◌&&◌, ◌||◌, ◌==◌, nat_lt, nat_le, List, [], ◌∷◌, map, length, refl, sym, ap, ◌∙◌, arith}
+use Rattle.std.proofs.Common.{◌≡◌, ℕ, zero, suc, ◌+◌, Bool, true, false, ◌&&◌, ◌||◌, ◌==◌, nat_lt, nat_le, List, [], ◌∷◌, map, length, refl, ap, ◌∙◌, arith}
 use Rattle.std.specs.Prelude.{is_some, IsSome}
 use Rattle.std.specs.List.{list_any, filter, range_with_len}
 use Rattle.std.proofs.lemmas.Bool.{eq-eqb, or_left}
 use Rattle.std.proofs.lemmas.Bool.Decides.{nat_tests}
 use Rattle.cry_base.specs.Refusing.{deepest, has_child, height_of, is_node_within}
-use Rattle.cry_base.specs.Sets.{has}
 use Rattle.cry_base.specs.Store.{Store, FolderEntry, HolderEntry, depth_of, file_entry, file_names, folder_entry, folder_names, folder_node, has_grant, holder_entry, is_within, node_names, nodes_of, way_to_root}
-use Rattle.cry_base.specs.declared.roles.Edge.{Edge}
-use Rattle.cry_base.specs.declared.roles.Role.{Role}
-use Rattle.cry_base.specs.declared.roles.Role.TheVariants.{Owner, Holder, Clear, Sub, Back, Files, Data, File}
 use Rattle.folder_nodes.specs.Trees.{IsTree}
 use Rattle.folder_nodes.proofs.Rowed.{some_of}
 use Rattle.folder_nodes.proofs.Treed.{within_on}

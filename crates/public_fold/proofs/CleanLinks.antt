@@ -22,7 +22,8 @@ use Rattle.public_fold.specs.Keyed.{KeysHold, LeavesClean}
 use Rattle.public_fold.specs.KeyStep.{KeyState, Stepped, no_keys, next_epoch, next_serial, numbered, given, keys_then, renewed, dirty_left, edges_then, is_published, published_edges, link_of, links_from, published, step_with, key_step}
 use Rattle.public_fold.specs.Records.{Link, Piece, pieces_of}
 use Rattle.public_fold.specs.Valid.{FollowOn, BeginsWell, IsValid}
-use Rattle.public_fold.proofs.EdgesThen.{then_told, same_edge_tells}
+use Rattle.public_fold.proofs.EdgesThen.{then_told}
+use Rattle.role_graph.proofs.AtEnds.{same_edge_tells}
 use Rattle.public_fold.proofs.KeepingKeys.{IsMove, without_told, marked_stands, marked_no_root, planned_told, closed_then, keys_after}
 use Rattle.public_fold.proofs.KeyMoves.{IsSound, effect_sound, root_sound, command_moves, root_moves, nothing_holds, epoch_holds}
 

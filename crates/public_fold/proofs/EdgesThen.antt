@@ -1,7 +1,7 @@
 -- The edges of a step are those of the store after its command.
-use Rattle.std.proofs.Common.{◌≡◌, ◌≢◌, ℕ, Bool, true, false, cond, not, ◌==◌, ◌&&◌, ◌||◌, ◌⊎◌, ◌↔◌, List, ◌++◌, Option, Some, None, inl, inr, ⊎_elim, refl, sym, ap, ◌∙◌, subst}
-use Rattle.std.proofs.lemmas.Bool.{and_parts, and_from, or_cases, or_left, or_right, eqb-true, eq-eqb, not-true, not_from_false, false≢true, cases_Bool}
-use Rattle.cry_base.specs.Sets.{In, Tells, has}
+use Rattle.std.proofs.Common.{◌≡◌, ◌≢◌, ℕ, Bool, true, false, cond, not, ◌==◌, ◌||◌, ◌⊎◌, ◌↔◌, List, ◌++◌, Option, Some, None, inl, inr, ⊎_elim, refl, sym, ap, ◌∙◌, subst}
+use Rattle.std.proofs.lemmas.Bool.{or_cases, or_left, or_right, not-true, not_from_false, false≢true, cases_Bool}
+use Rattle.cry_base.specs.Sets.{In, has}
 use Rattle.cry_base.specs.Store.{Store, FolderEntry, FileEntry, GrantEntry}
 use Rattle.cry_base.specs.declared.roles.Edge.{Edge}
 use Rattle.cry_base.specs.declared.roles.Role.{Role}
@@ -10,26 +10,11 @@ use Rattle.cry_base.proofs.Members.{In-append, In-filter, filter-In}
 use Rattle.cry_base.proofs.Reaching.{has-in, in-has}
 use Rattle.role_graph.specs.Roles.{same_role, role_id, holder_role, clear_of, sub_of, back_of, files_of, data_of, file_role, folder_roles}
 use Rattle.role_graph.specs.Edges.{edge, same_edge, edge_before, folder_edges, parent_edges, grant_edge, file_edge, edges, IsOwnEdge, IsParentEdge, IsGrantEdge, IsFileEdge, IsEdge}
+use Rattle.role_graph.proofs.AtEnds.{same_edge_tells}
 use Rattle.role_graph.proofs.Comparing.{same_role_tells}
 use Rattle.role_graph.proofs.Edging.{In-order, edges_told}
 use Rattle.move_plan.specs.Change.{Change, edges_at}
 use Rattle.public_fold.specs.KeyStep.{without, edges_left, edges_then}
-
--- edges are compared by kind and ends
-pub same_edge_tells : Tells same_edge
-unfolding same_edge
-same_edge_tells a b = (
-  λ t.
-      let both = and_parts (a.kind == b.kind && same_role a.from b.from) (same_role a.to b.to) t in
-      let first = and_parts (a.kind == b.kind) (same_role a.from b.from) both.0 in
-      let kind = eqb-true a.kind b.kind first.0 in
-      let from = (same_role_tells a.from b.from).0 first.1 in
-      let to = (same_role_tells a.to b.to).0 both.1 in
-      λ i. record { kind = kind i; from = from i; to = to i },
-  λ e. and_from (a.kind == b.kind && same_role a.from b.from) (same_role a.to b.to)
-      (and_from (a.kind == b.kind) (same_role a.from b.from) (eq-eqb a.kind b.kind (ap (λ (x : Edge). x.kind) e)) ((same_role_tells a.from b.from).1 (ap (λ (x : Edge). x.from) e)))
-      ((same_role_tells a.to b.to).1 (ap (λ (x : Edge). x.to) e)),
-)
 
 -- what is left, and what comes
 abbrev pub IsThen : Store → Change → Edge → Type 0

@@ -27,7 +27,7 @@ use Rattle.public_fold.specs.KeyStep.{edges_left, edges_then, is_published, publ
 use Rattle.public_fold.specs.Rooted.{IsRooted, MayStand}
 use Rattle.public_fold.specs.Standing.{PublicView, public_store_of}
 use Rattle.public_fold.specs.Stepping.{IsOfFittingNote}
-use Rattle.public_fold.proofs.EdgesThen.{apart, child, file_edge-id, file_kind, grant_kind, is_kind, is_parent_kind, left_told, own_no_file, own_no_parent, parent_child, parent_kind, parent_no_file}
+use Rattle.public_fold.proofs.EdgesThen.{apart, file_edge-id, file_kind, grant_kind, is_kind, is_parent_kind, left_told, own_no_file, own_no_parent, parent_child, parent_kind, parent_no_file}
 use Rattle.public_fold.proofs.GrantLaws.{not_given_yet, not_granted}
 use Rattle.public_fold.proofs.KeyMoves.{no_edge}
 use Rattle.public_fold.proofs.NoteMoves.{file_edge_told, note_moves, parent_told}

@@ -24,7 +24,8 @@ use Rattle.public_fold.specs.Fitted.{told_step}
 use Rattle.public_fold.specs.Journal.{Stand, note_step}
 use Rattle.public_fold.specs.KeyStep.{KeyState, contents_from, edges_left, edges_then, given, is_published, key_step, link_of, links_from, next_serial, numbered, published, published_edges, renewed, step_with}
 use Rattle.public_fold.specs.Records.{pieces_of}
-use Rattle.public_fold.proofs.EdgesThen.{apart, file_kind, grant_edge-ids, grant_kind, is_kind, left_told, own_no_grant, parent_no_grant, same_edge_tells}
+use Rattle.public_fold.proofs.EdgesThen.{apart, file_kind, grant_edge-ids, grant_kind, is_kind, left_told, own_no_grant, parent_no_grant}
+use Rattle.role_graph.proofs.AtEnds.{same_edge_tells}
 use Rattle.public_fold.proofs.Serials.{numbered-length}
 
 -- ---- keys that seal are renewed only where they are wanted

@@ -20,7 +20,8 @@ use Rattle.move_plan.specs.Change.{Change}
 use Rattle.public_fold.specs.Keyed.{HasRole, KeysHold}
 use Rattle.public_fold.specs.Records.{Link, Piece}
 use Rattle.public_fold.specs.KeyStep.{KeyState, without, keys_without, edges_left, dirty_left, renewed, next_serial, numbered, given, keys_then, newest, present, edges_then, is_published, published_edges, link_of, links_from, published, step_with, key_step}
-use Rattle.public_fold.proofs.EdgesThen.{IsThen, same_edge_tells, left_told, then_told}
+use Rattle.public_fold.proofs.EdgesThen.{IsThen, left_told, then_told}
+use Rattle.role_graph.proofs.AtEnds.{same_edge_tells}
 
 -- the newest key in joined lists, in numbered ones, and where some were taken out
 pub newest-later : (xs ys : List (Role × ℕ)) (r : Role) → newest xs r ≡ None → newest (xs ++ ys) r ≡ newest ys r

@@ -1,5 +1,5 @@
--- What is kept of a list in order is what is kept of the list, put in order; and what was in order is put in order with more.
-use Rattle.std.proofs.Common.{◌≡◌, Bool, true, false, cond, List, [], ◌∷◌, ◌++◌, filter, refl, sym, ap, ◌∙◌, subst}
+-- What is kept of a list in order is what is kept of the list, put in order.
+use Rattle.std.proofs.Common.{◌≡◌, Bool, true, false, cond, List, [], ◌∷◌, filter, refl, sym, ap, ◌∙◌, subst}
 use Rattle.std.specs.Cmp.{IsStrictWeakOrder}
 use Rattle.std.specs.List.Sorted.{ties}
 use Rattle.std.proofs.lemmas.List.Sorted.{ranks_by}
@@ -29,12 +29,6 @@ filters_turn X p q (x ∷ xs) =
     ∙ tests_turn X x (p x) (q x) (filter q (filter p xs))
     ∙ sym (filter_put X q x (p x) (filter p xs))
 
-filter_joins : (X : Type 0) (p : X → Bool) (xs ys : List X) → filter p (xs ++ ys) ≡ filter p xs ++ filter p ys
-filter_joins X p [] ys = refl
-filter_joins X p (x ∷ xs) ys =
-    ap (λ l. cond (p x) (x ∷ l) l) (filter_joins X p xs ys)
-    ∙ (elim (p x) as (λ b. cond b (x ∷ (filter p xs ++ filter p ys)) (filter p xs ++ filter p ys) ≡ cond b (x ∷ filter p xs) (filter p xs) ++ filter p ys) [ true ↦ refl | false ↦ refl ])
-
 filter_rises : (X : Type 0) (lt : X → X → Bool) (p : X → Bool) (xs : List X) → Rises X lt xs → Rises X lt (filter p xs)
 filter_rises X lt p [] up = tt
 filter_rises X lt p (x ∷ xs) up = elim (p x) as (λ b. Rises X lt (cond b (x ∷ filter p xs) (filter p xs))) [
@@ -47,23 +41,11 @@ kept X lt o p xs = one_order X lt o (filter p (in_order lt xs)) (in_order lt (fi
     (filter_rises X lt p (in_order lt xs) (order_rises X lt o xs)) (order_rises X lt o (filter p xs))
     (λ w. filters_turn X (ties lt w) p (in_order lt xs) ∙ ap (filter p) (order_keeps X lt o w xs) ∙ filters_turn X p (ties lt w) xs ∙ sym (order_keeps X lt o w (filter p xs)))
 
-joined : (X : Type 0) (lt : X → X → Bool) → IsStrictWeakOrder lt → (xs ys : List X) → in_order lt (in_order lt xs ++ ys) ≡ in_order lt (xs ++ ys)
-joined X lt o xs ys = one_order X lt o (in_order lt (in_order lt xs ++ ys)) (in_order lt (xs ++ ys))
-    (order_rises X lt o (in_order lt xs ++ ys)) (order_rises X lt o (xs ++ ys))
-    (λ w. order_keeps X lt o w (in_order lt xs ++ ys)
-    ∙ filter_joins X (ties lt w) (in_order lt xs) ys
-    ∙ ap (λ l. l ++ filter (ties lt w) ys) (order_keeps X lt o w xs)
-    ∙ sym (filter_joins X (ties lt w) xs ys)
-    ∙ sym (order_keeps X lt o w (xs ++ ys)))
-
 pub edges_rank : IsStrictWeakOrder edge_before
 edges_rank = subst (λ (lt : Edge → Edge → Bool). IsStrictWeakOrder lt) (λ i a b. before_by_key a b i) (ranks_by key_total key_of)
 
 pub kept_in_order : (p : Edge → Bool) (xs : List Edge) → filter p (in_order edge_before xs) ≡ in_order edge_before (filter p xs)
 kept_in_order p xs = kept Edge edge_before edges_rank p xs
-
-pub joined_in_order : (xs ys : List Edge) → in_order edge_before (in_order edge_before xs ++ ys) ≡ in_order edge_before (xs ++ ys)
-joined_in_order xs ys = joined Edge edge_before edges_rank xs ys
 
 pub edges_ordered : (s : Store) → edges s ≡ in_order edge_before (unordered s)
 unfolding edges unordered

@@ -19,7 +19,8 @@ use Rattle.move_plan.specs.Change.{Change}
 use Rattle.public_fold.specs.Keyed.{HasRole, KeysHold}
 use Rattle.public_fold.specs.KeyStep.{KeyState, Stepped, without, edges_left, dirty_left, renewed, next_serial, numbered, given, keys_then, keys_without, newest, present, edges_then, is_published, published_edges, link_of, links_from, published, step_with, key_step}
 use Rattle.public_fold.specs.Records.{Link, Piece}
-use Rattle.public_fold.proofs.EdgesThen.{same_edge_tells, left_told, then_told}
+use Rattle.public_fold.proofs.EdgesThen.{left_told, then_told}
+use Rattle.role_graph.proofs.AtEnds.{same_edge_tells}
 use Rattle.public_fold.proofs.KeepingKeys.{IsMove, newest-first, numbered-some, without_told, marked_told, marked_stands, marked_no_root, planned_told, same_key, no_key, keys_after}
 use Rattle.public_fold.proofs.Serials.{numbered-between, keys_between}
 use Rattle.secrecy_laws.specs.States.{State, Move, IsStep, Fits}

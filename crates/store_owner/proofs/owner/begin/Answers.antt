@@ -1,10 +1,9 @@
 use Rattle.std.proofs.Common.{◌≡◌, Err, false, arith, sym, ap, ◌∙◌}
 use Rattle.std.specs.Prelude.{is_some}
 use Rattle.commit_journal.proofs.CommitLemmas.{on_err}
-use Rattle.commit_journal.specs.Journals.{next_epoch}
 use Rattle.store_owner.specs.Stopping.{epoch_due}
 use Rattle.store_owner.proofs.Faulted.{takes}
-use Rattle.store_owner.proofs.PublishedCommands.{adds_epoch_published, adds_none_published}
+use Rattle.store_owner.proofs.PublishedCommands.{adds_none_published}
 use Rattle.store_owner.proofs.StoppedCommands.{adds_nothing}
 use Rattle.store_owner.proofs.owner.begin.Goals as goal
 
