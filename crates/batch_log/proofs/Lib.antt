@@ -1,4 +1,5 @@
 pub mod Committed
+pub mod InOrder
 pub mod Lists
 pub mod Moments
 pub mod Staging

@@ -86,8 +86,8 @@ pub record HoldsBatch (end : ℕ) (batch bytes : List ℕ) : Type 0 where
   pub slot_size : length slot ≡ 32
   pub bytes_are : bytes ≡ front ++ (1 ∷ (with_slot slot batch ++ behind))
 
--- Where the gate that is shown is open and the slot that is shown isn't zero, a stop leaves the whole batch behind an open gate: what was
--- published is not taken back
+-- Where the gate that is shown is open and the slot that is shown isn't zero, a stop, then or later, leaves the whole batch behind an open
+-- gate: what was published is not taken back
 abbrev pub IsHeldWhereShown : ℕ → List ℕ → List ℕ → List ℕ → Type 0
 IsHeldWhereShown end batch s c =
     slice_index s (end - 1) ≡ 1 → slice_range s (end + 13) (end + 45) ≢ zero_slot → HoldsBatch end batch c

@@ -3,7 +3,7 @@ ghost use Rattle.std.specs.Prelude.{◌≡◌, ◌+◌, ◌<◌, ◌≤◌, ◌^
 ghost use Rattle.cry_io.specs.Counts.{CountsFault};
 ghost use Rattle.cry_io.specs.Told.{WhereTold, WhereBothTold};
 ghost use Rattle.cry_io.specs.Stops.{IsDurable};
-ghost use Rattle.batch_log.specs.Moments.{GoesOn, Throughout};
+ghost use Rattle.batch_log.specs.Moments.{FromThenOn, GoesOn, Throughout};
 ghost use Rattle.batch_log.specs.Steps as steps;
 
 use crate::steps::{open_gate, stage, unveil};
@@ -14,7 +14,7 @@ use cry_io::{Disk, Failed};
 ///
 /// `Failed` comes only where the disk's faults rose in this call. Then the gate before the batch is as it was, or the whole batch
 /// stands behind it but for its slot. Where nothing was pending, such bytes are shown at each moment of the call, and a stop then leaves
-/// such bytes too.
+/// such bytes too. Where its gate is shown open and its slot not zero, a stop from then on leaves the whole batch.
 pub fn append<D: Disk>(disk: &mut D, end: u64, batch: &[u8], veil: &[u8; 32]) -> Result<(), Failed>
     requires gate { 1 ≤ end }
     requires inside { end ≤ D.size_of disk.old }
@@ -33,8 +33,8 @@ pub fn append<D: Disk>(disk: &mut D, end: u64, batch: &[u8], veil: &[u8; 32]) ->
         (λ x. Throughout (λ s c. steps.Interrupts end batch.now x s) (D.since disk.new (D.moment disk.old))) }
     ensures shows { OnOk result (WhereTold (D.shown disk.old)
         (λ x. Throughout (steps.IsOneOfFour end batch.now veil.now x) (D.since disk.new (D.moment disk.old)))) }
-    ensures held { IsDurable (D.may_leave disk.old) (D.shown disk.old) → WhereTold (D.shown disk.old)
-        (λ x. steps.EndsAt end x → Throughout (steps.IsHeldWhereShown end batch.now) (D.since disk.new (D.moment disk.old))) }
+    ensures ordered { IsDurable (D.may_leave disk.old) (D.shown disk.old) → WhereTold (D.shown disk.old)
+        (λ x. steps.EndsAt end x → FromThenOn D.moment D.since disk.old disk.new (steps.IsHeldWhereShown end batch.now)) }
     ensures counts { CountsFault result (D.faults disk.old) (D.faults disk.new) }
 {
     let staged = stage(disk, end, batch)?;

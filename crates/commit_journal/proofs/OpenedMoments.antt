@@ -3,12 +3,14 @@ use Rattle.std.proofs.Common.{◌≡◌, ◌≤◌, ◌⊎◌, ⊎_elim, inl, in
 use Rattle.cry_base.specs.Limits.{most_store_bytes}
 use Rattle.cry_io.specs.Stops.{Elapses, IsDurable}
 use Rattle.cry_io.specs.Told.{WhereTold}
-use Rattle.batch_log.specs.Moments.{GoesOn, Throughout}
+use Rattle.batch_log.specs.Moments.{FromThenOn, GoesOn, Throughout}
+use Rattle.batch_log.specs.Moments.InSteps.{Then}
+use Rattle.batch_log.proofs.InOrder.{on_in_one}
 use Rattle.batch_log.proofs.Moments.{goes_on_elapsed, goes_on_then, in_both, in_one_call}
 use Rattle.batch_log.proofs.WrittenMoments.{told_one}
 use Rattle.commit_journal.specs.Holding.{IsKept}
 use Rattle.commit_journal.specs.Laws.{batches_from}
-use Rattle.commit_journal.specs.Moments.{IsSameThroughout, KeepsHeld, OpensThroughout}
+use Rattle.commit_journal.specs.Moments.{IsSameThroughout, KeepsHeld, OpensInOrder, OpensThroughout}
 use Rattle.commit_journal.specs.Opening.{LeavesGated, LeavesSlots, OwnedLog, opening_verdict}
 use Rattle.commit_journal.specs.Placed.{PlainPlaced}
 use Rattle.commit_journal.specs.Standing.{StandsFor}
@@ -117,6 +119,42 @@ opens_all shown may_leave moment since a b e f limit owner log only same no_more
     opens_both limit owner (shown a) (may_leave a) (moment a) (moment e) (since e) (since f) (omega (arith, first, second)) goes
     (opens_read shown may_leave moment since a b e limit owner only same no_more time moments)
     (opens_filled limit owner log (shown a) (may_leave a) (since f (moment e)) (λ x is. verdict x (same ∙ is)) (λ x is. fills x (read ∙ (same ∙ is))))
+
+-- Of what is shown at a moment, and of what a stop leaves then or later: while nothing is written, the disk shows what it showed
+pub ordered_same : {D : Type 0} (shown : D → Option (List ℕ)) (may_leave : D → List ℕ → Type 0) (moment : D → ℕ) (since : D → ℕ → List ℕ → List ℕ → Type 0)
+    (a e : D) (limit : ℕ) (owner : List ℕ) → moment a ≤ moment e → GoesOn (moment a) (since a) (since e) →
+    Throughout (λ s c. (shown a ≡ Some s) × may_leave a c) (since e (moment a)) → OpensInOrder limit owner (shown a) (FromThenOn moment since a e)
+ordered_same {D} shown may_leave moment since a e limit owner order goes same x x_is =
+    on_in_one D moment since (λ s c. (s ≡ x) ⊎ LeavesGated limit owner x c) a e order goes (λ s c t l at later. inl (told_one (shown a) s x (same s c at).0 x_is))
+
+-- while it was only synced and read
+pub ordered_read : {D : Type 0} (shown : D → Option (List ℕ)) (may_leave : D → List ℕ → Type 0) (moment : D → ℕ) (since : D → ℕ → List ℕ → List ℕ → Type 0)
+    (a b e : D) (limit : ℕ) (owner : List ℕ) → ((s c : List ℕ) → since a (moment a) s c → (shown a ≡ Some s) × may_leave a c) →
+    GoesOn (moment a) (since a) (since b) → shown b ≡ shown a → ((c : List ℕ) → may_leave b c → may_leave a c) →
+    Elapses (moment a) (moment b) (since a) (since b) (shown b) (may_leave b) → IsSameThroughout shown may_leave moment since b e →
+    OpensInOrder limit owner (shown a) (FromThenOn moment since a e)
+ordered_read shown may_leave moment since a b e limit owner only goes same no_more time moments =
+    let first = time.later in
+    let second = moments.later in
+    ordered_same shown may_leave moment since a e limit owner (omega (arith, first, second))
+    (goes_on_then (moment a) (moment b) (since a) (since b) (since e) first goes moments.time)
+    (in_both (moment a) (moment b) (since b) (since e) (λ s c. (shown a ≡ Some s) × may_leave a c) first moments.time
+    (same_in_call shown may_leave moment since a b only same no_more time)
+    (λ s c at. let is = moments.same s c at in (sym same ∙ is.0, no_more c is.1)))
+
+-- and then slots were filled: what a stop leaves is that with some of them filled
+pub ordered_all : {D : Type 0} (shown : D → Option (List ℕ)) (may_leave : D → List ℕ → Type 0) (moment : D → ℕ) (since : D → ℕ → List ℕ → List ℕ → Type 0)
+    (a b e f : D) (limit : ℕ) (owner : List ℕ) (log : OwnedLog) → ((s c : List ℕ) → since a (moment a) s c → (shown a ≡ Some s) × may_leave a c) →
+    GoesOn (moment a) (since a) (since b) → shown b ≡ shown a → ((c : List ℕ) → may_leave b c → may_leave a c) →
+    Elapses (moment a) (moment b) (since a) (since b) (shown b) (may_leave b) → IsSameThroughout shown may_leave moment since b e →
+    shown e ≡ shown b → moment e ≤ moment f → GoesOn (moment e) (since e) (since f) → WhereTold (shown b) (λ x. opening_verdict limit owner x ≡ Ok log) →
+    LeavesThroughout owner log.placed (shown e) (since f (moment e)) → OpensInOrder limit owner (shown a) (FromThenOn moment since a f)
+ordered_all shown may_leave moment since a b e f limit owner log only first same no_more time moments read order goes verdict fills x x_is =
+    Then
+    (ordered_read shown may_leave moment since a b e limit owner only first same no_more time moments x x_is)
+    order
+    goes
+    (λ s c t l at later. inr (inr (log, verdict x (same ∙ x_is), (fills x (read ∙ (same ∙ x_is)) t l later).1)))
 
 -- time in all of it
 pub time_in_all : {D : Type 0} (shown : D → Option (List ℕ)) (may_leave : D → List ℕ → Type 0) (moment : D → ℕ) (since : D → ℕ → List ℕ → List ℕ → Type 0)

@@ -3,8 +3,10 @@ use Rattle.std.proofs.Common.{◌≡◌, ◌⊎◌, ⊎_elim, inl, inr, ℕ, ◌
 use Rattle.std.specs.Prelude.{bytes_eq, slice_index, slice_range}
 use Rattle.cry_io.specs.Stops.{IsDurable}
 use Rattle.cry_io.specs.Told.{WhereTold}
-use Rattle.batch_log.specs.Moments.{Throughout}
+use Rattle.batch_log.specs.Moments.{FromThenOn, Throughout}
+use Rattle.batch_log.specs.Moments.InSteps.{Begins}
 use Rattle.batch_log.specs.Steps.{EndsAt, HoldsBatch, Interrupts, IsHeldWhereShown, zero_slot}
+use Rattle.batch_log.proofs.InOrder.{on_maps}
 use Rattle.batch_log.proofs.WrittenMoments.{told_one}
 use Rattle.std.proofs.lemmas.Slice.Eq.{bytes_eq-Decides}
 use Rattle.commit_journal.specs.Holding.{IsPrefix}
@@ -143,22 +145,26 @@ module _ (owner : List ℕ) (bs : List Batch) (b : Batch) (end : ℕ) (at : end 
       (λ new. ⊎_elim (λ w. new_shown batch held new w) (λ n. new_left new n) left)
       (may_stand_whole owner batch x s bs b end whole at batch_is shows)
 
-pub commit_takes_nothing_back : (b : Batch) (old : JournalState) (batch : List ℕ) (was : Option (List ℕ)) (left : List ℕ → Type 0) (since : List ℕ → List ℕ → Type 0) →
-    batch ≡ staged_batch old b → (IsDurable left was → WhereTold was (λ x. Throughout (λ s c. Interrupts old.end batch x s) since)) →
-    (IsDurable left was → WhereTold was (λ x. Throughout (λ s c. Interrupts old.end batch x c) since)) →
-    (IsDurable left was → WhereTold was (λ x. EndsAt old.end x → Throughout (IsHeldWhereShown old.end batch) since)) → KeepsPublished b old was left since
-commit_takes_nothing_back b old batch was left since batch_is shown stops held bs of durable shows s c at =
+pub commit_takes_nothing_back : (D : Type 0) (moment : D → ℕ) (since : D → ℕ → List ℕ → List ℕ → Type 0) (a e : D) (b : Batch) (old : JournalState) (batch : List ℕ) (was : Option (List ℕ)) (left : List ℕ → Type 0) →
+    batch ≡ staged_batch old b → (IsDurable left was → WhereTold was (λ x. Throughout (λ s c. Interrupts old.end batch x s) (since e (moment a)))) →
+    (IsDurable left was → WhereTold was (λ x. Throughout (λ s c. Interrupts old.end batch x c) (since e (moment a)))) →
+    (IsDurable left was → WhereTold was (λ x. EndsAt old.end x → FromThenOn moment since a e (IsHeldWhereShown old.end batch))) →
+    KeepsPublished b old was left (FromThenOn moment since a e)
+commit_takes_nothing_back D moment since a e b old batch was left batch_is shown stops held bs of durable shows =
     let x = shows.0 in
     let whole = shows.2 in
     let ends : EndsAt old.end x = record { front = image old.owner bs; gate = whole.gate; behind = whole.behind; place = sym of.end; closed = whole.closed; bytes_are = whole.bytes_are } in
-    in_commit old.owner bs b old.end of.end s c batch x whole (batch_is ∙ ap (λ t. spell_batch old.owner t empty_slot b ++ 0 ∷ []) of.tag)
-    (shown durable x shows.1 s c at) (stops durable x shows.1 s c at) (held durable x shows.1 ends s c at)
+    on_maps D moment since (IsHeldWhereShown old.end batch) (TakesNothingBack (StandsFor old.owner) (StandsUnpublished old.owner) bs (bs ++ b ∷ []))
+    (λ s c. Interrupts old.end batch x s) (λ s c. Interrupts old.end batch x c) a e
+    (λ s c t l one two both.
+    in_commit old.owner bs b old.end of.end s l batch x whole (batch_is ∙ ap (λ t. spell_batch old.owner t empty_slot b ++ 0 ∷ []) of.tag) one two both)
+    (held durable x shows.1 ends) (shown durable x shows.1) (stops durable x shows.1)
 
 -- a call that was refused
-pub refused_takes_nothing_back : (b : Batch) (old : JournalState) (was : Option (List ℕ)) (left : List ℕ → Type 0) (since : List ℕ → List ℕ → Type 0) →
-    ((s c : List ℕ) → since s c → (was ≡ Some s) × left c) → KeepsPublished b old was left since
-refused_takes_nothing_back b old was left since only bs of durable shows s c at =
+pub refused_takes_nothing_back : (D : Type 0) (moment : D → ℕ) (since : D → ℕ → List ℕ → List ℕ → Type 0) (a : D) (b : Batch) (old : JournalState) (was : Option (List ℕ)) (left : List ℕ → Type 0) →
+    ((s c : List ℕ) → since a (moment a) s c → (was ≡ Some s) × left c) → KeepsPublished b old was left (FromThenOn moment since a a)
+refused_takes_nothing_back D moment since a b old was left only bs of durable shows = Begins (λ s c at.
     let is = only s c at in
     let stands : (y : List ℕ) → was ≡ Some y → StandsFor old.owner bs y = λ y told.
     whole_stands old.owner bs y (subst (StandsWhole old.owner bs) (told_one was shows.0 y shows.1 told) shows.2) in
-    old_shown old.owner bs b old.end of.end s c (stands s is.0) (inl (stands c (durable c is.1)))
+    old_shown old.owner bs b old.end of.end s c (stands s is.0) (inl (stands c (durable c is.1))))

@@ -4,9 +4,10 @@ use Rattle.std.specs.Prelude.{is_some}
 use Rattle.cry_io.specs.Stops.{IsDurable, Torn}
 use Rattle.cry_io.specs.Told.{WhereTold}
 use Rattle.cry_io.proofs.ToldLemmas.{told_again}
-use Rattle.batch_log.specs.Moments.{GoesOn, Throughout}
+use Rattle.batch_log.specs.Moments.{FromThenOn, GoesOn, Throughout}
 use Rattle.batch_log.specs.Steps.{EndsAt, Interrupts, IsHeldWhereShown, IsOneOfFour, IsStageable, zero_slot}
 use Rattle.batch_log.proofs.Committed.{held_in_staging}
+use Rattle.batch_log.proofs.InOrder.{on_throughout}
 use Rattle.batch_log.proofs.Lists.{nothing_torn}
 use Rattle.batch_log.proofs.WrittenMoments.{told_one}
 use Rattle.hmac_seal.proofs.HmacLemmas.{length-hmac}
@@ -81,11 +82,11 @@ commit_keeps b old batch was left since batch_is stops bs of durable shows s c a
     (may_stand old.owner batch shows.0 c bs b old.end shows.2 of.end (batch_is ∙ ap (λ t. spell_batch old.owner t empty_slot b ++ 0 ∷ []) of.tag)
     (stops durable shows.0 shows.1 s c at))
 
-pub commit_published : (b : Batch) (old : JournalState) (batch : List ℕ) (was : Option (List ℕ)) (left : List ℕ → Type 0) (since : List ℕ → List ℕ → Type 0) →
-    batch ≡ staged_batch old b → (IsDurable left was → WhereTold was (λ x. EndsAt old.end x → Throughout (IsHeldWhereShown old.end batch) since)) →
-    HoldsPublished b old was left since
-commit_published b old batch was left since batch_is held durable x x_is ends s c at =
-    subst (λ (r : List ℕ). IsHeldWhereShown old.end r s c) batch_is (held durable x x_is ends s c at)
+pub commit_published : (D : Type 0) (moment : D → ℕ) (since : D → ℕ → List ℕ → List ℕ → Type 0) (a e : D) (b : Batch) (old : JournalState) (batch : List ℕ) (was : Option (List ℕ)) (left : List ℕ → Type 0) →
+    batch ≡ staged_batch old b → (IsDurable left was → WhereTold was (λ x. EndsAt old.end x → FromThenOn moment since a e (IsHeldWhereShown old.end batch))) →
+    HoldsPublished b old was left (since e (moment a))
+commit_published D moment since a e b old batch was left batch_is held durable x x_is ends s c at =
+    subst (λ (r : List ℕ). IsHeldWhereShown old.end r s c) batch_is (on_throughout D moment since (IsHeldWhereShown old.end batch) a e (held durable x x_is ends) s c at)
 
 pub commit_shows : (b : Batch) (old : JournalState) (batch veil : List ℕ) (was : Option (List ℕ)) (since : List ℕ → List ℕ → Type 0) →
     batch ≡ staged_batch old b → veil ≡ batch_veil old.owner b → WhereTold was (λ x. Throughout (IsOneOfFour old.end batch veil x) since) → ShowsFour b old was since

@@ -35,6 +35,11 @@ abbrev pub OpensThroughout : ℕ → List ℕ → Option (List ℕ) → (List �
 OpensThroughout limit owner was left since =
     WhereTold was (λ x. Throughout (λ s c. ((s ≡ x) × left c) ⊎ (LeavesGated limit owner x s × LeavesGated limit owner x c)) since)
 
+-- Of what is shown at a moment, and of what a stop leaves then or later: the disk shows what it showed at the start; or what is left is
+-- that, with slots filled where its log passes every test
+abbrev pub OpensInOrder : ℕ → List ℕ → Option (List ℕ) → ((List ℕ → List ℕ → Type 0) → Type 0) → Type 0
+OpensInOrder limit owner was from_then_on = WhereTold was (λ x. from_then_on (λ s c. (s ≡ x) ⊎ LeavesGated limit owner x c))
+
 -- Of whatever two lists of batches: where the disk held between them and showed bytes that stand for batches within the store limit, which
 -- lie between the two, a stop at each moment leaves bytes that stand for a list between them
 abbrev pub KeepsHeld : ℕ → List ℕ → Option (List ℕ) → (List ℕ → Type 0) → (List ℕ → List ℕ → Type 0) → Type 0

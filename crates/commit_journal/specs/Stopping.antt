@@ -31,9 +31,9 @@ abbrev pub HoldsPublished : Batch → JournalState → Option (List ℕ) → (Li
 HoldsPublished b old was may_leave since =
     IsDurable may_leave was → WhereTold was (λ x. EndsAt old.end x → Throughout (IsHeldWhereShown old.end (staged_batch old b)) since)
 
--- What is shown at a moment, and what a stop leaves then: each stands for a list between the two. What is left begins with all that is
--- shown; or the last slot that is shown is empty, so that the last entry isn't published, and what is left begins with the others. So no
--- stop takes back what was published
+-- What is shown at a moment, and what a stop leaves then or later: each stands for a list between the two. What is left begins with all
+-- that is shown; or the last slot that is shown is empty, so that the last entry isn't published, and what is left begins with the others.
+-- So no stop takes back what was published
 pub record TakesNothingBack {X : Type 0} (stands unpublished : List X → List ℕ → Type 0) (low high : List X) (s c : List ℕ) : Type 0 where
   pub shown : List X
   pub left : List X
@@ -45,12 +45,12 @@ pub record TakesNothingBack {X : Type 0} (stands unpublished : List X → List �
   pub left_stands : stands left c
   pub begins : IsPrefix shown left ⊎ (unpublished shown s × IsPrefix (without_last shown) left)
 
--- so it is at each moment of a commit, of whatever batches the journal stood, where the disk showed their whole image and nothing was
+-- so it is from each moment of a commit on, of whatever batches the journal stood, where the disk showed their whole image and nothing was
 -- pending
-abbrev pub KeepsPublished : Batch → JournalState → Option (List ℕ) → (List ℕ → Type 0) → (List ℕ → List ℕ → Type 0) → Type 0
-KeepsPublished b old was may_leave since =
+abbrev pub KeepsPublished : Batch → JournalState → Option (List ℕ) → (List ℕ → Type 0) → ((List ℕ → List ℕ → Type 0) → Type 0) → Type 0
+KeepsPublished b old was may_leave from_then_on =
     (bs : List Batch) → IsJournalOf bs old → IsDurable may_leave was → Shows (StandsWhole old.owner) bs was
-    → Throughout (TakesNothingBack (StandsFor old.owner) (StandsUnpublished old.owner) bs (bs ++ b ∷ [])) since
+    → from_then_on (TakesNothingBack (StandsFor old.owner) (StandsUnpublished old.owner) bs (bs ++ b ∷ []))
 
 -- the list that is shown at each moment is as at entry; or with the batch behind the closed gate, its slot empty; or with that gate open;
 -- or with the veil key in the slot

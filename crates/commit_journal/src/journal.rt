@@ -6,7 +6,7 @@ ghost use Rattle.cry_base.specs.Limits.{most_store_bytes};
 ghost use Rattle.cry_io.specs.Counts.{CountsFault};
 ghost use Rattle.cry_io.specs.Stops.{IsDurable};
 ghost use Rattle.cry_io.specs.Told.{WhereTold};
-ghost use Rattle.batch_log.specs.Moments.{GoesOn};
+ghost use Rattle.batch_log.specs.Moments.{FromThenOn, GoesOn};
 ghost use Rattle.record_format.specs.Plain.{plain_payload};
 ghost use Rattle.record_format.specs.Sizes.{payload_size};
 ghost use Rattle.record_format.specs.Spellable.{IsSpellable};
@@ -280,7 +280,7 @@ impl Journal {
     /// comes.
     ///
     /// Where nothing was pending, a stop at any moment of the call leaves the log with this batch or without, and none takes back what
-    /// was published.
+    /// was published at that moment or before.
     pub fn begin_epoch<D: Disk>(&mut self, disk: &mut D) -> Result<Epoch, CommitFault>
         requires inside { self.old.is_closed ≡ false → self.old.end ≤ D.size_of disk.old }
         ensures refused { (fault : CommitFault) → journals.refusal self.old 0 ≡ Some fault →
@@ -298,7 +298,7 @@ impl Journal {
         ensures held { stopping.HoldsPublished (journals.next_epoch self.old) self.old
             (D.shown disk.old) (D.may_leave disk.old) (D.since disk.new (D.moment disk.old)) }
         ensures published { stopping.KeepsPublished (journals.next_epoch self.old) self.old
-            (D.shown disk.old) (D.may_leave disk.old) (D.since disk.new (D.moment disk.old)) }
+            (D.shown disk.old) (D.may_leave disk.old) (FromThenOn D.moment D.since disk.old disk.new) }
         ensures shows { OnOk result (stopping.ShowsFour (journals.next_epoch self.old) self.old
             (D.shown disk.old) (D.since disk.new (D.moment disk.old))) }
         ensures holds { stopping.HoldsLog (journals.next_epoch self.old) self.old
@@ -351,7 +351,7 @@ impl Journal {
     /// comes.
     ///
     /// Where nothing was pending, a stop at any moment of the call leaves the log with this batch or without, and none takes back what
-    /// was published.
+    /// was published at that moment or before.
     pub fn commit<D: Disk>(&mut self, disk: &mut D, payload: &Payload) -> Result<(), CommitFault>
         requires begun { IsTrue self.old.has_epoch }
         requires spellable { IsSpellable (plain_payload payload.now) }
@@ -375,7 +375,7 @@ impl Journal {
         ensures held { stopping.HoldsPublished (journals.next_command self.old (spell_payload (plain_payload payload.now))) self.old
             (D.shown disk.old) (D.may_leave disk.old) (D.since disk.new (D.moment disk.old)) }
         ensures published { stopping.KeepsPublished (journals.next_command self.old (spell_payload (plain_payload payload.now))) self.old
-            (D.shown disk.old) (D.may_leave disk.old) (D.since disk.new (D.moment disk.old)) }
+            (D.shown disk.old) (D.may_leave disk.old) (FromThenOn D.moment D.since disk.old disk.new) }
         ensures shows { OnOk result (stopping.ShowsFour (journals.next_command self.old (spell_payload (plain_payload payload.now)))
             self.old
             (D.shown disk.old) (D.since disk.new (D.moment disk.old))) }

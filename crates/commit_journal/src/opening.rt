@@ -6,11 +6,11 @@ ghost use Rattle.cry_base.specs.Layout.{batch_len, header_len};
 ghost use Rattle.cry_base.specs.Limits.{most_store_bytes};
 ghost use Rattle.cry_io.specs.Stops.{IsDurable};
 ghost use Rattle.cry_io.specs.Told.{WhereTold, WhereBothTold};
-ghost use Rattle.batch_log.specs.Moments.{GoesOn};
+ghost use Rattle.batch_log.specs.Moments.{FromThenOn, GoesOn};
 ghost use Rattle.commit_journal.specs.Answering.{Answers};
 ghost use Rattle.commit_journal.specs.Filling as filling;
 ghost use Rattle.commit_journal.specs.Logs.{AreInEpochs, epoch_behind};
-ghost use Rattle.commit_journal.specs.Moments.{IsSameThroughout, KeepsHeld, OpensThroughout};
+ghost use Rattle.commit_journal.specs.Moments.{IsSameThroughout, KeepsHeld, OpensInOrder, OpensThroughout};
 ghost use Rattle.commit_journal.specs.Opening as opening;
 ghost use Rattle.commit_journal.specs.Placed.{plain_log};
 ghost use Rattle.commit_journal.specs.Places.{IsStanding};
@@ -183,6 +183,8 @@ impl Journal {
         ensures time { GoesOn (D.moment disk.old) (D.since disk.old) (D.since disk.new) }
         ensures stops { OpensThroughout limits.store_bytes owner.now.bytes (D.shown disk.old) (D.may_leave disk.old)
             (D.since disk.new (D.moment disk.old)) }
+        ensures ordered { OpensInOrder limits.store_bytes owner.now.bytes (D.shown disk.old)
+            (FromThenOn D.moment D.since disk.old disk.new) }
         ensures kept { KeepsHeld limits.store_bytes owner.now.bytes (D.shown disk.old) (D.may_leave disk.old)
             (D.since disk.new (D.moment disk.old)) }
         ensures counts { D.faults disk.old ≤ D.faults disk.new }

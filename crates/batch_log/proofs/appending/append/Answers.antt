@@ -2,10 +2,12 @@ use Rattle.std.proofs.Common.{◌≡◌, ◌-◌, ◌+◌, ◌≤◌, ℕ, List,
 use Rattle.std.proofs.lemmas.Result.{on_err_weaker, on_ok_weaker}
 use Rattle.cry_io.proofs.ToldLemmas.{told_again}
 use Rattle.cry_io.specs.Stops.{Torn, Written}
-use Rattle.batch_log.specs.Moments.{OldOrNew, TornInto}
+use Rattle.batch_log.specs.Moments.{OldOrNew, Throughout, TornInto}
+use Rattle.batch_log.specs.Moments.InSteps.{Then}
 use Rattle.batch_log.specs.Steps.{Interrupts, IsHeldWhereShown, IsOneOfFour}
 use Rattle.batch_log.specs.Tokens.{GatedBatch, StagedBatch}
 use Rattle.batch_log.proofs.Committed.{committed, four_in_opening, four_in_staging, four_in_unveiling, held_in_opening, held_in_staging, held_in_unveiling, torn_in_opening, torn_in_staging, torn_in_unveiling}
+use Rattle.batch_log.proofs.InOrder.{on_in_one}
 use Rattle.batch_log.proofs.Moments.{goes_on_then, in_both}
 use Rattle.batch_log.proofs.Staging.{stageable_long}
 use Rattle.batch_log.proofs.WrittenMoments.{on_err}
@@ -23,9 +25,11 @@ pub returns-in_err-staged-clause-shown : goal.returns-in_err-staged-clause-shown
 returns-in_err-staged-clause-shown g c durable x x_is s left at =
     torn_in_staging c.args.end c.args.batch.now x s (c.in_err-staged.ensures.stops durable x x_is s left at).0
 
-pub returns-in_err-staged-clause-held : goal.returns-in_err-staged-clause-held
-returns-in_err-staged-clause-held g c durable x x_is ends s left at =
-    held_in_staging c.args.end c.args.batch.now x s left ends (c.in_err-staged.ensures.stops durable x x_is s left at).0
+pub returns-in_err-staged-clause-ordered : goal.returns-in_err-staged-clause-ordered
+returns-in_err-staged-clause-ordered g c durable x x_is ends =
+    let D = g.D.Disk in
+    on_in_one g.row.D.Denot D.moment D.since (IsHeldWhereShown c.args.end c.args.batch.now) c.args.disk.now c.stage.new.disk c.stage.ensures.later c.stage.ensures.time
+    (λ s left t last at later. held_in_staging c.args.end c.args.batch.now x s last ends (c.in_err-staged.ensures.stops durable x x_is s left at).0)
 
 pub returns-in_err-gated-clause-interrupted : goal.returns-in_err-gated-clause-interrupted
 returns-in_err-gated-clause-interrupted g c =
@@ -83,22 +87,24 @@ returns-in_err-gated-clause-shown g c durable x x_is =
     (λ s left at. let torn = subst (λ n. TornInto (n - 1) 1 one.0 s left) staged_end (c.in_err-gated.ensures.stops one.0 one.1 s left at) in
     torn_in_opening end batch x one.0 s whole first torn.0)
 
-pub returns-in_err-gated-clause-held : goal.returns-in_err-gated-clause-held
-returns-in_err-gated-clause-held g c durable x x_is ends =
+pub returns-in_err-gated-clause-ordered : goal.returns-in_err-gated-clause-ordered
+returns-in_err-gated-clause-ordered g c durable x x_is ends =
     let D = g.D.Disk in
     let end = c.args.end in
     let batch = c.args.batch.now in
     let a = c.args.disk.now in
     let b = c.stage.new.disk in
-    let whole : 45 ≤ length batch = let long = stageable_long batch c.requires.batch in omega (arith, long) in
     let staged_end : c.in_ok-staged.staged.end ≡ end = ap (λ (s : StagedBatch). s.end) c.in_ok-staged.ensures.staged in
     let one = told_again (D.shown a) (D.shown b) x c.in_ok-staged.ensures.told x_is in
     let first = c.in_ok-staged.ensures.written x one.0 x_is one.1 in
     let e = c.open_gate.new.disk in
-    in_both (D.moment a) (D.moment b) (D.since b) (D.since e) (IsHeldWhereShown end batch) c.stage.ensures.later c.open_gate.ensures.time
-    (λ s left at. let torn = c.in_ok-staged.ensures.stops durable x x_is s left at in held_in_staging end batch x s left ends torn.0)
-    (λ s left at. let torn = subst (λ n. TornInto (n - 1) 1 one.0 s left) staged_end (c.in_err-gated.ensures.stops one.0 one.1 s left at) in
-    held_in_opening end batch x one.0 s left c.requires.batch ends first torn.0)
+    let unopened : Throughout (λ s left. (last : List ℕ) → IsHeldWhereShown end batch s last) (D.since e (D.moment a)) =
+    in_both (D.moment a) (D.moment b) (D.since b) (D.since e) (λ s left. (last : List ℕ) → IsHeldWhereShown end batch s last) c.stage.ensures.later c.open_gate.ensures.time
+    (λ s left at last. let torn = c.in_ok-staged.ensures.stops durable x x_is s left at in held_in_staging end batch x s last ends torn.0)
+    (λ s left at last. let torn = subst (λ n. TornInto (n - 1) 1 one.0 s left) staged_end (c.in_err-gated.ensures.stops one.0 one.1 s left at) in
+    held_in_opening end batch x one.0 s last c.requires.batch ends first torn.0) in
+    let earlier : D.moment a ≤ D.moment e = let l = c.stage.ensures.later in let m = c.open_gate.ensures.later in omega (arith, l, m) in
+    on_in_one g.row.D.Denot D.moment D.since (IsHeldWhereShown end batch) a e earlier (returns-in_err-gated-clause-time g c) (λ s left t last at later. unopened s left at last)
 
 pub returns-clause-committed : goal.returns-clause-committed
 returns-clause-committed g c =
@@ -205,8 +211,8 @@ returns-clause-shown g c durable x x_is =
     (λ s left at. let torn = subst (λ n. TornInto (n + 13) 32 two.0 s left) gated_end (c.unveil.ensures.stops two.0 two.1 s left at) in
     torn_in_unveiling end batch x one.0 two.0 s whole first second torn.0)
 
-pub returns-clause-held : goal.returns-clause-held
-returns-clause-held g c durable x x_is ends =
+pub returns-clause-ordered : goal.returns-clause-ordered
+returns-clause-ordered g c durable x x_is ends =
     let D = g.D.Disk in
     let end = c.args.end in
     let batch = c.args.batch.now in
@@ -222,14 +228,18 @@ returns-clause-held g c durable x x_is ends =
     let second = subst (λ n. Written (n - 1) (1 ∷ []) one.0 two.0) staged_end (c.in_ok-gated.ensures.written one.0 two.0 one.1 two.1) in
     let f = c.unveil.new.disk in
     let earlier : D.moment a ≤ D.moment e = let l = c.stage.ensures.later in let m = c.open_gate.ensures.later in omega (arith, l, m) in
-    let P : List ℕ → List ℕ → Type 0 = (IsHeldWhereShown end batch) in
-    in_both (D.moment a) (D.moment e) (D.since e) (D.since f) P earlier c.unveil.ensures.time
-    (in_both (D.moment a) (D.moment b) (D.since b) (D.since e) P c.stage.ensures.later c.open_gate.ensures.time
-    (λ s left at. let torn = c.in_ok-staged.ensures.stops durable x x_is s left at in held_in_staging end batch x s left ends torn.0)
-    (λ s left at. let torn = subst (λ n. TornInto (n - 1) 1 one.0 s left) staged_end (c.in_ok-gated.ensures.stops one.0 one.1 s left at) in
-    held_in_opening end batch x one.0 s left c.requires.batch ends first torn.0))
-    (λ s left at. let torn = subst (λ n. TornInto (n + 13) 32 two.0 s left) gated_end (c.unveil.ensures.stops two.0 two.1 s left at) in
-    held_in_unveiling end batch x one.0 two.0 s left whole ends first second torn.1)
+    let unopened : Throughout (λ s left. (last : List ℕ) → IsHeldWhereShown end batch s last) (D.since e (D.moment a)) =
+    in_both (D.moment a) (D.moment b) (D.since b) (D.since e) (λ s left. (last : List ℕ) → IsHeldWhereShown end batch s last) c.stage.ensures.later c.open_gate.ensures.time
+    (λ s left at last. let torn = c.in_ok-staged.ensures.stops durable x x_is s left at in held_in_staging end batch x s last ends torn.0)
+    (λ s left at last. let torn = subst (λ n. TornInto (n - 1) 1 one.0 s left) staged_end (c.in_ok-gated.ensures.stops one.0 one.1 s left at) in
+    held_in_opening end batch x one.0 s last c.requires.batch ends first torn.0) in
+    let until = goes_on_then (D.moment a) (D.moment b) (D.since a) (D.since b) (D.since e) c.stage.ensures.later c.stage.ensures.time c.open_gate.ensures.time in
+    Then
+    (on_in_one g.row.D.Denot D.moment D.since (IsHeldWhereShown end batch) a e earlier until (λ s left t last at later. unopened s left at last))
+    c.unveil.ensures.later
+    c.unveil.ensures.time
+    (λ s left t last at later. let torn = subst (λ n. TornInto (n + 13) 32 two.0 t last) gated_end (c.unveil.ensures.stops two.0 two.1 t last later) in
+    held_in_unveiling end batch x one.0 two.0 s last whole ends first second torn.1)
 
 pub returns-clause-shows : goal.returns-clause-shows
 returns-clause-shows g c =

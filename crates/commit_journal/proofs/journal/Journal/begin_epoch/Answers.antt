@@ -1,5 +1,6 @@
 use Rattle.std.proofs.Common.{◌+◌, true, arith, refl, subst}
 use Rattle.cry_base.specs.Layout.{batch_len}
+use Rattle.batch_log.specs.Moments.{FromThenOn}
 use Rattle.commit_journal.specs.Journals.{JournalState, IsBehind, next_epoch}
 use Rattle.commit_journal.specs.contracts.journal.Journal.{the_view}
 use Rattle.commit_journal.proofs.JournalLemmas.{joins}
@@ -79,7 +80,7 @@ returns-in-Some-clause-published g c =
     let D = g.D.Disk in
     let a = c.args.disk.now in
     let old = c.args.self.now in
-    refused_takes_nothing_back (next_epoch old) old (D.shown a) (D.may_leave a) (D.since a (D.moment a)) (λ s left at. g.met.D.Disk.only_now a s left at)
+    refused_takes_nothing_back g.row.D.Denot D.moment D.since a (next_epoch old) old (D.shown a) (D.may_leave a) (λ s left at. g.met.D.Disk.only_now a s left at)
 
 pub returns-in-Some-clause-holds : goal.returns-in-Some-clause-holds
 returns-in-Some-clause-holds g c =
@@ -104,19 +105,19 @@ pub returns-in_default-append-clause-held : goal.returns-in_default-append-claus
 returns-in_default-append-clause-held g c =
     let D = g.D.Disk in
     let a = c.args.disk.now in
-    let since = D.since c.append.new.disk (D.moment a) in
+    let e = c.append.new.disk in
     let old = the_view c.self.inside in
-    subst (λ (j : JournalState). HoldsPublished (next_epoch j) j (D.shown a) (D.may_leave a) since) c.self.view_is
-    (commit_published (next_epoch old) old c.epoch_batch.result.bytes (D.shown a) (D.may_leave a) since (c.epoch_batch.ensures.spelled c.veil_key-veil.ensures) c.append.ensures.held)
+    subst (λ (j : JournalState). HoldsPublished (next_epoch j) j (D.shown a) (D.may_leave a) (D.since e (D.moment a))) c.self.view_is
+    (commit_published g.row.D.Denot D.moment D.since a e (next_epoch old) old c.epoch_batch.result.bytes (D.shown a) (D.may_leave a) (c.epoch_batch.ensures.spelled c.veil_key-veil.ensures) c.append.ensures.ordered)
 
 pub returns-in_default-append-clause-published : goal.returns-in_default-append-clause-published
 returns-in_default-append-clause-published g c =
     let D = g.D.Disk in
     let a = c.args.disk.now in
-    let since = D.since c.append.new.disk (D.moment a) in
+    let e = c.append.new.disk in
     let old = the_view c.self.inside in
-    subst (λ (j : JournalState). KeepsPublished (next_epoch j) j (D.shown a) (D.may_leave a) since) c.self.view_is
-    (commit_takes_nothing_back (next_epoch old) old c.epoch_batch.result.bytes (D.shown a) (D.may_leave a) since (c.epoch_batch.ensures.spelled c.veil_key-veil.ensures) c.append.ensures.shown c.append.ensures.stops c.append.ensures.held)
+    subst (λ (j : JournalState). KeepsPublished (next_epoch j) j (D.shown a) (D.may_leave a) (FromThenOn D.moment D.since a e)) c.self.view_is
+    (commit_takes_nothing_back g.row.D.Denot D.moment D.since a e (next_epoch old) old c.epoch_batch.result.bytes (D.shown a) (D.may_leave a) (c.epoch_batch.ensures.spelled c.veil_key-veil.ensures) c.append.ensures.shown c.append.ensures.stops c.append.ensures.ordered)
 
 pub returns-in_default-append-clause-holds : goal.returns-in_default-append-clause-holds
 returns-in_default-append-clause-holds g c =
@@ -142,19 +143,19 @@ pub returns-clause-held : goal.returns-clause-held
 returns-clause-held g c =
     let D = g.D.Disk in
     let a = c.args.disk.now in
-    let since = D.since c.append.new.disk (D.moment a) in
+    let e = c.append.new.disk in
     let old = the_view c.self.inside in
-    subst (λ (j : JournalState). HoldsPublished (next_epoch j) j (D.shown a) (D.may_leave a) since) c.self.view_is
-    (commit_published (next_epoch old) old c.epoch_batch.result.bytes (D.shown a) (D.may_leave a) since (c.epoch_batch.ensures.spelled c.veil_key-veil.ensures) c.append.ensures.held)
+    subst (λ (j : JournalState). HoldsPublished (next_epoch j) j (D.shown a) (D.may_leave a) (D.since e (D.moment a))) c.self.view_is
+    (commit_published g.row.D.Denot D.moment D.since a e (next_epoch old) old c.epoch_batch.result.bytes (D.shown a) (D.may_leave a) (c.epoch_batch.ensures.spelled c.veil_key-veil.ensures) c.append.ensures.ordered)
 
 pub returns-clause-published : goal.returns-clause-published
 returns-clause-published g c =
     let D = g.D.Disk in
     let a = c.args.disk.now in
-    let since = D.since c.append.new.disk (D.moment a) in
+    let e = c.append.new.disk in
     let old = the_view c.self.inside in
-    subst (λ (j : JournalState). KeepsPublished (next_epoch j) j (D.shown a) (D.may_leave a) since) c.self.view_is
-    (commit_takes_nothing_back (next_epoch old) old c.epoch_batch.result.bytes (D.shown a) (D.may_leave a) since (c.epoch_batch.ensures.spelled c.veil_key-veil.ensures) c.append.ensures.shown c.append.ensures.stops c.append.ensures.held)
+    subst (λ (j : JournalState). KeepsPublished (next_epoch j) j (D.shown a) (D.may_leave a) (FromThenOn D.moment D.since a e)) c.self.view_is
+    (commit_takes_nothing_back g.row.D.Denot D.moment D.since a e (next_epoch old) old c.epoch_batch.result.bytes (D.shown a) (D.may_leave a) (c.epoch_batch.ensures.spelled c.veil_key-veil.ensures) c.append.ensures.shown c.append.ensures.stops c.append.ensures.ordered)
 
 pub returns-clause-holds : goal.returns-clause-holds
 returns-clause-holds g c =

@@ -2,6 +2,7 @@ use Rattle.std.proofs.Common.{◌+◌, arith, refl, ap, subst, ◌∙◌}
 use Rattle.cry_base.specs.Layout.{batch_len}
 use Rattle.record_format.specs.Plain.{plain_payload}
 use Rattle.record_format.specs.Spelling.{spell_payload}
+use Rattle.batch_log.specs.Moments.{FromThenOn}
 use Rattle.commit_journal.specs.Journals.{JournalState, IsBehind, next_command}
 use Rattle.commit_journal.specs.contracts.journal.Journal.{the_view}
 use Rattle.commit_journal.proofs.JournalLemmas.{joins, payload_small}
@@ -91,7 +92,7 @@ returns-in-Some-clause-published g c =
     let a = c.args.disk.now in
     let payload = spell_payload (plain_payload c.args.payload.now) in
     let old = c.args.self.now in
-    refused_takes_nothing_back (next_command old payload) old (D.shown a) (D.may_leave a) (D.since a (D.moment a)) (λ s left at. g.met.D.Disk.only_now a s left at)
+    refused_takes_nothing_back g.row.D.Denot D.moment D.since a (next_command old payload) old (D.shown a) (D.may_leave a) (λ s left at. g.met.D.Disk.only_now a s left at)
 
 pub returns-in-Some-clause-holds : goal.returns-in-Some-clause-holds
 returns-in-Some-clause-holds g c =
@@ -119,20 +120,20 @@ returns-in_default-append-clause-held g c =
     let D = g.D.Disk in
     let a = c.args.disk.now in
     let payload = spell_payload (plain_payload c.args.payload.now) in
-    let since = D.since c.append.new.disk (D.moment a) in
+    let e = c.append.new.disk in
     let old = the_view c.self.inside in
-    subst (λ (j : JournalState). HoldsPublished (next_command j payload) j (D.shown a) (D.may_leave a) since) c.self.view_is
-    (commit_published (next_command old payload) old c.as_slice.result.now (D.shown a) (D.may_leave a) since (c.as_slice.ensures ∙ c.command_batch-tag.ensures.spelled c.veil_key-veil.ensures) c.append.ensures.held)
+    subst (λ (j : JournalState). HoldsPublished (next_command j payload) j (D.shown a) (D.may_leave a) (D.since e (D.moment a))) c.self.view_is
+    (commit_published g.row.D.Denot D.moment D.since a e (next_command old payload) old c.as_slice.result.now (D.shown a) (D.may_leave a) (c.as_slice.ensures ∙ c.command_batch-tag.ensures.spelled c.veil_key-veil.ensures) c.append.ensures.ordered)
 
 pub returns-in_default-append-clause-published : goal.returns-in_default-append-clause-published
 returns-in_default-append-clause-published g c =
     let D = g.D.Disk in
     let a = c.args.disk.now in
     let payload = spell_payload (plain_payload c.args.payload.now) in
-    let since = D.since c.append.new.disk (D.moment a) in
+    let e = c.append.new.disk in
     let old = the_view c.self.inside in
-    subst (λ (j : JournalState). KeepsPublished (next_command j payload) j (D.shown a) (D.may_leave a) since) c.self.view_is
-    (commit_takes_nothing_back (next_command old payload) old c.as_slice.result.now (D.shown a) (D.may_leave a) since (c.as_slice.ensures ∙ c.command_batch-tag.ensures.spelled c.veil_key-veil.ensures) c.append.ensures.shown c.append.ensures.stops c.append.ensures.held)
+    subst (λ (j : JournalState). KeepsPublished (next_command j payload) j (D.shown a) (D.may_leave a) (FromThenOn D.moment D.since a e)) c.self.view_is
+    (commit_takes_nothing_back g.row.D.Denot D.moment D.since a e (next_command old payload) old c.as_slice.result.now (D.shown a) (D.may_leave a) (c.as_slice.ensures ∙ c.command_batch-tag.ensures.spelled c.veil_key-veil.ensures) c.append.ensures.shown c.append.ensures.stops c.append.ensures.ordered)
 
 pub returns-in_default-append-clause-holds : goal.returns-in_default-append-clause-holds
 returns-in_default-append-clause-holds g c =
@@ -161,20 +162,20 @@ returns-clause-held g c =
     let D = g.D.Disk in
     let a = c.args.disk.now in
     let payload = spell_payload (plain_payload c.args.payload.now) in
-    let since = D.since c.append.new.disk (D.moment a) in
+    let e = c.append.new.disk in
     let old = the_view c.self.inside in
-    subst (λ (j : JournalState). HoldsPublished (next_command j payload) j (D.shown a) (D.may_leave a) since) c.self.view_is
-    (commit_published (next_command old payload) old c.as_slice.result.now (D.shown a) (D.may_leave a) since (c.as_slice.ensures ∙ c.command_batch-tag.ensures.spelled c.veil_key-veil.ensures) c.append.ensures.held)
+    subst (λ (j : JournalState). HoldsPublished (next_command j payload) j (D.shown a) (D.may_leave a) (D.since e (D.moment a))) c.self.view_is
+    (commit_published g.row.D.Denot D.moment D.since a e (next_command old payload) old c.as_slice.result.now (D.shown a) (D.may_leave a) (c.as_slice.ensures ∙ c.command_batch-tag.ensures.spelled c.veil_key-veil.ensures) c.append.ensures.ordered)
 
 pub returns-clause-published : goal.returns-clause-published
 returns-clause-published g c =
     let D = g.D.Disk in
     let a = c.args.disk.now in
     let payload = spell_payload (plain_payload c.args.payload.now) in
-    let since = D.since c.append.new.disk (D.moment a) in
+    let e = c.append.new.disk in
     let old = the_view c.self.inside in
-    subst (λ (j : JournalState). KeepsPublished (next_command j payload) j (D.shown a) (D.may_leave a) since) c.self.view_is
-    (commit_takes_nothing_back (next_command old payload) old c.as_slice.result.now (D.shown a) (D.may_leave a) since (c.as_slice.ensures ∙ c.command_batch-tag.ensures.spelled c.veil_key-veil.ensures) c.append.ensures.shown c.append.ensures.stops c.append.ensures.held)
+    subst (λ (j : JournalState). KeepsPublished (next_command j payload) j (D.shown a) (D.may_leave a) (FromThenOn D.moment D.since a e)) c.self.view_is
+    (commit_takes_nothing_back g.row.D.Denot D.moment D.since a e (next_command old payload) old c.as_slice.result.now (D.shown a) (D.may_leave a) (c.as_slice.ensures ∙ c.command_batch-tag.ensures.spelled c.veil_key-veil.ensures) c.append.ensures.shown c.append.ensures.stops c.append.ensures.ordered)
 
 pub returns-clause-holds : goal.returns-clause-holds
 returns-clause-holds g c =

@@ -6,10 +6,11 @@ use Rattle.commit_journal.specs.Filling.{AreUnfilled, LeavesUnfilled, all_filled
 use Rattle.commit_journal.specs.Opening.{LeavesGated, plain_walked, slots_filled}
 use Rattle.commit_journal.specs.WholeLogs.{StillStand}
 use Rattle.commit_journal.specs.Placed.{plain_log}
+use Rattle.batch_log.specs.Moments.{FromThenOn}
 use Rattle.batch_log.proofs.Moments.{goes_on_elapsed}
 use Rattle.commit_journal.proofs.CommitLemmas.{on_err}
-use Rattle.commit_journal.specs.Moments.{OpensThroughout}
-use Rattle.commit_journal.proofs.OpenedMoments.{keeps_held, opens_all, opens_read, opens_same, same_in_call, time_in_all}
+use Rattle.commit_journal.specs.Moments.{OpensInOrder, OpensThroughout}
+use Rattle.commit_journal.proofs.OpenedMoments.{keeps_held, opens_all, opens_read, opens_same, ordered_all, ordered_read, ordered_same, same_in_call, time_in_all}
 use Rattle.commit_journal.proofs.SlotsLeft.{still_left, still_same}
 use Rattle.commit_journal.proofs.SlotsUnfilled.{filled_is_filled, left_is_left, unfilled_are}
 use Rattle.commit_journal.proofs.SlotsWritten.{fills_log}
@@ -106,6 +107,14 @@ returns-in_default-clause-stops g c =
     opens_same c.args.limits.store_bytes c.args.owner.now.bytes (D.shown a) (D.may_leave a) (D.since b (D.moment a))
     (same_in_call D.shown D.may_leave D.moment D.since a b (λ s left at. g.met.D.Disk.only_now a s left at) c.sync.ensures.shown c.sync.ensures.stops c.sync.ensures.time)
 
+pub returns-in_default-clause-ordered : goal.returns-in_default-clause-ordered
+returns-in_default-clause-ordered g c =
+    let D = g.D.Disk in
+    let a = c.args.disk.now in
+    let b = c.sync.new.self in
+    ordered_same D.shown D.may_leave D.moment D.since a b c.args.limits.store_bytes c.args.owner.now.bytes c.sync.ensures.time.later (returns-in_default-clause-time g c)
+    (same_in_call D.shown D.may_leave D.moment D.since a b (λ s left at. g.met.D.Disk.only_now a s left at) c.sync.ensures.shown c.sync.ensures.stops c.sync.ensures.time)
+
 pub returns-in_default-clause-kept : goal.returns-in_default-clause-kept
 returns-in_default-clause-kept g c =
     let D = g.D.Disk in
@@ -121,6 +130,17 @@ returns-in_err-placed-clause-stops g c =
     let e = c.walk.new.disk in
     opens_read D.shown D.may_leave D.moment D.since a b e c.args.limits.store_bytes c.args.owner.now.bytes (λ s left at. g.met.D.Disk.only_now a s left at)
     c.sync.ensures.shown c.sync.ensures.stops c.sync.ensures.time c.walk.ensures.moments
+
+pub returns-in_err-placed-clause-ordered : goal.returns-in_err-placed-clause-ordered
+returns-in_err-placed-clause-ordered g c =
+    let D = g.D.Disk in
+    let a = c.args.disk.now in
+    let b = c.sync.new.self in
+    let goes = goes_on_elapsed (D.moment a) (D.moment b) (D.since a) (D.since b) (D.shown a) (D.shown b) (D.may_leave a) (D.may_leave b)
+    (λ s left at. g.met.D.Disk.only_now a s left at) (λ t s left early is leaves. g.met.D.Disk.counts_now a t s left early is leaves)
+    (λ t s left early is leaves. g.met.D.Disk.counts_now b t s left early is leaves) c.sync.ensures.time in
+    ordered_read D.shown D.may_leave D.moment D.since a b c.walk.new.disk c.args.limits.store_bytes c.args.owner.now.bytes (λ s left at. g.met.D.Disk.only_now a s left at)
+    goes c.sync.ensures.shown c.sync.ensures.stops c.sync.ensures.time c.walk.ensures.moments
 
 pub returns-in_err-placed-clause-kept : goal.returns-in_err-placed-clause-kept
 returns-in_err-placed-clause-kept g c =
@@ -155,6 +175,28 @@ returns-in_default-fill_slots-clause-stops g c =
     (fills_log owner (plain_log walked.placed) c.as_slice.result.now (D.shown e) (D.since f (D.moment e))
     (λ x x_is. listed ∙ c.in_ok-placed.ensures.unfilled x (sym read ∙ x_is)) (λ x x_is. c.in_ok-placed.ensures.gated x (sym read ∙ x_is)) c.fill_slots.ensures.stops))
 
+pub returns-in_default-fill_slots-clause-ordered : goal.returns-in_default-fill_slots-clause-ordered
+returns-in_default-fill_slots-clause-ordered g c =
+    let D = g.D.Disk in
+    let a = c.args.disk.now in
+    let b = c.sync.new.self in
+    let e = c.walk.new.disk in
+    let f = c.fill_slots.new.disk in
+    let key : c.of-owner.result.bytes ≡ c.args.owner.now.bytes = ap (λ (k : KeyParts). k.bytes) c.of-owner.ensures in
+    let owner = c.of-owner.result.bytes in
+    let walked = c.in_ok-placed.field-0 in
+    let listed : c.as_slice.result.now ≡ walked.unfilled.items = cc in
+    let read = c.in_ok-placed.ensures.read_only.same_bytes in
+    let goes = goes_on_elapsed (D.moment a) (D.moment b) (D.since a) (D.since b) (D.shown a) (D.shown b) (D.may_leave a) (D.may_leave b)
+    (λ s left at. g.met.D.Disk.only_now a s left at) (λ t s left early is leaves. g.met.D.Disk.counts_now a t s left early is leaves)
+    (λ t s left early is leaves. g.met.D.Disk.counts_now b t s left early is leaves) c.sync.ensures.time in
+    subst (λ (k : List ℕ). OpensInOrder c.args.limits.store_bytes k (D.shown a) (FromThenOn D.moment D.since a f)) key
+    (ordered_all D.shown D.may_leave D.moment D.since a b e f c.args.limits.store_bytes owner (plain_walked walked) (λ s left at. g.met.D.Disk.only_now a s left at)
+    goes c.sync.ensures.shown c.sync.ensures.stops c.sync.ensures.time c.walk.ensures.moments read c.fill_slots.ensures.later c.fill_slots.ensures.time
+    c.in_ok-placed.ensures.verdict
+    (fills_log owner (plain_log walked.placed) c.as_slice.result.now (D.shown e) (D.since f (D.moment e))
+    (λ x x_is. listed ∙ c.in_ok-placed.ensures.unfilled x (sym read ∙ x_is)) (λ x x_is. c.in_ok-placed.ensures.gated x (sym read ∙ x_is)) c.fill_slots.ensures.stops))
+
 pub returns-in_default-fill_slots-clause-kept : goal.returns-in_default-fill_slots-clause-kept
 returns-in_default-fill_slots-clause-kept g c =
     let D = g.D.Disk in
@@ -184,6 +226,28 @@ returns-clause-stops g c =
     subst (λ (k : List ℕ). OpensThroughout c.args.limits.store_bytes k (D.shown a) (D.may_leave a) (D.since f (D.moment a))) key
     (opens_all D.shown D.may_leave D.moment D.since a b e f c.args.limits.store_bytes owner (plain_walked walked) (λ s left at. g.met.D.Disk.only_now a s left at)
     c.sync.ensures.shown c.sync.ensures.stops c.sync.ensures.time c.walk.ensures.moments read c.fill_slots.ensures.time
+    c.in_ok-placed.ensures.verdict
+    (fills_log owner (plain_log walked.placed) c.as_slice.result.now (D.shown e) (D.since f (D.moment e))
+    (λ x x_is. listed ∙ c.in_ok-placed.ensures.unfilled x (sym read ∙ x_is)) (λ x x_is. c.in_ok-placed.ensures.gated x (sym read ∙ x_is)) c.fill_slots.ensures.stops))
+
+pub returns-clause-ordered : goal.returns-clause-ordered
+returns-clause-ordered g c =
+    let D = g.D.Disk in
+    let a = c.args.disk.now in
+    let b = c.sync.new.self in
+    let e = c.walk.new.disk in
+    let f = c.fill_slots.new.disk in
+    let key : c.of-owner.result.bytes ≡ c.args.owner.now.bytes = ap (λ (k : KeyParts). k.bytes) c.of-owner.ensures in
+    let owner = c.of-owner.result.bytes in
+    let walked = c.in_ok-placed.field-0 in
+    let listed : c.as_slice.result.now ≡ walked.unfilled.items = cc in
+    let read = c.in_ok-placed.ensures.read_only.same_bytes in
+    let goes = goes_on_elapsed (D.moment a) (D.moment b) (D.since a) (D.since b) (D.shown a) (D.shown b) (D.may_leave a) (D.may_leave b)
+    (λ s left at. g.met.D.Disk.only_now a s left at) (λ t s left early is leaves. g.met.D.Disk.counts_now a t s left early is leaves)
+    (λ t s left early is leaves. g.met.D.Disk.counts_now b t s left early is leaves) c.sync.ensures.time in
+    subst (λ (k : List ℕ). OpensInOrder c.args.limits.store_bytes k (D.shown a) (FromThenOn D.moment D.since a f)) key
+    (ordered_all D.shown D.may_leave D.moment D.since a b e f c.args.limits.store_bytes owner (plain_walked walked) (λ s left at. g.met.D.Disk.only_now a s left at)
+    goes c.sync.ensures.shown c.sync.ensures.stops c.sync.ensures.time c.walk.ensures.moments read c.fill_slots.ensures.later c.fill_slots.ensures.time
     c.in_ok-placed.ensures.verdict
     (fills_log owner (plain_log walked.placed) c.as_slice.result.now (D.shown e) (D.since f (D.moment e))
     (λ x x_is. listed ∙ c.in_ok-placed.ensures.unfilled x (sym read ∙ x_is)) (λ x x_is. c.in_ok-placed.ensures.gated x (sym read ∙ x_is)) c.fill_slots.ensures.stops))
