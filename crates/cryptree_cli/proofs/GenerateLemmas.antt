@@ -145,13 +145,13 @@ begins root drawn o shown s made told whole = record {
 }
 
 pub generated : RootCounted → (status : Status) (seed count : ℕ) (o : OwnerView) (left_before left_between left_after shown_between shown_after : Option (List ℕ)) (may_leave : List ℕ → Type 0)
-    (since : ℕ → List ℕ → List ℕ → Type 0) (moment : ℕ) (before after : Option (List ℕ)) → is_some left_between ≡ is_some left_before → is_some shown_after ≡ is_some shown_between
+    (since : ℕ → List ℕ → List ℕ → Type 0) (from_moment_on : ℕ → (List ℕ → List ℕ → Type 0) → Type 0) (moment : ℕ) (before after : Option (List ℕ)) → is_some left_between ≡ is_some left_before → is_some shown_after ≡ is_some shown_between
     → making.Makes version_limits left_before left_between shown_between o
     → ((key : List ℕ) (m : Journal) → Begins key m o shown_between
     → Fills status seed count key m (unheard left_between left_after shown_after) may_leave (LinesKeepUpTo key m (since moment)) before after)
-    → ((key : List ℕ) (m : Journal) → StandsAt version_limits key (opened m []) o shown_between → LinesPublish status key m (since moment) may_leave)
-    → WhereTold shown_after (λ s. Generates status seed count left_before left_after shown_after may_leave since before after)
-generated root status seed count o left_before left_between left_after shown_between shown_after may_leave since moment before after left_told shown_told store fills publish = λ x now.
+    → ((key : List ℕ) (m : Journal) → StandsAt version_limits key (opened m []) o shown_between → LinesPublish key m (since moment) (from_moment_on moment))
+    → WhereTold shown_after (λ s. Generates status seed count left_before left_after shown_after may_leave since from_moment_on before after)
+generated root status seed count o left_before left_between left_after shown_between shown_after may_leave since from_moment_on moment before after left_told shown_told store fills publish = λ x now.
     let drawn : List ℕ = store.0 in
     let s = told_again shown_after shown_between x (sym shown_told) now in
     let whole = fresh_stands drawn o store.1.owner store.1.same_key s.0 (store.3 s.0 s.1) in

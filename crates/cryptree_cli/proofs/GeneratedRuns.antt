@@ -71,7 +71,7 @@ module _ (R D : Type 0) (left : R → Option (List ℕ)) (random_faults : R → 
         let all = applies_all (OwnerView × R × D) (scene R D left random_faults shown disk_faults may_leave moment since)
         (leaves R D left random_faults shown disk_faults may_leave moment since) (moments R D left random_faults shown disk_faults may_leave moment since)
         (Step R D left random_faults shown disk_faults may_leave moment since) (Fails R D left random_faults shown disk_faults may_leave moment since)
-        (λ x r reply y step. step) (λ x r fault y failed. failed.0) version_limits key m start end begins.stands (present start.2)
+        (λ x r reply y step. step.0) (λ x r fault y failed. failed.0) version_limits key m start end begins.stands (present start.2)
         (rests_there version_limits key m start.0 (shown start.2) (may_leave start.2) begins.stands durable) None none_kept
         old new (Some script) (Some rest) None None script rest refl refl told ran calm begins.counted in
         let asks : Asks all.0 (script_lines seed count) [] = subst (λ ls. Asks all.0 ls []) (script_is_ahead old script seed count fresh few is) all.1 in
@@ -84,7 +84,7 @@ module _ (R D : Type 0) (left : R → Option (List ℕ)) (random_faults : R → 
         let stopped = stops_as (OwnerView × R × D) (scene R D left random_faults shown disk_faults may_leave moment since)
         (leaves R D left random_faults shown disk_faults may_leave moment since) (moments R D left random_faults shown disk_faults may_leave moment since)
         (Step R D left random_faults shown disk_faults may_leave moment since) (Fails R D left random_faults shown disk_faults may_leave moment since)
-        (λ x r reply y step. step) (λ x r fault y failed. failed.0) version_limits key m start end begins.stands (present start.2)
+        (λ x r reply y step. step.0) (λ x r fault y failed. failed.0) version_limits key m start end begins.stands (present start.2)
         (rests_there version_limits key m start.0 (shown start.2) (may_leave start.2) begins.stands durable) None none_kept
         old new (Some script) (Some rest) None None script rest refl refl fault stop ran calm in
         subst (λ ls. StopsApplying (script_status fault) version_limits key m ls (unheard (left start.1) (left end.1) (shown end.2)) (may_leave end.2) KeepsTo)

@@ -1,6 +1,7 @@
 -- What an owner promises of a command, put together as what `run` asks of it.
 use Rattle.std.proofs.Common.{◌≡◌, ◌≤◌, ◌↔◌, ℕ, List, Option, Result, Ok, Err, ap, arith, false, refl}
 use Rattle.std.specs.Prelude.{IsTrue, MatchResult, OnOk, is_some, ◌≢◌}
+use Rattle.batch_log.specs.Moments.{FromThenOn}
 use Rattle.commit_journal.specs.Holding.{GoesOn}
 use Rattle.cry_base.specs.Requests.{Request}
 use Rattle.cry_base.specs.declared.commands.Reply.{Reply}
@@ -33,7 +34,7 @@ pub step_answers : {R D : Type 0} (left : R → Option (List ℕ)) (random_fault
     (disk_faults : D → ℕ) (may_leave : D → List ℕ → Type 0) (since : D → ℕ → List ℕ → List ℕ → Type 0) (result : Result Reply ApplyFault)
     (r : Request) (o n : OwnerView) (x y : R) (d e : D)
     → ((m : Journal) → IsOwnerOf m o → Answers result m r o n (left x) (left y) (shown d) (shown e) (may_leave d) (may_leave e) (since e (moment d)))
-    → PublishesOn result o (shown d) (may_leave d) (may_leave e) (since e (moment d))
+    → PublishesOn o (shown d) (may_leave d) (FromThenOn moment since d e)
     → moment d ≤ moment e → GoesOn (moment d) (since d) (since e)
     → ((result ≡ Err faults.Closed) ↔ IsTrue o.journal.is_closed) → o.journal.is_closed ≡ false
     → IsKeptBy result o n x y d e → UnlessDiskFault result (IsDurable (may_leave e) (shown e)) → CountsCommand result r o n
@@ -43,52 +44,58 @@ pub step_answers : {R D : Type 0} (left : R → Option (List ℕ)) (random_fault
     → ((had need : ℕ) → result ≡ Err (faults.RandomShort had need) → FallsShort o r had need (left x) (left y))
     → MatchResult result
     (λ reply. AnswersIn (scene left random_faults shown moment disk_faults o x d) r reply (scene left random_faults shown moment disk_faults n y e)
-    (may_leave d) (may_leave e) (since d) (since e))
+    (may_leave d) (may_leave e) (since d) (since e) × PublishesOn o (shown d) (may_leave d) (FromThenOn moment since d e))
     (λ fault. FailsIn (scene left random_faults shown moment disk_faults o x d) r fault (scene left random_faults shown moment disk_faults n y e)
-    (may_leave d) (may_leave e) (since d) (since e) × (fault ≢ faults.DiskFault → IsDurable (may_leave e) (shown e)))
-step_answers left rf shown moment df may_leave since (Ok (replies.Refused why)) r o n x y d e answers published later time closed unclosed kept calm counted st lt dc rc draws short = record {
-  answers = answers;
-  published = published;
-  later = later;
-  time = time;
-  left_told = lt;
-  shown_told = st;
-  draws = draws;
-  kept = λ w is. (ap left kept.1, ap shown kept.2);
-  counted = counted;
-  random_counts = rc;
-  disk_counts = dc;
-}
-step_answers left rf shown moment df may_leave since (Ok replies.Done) r o n x y d e answers published later time closed unclosed kept calm counted st lt dc rc draws short = record {
-  answers = answers;
-  published = published;
-  later = later;
-  time = time;
-  left_told = lt;
-  shown_told = st;
-  draws = draws;
-  kept = λ w is. absurd cc;
-  counted = counted;
-  random_counts = rc;
-  disk_counts = dc;
-}
-step_answers left rf shown moment df may_leave since (Ok (replies.Made holder key)) r o n x y d e answers published later time closed unclosed kept calm counted st lt dc rc draws short = record {
-  answers = answers;
-  published = published;
-  later = later;
-  time = time;
-  left_told = lt;
-  shown_told = st;
-  draws = draws;
-  kept = λ w is. absurd cc;
-  counted = counted;
-  random_counts = rc;
-  disk_counts = dc;
-}
+    (may_leave d) (may_leave e) (since d) (since e) × (fault ≢ faults.DiskFault → IsDurable (may_leave e) (shown e))
+    × PublishesOn o (shown d) (may_leave d) (FromThenOn moment since d e))
+step_answers left rf shown moment df may_leave since (Ok (replies.Refused why)) r o n x y d e answers published later time closed unclosed kept calm counted st lt dc rc draws short = (
+  record {
+    answers = answers;
+    later = later;
+    time = time;
+    left_told = lt;
+    shown_told = st;
+    draws = draws;
+    kept = λ w is. (ap left kept.1, ap shown kept.2);
+    counted = counted;
+    random_counts = rc;
+    disk_counts = dc;
+  },
+  published,
+)
+step_answers left rf shown moment df may_leave since (Ok replies.Done) r o n x y d e answers published later time closed unclosed kept calm counted st lt dc rc draws short = (
+  record {
+    answers = answers;
+    later = later;
+    time = time;
+    left_told = lt;
+    shown_told = st;
+    draws = draws;
+    kept = λ w is. absurd cc;
+    counted = counted;
+    random_counts = rc;
+    disk_counts = dc;
+  },
+  published,
+)
+step_answers left rf shown moment df may_leave since (Ok (replies.Made holder key)) r o n x y d e answers published later time closed unclosed kept calm counted st lt dc rc draws short = (
+  record {
+    answers = answers;
+    later = later;
+    time = time;
+    left_told = lt;
+    shown_told = st;
+    draws = draws;
+    kept = λ w is. absurd cc;
+    counted = counted;
+    random_counts = rc;
+    disk_counts = dc;
+  },
+  published,
+)
 step_answers left rf shown moment df may_leave since (Err faults.RandomFault) r o n x y d e answers published later time closed unclosed kept calm counted st lt dc rc draws short = (
   record {
     answers = answers;
-    published = published;
     later = later;
     time = time;
     left_told = lt;
@@ -103,11 +110,11 @@ step_answers left rf shown moment df may_leave since (Err faults.RandomFault) r 
     disk_fault = λ is. absurd cc;
   },
   λ no. calm,
+  published,
 )
 step_answers left rf shown moment df may_leave since (Err (faults.RandomShort had need)) r o n x y d e answers published later time closed unclosed kept calm counted st lt dc rc draws short = (
   record {
     answers = answers;
-    published = published;
     later = later;
     time = time;
     left_told = lt;
@@ -122,11 +129,11 @@ step_answers left rf shown moment df may_leave since (Err (faults.RandomShort ha
     disk_fault = λ is. absurd cc;
   },
   λ no. calm,
+  published,
 )
 step_answers left rf shown moment df may_leave since (Err faults.DiskFault) r o n x y d e answers published later time closed unclosed kept calm counted st lt dc rc draws short = (
   record {
     answers = answers;
-    published = published;
     later = later;
     time = time;
     left_told = lt;
@@ -141,6 +148,7 @@ step_answers left rf shown moment df may_leave since (Err faults.DiskFault) r o 
     disk_fault = λ is. dc;
   },
   λ no. absurd (no refl),
+  published,
 )
 step_answers left rf shown moment df may_leave since (Err faults.Closed) r o n x y d e answers published later time closed unclosed kept calm counted st lt dc rc draws short =
     let shut : IsTrue o.journal.is_closed = closed.0 refl in
@@ -148,7 +156,6 @@ step_answers left rf shown moment df may_leave since (Err faults.Closed) r o n x
 step_answers left rf shown moment df may_leave since (Err faults.OutOfMemory) r o n x y d e answers published later time closed unclosed kept calm counted st lt dc rc draws short = (
   record {
     answers = answers;
-    published = published;
     later = later;
     time = time;
     left_told = lt;
@@ -163,4 +170,5 @@ step_answers left rf shown moment df may_leave since (Err faults.OutOfMemory) r 
     disk_fault = λ is. absurd cc;
   },
   λ no. calm,
+  published,
 )

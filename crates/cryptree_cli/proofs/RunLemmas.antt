@@ -2,6 +2,7 @@
 use Rattle.std.proofs.Common.{◌≡◌, ◌≢◌, ◌≤◌, ◌<◌, ℕ, List, [], length, Option, Some, Result, Ok, Err, arith, refl, subst, ◌∙◌}
 use Rattle.std.specs.Prelude.{is_some}
 use Rattle.cry_base.specs.Requests.{Request}
+use Rattle.batch_log.specs.Moments.{FromThenOn}
 use Rattle.batch_log.proofs.Moments.{goes_on_then}
 use Rattle.commit_journal.specs.Holding.{GoesOn as TimeGoesOn}
 use Rattle.cry_base.specs.declared.commands.Reply.{Reply}
@@ -23,6 +24,7 @@ use Rattle.cryptree_cli.proofs.AnsweredScripts.{counts_rise, keys_taken, time_go
 use Rattle.cryptree_cli.proofs.RunEnds.{IsCalm, ends_as, still_told}
 use Rattle.public_fold.specs.Journal.{Journal}
 use Rattle.store_owner.specs.Owned.{OwnerView}
+use Rattle.store_owner.specs.Published.{PublishesOn}
 use Rattle.store_owner.specs.Sessions.{StandsAt}
 use Rattle.store_owner.specs.Stopping.{RestsAt}
 use Rattle.store_owner.specs.Taking.{TakesKeys, keys_planned}
@@ -51,10 +53,12 @@ module _ (R D : Type 0) (left : R → Option (List ℕ)) (random_faults : R → 
 
   abbrev pub Step : OwnerView × R × D → Request → Reply → OwnerView × R × D → Type 0
   Step x request reply y = AnswersIn (scene x) request reply (scene y) (may_leave x.2) (may_leave y.2) (since x.2) (since y.2)
+      × PublishesOn x.0 (shown x.2) (may_leave x.2) (FromThenOn moment since x.2 y.2)
 
   abbrev pub Fails : OwnerView × R × D → Request → ApplyFault → OwnerView × R × D → Type 0
   Fails x request fault y = FailsIn (scene x) request fault (scene y) (may_leave x.2) (may_leave y.2) (since x.2) (since y.2)
       × (fault ≢ faults.DiskFault → IsDurable (may_leave y.2) (shown y.2))
+      × PublishesOn x.0 (shown x.2) (may_leave x.2) (FromThenOn moment since x.2 y.2)
 
   -- what the disk tells of its present moment
   abbrev pub IsPresent : Type 0
@@ -79,12 +83,12 @@ module _ (R D : Type 0) (left : R → Option (List ℕ)) (random_faults : R → 
     time_to : IsPresent → IsCounted → (asked : List Request) (given : List Reply) (x : OwnerView × R × D) → Answered Step start asked given x
         → (moment start.2 ≤ moment x.2) × TimeGoesOn (moment start.2) (since start.2) (since x.2)
     time_to present counted asked given x answers =
-        time_goes (OwnerView × R × D) scene leaves moments Step (λ z r reply y step. step) start (present start.2) (counted start.2) asked given x answers
+        time_goes (OwnerView × R × D) scene leaves moments Step (λ z r reply y step. step.0) start (present start.2) (counted start.2) asked given x answers
 
     answered_on : (asked : List Request) (given : List Reply) → Answered Step start asked given end → GoesOn
     answered_on asked given answers =
-        let told = told_stays (OwnerView × R × D) scene leaves moments Step (λ x r reply y step. step) start asked given end answers in
-        let counts = counts_rise (OwnerView × R × D) scene leaves moments Step (λ x r reply y step. step) start asked given end answers in
+        let told = told_stays (OwnerView × R × D) scene leaves moments Step (λ x r reply y step. step.0) start asked given end answers in
+        let counts = counts_rise (OwnerView × R × D) scene leaves moments Step (λ x r reply y step. step.0) start asked given end answers in
         (told.0, told.1, counts.0, counts.1)
 
     -- the last command met a fault
@@ -101,8 +105,8 @@ module _ (R D : Type 0) (left : R → Option (List ℕ)) (random_faults : R → 
     stops : (fault : ApplyFault) → HasRan (Err (Applying fault)) → Stops fault
     stops fault ran =
         let x : OwnerView × R × D = ran.stands.0 in
-        let told = told_stays (OwnerView × R × D) scene leaves moments Step (λ z r reply y step. step) start ran.stands.1 ran.replies x ran.stands.4 in
-        let counts = counts_rise (OwnerView × R × D) scene leaves moments Step (λ z r reply y step. step) start ran.stands.1 ran.replies x ran.stands.4 in
+        let told = told_stays (OwnerView × R × D) scene leaves moments Step (λ z r reply y step. step.0) start ran.stands.1 ran.replies x ran.stands.4 in
+        let counts = counts_rise (OwnerView × R × D) scene leaves moments Step (λ z r reply y step. step.0) start ran.stands.1 ran.replies x ran.stands.4 in
         record {
           x = x;
           request = ran.stands.2;
@@ -110,7 +114,7 @@ module _ (R D : Type 0) (left : R → Option (List ℕ)) (random_faults : R → 
           shown_told = told.1;
           random_counts = counts.0;
           disk_counts = counts.1;
-          taken = keys_taken (OwnerView × R × D) scene leaves moments Step (λ z r reply y step. step) start ran.stands.1 ran.replies x ran.stands.4;
+          taken = keys_taken (OwnerView × R × D) scene leaves moments Step (λ z r reply y step. step.0) start ran.stands.1 ran.replies x ran.stands.4;
           failed = ran.stands.5.0;
         }
 
@@ -236,6 +240,6 @@ module _ (R D : Type 0) (left : R → Option (List ℕ)) (random_faults : R → 
     ends_so present result ran calm first told b was key m first_shown stands durable kept =
         let after = still_told left_after left_before b told was in
         let rests = rests_there version_limits key m start.0 (shown start.2) (may_leave start.2) stands durable in
-        ends_as (OwnerView × R × D) scene leaves moments Step Fails (λ x r reply y step. step) (λ x r fault y failed. failed.0) version_limits key m start end stands
+        ends_as (OwnerView × R × D) scene leaves moments Step Fails (λ x r reply y step. step.0) (λ x r fault y failed. failed.0) version_limits key m start end stands
         (present start.2) rests first_shown kept
         old new left_before left_after out_before out_after b after.0 was after.1 result ran first calm

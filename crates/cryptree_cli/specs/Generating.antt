@@ -105,9 +105,11 @@ Fills status seed count key m seen may_leave KeepsTo before after =
     StopsApplying status version_limits key m (script_lines seed count) seen may_leave KeepsTo
 
 -- The next 192 bytes of the random source were drawn, and made a store as `make` does; from the moment where it stood the lines of
--- the script were applied, as one session over its journal, with the bytes behind these. No stop since then takes back what was published.
+-- the script were applied, as one session over its journal, with the bytes behind these. No stop since then takes back what was published
+-- when it comes, or at an earlier one of these moments.
 pub record Generates (status : Status) (seed count : ℕ) (left_before left_after shown : Option (List ℕ)) (may_leave : List ℕ → Type 0)
-    (since : ℕ → List ℕ → List ℕ → Type 0) (written_before written_after : Option (List ℕ)) : Type 0 where
+    (since : ℕ → List ℕ → List ℕ → Type 0) (from_moment_on : ℕ → (List ℕ → List ℕ → Type 0) → Type 0)
+    (written_before written_after : Option (List ℕ)) : Type 0 where
   pub drawn : List ℕ
   pub drawn_length : length drawn ≡ fresh_draw_len
   pub behind : Option (List ℕ)
@@ -116,7 +118,7 @@ pub record Generates (status : Status) (seed count : ℕ) (left_before left_afte
   pub moment : ℕ
   pub fills : Fills status seed count (piece drawn 0) (made_with (root_keys drawn)) (unheard behind left_after shown) may_leave
       (LinesKeepUpTo (piece drawn 0) (made_with (root_keys drawn)) (since moment)) written_before written_after
-  pub published : LinesPublish status (piece drawn 0) (made_with (root_keys drawn)) (since moment) may_leave
+  pub published : LinesPublish (piece drawn 0) (made_with (root_keys drawn)) (since moment) (from_moment_on moment)
 
 -- no store was made: for want of memory, before anything was drawn; or the random source failed or ended in the draw for it, and
 -- nothing was written; or the disk failed behind that draw

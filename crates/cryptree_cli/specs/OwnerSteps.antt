@@ -8,7 +8,6 @@ use Rattle.cry_base.specs.declared.commands.Reply.TheVariants.{Refused}
 use Rattle.public_fold.specs.Journal.{Journal}
 use Rattle.store_owner.specs.Applying.{Answers}
 use Rattle.store_owner.specs.Owned.{IsOwnerOf, OwnerView}
-use Rattle.store_owner.specs.Published.{PublishesOn}
 use Rattle.store_owner.specs.Tallied.{CountsCommand}
 use Rattle.store_owner.specs.Taking.{FallsShort, TakesKeys}
 use Rattle.store_owner.specs.declared.apply_fault.ApplyFault.{ApplyFault}
@@ -24,14 +23,12 @@ pub record Scene : Type 0 where
   pub disk_faults : ℕ
 
 -- a command that is answered: as the journal says for which the owner stands, with what a stop might leave before, at each moment since,
--- and after; no stop takes back what is published; it takes whole keys, and a refused one draws and writes nothing; and one that is
--- accepted is counted
+-- and after; it takes whole keys, and a refused one draws and writes nothing; and one that is accepted is counted
 pub record AnswersIn (before : Scene) (request : Request) (reply : Reply) (after : Scene) (might may : List ℕ → Type 0)
     (past since : ℕ → List ℕ → List ℕ → Type 0) : Type 0 where
   pub answers : (m : Journal) → IsOwnerOf m before.owner
       → Answers (Ok reply) m request before.owner after.owner before.left after.left before.shown after.shown
       might may (since before.moment)
-  pub published : PublishesOn (Ok reply) before.owner before.shown might may (since before.moment)
   pub later : before.moment ≤ after.moment
   pub time : GoesOn before.moment past since
   pub left_told : is_some after.left ≡ is_some before.left
@@ -49,7 +46,6 @@ pub record FailsIn (before : Scene) (request : Request) (fault : ApplyFault) (af
   pub answers : (m : Journal) → IsOwnerOf m before.owner
       → Answers (Err fault) m request before.owner after.owner before.left after.left before.shown after.shown
       might may (since before.moment)
-  pub published : PublishesOn (Err fault) before.owner before.shown might may (since before.moment)
   pub later : before.moment ≤ after.moment
   pub time : GoesOn before.moment past since
   pub left_told : is_some after.left ≡ is_some before.left

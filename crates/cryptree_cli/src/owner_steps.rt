@@ -7,8 +7,10 @@ use store_owner::{ApplyFault, Owner};
 
 impl<R: Source, D: Disk> Applies<R, D> for Owner {
     ghost use Rattle.std.specs.Prelude.{◌≡◌, ◌≢◌, ◌≤◌, false};
+    ghost use Rattle.batch_log.specs.Moments.{FromThenOn};
     ghost use Rattle.cry_io.specs.Stops.{IsDurable};
     ghost use Rattle.cryptree_cli.specs.OwnerSteps.{AnswersIn, FailsIn};
+    ghost use Rattle.store_owner.specs.Published.{PublishesOn};
     ghost use Rattle.store_owner.specs.declared.apply_fault.ApplyFault.TheVariants as faults;
 
     ghost ready = { λ at. (at.0.journal.is_closed ≡ false) × (at.0.journal.end ≤ D.size_of at.2)
@@ -33,7 +35,8 @@ impl<R: Source, D: Disk> Applies<R, D> for Owner {
               after.1;
           disk_faults = D.faults after.2;
         })
-        (D.may_leave before.2) (D.may_leave after.2) (D.since before.2) (D.since after.2) };
+        (D.may_leave before.2) (D.may_leave after.2) (D.since before.2) (D.since after.2)
+        × PublishesOn before.0 (D.shown before.2) (D.may_leave before.2) (FromThenOn D.moment D.since before.2 after.2) };
 
     ghost fails = { λ before request fault after. FailsIn
         (record {
@@ -55,7 +58,8 @@ impl<R: Source, D: Disk> Applies<R, D> for Owner {
           disk_faults = D.faults after.2;
         })
         (D.may_leave before.2) (D.may_leave after.2) (D.since before.2) (D.since after.2)
-        × (fault ≢ faults.DiskFault → IsDurable (D.may_leave after.2) (D.shown after.2)) };
+        × (fault ≢ faults.DiskFault → IsDurable (D.may_leave after.2) (D.shown after.2))
+        × PublishesOn before.0 (D.shown before.2) (D.may_leave before.2) (FromThenOn D.moment D.since before.2 after.2) };
 
     fn apply(
         &mut self,

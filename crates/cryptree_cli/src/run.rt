@@ -2,6 +2,7 @@
 //! read, in this order.
 ghost use Rattle.std.specs.Prelude.{◌≡◌, ◌≢◌, ◌⊎◌, ◌+◌, ◌<◌, ◌≤◌, ℕ, [], List, Err, IfErr, OnOk, None, Option, Some, false, is_some};
 ghost use Rattle.std.specs.Prelude.{length, IsTrue};
+ghost use Rattle.batch_log.specs.Moments.{FromThenOn};
 ghost use Rattle.commit_journal.specs.Holding.{GoesOn};
 ghost use Rattle.cry_io.specs.Stops.{IsDurable};
 ghost use Rattle.cry_io.specs.Told.{WhereTold, WhereBothTold};
@@ -52,8 +53,8 @@ pub(crate) fn run<S: Source, R: Source, D: Disk, W: Sink>(
     ensures ran { WhereTold (S.left input.old) (λ typed. EndsTyped result typed
         (seen_from (R.left random.old) (R.left random.new) (D.shown disk.old) (D.shown disk.new) (W.written out.old) (W.written out.new))
         (D.may_leave disk.old) (D.since disk.new (D.moment disk.old)) (D.may_leave disk.new)) }
-    ensures published { WhereTold (S.left input.old) (λ typed. PublishesTyped result typed (D.shown disk.old) (D.may_leave disk.old)
-        (D.since disk.new (D.moment disk.old)) (D.may_leave disk.new)) }
+    ensures published { WhereTold (S.left input.old) (λ typed. PublishesTyped typed (D.shown disk.old) (D.may_leave disk.old)
+        (FromThenOn D.moment D.since disk.old disk.new)) }
     ensures later { D.moment disk.old ≤ D.moment disk.new }
     ensures time { GoesOn (D.moment disk.old) (D.since disk.old) (D.since disk.new) }
     ensures lines { RanLines result lines_typed (S.left input.old) (W.written out.old) (W.written out.new) }
@@ -142,7 +143,7 @@ fn apply_lines<S: Source, R: Source, D: Disk, W: Sink>(
         (seen_from (R.left random.old) (R.left random.new) was (D.shown disk.new) (W.written out.old) (W.written out.new))
         (D.may_leave disk.new) (LinesKeepUpTo key m (D.since disk.new (D.moment disk.old)))) }
     ensures published { (key : List ℕ) (m : Journal) → StandsAt version_limits key (opened m []) owner (D.shown disk.old)
-        → LinesPublish result key m (D.since disk.new (D.moment disk.old)) (D.may_leave disk.new) }
+        → LinesPublish key m (D.since disk.new (D.moment disk.old)) (FromThenOn D.moment D.since disk.old disk.new) }
     ensures later { D.moment disk.old ≤ D.moment disk.new }
     ensures time { GoesOn (D.moment disk.old) (D.since disk.old) (D.since disk.new) }
     ensures lines { RanLines result (lines_ahead reader) (S.left input.old) (W.written out.old) (W.written out.new) }

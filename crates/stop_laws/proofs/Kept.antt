@@ -1,5 +1,7 @@
 -- What runs and stops leave of what was published.
 use Rattle.std.proofs.Common.{◌≡◌, ◌≤◌, ℕ, List, Option, Some, sym, subst, ◌∙◌}
+use Rattle.batch_log.specs.Moments.{FromThenOn}
+use Rattle.batch_log.proofs.InOrder.{on_ends, on_maps, on_throughout}
 use Rattle.commit_journal.specs.Holding.{IsBetween, IsPrefix}
 use Rattle.commit_journal.proofs.KeptLemmas.{prefix_same, prefix_trans}
 use Rattle.cry_io.specs.Stops.{IsDurable}
@@ -7,7 +9,7 @@ use Rattle.journal_bytes.specs.Bytes.{batches_of}
 use Rattle.journal_bytes.specs.Journals.{HoldsBetween, ShowsJournal, StandsForJournal}
 use Rattle.journal_bytes.proofs.Grown.{batches_grow, journal_recovered}
 use Rattle.public_fold.specs.Journal.{Journal}
-use Rattle.store_owner.specs.Published.{HasPublished, KeepsAllPublished, StaysPublished, published_batches}
+use Rattle.store_owner.specs.Published.{HasPublished, StaysPublished, published_batches}
 use Rattle.store_owner.proofs.PublishedCommands.{published_front}
 use Rattle.stop_laws.specs.Runs.{IsLeft, RunOver, Runs}
 use Rattle.stop_laws.specs.Runs.Runs.{Begun, Ran, StopsBehind, StopsIn}
@@ -27,38 +29,56 @@ module _ (D : Type 0) (shown : D → Option (List ℕ)) (may_leave : D → List 
   abbrev Run : D → D → Type 0
   Run before after = RunOver shown may_leave moment since key before after
 
+  abbrev On : D → D → (List ℕ → List ℕ → Type 0) → Type 0
+  On before after = FromThenOn moment since before after
+
   -- one run
   run_keeps : (before after : D) (l h : Journal) → HoldsBetween key l h (shown before) (may_leave before) → StaysPublished key (shown before) (may_leave before)
-      → (run : Run before after) → KeepsAllPublished key (since after (moment before))
+      → (run : Run before after) → On before after (HasPublished key)
   run_keeps before after l h held stays run =
       let at = held.shows.2 in
       let shows : ShowsJournal key at.held (shown before) = (held.shows.0, held.shows.1, at.stands_for) in
-      (run.published key at.held run.hands_in shows stays).kept
+      run.published key at.held run.hands_in shows stays
 
   module _ (start : D) (m1 m2 : Journal) (holds : HoldsBetween key m1 m2 (shown start) (may_leave start)) (stays : StaysPublished key (shown start) (may_leave start)) where
     pub all_stay : (now : D) → Came start now → StaysPublished key (shown now) (may_leave now)
     all_stay now Begun = stays
     all_stay now (Ran {before = before} {after = after} runs run) = λ s is c left.
         let so_far = all_left D shown may_leave moment since counted key start m1 m2 holds before runs in
-        run_keeps before now so_far.0 so_far.1 so_far.3 (all_stay before runs) run s c (counted now (moment before) s c run.later is left)
+        on_throughout D moment since (HasPublished key) before now (run_keeps before now so_far.0 so_far.1 so_far.3 (all_stay before runs) run) s c
+        (counted now (moment before) s c run.later is left)
     all_stay now (StopsBehind {before = before} {after = after} {bytes = bytes} runs left is) = calm_stays key (shown now) (may_leave now) is.1
     all_stay now (StopsIn {before = before} {after = after} {next = next} {there = there} {bytes = bytes} runs run at is) = calm_stays key (shown now) (may_leave now) is.1
 
-    pub all_keep : (before after : D) → Came start before → Run before after → KeepsAllPublished key (since after (moment before))
+    pub all_keep : (before after : D) → Came start before → Run before after → On before after (HasPublished key)
     all_keep before after runs run =
         let so_far = all_left D shown may_leave moment since counted key start m1 m2 holds before runs in
         run_keeps before after so_far.0 so_far.1 so_far.3 (all_stay before runs) run
 
+    -- behind the run
+    pub ends_keep : ((d : D) (s c : List ℕ) → since d (moment d) s c → (shown d ≡ Some s) × may_leave d c) → (before after : D) → Came start before → Run before after
+        → (s c bytes : List ℕ) → since after (moment before) s c → may_leave after bytes → HasPublished key s bytes
+    ends_keep present before after runs run s c bytes at left =
+        let behind = all_left D shown may_leave moment since counted key start m1 m2 holds after (Ran runs run) in
+        on_ends D moment since (HasPublished key) before after (all_keep before after runs run) (shown after) (may_leave after) (λ x y is. present after x y is)
+        (λ t x y early is leaves. counted after t x y early is leaves) s c behind.3.shows.0 bytes at behind.3.shows.1 left
+
     -- behind a stop, and whatever comes then
-    pub later_keep : (before after next last : D) → Came start before → Run before after → (s c bytes : List ℕ) → since after (moment before) s c → IsLeft shown may_leave c next → Came next last
-        → may_leave last bytes → HasPublished key s bytes
-    later_keep before after next last runs run s c bytes at is more left =
+    pub later_keep : (before after next last : D) → Came start before → Run before after
+        → On before after (λ s c. (bytes : List ℕ) → IsLeft shown may_leave c next → Came next last → may_leave last bytes → HasPublished key s bytes)
+    later_keep before after next last runs run =
         let so_far = all_left D shown may_leave moment since counted key start m1 m2 holds before runs in
-        let k = (run_leaves D shown may_leave moment since counted key start before after so_far.0 so_far.1 so_far.3 run).kept s c at in
-        let here : IsBetween (StandsForJournal key) k.held k.held c = record { held = k.held; from = prefix_same k.held; to = prefix_same k.held; stands_for = k.stands_for } in
-        let then = all_left D shown may_leave moment since counted key next k.held k.held (left_between D shown may_leave moment since counted key start k.held k.held c next here is) last more in
+        on_maps D moment since (HasPublished key) (λ s c. (bytes : List ℕ) → IsLeft shown may_leave c next → Came next last → may_leave last bytes → HasPublished key s bytes)
+        (λ s c. Unit {0}) (λ s c. (held : Journal) × StandsForJournal key held c) before after
+        (λ s c t l one stands kept bytes is more left.
+        let held = stands.0 in
+        let here : IsBetween (StandsForJournal key) held held l = record { held = held; from = prefix_same held; to = prefix_same held; stands_for = stands.1 } in
+        let then = all_left D shown may_leave moment since counted key next held held (left_between D shown may_leave moment since counted key start held held l next here is) last more in
         let end = then.3.leaves bytes left in
-        let longer = batches_grow key k.held end.held (prefix_trans k.held then.0 end.held then.2 end.from) in
-        let of_c = subst (IsPrefix (published_batches key s)) (journal_recovered key k.held c k.stands_for) (all_keep before after runs run s c at) in
+        let longer = batches_grow key held end.held (prefix_trans held then.0 end.held then.2 end.from) in
+        let of_l = subst (IsPrefix (published_batches key s)) (journal_recovered key held l stands.1) kept in
         subst (IsPrefix (published_batches key s)) (sym (journal_recovered key end.held bytes end.stands_for))
-        (prefix_trans (published_batches key s) (batches_of key k.held) (batches_of key end.held) of_c longer)
+        (prefix_trans (published_batches key s) (batches_of key held) (batches_of key end.held) of_l longer))
+        (all_keep before after runs run)
+        (λ s c at. tt)
+        (λ s c at. let k = (run_leaves D shown may_leave moment since counted key start before after so_far.0 so_far.1 so_far.3 run).kept s c at in (k.held, k.stands_for))

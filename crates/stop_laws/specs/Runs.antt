@@ -5,6 +5,7 @@
 -- these, and nothing is pending. A command was acknowledged where its whole reply line was taken. A run that met a stop at a moment in it
 -- is told like one that met a fault of the disk then: the clause of its exit says what it had acknowledged.
 use Rattle.std.specs.Prelude.{◌≡◌, ◌≤◌, ◌⊎◌, ℕ, List, Option, Some}
+use Rattle.batch_log.specs.Moments.{FromThenOn}
 use Rattle.commit_journal.specs.Holding.{IsPrefix}
 use Rattle.cry_base.specs.Requests.{Request}
 use Rattle.cry_io.specs.Stops.{IsDurable}
@@ -31,7 +32,7 @@ pub record RunOver {D : Type 0} (shown : D → Option (List ℕ)) (may_leave : D
   pub later : moment before ≤ moment after
   pub ran : EndsTyped status typed (seen_from left_before left_after (shown before) (shown after) written_before written_after)
       (may_leave before) (since after (moment before)) (may_leave after)
-  pub published : PublishesTyped status typed (shown before) (may_leave before) (since after (moment before)) (may_leave after)
+  pub published : PublishesTyped typed (shown before) (may_leave before) (FromThenOn moment since before after)
 
 -- behind a stop a disk shows what was left, and nothing is pending
 abbrev pub IsLeft : {D : Type 0} → (D → Option (List ℕ)) → (D → List ℕ → Type 0) → List ℕ → D → Type 0

@@ -1,5 +1,6 @@
 //! Laws of runs of the program over one store, with stops in and between them.
 ghost use Rattle.std.specs.Prelude.{ℕ, List, ◌++◌};
+ghost use Rattle.batch_log.specs.Moments.{FromThenOn};
 ghost use Rattle.commit_journal.specs.Holding.{IsPrefix};
 ghost use Rattle.cry_base.specs.Requests.{Request};
 ghost use Rattle.cry_base.specs.declared.limits.Limits.{Limits};
@@ -8,7 +9,7 @@ ghost use Rattle.public_fold.specs.Journal.{Journal};
 ghost use Rattle.journal_bytes.specs.Journals.{HoldsBetween};
 ghost use Rattle.journal_bytes.specs.Script.{Going, script_going};
 ghost use Rattle.stop_laws.specs.Coming.{IsOfRuns};
-ghost use Rattle.store_owner.specs.Published.{HasPublished, KeepsAllPublished, StaysPublished};
+ghost use Rattle.store_owner.specs.Published.{HasPublished, StaysPublished};
 ghost use Rattle.stop_laws.specs.Runs.{HoldsAll, IsLeft, RunOver, Runs};
 
 use cry_io::Disk;
@@ -38,7 +39,8 @@ pub fn stops_leave_nothing_but_accepted_commands<D: Disk>(start: &D, now: &D)
 {}
 
 /// Law: over every list of runs and stops, a stop at any moment of a run, whatever that ended with, leaves all batches that were published
-/// then, where so it was at the start; and whatever further runs and stops leave behind it has them too.
+/// then or at an earlier moment of that run, where so it was at the start; and so does a stop behind the run. Whatever further runs and
+/// stops leave behind a stop in it has them too.
 pub fn nothing_published_is_taken_back<D: Disk>(
     start: &D,
     before: &D,
@@ -50,14 +52,20 @@ pub fn nothing_published_is_taken_back<D: Disk>(
         StaysPublished key (D.shown start.now) (D.may_leave start.now) →
         Runs D.shown D.may_leave D.moment D.since key start.now before.now →
         RunOver D.shown D.may_leave D.moment D.since key before.now after.now →
-        KeepsAllPublished key (D.since after.now (D.moment before.now)) }
+        FromThenOn D.moment D.since before.now after.now (HasPublished key) }
+    ensures ends { (key : List ℕ) (m1 m2 : Journal) → HoldsBetween key m1 m2 (D.shown start.now) (D.may_leave start.now) →
+        StaysPublished key (D.shown start.now) (D.may_leave start.now) →
+        Runs D.shown D.may_leave D.moment D.since key start.now before.now →
+        RunOver D.shown D.may_leave D.moment D.since key before.now after.now →
+        (shown left bytes : List ℕ) → D.since after.now (D.moment before.now) shown left → D.may_leave after.now bytes →
+        HasPublished key shown bytes }
     ensures later { (key : List ℕ) (m1 m2 : Journal) → HoldsBetween key m1 m2 (D.shown start.now) (D.may_leave start.now) →
         StaysPublished key (D.shown start.now) (D.may_leave start.now) →
         Runs D.shown D.may_leave D.moment D.since key start.now before.now →
         RunOver D.shown D.may_leave D.moment D.since key before.now after.now →
-        (shown left bytes : List ℕ) → D.since after.now (D.moment before.now) shown left → IsLeft D.shown D.may_leave left next.now →
+        FromThenOn D.moment D.since before.now after.now (λ shown left. (bytes : List ℕ) → IsLeft D.shown D.may_leave left next.now →
         Runs D.shown D.may_leave D.moment D.since key next.now last.now → D.may_leave last.now bytes →
-        HasPublished key shown bytes }
+        HasPublished key shown bytes) }
 {}
 
 /// Law: so it is with a disk on which nothing is pending; and over every list of runs and stops, behind them no stop takes back what is

@@ -261,11 +261,11 @@ pub stops_from : (r : Request) (drawn : List (List ℕ)) (old between : OwnerVie
 stops_from r drawn old between was shows might may since h c =
     stops_before r drawn old was shows might may since _ _ _ _ _ (subst (λ (o : OwnerView). StopsWithin r drawn o was shows might may since) (has_room old between h) c)
 
-published_before : (r : Request) (drawn : List (List ℕ)) (o : OwnerView) (was : Option (List ℕ)) (might : List ℕ → Type 0) (since : List ℕ → List ℕ → Type 0) (b c d e f : ℕ)
-    → PublishesWithin r drawn (with_room o b c d e f) was might since → PublishesWithin r drawn o was might since
-published_before r drawn o was might since b c d e f h = λ m is low bound fine rests. h m (owner_with o b c d e f m is) low bound fine rests
+published_before : (r : Request) (o : OwnerView) (was : Option (List ℕ)) (might : List ℕ → Type 0) (on : (List ℕ → List ℕ → Type 0) → Type 0) (b c d e f : ℕ)
+    → PublishesWithin r (with_room o b c d e f) was might on → PublishesWithin r o was might on
+published_before r o was might on b c d e f h = λ m is low bound fine rests. h m (owner_with o b c d e f m is) low bound fine rests
 
-pub published_from : (r : Request) (drawn : List (List ℕ)) (old between : OwnerView) (was : Option (List ℕ)) (might : List ℕ → Type 0) (since : List ℕ → List ℕ → Type 0) → HasOtherRoom old between
-    → PublishesWithin r drawn between was might since → PublishesWithin r drawn old was might since
-published_from r drawn old between was might since h c =
-    published_before r drawn old was might since _ _ _ _ _ (subst (λ (o : OwnerView). PublishesWithin r drawn o was might since) (has_room old between h) c)
+pub published_from : (r : Request) (old between : OwnerView) (was : Option (List ℕ)) (might : List ℕ → Type 0) (on : (List ℕ → List ℕ → Type 0) → Type 0) → HasOtherRoom old between
+    → PublishesWithin r between was might on → PublishesWithin r old was might on
+published_from r old between was might on h c =
+    published_before r old was might on _ _ _ _ _ (subst (λ (o : OwnerView). PublishesWithin r o was might on) (has_room old between h) c)

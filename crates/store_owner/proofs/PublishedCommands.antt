@@ -1,15 +1,19 @@
 -- What is published of a store at any moment of a command: no stop takes it back.
-use Rattle.std.proofs.Common.{◌≡◌, ◌≢◌, ◌≤◌, ⊎_elim, ◌⊎◌, inl, ℕ, Bool, true, false, cond, List, [], ◌∷◌, ◌++◌, Option, Some, None, Result, Ok, Err, All, refl, sym, ap, subst, ◌∙◌}
-use Rattle.std.specs.Prelude.{bytes_eq, IfErr, OnOk}
+use Rattle.std.proofs.Common.{◌≡◌, ◌≤◌, ⊎_elim, ◌⊎◌, inl, inr, ℕ, Bool, true, false, cond, List, [], ◌∷◌, ◌++◌, Option, Some, None, All, refl, sym, ap, subst, ◌∙◌}
+use Rattle.std.specs.Prelude.{bytes_eq}
 use Rattle.std.proofs.lemmas.Bool.{false≢true}
 use Rattle.std.proofs.lemmas.List.Elements.{All-cons, All-head, All-nil, All-tail}
 use Rattle.std.proofs.lemmas.Slice.Eq.{bytes_eq-Decides}
+use Rattle.batch_log.specs.Moments.{FromThenOn}
+use Rattle.batch_log.specs.Moments.InSteps.{Begins}
+use Rattle.batch_log.proofs.InOrder.{on_ends, on_in_both, on_maps, on_throughout}
 use Rattle.commit_journal.specs.Gates.{recovered}
 use Rattle.commit_journal.specs.Holding as holding
 use Rattle.commit_journal.specs.Holding.{GoesOn, IsPrefix}
 use Rattle.commit_journal.specs.Image.{Batch, empty_slot}
 use Rattle.commit_journal.specs.Journals.{IsJournalOf, JournalState, next_command}
-use Rattle.commit_journal.specs.Moments.{OpensThroughout}
+use Rattle.commit_journal.specs.Moments.{OpensInOrder, OpensThroughout}
+use Rattle.commit_journal.specs.Opening.{LeavesGated}
 use Rattle.commit_journal.specs.Publishing.{last_slot, without_last}
 use Rattle.commit_journal.specs.Standing.{HasSizes, StandsFor, StandsUnpublished, StandsWhole}
 use Rattle.commit_journal.specs.Stopping.{KeepsPublished, TakesNothingBack}
@@ -18,7 +22,6 @@ use Rattle.commit_journal.proofs.OpenedMoments.{still_gated}
 use Rattle.commit_journal.proofs.Standings.{last_slot_standing, recovered_standing, whole_stands}
 use Rattle.cry_base.specs.Limits.{most_file_bytes, most_store_bytes}
 use Rattle.cry_base.specs.Requests.{Request}
-use Rattle.cry_base.specs.declared.commands.Reply.{Reply}
 use Rattle.cry_io.specs.Stops.{IsDurable}
 use Rattle.cry_io.specs.Told.{WhereTold}
 use Rattle.record_format.specs.Spelling.{spell_payload}
@@ -32,12 +35,10 @@ use Rattle.journal_bytes.specs.Keys.{AreWhole}
 use Rattle.journal_bytes.specs.Script.{answer, journal_then}
 use Rattle.journal_bytes.proofs.Grown.{batches_fit, batches_grow, journal_recovered}
 use Rattle.journal_bytes.proofs.NextEntry.{between}
-use Rattle.store_owner.specs.Applying.{IsSealed, UnlessDiskFault}
+use Rattle.store_owner.specs.Applying.{IsSealed}
 use Rattle.store_owner.specs.Owned.{IsOwnerOf, OwnerView, limits_in}
-use Rattle.store_owner.specs.Published.{AddsPublished, EndsWithPublished, HasPublished, KeepsAllPublished, PublishesUpTo, StaysPublished, published_batches}
+use Rattle.store_owner.specs.Published.{AddsPublished, HasPublished, PublishesUpTo, StaysPublished, published_batches}
 use Rattle.store_owner.specs.Stopping.{RestsAt, epoch_due}
-use Rattle.store_owner.specs.declared.apply_fault.ApplyFault.{ApplyFault}
-use Rattle.store_owner.specs.declared.apply_fault.ApplyFault.TheVariants as faults
 use Rattle.store_owner.proofs.OpenedBehind.{within}
 use Rattle.store_owner.proofs.OwnerGoesOn.{batches_are, between_owner, between_stands}
 use Rattle.store_owner.proofs.StoppedCommands.{begun_batches, begun_valid, begun_whole, one_told, rests_begun, then_valid, then_whole}
@@ -98,18 +99,13 @@ stays_published key low high s c valid whole t =
       prefix_trans (published_batches key s) (recovered key s) (batches_of key high) (published_front key s) (subst (λ l. IsPrefix l (batches_of key high)) (sym of_s) t.shown_to),
     )
 
+-- what a stop leaves has the batches that were there at first
+low_left : (key : List ℕ) (low : List Batch) (high : Journal) (s c : List ℕ) → IsValid high → AreWhole key high
+    → TakesNothingBack (StandsFor key) (StandsUnpublished key) low (batches_of key high) s c → IsPrefix low (recovered key c)
+low_left key low high s c valid whole t =
+    subst (IsPrefix low) (sym (recovered_standing key t.left c t.left_stands (sized key high t.left valid whole t.left_to))) t.left_from
+
 -- ---- calls
-
--- up to a longer journal
-pub published_further : (key : List ℕ) (reached further : Journal) (since : List ℕ → List ℕ → Type 0) → IsPrefix reached further → PublishesUpTo key reached since → PublishesUpTo key further since
-published_further key reached further since longer up s c at =
-    let is = up s c at in (is.0, prefix_trans (published_batches key s) (batches_of key reached) (batches_of key further) is.1 (batches_grow key reached further longer))
-
--- two calls, one after the other
-pub published_then : (key : List ℕ) (middle high : Journal) (first start : ℕ) (past since : ℕ → List ℕ → List ℕ → Type 0) → first ≤ start → GoesOn start past since → IsPrefix middle high
-    → PublishesUpTo key middle (past first) → PublishesUpTo key high (since start) → PublishesUpTo key high (since first)
-published_then key middle high first start past since order goes longer before after s c at =
-    ⊎_elim (λ old. published_further key middle high (past first) longer before s c old) (λ new. after s c new) ((goes first s c order).0 at)
 
 -- bytes that stand for a journal
 pub journal_published : (key : List ℕ) (m : Journal) (s c : List ℕ) → StandsForJournal key m s → StandsForJournal key m c → HasPublished key s c × IsPrefix (published_batches key s) (batches_of key m)
@@ -125,19 +121,14 @@ rests_for key m shown may_leave rests c is =
     record { valid = whole.valid; whole_keys = whole.whole_keys; stands = subst (StandsFor key (batches_of key m)) same (whole_stands key (batches_of key m) rests.shows.0 whole.stands) }
 
 -- a call that did nothing
-pub still_published : (key : List ℕ) (m : Journal) (was : Option (List ℕ)) (might : List ℕ → Type 0) (since : List ℕ → List ℕ → Type 0)
-    → ((s c : List ℕ) → since s c → (was ≡ Some s) × might c) → RestsAt key m was might → PublishesUpTo key m since
-still_published key m was might since only rests s c at =
-    let is = only s c at in
-    journal_published key m s c (rests_for key m was might rests s is.0) (rests_for key m was might rests c (rests.durable c is.1))
-
-pub adds_none_published : (added : List Batch) (j : JournalState) (was : Option (List ℕ)) (might : List ℕ → Type 0) (since : List ℕ → List ℕ → Type 0)
-    → ((s c : List ℕ) → since s c → (was ≡ Some s) × might c) → AddsPublished added j was might since
-adds_none_published added j was might since only bs of durable shows s c at =
+still_batches : (added bs : List Batch) (j : JournalState) (was : Option (List ℕ)) (might : List ℕ → Type 0) (since : List ℕ → List ℕ → Type 0)
+    → ((s c : List ℕ) → since s c → (was ≡ Some s) × might c) → IsDurable might was → holding.Shows (StandsWhole j.owner) bs was
+    → (s c : List ℕ) → since s c → TakesNothingBack (StandsFor j.owner) (StandsUnpublished j.owner) bs (bs ++ added) s c
+still_batches added bs j was might since only durable shows s c at =
     let is = only s c at in
     let stands : (y : List ℕ) → was ≡ Some y → StandsFor j.owner bs y = λ y told.
     subst (StandsFor j.owner bs) (one_told was shows.0 y shows.1 told) (whole_stands j.owner bs shows.0 shows.2) in
-    (let none : TakesNothingBack (StandsFor j.owner) (StandsUnpublished j.owner) bs (bs ++ added) s c = record {
+    record {
       shown = bs;
       left = bs;
       shown_from = prefix_same bs;
@@ -147,81 +138,44 @@ adds_none_published added j was might since only bs of durable shows s c at =
       shown_stands = stands s is.0;
       left_stands = stands c (durable c is.1);
       begins = inl (prefix_same bs);
-    } in none)
+    }
 
 -- a commit that begins an epoch
-pub adds_epoch_published : (has : Bool) (b : Batch) (j : JournalState) (was : Option (List ℕ)) (might : List ℕ → Type 0) (since : List ℕ → List ℕ → Type 0) → has ≡ false
-    → KeepsPublished b j was might since → AddsPublished (cond has [] (b ∷ [])) j was might since
-adds_epoch_published true b j was might since none keeps = absurd (false≢true (sym none))
-adds_epoch_published false b j was might since none keeps = keeps
+pub adds_epoch_published : (has : Bool) (b : Batch) (j : JournalState) (was : Option (List ℕ)) (might : List ℕ → Type 0) (on : (List ℕ → List ℕ → Type 0) → Type 0) → has ≡ false
+    → KeepsPublished b j was might on → AddsPublished (cond has [] (b ∷ [])) j was might on
+adds_epoch_published true b j was might on none keeps = absurd (false≢true (sym none))
+adds_epoch_published false b j was might on none keeps = keeps
 
--- what is left behind a call that comes to rest
-pub ends_published : (key : List ℕ) (m : Journal) (shown : Option (List ℕ)) (may_leave : List ℕ → Type 0) (since : List ℕ → List ℕ → Type 0) → RestsAt key m shown may_leave
-    → PublishesUpTo key m since → EndsWithPublished key since may_leave
-ends_published key m shown may_leave since rests up s c e at left =
-    subst (IsPrefix (published_batches key s)) (sym (journal_recovered key m e (rests_for key m shown may_leave rests e (rests.durable e left)))) (up s c at).1
+module _ (D : Type 0) (moment : D → ℕ) (since : D → ℕ → List ℕ → List ℕ → Type 0) where
+  -- a weaker relation
+  weaker : (R Q : List ℕ → List ℕ → Type 0) (a e : D) → ((s c : List ℕ) → R s c → Q s c) → FromThenOn moment since a e R → FromThenOn moment since a e Q
+  weaker R Q a e less on = on_maps D moment since R Q (λ s c. Unit {0}) (λ s c. Unit {0}) a e (λ s c t l one two both. less s l both) on (λ s c at. tt) (λ s c at. tt)
 
-pub all_published : (key : List ℕ) (m : Journal) (since : List ℕ → List ℕ → Type 0) → PublishesUpTo key m since → KeepsAllPublished key since
-all_published key m since up s c at = (up s c at).0
+  pub adds_none_published : (added : List Batch) (j : JournalState) (was : Option (List ℕ)) (might : List ℕ → Type 0) (a : D)
+      → ((s c : List ℕ) → since a (moment a) s c → (was ≡ Some s) × might c) → AddsPublished added j was might (FromThenOn moment since a a)
+  adds_none_published added j was might a only bs of durable shows = Begins (still_batches added bs j was might (since a (moment a)) only durable shows)
 
--- and back: all that was published is the journal's at which it comes to rest
-pub rested_up : (key : List ℕ) (m : Journal) (shown : Option (List ℕ)) (may_leave : List ℕ → Type 0) (since : List ℕ → List ℕ → Type 0) → RestsAt key m shown may_leave
-    → ((s : List ℕ) → shown ≡ Some s → may_leave s) → KeepsAllPublished key since → EndsWithPublished key since may_leave → PublishesUpTo key m since
-rested_up key m shown may_leave since rests itself kept ends s c at =
-    let e = rests.shows.0 in (
-      kept s c at,
-      subst (IsPrefix (published_batches key s)) (journal_recovered key m e (rests_for key m shown may_leave rests e rests.shows.1)) (ends s c e at (itself e rests.shows.1)),
-    )
+  -- a disk at rest, while nothing is done
+  pub still_on : (key : List ℕ) (m : Journal) (was : Option (List ℕ)) (might : List ℕ → Type 0) (a : D) → ((s c : List ℕ) → since a (moment a) s c → (was ≡ Some s) × might c)
+      → RestsAt key m was might → FromThenOn moment since a a (HasPublished key)
+  still_on key m was might a only rests = Begins (λ s c at.
+      let is = only s c at in
+      (journal_published key m s c (rests_for key m was might rests s is.0) (rests_for key m was might rests c (rests.durable c is.1))).0)
+
+  -- all that was published is the journal's at which a call comes to rest
+  pub rested_within : (key : List ℕ) (m : Journal) (shown : Option (List ℕ)) (may_leave : List ℕ → Type 0) (a e : D) → RestsAt key m shown may_leave
+      → ((s : List ℕ) → shown ≡ Some s → may_leave s) → ((s c : List ℕ) → since e (moment e) s c → (shown ≡ Some s) × may_leave c)
+      → ((t : ℕ) (s c : List ℕ) → t ≤ moment e → shown ≡ Some s → may_leave c → since e t s c)
+      → FromThenOn moment since a e (HasPublished key) → (s c : List ℕ) → since e (moment a) s c → IsPrefix (published_batches key s) (batches_of key m)
+  rested_within key m shown may_leave a e rests itself only counted on s c at =
+      let l = rests.shows.0 in
+      subst (IsPrefix (published_batches key s)) (journal_recovered key m l (rests_for key m shown may_leave rests l rests.shows.1))
+      (on_ends D moment since (HasPublished key) a e on shown may_leave only counted s c l l at rests.shows.1 (itself l rests.shows.1))
 
 -- a disk at rest, now and while nothing is done
 pub rest_published : (key : List ℕ) (m : Journal) (shown : Option (List ℕ)) (may_leave : List ℕ → Type 0) → RestsAt key m shown may_leave → StaysPublished key shown may_leave
 rest_published key m shown may_leave rests s is c left =
     (journal_published key m s c (rests_for key m shown may_leave rests s is) (rests_for key m shown may_leave rests c (rests.durable c left))).0
-
-pub still_and_ends : (key : List ℕ) (m : Journal) (was : Option (List ℕ)) (might : List ℕ → Type 0) (since : List ℕ → List ℕ → Type 0)
-    → ((s c : List ℕ) → since s c → (was ≡ Some s) × might c) → RestsAt key m was might → KeepsAllPublished key since × EndsWithPublished key since might
-still_and_ends key m was might since only rests =
-    let up = still_published key m was might since only rests in
-    (all_published key m since up, ends_published key m was might since rests up)
-
--- what is said unless the disk failed
-pub unless_fault : (result : Result Reply ApplyFault) (P Q : Type 0) → IfErr result (λ fault. fault ≡ faults.DiskFault) → OnOk result P → (P → Q) → UnlessDiskFault result Q
-unless_fault (Ok reply) P Q fault done then = then done
-unless_fault (Err other) P Q fault done then = subst (λ f. UnlessDiskFault (Err f) Q) (sym fault) tt
-
-pub unless_always : (result : Result Reply ApplyFault) (P : Type 0) → P → UnlessDiskFault result P
-unless_always (Ok reply) P always = always
-unless_always (Err faults.RandomFault) P always = always
-unless_always (Err (faults.RandomShort left need)) P always = always
-unless_always (Err faults.DiskFault) P always = tt
-unless_always (Err faults.Closed) P always = always
-unless_always (Err faults.OutOfMemory) P always = always
-
-pub unless_other : (fault : ApplyFault) (P : Type 0) → fault ≢ faults.DiskFault → UnlessDiskFault (Err fault) P → P
-unless_other faults.RandomFault P other said = said
-unless_other (faults.RandomShort left need) P other said = said
-unless_other faults.DiskFault P other said = absurd (other refl)
-unless_other faults.Closed P other said = said
-unless_other faults.OutOfMemory P other said = said
-
--- a command that was carried out, or met a fault of the disk
-pub command_published : (result : Result Reply ApplyFault) (Done : Type 0) (key : List ℕ) (m : Journal) (shows : Option (List ℕ)) (may : List ℕ → Type 0) (since : List ℕ → List ℕ → Type 0)
-    → IfErr result (λ fault. fault ≡ faults.DiskFault) → OnOk result Done → (Done → RestsAt key m shows may) → PublishesUpTo key m since
-    → KeepsAllPublished key since × UnlessDiskFault result (EndsWithPublished key since may)
-command_published result Done key m shows may since fault done rests up = (
-  all_published key m since up,
-  unless_fault result Done (EndsWithPublished key since may) fault done (λ is. ends_published key m shows may since (rests is) up),
-)
-
--- the batches that a call adds to a journal's
-pub step_published : (key : List ℕ) (low high : Journal) (added : List Batch) (j : JournalState) (was : Option (List ℕ)) (might : List ℕ → Type 0) (since : List ℕ → List ℕ → Type 0)
-    → batches_of key high ≡ batches_of key low ++ added → IsValid high → AreWhole key high → j.owner ≡ key → IsJournalOf (batches_of key low) j
-    → AddsPublished added j was might since → RestsAt key low was might → PublishesUpTo key high since
-step_published key low high added j was might since more valid whole owner of adds rests s c at =
-    let bs = batches_of key low in
-    let shown : holding.Shows (StandsWhole j.owner) bs was = (rests.shows.0, rests.shows.1, subst (λ k. StandsWhole k bs rests.shows.0) (sym owner) rests.shows.2.stands) in
-    let here = subst (λ k. TakesNothingBack (StandsFor k) (StandsUnpublished k) bs (bs ++ added) s c) owner (adds bs of rests.durable shown s c at) in
-    stays_published key bs high s c valid whole (subst (λ l. TakesNothingBack (StandsFor key) (StandsUnpublished key) bs l s c) (sym more) here)
 
 -- ---- a command
 
@@ -236,38 +190,85 @@ module _ (m : Journal) (r : Request) (drawn : List (List ℕ)) (old : OwnerView)
   to_then : IsPrefix begun then
   to_then = (Did r drawn ∷ [], refl)
 
-  epoch_published : (since : List ℕ → List ℕ → Type 0) → AddsPublished (epoch_due old.journal) old.journal was might since → PublishesUpTo old.key begun since
-  epoch_published since adds =
-      step_published old.key m begun (epoch_due old.journal) old.journal was might since (begun_batches old.key m old.journal.has_epoch old.journal is.stands)
-      (begun_valid m r drawn old was might is low bound fine) (begun_whole m r drawn old was might is low bound fine) is.same_key is.stands adds rests
+  module _ (D : Type 0) (moment : D → ℕ) (since : D → ℕ → List ℕ → List ℕ → Type 0) where
+    abbrev On : D → D → (List ℕ → List ℕ → Type 0) → Type 0
+    On a e = FromThenOn moment since a e
 
-  pub early_published : (since : List ℕ → List ℕ → Type 0) → AddsPublished (epoch_due old.journal) old.journal was might since → PublishesUpTo old.key then since
-  early_published since adds = published_further old.key begun then since to_then (epoch_published since adds)
+    -- the batches that a call adds to a journal's
+    step_on : (key : List ℕ) (low high : Journal) (added : List Batch) (j : JournalState) (shows : Option (List ℕ)) (could : List ℕ → Type 0) (a e : D)
+        → batches_of key high ≡ batches_of key low ++ added → j.owner ≡ key → IsJournalOf (batches_of key low) j
+        → AddsPublished added j shows could (On a e) → RestsAt key low shows could
+        → On a e (TakesNothingBack (StandsFor key) (StandsUnpublished key) (batches_of key low) (batches_of key high))
+    step_on key low high added j shows could a e more owner of adds rest =
+        let bs = batches_of key low in
+        let shown : holding.Shows (StandsWhole j.owner) bs shows = (rest.shows.0, rest.shows.1, subst (λ k. StandsWhole k bs rest.shows.0) (sym owner) rest.shows.2.stands) in
+        subst (λ l. On a e (TakesNothingBack (StandsFor key) (StandsUnpublished key) bs l)) (sym more)
+        (subst (λ k. On a e (TakesNothingBack (StandsFor k) (StandsUnpublished k) bs (bs ++ added))) owner (adds bs of rest.durable shown))
 
-  pub late_published : (s : IsSealed r drawn old was) (midst : List ℕ → Type 0) → (IsDurable might was → IsDurable midst s.showed)
-      → (start first : ℕ) (past since : ℕ → List ℕ → List ℕ → Type 0) → first ≤ start → GoesOn start past since
-      → AddsPublished (epoch_due old.journal) old.journal was might (past first)
-      → KeepsPublished (next_command s.between (spell_payload s.payload)) s.between s.showed midst (since start) → PublishesUpTo old.key then (since first)
-  late_published s midst calm start first past since order goes begins adds =
-      published_then old.key begun then first start past since order goes to_then (epoch_published (past first) begins)
-      (step_published old.key begun then (next_command s.between (spell_payload s.payload) ∷ []) s.between s.showed midst (since start) (batches_are m r drawn old was is low bound fine s)
-      (then_valid m r drawn old was might is low bound fine s midst calm) (then_whole m r drawn old was might is low bound fine s midst calm)
-      (between_owner m r drawn old was is low bound fine s) (between_stands m r drawn old was is low bound fine s) adds
-      (rests_begun m r drawn old was might is low bound fine s midst calm rests))
+    step_published : (key : List ℕ) (low high : Journal) (a e : D) → IsValid high → AreWhole key high
+        → On a e (TakesNothingBack (StandsFor key) (StandsUnpublished key) (batches_of key low) (batches_of key high)) → On a e (HasPublished key)
+    step_published key low high a e valid whole on =
+        weaker D moment since (TakesNothingBack (StandsFor key) (StandsUnpublished key) (batches_of key low) (batches_of key high)) (HasPublished key) a e
+        (λ s c t. (stays_published key (batches_of key low) high s c valid whole t).0) on
+
+    epoch_on : (a b : D) → AddsPublished (epoch_due old.journal) old.journal was might (On a b)
+        → On a b (TakesNothingBack (StandsFor old.key) (StandsUnpublished old.key) (batches_of old.key m) (batches_of old.key begun))
+    epoch_on a b adds =
+        step_on old.key m begun (epoch_due old.journal) old.journal was might a b (begun_batches old.key m old.journal.has_epoch old.journal is.stands) is.same_key is.stands adds rests
+
+    pub early_published : (a b : D) → AddsPublished (epoch_due old.journal) old.journal was might (On a b) → On a b (HasPublished old.key)
+    early_published a b adds =
+        step_published old.key m begun a b (begun_valid m r drawn old was might is low bound fine) (begun_whole m r drawn old was might is low bound fine) (epoch_on a b adds)
+
+    pub late_published : (s : IsSealed r drawn old was) (midst : List ℕ → Type 0) → (IsDurable might was → IsDurable midst s.showed)
+        → (a b e : D) → ((d : D) → GoesOn (moment d) (since d) (since d)) → AddsPublished (epoch_due old.journal) old.journal was might (On a b)
+        → KeepsPublished (next_command s.between (spell_payload s.payload)) s.between s.showed midst (On b e) → On a e (HasPublished old.key)
+    late_published s midst calm a b e still begins adds =
+        let key = old.key in
+        let one = epoch_on a b begins in
+        let two = step_on key begun then (next_command s.between (spell_payload s.payload) ∷ []) s.between s.showed midst b e (batches_are m r drawn old was is low bound fine s)
+        (between_owner m r drawn old was is low bound fine s) (between_stands m r drawn old was is low bound fine s) adds
+        (rests_begun m r drawn old was might is low bound fine s midst calm rests) in
+        let begun_fits = begun_valid m r drawn old was might is low bound fine in
+        let begun_keys = begun_whole m r drawn old was might is low bound fine in
+        let then_fits = then_valid m r drawn old was might is low bound fine s midst calm in
+        let then_keys = then_whole m r drawn old was might is low bound fine s midst calm in
+        on_in_both D moment since (HasPublished key) a b e still
+        (step_published key m begun a b begun_fits begun_keys one)
+        (step_published key begun then b e then_fits then_keys two)
+        (λ x c t l at later.
+        prefix_trans (published_batches key x) (batches_of key begun) (recovered key l)
+        (stays_published key (batches_of key m) begun x c begun_fits begun_keys
+        (on_throughout D moment since (TakesNothingBack (StandsFor key) (StandsUnpublished key) (batches_of key m) (batches_of key begun)) a b one x c at)).1
+        (low_left key (batches_of key begun) then t l then_fits then_keys
+        (on_throughout D moment since (TakesNothingBack (StandsFor key) (StandsUnpublished key) (batches_of key begun) (batches_of key then)) b e two t l later)))
 
 -- ---- opening
 
-pub opening_published : (limit : ℕ) (key : List ℕ) (was : Option (List ℕ)) (left : List ℕ → Type 0) (since : List ℕ → List ℕ → Type 0) → limit ≤ most_store_bytes
-    → OpensThroughout limit key was left since → (m : Journal) → StaysPublished key was left
-    → WhereTold was (λ x. StandsForJournal key m x → end_of m ≤ limit → PublishesUpTo key m since)
+pub opening_published : (D : Type 0) (moment : D → ℕ) (since : D → ℕ → List ℕ → List ℕ → Type 0) (a e : D) (limit : ℕ) (key : List ℕ) (was : Option (List ℕ)) (left : List ℕ → Type 0) → limit ≤ most_store_bytes
+    → OpensThroughout limit key was left (since e (moment a)) → OpensInOrder limit key was (FromThenOn moment since a e) → (m : Journal) → StaysPublished key was left
+    → WhereTold was (λ x. StandsForJournal key m x → end_of m ≤ limit → PublishesUpTo key m (since e (moment a)) (FromThenOn moment since a e))
 unfolding batches_of
-opening_published limit key was left since known stops m stays x told shown fits s c at =
-    ⊎_elim
-    (λ old. subst (λ y. HasPublished key y c × IsPrefix (published_batches key y) (batches_of key m)) (sym old.0)
-    (stays x told c old.1, (journal_published key m x x shown shown).1))
-    (λ gated.
-    let after : (y : List ℕ) → StandsFor key (batches_of key m) y → StandsForJournal key m y = λ y is. record { valid = shown.valid; whole_keys = shown.whole_keys; stands = is } in
-    journal_published key m s c
-    (after s (still_gated limit key x s known gated.0 (bodies_of key m) (within limit key m x shown fits)))
-    (after c (still_gated limit key x c known gated.1 (bodies_of key m) (within limit key m x shown fits))))
-    (stops x told s c at)
+opening_published D moment since a e limit key was left known stops ordered m stays x told shown fits =
+    let after : (y : List ℕ) → LeavesGated limit key x y → StandsForJournal key m y = λ y gated. record {
+      valid = shown.valid;
+      whole_keys = shown.whole_keys;
+      stands = still_gated limit key x y known gated (bodies_of key m) (within limit key m x shown fits);
+    } in
+    let shows : (s c : List ℕ) → since e (moment a) s c → StandsForJournal key m s = λ s c at.
+    ⊎_elim (λ old. subst (StandsForJournal key m) (sym old.0) shown) (λ gated. after s gated.0) (stops x told s c at) in
+    record {
+      kept = on_maps D moment since (λ s c. (s ≡ x) ⊎ LeavesGated limit key x c) (HasPublished key) (λ s c. StandsForJournal key m s) (λ s c. left c ⊎ StandsForJournal key m c) a e
+          (λ s c t l one two both.
+          ⊎_elim
+          (λ same. ⊎_elim
+          (λ old. subst (λ y. HasPublished key y l) (sym same) (stays x told l old))
+          (λ new. (journal_published key m s l one new).0)
+          two)
+          (λ gated. (journal_published key m s l one (after l gated)).0)
+          both)
+          (ordered x told)
+          shows
+          (λ s c at. ⊎_elim (λ old. inl old.1) (λ gated. inr (after c gated.1)) (stops x told s c at));
+      within = λ s c at. let is = shows s c at in (journal_published key m s s is is).1;
+    }

@@ -4,6 +4,7 @@ ghost use Rattle.cry_base.specs.Limits.{most_file_bytes, most_store_bytes};
 ghost use Rattle.cry_base.specs.declared.roles.Role.TheVariants.{Owner as OwnerRole};
 ghost use Rattle.cry_io.specs.Stops.{IsDurable};
 ghost use Rattle.cry_io.specs.Told.{WhereTold, WhereBothTold};
+ghost use Rattle.batch_log.specs.Moments.{FromThenOn};
 ghost use Rattle.commit_journal.specs.Holding.{GoesOn};
 ghost use Rattle.commit_journal.specs.Logs.{AreInEpochs, epoch_behind};
 ghost use Rattle.commit_journal.specs.Opening.{IsOpened, LeavesGated, opening_verdict};
@@ -125,7 +126,8 @@ impl Owner {
     /// still, and after none is anything else written than slots of batches that passed their tests.
     ///
     /// A stop at any moment of the call leaves a journal between two, where the disk held between these at its start and showed one
-    /// whose log ends within the store limit. It takes back no batch that was published then, where so it was at the start.
+    /// whose log ends within the store limit. It takes back no batch that was published then or at an
+    /// earlier moment of the call, where so it was at the start.
     pub fn open_store<D: Disk>(
         alloc: Global,
         disk: &mut D,
@@ -165,7 +167,7 @@ impl Owner {
             Kept key m1 m2 m2 (D.since disk.new (D.moment disk.old)) }
         ensures published { (m : AnyJournal) → StaysPublished key (D.shown disk.old) (D.may_leave disk.old) →
             WhereTold (D.shown disk.old) (λ s. StandsForJournal key m s → end_of m ≤ limits.store_bytes →
-            PublishesUpTo key m (D.since disk.new (D.moment disk.old))) }
+            PublishesUpTo key m (D.since disk.new (D.moment disk.old)) (FromThenOn D.moment D.since disk.old disk.new)) }
         ensures counts { D.faults disk.old ≤ D.faults disk.new }
         ensures disk_fault { result ≡ Err OpenFault.DiskFault → D.faults disk.old < D.faults disk.new }
     {

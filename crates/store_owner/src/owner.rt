@@ -1,6 +1,7 @@
 //! The owner of a store, and what the owner's commands do to it.
 ghost use Rattle.std.specs.Prelude.{◌≡◌, ◌<◌, ◌≤◌, ◌+◌, ◌↔◌, ℕ, [], ◌∷◌, None, Some, Err, IfErr, IfOk, IsTrue, OnErr, OnOk, false, is_some};
 ghost use Rattle.std.specs.Prelude.{length};
+ghost use Rattle.batch_log.specs.Moments.{FromThenOn};
 ghost use Rattle.commit_journal.specs.Holding.{GoesOn};
 ghost use Rattle.commit_journal.specs.Journals.{IsBehind, Joins, next_command, MayJoin, next_epoch};
 ghost use Rattle.commit_journal.specs.Stopping.{KeepsPublished};
@@ -191,7 +192,7 @@ impl Owner {
     ///
     /// Of a disk that rests at the owner's journal, a stop at any moment of the call leaves bytes that stand for this journal, for it with
     /// the session begun, or for it with the command too. After any answer but `DiskFault` the disk rests again: with the command where
-    /// it was done, and else as before. No stop takes back a batch that was published when it came.
+    /// it was done, and else as before. No stop takes back a batch that was published when it came, or at an earlier moment of the call.
     pub fn apply<D: Disk, R: Source>(
         &mut self,
         alloc: Global,
@@ -203,8 +204,8 @@ impl Owner {
         ensures answers { (m : AnyJournal) → IsOwnerOf m self.old → Answers result m (request_of command.now) self.old self.new
             (R.left random.old) (R.left random.new) (D.shown disk.old) (D.shown disk.new)
             (D.may_leave disk.old) (D.may_leave disk.new) (D.since disk.new (D.moment disk.old)) }
-        ensures published { PublishesOn result self.old (D.shown disk.old) (D.may_leave disk.old) (D.may_leave disk.new)
-            (D.since disk.new (D.moment disk.old)) }
+        ensures published { PublishesOn self.old (D.shown disk.old) (D.may_leave disk.old)
+            (FromThenOn D.moment D.since disk.old disk.new) }
         ensures later { D.moment disk.old ≤ D.moment disk.new }
         ensures time { GoesOn (D.moment disk.old) (D.since disk.old) (D.since disk.new) }
         ensures closed { (result ≡ Err ApplyFault.Closed) ↔ IsTrue self.old.journal.is_closed }
@@ -379,8 +380,8 @@ impl Owner {
         ensures time { GoesOn (D.moment disk.old) (D.since disk.old) (D.since disk.new) }
         ensures stops { StopsWithin (request_of command.now) drawn.now self.old (D.shown disk.old) (D.shown disk.new)
             (D.may_leave disk.old) (D.may_leave disk.new) (D.since disk.new (D.moment disk.old)) }
-        ensures published { PublishesWithin (request_of command.now) drawn.now self.old (D.shown disk.old) (D.may_leave disk.old)
-            (D.since disk.new (D.moment disk.old)) }
+        ensures published { PublishesWithin (request_of command.now) self.old (D.shown disk.old) (D.may_leave disk.old)
+            (FromThenOn D.moment D.since disk.old disk.new) }
         ensures reply { IfOk result (λ reply. reply ≡ reply_for change.note drawn.now) }
         ensures fault { IfErr result (λ fault. fault ≡ ApplyFault.DiskFault) }
         ensures closed { OnErr result (IsTrue self.new.journal.is_closed) }
@@ -449,7 +450,7 @@ fn begin<D: Disk>(
     ensures adds { AddsBatches (epoch_due journal.old) journal.old (D.shown disk.old) (D.shown disk.new)
         (D.may_leave disk.old) (D.may_leave disk.new) (D.since disk.new (D.moment disk.old)) }
     ensures published { AddsPublished (epoch_due journal.old) journal.old (D.shown disk.old) (D.may_leave disk.old)
-        (D.since disk.new (D.moment disk.old)) }
+        (FromThenOn D.moment D.since disk.old disk.new) }
     ensures calm { IsDurable (D.may_leave disk.old) (D.shown disk.old) → OnOk result (IsDurable (D.may_leave disk.new) (D.shown disk.new)) }
     ensures closed { OnErr result (IsTrue journal.new.is_closed) }
     ensures open { OnOk result (journal.new.is_closed ≡ journal.old.is_closed) }
@@ -490,7 +491,7 @@ fn commit_within<D: Disk>(
         ∷ []) journal.old (D.shown disk.old) (D.shown disk.new)
         (D.may_leave disk.old) (D.may_leave disk.new) (D.since disk.new (D.moment disk.old)) }
     ensures published { KeepsPublished (next_command journal.old (spell_payload (plain_payload payload.now))) journal.old
-        (D.shown disk.old) (D.may_leave disk.old) (D.since disk.new (D.moment disk.old)) }
+        (D.shown disk.old) (D.may_leave disk.old) (FromThenOn D.moment D.since disk.old disk.new) }
     ensures begun { journal.new.has_epoch ≡ journal.old.has_epoch }
     ensures owner { journal.new.owner ≡ journal.old.owner }
     ensures durable { OnOk result (IsDurable (D.may_leave disk.new) (D.shown disk.new)) }

@@ -1,10 +1,11 @@
 //! Laws of what a stop leaves of an owner's calls: what a disk at rest holds, and how calls one after another add up.
 ghost use Rattle.std.specs.Prelude.{◌≤◌, ℕ, List};
 ghost use Rattle.cry_io.specs.Stops.{IsDurable};
+ghost use Rattle.batch_log.specs.Moments.{FromThenOn};
 ghost use Rattle.commit_journal.specs.Holding.{GoesOn, IsPrefix};
 ghost use Rattle.public_fold.specs.Journal.{Journal};
 ghost use Rattle.journal_bytes.specs.Journals.{HoldsBetween, IsSettled};
-ghost use Rattle.store_owner.specs.Published.{EndsWithPublished, KeepsAllPublished, StaysPublished};
+ghost use Rattle.store_owner.specs.Published.{HasPublished, StaysPublished};
 ghost use Rattle.store_owner.specs.Stopping.{ComesToRest, RestsAt, StopsBetween};
 
 use cry_io::Disk;
@@ -29,8 +30,7 @@ pub fn disk_stands_still<D: Disk>(disk: &D)
     ensures rests { (key : List ℕ) (m : Journal) → ComesToRest key m m (D.shown disk.now) (D.shown disk.now)
         (D.may_leave disk.now) (D.may_leave disk.now) (D.since disk.now (D.moment disk.now)) }
     ensures published { (key : List ℕ) (m : Journal) → RestsAt key m (D.shown disk.now) (D.may_leave disk.now)
-        → KeepsAllPublished key (D.since disk.now (D.moment disk.now))
-        × EndsWithPublished key (D.since disk.now (D.moment disk.now)) (D.may_leave disk.now) }
+        → FromThenOn D.moment D.since disk.now disk.now (HasPublished key) }
 {}
 
 /// Law: of two calls one after the other, the first came to rest at a journal, from which the second went on. Together a stop leaves what

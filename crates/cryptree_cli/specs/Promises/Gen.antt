@@ -11,6 +11,7 @@ use Rattle.cry_io.specs.declared.disk.Disk as disk
 use Rattle.cry_io.specs.declared.streams.Sink as sink
 use Rattle.cry_io.specs.declared.streams.Source as source
 use Rattle.cryptree_cli.specs.Generating.{EndsDry, Generates, IsUnmade}
+use Rattle.cryptree_cli.specs.Published.{FromMomentOn}
 use Rattle.cryptree_cli.specs.Status.{is_before_print, is_make_answer}
 use Rattle.cryptree_cli.specs.declared.status.Status.{Status}
 use Rattle.cryptree_cli.specs.declared.status.Status.TheVariants as statuses
@@ -30,7 +31,8 @@ pub record GenEnds {S R D W : Type 0} (inputs : source.Ghosts S) (randoms : sour
   -- what it leaves
   pub generates : disks.size_of disk_old ≡ 0 → IsUnmade randoms.left status random_old random_new disk_old disk_new
       ⊎ WhereTold (disks.shown disk_new) (λ s. Generates status seed count (randoms.left random_old) (randoms.left random_new)
-      (disks.shown disk_new) (disks.may_leave disk_new) (disks.since disk_new) (outs.written out_old) (outs.written out_new))
+      (disks.shown disk_new) (disks.may_leave disk_new) (disks.since disk_new) (FromMomentOn disks.moment disks.since disk_new)
+      (outs.written out_old) (outs.written out_new))
   pub calm : status ≢ statuses.DiskFault → (disk_new ≡ disk_old) ⊎ IsDurable (disks.may_leave disk_new) (disks.shown disk_new)
   pub input_kept : input_new ≡ input_old
   pub blank_kept : status ≡ statuses.NotBlank → (random_new ≡ random_old) × (disk_new ≡ disk_old)

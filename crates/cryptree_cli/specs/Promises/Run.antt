@@ -9,8 +9,9 @@
 -- On a disk that shows a journal it ends as that journal's session does, whatever it ends with, and whether or not the random source tells
 -- what it has: there are keys for the accepted commands with which the session goes so. With the same keys it is said what a stop may
 -- leave at each moment of the call, and behind it (specs/Stopping). Whatever it ends with, no stop at a moment of it takes back what was
--- published then; and once it ended behind the opening, all that was published at any moment stays (specs/Published).
+-- published then, or at an earlier moment of it (specs/Published).
 use Rattle.std.specs.Prelude.{◌≡◌, ◌≢◌, ◌≤◌, ◌⊎◌, ℕ, [], None, IsTrue}
+use Rattle.batch_log.specs.Moments.{FromThenOn}
 use Rattle.commit_journal.specs.Holding.{GoesOn}
 use Rattle.cry_io.specs.Stops.{IsDurable}
 use Rattle.cry_io.specs.Told.{WhereTold, WhereBothTold}
@@ -47,8 +48,8 @@ pub record RunEnds {S R D W : Type 0} (inputs : source.Ghosts S) (randoms : sour
   pub ran : WhereTold (inputs.left input_old) (λ typed. EndsTyped status typed
       (seen_from (randoms.left random_old) (randoms.left random_new) (disks.shown disk_old) (disks.shown disk_new) (outs.written out_old)
       (outs.written out_new)) (disks.may_leave disk_old) (disks.since disk_new (disks.moment disk_old)) (disks.may_leave disk_new))
-  pub published : WhereTold (inputs.left input_old) (λ typed. PublishesTyped status typed (disks.shown disk_old)
-      (disks.may_leave disk_old) (disks.since disk_new (disks.moment disk_old)) (disks.may_leave disk_new))
+  pub published : WhereTold (inputs.left input_old) (λ typed. PublishesTyped typed (disks.shown disk_old)
+      (disks.may_leave disk_old) (FromThenOn disks.moment disks.since disk_old disk_new))
   pub later : disks.moment disk_old ≤ disks.moment disk_new
   pub time : GoesOn (disks.moment disk_old) (disks.since disk_old) (disks.since disk_new)
   pub stays : IsTrue (is_after_opening status) → IsDurable (disks.may_leave disk_new) (disks.shown disk_new)

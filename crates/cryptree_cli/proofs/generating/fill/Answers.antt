@@ -5,7 +5,6 @@ use Rattle.cryptree_cli.specs.Figures.{spell_figures}
 use Rattle.cryptree_cli.specs.Stopping.{LinesKeepUpTo}
 use Rattle.cryptree_cli.specs.declared.status.Status.TheVariants as statuses
 use Rattle.cryptree_cli.proofs.GenerateLemmas.{never_stop, never_told, stop_answers, stop_fills, told_answers, told_before, told_fills}
-use Rattle.cryptree_cli.proofs.PublishedRuns.{lines_as}
 use Rattle.cryptree_cli.proofs.generating.fill.Goals as goal
 
 pub returns-in-Ok-clause-answers : goal.returns-in-Ok-clause-answers
@@ -68,9 +67,7 @@ pub returns-clause-write_fault : goal.returns-clause-write_fault
 returns-clause-write_fault g c = λ is. never_stop c.in-Err.status statuses.WriteFault c.in-Err.ensures.stops is (λ no. no)
 
 pub returns-in-Ok-clause-published : goal.returns-in-Ok-clause-published
-returns-in-Ok-clause-published g c = λ key m stands.
-    lines_as statuses.Done c.tell_outcome.result key m (g.D.Disk.since c.apply_script.new.disk (g.D.Disk.moment c.args.disk.now)) (g.D.Disk.may_leave c.apply_script.new.disk)
-    (λ other e. absurd cc) (c.in-Ok.ensures.published key m stands)
+returns-in-Ok-clause-published g c = λ key m stands. c.in-Ok.ensures.published key m stands
 
 pub returns-clause-published : goal.returns-clause-published
 returns-clause-published g c = λ key m stands. c.in-Err.ensures.published key m stands

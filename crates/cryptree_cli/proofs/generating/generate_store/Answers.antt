@@ -1,5 +1,6 @@
-use Rattle.std.proofs.Common.{Err, inl, inr, ap, sym, ◌∙◌, subst}
+use Rattle.std.proofs.Common.{Err, inl, inr, ap, refl, sym, ◌∙◌, subst}
 use Rattle.cryptree_cli.specs.Generating.{IsUnmade}
+use Rattle.cryptree_cli.specs.Published.{FromMomentOn}
 use Rattle.cryptree_cli.specs.Running.{version_limits}
 use Rattle.cryptree_cli.specs.declared.status.Status.{Status}
 use Rattle.cryptree_cli.proofs.GenerateLemmas.{dry_behind, generated, other_fault, unmade}
@@ -15,10 +16,11 @@ fill-requires-clause-open g c = c.in-Ok-make.ensures.made.1.journal.is_open
 pub returns-in-Ok-make-clause-generates : goal.returns-in-Ok-make-clause-generates
 returns-in-Ok-make-clause-generates g c = λ blank.
     inr (generated c.tallies_are_those_of_journals.ensures.made c.fill.result c.args.seed c.args.count c.in-Ok-make.owner (g.R.Source.left c.args.random.now) (g.R.Source.left c.make.new.random) (g.R.Source.left c.fill.new.random)
-    (g.D.Disk.shown c.make.new.disk) (g.D.Disk.shown c.fill.new.disk) (g.D.Disk.may_leave c.fill.new.disk) (g.D.Disk.since c.fill.new.disk) (g.D.Disk.moment c.make.new.disk)
+    (g.D.Disk.shown c.make.new.disk) (g.D.Disk.shown c.fill.new.disk) (g.D.Disk.may_leave c.fill.new.disk) (g.D.Disk.since c.fill.new.disk)
+    (FromMomentOn g.D.Disk.moment g.D.Disk.since c.fill.new.disk) (g.D.Disk.moment c.make.new.disk)
     (g.W.Sink.written c.args.out.now) (g.W.Sink.written c.fill.new.out) c.in-Ok-make.ensures.source_told c.fill.ensures.disk_told c.in-Ok-make.ensures.made
     (λ key m begins. c.fill.ensures.fills c.args.seed c.args.count key m c.requires c.in-Ok.ensures begins)
-    (λ key m stands. c.fill.ensures.published key m stands))
+    (λ key m stands. let lines = c.fill.ensures.published key m stands in record { kept = (c.make.new.disk, refl, lines.kept); has = lines.has }))
 
 pub returns-in-Ok-make-clause-calm : goal.returns-in-Ok-make-clause-calm
 returns-in-Ok-make-clause-calm g c = λ other. inr (c.fill.ensures.calm other)

@@ -1,6 +1,5 @@
 use Rattle.std.proofs.Common.{◌≡◌, ◌≤◌, IsTrue, false, length, Ok, Err, sym, ap, subst, ◌∙◌}
 use Rattle.cryptree_cli.specs.Lines.{bytes_ahead, lines_ahead}
-use Rattle.cryptree_cli.specs.Published.{LinesPublish}
 use Rattle.cryptree_cli.specs.Running.{Ends, Judges, RanLines, RanTaking, TakesBehindFirst, is_before_opening, is_run_answer, version_limits}
 use Rattle.cryptree_cli.specs.Stopping.{LinesKeepUpTo}
 use Rattle.cryptree_cli.proofs.FaultedRuns.{after_no_disk_fault, faulted_answers, faulted_behind, faulted_judges, faulted_reads, faulted_undone, faulted_writes}
@@ -265,17 +264,18 @@ returns-clause-write_fault g c = λ is.
 
 pub returns-in-Ok-clause-published : goal.returns-in-Ok-clause-published
 returns-in-Ok-clause-published g c = λ key m stands.
-    (publish_lines g.row.R.Denot g.row.D.Denot g.R.Source.left g.R.Source.faults g.D.Disk.shown g.D.Disk.faults g.D.Disk.may_leave g.D.Disk.moment g.D.Disk.since
+    publish_lines g.row.R.Denot g.row.D.Denot g.R.Source.left g.R.Source.faults g.D.Disk.shown g.D.Disk.faults g.D.Disk.may_leave g.D.Disk.moment g.D.Disk.since
     (c.args.owner, c.args.random.now, c.args.disk.now) (c.run_lines.new.owner, c.run_lines.new.random, c.run_lines.new.disk)
     c.args.reader c.run_lines.new.reader (g.S.Source.left c.args.input.now) (g.S.Source.left c.run_lines.new.input)
     (g.W.Sink.written c.args.out.now) (g.W.Sink.written c.run_lines.new.out)
-    (λ d s left at. g.met.D.Disk.only_now d s left at) (λ d s is. g.met.D.Disk.shown_may_be_left d s is) key m stands c.requires.durable (Ok tt) c.in-Ok.ensures.ran)
+    (λ d s left at. g.met.D.Disk.only_now d s left at) (λ d t s left early is leaves. g.met.D.Disk.counts_now d t s left early is leaves)
+    (λ d s is. g.met.D.Disk.shown_may_be_left d s is) key m stands c.requires.durable (Ok tt) c.in-Ok.ensures.ran
 
 pub returns-clause-published : goal.returns-clause-published
 returns-clause-published g c = λ key m stands.
-    subst (λ status. LinesPublish status key m (g.D.Disk.since c.run_lines.new.disk (g.D.Disk.moment c.args.disk.now)) (g.D.Disk.may_leave c.run_lines.new.disk)) (sym c.script_status.ensures)
-    (publish_lines g.row.R.Denot g.row.D.Denot g.R.Source.left g.R.Source.faults g.D.Disk.shown g.D.Disk.faults g.D.Disk.may_leave g.D.Disk.moment g.D.Disk.since
+    publish_lines g.row.R.Denot g.row.D.Denot g.R.Source.left g.R.Source.faults g.D.Disk.shown g.D.Disk.faults g.D.Disk.may_leave g.D.Disk.moment g.D.Disk.since
     (c.args.owner, c.args.random.now, c.args.disk.now) (c.run_lines.new.owner, c.run_lines.new.random, c.run_lines.new.disk)
     c.args.reader c.run_lines.new.reader (g.S.Source.left c.args.input.now) (g.S.Source.left c.run_lines.new.input)
     (g.W.Sink.written c.args.out.now) (g.W.Sink.written c.run_lines.new.out)
-    (λ d s left at. g.met.D.Disk.only_now d s left at) (λ d s is. g.met.D.Disk.shown_may_be_left d s is) key m stands c.requires.durable (Err c.in-Err.fault) c.in-Err.ensures.ran)
+    (λ d s left at. g.met.D.Disk.only_now d s left at) (λ d t s left early is leaves. g.met.D.Disk.counts_now d t s left early is leaves)
+    (λ d s is. g.met.D.Disk.shown_may_be_left d s is) key m stands c.requires.durable (Err c.in-Err.fault) c.in-Err.ensures.ran

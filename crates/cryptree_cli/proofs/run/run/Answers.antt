@@ -1,14 +1,14 @@
 use Rattle.std.proofs.Common.{◌≡◌, inl, inr, ℕ, List, length, None, Err, Ok, arith, refl, sym, ap, subst, ◌∙◌}
 use Rattle.std.specs.Prelude.{IsTrue}
+use Rattle.batch_log.specs.Moments.{FromThenOn}
 use Rattle.batch_log.proofs.Moments.{goes_on_then}
 use Rattle.journal_bytes.specs.Bytes.{image_of}
 use Rattle.journal_bytes.specs.Journals.{StandsForJournal}
 use Rattle.cryptree_cli.specs.Lines.{lines_ahead}
-use Rattle.cryptree_cli.specs.Published.{RunPublishes}
 use Rattle.cryptree_cli.specs.Refusing.{is_refusal}
 use Rattle.cryptree_cli.specs.Running.{Ends, FirstIsBad, Judges, KeepsFrom, RanLines, RanTaking, ReadsWhole, Seen, TakesTo, lines_behind, lines_in, lines_typed, open_status, version_limits}
 use Rattle.cryptree_cli.proofs.LinesRun.{bad_is_never_done, key_taken, lines_as_typed, unopened_lines, unopened_taking, unread_lines, unread_taking}
-use Rattle.cryptree_cli.proofs.PublishedRuns.{opened_publishes, unopened_publishes, unread_publishes}
+use Rattle.cryptree_cli.proofs.PublishedRuns.{opened_publishes, unread_publishes}
 use Rattle.cryptree_cli.proofs.ReadFaults.{cut_first, unopened_reads_none}
 use Rattle.cryptree_cli.proofs.RefusedRuns.{leaves_unopened, opened_refuses_none, reading_refuses_none, refusal_is_other, untouched}
 use Rattle.cryptree_cli.proofs.RunEnds.{still_told}
@@ -16,7 +16,7 @@ use Rattle.cryptree_cli.specs.Stopping.{KeepsUpTo, LinesKeepUpTo}
 use Rattle.cryptree_cli.proofs.EndsMapped.{ends_more}
 use Rattle.cryptree_cli.proofs.StopLemmas.{kept_opened, kept_unopened, kept_unread, time_still, told_stands}
 use Rattle.public_fold.specs.Journal.{Journal}
-use Rattle.store_owner.specs.Published.{StaysPublished}
+use Rattle.store_owner.specs.Published.{HasPublished, StaysPublished}
 use Rattle.cryptree_cli.proofs.RunOpening.{bad_first_is_unjudged, first_alone, first_ends, first_is_bad, fresh_reader, gives_first, key_is_given, not_before, opened_has_no_verdict, opened_stands, reading_draws_none, same_key, seen_unopened, unopened_draws_none, unopened_ends, unopened_is_judged, unopened_is_no_line}
 use Rattle.cryptree_cli.proofs.Takings.{taken_few}
 use Rattle.holder_client.specs.Asking.{verdict}
@@ -140,38 +140,40 @@ returns-in-Ok-open_store-clause-ran g c = λ x was key m hands shows.
 
 pub returns-in-Err-clause-published : goal.returns-in-Err-clause-published
 returns-in-Err-clause-published g c = λ x was key m hands shows stays.
-    unread_publishes c.script_status.result key (g.D.Disk.shown c.args.disk.now) (g.D.Disk.may_leave c.args.disk.now) (g.D.Disk.since c.args.disk.now (g.D.Disk.moment c.args.disk.now))
-    (λ s left at. g.met.D.Disk.only_now c.args.disk.now s left at) stays
+    let D = g.D.Disk in
+    let a = c.args.disk.now in
+    unread_publishes g.row.D.Denot D.moment D.since key (D.shown a) (D.may_leave a) a (λ s left at. g.met.D.Disk.only_now a s left at) stays
 
 pub returns-in-Err-open_store-clause-published : goal.returns-in-Err-open_store-clause-published
 returns-in-Err-open_store-clause-published g c = λ x was key m hands shows stays.
+    let D = g.D.Disk in
+    let a = c.args.disk.now in
     let after = still_told (g.S.Source.left c.first_owner.new.input) (g.S.Source.left c.args.input.now) x c.in-Ok.ensures.told was in
     let same = same_key c.in-Ok.key key (lines_in x) (lines_ahead c.first_owner.new.reader after.0)
     (gives_first (Ok c.in-Ok.key) c.new-reader.result x (lines_ahead c.first_owner.new.reader after.0) c.new-reader.ensures (c.in-Ok.ensures.gives x after.0 was after.1)) hands in
     let stands = subst (λ k. StandsForJournal k m shows.0) (sym same) shows.2 in
-    let since = g.D.Disk.since c.open_store.new.disk (g.D.Disk.moment c.args.disk.now) in
-    let may = g.D.Disk.may_leave c.open_store.new.disk in
-    let up = c.in-Err-open_store.ensures.published m (subst (λ k. StaysPublished k (g.D.Disk.shown c.args.disk.now) (g.D.Disk.may_leave c.args.disk.now)) (sym same) stays) shows.0 shows.1 stands stands.valid.1 in
-    subst (λ status. RunPublishes status key since may) (sym c.open_status.ensures)
-    (subst (λ k. RunPublishes (open_status c.in-Err-open_store.fault) k since may) same (unopened_publishes c.in-Err-open_store.fault c.in-Ok.key m since may up))
+    let up = c.in-Err-open_store.ensures.published m (subst (λ k. StaysPublished k (D.shown a) (D.may_leave a)) (sym same) stays) shows.0 shows.1 stands stands.valid.1 in
+    subst (λ k. FromThenOn D.moment D.since a c.open_store.new.disk (HasPublished k)) same up.kept
 
 pub returns-in-Ok-open_store-clause-published : goal.returns-in-Ok-open_store-clause-published
 returns-in-Ok-open_store-clause-published g c = λ x was key m hands shows stays.
+    let D = g.D.Disk in
+    let a = c.args.disk.now in
+    let b = c.open_store.new.disk in
+    let e = c.apply_lines.new.disk in
     let after = still_told (g.S.Source.left c.first_owner.new.input) (g.S.Source.left c.args.input.now) x c.in-Ok.ensures.told was in
     let same = same_key c.in-Ok.key key (lines_in x) (lines_ahead c.first_owner.new.reader after.0)
     (gives_first (Ok c.in-Ok.key) c.new-reader.result x (lines_ahead c.first_owner.new.reader after.0) c.new-reader.ensures (c.in-Ok.ensures.gives x after.0 was after.1)) hands in
     let stands = subst (λ k. StandsForJournal k m shows.0) (sym same) shows.2 in
-    let begins = opened_stands c.in-Ok.key m c.in-Ok-open_store.owner (g.D.Disk.shown c.open_store.new.disk) (g.D.Disk.may_leave c.open_store.new.disk)
+    let begins = opened_stands c.in-Ok.key m c.in-Ok-open_store.owner (D.shown b) (D.may_leave b)
     (c.in-Ok-open_store.ensures.stands m shows.0 shows.1 stands stands.valid.1) c.in-Ok-open_store.ensures.fresh
     (c.in-Ok-open_store.ensures.settled m shows.0 shows.1 stands stands.valid.1) in
-    let first = g.D.Disk.moment c.args.disk.now in
-    let middle = g.D.Disk.moment c.open_store.new.disk in
-    let past = g.D.Disk.since c.open_store.new.disk in
-    let since = g.D.Disk.since c.apply_lines.new.disk in
-    let may = g.D.Disk.may_leave c.apply_lines.new.disk in
-    let up = c.in-Ok-open_store.ensures.published m (subst (λ k. StaysPublished k (g.D.Disk.shown c.args.disk.now) (g.D.Disk.may_leave c.args.disk.now)) (sym same) stays) shows.0 shows.1 stands stands.valid.1 in
-    subst (λ k. RunPublishes c.apply_lines.result k (since first) may) same
-    (opened_publishes c.apply_lines.result c.in-Ok.key m first middle past since may c.in-Ok-open_store.ensures.later c.apply_lines.ensures.time up (c.apply_lines.ensures.published c.in-Ok.key m begins))
+    let up = c.in-Ok-open_store.ensures.published m (subst (λ k. StaysPublished k (D.shown a) (D.may_leave a)) (sym same) stays) shows.0 shows.1 stands stands.valid.1 in
+    subst (λ k. FromThenOn D.moment D.since a e (HasPublished k)) same
+    (opened_publishes g.row.D.Denot D.moment D.since c.in-Ok.key m a b e
+    (λ d. time_still (D.moment d) (D.since d) (D.shown d) (D.may_leave d) (λ s left at. g.met.D.Disk.only_now d s left at)
+    (λ t s left early is leaves. g.met.D.Disk.counts_now d t s left early is leaves))
+    up (c.apply_lines.ensures.published c.in-Ok.key m begins))
 
 -- ---- the lines, whatever the disk shows
 

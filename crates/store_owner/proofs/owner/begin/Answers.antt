@@ -23,4 +23,4 @@ pub returns-in-Some-clause-published : goal.returns-in-Some-clause-published
 returns-in-Some-clause-published g c =
     let D = g.D.Disk in
     let a = c.args.disk.now in
-    adds_none_published (epoch_due c.args.journal.now) c.args.journal.now (D.shown a) (D.may_leave a) (D.since a (D.moment a)) (λ s left at. g.met.D.Disk.only_now a s left at)
+    adds_none_published g.row.D.Denot D.moment D.since (epoch_due c.args.journal.now) c.args.journal.now (D.shown a) (D.may_leave a) a (λ s left at. g.met.D.Disk.only_now a s left at)

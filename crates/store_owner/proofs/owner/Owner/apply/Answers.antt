@@ -1,4 +1,5 @@
 use Rattle.std.proofs.Common.{◌≡◌, ◌<◌, ◌≤◌, ◌*◌, ◌^◌, ◌++◌, ◌∙◌, List, Err, Ok, ap, length, refl, replicate, subst, sym, ℕ}
+use Rattle.batch_log.specs.Moments.{FromThenOn}
 use Rattle.cry_base.specs.Limits.{most_file_bytes, most_store_bytes}
 use Rattle.cry_base.specs.Requests.{request_of}
 use Rattle.cry_base.specs.declared.memory.OutOfMemory.{OutOfMemory}
@@ -15,7 +16,6 @@ use Rattle.store_owner.specs.Applying.{IsCarriedOut, IsCutShort, IsDone, IsInter
 use Rattle.store_owner.specs.Drawing.{AreKeys, joined}
 use Rattle.store_owner.specs.Owned.{IsOwnerOf, OwnerView}
 use Rattle.store_owner.specs.Planning.{AnswersPlan, reply_for}
-use Rattle.store_owner.specs.Published.{PublishesUpTo}
 use Rattle.store_owner.specs.Sound.{IsSound, own_store}
 use Rattle.store_owner.specs.Stopping.{StopsBetween}
 use Rattle.store_owner.specs.declared.apply_fault.ApplyFault.TheVariants as faults
@@ -25,7 +25,6 @@ use Rattle.store_owner.proofs.Applied.{both_ok, carried_answer, reply_due, undra
 use Rattle.store_owner.proofs.OtherRoom.{accepted_still, carried_from, limit_still, published_from, sound_still, stops_from, store_still, interrupted_from}
 use Rattle.std.proofs.lemmas.Result.{on_err_weaker}
 use Rattle.store_owner.proofs.Planned.{is_refused}
-use Rattle.store_owner.proofs.PublishedCommands.{command_published, unless_always}
 use Rattle.store_owner.proofs.Tallies.{carried_counts}
 use Rattle.store_owner.proofs.StoppedCommands.{rests_then}
 use Rattle.store_owner.proofs.Taken.{are_planned, err_is, falls_short, never_short, takes_filled, takes_none}
@@ -178,9 +177,7 @@ pub returns-in-Err-plan-clause-published : goal.returns-in-Err-plan-clause-publi
 returns-in-Err-plan-clause-published g c = λ m is rests. c.disk_stands_still.ensures.published c.args.self.now.key m rests
 
 pub returns-in-Err-fill-clause-published : goal.returns-in-Err-fill-clause-published
-returns-in-Err-fill-clause-published g c = λ m is rests.
-    let still = c.disk_stands_still.ensures.published c.args.self.now.key m rests in
-    (still.0, unless_always (Err c.in-Err-fill.fault) _ still.1)
+returns-in-Err-fill-clause-published g c = λ m is rests. c.disk_stands_still.ensures.published c.args.self.now.key m rests
 
 pub returns-in_default-clause-published : goal.returns-in_default-clause-published
 returns-in_default-clause-published g c = λ m is rests. c.disk_stands_still.ensures.published c.args.self.now.key m rests
@@ -191,24 +188,8 @@ returns-clause-published g c = λ m is rests.
     let r = request_of c.args.command.now in
     let planned : AnswersPlan {E = OutOfMemory} (Ok (verdicts.Planned c.in-Ok-Planned.change c.in-Ok-Planned.room)) r o c.plan.new.self =
     subst (λ (v : Verdict). AnswersPlan {E = OutOfMemory} (Ok v) r o c.plan.new.self) c.in-Ok-Planned.field-0-is c.in-Ok-Planned.ensures.answers in
-    let mid = c.plan.new.self in
-    let new = c.carry_out.new.self in
-    let drawn = c.as_slice.result.now in
-    let was = g.D.Disk.shown c.args.disk.now in
-    let shows = g.D.Disk.shown c.carry_out.new.disk in
     let limit : o.journal.limit ≤ most_store_bytes = subst (λ (x : OwnerView). x.journal.limit ≤ most_store_bytes) c.self.view_is c.journal_is_within.ensures.bound in
     let bounded : o.file_bytes ≤ most_file_bytes = subst (λ (x : OwnerView). x.file_bytes ≤ most_file_bytes) c.self.view_is (c.self.invariant (sym c.is_closed.ensures ∙ c.if-is_closed.false)).0.bounded in
-    let might = g.D.Disk.may_leave c.args.disk.now in
-    let may = g.D.Disk.may_leave c.carry_out.new.disk in
-    let since = g.D.Disk.since c.carry_out.new.disk (g.D.Disk.moment c.args.disk.now) in
-    let then = journal_then m o.journal.has_epoch r drawn in
-    let up : PublishesUpTo o.key then since =
-    published_from r drawn o mid was might since c.plan.ensures.room c.carry_out.ensures.published m is limit bounded (planned.2 m is) rests in
-    command_published c.carry_out.result (IsCarriedOut r drawn mid new was shows × IsDurable may shows) o.key then shows may since c.carry_out.ensures.fault
-    (both_ok c.carry_out.result (IsCarriedOut r drawn mid new was shows) (IsDurable may shows) c.carry_out.ensures.done c.carry_out.ensures.durable)
-    (λ h.
-    let full : IsCarriedOut r drawn o new was shows = carried_from r drawn o mid new was shows c.plan.ensures.room h.0 in
-    let owner : IsOwnerOf then new = c.owners_go_on.ensures.owner m r drawn o new was shows is limit bounded (planned.2 m is) full in
-    let disk = c.owners_go_on.ensures.disk m r drawn o new was shows is limit bounded (planned.2 m is) full in
-    rests_then o.key m then was shows might may owner.valid (subst (λ key. AreWhole key then) full.same_key owner.whole_keys) c.carry_out.ensures.told disk h.1 rests)
-    up
+    let D = g.D.Disk in
+    published_from r o c.plan.new.self (D.shown c.args.disk.now) (D.may_leave c.args.disk.now) (FromThenOn D.moment D.since c.args.disk.now c.carry_out.new.disk)
+    c.plan.ensures.room c.carry_out.ensures.published m is limit bounded (planned.2 m is) rests

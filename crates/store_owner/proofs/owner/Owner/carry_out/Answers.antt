@@ -1,4 +1,6 @@
 use Rattle.std.proofs.Common.{inl, inr, ◌≡◌, ◌≤◌, ◌∙◌, ◌++◌, List, None, Option, Some, ap, arith, length, refl, replicate, subst, sym, ℕ}
+use Rattle.batch_log.specs.Moments.{FromThenOn}
+use Rattle.commit_journal.proofs.StoppedCommits.{stays}
 use Rattle.chacha_seal.specs.Serials.{Counting}
 use Rattle.cry_base.specs.Refusing.{refusal_of}
 use Rattle.cry_base.specs.Requests.{request_of}
@@ -322,9 +324,9 @@ returns-in_default-clause-published g c =
     let a = c.args.disk.now in
     let b = c.begin.new.disk in
     let r = request_of c.args.command.now in
-    subst (λ (o : OwnerView). PublishesWithin r c.args.drawn.now o (D.shown a) (D.may_leave a) (D.since b (D.moment a))) c.self.view_is
+    subst (λ (o : OwnerView). PublishesWithin r o (D.shown a) (D.may_leave a) (FromThenOn D.moment D.since a b)) c.self.view_is
     (λ m is low bound fine rests.
-    early_published m r c.args.drawn.now old (D.shown a) (D.may_leave a) is low bound fine rests (D.since b (D.moment a)) c.in_default.ensures.published)
+    early_published m r c.args.drawn.now old (D.shown a) (D.may_leave a) is low bound fine rests g.row.D.Denot D.moment D.since a b c.in_default.ensures.published)
 
 pub returns-in_default-commit_within-clause-published : goal.returns-in_default-commit_within-clause-published
 unfolding sealed_for
@@ -349,10 +351,12 @@ returns-in_default-commit_within-clause-published g c =
     subst (λ (k : Option Counting). HasBegun i.journal c.begin.new.journal k c.in-Ok.counter was showed) c.take.ensures.value c.in-Ok.ensures.begun in
     let sealed = sealed_for r drawn old before after at drafted keyed c.requires.count c.requires.sizes own c.is_seen.ensures was showed c.begin.new.journal c.in-Ok.counter
     c.skeleton.result.now (plain_payload c.seal_step-payload.result) has c.in-Ok.ensures.told c.skeleton.ensures c.seal_step-payload.ensures.payload in
-    subst (λ (o : OwnerView). PublishesWithin r drawn o was (D.may_leave a) (D.since e (D.moment a))) c.self.view_is
+    subst (λ (o : OwnerView). PublishesWithin r o was (D.may_leave a) (FromThenOn D.moment D.since a e)) c.self.view_is
     (λ m is low bound fine rests.
-    late_published m r drawn old was (D.may_leave a) is low bound fine rests sealed (D.may_leave b) c.in-Ok.ensures.calm (D.moment b) (D.moment a) (D.since b) (D.since e)
-    c.in-Ok.ensures.later c.in_default-commit_within.ensures.time c.in-Ok.ensures.published c.in_default-commit_within.ensures.published)
+    late_published m r drawn old was (D.may_leave a) is low bound fine rests g.row.D.Denot D.moment D.since sealed (D.may_leave b) c.in-Ok.ensures.calm a b e
+    (λ d. stays (D.moment d) (D.since d) (D.shown d) (D.may_leave d) (λ s left at. g.met.D.Disk.only_now d s left at)
+    (λ t s left early is leaves. g.met.D.Disk.counts_now d t s left early is leaves))
+    c.in-Ok.ensures.published c.in_default-commit_within.ensures.published)
 
 pub returns-clause-published : goal.returns-clause-published
 unfolding sealed_for
@@ -377,7 +381,9 @@ returns-clause-published g c =
     subst (λ (k : Option Counting). HasBegun i.journal c.begin.new.journal k c.in-Ok.counter was showed) c.take.ensures.value c.in-Ok.ensures.begun in
     let sealed = sealed_for r drawn old before after at drafted keyed c.requires.count c.requires.sizes own c.is_seen.ensures was showed c.begin.new.journal c.in-Ok.counter
     c.skeleton.result.now (plain_payload c.seal_step-payload.result) has c.in-Ok.ensures.told c.skeleton.ensures c.seal_step-payload.ensures.payload in
-    subst (λ (o : OwnerView). PublishesWithin r drawn o was (D.may_leave a) (D.since e (D.moment a))) c.self.view_is
+    subst (λ (o : OwnerView). PublishesWithin r o was (D.may_leave a) (FromThenOn D.moment D.since a e)) c.self.view_is
     (λ m is low bound fine rests.
-    late_published m r drawn old was (D.may_leave a) is low bound fine rests sealed (D.may_leave b) c.in-Ok.ensures.calm (D.moment b) (D.moment a) (D.since b) (D.since e)
-    c.in-Ok.ensures.later c.in-Ok-commit_within.ensures.time c.in-Ok.ensures.published c.in-Ok-commit_within.ensures.published)
+    late_published m r drawn old was (D.may_leave a) is low bound fine rests g.row.D.Denot D.moment D.since sealed (D.may_leave b) c.in-Ok.ensures.calm a b e
+    (λ d. stays (D.moment d) (D.since d) (D.shown d) (D.may_leave d) (λ s left at. g.met.D.Disk.only_now d s left at)
+    (λ t s left early is leaves. g.met.D.Disk.counts_now d t s left early is leaves))
+    c.in-Ok.ensures.published c.in-Ok-commit_within.ensures.published)

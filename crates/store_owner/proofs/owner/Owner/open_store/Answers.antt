@@ -1,9 +1,10 @@
 use Rattle.std.proofs.Common.{◌≡◌, Ok, ap, inr, subst}
 use Rattle.std.proofs.lemmas.Result.{err_from_is_err_and}
+use Rattle.batch_log.specs.Moments.{FromThenOn}
 use Rattle.chacha_seal.specs.Keys.{KeyParts}
 use Rattle.cry_io.specs.Told.{WhereTold, WhereBothTold}
 use Rattle.commit_journal.specs.Answering.{IsFault}
-use Rattle.commit_journal.specs.Moments.{OpensThroughout}
+use Rattle.commit_journal.specs.Moments.{OpensInOrder, OpensThroughout}
 use Rattle.commit_journal.specs.Opening.{IsOpened, LeavesGated, opening_verdict, plain_opened, slots_filled}
 use Rattle.commit_journal.specs.Placed.{plain_log}
 use Rattle.commit_journal.specs.WholeLogs.{StillStand}
@@ -184,17 +185,19 @@ returns-in_err-opened-clause-published g c =
     let D = g.D.Disk in
     let a = c.args.disk.now in
     let limit = c.args.limits.store_bytes in
-    let since = D.since c.open_owner.new.disk (D.moment a) in
+    let e = c.open_owner.new.disk in
     let bytes = ap (λ (k : KeyParts). k.bytes) c.owner-owner.ensures in
-    opening_published limit c.args.key (D.shown a) (D.may_leave a) since c.requires.known
-    (subst (λ b. OpensThroughout limit b (D.shown a) (D.may_leave a) since) bytes c.open_owner.ensures.stops)
+    opening_published g.row.D.Denot D.moment D.since a e limit c.args.key (D.shown a) (D.may_leave a) c.requires.known
+    (subst (λ b. OpensThroughout limit b (D.shown a) (D.may_leave a) (D.since e (D.moment a))) bytes c.open_owner.ensures.stops)
+    (subst (λ b. OpensInOrder limit b (D.shown a) (FromThenOn D.moment D.since a e)) bytes c.open_owner.ensures.ordered)
 
 pub returns-clause-published : goal.returns-clause-published
 returns-clause-published g c =
     let D = g.D.Disk in
     let a = c.args.disk.now in
     let limit = c.args.limits.store_bytes in
-    let since = D.since c.open_owner.new.disk (D.moment a) in
+    let e = c.open_owner.new.disk in
     let bytes = ap (λ (k : KeyParts). k.bytes) c.owner-owner.ensures in
-    opening_published limit c.args.key (D.shown a) (D.may_leave a) since c.requires.known
-    (subst (λ b. OpensThroughout limit b (D.shown a) (D.may_leave a) since) bytes c.open_owner.ensures.stops)
+    opening_published g.row.D.Denot D.moment D.since a e limit c.args.key (D.shown a) (D.may_leave a) c.requires.known
+    (subst (λ b. OpensThroughout limit b (D.shown a) (D.may_leave a) (D.since e (D.moment a))) bytes c.open_owner.ensures.stops)
+    (subst (λ b. OpensInOrder limit b (D.shown a) (FromThenOn D.moment D.since a e)) bytes c.open_owner.ensures.ordered)
