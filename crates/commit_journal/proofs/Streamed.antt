@@ -4,6 +4,7 @@ use Rattle.std.specs.Prelude.{nat_le, MatchResult, ◌⊎◌}
 use Rattle.std.proofs.Math.Seq.{get_or-append_seam}
 use Rattle.std.proofs.lemmas.Bool.Decides.{nat_tests}
 use Rattle.std.proofs.lemmas.List.{drop-drop, get_or_append_left}
+use Rattle.std.proofs.lemmas.Option.{get_or_from_slice_get, slice_get_within}
 use Rattle.cry_base.specs.Layout.{batch_len, header_len}
 use Rattle.cry_base.specs.Limits.{most_store_bytes}
 use Rattle.commit_journal.specs.declared.fault.OpenFault.{OpenFault}
@@ -18,7 +19,7 @@ use Rattle.commit_journal.specs.Logs.{AreInEpochs, IsInEpoch, epoch_behind, walk
 use Rattle.commit_journal.specs.Opening.{GoesOnTo, IsNextOf, IsNextTurn, IsTurnIn, IsTurnOf}
 use Rattle.commit_journal.specs.Placed.{PlainPlaced, plain_placed}
 use Rattle.commit_journal.specs.Readers.{again_turn, has_tag, is_published, read_turn}
-use Rattle.commit_journal.specs.Streaming.{LogState, AreStarts, IsReading, ShowsGiven, again_at, log_in, next_in, nothing}
+use Rattle.commit_journal.specs.Streaming.{LogState, AreStarts, IsReading, IsStart, ShowsGiven, again_at, log_in, next_in, nothing, start_of}
 use Rattle.commit_journal.proofs.Counted.{epoch_more}
 use Rattle.commit_journal.proofs.Followed.{and_then_ok}
 use Rattle.commit_journal.proofs.Stepped.{published_by, steps_end, steps_fail, steps_on}
@@ -232,11 +233,19 @@ reading_more given starts past turn reading here number ahead within =
       epoch = here.1 ∙ sym (epoch_more 0 given turn.placed);
     }
 
-pub start_place : (log : LogState) (batch : ℕ) → IsReading log.given log.starts log.past → 1 ≤ batch → batch ≤ length log.given →
-    let past = get_or log.starts (batch - 1) nothing in (header_len ≤ past.at) × (past.at ≤ most_store_bytes) × (past.number + 1 ≡ batch)
-start_place log batch reading from to =
-    let at = starts_at 0 (batch - 1) log.starts (log.past ∷ []) reading.places (omega (arith, reading.count, from, to)) in
-    (at.0, at.1, omega (arith, at.2, from))
+number_back : (n : ℕ) → n + 1 - 1 ≡ n
+number_back n = omega arith
+
+-- what was known before a batch that was given is what was before the batch with its number
+pub start_is : (log : LogState) (start : Past) → IsStart log start → start_of log (start.number + 1) ≡ start
+start_is log start is =
+    ap (λ n. get_or log.starts n nothing) (number_back start.number) ∙ get_or_from_slice_get log.starts start.number start nothing is
+
+pub start_place : (log : LogState) (start : Past) → IsReading log.given log.starts log.past → IsStart log start → (header_len ≤ start.at) × (start.at ≤ most_store_bytes)
+start_place log start reading is =
+    let at = starts_at 0 start.number log.starts (log.past ∷ []) reading.places (slice_get_within log.starts start.number start is) in
+    let same = get_or_from_slice_get log.starts start.number start nothing is in
+    (omega (arith, at.0, ap (λ (p : Past). p.at) same), omega (arith, at.1, ap (λ (p : Past). p.at) same))
 
 pub answers_one : (result : Result Placed OpenFault) (wanted : Result PlainPlaced Fault) (p : PlainPlaced) → Answers plain_placed result wanted → wanted ≡ Ok p →
     MatchResult result (λ placed. plain_placed placed ≡ p) (λ fault. (fault ≡ faults.DiskFault) ⊎ (fault ≡ faults.OutOfMemory))

@@ -1,6 +1,7 @@
 -- A log that is read batch by batch. This project's own, docs/FORMAT.md, "Reading".
 use Rattle.std.specs.Prelude.{◌≡◌, ◌<◌, ◌≤◌, ℕ, ◌+◌, ◌-◌, ◌==◌, if◌then◌else◌, List, [], ◌∷◌, ◌++◌, length, drop, take, get_or, Option}
 use Rattle.std.specs.Prelude.{None, Some, Result, Ok}
+use Rattle.std.specs.List.{slice_get}
 use Rattle.cry_base.specs.Layout.{batch_len, header_len}
 use Rattle.cry_base.specs.Limits.{most_store_bytes}
 use Rattle.commit_journal.specs.declared.past.Past.{Past}
@@ -32,6 +33,10 @@ log_in log bytes = before log.given (walk_at (turn_by (read_turn log.owner)) log
 unfoldable pub again_at : Option (List ℕ) → Past → List ℕ → Result PlainTurn Fault
 again_at who past bytes =
     and_then (head_at past (drop past.at bytes)) (λ head. again_turn who past head (take (batch_len + head.size) (drop past.at bytes)))
+
+-- this was known before a batch that was given
+abbrev pub IsStart : LogState → Past → Type 0
+IsStart log start = slice_get log.starts start.number ≡ Some start
 
 -- what was known before the batch with this number. Where none was given, nothing was
 abbrev pub nothing : Past

@@ -43,6 +43,7 @@ pub use opening_laws::{
     opened_journal_stands_for_its_batches, owner_opens_the_writers_log,
     standing_bytes_are_never_refused, standing_bytes_are_opened_as_their_log,
 };
+pub use past::Past;
 pub use placed::{Body, Placed};
 pub use places::{content_place, link_place};
 pub use public_log::{PublicLog, read_owner, read_public};

@@ -2,9 +2,9 @@
 use cry_base::Epoch;
 
 /// The log up to a gate: where the next batch would begin, the number and epoch of the last one (0 for none), the tag
-/// that the next owner tag hangs on, and the gate's byte.
+/// that the next owner tag hangs on, and the gate's byte. Who has it can read the next batch, and nothing before it.
 #[derive(Clone, Copy, Debug)]
-pub(crate) struct Past {
+pub struct Past {
     pub(crate) at: u64,
     pub(crate) number: u32,
     pub(crate) epoch: Epoch,

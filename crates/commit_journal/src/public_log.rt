@@ -18,11 +18,10 @@ ghost use Rattle.commit_journal.specs.Turns.{plain_option, plain_turn};
 use crate::given::Given;
 use crate::judge::{Turn, judge_again, judge_read};
 use crate::layout::{BATCH_LEN, HEADER_LEN, MAGIC, OPEN};
-use crate::past::Past;
 use crate::reading::{array_at, read_head};
-use crate::{OpenFault, Placed};
+use crate::{OpenFault, Past, Placed};
 use chacha_seal::{Key, LogKey, OwnerK, check_of};
-use cry_base::{Epoch, List, Mem};
+use cry_base::{Epoch, List};
 use cry_io::Disk;
 use hmac_seal::tags_equal;
 use std::alloc::Global;
@@ -142,13 +141,12 @@ fn log_key_of(owner: Option<&Key<OwnerK>>) -> Option<LogKey>
     }
 }
 
-/// The log of a store, read one batch after the other: by its owner, who has the key, or by anybody. Of a batch that it
-/// gave it keeps what was known before it, which is 56 bytes.
+/// The log of a store, read one batch after the other: by its owner, who has the key, or by anybody. It keeps nothing of a batch
+/// that it gave.
 #[derive(Drop)]
 pub struct PublicLog {
     owner: Option<LogKey>,
     past: Past,
-    starts: List<Past>,
     given: Given,
 }
 
@@ -161,11 +159,11 @@ impl Model for PublicLog {
     ghost view = { λ log. record {
       owner = key_bytes log.owner;
       given = log.given.batches;
-      starts = log.starts.items;
+      starts = log.given.starts;
       past = log.past;
     } };
 
-    ghost invariant = { λ log. IsReading log.given.batches log.starts.items log.past };
+    ghost invariant = { λ log. IsReading log.given.batches log.given.starts log.past };
 }
 
 impl PublicLog {
@@ -192,34 +190,34 @@ impl PublicLog {
         ensures disk_fault { result ≡ Err OpenFault.DiskFault → D.faults disk.old < D.faults disk.new }
     {
         let past = read_header(disk, owner)?;
-        Ok(PublicLog::behind_header(alloc, log_key_of(owner), past))
+        Ok(PublicLog::behind_header(log_key_of(owner), past))
     }
 
-    fn behind_header(alloc: Global, owner: Option<LogKey>, past: Past) -> PublicLog
+    fn behind_header(owner: Option<LogKey>, past: Past) -> PublicLog
         requires { (past.at ≡ header_len) × (past.number ≡ 0) × (past.epoch.0 ≡ 0) }
         ensures { result ≡ record { owner = readers.key_bytes owner; given = []; starts = []; past = past } }
     {
         PublicLog {
             owner,
             past,
-            starts: List::new(alloc),
             given: Given::new(),
         }
     }
 
     fn key(&self) -> Option<&LogKey>
-        ensures { readers.key_bytes (option_copied result) ≡ self.now.owner }
+        ensures owner { readers.key_bytes (option_copied result) ≡ self.now.owner }
+        ensures reading { streaming.IsReading self.now.given self.now.starts self.now.past }
     {
         self.owner.as_ref()
     }
 
-    /// What was known before a batch that was given.
-    fn start(&self, batch: u32) -> Past
-        requires { (1 ≤ batch) × (batch ≤ length self.now.given) }
-        ensures start { result ≡ streaming.start_of self.now batch }
+    /// What is known before the next batch. With it that batch is read once more, by [`PublicLog::again`].
+    pub fn past(&self) -> Past
+        ensures past { result ≡ self.now.past }
+        ensures number { result.number ≡ length self.now.starts }
         ensures reading { streaming.IsReading self.now.given self.now.starts self.now.past }
     {
-        self.starts.as_slice()[batch as usize - 1]
+        self.past
     }
 
     /// What stands behind the batches that were given.
@@ -240,20 +238,17 @@ impl PublicLog {
         read_turn(alloc, disk, self.key(), &self.past)
     }
 
-    fn go_on(&mut self, placed: &Placed, past: Past) -> Mem<()>
+    fn go_on(&mut self, placed: &Placed, past: Past)
         requires { streaming.IsReading (self.old.given ++ plain_placed placed.now ∷ []) (self.old.starts ++ self.old.past ∷ []) past }
-        ensures on { OnOk result (self.new ≡ record {
+        ensures { self.new ≡ record {
           owner = self.old.owner;
           given = self.old.given ++ plain_placed placed.now ∷ [];
           starts = self.old.starts ++ self.old.past ∷ [];
           past = past;
-        }) }
-        ensures unchanged { OnErr result (self.new ≡ self.old) }
+        } }
     {
-        self.starts.push(self.past)?;
-        self.given = self.given.adding(placed);
+        self.given = self.given.adding(placed, &self.past);
         self.past = past;
-        Ok(())
     }
 
     /// Reads the next batch, with the tests of docs/FORMAT.md, "Reading", in their order. `None` comes exactly where the log
@@ -286,12 +281,13 @@ impl PublicLog {
             return Ok(None);
         };
         let Turn { placed, past } = turn;
-        self.go_on(&placed, past)?;
+        self.go_on(&placed, past);
         Ok(Some(placed))
     }
 
-    /// Reads a batch once more that `next` gave, and makes its tests again, whatever the gates before and behind it are. The
-    /// disk is never written. Where it shows the batch as it was given, the faults are `DiskFault` and `OutOfMemory` alone.
+    /// Reads a batch once more that `next` gave, by what [`PublicLog::past`] was before it, and makes its tests again, whatever the
+    /// gates before and behind it are. The disk is never written. Where it shows the batch as it was given, the faults are
+    /// `DiskFault` and `OutOfMemory` alone.
     ///
     /// `Damaged` and `Tampered` come as in `next`, but a batch that isn't published is always `Tampered`, with the place of
     /// its slot.
@@ -299,22 +295,22 @@ impl PublicLog {
         &self,
         alloc: Global,
         disk: &mut D,
-        batch: u32,
+        start: &Past,
     ) -> Result<Placed, OpenFault>
-        requires given { (1 ≤ batch) × (batch ≤ length self.now.given) }
-        ensures verdict { WhereTold (D.shown disk.old) (λ s. Answers plain_placed result (streaming.again_in self.now batch s)) }
-        ensures same { WhereTold (D.shown disk.old) (λ s. (p : PlainPlaced) → streaming.again_in self.now batch s ≡ Ok p →
+        requires given { streaming.IsStart self.now start.now }
+        ensures verdict { WhereTold (D.shown disk.old)
+            (λ s. Answers plain_placed result (streaming.again_in self.now (start.now.number + 1) s)) }
+        ensures same { WhereTold (D.shown disk.old) (λ s. (p : PlainPlaced) → streaming.again_in self.now (start.now.number + 1) s ≡ Ok p →
             MatchResult result (λ placed. plain_placed placed ≡ p) (λ fault. (fault ≡ OpenFault.DiskFault)
             ⊎ (fault ≡ OpenFault.OutOfMemory))) }
-        ensures batch { IfOk result (λ placed. placed.batch ≡ batch) }
-        ensures place { IfOk result (λ placed. placed.place ≡ (streaming.start_of self.now batch).at + 45) }
+        ensures batch { IfOk result (λ placed. placed.batch ≡ start.now.number + 1) }
+        ensures place { IfOk result (λ placed. placed.place ≡ start.now.at + 45) }
         ensures stands { IfOk result IsStanding }
         ensures read_only { IsOnlyRead D.shown D.size_of D.may_leave disk.old disk.new }
         ensures counts { D.faults disk.old ≤ D.faults disk.new }
         ensures disk_fault { result ≡ Err OpenFault.DiskFault → D.faults disk.old < D.faults disk.new }
     {
-        let past = self.start(batch);
-        let turn = read_again(alloc, disk, self.key(), &past)?;
+        let turn = read_again(alloc, disk, self.key(), start)?;
         Ok(turn.placed)
     }
 }

@@ -169,7 +169,7 @@ at_mapped f xs i x is =
     slice_get-get_or (map f xs) i (f x) inside ∙ ap Some (get_or-map f xs i x ∙ ap f (get_or_from_slice_get xs i x x is))
 
 -- what stands at a position stands there in a longer list
-at_more : {X : Type 0} (xs ys : List X) (i : ℕ) (x : X) → IsAt xs i x → IsAt (xs ++ ys) i x
+pub at_more : {X : Type 0} (xs ys : List X) (i : ℕ) (x : X) → IsAt xs i x → IsAt (xs ++ ys) i x
 at_more xs ys i x is =
     let within = slice_get_within xs i x is in
     let long = length-append xs ys in

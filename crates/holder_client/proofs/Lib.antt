@@ -23,6 +23,7 @@ pub mod Shows
 pub mod Sighted
 pub mod Sized
 pub mod Sorted
+pub mod Starts
 pub mod Steps
 pub mod ToldLemmas
 pub mod Verdicts

@@ -1,7 +1,8 @@
 -- Maps from the heads of records to where the last record of each head stands in a log. A link's head is its edge's.
-use Rattle.std.specs.Prelude.{◌≡◌, Bool, List, Option, None, Some}
+use Rattle.std.specs.Prelude.{◌≡◌, ℕ, Bool, IfSome, List, Option, None, Some}
 use Rattle.std.specs.HashMap.{HashMap, get}
 use Rattle.commit_journal.specs.Placed.{PlainPlaced}
+use Rattle.commit_journal.specs.declared.past.Past.{Past}
 use Rattle.record_format.specs.Plain.{PlainContent}
 use Rattle.record_format.specs.declared.content.ContentRecord.{ContentRecord}
 use Rattle.record_format.specs.declared.link.LinkRecord.{LinkRecord}
@@ -52,6 +53,14 @@ IsLastAt log (Some spot) wanted = (c : PlainContent) × IsContentAt log spot c �
 pub record HasLastContents {S : Type 0} (log : List PlainPlaced) (last : HashMap ContentHead ContentSpot S) (contents : List PlacedContent)
     : Type 0 where
   pub found : (head : ContentHead) → IsLastAt log (get same_content_heads last head) (last_one (is_of head.kind head.object) contents)
+
+-- this was known before the batch at a position of a log
+abbrev pub StartsAt : List Past → ℕ → Option Past → Type 0
+StartsAt starts position start = (past : Past) × (start ≡ Some past) × (past.number ≡ position) × IsAt starts position past
+
+-- each spot of the map has what was known before its batch
+pub record HaveStarts {S : Type 0} (last : HashMap ContentHead ContentSpot S) (starts : List Past) : Type 0 where
+  pub found : (head : ContentHead) → IfSome (get same_content_heads last head) (λ spot. StartsAt starts spot.position spot.start)
 
 -- both maps have the last ones of a log
 pub record IsIndexOf (index : Index) (log : List PlainPlaced) : Type 0 where

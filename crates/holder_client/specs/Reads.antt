@@ -4,10 +4,11 @@ use Rattle.std.specs.HashMap.{HashMap, get}
 use Rattle.commit_journal.specs.Answering.{Damaged}
 use Rattle.commit_journal.specs.Logs.{epoch_behind}
 use Rattle.commit_journal.specs.Placed.{PlainBody, PlainPlaced}
+use Rattle.commit_journal.specs.declared.past.Past.{Past}
 use Rattle.holder_client.specs.declared.admission.NewCheck.{NewCheck}
 use Rattle.holder_client.specs.declared.log_reader.Reader.{Reader}
 use Rattle.holder_client.specs.Folding.{folded}
-use Rattle.holder_client.specs.Indexed.{IsIndexOf}
+use Rattle.holder_client.specs.Indexed.{HaveStarts, IsIndexOf}
 use Rattle.holder_client.specs.Judging.{body_check, published_check}
 use Rattle.holder_client.specs.Sights.{same_number}
 use Rattle.public_fold.specs.Journal.{Stand, nothing}
@@ -36,3 +37,7 @@ HasReadTo (Some place) reader log = folded nothing log ≡ Err (Damaged place)
 -- these are the batches that were added: all fit, or the first that doesn't is damaged at its place
 abbrev pub HasRead : Reader → List PlainPlaced → Type 0
 HasRead reader log = HasReadTo reader.misfit reader log
+
+-- what was known before each of them: the reader has it of the batches that it reads once more
+abbrev pub HasStarts : Reader → List Past → Type 0
+HasStarts reader starts = HaveStarts reader.index.contents starts

@@ -1,14 +1,15 @@
 //! Where the last link of each edge and the last content of each head stand in a log, found without a walk over it.
-ghost use Rattle.std.specs.Prelude.{◌≡◌, [], ◌∷◌, ◌++◌, List, OnOk, length};
+ghost use Rattle.std.specs.Prelude.{◌≡◌, [], ◌∷◌, ◌++◌, IfSome, List, OnOk, length};
 ghost use Rattle.commit_journal.specs.Placed.{PlainPlaced, plain_placed};
 ghost use Rattle.commit_journal.specs.Places.{IsStanding};
+ghost use Rattle.commit_journal.specs.declared.past.Past.{Past as ThePast};
 ghost use Rattle.holder_client.specs.Found.{newest_for, plain_link};
-ghost use Rattle.holder_client.specs.Indexed.{IsIndexOf, IsLastAt};
+ghost use Rattle.holder_client.specs.Indexed.{HaveStarts, IsIndexOf, IsLastAt, StartsAt};
 ghost use Rattle.holder_client.specs.Placing as spec;
 
 use crate::last_contents::{ContentHead, ContentSpot, LastContents, note_contents_of};
 use crate::last_links::{FoundLink, LastLinks, head_sought, is_present, note_links_of};
-use commit_journal::Placed;
+use commit_journal::{Past, Placed};
 use cry_base::{Edge, Mem};
 use public_fold::PublicState;
 use std::alloc::Global;
@@ -25,7 +26,8 @@ pub(crate) struct Index {
 impl Index {
     /// The index of a log without batches.
     pub(crate) fn new(alloc: Global) -> Self
-        ensures { IsIndexOf result [] }
+        ensures index { IsIndexOf result [] }
+        ensures starts { HaveStarts result.contents [] }
     {
         Index {
             links: HashMap::new(alloc),
@@ -33,14 +35,17 @@ impl Index {
         }
     }
 
-    /// Notes the next batch, before which so many stand. After `Err` it is the index of no log.
-    pub(crate) fn note(&mut self, position: usize, placed: &Placed) -> Mem<()>
+    /// Notes the next batch, before which so many stand, with what was known before it, where it is read once more. After `Err` it is
+    /// the index of no log.
+    pub(crate) fn note(&mut self, position: usize, start: Option<Past>, placed: &Placed) -> Mem<()>
         requires { IsStanding placed.now }
-        ensures { OnOk result ((log : List PlainPlaced) → length log ≡ position → IsIndexOf self.old log
+        ensures noted { OnOk result ((log : List PlainPlaced) → length log ≡ position → IsIndexOf self.old log
             → IsIndexOf self.new (log ++ plain_placed placed.now ∷ [])) }
+        ensures starts { OnOk result ((starts : List ThePast) → HaveStarts self.old.contents starts → StartsAt starts position start
+            → HaveStarts self.new.contents starts) }
     {
         note_links_of(&mut self.links, placed)?;
-        note_contents_of(&mut self.contents, position, placed)
+        note_contents_of(&mut self.contents, position, start, placed)
     }
 
     /// The last link that was published for the edge, where it is one from the present key of its source to that of its target.
@@ -56,7 +61,9 @@ impl Index {
 
     /// The spot of the last content of the kind that was published for the folder, file or holder.
     pub(crate) fn spot_for(&self, kind: u8, object: u32) -> Option<ContentSpot>
-        ensures { (log : List PlainPlaced) → IsIndexOf self.now log → IsLastAt log result (spec.content_for log kind object) }
+        ensures found { (log : List PlainPlaced) → IsIndexOf self.now log → IsLastAt log result (spec.content_for log kind object) }
+        ensures starts { (starts : List ThePast) → HaveStarts self.now.contents starts
+            → IfSome result (λ spot. StartsAt starts spot.position spot.start) }
     {
         self.contents.get(&ContentHead { kind, object }).copied()
     }

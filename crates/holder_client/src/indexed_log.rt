@@ -41,7 +41,7 @@ impl<'a> IndexedLog<'a> {
     {
         let mut index = Index::new(alloc);
         for (position, placed) in log.iter().enumerate() {
-            index.note(position, placed)?;
+            index.note(position, None, placed)?;
         }
         Ok(IndexedLog { log, index })
     }

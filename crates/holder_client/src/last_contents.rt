@@ -3,14 +3,15 @@ ghost use Rattle.std.specs.Prelude.{◌≡◌, ◌+◌, ◌<◌, ◌^◌, ◌++�
 ghost use Rattle.std.specs.List.{sum_by};
 ghost use Rattle.commit_journal.specs.Placed.{PlainPlaced, plain_body, plain_placed};
 ghost use Rattle.commit_journal.specs.Places.{IsStanding};
+ghost use Rattle.commit_journal.specs.declared.past.Past.{Past as ThePast};
 ghost use Rattle.holder_client.specs.Found.{content_here};
-ghost use Rattle.holder_client.specs.Indexed.{HasLastContents, IsContentAt, head_of_content};
+ghost use Rattle.holder_client.specs.Indexed.{HasLastContents, HaveStarts, IsContentAt, StartsAt, head_of_content};
 ghost use Rattle.holder_client.specs.Placing as spec;
 ghost use Rattle.holder_client.specs.Spots.{IsAt, contents_in};
 ghost use Rattle.record_format.specs.Plain.{plain_content};
 ghost use Rattle.record_format.specs.Sizes.{content_size};
 
-use commit_journal::{Body, Placed, content_place};
+use commit_journal::{Body, Past, Placed, content_place};
 use cry_base::Mem;
 use record_format::{CONTENT_FRAME_LEN, ContentRecord};
 use std::collections::HashMap;
@@ -33,6 +34,8 @@ pub(crate) struct ContentSpot {
     pub(crate) position: usize,
     /// How many contents of its batch stand before it.
     pub(crate) index: usize,
+    /// What was known before its batch, where the batch is read once more.
+    pub(crate) start: Option<Past>,
 }
 
 /// The spot of the last content of each head.
@@ -48,11 +51,13 @@ fn head_of(content: &ContentRecord) -> ContentHead
 }
 
 /// Notes the spot of a content under its head, in the place of an earlier one.
-#[tactic(auto, using(crate::proofs::Lasts::content_noted))]
+#[tactic(auto, using(crate::proofs::Lasts::content_noted, crate::proofs::Starts::start_noted))]
 fn note_content(last: &mut LastContents, spot: ContentSpot, content: &ContentRecord) -> Mem<()>
-    ensures { OnOk result ((log : List PlainPlaced) (so_far : List spec.PlacedContent) → IsContentAt log spot (plain_content content.now)
+    ensures noted { OnOk result ((log : List PlainPlaced) (so_far : List spec.PlacedContent) → IsContentAt log spot (plain_content content.now)
         → HasLastContents log last.old so_far →
         HasLastContents log last.new (so_far ++ content_here spot.batch spot.at (plain_content content.now) ∷ [])) }
+    ensures starts { OnOk result ((starts : List ThePast) → HaveStarts last.old starts → StartsAt starts spot.position spot.start
+        → HaveStarts last.new starts) }
 {
     last.insert(head_of(content), spot)?;
     Ok(())
@@ -63,14 +68,17 @@ fn note_contents(
     last: &mut LastContents,
     batch: u32,
     position: usize,
+    start: Option<Past>,
     first: u64,
     contents: &[ContentRecord],
 ) -> Mem<()>
     requires end { first + sum_by content_size (map plain_content contents.now) < 2 ^ 64 }
-    ensures { OnOk result ((log : List PlainPlaced) (p : PlainPlaced) (so_far : List spec.PlacedContent) → IsAt log position p
+    ensures noted { OnOk result ((log : List PlainPlaced) (p : PlainPlaced) (so_far : List spec.PlacedContent) → IsAt log position p
         → contents_in p.body ≡ map plain_content contents.now →
         HasLastContents log last.old so_far → HasLastContents log last.new (so_far
         ++ spec.contents_at batch first (map plain_content contents.now))) }
+    ensures starts { OnOk result ((starts : List ThePast) → HaveStarts last.old starts → StartsAt starts position start
+        → HaveStarts last.new starts) }
 {
     let mut at = first;
     let mut index = 0;
@@ -80,6 +88,7 @@ fn note_contents(
             at,
             position,
             index,
+            start,
         };
         note_content(last, spot, content)?;
         at += CONTENT_FRAME_LEN + content.cipher.as_slice().len() as u64;
@@ -89,11 +98,18 @@ fn note_contents(
 }
 
 /// Notes the contents that the batch at a position of a log carries, behind those of the batches before it.
-pub(crate) fn note_contents_of(last: &mut LastContents, position: usize, placed: &Placed) -> Mem<()>
+pub(crate) fn note_contents_of(
+    last: &mut LastContents,
+    position: usize,
+    start: Option<Past>,
+    placed: &Placed,
+) -> Mem<()>
     requires { IsStanding placed.now }
-    ensures { OnOk result ((log : List PlainPlaced) (so_far : List spec.PlacedContent) → IsAt log position (plain_placed placed.now)
+    ensures noted { OnOk result ((log : List PlainPlaced) (so_far : List spec.PlacedContent) → IsAt log position (plain_placed placed.now)
         → HasLastContents log last.old so_far →
         HasLastContents log last.new (so_far ++ spec.body_contents placed.now.batch placed.now.place (plain_body placed.now.body))) }
+    ensures starts { OnOk result ((starts : List ThePast) → HaveStarts last.old starts → StartsAt starts position start
+        → HaveStarts last.new starts) }
 {
     let Body::Commands(payload) = &placed.body else {
         return Ok(());
@@ -106,6 +122,7 @@ pub(crate) fn note_contents_of(last: &mut LastContents, position: usize, placed:
         last,
         placed.batch,
         position,
+        start,
         content_place(placed, 0),
         contents,
     )

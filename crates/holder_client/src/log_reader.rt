@@ -1,27 +1,29 @@
 //! Reads a log batch by batch (docs/FORMAT.md, "Reading").
-ghost use Rattle.std.specs.Prelude.{◌≡◌, ◌≢◌, ◌+◌, ◌≤◌, ◌++◌, [], ◌∷◌, Err, IfOk, List, Ok, OnOk, length};
+ghost use Rattle.std.specs.Prelude.{◌≡◌, ◌≢◌, ◌+◌, ◌-◌, ◌≤◌, ◌++◌, [], ◌∷◌, Err, IfOk, List, Ok, OnOk, Some, length};
 ghost use Rattle.commit_journal.specs.Logs.{AreInEpochs};
 ghost use Rattle.commit_journal.specs.Placed.{PlainPlaced, plain_placed};
 ghost use Rattle.commit_journal.specs.Places.{IsStanding};
+ghost use Rattle.commit_journal.specs.declared.past.Past.{Past as ThePast};
 ghost use Rattle.holder_client.specs.Answering.{AnswersAsBy};
 ghost use Rattle.holder_client.specs.Holding.{IsReadingIn};
-ghost use Rattle.holder_client.specs.Indexed.{IsIndexOf};
+ghost use Rattle.holder_client.specs.Indexed.{HaveStarts, IsIndexOf, StartsAt};
 ghost use Rattle.holder_client.specs.Judging as spec;
-ghost use Rattle.holder_client.specs.Reads.{HasChecks, HasFolded, HasRead};
+ghost use Rattle.holder_client.specs.Reads.{HasChecks, HasFolded, HasRead, HasStarts};
 ghost use Rattle.role_graph.specs.PublicStore.{GrantsStand};
 
 use crate::ClientFault;
 use crate::admission::{Checks, may_read, note_check};
 use crate::folding::take_batch;
 use crate::index::Index;
-use commit_journal::Placed;
+use commit_journal::{Past, Placed};
 use cry_base::{Bundle, Mem, OutOfMemory};
 use public_fold::PublicState;
 use std::alloc::Global;
 use std::collections::HashMap;
 
 /// What a reading needs of a log, whose batches are added one after another: what stands in public after them, the last link
-/// of each edge, where the last content of each head stands, and the holders' checks. It holds no payload. After a payload that
+/// of each edge, where the last content of each head stands and how its batch is read once more, and the holders' checks. It
+/// holds no payload. After a payload that
 /// doesn't fit it keeps the place of that alone.
 #[derive(Drop)]
 pub struct Reader {
@@ -35,7 +37,8 @@ pub struct Reader {
 impl Reader {
     /// A reader to which no batch was added.
     pub fn new(alloc: Global) -> Mem<Reader>
-        ensures { IfOk result (λ reader. HasRead reader []) }
+        ensures read { IfOk result (λ reader. HasRead reader []) }
+        ensures starts { IfOk result (λ reader. HasStarts reader []) }
     {
         let state = PublicState::new(alloc)?;
         Ok(Reader {
@@ -46,21 +49,24 @@ impl Reader {
         })
     }
 
-    /// Adds the next batch. After `Err` the reader is that of no log, and of no more use.
-    pub fn add(&mut self, alloc: Global, placed: &Placed) -> Mem<()>
+    /// Adds the next batch, with what [`PublicLog::past`](commit_journal::PublicLog::past) was before it. After `Err` the reader is
+    /// that of no log, and of no more use.
+    pub fn add(&mut self, alloc: Global, placed: &Placed, start: &Past) -> Mem<()>
         requires stands { IsStanding placed.now }
         requires next { (log : List PlainPlaced) × HasRead self.old log × AreInEpochs 0 (log ++ plain_placed placed.now ∷ [])
             × (placed.now.batch ≡ length log + 1) }
-        ensures { OnOk result ((log : List PlainPlaced) → HasRead self.old log → AreInEpochs 0 (log ++ plain_placed placed.now ∷ [])
+        ensures read { OnOk result ((log : List PlainPlaced) → HasRead self.old log → AreInEpochs 0 (log ++ plain_placed placed.now ∷ [])
             → placed.now.batch ≡ length log + 1 →
             HasRead self.new (log ++ plain_placed placed.now ∷ [])) }
+        ensures starts { OnOk result ((starts : List ThePast) → HasStarts self.old starts → start.now.number ≡ length starts
+            → placed.now.batch ≡ length starts + 1 → HasStarts self.new (starts ++ start.now ∷ [])) }
     {
         let _number = placed.batch;
         if self.misfit.is_some() {
             return Ok(());
         }
         match take_batch(alloc, &mut self.state, placed) {
-            Ok(()) => self.keep(placed),
+            Ok(()) => self.keep(placed, start),
             Err(ClientFault::Damaged { at }) => {
                 self.misfit = Some(at);
                 Ok(())
@@ -70,18 +76,21 @@ impl Reader {
     }
 
     /// Keeps what a reading needs of a batch that fits.
-    fn keep(&mut self, placed: &Placed) -> Mem<()>
+    fn keep(&mut self, placed: &Placed, start: &Past) -> Mem<()>
         requires stands { IsStanding placed.now }
         requires from_one { 1 ≤ placed.now.batch }
         ensures kept { OnOk result ((log : List PlainPlaced) → placed.now.batch ≡ length log + 1 → IsIndexOf self.old.index log
             → HasChecks self.old.checks log →
             IsIndexOf self.new.index (log ++ plain_placed placed.now ∷ [])
             × HasChecks self.new.checks (log ++ plain_placed placed.now ∷ [])) }
+        ensures starts { OnOk result ((starts : List ThePast) → HaveStarts self.old.index.contents starts
+            → StartsAt starts (placed.now.batch - 1) (Some start.now) → HaveStarts self.new.index.contents starts) }
         ensures state { self.new.state ≡ self.old.state }
         ensures misfit { self.new.misfit ≡ self.old.misfit }
     {
         note_check(&mut self.checks, placed)?;
-        self.index.note(placed.batch as usize - 1, placed)
+        self.index
+            .note(placed.batch as usize - 1, Some(*start), placed)
     }
 
     /// What stands in public after the batches that were added, where all of them fit.

@@ -16,7 +16,7 @@ ghost use Rattle.holder_client.specs.Beside as spec;
 ghost use Rattle.holder_client.specs.Holding.{IsReadingIn};
 ghost use Rattle.holder_client.specs.Judging.{who_of};
 ghost use Rattle.holder_client.specs.Lines.{lines_of, plain_line, read_line};
-ghost use Rattle.holder_client.specs.Reads.{HasRead};
+ghost use Rattle.holder_client.specs.Reads.{HasRead, HasStarts};
 ghost use Rattle.holder_client.specs.Sights.{MayRead, same_number};
 ghost use Rattle.holder_client.specs.View.{line_path};
 ghost use Rattle.holder_client.specs.Visiting.{Reading};
@@ -211,6 +211,7 @@ impl Reader {
         path: &[u8],
     ) -> Result<Line, ClientFault>
         requires read { HasRead self.now log.now.given }
+        requires starts { HasStarts self.now log.now.starts }
         requires shows { WhereTold (D.shown disk.old) (λ s. ShowsGiven log.now s) }
         ensures answer { WhereTold (D.shown disk.old) (λ _. AnswersAs plain_line result (line_with bundle.now path.now (Ok log.now.given))) }
         ensures read_only { IsOnlyRead D.shown D.size_of D.may_leave disk.old disk.new }

@@ -11,7 +11,7 @@ ghost use Rattle.holder_client.specs.Holding.{IsReadingIn};
 ghost use Rattle.holder_client.specs.Judging as spec;
 ghost use Rattle.holder_client.specs.Judging.{shown_with, view_with};
 ghost use Rattle.holder_client.specs.Lines.{plain_view};
-ghost use Rattle.holder_client.specs.Reads.{HasRead};
+ghost use Rattle.holder_client.specs.Reads.{HasRead, HasStarts};
 ghost use Rattle.holder_client.specs.Sights.{MayRead};
 ghost use Rattle.holder_client.specs.Visiting.{Reading};
 ghost use Rattle.public_fold.specs.KeyStep.{present};
@@ -48,6 +48,7 @@ fn read_batches<D: Disk>(
     ensures verdict { WhereTold (D.shown disk.old)
         (λ s. Answers (λ read. read.log.given) result (readers.read_log (readers.key_bytes (option_copied owner.entry)) s)) }
     ensures read { IfOk result (λ read. HasRead read.reader read.log.given) }
+    ensures starts { IfOk result (λ read. HasStarts read.reader read.log.starts) }
     ensures shows { WhereTold (D.shown disk.old) (λ s. IfOk result (λ read. ShowsGiven read.log s)) }
     ensures seen { result ≢ Err ClientFault.Unseen }
     ensures read_only { IsOnlyRead D.shown D.size_of D.may_leave disk.old disk.new }
@@ -56,8 +57,10 @@ fn read_batches<D: Disk>(
 {
     let mut log = PublicLog::begin(alloc, disk, owner)?;
     let mut reader = Reader::new(alloc)?;
+    let mut start = log.past();
     while let Some(placed) = log.next(alloc, disk)? {
-        reader.add(alloc, &placed)?;
+        reader.add(alloc, &placed, &start)?;
+        start = log.past();
     }
     Ok(ReadLog { log, reader })
 }
@@ -70,6 +73,7 @@ pub(crate) fn read_log<D: Disk>(
 ) -> Result<ReadLog, ClientFault>
     ensures verdict { WhereTold (D.shown disk.old) (λ s. Answers (λ read. read.log.given) result (spec.bundle_log bundle.now s)) }
     ensures read { IfOk result (λ read. HasRead read.reader read.log.given) }
+    ensures starts { IfOk result (λ read. HasStarts read.reader read.log.starts) }
     ensures shows { WhereTold (D.shown disk.old) (λ s. IfOk result (λ read. ShowsGiven read.log s)) }
     ensures seen { result ≢ Err ClientFault.Unseen }
     ensures read_only { IsOnlyRead D.shown D.size_of D.may_leave disk.old disk.new }
@@ -130,6 +134,7 @@ impl Reader {
         bundle: &Bundle,
     ) -> Result<List<Line>, ClientFault>
         requires read { HasRead self.now log.now.given }
+        requires starts { HasStarts self.now log.now.starts }
         requires shows { WhereTold (D.shown disk.old) (λ s. ShowsGiven log.now s) }
         ensures answer { WhereTold (D.shown disk.old) (λ _. AnswersAs plain_view result (view_with bundle.now (Ok log.now.given))) }
         ensures seen { result ≢ Err ClientFault.Unseen }

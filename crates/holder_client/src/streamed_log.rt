@@ -19,15 +19,14 @@ pub(crate) struct StreamedLog<'a> {
 }
 
 impl<'a> Model for StreamedLog<'a> {
-    ghost use Rattle.std.specs.Prelude.{◌<◌, ◌^◌, length};
     ghost use Rattle.commit_journal.specs.Streaming.{LogState};
-    ghost use Rattle.holder_client.specs.Indexed.{IsIndexOf};
+    ghost use Rattle.holder_client.specs.Indexed.{HaveStarts, IsIndexOf};
 
     ghost Value = { LogState };
 
     ghost view = { λ l. l.log.now };
 
-    ghost invariant = { λ l. IsIndexOf l.index.now l.log.now.given × (length l.log.now.given < 2 ^ 32) };
+    ghost invariant = { λ l. IsIndexOf l.index.now l.log.now.given × HaveStarts l.index.now.contents l.log.now.starts };
 }
 
 impl<'a, D: Disk> Records<D> for StreamedLog<'a> {
@@ -58,7 +57,10 @@ impl<'a, D: Disk> Records<D> for StreamedLog<'a> {
         let Some(spot) = self.index.spot_for(kind, object) else {
             return Ok(None);
         };
-        let placed = self.log.again(alloc, source, spot.position as u32 + 1)?;
+        let Some(start) = &spot.start else {
+            unreachable!()
+        };
+        let placed = self.log.again(alloc, source, start)?;
         Ok(Some(take_content(placed, &spot, kind, object)?))
     }
 

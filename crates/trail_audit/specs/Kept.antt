@@ -1,6 +1,8 @@
 -- What an audit has of the batches that it read. This project's own, docs/FORMAT.md, "Reading".
 use Rattle.std.specs.Prelude.{◌≡◌, List, length}
 use Rattle.commit_journal.specs.Placed.{PlainPlaced}
+use Rattle.commit_journal.specs.Streaming.{IsReading, LogState}
+use Rattle.commit_journal.specs.declared.past.Past.{Past}
 use Rattle.holder_client.specs.Placing.{log_links}
 use Rattle.holder_client.specs.Reads.{HasRead}
 use Rattle.trail_audit.specs.Grouped.{HasGroups, source_of_link}
@@ -14,3 +16,8 @@ pub record HasKept (kept : Kept) (log : List PlainPlaced) : Type 0 where
   pub links : HasGroups source_of_link kept.links (log_links log)
   pub seals : AreSealsOf kept.seals.items log
   pub last : kept.last ≡ length log
+
+-- what was known before each batch that a log gave
+pub record KeepsStarts (starts : List Past) (log : LogState) : Type 0 where
+  pub same : starts ≡ log.starts
+  pub reading : IsReading log.given log.starts log.past

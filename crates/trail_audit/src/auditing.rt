@@ -100,8 +100,17 @@ pub fn audit<D: Disk>(
         reader,
         links,
         seals,
+        starts,
         last,
     } = kept;
     let known = known_keys(alloc, bundle, reader, links)?;
-    see_log(alloc, disk, &log, last, seals.as_slice(), &known)
+    see_log(
+        alloc,
+        disk,
+        &log,
+        last,
+        seals.as_slice(),
+        starts.as_slice(),
+        &known,
+    )
 }

@@ -6,7 +6,7 @@ ghost use Rattle.commit_journal.specs.Reading.{IsOnlyRead};
 ghost use Rattle.commit_journal.specs.Streaming.{ShowsGiven};
 ghost use Rattle.holder_client.specs.Answering.{Answers};
 ghost use Rattle.holder_client.specs.Judging as spec;
-ghost use Rattle.trail_audit.specs.Kept.{HasKept};
+ghost use Rattle.trail_audit.specs.Kept.{HasKept, KeepsStarts};
 
 use crate::kept::Kept;
 use chacha_seal::{Key, OwnerK};
@@ -32,6 +32,7 @@ fn read_batches<D: Disk>(
     ensures verdict { WhereTold (D.shown disk.old)
         (λ s. Answers (λ read. read.log.given) result (readers.read_log (readers.key_bytes (option_copied owner.entry)) s)) }
     ensures kept { IfOk result (λ read. HasKept read.kept read.log.given) }
+    ensures starts { IfOk result (λ read. KeepsStarts read.kept.starts.items read.log) }
     ensures shows { WhereTold (D.shown disk.old) (λ s. IfOk result (λ read. ShowsGiven read.log s)) }
     ensures seen { result ≢ Err ClientFault.Unseen }
     ensures read_only { IsOnlyRead D.shown D.size_of D.may_leave disk.old disk.new }
@@ -40,8 +41,10 @@ fn read_batches<D: Disk>(
 {
     let mut log = PublicLog::begin(alloc, disk, owner)?;
     let mut kept = Kept::new(alloc)?;
+    let mut start = log.past();
     while let Some(placed) = log.next(alloc, disk)? {
-        kept.add(alloc, &placed)?;
+        kept.add(alloc, &placed, &start)?;
+        start = log.past();
     }
     Ok(ReadLog { log, kept })
 }
@@ -54,6 +57,7 @@ pub(crate) fn read_log<D: Disk>(
 ) -> Result<ReadLog, ClientFault>
     ensures verdict { WhereTold (D.shown disk.old) (λ s. Answers (λ read. read.log.given) result (spec.bundle_log bundle.now s)) }
     ensures kept { IfOk result (λ read. HasKept read.kept read.log.given) }
+    ensures starts { IfOk result (λ read. KeepsStarts read.kept.starts.items read.log) }
     ensures shows { WhereTold (D.shown disk.old) (λ s. IfOk result (λ read. ShowsGiven read.log s)) }
     ensures seen { result ≢ Err ClientFault.Unseen }
     ensures read_only { IsOnlyRead D.shown D.size_of D.may_leave disk.old disk.new }

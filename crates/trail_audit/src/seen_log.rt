@@ -1,12 +1,13 @@
 //! What right keys show of a log, of short contents that were kept and of batches that are read once more (docs/FORMAT.md, "Reading").
-ghost use Rattle.std.specs.Prelude.{◌≡◌, ◌≢◌, ◌<◌, ◌≤◌, [], Err, MatchResult, Ok, length, map};
+ghost use Rattle.std.specs.Prelude.{◌≡◌, ◌≢◌, ◌+◌, ◌<◌, ◌≤◌, [], Err, MatchResult, Ok, length, map};
 ghost use Rattle.cry_io.specs.Told.{WhereTold};
 ghost use Rattle.commit_journal.specs.Placed.{PlainPlaced};
 ghost use Rattle.commit_journal.specs.Reading.{IsOnlyRead};
-ghost use Rattle.commit_journal.specs.Streaming.{ShowsGiven, again_in};
+ghost use Rattle.commit_journal.specs.Streaming.{IsStart, ShowsGiven, again_in};
 ghost use Rattle.holder_client.specs.Placing.{body_contents, log_contents};
 ghost use Rattle.trail_audit.specs.Derived.{AreSeen, RereadFault, plain_seen};
 ghost use Rattle.trail_audit.specs.Grouped.{HasGroups, key_source};
+ghost use Rattle.trail_audit.specs.Kept.{KeepsStarts};
 ghost use Rattle.trail_audit.specs.Seals.{AreSeals, AreSealsOf};
 
 use crate::Seen;
@@ -14,7 +15,7 @@ use crate::contents::see_contents;
 use crate::placed_records::contents_of;
 use crate::seals::{Seals, may_show, seals_at};
 use crate::trails::KnownKeys;
-use commit_journal::PublicLog;
+use commit_journal::{Past, PublicLog};
 use cry_base::List;
 use cry_io::Disk;
 use holder_client::ClientFault;
@@ -26,14 +27,14 @@ fn see_batch<D: Disk>(
     alloc: Global,
     disk: &mut D,
     log: &PublicLog,
-    batch: u32,
+    start: &Past,
     seals: &Seals,
     known: &KnownKeys,
     seen: &mut List<Seen>,
 ) -> Result<(), ClientFault>
-    requires given { (1 ≤ batch) × (batch ≤ length log.now.given) }
+    requires given { IsStart log.now start.now }
     requires grouped { HasGroups key_source known.now.groups known.now.keys.items }
-    ensures answer { WhereTold (D.shown disk.old) (λ s. (p : PlainPlaced) → again_in log.now batch s ≡ Ok p
+    ensures answer { WhereTold (D.shown disk.old) (λ s. (p : PlainPlaced) → again_in log.now (start.now.number + 1) s ≡ Ok p
         → AreSeals seals.now (body_contents p.batch p.place p.body) →
         MatchResult result (λ _. AreSeen known.now.keys.items (body_contents p.batch p.place p.body) (map plain_seen seen.old.items)
         (map plain_seen seen.new.items))
@@ -49,21 +50,23 @@ fn see_batch<D: Disk>(
     if !may_show(&known.groups, seals) {
         return Ok(());
     }
-    let placed = log.again(alloc, disk, batch)?;
+    let placed = log.again(alloc, disk, start)?;
     let contents = contents_of(alloc, &placed)?;
     see_contents(alloc, contents.as_slice(), known, seen)
 }
 
-/// Opens the contents of a log of so many batches, which are sealed so, and gives what they show.
+/// Opens the contents of a log of so many batches, which are sealed so and before which that was known, and gives what they show.
 pub(crate) fn see_log<D: Disk>(
     alloc: Global,
     disk: &mut D,
     log: &PublicLog,
     last: u32,
     seals: &[Seals],
+    starts: &[Past],
     known: &KnownKeys,
 ) -> Result<List<Seen>, ClientFault>
     requires last { last ≡ length log.now.given }
+    requires starts { KeepsStarts starts.now log.now }
     requires seals { AreSealsOf seals.now log.now.given }
     requires grouped { HasGroups key_source known.now.groups known.now.keys.items }
     ensures answer { WhereTold (D.shown disk.old) (λ s. ShowsGiven log.now s →
@@ -78,7 +81,8 @@ pub(crate) fn see_log<D: Disk>(
     let mut done = 0;
     while done < last {
         let sealed = seals_at(seals, done);
-        see_batch(alloc, disk, log, done + 1, sealed, known, &mut seen)?;
+        let start = &starts[done as usize];
+        see_batch(alloc, disk, log, start, sealed, known, &mut seen)?;
         done += 1;
     }
     Ok(seen)

@@ -16,6 +16,7 @@ loop-content-init c = record {
   index = refl;
   place = omega arith;
   noted = λ log p so_far at carries has. subst (HasLastContents log c.args.last.now) (sym (append-nil so_far)) has;
+  starts = λ starts have at. have;
 }
 
 pub overflow_add-at-in-loop-content : goal.overflow_add-at-in-loop-content
@@ -46,6 +47,7 @@ loop-content-preserved c =
       place = omega (arith, more, size, c.loop-content.invariant.place, ap length c.as_slice.ensures);
       noted = λ log p so_far at carries has.
           more_contents log c.note_content.new.last so_far c.args.batch c.args.first c.loop-content.at plain i (plain_content content) item.0 c.loop-content.invariant.place item.1
-          (c.in_ok-note_content.ensures log (so_far ++ contents_at c.args.batch c.args.first (take i plain))
+          (c.in_ok-note_content.ensures.noted log (so_far ++ contents_at c.args.batch c.args.first (take i plain))
           (p, at, subst (λ l. IsAt l c.loop-content.index (plain_content content)) (sym carries) here) (c.loop-content.invariant.noted log p so_far at carries has));
+      starts = λ starts have at. c.in_ok-note_content.ensures.starts starts (c.loop-content.invariant.starts starts have at) at;
     }

@@ -11,15 +11,15 @@ use Rattle.holder_client.specs.Placing.{body_contents, contents_at}
 use Rattle.holder_client.specs.Spots.{contents_in}
 use Rattle.holder_client.proofs.last_contents.note_contents_of.Goals as goal
 
-pub returns-in_default : goal.returns-in_default
+pub returns-in_default-clause-noted : goal.returns-in_default-clause-noted
 unfolding body_contents
-returns-in_default c = λ log so_far at has.
+returns-in_default-clause-noted c = λ log so_far at has.
     let placed = c.args.placed.now in
     subst (HasLastContents log c.args.last.now) (sym (ap (λ b. so_far ++ body_contents placed.batch placed.place (plain_body b)) c.in_default.is ∙ append-nil so_far)) has
 
-pub returns-then-is_empty : goal.returns-then-is_empty
+pub returns-then-is_empty-clause-noted : goal.returns-then-is_empty-clause-noted
 unfolding body_contents contents_at
-returns-then-is_empty c = λ log so_far at has.
+returns-then-is_empty-clause-noted c = λ log so_far at has.
     let placed = c.args.placed.now in
     let payload = c.in-Commands.payload in
     let first = placed.place + content_offset (plain_payload payload) 0 in
@@ -30,9 +30,9 @@ returns-then-is_empty c = λ log so_far at has.
     ∙ append-nil so_far))
     has
 
-pub returns : goal.returns
+pub returns-clause-noted : goal.returns-clause-noted
 unfolding body_contents
-returns c =
+returns-clause-noted c =
     let placed = c.args.placed.now in
     let payload = c.in-Commands.payload in
     let is_place : c.content_place.result ≡ placed.place + content_offset (plain_payload payload) 0 = subst (IsContentPlace placed.place 0 c.content_place.result) c.in-Commands.is c.content_place.ensures in
@@ -43,4 +43,4 @@ returns c =
     ∙ ap (λ (ls : List ContentRecord). so_far ++ contents_at placed.batch (placed.place + content_offset (plain_payload payload) 0) (map plain_content ls)) c.as_slice-contents.ensures
     ∙ ap (λ b. so_far ++ body_contents placed.batch placed.place (plain_body b)) (sym c.in-Commands.is))
     (noted log (plain_placed placed) so_far at (ap (λ b. contents_in (plain_body b)) c.in-Commands.is ∙ ap (map plain_content) (sym c.as_slice-contents.ensures)) has))
-    c.note_contents.ensures
+    c.note_contents.ensures.noted

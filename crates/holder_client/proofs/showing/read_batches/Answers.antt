@@ -1,14 +1,15 @@
-use Rattle.std.proofs.Common.{◌≡◌, List, Result, Ok, ap, sym, subst, ◌∙◌, arith}
+use Rattle.std.proofs.Common.{◌≡◌, ◌+◌, List, [], ◌∷◌, ◌++◌, Result, Ok, ap, sym, subst, ◌∙◌, arith}
 use Rattle.std.specs.Prelude.{option_copied}
 use Rattle.std.proofs.lemmas.Result.{err_from_is_err_and}
 use Rattle.commit_journal.specs.Logs.{AreInEpochs}
 use Rattle.commit_journal.specs.Placed.{PlainPlaced}
+use Rattle.commit_journal.specs.declared.past.Past.{Past}
 use Rattle.commit_journal.specs.Readers as readers
 use Rattle.commit_journal.specs.Streaming.{Gives, GivesOne, LogState}
 use Rattle.commit_journal.proofs.Walked.{only_read_twice}
 use Rattle.commit_journal.specs.Answering as journal
 use Rattle.commit_journal.specs.Answering.{Fault}
-use Rattle.holder_client.specs.Reads.{HasRead}
+use Rattle.holder_client.specs.Reads.{HasRead, HasStarts}
 use Rattle.holder_client.proofs.Listings.{opening_seen}
 use Rattle.holder_client.proofs.Adding.{shows_none}
 use Rattle.holder_client.proofs.Viewed.{log_fault}
@@ -29,7 +30,11 @@ loop-reader-init g c =
     let begun = c.in_ok-log.ensures in
     record {
       inside = omega (arith, begun.inside, begun.read_only.same_size);
-      read = subst (HasRead c.in_ok-reader.reader) (sym begun.fresh.1) c.in_ok-reader.ensures;
+      read = subst (HasRead c.in_ok-reader.reader) (sym begun.fresh.1) c.in_ok-reader.ensures.read;
+      past = c.past-start.ensures.past;
+      number = c.past-start.ensures.number;
+      count = c.past-start.ensures.reading.count;
+      starts = subst (HasStarts c.in_ok-reader.reader) (sym begun.fresh.2) c.in_ok-reader.ensures.starts;
       read_only = begun.read_only;
       counts = begun.counts;
       so_far = begun.log;
@@ -52,7 +57,12 @@ loop-reader-preserved g c =
     let gives : GivesOne size c.loop-reader.log placed c.next.new.self = subst (λ o. Gives size c.loop-reader.log o c.next.new.self) c.in-Some.is next.gives in
     record {
       inside = omega (arith, gives.inside, next.read_only.same_size);
-      read = subst (HasRead c.add.new.self) (sym gives.given) (c.in_ok-add.ensures c.loop-reader.log.given kept.read (subst (AreInEpochs 0) gives.given next.epochs) gives.batch);
+      read = subst (HasRead c.add.new.self) (sym gives.given) (c.in_ok-add.ensures.read c.loop-reader.log.given kept.read (subst (AreInEpochs 0) gives.given next.epochs) gives.batch);
+      past = c.past-start-in-Some.ensures.past;
+      number = c.past-start-in-Some.ensures.number;
+      count = c.past-start-in-Some.ensures.reading.count;
+      starts = subst (HasStarts c.add.new.self) (ap (λ (p : Past). c.loop-reader.log.starts ++ p ∷ []) kept.past ∙ sym gives.starts)
+          (c.in_ok-add.ensures.starts c.loop-reader.log.starts kept.starts kept.number (gives.batch ∙ ap (λ n. n + 1) (sym kept.count)));
       read_only = only_read_twice g.D.Disk.shown g.D.Disk.size_of g.D.Disk.may_leave c.args.disk.now c.loop-reader.disk c.next.new.disk kept.read_only next.read_only;
       counts = omega (arith, kept.counts, next.counts);
       so_far = λ s is. next.log s (kept.read_only.same_bytes ∙ is) ∙ kept.so_far s is;
@@ -120,3 +130,8 @@ returns-clause-read_only g c =
 
 pub returns-clause-counts : goal.returns-clause-counts
 returns-clause-counts g c = omega (arith, c.loop-reader.invariant.counts, c.in_ok-placed.ensures.counts)
+
+pub returns-clause-starts : goal.returns-clause-starts
+returns-clause-starts g c =
+    let same : c.next.new.self ≡ c.loop-reader.log = subst (λ o. Gives (g.D.Disk.size_of c.loop-reader.disk) c.loop-reader.log o c.next.new.self) c.in_default.is c.in_ok-placed.ensures.gives in
+    subst (λ (l : LogState). HasStarts c.loop-reader.reader l.starts) (sym same) c.loop-reader.invariant.starts

@@ -1,14 +1,15 @@
-use Rattle.std.proofs.Common.{◌≡◌, List, Result, Ok, ap, sym, subst, ◌∙◌, arith}
+use Rattle.std.proofs.Common.{◌≡◌, List, [], ◌∷◌, ◌++◌, Result, Ok, ap, sym, subst, ◌∙◌, arith}
 use Rattle.std.specs.Prelude.{option_copied}
 use Rattle.std.proofs.lemmas.Result.{err_from_is_err_and}
 use Rattle.commit_journal.specs.Logs.{AreInEpochs}
 use Rattle.commit_journal.specs.Placed.{PlainPlaced}
+use Rattle.commit_journal.specs.declared.past.Past.{Past}
 use Rattle.commit_journal.specs.Readers as readers
 use Rattle.commit_journal.specs.Streaming.{Gives, GivesOne, LogState}
 use Rattle.commit_journal.proofs.Walked.{only_read_twice}
 use Rattle.commit_journal.specs.Answering as journal
 use Rattle.commit_journal.specs.Answering.{Fault}
-use Rattle.trail_audit.specs.Kept.{HasKept}
+use Rattle.trail_audit.specs.Kept.{HasKept, KeepsStarts}
 use Rattle.holder_client.proofs.Listings.{opening_seen}
 use Rattle.holder_client.proofs.Adding.{shows_none}
 use Rattle.holder_client.proofs.Viewed.{log_fault}
@@ -29,7 +30,9 @@ loop-kept-init g c =
     let begun = c.in_ok-log.ensures in
     record {
       inside = omega (arith, begun.inside, begun.read_only.same_size);
-      kept = subst (HasKept c.in_ok-kept.kept) (sym begun.fresh.1) c.in_ok-kept.ensures;
+      kept = subst (HasKept c.in_ok-kept.kept) (sym begun.fresh.1) c.in_ok-kept.ensures.kept;
+      past = c.past-start.ensures.past;
+      starts = record { same = c.in_ok-kept.ensures.starts ∙ sym begun.fresh.2; reading = c.past-start.ensures.reading };
       read_only = begun.read_only;
       counts = begun.counts;
       so_far = begun.log;
@@ -52,7 +55,12 @@ loop-kept-preserved g c =
     let gives : GivesOne size c.loop-kept.log placed c.next.new.self = subst (λ o. Gives size c.loop-kept.log o c.next.new.self) c.in-Some.is next.gives in
     record {
       inside = omega (arith, gives.inside, next.read_only.same_size);
-      kept = subst (HasKept c.add.new.self) (sym gives.given) (c.in_ok-add.ensures c.loop-kept.log.given so.kept (subst (AreInEpochs 0) gives.given next.epochs) gives.batch);
+      kept = subst (HasKept c.add.new.self) (sym gives.given) (c.in_ok-add.ensures.kept c.loop-kept.log.given so.kept (subst (AreInEpochs 0) gives.given next.epochs) gives.batch);
+      past = c.past-start-in-Some.ensures.past;
+      starts = record {
+        same = c.in_ok-add.ensures.starts ∙ ap (λ (ps : List Past). ps ++ c.loop-kept.start ∷ []) so.starts.same ∙ ap (λ (p : Past). c.loop-kept.log.starts ++ p ∷ []) so.past ∙ sym gives.starts;
+        reading = c.past-start-in-Some.ensures.reading;
+      };
       read_only = only_read_twice g.D.Disk.shown g.D.Disk.size_of g.D.Disk.may_leave c.args.disk.now c.loop-kept.disk c.next.new.disk so.read_only next.read_only;
       counts = omega (arith, so.counts, next.counts);
       so_far = λ s is. next.log s (so.read_only.same_bytes ∙ is) ∙ so.so_far s is;
@@ -68,7 +76,12 @@ loop-kept-preserved-in_ok-add g c =
     let gives : GivesOne size c.loop-kept.log placed c.next.new.self = subst (λ o. Gives size c.loop-kept.log o c.next.new.self) c.in-Some.is next.gives in
     record {
       inside = omega (arith, gives.inside, next.read_only.same_size);
-      kept = subst (HasKept c.add.new.self) (sym gives.given) (c.in_ok-add.ensures c.loop-kept.log.given so.kept (subst (AreInEpochs 0) gives.given next.epochs) gives.batch);
+      kept = subst (HasKept c.add.new.self) (sym gives.given) (c.in_ok-add.ensures.kept c.loop-kept.log.given so.kept (subst (AreInEpochs 0) gives.given next.epochs) gives.batch);
+      past = c.past-start-in-Some.ensures.past;
+      starts = record {
+        same = c.in_ok-add.ensures.starts ∙ ap (λ (ps : List Past). ps ++ c.loop-kept.start ∷ []) so.starts.same ∙ ap (λ (p : Past). c.loop-kept.log.starts ++ p ∷ []) so.past ∙ sym gives.starts;
+        reading = c.past-start-in-Some.ensures.reading;
+      };
       read_only = only_read_twice g.D.Disk.shown g.D.Disk.size_of g.D.Disk.may_leave c.args.disk.now c.loop-kept.disk c.next.new.disk so.read_only next.read_only;
       counts = omega (arith, so.counts, next.counts);
       so_far = λ s is. next.log s (so.read_only.same_bytes ∙ is) ∙ so.so_far s is;
@@ -136,3 +149,8 @@ returns-clause-read_only g c =
 
 pub returns-clause-counts : goal.returns-clause-counts
 returns-clause-counts g c = omega (arith, c.loop-kept.invariant.counts, c.in_ok-placed.ensures.counts)
+
+pub returns-clause-starts : goal.returns-clause-starts
+returns-clause-starts g c =
+    let same : c.next.new.self ≡ c.loop-kept.log = subst (λ o. Gives (g.D.Disk.size_of c.loop-kept.disk) c.loop-kept.log o c.next.new.self) c.in_default.is c.in_ok-placed.ensures.gives in
+    subst (λ (l : LogState). KeepsStarts c.loop-kept.kept.starts.items l) (sym same) c.loop-kept.invariant.starts

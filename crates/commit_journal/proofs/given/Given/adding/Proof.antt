@@ -34,50 +34,54 @@ use Rattle.commit_journal.proofs.given.Given.adding.Statement as stated
 use Rattle.commit_journal.proofs.given.Given.adding.Code as code
 use Rattle.commit_journal.specs.contracts.given.Given as made
 use Rattle.commit_journal.specs.contracts.placed.Placed as item
+use Rattle.commit_journal.specs.contracts.past.Past as before_it
 use Rattle.commit_journal.specs.Placed.{plain_placed}
 
 abbrev stayed : Stays (f.ended).signature.params (f.ended).kept
-stayed = (stay_none_ref (0 ∷ []) tt (plain (λ _. made.the_row)) yes, (stay_none_ref (1 ∷ []) tt (plain (λ _. item.the_row)) yes, tt))
+stayed = (stay_none_ref (0 ∷ []) tt (plain (λ _. made.the_row)) yes, (stay_none_ref (1 ∷ []) tt (plain (λ _. item.the_row)) yes, (stay_none_ref (2 ∷ []) tt (plain (λ _. before_it.the_row)) yes, tt)))
 
 module _ {M : Type 1} {𝓤 : Ura M} (𝓛 : Logic 𝓤) (mem : Memory → SProp 𝓤) (run : Routine → Fun 𝓤) (C : Calls 𝓤 𝓛.H) (Λ : Loops 𝓤 𝓛.H) where
   open 𝓛 use {H}
 
-  module _ (κs : Lfts 2) (qs : Shares 2) (a : Args f.signature κs) where
+  module _ (κs : Lfts 3) (qs : Shares 3) (a : Args f.signature κs) where
     abbrev before : Val
     before = vptr a.0.ref_ptr.0 a.0.ref_ptr.1
 
     abbrev place : Val
     place = vptr a.1.0.ref_ptr.0 a.1.0.ref_ptr.1
 
+    abbrev known : Val
+    known = vptr a.1.1.0.ref_ptr.0 a.1.1.0.ref_ptr.1
+
     abbrev made_at : made.the_row.Denot
-    made_at = record { batches = a.0.now.batches ++ plain_placed a.1.0.now ∷ [] }
+    made_at = record { batches = a.0.now.batches ++ plain_placed a.1.0.now ∷ []; starts = a.0.now.starts ++ a.1.1.0.now ∷ [] }
 
     abbrev bound : (walk_of 𝓛 f.ended stayed (f.clauses 𝓛 mem run)).Ghost
-    bound = ((κs, qs, tt, a, (before ∷ [], (place ∷ [], tt))), tt)
+    bound = ((κs, qs, tt, a, (before ∷ [], (place ∷ [], (known ∷ [], tt)))), tt)
 
     abbrev passed : Fml
-    passed = owns (types_at f.signature.params κs) a (before ∷ [], (place ∷ [], tt))
+    passed = owns (types_at f.signature.params κs) a (before ∷ [], (place ∷ [], (known ∷ [], tt)))
 
-    walk : ent 𝓤 (on_entry 𝓛 f.signature κs qs a (before ∷ [], (place ∷ [], tt)))
-        (WpFn 𝓤 H C Λ code.function (before ∷ place ∷ []) ((walk_of 𝓛 f.ended stayed (f.clauses 𝓛 mem run)).post bound))
+    walk : ent 𝓤 (on_entry 𝓛 f.signature κs qs a (before ∷ [], (place ∷ [], (known ∷ [], tt))))
+        (WpFn 𝓤 H C Λ code.function (before ∷ place ∷ known ∷ []) ((walk_of 𝓛 f.ended stayed (f.clauses 𝓛 mem run)).post bound))
     walk =
-        qed 𝓛 (raw (alive 𝓛 f.signature κs qs) ∷ ‵ passed ∷ []) ∵ enter ! C Λ code.function (before ∷ place ∷ []) _ $
-        alloc_all ! (λ l. pass_all ! refl ((tt, tt), ((tt, tt), tt)) $ sets ! (agg ! (no_more !)) refl (tt, tt) $
+        qed 𝓛 (raw (alive 𝓛 f.signature κs qs) ∷ ‵ passed ∷ []) ∵ enter ! C Λ code.function (before ∷ place ∷ known ∷ []) _ $
+        alloc_all ! (λ l. pass_all ! refl ((tt, tt), ((tt, tt), ((tt, tt), tt))) $ sets ! (agg ! (no_more !)) refl (tt, tt) $
         returns ! (look_at ! 0 refl) $ free_all ! refl $
-        suffices ! _ (ends_at 𝓛 f.ended stayed (f.clauses 𝓛 mem run) bound (vstruct vnil) made_at (tt, (tt, tt)) (tt, (tt, tt))) $
-        says ! refl $ pure_i ! (made.the_row.own_val made_at (vstruct vnil ∷ [])) ((λ vss. (tt, tt)), tt) ((tt, (refl, tt)), tt) $
+        suffices ! _ (ends_at 𝓛 f.ended stayed (f.clauses 𝓛 mem run) bound (vstruct vnil) made_at (tt, (tt, (tt, tt))) (tt, (tt, (tt, tt)))) $
+        says ! (refl, refl) $ pure_i ! (made.the_row.own_val made_at (vstruct vnil ∷ [])) ((λ vss. (tt, tt)), tt) ((tt, (refl, tt)), tt) $
         move ! (1 ∷ 2 ∷ 0 ∷ []) $ done !)
 
   walks : Walks 𝓛 f.ended stayed (WpFn 𝓤 H C Λ code.function) (f.clauses 𝓛 mem run)
   walks =
-      walked 𝓛 f.ended stayed (f.clauses 𝓛 mem run) (WpFn 𝓤 H C Λ code.function) (λ κs. (shr_vals, (shr_vals, tt)))
-      (λ κs. (shr_Tells (named 0) κs.0 made.the_row, (shr_Tells (named 1) κs.1.0 item.the_row, tt)))
+      walked 𝓛 f.ended stayed (f.clauses 𝓛 mem run) (WpFn 𝓤 H C Λ code.function) (λ κs. (shr_vals, (shr_vals, (shr_vals, tt))))
+      (λ κs. (shr_Tells (named 0) κs.0 made.the_row, (shr_Tells (named 1) κs.1.0 item.the_row, (shr_Tells (named 2) κs.1.1.0 before_it.the_row, tt))))
       (λ κs qs bounds a g are. via 𝓤 _ (fst∗ 𝓤 _ (emp 𝓤)) (walk κs qs a))
 
 meets : {M : Type 1} {𝓤 : Ura M} (𝓛 : Logic 𝓤) (mem : Memory → SProp 𝓤) (run : Routine → Fun 𝓤) (𝓣 : Tables 𝓤 𝓛.H)
     → Meets 𝓛 f.signature (WpFn 𝓤 𝓛.H 𝓣.C 𝓣.Λ code.function) (f.spec 𝓛 mem run)
 meets {𝓤 = 𝓤} 𝓛 mem run 𝓣 =
-    walk_Meets 𝓛 f.ended stayed (Goes-none_ref 𝓛 2 (0 ∷ []) tt (plain (λ _. made.the_row)) yes, (Goes-none_ref 𝓛 2 (1 ∷ []) tt (plain (λ _. item.the_row)) yes, tt)) (f.clauses 𝓛 mem run) (WpFn 𝓤 𝓛.H 𝓣.C 𝓣.Λ code.function)
+    walk_Meets 𝓛 f.ended stayed (Goes-none_ref 𝓛 3 (0 ∷ []) tt (plain (λ _. made.the_row)) yes, (Goes-none_ref 𝓛 3 (1 ∷ []) tt (plain (λ _. item.the_row)) yes, (Goes-none_ref 𝓛 3 (2 ∷ []) tt (plain (λ _. before_it.the_row)) yes, tt))) (f.clauses 𝓛 mem run) (WpFn 𝓤 𝓛.H 𝓣.C 𝓣.Λ code.function)
     (WpFn-mono 𝓤 𝓛.H 𝓛.laws 𝓣 code.function) (walks 𝓛 mem run 𝓣.C 𝓣.Λ)
 
 pub adding_spec : {M : Type 1} → stated.statement M

@@ -13,11 +13,11 @@ returns-then-self-ne-OPEN-clause-answer g c = λ s is.
     next_closed c.args.self.now s c.self.inside.past.gate (ap (λ log. log.past.gate) c.self.view_is) c.if-self-ne-OPEN.true
 
 pub read_turn-requires-clause-behind : goal.read_turn-requires-clause-behind
-read_turn-requires-clause-behind g c = (last_start 0 c.self.inside.starts.items c.self.inside.past c.self.invariant.places).0
+read_turn-requires-clause-behind g c = (last_start 0 c.self.inside.given.starts c.self.inside.past c.self.invariant.places).0
 
 pub read_turn-requires-clause-small : goal.read_turn-requires-clause-small
 read_turn-requires-clause-small g c =
-    let last = last_start 0 c.self.inside.starts.items c.self.inside.past c.self.invariant.places in
+    let last = last_start 0 c.self.inside.given.starts c.self.inside.past c.self.invariant.places in
     omega (arith, last.1)
 
 pub returns-clause-answer : goal.returns-clause-answer
@@ -26,5 +26,5 @@ returns-clause-answer g c = λ s is.
     let turn = c.read_turn.result in
     let past : c.self.inside.past ≡ log.past = ap (λ log. log.past) c.self.view_is in
     let gate : eqb log.past.gate 1 ≡ true = eq-eqb log.past.gate 1 (subst (λ (p : Past). p.gate ≡ 1) past c.if-self-ne-OPEN.false) in
-    let owned = subst (λ (who : Option (List ℕ)). Answers plain_option turn (turn_by (read_turn who) c.self.inside.past (drop c.self.inside.past.at s))) c.key.ensures (c.read_turn.ensures.answer s is) in
+    let owned = subst (λ (who : Option (List ℕ)). Answers plain_option turn (turn_by (read_turn who) c.self.inside.past (drop c.self.inside.past.at s))) c.key.ensures.owner (c.read_turn.ensures.answer s is) in
     rw (next_opened log s gate) (subst (λ (p : Past). Answers plain_option turn (turn_by (read_turn log.owner) p (drop p.at s))) past owned)

@@ -38,13 +38,13 @@ pub returns-clause-verdict : goal.returns-clause-verdict
 returns-clause-verdict g c = λ s is.
     let turn = c.in-Some.turn in
     let known = c.in_ok-turn.ensures.answer s is ∙ ap (λ t. Ok (plain_option t)) c.in-Some.is in
-    known ∙ ap (λ past. Ok (Some (record { placed = plain_placed turn.placed; past = past }))) (sym (ap (λ log. log.past) c.in_ok-go_on.ensures.on))
+    known ∙ ap (λ past. Ok (Some (record { placed = plain_placed turn.placed; past = past }))) (sym (ap (λ log. log.past) c.go_on.ensures))
 
 pub returns-clause-gives : goal.returns-clause-gives
 returns-clause-gives g c =
     let log = c.args.self.now in
     let turn = c.in-Some.turn in
-    let on = c.in_ok-go_on.ensures.on in
+    let on = c.go_on.ensures in
     let size = g.D.Disk.size_of c.args.disk.now in
     let next : IsNextTurn log.past size turn = subst (GoesOnTo log.past size) c.in-Some.is c.in_ok-turn.ensures.next in
     let reading = c.in_ok-turn.ensures.reading in
@@ -65,7 +65,7 @@ pub returns-clause-log : goal.returns-clause-log
 returns-clause-log g c = λ s is.
     let log = c.args.self.now in
     let turn = c.in-Some.turn in
-    let on = c.in_ok-go_on.ensures.on in
+    let on = c.go_on.ensures in
     let size = g.D.Disk.size_of c.args.disk.now in
     let next : IsNextTurn log.past size turn = subst (GoesOnTo log.past size) c.in-Some.is c.in_ok-turn.ensures.next in
     let known = c.in_ok-turn.ensures.answer s is ∙ ap (λ t. Ok (plain_option t)) c.in-Some.is in
@@ -75,7 +75,7 @@ pub returns-clause-shows : goal.returns-clause-shows
 returns-clause-shows g c = λ s is.
     let log = c.args.self.now in
     let turn = c.in-Some.turn in
-    let on = c.in_ok-go_on.ensures.on in
+    let on = c.go_on.ensures in
     let known = c.in_ok-turn.ensures.answer s is ∙ ap (λ t. Ok (plain_option t)) c.in-Some.is in
     shows_more log c.go_on.new.self s (plain_turn turn) (ap (λ log. log.owner) on) (ap (λ log. log.given) on) (ap (λ log. log.starts) on) c.in_ok-turn.ensures.reading.count known
 
@@ -87,4 +87,4 @@ returns-clause-epochs g c =
     let next : IsNextTurn log.past size turn = subst (GoesOnTo log.past size) c.in-Some.is c.in_ok-turn.ensures.next in
     let here : IsTurnIn log.past (plain_turn turn) = subst (GoesOnIn log.past) c.in-Some.is c.in_ok-turn.ensures.in_epoch in
     let reading = reading_more log.given log.starts log.past (plain_turn turn) c.in_ok-turn.ensures.reading here next.number (omega (arith, next.ahead)) next.within in
-    subst (AreInEpochs 0) (sym (ap (λ log. log.given) c.in_ok-go_on.ensures.on)) reading.epochs
+    subst (AreInEpochs 0) (sym (ap (λ log. log.given) c.go_on.ensures)) reading.epochs

@@ -2,10 +2,15 @@ use Rattle.std.proofs.Common.{sym, subst, ◌∙◌}
 use Rattle.holder_client.specs.Found.{is_of}
 use Rattle.holder_client.specs.Indexed.{IsLastAt}
 use Rattle.holder_client.specs.Placing.{content_for, last_one, log_contents}
+use Rattle.holder_client.proofs.Starts.{start_found}
 use Rattle.holder_client.proofs.index.Index.spot_for.Goals as goal
 
-pub returns : goal.returns
+pub returns-clause-found : goal.returns-clause-found
 unfolding content_for
-returns c = λ log is.
+returns-clause-found c = λ log is.
     subst (λ o. IsLastAt log o (last_one (is_of c.args.kind c.args.object) (log_contents log))) (sym (c.copied.ensures ∙ c.get.ensures.value))
     (is.last_contents.found (record { kind = c.args.kind; object = c.args.object }))
+
+pub returns-clause-starts : goal.returns-clause-starts
+returns-clause-starts c = λ starts have.
+    start_found c.args.self.now.contents starts (record { kind = c.args.kind; object = c.args.object }) c.copied.result have (sym (c.copied.ensures ∙ c.get.ensures.value))

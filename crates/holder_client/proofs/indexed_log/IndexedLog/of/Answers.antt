@@ -10,4 +10,4 @@ loop-position-preserved c =
     let i = c.loop-position.position in
     let within : i ≤ length log = omega (arith, c.loop-position-test.true) in
     let long : length (map plain_placed (take i log)) ≡ i = length-map (take i log) plain_placed ∙ length-take-le i log within in
-    index_more c.note.new.self log i c.index-log-position.result c.loop-position-test.true c.index-log-position.is (c.in_ok-note.ensures (map plain_placed (take i log)) long c.loop-position.invariant)
+    index_more c.note.new.self log i c.index-log-position.result c.loop-position-test.true c.index-log-position.is (c.in_ok-note.ensures.noted (map plain_placed (take i log)) long c.loop-position.invariant)

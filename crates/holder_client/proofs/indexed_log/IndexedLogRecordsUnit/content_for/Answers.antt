@@ -14,7 +14,7 @@ returns-in_err-content_at-clause-found c = λ shown.
     let placed = c.in-Some-get.placed.now in
     let i = c.in-Some.spot.position in
     let here = at_mapped plain_placed log i placed (at_item log i placed c.in-Some-get.ensures.lookup.3.0 c.in-Some-get.ensures.lookup.1) in
-    let last = subst (λ o. IsLastAt (map plain_placed log) o (content_for (map plain_placed log) c.args.kind c.args.object)) c.in-Some.is (c.spot_for.ensures (map plain_placed log) c.self.invariant.0) in
+    let last = subst (λ o. IsLastAt (map plain_placed log) o (content_for (map plain_placed log) c.args.kind c.args.object)) c.in-Some.is (c.spot_for.ensures.found (map plain_placed log) c.self.invariant.0) in
     rw (p.1, p.2) (finds_at (map plain_placed log) c.args.kind c.args.object c.in-Some.spot placed (Err c.in_err-content_at.field-0.0) last here c.in_err-content_at.ensures.found)
 
 pub returns-clause-found : goal.returns-clause-found
@@ -23,6 +23,6 @@ returns-clause-found c = λ shown.
     let placed = c.in-Some-get.placed.now in
     let i = c.in-Some.spot.position in
     let here = at_mapped plain_placed log i placed (at_item log i placed c.in-Some-get.ensures.lookup.3.0 c.in-Some-get.ensures.lookup.1) in
-    let last = subst (λ o. IsLastAt (map plain_placed log) o (content_for (map plain_placed log) c.args.kind c.args.object)) c.in-Some.is (c.spot_for.ensures (map plain_placed log) c.self.invariant.0) in
+    let last = subst (λ o. IsLastAt (map plain_placed log) o (content_for (map plain_placed log) c.args.kind c.args.object)) c.in-Some.is (c.spot_for.ensures.found (map plain_placed log) c.self.invariant.0) in
     finds_at (map plain_placed log) c.args.kind c.args.object c.in-Some.spot placed (Ok c.in_ok-content_at.field-0) last here c.in_ok-content_at.ensures.found
     ∙ ap (λ (l : List Placed). content_for (map plain_placed l) c.args.kind c.args.object) c.self.view_is

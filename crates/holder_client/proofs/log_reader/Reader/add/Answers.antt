@@ -6,10 +6,11 @@ use Rattle.holder_client.specs.Answering.{AnswersBy, IsFault}
 use Rattle.holder_client.specs.Folding.{stand_behind}
 use Rattle.holder_client.specs.Reads.{HasReadTo}
 use Rattle.holder_client.proofs.Adding.{added, follows_on, has_folded, misfit_met, misfit_stays, none_from}
+use Rattle.holder_client.proofs.Starts.{starts_grow, starts_next}
 use Rattle.holder_client.proofs.log_reader.Reader.add.Goals as goal
 
-pub returns-then-is_some : goal.returns-then-is_some
-returns-then-is_some c = λ log read epochs batch.
+pub returns-then-is_some-clause-read : goal.returns-then-is_some-clause-read
+returns-then-is_some-clause-read c = λ log read epochs batch.
     misfit_stays c.args.self.now log (plain_placed c.args.placed.now) c.args.self.now.misfit (sym c.is_some.ensures ∙ c.if-is_some.true) read
 
 pub take_batch-requires : goal.take_batch-requires
@@ -21,8 +22,8 @@ take_batch-requires c =
 pub keep-requires-clause-from_one : goal.keep-requires-clause-from_one
 keep-requires-clause-from_one c = omega (arith, c.requires.next.3)
 
-pub returns-in-Ok : goal.returns-in-Ok
-returns-in-Ok c =
+pub returns-in-Ok-clause-read : goal.returns-in-Ok-clause-read
+returns-in-Ok-clause-read c =
     on_ok_weaker c.keep.result
     (λ kept log read epochs batch.
     let old = c.args.self.now in
@@ -37,7 +38,21 @@ returns-in-Ok c =
     next.0 next.1))
     c.keep.ensures.kept
 
-pub returns-in-Err-Damaged : goal.returns-in-Err-Damaged
-returns-in-Err-Damaged c = λ log read epochs batch.
+pub returns-in-Err-Damaged-clause-read : goal.returns-in-Err-Damaged-clause-read
+returns-in-Err-Damaged-clause-read c = λ log read epochs batch.
     let old = c.args.self.now in
     misfit_met old log (plain_placed c.args.placed.now) c.in-Err-Damaged.at (has_folded old log old.misfit (sym c.is_some.ensures ∙ c.if-is_some.false) read) (λ at seen. subst (λ fault. IsFault fault (stand_behind at c.args.placed.now.place (plain_body c.args.placed.now.body))) c.in-Err-Damaged.field-0-is (c.in-Err-Damaged.ensures.answer at seen))
+
+pub returns-then-is_some-clause-starts : goal.returns-then-is_some-clause-starts
+returns-then-is_some-clause-starts c = λ starts have number next. starts_grow c.args.self.now.index.contents starts (c.args.start.now ∷ []) have
+
+pub returns-in-Ok-clause-starts : goal.returns-in-Ok-clause-starts
+returns-in-Ok-clause-starts c =
+    on_ok_weaker c.keep.result
+    (λ kept starts have number next.
+    let start = c.args.start.now in
+    kept (starts ++ start ∷ []) (starts_grow c.args.self.now.index.contents starts (start ∷ []) have) (starts_next starts start c.args.placed.now.batch number next))
+    c.keep.ensures.starts
+
+pub returns-in-Err-Damaged-clause-starts : goal.returns-in-Err-Damaged-clause-starts
+returns-in-Err-Damaged-clause-starts c = λ starts have number next. starts_grow c.args.self.now.index.contents starts (c.args.start.now ∷ []) have

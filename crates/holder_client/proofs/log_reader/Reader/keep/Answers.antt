@@ -8,4 +8,4 @@ returns-clause-kept c =
     (λ noted log batch index checks.
     let long : length log ≡ c.args.placed.now.batch - 1 = omega (arith, batch) in
     (noted log long index, c.in_ok-note_check.ensures log checks))
-    c.note.ensures
+    c.note.ensures.noted

@@ -12,12 +12,12 @@ use Rattle.trail_audit.proofs.kept.Kept.add.Goals as goal
 pub add-requires-clause-next : goal.add-requires-clause-next
 add-requires-clause-next c = let n = c.requires.next in (n.0, n.1.read, n.2, n.3)
 
-pub returns : goal.returns
+pub returns-clause-kept : goal.returns-clause-kept
 unfolding log_links
-returns c = λ log kept epochs batch.
+returns-clause-kept c = λ log kept epochs batch.
     let p = plain_placed c.args.placed.now in
     record {
-      read = c.in_ok-add.ensures log kept.read epochs batch;
+      read = c.in_ok-add.ensures.read log kept.read epochs batch;
       links = subst (HasGroups source_of_link c.add_links_of.new.found) (parts_added (λ (b : PlainPlaced). body_links b.batch b.place b.body) log p) (c.in_ok-add_links_of.ensures (log_links log) kept.links);
       seals = subst (λ (s : List Seals). AreSealsOf s (log ++ p ∷ [])) (sym c.in_ok-push.ensures.items) (seals_added c.args.self.now.seals.items log _ p kept.seals (subst (AreSeals c.in_ok-seals.seals) (c.as_slice.ensures ∙ c.in_ok-contents.ensures) c.in_ok-seals.ensures));
       last = batch ∙ sym (length-append log (p ∷ []));

@@ -6,6 +6,6 @@ use Rattle.trail_audit.specs.declared.seals.Seals.{Seals}
 use Rattle.trail_audit.proofs.Groups.{no_groups}
 use Rattle.trail_audit.proofs.kept.Kept.new.Goals as goal
 
-pub returns : goal.returns
+pub returns-clause-kept : goal.returns-clause-kept
 unfolding log_links
-returns c = record { read = c.in_ok-reader.ensures; links = no_groups source_of_link _ c.new-2.ensures.empty; seals = subst (λ (s : List Seals). AreSealsOf s []) (sym c.new-3.ensures) tt; last = refl }
+returns-clause-kept c = record { read = c.in_ok-reader.ensures.read; links = no_groups source_of_link _ c.new-2.ensures.empty; seals = subst (λ (s : List Seals). AreSealsOf s []) (sym c.new-3.ensures) tt; last = refl }
