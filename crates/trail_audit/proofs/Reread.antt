@@ -2,7 +2,7 @@
 use Rattle.std.proofs.Common.{◌≡◌, ◌+◌, ◌-◌, ◌<◌, ◌≤◌, ◌⊎◌, ℕ, List, [], ◌∷◌, ◌++◌, get_or, length, take, Some, Result, Ok, Err, inl, inr, ⊎_elim, sym, ap, subst, ◌∙◌, arith}
 use Rattle.std.specs.Prelude.{IfErr, MatchResult, OnOk}
 use Rattle.std.specs.List.{flat_map, slice_get}
-use Rattle.std.proofs.lemmas.Option.{slice_get-get_or}
+use Rattle.std.proofs.lemmas.Option.{get_or_from_slice_get, slice_get_within}
 use Rattle.std.proofs.lemmas.List.{take_more}
 use Rattle.chacha_seal.specs.Keys.{KeyParts}
 use Rattle.commit_journal.specs.Placed.{NewEpoch, PlainPlaced}
@@ -10,7 +10,6 @@ use Rattle.commit_journal.specs.Streaming.{IsStart, LogState, ShowsGiven, again_
 use Rattle.commit_journal.specs.Streaming.{nothing as before_all}
 use Rattle.commit_journal.specs.declared.past.Past.{Past}
 use Rattle.commit_journal.proofs.Streamed.{starts_at}
-use Rattle.holder_client.proofs.Lasts.{item_at}
 use Rattle.trail_audit.specs.Kept.{KeepsStarts}
 use Rattle.commit_journal.specs.declared.fault.OpenFault.{OpenFault}
 use Rattle.commit_journal.specs.declared.fault.OpenFault.TheVariants as opening
@@ -49,13 +48,13 @@ shown_again log s i within shows =
     shows (i + 1) nothing from to ∙ ap (λ n. Ok (get_or log.given n nothing)) same
 
 -- what was known before it
-pub start_at : (starts : List Past) (log : LogState) (i : ℕ) (start : Past) → KeepsStarts starts log → i < length log.given → start ≡ get_or starts i start → IsStart log start × (start.number ≡ i)
-start_at starts log i start keeps within is =
-    let inside : i < length log.starts = omega (arith, keeps.reading.count, within) in
-    let there : start ≡ get_or log.starts i start = is ∙ ap (λ (ps : List Past). get_or ps i start) keeps.same in
+pub known_before : (starts : List Past) (log : LogState) (i : ℕ) (start : Past) → KeepsStarts starts log → slice_get starts i ≡ Some start → IsStart log start × (start.number ≡ i)
+known_before starts log i start keeps is =
+    let there : slice_get log.starts i ≡ Some start = ap (λ (ps : List Past). slice_get ps i) (sym keeps.same) ∙ is in
+    let inside = slice_get_within log.starts i start there in
     let known = starts_at 0 i log.starts (log.past ∷ []) keeps.reading.places inside in
-    let number : start.number ≡ i = ap (λ (p : Past). p.number) (there ∙ item_at log.starts i start before_all inside) ∙ known.2 in
-    (ap (slice_get log.starts) number ∙ slice_get-get_or log.starts i start inside ∙ ap Some (sym there), number)
+    let number : start.number ≡ i = omega (arith, known.2, ap (λ (p : Past). p.number) (get_or_from_slice_get log.starts i start before_all there)) in
+    (ap (slice_get log.starts) number ∙ there, number)
 
 pub shown_from : (log : LogState) (s : List ℕ) (i : ℕ) (start : Past) → start.number ≡ i → i < length log.given → ShowsGiven log s → again_in log (start.number + 1) s ≡ Ok (batch_at log.given i)
 shown_from log s i start number within shows = ap (λ n. again_in log (n + 1) s) number ∙ shown_again log s i within shows

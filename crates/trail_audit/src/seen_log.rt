@@ -1,5 +1,6 @@
 //! What right keys show of a log, of short contents that were kept and of batches that are read once more (docs/FORMAT.md, "Reading").
-ghost use Rattle.std.specs.Prelude.{◌≡◌, ◌≢◌, ◌+◌, ◌<◌, ◌≤◌, [], Err, MatchResult, Ok, length, map};
+ghost use Rattle.std.specs.Prelude.{◌≡◌, ◌≢◌, ◌+◌, ◌<◌, ◌≤◌, [], Err, MatchResult, Ok, Some, length, map};
+ghost use Rattle.std.specs.List.{slice_get};
 ghost use Rattle.cry_io.specs.Told.{WhereTold};
 ghost use Rattle.commit_journal.specs.Placed.{PlainPlaced};
 ghost use Rattle.commit_journal.specs.Reading.{IsOnlyRead};
@@ -55,6 +56,14 @@ fn see_batch<D: Disk>(
     see_contents(alloc, contents.as_slice(), known, seen)
 }
 
+/// What was known before the batch at a position.
+fn start_at(starts: &[Past], position: u32) -> &Past
+    requires { position < length starts.now }
+    ensures { slice_get starts.now position ≡ Some result.now }
+{
+    &starts[position as usize]
+}
+
 /// Opens the contents of a log of so many batches, which are sealed so and before which that was known, and gives what they show.
 pub(crate) fn see_log<D: Disk>(
     alloc: Global,
@@ -81,7 +90,7 @@ pub(crate) fn see_log<D: Disk>(
     let mut done = 0;
     while done < last {
         let sealed = seals_at(seals, done);
-        let start = &starts[done as usize];
+        let start = start_at(starts, done);
         see_batch(alloc, disk, log, start, sealed, known, &mut seen)?;
         done += 1;
     }

@@ -69,6 +69,27 @@ loop-reader-preserved g c =
       shows = λ s is. next.shows s (kept.read_only.same_bytes ∙ is) (kept.shows s is);
     }
 
+pub loop-reader-preserved-in_ok-add : goal.loop-reader-preserved-in_ok-add
+loop-reader-preserved-in_ok-add g c =
+    let size = g.D.Disk.size_of c.loop-reader.disk in
+    let placed = c.in-Some.placed in
+    let kept = c.loop-reader.invariant in
+    let next = c.in_ok-placed.ensures in
+    let gives : GivesOne size c.loop-reader.log placed c.next.new.self = subst (λ o. Gives size c.loop-reader.log o c.next.new.self) c.in-Some.is next.gives in
+    record {
+      inside = omega (arith, gives.inside, next.read_only.same_size);
+      read = subst (HasRead c.add.new.self) (sym gives.given) (c.in_ok-add.ensures.read c.loop-reader.log.given kept.read (subst (AreInEpochs 0) gives.given next.epochs) gives.batch);
+      past = c.past-start-in-Some.ensures.past;
+      number = c.past-start-in-Some.ensures.number;
+      count = c.past-start-in-Some.ensures.reading.count;
+      starts = subst (HasStarts c.add.new.self) (ap (λ (p : Past). c.loop-reader.log.starts ++ p ∷ []) kept.past ∙ sym gives.starts)
+          (c.in_ok-add.ensures.starts c.loop-reader.log.starts kept.starts kept.number (gives.batch ∙ ap (λ n. n + 1) (sym kept.count)));
+      read_only = only_read_twice g.D.Disk.shown g.D.Disk.size_of g.D.Disk.may_leave c.args.disk.now c.loop-reader.disk c.next.new.disk kept.read_only next.read_only;
+      counts = omega (arith, kept.counts, next.counts);
+      so_far = λ s is. next.log s (kept.read_only.same_bytes ∙ is) ∙ kept.so_far s is;
+      shows = λ s is. next.shows s (kept.read_only.same_bytes ∙ is) (kept.shows s is);
+    }
+
 pub loop-reader-smaller : goal.loop-reader-smaller
 loop-reader-smaller g c =
     let size = g.D.Disk.size_of c.loop-reader.disk in

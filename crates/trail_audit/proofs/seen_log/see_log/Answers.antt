@@ -6,7 +6,7 @@ use Rattle.commit_journal.specs.Placed.{PlainPlaced}
 use Rattle.holder_client.specs.Placing.{log_contents}
 use Rattle.trail_audit.specs.Derived.{AreSeen, PlainSeen, plain_seen}
 use Rattle.trail_audit.specs.declared.seals.Seals.TheVariants.{Nothing}
-use Rattle.trail_audit.proofs.Reread.{batch_at, fault_of_batch, sealed_here, seen_next, shown_from, start_at}
+use Rattle.trail_audit.proofs.Reread.{batch_at, fault_of_batch, known_before, sealed_here, seen_next, shown_from}
 use Rattle.trail_audit.proofs.Revealed.{none_seen}
 use Rattle.trail_audit.proofs.Sealings.{as_many}
 use Rattle.trail_audit.proofs.seen_log.see_log.Goals as goal
@@ -33,7 +33,7 @@ loop-done-preserved g c =
       within = omega (arith, c.loop-done-test.true);
       shown = λ s is shows.
           seen_next given c.loop-done.done keys [] (map plain_seen c.loop-done.seen.items) (map plain_seen c.see_batch.new.seen.items) within (so.shown s is shows)
-          (c.in_ok-see_batch.ensures.answer s (so.read_only.same_bytes ∙ is) (batch_at given c.loop-done.done) (shown_from c.args.log.now s c.loop-done.done c.index-starts-done.result.now (start_at c.args.starts.now c.args.log.now c.loop-done.done c.index-starts-done.result.now c.requires.starts within c.index-starts-done.is).1 within shows) (sealed_here c.args.seals.now given c.loop-done.done c.seals_at-sealed.result.now Nothing c.requires.seals within c.seals_at-sealed.ensures));
+          (c.in_ok-see_batch.ensures.answer s (so.read_only.same_bytes ∙ is) (batch_at given c.loop-done.done) (shown_from c.args.log.now s c.loop-done.done c.start_at-start.result.now (known_before c.args.starts.now c.args.log.now c.loop-done.done c.start_at-start.result.now c.requires.starts c.start_at-start.ensures).1 within shows) (sealed_here c.args.seals.now given c.loop-done.done c.seals_at-sealed.result.now Nothing c.requires.seals within c.seals_at-sealed.ensures));
       read_only = only_read_twice g.D.Disk.shown g.D.Disk.size_of g.D.Disk.may_leave c.args.disk.now c.loop-done.disk c.see_batch.new.disk so.read_only c.in_ok-see_batch.ensures.read_only;
       counts = omega (arith, so.counts, c.in_ok-see_batch.ensures.counts);
     }
@@ -46,7 +46,7 @@ returns-in_err-see_batch-clause-answer g c = λ s is shows.
     let within : c.loop-done.done < length given = omega (arith, c.loop-done-test.true, c.requires.last) in
     rw (p.1, p.2)
     (fault_of_batch given c.loop-done.done c.args.known.now.keys.items c.in_err-see_batch.field-0.0 within
-    (c.in_err-see_batch.ensures.answer s (so.read_only.same_bytes ∙ is) (batch_at given c.loop-done.done) (shown_from c.args.log.now s c.loop-done.done c.index-starts-done.result.now (start_at c.args.starts.now c.args.log.now c.loop-done.done c.index-starts-done.result.now c.requires.starts within c.index-starts-done.is).1 within shows) (sealed_here c.args.seals.now given c.loop-done.done c.seals_at-sealed.result.now Nothing c.requires.seals within c.seals_at-sealed.ensures)))
+    (c.in_err-see_batch.ensures.answer s (so.read_only.same_bytes ∙ is) (batch_at given c.loop-done.done) (shown_from c.args.log.now s c.loop-done.done c.start_at-start.result.now (known_before c.args.starts.now c.args.log.now c.loop-done.done c.start_at-start.result.now c.requires.starts c.start_at-start.ensures).1 within shows) (sealed_here c.args.seals.now given c.loop-done.done c.seals_at-sealed.result.now Nothing c.requires.seals within c.seals_at-sealed.ensures)))
 
 pub returns-in_err-see_batch-clause-read_only : goal.returns-in_err-see_batch-clause-read_only
 returns-in_err-see_batch-clause-read_only g c =
@@ -61,10 +61,9 @@ returns-clause-answer g c = λ s is shows.
     let past : length given ≤ c.loop-done.done = omega (arith, c.loop-done-test.false, c.requires.last) in
     subst (λ (log : List PlainPlaced). AreSeen c.args.known.now.keys.items (log_contents log) [] (map plain_seen c.loop-done.seen.items)) (take_all c.loop-done.done given past) (c.loop-done.invariant.shown s is shows)
 
-pub bounds-starts-done : goal.bounds-starts-done
-bounds-starts-done g c = omega (arith, c.loop-done-test.true, c.requires.last, c.requires.starts.reading.count, ap length c.requires.starts.same)
+pub start_at-start-requires : goal.start_at-start-requires
+start_at-start-requires g c = omega (arith, c.loop-done-test.true, c.requires.last, c.requires.starts.reading.count, ap length c.requires.starts.same)
 
 pub see_batch-requires-clause-given : goal.see_batch-requires-clause-given
 see_batch-requires-clause-given g c =
-    let within : c.loop-done.done < length c.args.log.now.given = omega (arith, c.loop-done-test.true, c.requires.last) in
-    (start_at c.args.starts.now c.args.log.now c.loop-done.done c.index-starts-done.result.now c.requires.starts within c.index-starts-done.is).0
+    (known_before c.args.starts.now c.args.log.now c.loop-done.done c.start_at-start.result.now c.requires.starts c.start_at-start.ensures).0
