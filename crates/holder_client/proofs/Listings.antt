@@ -140,6 +140,15 @@ opening_seen (opening.Tampered batch at) = λ q. absurd cc
 opening_seen opening.DiskFault = λ q. absurd cc
 opening_seen opening.OutOfMemory = λ q. absurd cc
 
+-- a fault of the log that is the disk's was the disk's
+pub opening_disk : {X : Type 0} (fault : OpenFault) → (let r : Result X ClientFault = Err (client_fault fault) in r) ≡ Err faults.DiskFault → fault ≡ opening.DiskFault
+opening_disk opening.NotAStore = λ q. absurd cc
+opening_disk opening.WrongKey = λ q. absurd cc
+opening_disk (opening.Damaged at) = λ q. absurd cc
+opening_disk (opening.Tampered batch at) = λ q. absurd cc
+opening_disk opening.DiskFault = λ q. refl
+opening_disk opening.OutOfMemory = λ q. absurd cc
+
 pub fault_seen : {X Y : Type 0} (fault : ClientFault) (wanted : Result Y Failure) → IsFailure fault wanted → (wanted ≡ Err Unseen → ⊥) → (let r : Result X ClientFault = Err fault in r) ≢ Err faults.Unseen
 fault_seen fault wanted is never = λ q. let same : fault ≡ faults.Unseen = cc in never (subst (λ f. IsFailure f wanted) same is)
 
