@@ -1,4 +1,4 @@
--- What `make` promises. It is "not blank" exactly on a disk that has bytes. On an empty one it draws 192 bytes, and where the random
+-- What `make` promises. It answers "not blank" exactly on a disk that has bytes. On an empty one it draws 192 bytes, and where the random
 -- source has fewer, says how many it had. Where nothing fails and memory is there it is done: the disk shows the store that the drawn
 -- bytes make, settled, and the line with its owner's key was printed. Where the output failed, the whole store stands all the same, and a
 -- front of that line was printed. Before the draw the random source is as it was; before the writing the disk; before the printing the

@@ -1,5 +1,5 @@
--- What words promise that ask for a text of the program's own: it is printed whole, or the output failed and a front of it is printed.
--- Nothing else is touched.
+-- What a call promises whose words ask for a text of the program's own: it is printed whole, or the output failed and a front of it is
+-- printed. Nothing else is touched.
 use Rattle.std.specs.Prelude.{◌≡◌, ◌⊎◌, ℕ, List}
 use Rattle.cry_io.specs.Told.{WhereBothTold}
 use Rattle.cry_io.specs.declared.streams.Sink as sink
