@@ -1,16 +1,18 @@
-use Rattle.std.proofs.Common.{◌≡◌, List, [], ◌∷◌, ◌++◌, Result, Ok, ap, sym, subst, ◌∙◌, arith}
+use Rattle.std.proofs.Common.{◌≡◌, List, [], ◌∷◌, ◌++◌, Option, Result, Ok, Err, ap, sym, subst, ◌∙◌, arith}
 use Rattle.std.specs.Prelude.{option_copied}
 use Rattle.std.proofs.lemmas.Result.{err_from_is_err_and}
 use Rattle.commit_journal.specs.Logs.{AreInEpochs}
 use Rattle.commit_journal.specs.Placed.{PlainPlaced}
+use Rattle.commit_journal.specs.declared.fault.OpenFault.{OpenFault}
 use Rattle.commit_journal.specs.declared.past.Past.{Past}
+use Rattle.commit_journal.specs.declared.placed.Placed.{Placed}
 use Rattle.commit_journal.specs.Readers as readers
 use Rattle.commit_journal.specs.Streaming.{Gives, GivesOne, LogState}
 use Rattle.commit_journal.proofs.Walked.{only_read_twice}
 use Rattle.commit_journal.specs.Answering as journal
 use Rattle.commit_journal.specs.Answering.{Fault}
 use Rattle.trail_audit.specs.Kept.{HasKept, KeepsStarts}
-use Rattle.holder_client.proofs.Listings.{opening_seen}
+use Rattle.holder_client.proofs.Listings.{opening_disk, opening_seen}
 use Rattle.holder_client.proofs.Adding.{shows_none}
 use Rattle.holder_client.proofs.Viewed.{log_fault}
 use Rattle.trail_audit.proofs.log_reading.read_batches.Goals as goal
@@ -154,3 +156,10 @@ pub returns-clause-starts : goal.returns-clause-starts
 returns-clause-starts g c =
     let same : c.next.new.self ≡ c.loop-kept.log = subst (λ o. Gives (g.D.Disk.size_of c.loop-kept.disk) c.loop-kept.log o c.next.new.self) c.in_default.is c.in_ok-placed.ensures.gives in
     subst (λ (l : LogState). KeepsStarts c.loop-kept.kept.starts.items l) (sym same) c.loop-kept.invariant.starts
+
+pub returns-in_err-placed-clause-disk_fault : goal.returns-in_err-placed-clause-disk_fault
+returns-in_err-placed-clause-disk_fault g c = λ is.
+    let p = err_from_is_err_and c.from_residual-in_err-placed.result c.from_residual-in_err-placed.ensures.1 in
+    let failed = opening_disk c.in_err-placed.field-0.0 (rw (p.1, p.2) at is) in
+    let rose = c.in_err-placed.ensures.disk_fault (ap (λ f. let r : Result (Option Placed) OpenFault = Err f in r) failed) in
+    omega (arith, c.loop-kept.invariant.counts, rose)
