@@ -1,5 +1,6 @@
 -- The three steps by which a batch joins a log, and what they leave of the bytes. This project's own, docs/FORMAT.md, "Committing".
 use Rattle.std.specs.Prelude.{◌≡◌, ◌≢◌, ◌⊎◌, ◌≤◌, ◌+◌, ◌-◌, ℕ, List, [], ◌∷◌, ◌++◌, length, take, drop, replicate, slice_index, slice_range}
+use Rattle.cry_base.specs.Layout.{head_len, payload_offset, slot_offset}
 
 -- the bytes with others at a place
 abbrev pub written_at : ℕ → List ℕ → List ℕ → List ℕ
@@ -13,7 +14,7 @@ zero_slot = replicate 32 0
 pub record IsStageable (body : List ℕ) : Type 0 where
   pub head : List ℕ
   pub rest : List ℕ
-  pub head_size : length head ≡ 13
+  pub head_size : length head ≡ head_len
   pub rest_size : 64 ≤ length rest
   pub body_is : body ≡ head ++ (zero_slot ++ (rest ++ 0 ∷ []))
 
@@ -52,7 +53,7 @@ unfoldable pub shown_at : ℕ → List ℕ → List ℕ → List ℕ → Stage �
 shown_at end body veil old AtEntry = old
 shown_at end body veil old BehindClosedGate = written_at end body old
 shown_at end body veil old BehindOpenGate = written_at (end - 1) (1 ∷ []) (written_at end body old)
-shown_at end body veil old Published = written_at (end + 13) veil (written_at (end - 1) (1 ∷ []) (written_at end body old))
+shown_at end body veil old Published = written_at (end + slot_offset) veil (written_at (end - 1) (1 ∷ []) (written_at end body old))
 
 -- one of these four lists is shown
 abbrev pub IsOneOfFour : ℕ → List ℕ → List ℕ → List ℕ → List ℕ → List ℕ → Type 0
@@ -60,7 +61,7 @@ IsOneOfFour end body veil old s c = (stage : Stage) × (s ≡ shown_at end body 
 
 -- a batch with these bytes in its slot
 abbrev pub with_slot : List ℕ → List ℕ → List ℕ
-with_slot slot batch = take 13 batch ++ (slot ++ drop 45 batch)
+with_slot slot batch = take head_len batch ++ (slot ++ drop payload_offset batch)
 
 -- the gate before the end of the log is open, and behind it stands the batch with its veil key in its slot. What stood
 -- there is written over, and what stood behind that stays
@@ -90,4 +91,4 @@ pub record HoldsBatch (end : ℕ) (batch bytes : List ℕ) : Type 0 where
 -- gate: what was published is not taken back
 abbrev pub IsHeldWhereShown : ℕ → List ℕ → List ℕ → List ℕ → Type 0
 IsHeldWhereShown end batch s c =
-    slice_index s (end - 1) ≡ 1 → slice_range s (end + 13) (end + 45) ≢ zero_slot → HoldsBatch end batch c
+    slice_index s (end - 1) ≡ 1 → slice_range s (end + slot_offset) (end + payload_offset) ≢ zero_slot → HoldsBatch end batch c

@@ -2,6 +2,7 @@
 //! a `Gated` alone: no slot is written before its gate is open on the disk. When a store is opened, `gated_at` makes a `Gated` of a
 //! batch that stands behind an open gate.
 ghost use Rattle.std.specs.Prelude.{◌≡◌, ◌+◌, ◌-◌, ◌<◌, ◌≤◌, ◌^◌, ℕ, List, [], ◌∷◌, length, max, is_some, IfOk, OnErr, OnOk};
+ghost use Rattle.cry_base.specs.Layout.{payload_offset, slot_offset};
 ghost use Rattle.cry_io.specs.Counts.{CountsFault};
 ghost use Rattle.cry_io.specs.Told.{WhereTold, WhereBothTold};
 ghost use Rattle.cry_io.specs.Stops.{IsDurable, Torn, Written};
@@ -45,13 +46,14 @@ pub struct Gated {
 
 impl Model for Gated {
     ghost use Rattle.std.specs.Prelude.{◌≤◌};
+    ghost use Rattle.cry_base.specs.Layout.{payload_offset};
     ghost use Rattle.batch_log.specs.Tokens.{GatedBatch};
 
     ghost Value = { GatedBatch };
 
     ghost view = { λ g. record { end = g.end; len = g.len } };
 
-    ghost invariant = { λ g. (1 ≤ g.end) × (45 ≤ g.len) };
+    ghost invariant = { λ g. (1 ≤ g.end) × (payload_offset ≤ g.len) };
 }
 
 /// Writes a batch behind the closed gate that ends the log at `end`, and makes it stay. What stands there is written over.
@@ -86,7 +88,7 @@ pub fn stage<'a, D: Disk>(disk: &mut D, end: u64, body: &'a [u8]) -> Result<Stag
 pub fn open_gate<D: Disk>(disk: &mut D, staged: Staged<'_>) -> Result<Gated, Failed>
     requires nothing_pending { IsDurable (D.may_leave disk.old) (D.shown disk.old) }
     requires stands { WhereTold (D.shown disk.old) (steps.StandsAt staged.end staged.body) }
-    requires whole { 45 ≤ length staged.body }
+    requires whole { payload_offset ≤ length staged.body }
     requires inside { staged.end + length staged.body ≤ D.size_of disk.old }
     ensures gated { IfOk result (λ gated. gated ≡ record { end = staged.entry.end; len = length staged.entry.body }) }
     ensures told { is_some (D.shown disk.new) ≡ is_some (D.shown disk.old) }
@@ -116,7 +118,7 @@ pub fn open_gate<D: Disk>(disk: &mut D, staged: Staged<'_>) -> Result<Gated, Fai
 /// that a stop may leave has that gate and so many bytes behind it, since nothing is pending.
 pub fn gated_at<D: Disk>(disk: &D, end: u64, len: u64) -> Gated
     requires gate { 1 ≤ end }
-    requires whole { 45 ≤ len }
+    requires whole { payload_offset ≤ len }
     requires nothing_pending { IsDurable (D.may_leave disk.now) (D.shown disk.now) }
     requires opened { WhereTold (D.shown disk.now) (steps.IsGatedAt end len) }
     requires inside { end + len ≤ D.size_of disk.now }
@@ -133,16 +135,16 @@ pub fn unveil<D: Disk>(disk: &mut D, gated: Gated, veil: &[u8; 32]) -> Result<()
     requires opened { WhereTold (D.shown disk.old) (steps.IsGatedAt gated.end gated.len) }
     requires inside { gated.end + gated.len ≤ D.size_of disk.old }
     ensures told { is_some (D.shown disk.new) ≡ is_some (D.shown disk.old) }
-    ensures written { OnOk result (WhereBothTold (D.shown disk.old) (D.shown disk.new) (Written (gated.end + 13) veil.now)) }
-    ensures torn { OnErr result (WhereBothTold (D.shown disk.old) (D.shown disk.new) (Torn (gated.end + 13) 32)) }
+    ensures written { OnOk result (WhereBothTold (D.shown disk.old) (D.shown disk.new) (Written (gated.end + slot_offset) veil.now)) }
+    ensures torn { OnErr result (WhereBothTold (D.shown disk.old) (D.shown disk.new) (Torn (gated.end + slot_offset) 32)) }
     ensures durable { OnOk result (IsDurable (D.may_leave disk.new) (D.shown disk.new)) }
     ensures size { D.size_of disk.new ≡ D.size_of disk.old }
     ensures later { D.moment disk.old ≤ D.moment disk.new }
     ensures time { GoesOn (D.moment disk.old) (D.since disk.old) (D.since disk.new) }
     ensures stops { WhereTold (D.shown disk.old)
-        (λ x. Throughout (TornInto (gated.end + 13) 32 x) (D.since disk.new (D.moment disk.old))) }
+        (λ x. Throughout (TornInto (gated.end + slot_offset) 32 x) (D.since disk.new (D.moment disk.old))) }
     ensures shows { OnOk result (WhereTold (D.shown disk.old)
-        (λ x. Throughout (OldOrNew (gated.end + 13) veil.now x) (D.since disk.new (D.moment disk.old)))) }
+        (λ x. Throughout (OldOrNew (gated.end + slot_offset) veil.now x) (D.since disk.new (D.moment disk.old)))) }
     ensures counts { CountsFault result (D.faults disk.old) (D.faults disk.new) }
 {
     let Gated { end, len: _ } = gated;

@@ -3,7 +3,7 @@
 use Rattle.std.specs.Prelude.{◌≡◌, ◌≢◌, ◌⊎◌, ◌≤◌, ℕ, ◌+◌, ◌-◌, if◌then◌else◌, List, [], ◌∷◌, ◌++◌, length, slice_range, Option, None, Some}
 use Rattle.std.specs.Option.{option_to_list}
 use Rattle.std.specs.Str.{bytes_eq}
-use Rattle.cry_base.specs.Layout.{batch_len}
+use Rattle.cry_base.specs.Layout.{batch_len, slot_offset}
 use Rattle.batch_log.specs.Steps.{IsGatedAt, written_at}
 use Rattle.chacha_seal.specs.Sealing.{veil_of}
 use Rattle.commit_journal.specs.declared.filling.Unfilled.{Unfilled}
@@ -36,7 +36,7 @@ pub record IsWithin (size : ℕ) (slot : Unfilled) : Type 0 where
 
 -- in an image: its batch stands behind an open gate, and it isn't its veil key
 pub record IsUnfilled (slot : Unfilled) (image : List ℕ) : Type 0 where
-  pub gated : IsGatedAt (slot.place - 13) batch_len image
+  pub gated : IsGatedAt (slot.place - slot_offset) batch_len image
   pub size : length slot.veil ≡ 32
   pub differs : slice_range image slot.place (slot.place + 32) ≢ slot.veil
 
@@ -44,7 +44,7 @@ pub record IsUnfilled (slot : Unfilled) (image : List ℕ) : Type 0 where
 abbrev pub AreUnfilled : ℕ → List Unfilled → List ℕ → Type 0
 AreUnfilled from [] image = Unit {0}
 AreUnfilled from (slot ∷ slots) image =
-    (from + 13 ≤ slot.place) × IsUnfilled slot image × AreUnfilled (slot.place + 97) slots image
+    (from + slot_offset ≤ slot.place) × IsUnfilled slot image × AreUnfilled (slot.place + 97) slots image
 
 -- what is left where filling these met a fault of the disk: the first of them are filled, and so is left the next
 unfoldable pub LeavesUnfilled : List Unfilled → List ℕ → List ℕ → Type 0

@@ -1,6 +1,7 @@
 -- What stands behind the open gates of an image, whoever reads it. This project's own, docs/FORMAT.md, "The file" and
 -- "Committing".
 use Rattle.std.specs.Prelude.{ℕ, zero, suc, ◌+◌, ◌==◌, if◌then◌else◌, List, [], ◌∷◌, take, drop, map}
+use Rattle.cry_base.specs.Layout.{first_gate_offset, gate_offset, head_len}
 use Rattle.chacha_seal.specs.Sealing.{veil_of, masked}
 use Rattle.commit_journal.specs.declared.batch_type.BatchType.{BatchType}
 use Rattle.commit_journal.specs.declared.batch_type.BatchType.TheVariants.{Command, NewEpoch}
@@ -10,10 +11,10 @@ use Rattle.commit_journal.specs.Log.{head_of, slot_in, payload_in}
 
 -- the head of a batch, and how many bytes the batch has before the gate behind it
 unfoldable pub head_in : List ℕ → Head
-head_in batch = head_of (take 13 batch)
+head_in batch = head_of (take head_len batch)
 
 unfoldable pub size_in : List ℕ → ℕ
-size_in batch = 109 + (head_in batch).size
+size_in batch = gate_offset + (head_in batch).size
 
 -- each batch behind an open gate, up to the first closed gate, by the bytes from a gate on, of which the first so many
 -- belong to the batch before. Nothing is tested but the gates
@@ -24,7 +25,7 @@ gated_at zero (gate ∷ rest) = if gate == 1 then take (size_in rest) rest ∷ g
 
 -- the batches of an image, as bytes: the header has 41 bytes before its gate
 unfoldable pub gated : List ℕ → List (List ℕ)
-gated bytes = gated_at 0 (drop 41 bytes)
+gated bytes = gated_at 0 (drop first_gate_offset bytes)
 
 -- the payload of a batch as its slot unmasks it
 unfoldable pub slot_payload : List ℕ → List ℕ

@@ -1,6 +1,6 @@
 -- Laws of the verdict on a log. This project's own, docs/FORMAT.md, "The file" and "Reading".
 use Rattle.std.specs.Prelude.{◌≡◌, ◌≢◌, ◌<◌, ◌≤◌, ◌+◌, ℕ, List, [], ◌∷◌, ◌++◌, length, Ok, slice_range, slice_index_or}
-use Rattle.cry_base.specs.Layout.{batch_len, header_len}
+use Rattle.cry_base.specs.Layout.{batch_len, header_len, payload_offset}
 use Rattle.cry_base.specs.Limits.{most_store_bytes}
 use Rattle.record_format.specs.declared.link.LinkRecord.{LinkRecord}
 use Rattle.record_format.specs.Plain.{PlainContent, PlainPayload}
@@ -30,7 +30,7 @@ abbrev pub placed_from : ℕ → ℕ → ℕ → List PlainBody → List PlainPl
 placed_from at number epoch [] = []
 placed_from at number epoch (body ∷ bodies) =
     let batch = batch_of number epoch body in
-    record { batch = batch.number; epoch = record { 0 = batch.epoch }; place = at + 45; body = body }
+    record { batch = batch.number; epoch = record { 0 = batch.epoch }; place = at + payload_offset; body = body }
     ∷ placed_from (at + (batch_len + length batch.payload)) batch.number batch.epoch bodies
 
 -- a log may have these bodies: each command stands in an epoch, and its payload has a spelling

@@ -4,7 +4,8 @@ use Rattle.std.specs.Prelude.{ℕ, zero, suc, ◌+◌, ◌-◌, Bool, ◌==◌, 
 use Rattle.std.specs.Prelude.{codes, slice_index, slice_range, Option, None, Some, Result, Ok, Err}
 use Rattle.std.specs.Int.{w32, from_be_bytes}
 use Rattle.std.specs.Str.{bytes_eq}
-use Rattle.cry_base.specs.Layout.{batch_len, header_len}
+use Rattle.cry_base.specs.Layout.{batch_len, first_gate_offset, gate_offset, head_len, header_len, magic_len}
+use Rattle.cry_base.specs.Layout.{payload_offset, slot_offset, tag_offset}
 use Rattle.cry_base.specs.Limits.{most_store_bytes}
 use Rattle.hmac_seal.specs.Hmac.{hmac}
 use Rattle.chacha_seal.specs.Sealing.{check_of, owner_tag_key, masked}
@@ -39,24 +40,24 @@ is_batch past head left =
 
 -- the parts of a whole batch whose payload has so many bytes
 abbrev pub slot_in : List ℕ → List ℕ
-slot_in batch = slice_range batch 13 45
+slot_in batch = slice_range batch slot_offset payload_offset
 
 abbrev pub payload_in : ℕ → List ℕ → List ℕ
-payload_in size batch = slice_range batch 45 (45 + size)
+payload_in size batch = slice_range batch payload_offset (payload_offset + size)
 
 abbrev pub check_in : ℕ → List ℕ → List ℕ
-check_in size batch = slice_range batch (45 + size) (77 + size)
+check_in size batch = slice_range batch (payload_offset + size) (tag_offset + size)
 
 abbrev pub tag_in : ℕ → List ℕ → List ℕ
-tag_in size batch = slice_range batch (77 + size) (109 + size)
+tag_in size batch = slice_range batch (tag_offset + size) (gate_offset + size)
 
 abbrev pub gate_in : ℕ → List ℕ → ℕ
-gate_in size batch = slice_index batch (109 + size)
+gate_in size batch = slice_index batch (gate_offset + size)
 
 -- the owner tag that a batch should have behind this tag
 unfoldable pub tag_due : List ℕ → List ℕ → ℕ → List ℕ → List ℕ
 tag_due owner previous size batch =
-    hmac (owner_tag_key owner) (previous ++ (take 13 batch ++ (payload_in size batch ++ check_in size batch)))
+    hmac (owner_tag_key owner) (previous ++ (take head_len batch ++ (payload_in size batch ++ check_in size batch)))
 
 -- a payload as a body
 abbrev pub as_commands : Result PlainPayload ℕ → Result PlainBody ℕ
@@ -70,7 +71,7 @@ body_of head payload = if head.type_byte == 2 then Ok NewEpoch else as_commands 
 -- a body, or the place of its first bad field in the image
 abbrev pub placed_body : Past → Result PlainBody ℕ → Result PlainBody Fault
 placed_body past (Ok body) = Ok body
-placed_body past (Err at) = Err (Damaged (past.at + 45 + at))
+placed_body past (Err at) = Err (Damaged (past.at + payload_offset + at))
 
 -- one batch more, and what is known behind it
 pub record PlainTurn : Type 0 where
@@ -80,7 +81,7 @@ pub record PlainTurn : Type 0 where
 -- a batch with this body
 abbrev pub turn_of : Past → Head → List ℕ → PlainBody → PlainTurn
 turn_of past head batch body = record {
-  placed = record { batch = head.number; epoch = head.epoch; place = past.at + 45; body = body };
+  placed = record { batch = head.number; epoch = head.epoch; place = past.at + payload_offset; body = body };
   past = record {
     at = past.at + (batch_len + head.size);
     number = head.number;
@@ -96,19 +97,19 @@ published_turn past head batch =
     if bytes_eq (hmac (slot_in batch) (payload_in head.size batch)) (check_in head.size batch)
     then and_then (placed_body past (body_of head (masked (slot_in batch) (payload_in head.size batch))))
     (λ body. Ok (Some (turn_of past head batch body)))
-    else (if gate_in head.size batch == 1 then Err (Tampered head.number (past.at + 13)) else Ok None)
+    else (if gate_in head.size batch == 1 then Err (Tampered head.number (past.at + slot_offset)) else Ok None)
 
 -- the whole of a batch behind an open gate
 unfoldable pub tagged_turn : List ℕ → Past → Head → List ℕ → Result (Option PlainTurn) Fault
 tagged_turn owner past head batch =
     if bytes_eq (tag_due owner past.tag head.size batch) (tag_in head.size batch)
     then published_turn past head batch
-    else Err (Tampered head.number (past.at + 77 + head.size))
+    else Err (Tampered head.number (past.at + tag_offset + head.size))
 
 -- the head of the batch behind an open gate, where these bytes are left
 unfoldable pub head_at : Past → List ℕ → Result Head Fault
 head_at past rest =
-    if is_batch past (head_of (take 13 rest)) (length rest) then Ok (head_of (take 13 rest)) else Err (Damaged past.at)
+    if is_batch past (head_of (take head_len rest)) (length rest) then Ok (head_of (take head_len rest)) else Err (Damaged past.at)
 
 -- what stands behind an open gate, where these bytes are left
 unfoldable pub turn_at : List ℕ → Past → List ℕ → Result (Option PlainTurn) Fault
@@ -135,12 +136,22 @@ log_at owner past zero (byte ∷ rest) =
     then goes_on (turn_at owner past (byte ∷ rest)) (λ turn. log_at owner turn.past (turn.past.at - (past.at + 1)) rest)
     else Ok []
 
+-- what is known behind a header of the right form, before the first batch
+abbrev pub behind_header : List ℕ → Past
+behind_header header = record {
+  at = header_len;
+  number = 0;
+  epoch = record { 0 = 0 };
+  tag = slice_range header magic_len first_gate_offset;
+  gate = slice_index header first_gate_offset;
+}
+
 -- what is known behind the header's 42 bytes
 unfoldable pub start_of : List ℕ → List ℕ → Result Past Fault
 start_of owner header =
-    if bytes_eq (take 9 header) (codes "CRYPTREE" ++ 1 ∷ [])
-    then (if bytes_eq (slice_range header 9 41) (check_of owner)
-    then Ok (record { at = header_len; number = 0; epoch = record { 0 = 0 }; tag = slice_range header 9 41; gate = slice_index header 41 })
+    if bytes_eq (take magic_len header) (codes "CRYPTREE" ++ 1 ∷ [])
+    then (if bytes_eq (slice_range header magic_len first_gate_offset) (check_of owner)
+    then Ok (behind_header header)
     else Err WrongKey)
     else Err NotAStore
 

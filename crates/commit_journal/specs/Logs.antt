@@ -3,12 +3,13 @@
 use Rattle.std.specs.Prelude.{◌≡◌, ◌≤◌, ℕ, zero, suc, ◌+◌, ◌-◌, ◌==◌, nat_le, if◌then◌else◌, List, [], ◌∷◌, ◌++◌, length, take, drop, codes}
 use Rattle.std.specs.Prelude.{slice_index, slice_range, Option, Some, Result, Ok, Err}
 use Rattle.std.specs.Str.{bytes_eq}
-use Rattle.cry_base.specs.Layout.{batch_len, header_len}
+use Rattle.cry_base.specs.Layout.{batch_len, header_len, magic_len, tag_offset}
 use Rattle.chacha_seal.specs.Sealing.{veil_of, masked}
 use Rattle.commit_journal.specs.declared.head.Head.{Head}
 use Rattle.commit_journal.specs.declared.past.Past.{Past}
 use Rattle.commit_journal.specs.Answering.{Fault, NotAStore, Tampered, and_then}
-use Rattle.commit_journal.specs.Log.{PlainTurn, payload_in, tag_in, tag_due, body_of, placed_body, turn_of, published_turn, head_at}
+use Rattle.commit_journal.specs.Log.{PlainTurn, behind_header, body_of, head_at, payload_in, placed_body}
+use Rattle.commit_journal.specs.Log.{published_turn, tag_due, tag_in, turn_of}
 use Rattle.commit_journal.specs.Log.{goes_on, start_at}
 use Rattle.commit_journal.specs.Placed.{PlainBody, Commands, NewEpoch, PlainPlaced}
 
@@ -29,8 +30,8 @@ turn_by judge past rest = and_then (head_at past rest) (λ head. judge past head
 -- what is known behind the header, for who has no owner's key
 unfoldable pub unowned_start_of : List ℕ → Result Past Fault
 unowned_start_of header =
-    if bytes_eq (take 9 header) (codes "CRYPTREE" ++ 1 ∷ [])
-    then Ok (record { at = header_len; number = 0; epoch = record { 0 = 0 }; tag = slice_range header 9 41; gate = slice_index header 41 })
+    if bytes_eq (take magic_len header) (codes "CRYPTREE" ++ 1 ∷ [])
+    then Ok (behind_header header)
     else Err NotAStore
 
 unfoldable pub unowned_start : List ℕ → Result Past Fault
@@ -51,7 +52,7 @@ unfoldable pub tagged_recovered : List ℕ → Past → Head → List ℕ → Re
 tagged_recovered owner past head batch =
     if bytes_eq (tag_due owner past.tag head.size batch) (tag_in head.size batch)
     then recovered_turn owner past head batch
-    else Err (Tampered head.number (past.at + 77 + head.size))
+    else Err (Tampered head.number (past.at + tag_offset + head.size))
 
 -- the batches that the owner who opens for writing reads, or the first test that fails
 unfoldable pub writer_log : List ℕ → List ℕ → Result (List PlainPlaced) Fault

@@ -4,7 +4,7 @@ use Rattle.std.specs.Prelude.{◌≡◌, ◌≢◌, ◌⊎◌, ◌≤◌, ℕ, z
 use Rattle.std.specs.Prelude.{◌++◌, length, take, drop, slice_range, Option, None, Some, Result, Ok, Err}
 pub use Rattle.batch_log.specs.Steps.{IsGatedAt, written_at}
 use Rattle.std.specs.Str.{bytes_eq}
-use Rattle.cry_base.specs.Layout.{batch_len, header_len}
+use Rattle.cry_base.specs.Layout.{back_len, batch_len, header_len, payload_offset, tag_offset}
 use Rattle.cry_base.specs.Limits.{most_store_bytes}
 use Rattle.chacha_seal.specs.Sealing.{veil_of, masked}
 use Rattle.commit_journal.specs.declared.head.Head.{Head}
@@ -32,7 +32,7 @@ owned_turn owner past head batch =
     if bytes_eq (tag_due owner past.tag head.size batch) (tag_in head.size batch)
     then and_then (placed_body past (body_of head (masked (veil_of owner head.epoch.0 head.number) (payload_in head.size batch))))
     (λ body. Ok (turn_of past head batch body))
-    else Err (Tampered head.number (past.at + 77 + head.size))
+    else Err (Tampered head.number (past.at + tag_offset + head.size))
 
 unfoldable pub owned_at : ℕ → List ℕ → Past → List ℕ → Result PlainTurn Fault
 owned_at limit owner past rest =
@@ -96,7 +96,8 @@ LeavesGated limit owner old new = (new ≡ old)
 -- from this place on the batches stand in the bytes one behind another, each behind its open gate
 abbrev pub AreGated : ℕ → List PlainPlaced → List ℕ → Type 0
 AreGated from [] bytes = Unit {0}
-AreGated from (p ∷ ps) bytes = (from + 45 ≤ p.place) × IsGatedAt (p.place - 45) batch_len bytes × AreGated (p.place + 65) ps bytes
+AreGated from (p ∷ ps) bytes =
+    (from + payload_offset ≤ p.place) × IsGatedAt (p.place - payload_offset) batch_len bytes × AreGated (p.place + back_len) ps bytes
 
 -- a log that was walked, and a journal that was opened on it, without the room that they have
 abbrev pub plain_walked : Walked → OwnedLog
@@ -150,7 +151,7 @@ HasType byte bodies.NewEpoch = byte ≡ 2
 -- the turn of the batch with this head
 pub record IsTurnOf (past : Past) (head : Head) (turn : Turn) : Type 0 where
   pub batch : turn.placed.batch ≡ head.number
-  pub place : turn.placed.place ≡ past.at + 45
+  pub place : turn.placed.place ≡ past.at + payload_offset
   pub next : turn.past.at ≡ past.at + (batch_len + head.size)
   pub number : turn.past.number ≡ head.number
   pub epoch : turn.past.epoch.0 ≡ head.epoch.0
@@ -160,7 +161,7 @@ pub record IsTurnOf (past : Past) (head : Head) (turn : Turn) : Type 0 where
 -- the turn of the next batch, which ends within so many bytes
 pub record IsNextTurn (past : Past) (size : ℕ) (turn : Turn) : Type 0 where
   pub batch : turn.placed.batch ≡ past.number + 1
-  pub place : turn.placed.place ≡ past.at + 45
+  pub place : turn.placed.place ≡ past.at + payload_offset
   pub ahead : past.at + batch_len ≤ turn.past.at
   pub inside : turn.past.at ≤ size
   pub within : turn.past.at ≤ most_store_bytes

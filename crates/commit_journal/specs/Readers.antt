@@ -3,14 +3,15 @@
 use Rattle.std.specs.Prelude.{ℕ, ◌+◌, Bool, true, nat_le, if◌then◌else◌, List, [], ◌∷◌, ◌++◌, length, take, drop, codes, slice_index}
 use Rattle.std.specs.Prelude.{slice_range, Option, None, Some, Result, Ok, Err}
 use Rattle.std.specs.Str.{bytes_eq}
-use Rattle.cry_base.specs.Layout.{header_len}
+use Rattle.cry_base.specs.Layout.{first_gate_offset, header_len, magic_len, slot_offset, tag_offset}
 use Rattle.chacha_seal.specs.Keys.{KeyParts}
 use Rattle.hmac_seal.specs.Hmac.{hmac}
 use Rattle.chacha_seal.specs.Sealing.{check_of, masked}
 use Rattle.commit_journal.specs.declared.head.Head.{Head}
 use Rattle.commit_journal.specs.declared.past.Past.{Past}
 use Rattle.commit_journal.specs.Answering.{Fault, NotAStore, WrongKey, Tampered, and_then}
-use Rattle.commit_journal.specs.Log.{PlainTurn, tag_due, slot_in, payload_in, check_in, tag_in, body_of, placed_body, turn_of}
+use Rattle.commit_journal.specs.Log.{PlainTurn, behind_header, body_of, check_in, payload_in, placed_body, slot_in}
+use Rattle.commit_journal.specs.Log.{tag_due, tag_in, turn_of}
 use Rattle.commit_journal.specs.Log.{published_turn}
 use Rattle.commit_journal.specs.Logs.{walk_at, turn_by}
 use Rattle.commit_journal.specs.Placed.{PlainPlaced}
@@ -28,9 +29,9 @@ has_check (Some owner) check = bytes_eq check (check_of owner)
 -- what is known behind the header's 42 bytes
 unfoldable pub header_of : Option (List ℕ) → List ℕ → Result Past Fault
 header_of who header =
-    if bytes_eq (take 9 header) (codes "CRYPTREE" ++ 1 ∷ [])
-    then (if has_check who (slice_range header 9 41)
-    then Ok (record { at = header_len; number = 0; epoch = record { 0 = 0 }; tag = slice_range header 9 41; gate = slice_index header 41 })
+    if bytes_eq (take magic_len header) (codes "CRYPTREE" ++ 1 ∷ [])
+    then (if has_check who (slice_range header magic_len first_gate_offset)
+    then Ok (behind_header header)
     else Err WrongKey)
     else Err NotAStore
 
@@ -45,7 +46,7 @@ has_tag (Some owner) past head batch = bytes_eq (tag_due owner past.tag head.siz
 -- the whole of a batch behind an open gate
 unfoldable pub read_turn : Option (List ℕ) → Past → Head → List ℕ → Result (Option PlainTurn) Fault
 read_turn who past head batch =
-    if has_tag who past head batch then published_turn past head batch else Err (Tampered head.number (past.at + 77 + head.size))
+    if has_tag who past head batch then published_turn past head batch else Err (Tampered head.number (past.at + tag_offset + head.size))
 
 -- whether the slot of a batch is its veil key
 unfoldable pub is_published : ℕ → List ℕ → Bool
@@ -62,8 +63,8 @@ again_turn who past head batch =
     if has_tag who past head batch
     then (if is_published head.size batch
     then unmasked_turn (slot_in batch) past head batch
-    else Err (Tampered head.number (past.at + 13)))
-    else Err (Tampered head.number (past.at + 77 + head.size))
+    else Err (Tampered head.number (past.at + slot_offset)))
+    else Err (Tampered head.number (past.at + tag_offset + head.size))
 
 -- the batches, in order, or the first test that fails
 unfoldable pub read_log : Option (List ℕ) → List ℕ → Result (List PlainPlaced) Fault

@@ -2,7 +2,7 @@
 use Rattle.std.specs.Prelude.{◌≡◌, ◌<◌, ◌≤◌, ℕ, ◌+◌, ◌-◌, ◌==◌, if◌then◌else◌, List, [], ◌∷◌, ◌++◌, length, drop, take, get_or, Option}
 use Rattle.std.specs.Prelude.{None, Some, Result, Ok}
 use Rattle.std.specs.List.{slice_get}
-use Rattle.cry_base.specs.Layout.{batch_len, header_len}
+use Rattle.cry_base.specs.Layout.{batch_len, header_len, payload_offset}
 use Rattle.cry_base.specs.Limits.{most_store_bytes}
 use Rattle.commit_journal.specs.declared.past.Past.{Past}
 use Rattle.commit_journal.specs.declared.placed.Placed.{Placed}
@@ -65,7 +65,7 @@ pub record GivesOne (size : ℕ) (old : LogState) (p : Placed) (new : LogState) 
   pub given : new.given ≡ old.given ++ plain_placed p ∷ []
   pub starts : new.starts ≡ old.starts ++ old.past ∷ []
   pub batch : p.batch ≡ length old.given + 1
-  pub place : p.place ≡ old.past.at + 45
+  pub place : p.place ≡ old.past.at + payload_offset
   pub stands : IsStanding p
   pub ahead : old.past.at < new.past.at
   pub inside : new.past.at ≤ size

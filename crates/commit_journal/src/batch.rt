@@ -1,6 +1,6 @@
 //! A batch in memory, from its head to the gate behind it, as layout.rt draws it.
 ghost use Rattle.std.specs.Prelude.{◌≡◌, ◌+◌, ◌<◌, ◌≤◌, ◌^◌, ℕ, List, [], ◌∷◌, ◌++◌, length, take, drop};
-ghost use Rattle.cry_base.specs.Layout.{batch_len};
+ghost use Rattle.cry_base.specs.Layout.{back_len, batch_len, payload_offset};
 ghost use Rattle.hmac_seal.specs.Hmac as mac;
 ghost use Rattle.chacha_seal.specs.Sealing as sealing;
 ghost use Rattle.record_format.specs.Plain.{plain_payload};
@@ -43,17 +43,17 @@ fn head(type_of: BatchType, number: u32, epoch: Epoch, size: u32) -> [u8; HEAD_L
 /// Puts the head of a batch whose payload has `size` bytes, and an empty slot. The payload is put behind them.
 #[tactic(auto, unfolding(crate::specs::Image::empty_slot))]
 pub(crate) fn begin(type_of: BatchType, number: u32, epoch: Epoch, size: u32, batch: &mut Text)
-    requires { 45 ≤ batch.old.spare }
+    requires { payload_offset ≤ batch.old.spare }
     ensures items { batch.new.items ≡ batch.old.items ++ (image.head_bytes type_of number epoch.0 size ++ image.empty_slot) }
-    ensures spare { batch.old.spare ≤ batch.new.spare + 45 }
+    ensures spare { batch.old.spare ≤ batch.new.spare + payload_offset }
 {
     batch.put_all(&head(type_of, number, epoch, size));
     batch.put_all(&EMPTY_SLOT);
 }
 
 fn mask(veil: &[u8; 32], batch: &mut Text)
-    requires { 45 ≤ length batch.old.items }
-    ensures items { batch.new.items ≡ take 45 batch.old.items ++ sealing.masked veil.now (drop 45 batch.old.items) }
+    requires { payload_offset ≤ length batch.old.items }
+    ensures items { batch.new.items ≡ take payload_offset batch.old.items ++ sealing.masked veil.now (drop payload_offset batch.old.items) }
     ensures spare { batch.new.spare ≡ batch.old.spare }
 {
     let bytes = batch.as_mut_slice();
@@ -80,13 +80,13 @@ fn owner_tag(
 }
 
 fn put_tags(owner: &LogKey, previous: &[u8; 32], veil: &[u8; 32], batch: &mut Text) -> [u8; 32]
-    requires whole { 45 ≤ length batch.old.items }
-    requires room { 65 ≤ batch.old.spare }
-    ensures tag { let payload = drop 45 batch.old.items in
+    requires whole { payload_offset ≤ length batch.old.items }
+    requires room { back_len ≤ batch.old.spare }
+    ensures tag { let payload = drop payload_offset batch.old.items in
         result ≡ mac.hmac (sealing.owner_tag_key owner.now.bytes)
         (previous.now ++ (take 13 batch.old.items ++ (payload ++ mac.hmac veil.now payload))) }
-    ensures items { batch.new.items ≡ batch.old.items ++ (mac.hmac veil.now (drop 45 batch.old.items) ++ (result ++ 0 ∷ [])) }
-    ensures grown { length batch.new.items ≡ length batch.old.items + 65 }
+    ensures items { batch.new.items ≡ batch.old.items ++ (mac.hmac veil.now (drop payload_offset batch.old.items) ++ (result ++ 0 ∷ [])) }
+    ensures grown { length batch.new.items ≡ length batch.old.items + back_len }
 {
     let bytes = batch.as_slice();
     let check = hmac(veil, &bytes[PAYLOAD..], &[]);
@@ -111,9 +111,9 @@ pub(crate) fn finish(
     veil: &[u8; 32],
     batch: &mut Text,
 ) -> [u8; 32]
-    requires whole { 45 ≤ length batch.old.items }
-    requires room { 65 ≤ batch.old.spare }
-    ensures grown { length batch.new.items ≡ length batch.old.items + 65 }
+    requires whole { payload_offset ≤ length batch.old.items }
+    requires room { back_len ≤ batch.old.spare }
+    ensures grown { length batch.new.items ≡ length batch.old.items + back_len }
     ensures spelled { (b : image.Batch) → veil.now ≡ image.batch_veil owner.now.bytes b →
         batch.old.items ≡ image.batch_head b ++ (image.empty_slot ++ b.payload) →
         batch.new.items ≡ image.spell_batch owner.now.bytes previous.now (image.empty_slot) b ++ 0 ∷ [] }

@@ -1,7 +1,7 @@
 //! The slots that aren't their veil keys: they are found as the log is read, and written once all of it was judged
 //! (docs/FORMAT.md, "Opening for writing").
 ghost use Rattle.std.specs.Prelude.{◌≡◌, ◌≤◌, ◌+◌, ◌++◌, length, is_some, OnErr, OnOk, All, option_to_list};
-ghost use Rattle.cry_base.specs.Layout.{header_len};
+ghost use Rattle.cry_base.specs.Layout.{header_len, payload_offset, slot_offset};
 ghost use Rattle.cry_base.specs.Limits.{most_store_bytes};
 ghost use Rattle.cry_io.specs.Counts.{CountsFault};
 ghost use Rattle.cry_io.specs.Stops.{IsDurable};
@@ -31,9 +31,9 @@ pub(crate) struct Unfilled {
 /// The slot of a batch in memory that begins at this place of the file, if it isn't this veil key.
 #[tactic(auto, unfolding(crate::specs::Filling::unfilled_slot))]
 pub(crate) fn unfilled_slot(at: u64, veil: &[u8; 32], batch: &[u8]) -> Option<Unfilled>
-    requires whole { 45 ≤ length batch.now }
+    requires whole { payload_offset ≤ length batch.now }
     requires fits { at ≤ most_store_bytes }
-    ensures { result ≡ filling.unfilled_slot (at + 13) (log.slot_in batch.now) veil.now }
+    ensures { result ≡ filling.unfilled_slot (at + slot_offset) (log.slot_in batch.now) veil.now }
 {
     let slot = array_at(batch, SLOT);
     if tags_equal(&slot, veil) {

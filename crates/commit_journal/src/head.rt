@@ -1,7 +1,7 @@
 //! The head of a batch, as layout.rt draws it.
 ghost use Rattle.std.specs.Prelude.{◌≡◌, ◌+◌, ◌≤◌, ◌^◌, slice_range, IsTrue};
 ghost use Rattle.std.specs.Int.{w32, from_be_bytes};
-ghost use Rattle.cry_base.specs.Layout.{batch_len};
+ghost use Rattle.cry_base.specs.Layout.{batch_len, head_len};
 ghost use Rattle.cry_base.specs.Limits.{most_store_bytes};
 ghost use Rattle.commit_journal.specs.Log as log;
 ghost use Rattle.commit_journal.specs.Opening as opening;
@@ -20,7 +20,7 @@ pub(crate) struct Head {
 }
 
 fn number_at(bytes: &[u8; HEAD_LEN], from: usize) -> u32
-    requires { from + 4 ≤ 13 }
+    requires { from + 4 ≤ head_len }
     ensures { result ≡ from_be_bytes w32 (slice_range bytes.now from (from + 4)) }
 {
     let mut field = [0; 4];

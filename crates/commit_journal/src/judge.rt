@@ -1,6 +1,6 @@
 //! Judges a whole batch in memory (docs/FORMAT.md, "The file").
 ghost use Rattle.std.specs.Prelude.{◌≡◌, ◌≢◌, ◌+◌, ◌≤◌, ◌^◌, length, slice_range, option_copied, Err, IfOk};
-ghost use Rattle.cry_base.specs.Layout.{batch_len, header_len};
+ghost use Rattle.cry_base.specs.Layout.{batch_len, header_len, payload_offset, slot_offset, tag_offset};
 ghost use Rattle.cry_base.specs.Limits.{most_store_bytes};
 ghost use Rattle.chacha_seal.specs.Sealing.{masked};
 ghost use Rattle.commit_journal.specs.Answering.{Answers};
@@ -91,7 +91,7 @@ fn is_published(size: usize, batch: &[u8]) -> bool
 
 fn unpublished(past: &Past, head: &Head) -> OpenFault
     requires behind { past.now.at ≤ most_store_bytes }
-    ensures { result ≡ OpenFault.Tampered head.now.number (past.now.at + 13) }
+    ensures { result ≡ OpenFault.Tampered head.now.number (past.now.at + slot_offset) }
 {
     OpenFault::Tampered {
         batch: head.number,
@@ -159,7 +159,8 @@ pub(crate) fn turn_of(past: &Past, head: &Head, body: Body, tag: [u8; 32], gate:
     requires fits { past.now.at + (batch_len + head.now.size) ≤ most_store_bytes }
     requires size { HasSize head.now.size body }
     ensures stands { IsStanding result.placed }
-    ensures placed { result.placed ≡ record { batch = head.now.number; epoch = head.now.epoch; place = past.now.at + 45; body = body } }
+    ensures placed { result.placed
+        ≡ record { batch = head.now.number; epoch = head.now.epoch; place = past.now.at + payload_offset; body = body } }
     ensures past { result.past ≡ record {
       at = past.now.at + (batch_len + head.now.size);
       number = head.now.number;
@@ -205,7 +206,7 @@ pub(crate) fn has_tag(owner: Option<&LogKey>, past: &Past, head: &Head, batch: &
 /// The fault of a wrong owner tag.
 pub(crate) fn wrong_tag(past: &Past, head: &Head) -> OpenFault
     requires behind { past.now.at ≤ most_store_bytes }
-    ensures { result ≡ OpenFault.Tampered head.now.number (past.now.at + 77 + head.now.size) }
+    ensures { result ≡ OpenFault.Tampered head.now.number (past.now.at + tag_offset + head.now.size) }
 {
     OpenFault::Tampered {
         batch: head.number,

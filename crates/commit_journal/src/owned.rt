@@ -1,6 +1,6 @@
 //! Judges a whole batch in memory as its owner, whose key unmasks it whether it is published or not.
 ghost use Rattle.std.specs.Prelude.{◌≡◌, ◌≢◌, ◌+◌, ◌≤◌, length, Err, IfOk};
-ghost use Rattle.cry_base.specs.Layout.{batch_len, header_len};
+ghost use Rattle.cry_base.specs.Layout.{batch_len, header_len, slot_offset};
 ghost use Rattle.cry_base.specs.Limits.{most_store_bytes};
 ghost use Rattle.chacha_seal.specs.Sealing.{veil_of};
 ghost use Rattle.commit_journal.specs.Answering.{Answers};
@@ -40,7 +40,7 @@ pub(crate) fn judge_owned(
     requires behind { header_len ≤ past.now.at }
     requires fits { past.now.at + (batch_len + head.now.size) ≤ most_store_bytes }
     ensures answer { Answers (λ o. plain_turn o.turn) result (opening.owned_turn owner.now.bytes past.now head.now batch.old) }
-    ensures unfilled { IfOk result (λ o. o.unfilled ≡ filling.unfilled_slot (past.now.at + 13) (log.slot_in batch.old)
+    ensures unfilled { IfOk result (λ o. o.unfilled ≡ filling.unfilled_slot (past.now.at + slot_offset) (log.slot_in batch.old)
         (veil_of owner.now.bytes head.now.epoch.0 head.now.number)) }
     ensures turn { IfOk result (λ o. opening.IsTurnOf past.now head.now o.turn) }
     ensures stands { IfOk result (λ o. IsStanding o.turn.placed) }

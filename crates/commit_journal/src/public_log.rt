@@ -2,7 +2,7 @@
 //! written (docs/FORMAT.md, "Reading").
 ghost use Rattle.std.specs.Prelude.{◌≡◌, ◌≢◌, ◌⊎◌, ◌<◌, ◌≤◌, ◌+◌, ◌^◌, [], ◌∷◌, ◌++◌, None, Ok, Err, drop, length, option_copied, IfOk};
 ghost use Rattle.std.specs.Prelude.{IfErr, OnOk, OnErr, IsTrue, MatchResult, All};
-ghost use Rattle.cry_base.specs.Layout.{header_len};
+ghost use Rattle.cry_base.specs.Layout.{header_len, payload_offset};
 ghost use Rattle.cry_io.specs.Told.{WhereTold};
 ghost use Rattle.commit_journal.specs.Answering.{Answers, IsFault};
 ghost use Rattle.commit_journal.specs.Log.{log_verdict};
@@ -304,7 +304,7 @@ impl PublicLog {
             MatchResult result (λ placed. plain_placed placed ≡ p) (λ fault. (fault ≡ OpenFault.DiskFault)
             ⊎ (fault ≡ OpenFault.OutOfMemory))) }
         ensures batch { IfOk result (λ placed. placed.batch ≡ start.now.number + 1) }
-        ensures place { IfOk result (λ placed. placed.place ≡ start.now.at + 45) }
+        ensures place { IfOk result (λ placed. placed.place ≡ start.now.at + payload_offset) }
         ensures stands { IfOk result IsStanding }
         ensures read_only { IsOnlyRead D.shown D.size_of D.may_leave disk.old disk.new }
         ensures counts { D.faults disk.old ≤ D.faults disk.new }

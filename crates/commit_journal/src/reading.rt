@@ -1,6 +1,6 @@
 //! Reads the header of a store file, and the head of a batch. The file is never written.
 ghost use Rattle.std.specs.Prelude.{◌≡◌, ◌≢◌, ◌<◌, ◌≤◌, ◌+◌, ◌^◌, Err, drop, slice_index, slice_range, IfOk, OnOk};
-ghost use Rattle.cry_base.specs.Layout.{batch_len, header_len};
+ghost use Rattle.cry_base.specs.Layout.{batch_len, first_gate_offset, header_len, magic_len};
 ghost use Rattle.cry_base.specs.Limits.{most_store_bytes};
 ghost use Rattle.cry_io.specs.Told.{WhereTold};
 ghost use Rattle.commit_journal.specs.Answering.{Answers};
@@ -19,7 +19,7 @@ use cry_io::Disk;
 use hmac_seal::tags_equal;
 
 pub(crate) fn array_at(bytes: &[u8; HEADER_LEN]) -> [u8; 32]
-    ensures { result ≡ slice_range bytes.now 9 41 }
+    ensures { result ≡ slice_range bytes.now magic_len first_gate_offset }
 {
     let mut array = [0; 32];
     array.copy_from_slice(&bytes[9..41]);
@@ -32,7 +32,7 @@ fn start_of(owner: &LogKey, header: &[u8; HEADER_LEN]) -> Result<Past, OpenFault
     ensures answer { Answers (λ past. past) result (log.start_of owner.now.bytes header.now) }
     ensures place { IfOk result (λ past. past.at ≡ header_len) }
     ensures fresh { IfOk result (λ past. (past.number ≡ 0) × (past.epoch.0 ≡ 0)) }
-    ensures gate { IfOk result (λ past. past.gate ≡ slice_index header.now 41) }
+    ensures gate { IfOk result (λ past. past.gate ≡ slice_index header.now first_gate_offset) }
     ensures no_disk { result ≢ Err OpenFault.DiskFault }
 {
     if header[..9] != MAGIC[..] {
@@ -56,7 +56,7 @@ pub(crate) fn read_start<D: Disk>(disk: &mut D, owner: &LogKey) -> Result<Past, 
     ensures place { IfOk result (λ past. past.at ≡ header_len) }
     ensures fresh { IfOk result (λ past. (past.number ≡ 0) × (past.epoch.0 ≡ 0)) }
     ensures inside { OnOk result (header_len ≤ D.size_of disk.old) }
-    ensures gate { IfOk result (λ past. WhereTold (D.shown disk.old) (λ s. slice_index s 41 ≡ past.gate)) }
+    ensures gate { IfOk result (λ past. WhereTold (D.shown disk.old) (λ s. slice_index s first_gate_offset ≡ past.gate)) }
     ensures read_only { IsOnlyRead D.shown D.size_of D.may_leave disk.old disk.new }
     ensures moments { IsSameThroughout D.shown D.may_leave D.moment D.since disk.old disk.new }
     ensures counts { D.faults disk.old ≤ D.faults disk.new }

@@ -1,7 +1,7 @@
 //! Laws of bytes that stand for batches.
 ghost use Rattle.std.specs.Prelude.{◌≡◌, ◌≢◌, ◌≤◌, ◌+◌, ℕ, All, List, [], ◌∷◌, ◌++◌, length, map, true, Ok};
 ghost use Rattle.std.specs.List.{sum_by};
-ghost use Rattle.cry_base.specs.Layout.{batch_len, header_len};
+ghost use Rattle.cry_base.specs.Layout.{batch_len, first_gate_offset, header_len};
 ghost use Rattle.cry_base.specs.Limits.{most_store_bytes};
 ghost use Rattle.commit_journal.specs.Gates.{gated, recovered, slot_payload};
 ghost use Rattle.commit_journal.specs.Image.{Batch, batch_veil, image, spell_batch, spell_batches};
@@ -13,7 +13,8 @@ ghost use Rattle.commit_journal.specs.Standing.{HasSizes, StandsFor, StandsWhole
 
 /// Law: an image has 41 bytes, and 110 more than its payload for each batch.
 pub fn image_has_its_length()
-    ensures { (owner : List ℕ) (bs : List Batch) → length (image owner bs) ≡ 41 + sum_by (λ b. batch_len + length b.payload) bs }
+    ensures { (owner : List ℕ) (bs : List Batch) → length (image owner bs)
+        ≡ first_gate_offset + sum_by (λ b. batch_len + length b.payload) bs }
 {}
 
 /// Law: the image of more batches begins with that of the first ones, and the others follow the last owner tag. The last

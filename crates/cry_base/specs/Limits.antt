@@ -18,6 +18,18 @@ most_name_bytes = 64
 abbrev pub most_depth : ℕ
 most_depth = 64
 
+-- the most folders on a way up from a folder: itself, those above it, and the root
+abbrev pub most_way : ℕ
+most_way = 65
+
+-- for how many folders a way up is followed: one more than it may have
+abbrev pub way_turns : ℕ
+way_turns = 66
+
+-- the most bytes of a file's text: the length of its name, its name, and its bytes
+abbrev pub most_text_bytes : ℕ
+most_text_bytes = 1048641
+
 -- the limits of version 1, the one version there is
 abbrev pub limits_of_version : ℕ → Option Limits
 limits_of_version version =

@@ -1,6 +1,7 @@
 //! A shape from its rows.
 ghost use Rattle.std.specs.Prelude.{◌≡◌, ◌↔◌, map, length, IfOk, IsTrue, MatchOption};
 ghost use Rattle.std.specs.List.{list_all};
+ghost use Rattle.cry_base.specs.Limits.{way_turns};
 ghost use Rattle.cry_base.specs.Store.{way_up};
 ghost use Rattle.folder_nodes.specs.Bare.{bare_store, folder_of_row};
 ghost use Rattle.folder_nodes.specs.Restoring as restoring;
@@ -138,7 +139,7 @@ fn stands(folders: &Table<FolderRow>, f: u32) -> bool
 
 /// How many folders are on the way up from one that is counted too: 66 where there are more.
 fn levels(folders: &Table<FolderRow>, f: u32) -> u32
-    ensures { result ≡ length (way_up 66 (map folder_of_row folders.now.rows) f) }
+    ensures { result ≡ length (way_up way_turns (map folder_of_row folders.now.rows) f) }
 {
     let mut here = f;
     for levels in 0..66u32 {

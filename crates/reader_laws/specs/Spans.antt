@@ -4,7 +4,7 @@ use Rattle.std.specs.Prelude.{◌≡◌, ◌≢◌, ◌≤◌, ℕ, zero, suc, �
 use Rattle.std.specs.Prelude.{slice_index, slice_range, Option, None, Some, Result, Ok, Err}
 use Rattle.hmac_seal.specs.Hmac.{hmac}
 use Rattle.chacha_seal.specs.Sealing.{check_of, masked, veil_of}
-use Rattle.cry_base.specs.Layout.{batch_len, header_len}
+use Rattle.cry_base.specs.Layout.{batch_len, first_gate_offset, head_len, header_len, magic_len, payload_offset, slot_offset, tag_offset}
 use Rattle.cry_base.specs.declared.ids.Epoch.{Epoch}
 use Rattle.commit_journal.specs.Answering.{Fault, NotAStore, WrongKey, Damaged, Tampered}
 use Rattle.commit_journal.specs.Log.{body_of, check_in, gate_in, head_of, is_batch, payload_in, slot_in, tag_due, tag_in}
@@ -23,13 +23,13 @@ abbrev pub header_in : List ℕ → List ℕ
 header_in bytes = take header_len bytes
 
 abbrev pub IsStore : List ℕ → Type 0
-IsStore bytes = (header_len ≤ length bytes) × (take 9 (header_in bytes) ≡ codes "CRYPTREE" ++ 1 ∷ [])
+IsStore bytes = (header_len ≤ length bytes) × (take magic_len (header_in bytes) ≡ codes "CRYPTREE" ++ 1 ∷ [])
 
 -- where the reader has the owner's key, the owner check is that key's
 abbrev pub HasOwnerCheck : LogReader → List ℕ → Type 0
-HasOwnerCheck (OwnerReads owner) bytes = slice_range (header_in bytes) 9 41 ≡ check_of owner
+HasOwnerCheck (OwnerReads owner) bytes = slice_range (header_in bytes) magic_len first_gate_offset ≡ check_of owner
 HasOwnerCheck HolderReads bytes = Unit {0}
-HasOwnerCheck (OwnerWrites owner limit) bytes = slice_range (header_in bytes) 9 41 ≡ check_of owner
+HasOwnerCheck (OwnerWrites owner limit) bytes = slice_range (header_in bytes) magic_len first_gate_offset ≡ check_of owner
 
 -- ---- a batch
 
@@ -43,13 +43,13 @@ abbrev pub batch_in : List ℕ → Span → List ℕ
 batch_in bytes s = take (batch_len + s.size) (drop s.start bytes)
 
 abbrev pub number_in : List ℕ → Span → ℕ
-number_in bytes s = (head_of (take 13 (drop s.start bytes))).number
+number_in bytes s = (head_of (take head_len (drop s.start bytes))).number
 
 abbrev pub epoch_in : List ℕ → Span → Epoch
-epoch_in bytes s = (head_of (take 13 (drop s.start bytes))).epoch
+epoch_in bytes s = (head_of (take head_len (drop s.start bytes))).epoch
 
 abbrev pub size_in : List ℕ → Span → ℕ
-size_in bytes s = (head_of (take 13 (drop s.start bytes))).size
+size_in bytes s = (head_of (take head_len (drop s.start bytes))).size
 
 -- what is known at a place: the number and the epoch of the batch before it, its tag, and the gate
 pub record Known : Type 0 where
@@ -65,8 +65,8 @@ behind bytes None = record {
   at = header_len;
   number = 0;
   epoch = record { 0 = 0 };
-  tag = slice_range (header_in bytes) 9 41;
-  gate = slice_index (header_in bytes) 41;
+  tag = slice_range (header_in bytes) magic_len first_gate_offset;
+  gate = slice_index (header_in bytes) first_gate_offset;
 }
 behind bytes (Some s) = record {
   at = s.start + (batch_len + s.size);
@@ -95,7 +95,7 @@ EndsWithin (OwnerWrites owner limit) s = s.start + (batch_len + s.size) ≤ limi
 abbrev pub IsBatch : LogReader → List ℕ → Option Span → Span → Type 0
 IsBatch who bytes before s = let k = behind bytes before in
     (is_batch (record { at = k.at; number = k.number; epoch = k.epoch; tag = k.tag; gate = k.gate })
-    (head_of (take 13 (drop s.start bytes)))
+    (head_of (take head_len (drop s.start bytes)))
     (length (drop s.start bytes)) ≡ true)
     × EndsWithin who s
 
@@ -126,7 +126,7 @@ veil_in (OwnerWrites owner limit) bytes s = veil_of owner (epoch_in bytes s).0 (
 
 abbrev pub body_in : LogReader → List ℕ → Span → Result PlainBody ℕ
 body_in who bytes s =
-    body_of (head_of (take 13 (drop s.start bytes))) (masked (veil_in who bytes s) (payload_in s.size (batch_in bytes s)))
+    body_of (head_of (take head_len (drop s.start bytes))) (masked (veil_in who bytes s) (payload_in s.size (batch_in bytes s)))
 
 -- a batch that passes all four, and what is read of it
 pub record Passes (who : LogReader) (bytes : List ℕ) (before : Option Span) (s : Span) (p : PlainPlaced) : Type 0 where
@@ -136,17 +136,17 @@ pub record Passes (who : LogReader) (bytes : List ℕ) (before : Option Span) (s
   pub published : PassesSlot who bytes s
   pub body : PlainBody
   pub has_form : body_in who bytes s ≡ Ok body
-  pub is_read : p ≡ record { batch = number_in bytes s; epoch = epoch_in bytes s; place = s.start + 45; body = body }
+  pub is_read : p ≡ record { batch = number_in bytes s; epoch = epoch_in bytes s; place = s.start + payload_offset; body = body }
 
 -- a batch at which a test fails where those before it pass, and the fault
 pub data Fails (who : LogReader) (bytes : List ℕ) (before : Option Span) (s : Span) (fault : Fault) : Type 0 where
   NoBatch : (IsBatch who bytes before s → ⊥) → fault ≡ Damaged s.start → Fails who bytes before s fault
   WrongTag : IsBatch who bytes before s → (HasOwnerTag who bytes before s → ⊥)
-      → fault ≡ Tampered (number_in bytes s) (s.start + 77 + s.size) → Fails who bytes before s fault
+      → fault ≡ Tampered (number_in bytes s) (s.start + tag_offset + s.size) → Fails who bytes before s fault
   WrongSlot : IsBatch who bytes before s → HasOwnerTag who bytes before s → (PassesSlot who bytes s → ⊥)
-      → (behind bytes (Some s)).gate ≡ 1 → fault ≡ Tampered (number_in bytes s) (s.start + 13) → Fails who bytes before s fault
+      → (behind bytes (Some s)).gate ≡ 1 → fault ≡ Tampered (number_in bytes s) (s.start + slot_offset) → Fails who bytes before s fault
   NoForm : IsBatch who bytes before s → HasOwnerTag who bytes before s → PassesSlot who bytes s
-      → (place : ℕ) → body_in who bytes s ≡ Err place → fault ≡ Damaged (s.start + 45 + place) → Fails who bytes before s fault
+      → (place : ℕ) → body_in who bytes s ≡ Err place → fault ≡ Damaged (s.start + payload_offset + place) → Fails who bytes before s fault
 
 -- a batch that ends the log: it isn't published, and the gate behind it is closed
 pub record IsHidden (who : LogReader) (bytes : List ℕ) (before : Option Span) (s : Span) : Type 0 where

@@ -1,5 +1,6 @@
 -- Which records have a spelling: docs/FORMAT.md, "Records" and "Notes and payloads".
 use Rattle.std.specs.Prelude.{◌≡◌, ℕ, ◌<◌, ◌≤◌, ◌^◌, ◌==◌, if◌then◌else◌, length, All}
+use Rattle.cry_base.specs.Limits.{most_name_bytes, most_text_bytes}
 use Rattle.record_format.specs.declared.link.LinkRecord.{LinkRecord}
 use Rattle.record_format.specs.declared.note.Note.{Note}
 use Rattle.record_format.specs.declared.note.Note.TheVariants.{Root, NewHolder, NewFolder, NewFile, Rewrite, NameFile, NameFolder, DropFile}
@@ -12,7 +13,7 @@ shortest_text kind = if kind == 2 then 2 else (if kind == 3 then 32 else 0)
 
 -- the most bytes that it has
 abbrev pub longest_text : ℕ → ℕ
-longest_text kind = if kind == 2 then 1048641 else (if kind == 3 then 32 else 64)
+longest_text kind = if kind == 2 then most_text_bytes else (if kind == 3 then 32 else most_name_bytes)
 
 -- a link of a known kind, whose fields have the sizes of the format
 pub record IsLink (r : LinkRecord) : Type 0 where

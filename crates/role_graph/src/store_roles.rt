@@ -1,5 +1,6 @@
 //! The edges of a shape and grants, looked up without a list of them.
 ghost use Rattle.std.specs.Prelude.{◌≡◌, ◌≤◌};
+ghost use Rattle.cry_base.specs.Limits.{most_way};
 ghost use Rattle.role_graph.specs.Joined as spec;
 ghost use Rattle.role_graph.specs.Joined.{joins, are_joined, is_within, is_between, is_granted, is_into_file, is_found, levels, rank_of};
 ghost use Rattle.role_graph.specs.PublicStore.{public_store};
@@ -111,7 +112,7 @@ impl<'a> StoreRoles<'a> {
     /// How many folders are on the way from the folder up to the root, both included: 0 where it doesn't stand.
     fn levels(&self, f: FolderId) -> u32
         ensures levels { result ≡ levels self.now.shape.now.tree f.0 }
-        ensures within { result ≤ 65 }
+        ensures within { result ≤ most_way }
     {
         self.shape.is_tree();
         if self.shape.has_folder(f) {
