@@ -15,12 +15,12 @@ use Rattle.cry_base.specs.declared.client.Bundle.{Bundle}
 use Rattle.cry_base.specs.declared.client.Bundle.TheVariants as bundles
 use Rattle.cry_base.specs.declared.ids.HolderId.{HolderId}
 use Rattle.cry_base.proofs.Finding.{find-found}
-use Rattle.holder_client.specs.Answering.{AnswersAs}
-use Rattle.holder_client.specs.Asking.{audited}
-use Rattle.holder_client.specs.Judging.{Failure, NoHolder, OfBytes, bundle_log, holder_reads, may_read, of_bytes, read_through, read_with, then_on, who_of}
-use Rattle.holder_client.specs.Visiting.{Reading}
-use Rattle.holder_client.specs.declared.fault.ClientFault.{ClientFault}
-use Rattle.holder_client.specs.declared.fault.ClientFault.TheVariants as faults
+use Rattle.log_visits.specs.Answering.{AnswersAs}
+use Rattle.log_visits.specs.Asking.{audited}
+use Rattle.log_visits.specs.Judging.{Failure, NoHolder, OfBytes, bundle_log, holder_reads, may_read, of_bytes, read_through, read_with, then_on, who_of}
+use Rattle.log_visits.specs.Visiting.{Reading}
+use Rattle.log_visits.specs.declared.fault.ClientFault.{ClientFault}
+use Rattle.log_visits.specs.declared.fault.ClientFault.TheVariants as faults
 use Rattle.role_graph.specs.Roles.{holder_role, role_id}
 use Rattle.public_fold.specs.Journal.{Journal, keys_of, store_of}
 use Rattle.public_fold.specs.KeyStep.{newest, present}

@@ -5,8 +5,8 @@ use Rattle.closure_laws.specs.History.{history, own_serial, published_from}
 use Rattle.closure_laws.specs.Seen.{seen, sights_from, sights_in}
 use Rattle.cry_base.specs.Store.{HolderEntry, holder_entry, no_store}
 use Rattle.cry_base.specs.declared.client.Bundle.{Bundle}
-use Rattle.holder_client.specs.Judging.{Failure}
-use Rattle.holder_client.specs.Placing.{body_contents, body_links, log_contents, log_links}
+use Rattle.log_visits.specs.Judging.{Failure}
+use Rattle.log_visits.specs.Placing.{body_contents, body_links, log_contents, log_links}
 use Rattle.role_graph.specs.Rights.Who.{TheOwner}
 use Rattle.public_fold.specs.Journal.{entry_step, entry_store, nothing, stand_after, stand_then, steps_from, steps_of, store_of}
 use Rattle.journal_bytes.specs.Bytes.{bodies_from, bodies_of, entry_body}

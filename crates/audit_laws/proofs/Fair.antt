@@ -7,7 +7,7 @@ use Rattle.cry_base.specs.Store.{HolderEntry, holder_entry}
 use Rattle.cry_base.specs.declared.client.Bundle.TheVariants as bundles
 use Rattle.cry_base.specs.declared.ids.HolderId.{HolderId}
 use Rattle.cry_base.proofs.Members.{In-map}
-use Rattle.holder_client.specs.Judging.{Failure, NoHolder, who_of}
+use Rattle.log_visits.specs.Judging.{Failure, NoHolder, who_of}
 use Rattle.role_graph.specs.Rights.Who.{TheHolder}
 use Rattle.public_fold.specs.Journal.{Journal, store_of}
 use Rattle.journal_bytes.specs.Journals.{IsHonestFor, StandsForJournal, published_journal}

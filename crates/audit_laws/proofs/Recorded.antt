@@ -9,7 +9,7 @@ use Rattle.commit_journal.specs.Placed.{PlainPlaced}
 use Rattle.cry_base.specs.Layout.{batch_len, header_len}
 use Rattle.cry_base.specs.Sets.{In}
 use Rattle.cry_base.proofs.Members.{In-append, In-map}
-use Rattle.holder_client.specs.Placing.{PlacedContent, PlacedLink, body_contents, body_links, contents_at, links_at, log_contents, log_links}
+use Rattle.log_visits.specs.Placing.{PlacedContent, PlacedLink, body_contents, body_links, contents_at, links_at, log_contents, log_links}
 use Rattle.key_links.specs.Sealed.{sealed_content, sealed_link}
 use Rattle.record_format.specs.declared.link.LinkRecord.{LinkRecord}
 use Rattle.record_format.specs.Plain.{PlainContent}

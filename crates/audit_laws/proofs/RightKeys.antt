@@ -5,7 +5,7 @@ use Rattle.closure_laws.specs.History.{Derives, history, trails}
 use Rattle.cry_base.specs.Sets.{In, Path}
 use Rattle.cry_base.specs.Sets.Path.{Here, On}
 use Rattle.cry_base.proofs.Members.{In-map}
-use Rattle.holder_client.specs.Placing.{PlacedLink, log_links}
+use Rattle.log_visits.specs.Placing.{PlacedLink, log_links}
 use Rattle.key_links.specs.Sealed.{sealed_link}
 use Rattle.record_format.specs.declared.link.LinkRecord.{LinkRecord}
 use Rattle.role_graph.specs.Roles.{role_id}

@@ -16,9 +16,9 @@ use Rattle.cry_base.specs.Sets.{In, has}
 use Rattle.cry_base.specs.declared.client.Bundle.{Bundle}
 use Rattle.cry_base.specs.declared.roles.Node.TheVariants.{Folder, File}
 use Rattle.cry_base.proofs.Reaching.{has-in, in-has}
-use Rattle.holder_client.specs.Judging.{Failure}
-use Rattle.holder_client.specs.Placing.{PlacedContent, log_contents, log_links}
-use Rattle.holder_client.specs.Visiting.{is_file_text, is_folder_text}
+use Rattle.log_visits.specs.Judging.{Failure}
+use Rattle.log_visits.specs.Placing.{PlacedContent, log_contents, log_links}
+use Rattle.log_visits.specs.Visiting.{is_file_text, is_folder_text}
 use Rattle.key_links.specs.Sealed.{sealed_content}
 use Rattle.key_links.proofs.SealedLemmas.{opens_content}
 use Rattle.record_format.specs.Plain.{PlainContent}

@@ -9,7 +9,7 @@ use Rattle.cry_base.specs.Sets.{In}
 use Rattle.cry_base.specs.Stepping.{effect}
 use Rattle.cry_base.specs.Store.{FileEntry, FolderEntry, HolderEntry, Store, file_entry, folder_entry, holder_entry, no_store, root_store}
 use Rattle.cry_base.proofs.Finding.{find-found}
-use Rattle.holder_client.specs.Visiting.{is_file_text, is_folder_text}
+use Rattle.log_visits.specs.Visiting.{is_file_text, is_folder_text}
 use Rattle.move_plan.specs.Change.{change_of}
 use Rattle.move_plan.specs.Noting.{note_of}
 use Rattle.record_format.specs.Noted.{Note}

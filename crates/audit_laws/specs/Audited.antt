@@ -3,7 +3,7 @@ use Rattle.std.specs.Prelude.{List, map, Result, Ok}
 use Rattle.closure_laws.specs.Seen.{seen}
 use Rattle.cry_base.specs.Listed.{Listed}
 use Rattle.cry_base.specs.declared.client.Bundle.{Bundle}
-use Rattle.holder_client.specs.Judging.{Failure, who_of}
+use Rattle.log_visits.specs.Judging.{Failure, who_of}
 use Rattle.public_fold.specs.Journal.{Journal, store_of}
 use Rattle.reader_laws.specs.Reading.{if_known}
 use Rattle.role_graph.specs.Rights.{Who}

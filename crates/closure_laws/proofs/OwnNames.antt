@@ -6,7 +6,7 @@ use Rattle.public_fold.specs.Tree.{LeadsUp}
 use Rattle.public_fold.specs.Valid.{IsValid}
 use Rattle.public_fold.proofs.Keeping.{journal_tree}
 use Rattle.public_fold.proofs.OwnPaths.{folder_leads, file_leads}
-use Rattle.holder_client.specs.OwnPaths.{IsWhole, HasOwnNames}
+use Rattle.log_visits.specs.OwnPaths.{IsWhole, HasOwnNames}
 
 whole : (w : List FolderEntry) (f : ℕ) → LeadsUp w f → IsWhole w
 whole [] f l = l

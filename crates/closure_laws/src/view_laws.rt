@@ -4,8 +4,8 @@ ghost use Rattle.cry_base.specs.Sets.{In};
 ghost use Rattle.role_graph.specs.Rights.{Who};
 ghost use Rattle.public_fold.specs.Journal.{Journal, store_of};
 ghost use Rattle.public_fold.specs.Valid.{IsValid};
-ghost use Rattle.holder_client.specs.OwnPaths.{HasOwnNames};
-ghost use Rattle.holder_client.specs.View.{Line, line_path, view};
+ghost use Rattle.log_visits.specs.OwnPaths.{HasOwnNames};
+ghost use Rattle.log_visits.specs.View.{Line, line_path, view};
 
 /// In the store of a valid journal names in a folder differ and each way up ends at the root, so two lines of a view with
 /// one path are one.

@@ -5,10 +5,10 @@ use Rattle.audit_laws.proofs.Answered.{audit_answered, audit_refused}
 use Rattle.commit_journal.specs.Answering.{NotAStore, WrongKey, Damaged, Tampered}
 use Rattle.cry_base.specs.Listed.{Listed}
 use Rattle.cry_base.specs.declared.client.Bundle.{Bundle}
-use Rattle.holder_client.specs.Answering as holders
-use Rattle.holder_client.specs.Judging.{Failure, NoHolder, OfBytes, Unseen}
-use Rattle.holder_client.specs.declared.fault.ClientFault.{ClientFault}
-use Rattle.holder_client.specs.declared.fault.ClientFault.TheVariants as clients
+use Rattle.log_visits.specs.Answering as holders
+use Rattle.log_visits.specs.Judging.{Failure, NoHolder, OfBytes, Unseen}
+use Rattle.log_visits.specs.declared.fault.ClientFault.{ClientFault}
+use Rattle.log_visits.specs.declared.fault.ClientFault.TheVariants as clients
 use Rattle.cry_base.specs.declared.client.Seen.{Seen}
 use Rattle.trail_audit.specs.Auditing.{MayFail}
 use Rattle.trail_audit.specs.Derived.{MayAnswer, Passes, PlainSeen, plain_seen}

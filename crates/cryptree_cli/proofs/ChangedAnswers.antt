@@ -5,9 +5,9 @@ use Rattle.cry_base.specs.declared.client.Bundle.{Bundle}
 use Rattle.forgery_laws.specs.Written.{AreBytes, HasForged, HasKeyOf}
 use Rattle.forgery_laws.proofs.Audits.{passes_written}
 use Rattle.forgery_laws.proofs.Lines.{line_opened, lines_listed}
-use Rattle.holder_client.specs.Asking.{line_shown}
-use Rattle.holder_client.specs.Judging.{Failure, shown_with}
-use Rattle.holder_client.specs.View.{Line, spell_view}
+use Rattle.log_visits.specs.Asking.{line_shown}
+use Rattle.log_visits.specs.Judging.{Failure, shown_with}
+use Rattle.log_visits.specs.View.{Line, spell_view}
 use Rattle.journal_bytes.specs.Keys.{AreWhole}
 use Rattle.public_fold.specs.Journal.{Journal}
 use Rattle.public_fold.specs.Valid.{IsValid}

@@ -8,7 +8,7 @@ use Rattle.cryptree_cli.specs.declared.script.ScriptFault.{ScriptFault}
 use Rattle.cryptree_cli.specs.declared.script.ScriptFault.TheVariants.{BadLine, ReadFault, WriteFault, OutOfMemory, Applying}
 use Rattle.cryptree_cli.specs.declared.status.Status.{Status}
 use Rattle.cryptree_cli.specs.declared.status.Status.TheVariants as statuses
-use Rattle.holder_client.specs.Judging.{Failure}
+use Rattle.log_visits.specs.Judging.{Failure}
 use Rattle.store_owner.specs.declared.apply_fault.ApplyFault.TheVariants as faults
 
 pub faulted_answers : (fault : ScriptFault) → IsTrue (is_run_answer (script_status fault))

@@ -1,7 +1,7 @@
 -- What is answered of an image that stands for a journal is what the journal's store shows.
 use Rattle.std.proofs.Common.{ℕ, List, Option, ap, subst}
-use Rattle.holder_client.specs.Asking.{line_shown}
-use Rattle.holder_client.specs.Judging.{shown_with}
+use Rattle.log_visits.specs.Asking.{line_shown}
+use Rattle.log_visits.specs.Judging.{shown_with}
 use Rattle.reader_laws.proofs.Lines.{line_of_bytes}
 use Rattle.reader_laws.proofs.Shown.{bytes_shown}
 use Rattle.reader_laws.proofs.WrongKeys.{wrong_line, wrong_view}

@@ -17,13 +17,13 @@ use Rattle.script_text.specs.SeenLines.{spell_seen}
 use Rattle.cry_base.specs.declared.client.Seen.{Seen}
 use Rattle.trail_audit.specs.Auditing.{MayFail}
 use Rattle.trail_audit.specs.Derived.{IsToldOf, plain_seen}
-use Rattle.holder_client.specs.Answering.{IsFailure}
-use Rattle.holder_client.specs.declared.fault.ClientFault.{ClientFault}
-use Rattle.holder_client.specs.declared.fault.ClientFault.TheVariants as clients
-use Rattle.holder_client.specs.Judging.{Failure, NoHolder, OfBytes, Unseen}
+use Rattle.log_visits.specs.Answering.{IsFailure}
+use Rattle.log_visits.specs.declared.fault.ClientFault.{ClientFault}
+use Rattle.log_visits.specs.declared.fault.ClientFault.TheVariants as clients
+use Rattle.log_visits.specs.Judging.{Failure, NoHolder, OfBytes, Unseen}
 use Rattle.holder_client.specs.Lines.{plain_line}
-use Rattle.holder_client.specs.View as model
-use Rattle.holder_client.specs.View.{spell_line, spell_view}
+use Rattle.log_visits.specs.View as model
+use Rattle.log_visits.specs.View.{spell_line, spell_view}
 use Rattle.cryptree_cli.specs.declared.input.InputFault.{InputFault}
 use Rattle.cryptree_cli.specs.declared.input.InputFault.TheVariants.{BadLine, Failed, OutOfMemory}
 use Rattle.cryptree_cli.specs.declared.status.Status.{Status}

@@ -14,9 +14,9 @@ use Rattle.cryptree_cli.specs.declared.script.ScriptFault.{ScriptFault}
 use Rattle.cryptree_cli.specs.declared.script.ScriptFault.TheVariants.{BadLine, ReadFault, WriteFault, OutOfMemory, Applying}
 use Rattle.cryptree_cli.specs.declared.status.Status.{Status}
 use Rattle.cryptree_cli.specs.declared.status.Status.TheVariants as statuses
-use Rattle.holder_client.specs.Asking.{OpenStore, failure_of, opened_store, verdict}
-use Rattle.holder_client.specs.Asking.Asking.{ToWrite}
-use Rattle.holder_client.specs.Judging.{Failure}
+use Rattle.log_visits.specs.Asking.{OpenStore, failure_of, opened_store, verdict}
+use Rattle.log_visits.specs.Asking.Asking.{ToWrite}
+use Rattle.log_visits.specs.Judging.{Failure}
 use Rattle.public_fold.specs.Journal.{Journal}
 use Rattle.store_owner.specs.Opened.{IsFresh, IsOpenFault}
 use Rattle.store_owner.specs.Owned.{IsOwnerOf, OwnerView}

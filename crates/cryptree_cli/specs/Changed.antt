@@ -4,7 +4,7 @@ use Rattle.std.specs.Prelude.{◌≡◌, ◌⊎◌, ℕ, List, Option, Result, O
 use Rattle.cry_base.specs.Sets.{In}
 use Rattle.cry_base.specs.declared.client.Bundle.{Bundle}
 use Rattle.forgery_laws.specs.Written.{AreBytes, AreWrittenLines, HasForged, HasKeyOf, IsWrittenSeen}
-use Rattle.holder_client.specs.View.{Line, spell_view}
+use Rattle.log_visits.specs.View.{Line, spell_view}
 use Rattle.journal_bytes.specs.Keys.{AreWhole}
 use Rattle.public_fold.specs.Journal.{Journal}
 use Rattle.public_fold.specs.Valid.{IsValid}

@@ -3,7 +3,7 @@ use Rattle.std.specs.Prelude.{◌≡◌, ℕ, List, Option, Result, Ok, Err}
 use Rattle.audit_laws.specs.Audited.{audit_answer}
 use Rattle.cry_base.specs.Store.{Store}
 use Rattle.cry_base.specs.declared.client.Bundle.{Bundle}
-use Rattle.holder_client.specs.Judging.{Failure}
+use Rattle.log_visits.specs.Judging.{Failure}
 use Rattle.public_fold.specs.Journal.{Journal, store_of}
 use Rattle.journal_bytes.specs.Journals.{IsHonestFor, StandsForJournal, published_journal}
 use Rattle.reader_laws.specs.Reading.{IsRightFor, IsWrongFor, line_shown_of, shown_of}

@@ -6,12 +6,12 @@ use Rattle.cry_base.specs.declared.client.Bundle.{Bundle}
 use Rattle.cry_io.specs.Told.{WhereTold, WhereBothTold}
 use Rattle.commit_journal.specs.Answering.{NotAStore, WrongKey, Damaged, Tampered}
 use Rattle.commit_journal.specs.Reading.{IsOnlyRead}
-use Rattle.holder_client.specs.declared.fault.ClientFault.{ClientFault}
-use Rattle.holder_client.specs.declared.fault.ClientFault.TheVariants as clients
-use Rattle.holder_client.specs.Asking.{audited, line_shown}
-use Rattle.holder_client.specs.Judging.{Failure, NoHolder, OfBytes, Unseen, shown_with}
-use Rattle.holder_client.specs.View.{Line, spell_view}
-use Rattle.holder_client.specs.Visiting.{Reading}
+use Rattle.log_visits.specs.declared.fault.ClientFault.{ClientFault}
+use Rattle.log_visits.specs.declared.fault.ClientFault.TheVariants as clients
+use Rattle.log_visits.specs.Asking.{audited, line_shown}
+use Rattle.log_visits.specs.Judging.{Failure, NoHolder, OfBytes, Unseen, shown_with}
+use Rattle.log_visits.specs.View.{Line, spell_view}
+use Rattle.log_visits.specs.Visiting.{Reading}
 use Rattle.script_text.specs.SeenLines.{seen_line}
 use Rattle.trail_audit.specs.Auditing.{MayFail}
 use Rattle.trail_audit.specs.Derived.{Passes, PlainSeen}

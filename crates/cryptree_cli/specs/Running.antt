@@ -8,9 +8,9 @@ use Rattle.cry_base.specs.declared.commands.Reply.{Reply}
 use Rattle.cry_base.specs.declared.limits.Limits.{Limits}
 use Rattle.cry_io.specs.Stops.{IsDurable}
 use Rattle.cry_io.specs.Told.{WhereTold, WhereBothTold}
-use Rattle.holder_client.specs.Asking.{verdict}
-use Rattle.holder_client.specs.Asking.Asking.{ToWrite}
-use Rattle.holder_client.specs.Judging.{Failure, OfBytes}
+use Rattle.log_visits.specs.Asking.{verdict}
+use Rattle.log_visits.specs.Asking.Asking.{ToWrite}
+use Rattle.log_visits.specs.Judging.{Failure, OfBytes}
 use Rattle.public_fold.specs.Journal.{Journal}
 use Rattle.script_text.specs.Reading.{bundle_of}
 use Rattle.journal_bytes.specs.Bytes.{image_of}

@@ -4,7 +4,7 @@ ghost use Rattle.cryptree_cli.specs.Listing as listing;
 
 use crate::input::InputFault;
 use crate::status::Status;
-use holder_client::ClientFault;
+use log_visits::ClientFault;
 
 pub(crate) fn input_status(fault: InputFault) -> Status
     ensures { result ≡ listing.input_status fault }

@@ -5,9 +5,9 @@ ghost use Rattle.commit_journal.specs.Reading.{IsOnlyRead};
 ghost use Rattle.cryptree_cli.specs.Listing.{GivesText, IsExactly, ListAnswers, Reads, is_before_read, is_list_answer, is_store_answer};
 ghost use Rattle.cryptree_cli.specs.Listing.{view_answer};
 ghost use Rattle.cryptree_cli.specs.Status.{is_before_print};
-ghost use Rattle.holder_client.specs.Judging.{shown_with};
+ghost use Rattle.log_visits.specs.Judging.{shown_with};
 ghost use Rattle.holder_client.specs.Lines.{plain_view};
-ghost use Rattle.holder_client.specs.View.{spell_view};
+ghost use Rattle.log_visits.specs.View.{spell_view};
 
 use crate::answering::{client_status, input_status};
 use crate::input::read_bundle_line;

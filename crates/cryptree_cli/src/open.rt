@@ -5,7 +5,7 @@ ghost use Rattle.commit_journal.specs.Reading.{IsOnlyRead};
 ghost use Rattle.cryptree_cli.specs.Listing.{GivesText, IsExactly, OpenAnswers, Reads, is_before_read, is_open_answer, is_store_answer};
 ghost use Rattle.cryptree_cli.specs.Listing.{line_answer};
 ghost use Rattle.cryptree_cli.specs.Status.{is_before_print};
-ghost use Rattle.holder_client.specs.Asking.{line_shown};
+ghost use Rattle.log_visits.specs.Asking.{line_shown};
 
 use crate::answering::{client_status, input_status};
 use crate::input::read_bundle_line;

@@ -6,7 +6,7 @@ ghost use Rattle.batch_log.specs.Moments.{FromThenOn};
 ghost use Rattle.commit_journal.specs.Holding.{GoesOn};
 ghost use Rattle.cry_io.specs.Stops.{IsDurable};
 ghost use Rattle.cry_io.specs.Told.{WhereTold, WhereBothTold};
-ghost use Rattle.holder_client.specs.Judging.{Failure};
+ghost use Rattle.log_visits.specs.Judging.{Failure};
 ghost use Rattle.public_fold.specs.Journal.{Journal};
 ghost use Rattle.journal_bytes.specs.Bytes.{image_of};
 ghost use Rattle.journal_bytes.specs.Script.{opened};

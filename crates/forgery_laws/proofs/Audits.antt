@@ -15,10 +15,10 @@ use Rattle.cry_base.specs.declared.client.Bundle.TheVariants as bundles
 use Rattle.cry_base.specs.declared.client.Seen.{Seen}
 use Rattle.cry_base.specs.declared.roles.Node.TheVariants.{Folder, File}
 use Rattle.cry_base.proofs.Members.{In-filter, In-flat_map, In-map}
-use Rattle.holder_client.specs.Asking.{audited}
-use Rattle.holder_client.specs.Judging.{OfBytes, first_key}
-use Rattle.holder_client.specs.Placing.{PlacedContent, PlacedLink, log_contents, log_links}
-use Rattle.holder_client.specs.Visiting.{Reading}
+use Rattle.log_visits.specs.Asking.{audited}
+use Rattle.log_visits.specs.Judging.{OfBytes, first_key}
+use Rattle.log_visits.specs.Placing.{PlacedContent, PlacedLink, log_contents, log_links}
+use Rattle.log_visits.specs.Visiting.{Reading}
 use Rattle.commit_journal.specs.Answering.{Tampered}
 use Rattle.journal_bytes.specs.Keys.{AreWhole}
 use Rattle.public_fold.specs.Journal.{Journal}

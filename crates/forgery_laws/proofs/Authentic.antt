@@ -10,8 +10,8 @@ use Rattle.commit_journal.specs.Placed.{PlainPlaced}
 use Rattle.cry_base.specs.Sets.{In}
 use Rattle.cry_base.specs.declared.client.Bundle.{Bundle}
 use Rattle.cry_base.proofs.Members.{In-flat_map}
-use Rattle.holder_client.specs.Judging.{bundle_log}
-use Rattle.holder_client.specs.Placing.{PlacedContent, PlacedLink, log_contents, log_links}
+use Rattle.log_visits.specs.Judging.{bundle_log}
+use Rattle.log_visits.specs.Placing.{PlacedContent, PlacedLink, log_contents, log_links}
 use Rattle.journal_bytes.specs.Keys.{AreWhole, all_keys, key_bytes}
 use Rattle.public_fold.specs.Journal.{Journal}
 use Rattle.public_fold.specs.Records.{Content, text_of}

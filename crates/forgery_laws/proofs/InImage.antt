@@ -20,7 +20,7 @@ use Rattle.record_format.specs.Spellable.{IsSpellable}
 use Rattle.record_format.proofs.PayloadLaws.{whole_takes}
 use Rattle.cry_base.specs.declared.client.Bundle.{Bundle}
 use Rattle.cry_base.specs.declared.client.Bundle.TheVariants as bundles
-use Rattle.holder_client.specs.Judging.{bundle_log}
+use Rattle.log_visits.specs.Judging.{bundle_log}
 use Rattle.reader_laws.proofs.SpanTurns.{Head, Past}
 use Rattle.trail_audit.specs.Records.{payloads_in, read_payloads}
 use Rattle.forgery_laws.specs.Written.{AreBytes}

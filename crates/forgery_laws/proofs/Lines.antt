@@ -13,14 +13,14 @@ use Rattle.cry_base.specs.declared.client.Bundle.{Bundle}
 use Rattle.cry_base.specs.declared.client.Bundle.TheVariants as bundles
 use Rattle.cry_base.proofs.Finding.{find-found}
 use Rattle.cry_base.proofs.Members.{In-append, In-filter, In-flat_map, In-map, filter-In}
-use Rattle.holder_client.specs.Asking.{audited, file_with, folder_lines, is_beside, line_at, line_shown, line_with, lines_beside, or_else}
-use Rattle.holder_client.specs.Folding.{folded}
-use Rattle.holder_client.specs.Judging.{Failure, OfBytes, Unseen, bundle_log, first_key, holder_reads, may_read, of_bytes, opened_first, published_check, read_through, read_with, shown_with, then_on, view_with, who_of}
-use Rattle.holder_client.specs.View.{Line, file_line, folder_line, line_path, view}
-use Rattle.holder_client.specs.Visiting.{Opened, Reading, visit_all}
-use Rattle.holder_client.specs.Visits.{Visit, all_visits, allowed_visits, entry_visits, file_visits, files_that, folders_that, lower_visits, name_visits, upper_visits, visits_to_names}
-use Rattle.holder_client.specs.Visits.Visit.{ToKey, ToName, ToFile}
-use Rattle.holder_client.proofs.Viewing.{view_told}
+use Rattle.log_visits.specs.Asking.{audited, file_with, folder_lines, is_beside, line_at, line_shown, line_with, lines_beside, or_else}
+use Rattle.log_visits.specs.Folding.{folded}
+use Rattle.log_visits.specs.Judging.{Failure, OfBytes, Unseen, bundle_log, first_key, holder_reads, may_read, of_bytes, opened_first, published_check, read_through, read_with, shown_with, then_on, view_with, who_of}
+use Rattle.log_visits.specs.View.{Line, file_line, folder_line, line_path, view}
+use Rattle.log_visits.specs.Visiting.{Opened, Reading, visit_all}
+use Rattle.log_visits.specs.Visits.{Visit, all_visits, allowed_visits, entry_visits, file_visits, files_that, folders_that, lower_visits, name_visits, upper_visits, visits_to_names}
+use Rattle.log_visits.specs.Visits.Visit.{ToKey, ToName, ToFile}
+use Rattle.log_visits.proofs.Viewing.{view_told}
 use Rattle.journal_bytes.specs.Keys.{AreWhole}
 use Rattle.journal_bytes.proofs.OpenedKeys.{same_ok, then_told}
 use Rattle.journal_bytes.proofs.OpenedTexts.{unseen as nothing_seen}

@@ -10,7 +10,7 @@ use Rattle.commit_journal.specs.Places.{content_offset, link_offset}
 use Rattle.cry_base.specs.Layout.{batch_len, header_len}
 use Rattle.cry_base.specs.Sets.{In}
 use Rattle.cry_base.proofs.Members.{In-append, In-flat_map, In-map}
-use Rattle.holder_client.specs.Placing.{PlacedContent, PlacedLink, body_contents, body_links, contents_at, links_at, log_contents, log_links}
+use Rattle.log_visits.specs.Placing.{PlacedContent, PlacedLink, body_contents, body_links, contents_at, links_at, log_contents, log_links}
 use Rattle.journal_bytes.specs.Bytes.{bodies_of, content_record, link_record}
 use Rattle.journal_bytes.specs.Folds.{log_of}
 use Rattle.journal_bytes.specs.Keys.{AreWhole, all_keys, bytes_in, key_bytes}

@@ -4,7 +4,7 @@ use Rattle.cry_base.specs.Store.{HolderEntry, holder_entry}
 use Rattle.cry_base.specs.declared.client.Bundle.{Bundle}
 use Rattle.cry_base.specs.declared.client.Bundle.TheVariants as bundles
 use Rattle.cry_base.proofs.Finding.{find-found}
-use Rattle.holder_client.specs.Judging.{first_key}
+use Rattle.log_visits.specs.Judging.{first_key}
 use Rattle.journal_bytes.specs.Keys.{AreWhole, all_keys, owner_parts}
 use Rattle.journal_bytes.proofs.LogsWalked.{journal_walked}
 use Rattle.public_fold.specs.Journal.{Journal, store_of}

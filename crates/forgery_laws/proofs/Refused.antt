@@ -5,7 +5,7 @@ use Rattle.std.specs.Str.{bytes_eq}
 use Rattle.std.proofs.lemmas.Slice.Eq.{bytes_eq-Decides}
 use Rattle.chacha_seal.specs.Sealing.{seal_tag, sealed}
 use Rattle.commit_journal.specs.Answering.{Fault, Tampered}
-use Rattle.holder_client.specs.Verdict.{open_content, open_link}
+use Rattle.log_visits.specs.Verdict.{open_content, open_link}
 use Rattle.record_format.specs.Plain.{PlainContent}
 use Rattle.record_format.specs.Spelling.{content_head, link_head}
 use Rattle.record_format.specs.declared.link.LinkRecord.{LinkRecord}

@@ -16,12 +16,12 @@ use Rattle.cry_base.specs.declared.roles.Edge.{Edge}
 use Rattle.cry_base.specs.declared.roles.Role.{Role}
 use Rattle.cry_base.specs.declared.roles.Role.TheVariants.{Owner}
 use Rattle.cry_base.proofs.Members.{In-map}
-use Rattle.holder_client.specs.Placing.{PlacedContent, PlacedLink, content_for, is_for_edge, last_one, link_for, log_contents, log_links}
-use Rattle.holder_client.specs.Verdict.{open_content, open_link}
-use Rattle.holder_client.specs.Visiting.{Opened, Reading, is_file_text, key_of, needed, visit, visit_all, visit_edge, with_holder_key, with_key, with_name_at, with_parts, with_text_at}
-use Rattle.holder_client.specs.Visits.{Visit}
-use Rattle.holder_client.specs.Visits.Visit.{ToKey, ToName, ToFile, ToHolder}
-use Rattle.holder_client.proofs.Following.{last_passes}
+use Rattle.log_visits.specs.Placing.{PlacedContent, PlacedLink, content_for, is_for_edge, last_one, link_for, log_contents, log_links}
+use Rattle.log_visits.specs.Verdict.{open_content, open_link}
+use Rattle.log_visits.specs.Visiting.{Opened, Reading, is_file_text, key_of, needed, visit, visit_all, visit_edge, with_holder_key, with_key, with_name_at, with_parts, with_text_at}
+use Rattle.log_visits.specs.Visits.{Visit}
+use Rattle.log_visits.specs.Visits.Visit.{ToKey, ToName, ToFile, ToHolder}
+use Rattle.log_visits.proofs.Following.{last_passes}
 use Rattle.journal_bytes.proofs.OpenedKeys.{IsTextRead, holder_told, key_told, name_told, needed_told, parts_told, same_ok, text_told, then_told}
 use Rattle.move_plan.specs.Fitting.{public_of}
 use Rattle.public_fold.specs.Journal.{Journal}

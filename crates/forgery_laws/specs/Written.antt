@@ -9,10 +9,10 @@ use Rattle.closure_laws.specs.Seen.{sight_of}
 use Rattle.cry_base.specs.Sets.{In}
 use Rattle.cry_base.specs.Store.{Store, FolderEntry, FileEntry, way_to_root}
 use Rattle.cry_base.specs.declared.client.Bundle.{Bundle}
-use Rattle.holder_client.specs.Asking.{audited}
-use Rattle.holder_client.specs.Judging.{first_key, who_of}
-use Rattle.holder_client.specs.View.{Line, file_line, folder_line}
-use Rattle.holder_client.specs.Visiting.{Reading}
+use Rattle.log_visits.specs.Asking.{audited}
+use Rattle.log_visits.specs.Judging.{first_key, who_of}
+use Rattle.log_visits.specs.View.{Line, file_line, folder_line}
+use Rattle.log_visits.specs.Visiting.{Reading}
 use Rattle.journal_bytes.specs.Keys.{all_keys, key_bytes}
 use Rattle.move_plan.specs.Fitting.{public_of}
 use Rattle.public_fold.specs.Journal.{Journal}

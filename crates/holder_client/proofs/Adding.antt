@@ -12,22 +12,22 @@ use Rattle.commit_journal.specs.Streaming.{LogState, ShowsGiven, again_in}
 use Rattle.commit_journal.specs.declared.fault.OpenFault.{OpenFault}
 use Rattle.commit_journal.specs.declared.fault.OpenFault.TheVariants as opening
 use Rattle.std.proofs.lemmas.Option.{get_or_from_slice_get, slice_get_within}
-use Rattle.holder_client.specs.Spots.{IsAt}
-use Rattle.holder_client.specs.Found.{IsFree}
+use Rattle.log_visits.specs.Spots.{IsAt}
+use Rattle.log_visits.specs.Found.{IsFree}
 use Rattle.cry_base.specs.declared.client.Bundle.{Bundle}
-use Rattle.holder_client.specs.Answering.{AnswersAs, AnswersAsBy, AnswersBy, client_fault}
-use Rattle.holder_client.specs.Folding.{folded, stand_behind}
-use Rattle.holder_client.specs.Holding.{IsReadingIn}
-use Rattle.holder_client.specs.Indexed.{IsIndexOf}
-use Rattle.holder_client.specs.Judging.{body_check, may_read, published_check, read_with}
+use Rattle.log_visits.specs.Answering.{AnswersAs, AnswersAsBy, AnswersBy, client_fault}
+use Rattle.log_visits.specs.Folding.{folded, stand_behind}
+use Rattle.log_visits.specs.Holding.{IsReadingIn}
+use Rattle.log_visits.specs.Indexed.{IsIndexOf}
+use Rattle.log_visits.specs.Judging.{body_check, may_read, published_check, read_with}
 use Rattle.holder_client.specs.Reads.{HasChecks, HasFolded, HasRead, HasReadTo, Publishes}
-use Rattle.holder_client.specs.Sights.{same_number}
-use Rattle.holder_client.specs.Visiting.{Reading}
+use Rattle.log_visits.specs.Sights.{same_number}
+use Rattle.log_visits.specs.Visiting.{Reading}
 use Rattle.holder_client.specs.declared.admission.NewCheck.{NewCheck}
-use Rattle.holder_client.specs.declared.fault.ClientFault.{ClientFault}
+use Rattle.log_visits.specs.declared.fault.ClientFault.{ClientFault}
 use Rattle.holder_client.specs.declared.log_reader.Reader.{Reader}
 use Rattle.holder_client.proofs.Admitted.{refused_key, taken_key}
-use Rattle.holder_client.proofs.Folded.{behind_epoch}
+use Rattle.log_visits.proofs.Folded.{behind_epoch}
 use Rattle.public_fold.specs.Journal.{Stand, nothing}
 use Rattle.public_fold.specs.KeyStep.{KeyState, no_keys}
 use Rattle.public_fold.specs.Standing.{IsSeenAs}

@@ -11,15 +11,15 @@ use Rattle.cry_base.specs.Store.{no_store}
 use Rattle.cry_base.specs.declared.client.Bundle.{Bundle}
 use Rattle.cry_base.specs.declared.client.Bundle.TheVariants as bundles
 use Rattle.cry_base.specs.declared.ids.HolderId.{HolderId}
-use Rattle.holder_client.specs.Answering.{IsFailure, IsFault}
-use Rattle.holder_client.specs.Folding.{folded}
-use Rattle.holder_client.specs.Holding.{IsReadingIn, IsReadingOf}
-use Rattle.holder_client.specs.Judging.{Failure, OfBytes, NoHolder, body_check, holder_reads, may_read, of_bytes, published_check, read_through, read_with, then_on}
-use Rattle.holder_client.specs.Visiting.{Reading}
-use Rattle.holder_client.specs.declared.fault.ClientFault.{ClientFault}
-use Rattle.holder_client.specs.declared.fault.ClientFault.TheVariants as faults
-use Rattle.holder_client.proofs.FoldedHolds.{first_stand, log_with}
-use Rattle.holder_client.proofs.Viewed.{fault_first}
+use Rattle.log_visits.specs.Answering.{IsFailure, IsFault}
+use Rattle.log_visits.specs.Folding.{folded}
+use Rattle.log_visits.specs.Holding.{IsReadingIn, IsReadingOf}
+use Rattle.log_visits.specs.Judging.{Failure, OfBytes, NoHolder, body_check, holder_reads, may_read, of_bytes, published_check, read_through, read_with, then_on}
+use Rattle.log_visits.specs.Visiting.{Reading}
+use Rattle.log_visits.specs.declared.fault.ClientFault.{ClientFault}
+use Rattle.log_visits.specs.declared.fault.ClientFault.TheVariants as faults
+use Rattle.log_visits.proofs.FoldedHolds.{first_stand, log_with}
+use Rattle.log_visits.proofs.Viewed.{fault_first}
 use Rattle.public_fold.specs.Journal.{Stand, nothing}
 use Rattle.public_fold.specs.Standing.{IsSeenAs, PublicView}
 use Rattle.role_graph.specs.PublicStore.{GrantsStand}

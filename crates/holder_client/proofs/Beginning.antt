@@ -9,19 +9,19 @@ use Rattle.cry_base.specs.declared.client.Bundle.TheVariants as bundles
 use Rattle.cry_base.specs.declared.ids.HolderId.{HolderId}
 use Rattle.cry_base.specs.declared.roles.Role.{Role}
 use Rattle.cry_base.specs.declared.roles.Role.TheVariants.{Owner, Holder}
-use Rattle.holder_client.specs.Answering.{AnswersBy}
+use Rattle.log_visits.specs.Answering.{AnswersBy}
 use Rattle.holder_client.specs.Filed.{IsNamedBy, everyone}
-use Rattle.holder_client.specs.Holding.{ArePresent, HoldsKeys}
-use Rattle.holder_client.specs.Judging.{first_key, opened_first}
-use Rattle.holder_client.specs.Opening.{IsNameless, IsOpenedTo, Tells}
-use Rattle.holder_client.specs.Visiting.{Opened, Reading}
-use Rattle.holder_client.specs.Visits.{Visit}
-use Rattle.holder_client.specs.declared.fault.ClientFault.{ClientFault}
-use Rattle.holder_client.specs.declared.opening.OwnersView.{OwnersView}
-use Rattle.holder_client.specs.declared.sights.Viewer.{Viewer}
-use Rattle.holder_client.specs.declared.sights.Viewer.TheVariants as viewers
-use Rattle.holder_client.proofs.Naming.{nothing_named}
-use Rattle.holder_client.proofs.Opens.{alone_holds, alone_present, answers_for}
+use Rattle.log_visits.specs.Holding.{ArePresent, HoldsKeys}
+use Rattle.log_visits.specs.Judging.{first_key, opened_first}
+use Rattle.log_visits.specs.Opening.{IsNameless, IsOpenedTo, Tells}
+use Rattle.log_visits.specs.Visiting.{Opened, Reading}
+use Rattle.log_visits.specs.Visits.{Visit}
+use Rattle.log_visits.specs.declared.fault.ClientFault.{ClientFault}
+use Rattle.log_visits.specs.declared.opening.OwnersView.{OwnersView}
+use Rattle.log_visits.specs.declared.sights.Viewer.{Viewer}
+use Rattle.log_visits.specs.declared.sights.Viewer.TheVariants as viewers
+use Rattle.log_visits.proofs.Naming.{nothing_named}
+use Rattle.log_visits.proofs.Opens.{alone_holds, alone_present, answers_for}
 use Rattle.key_links.specs.Ringed.{IsAlone, Ringed}
 use Rattle.public_fold.specs.KeyStep.{present}
 use Rattle.role_graph.specs.Roles.{holder_role, role_id}

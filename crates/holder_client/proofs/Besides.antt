@@ -20,22 +20,22 @@ use Rattle.folder_nodes.proofs.Ascending.{All-in}
 use Rattle.folder_nodes.proofs.Lookups.{find-map}
 use Rattle.folder_nodes.proofs.Named.{named_file}
 use Rattle.folder_nodes.proofs.Upward.{at_id}
-use Rattle.holder_client.specs.Answering.{AnswersAs, IsFailure, IsFault}
-use Rattle.holder_client.specs.Asking.{file_with, folder_lines, is_beside, line_at, line_shown, line_with, lines_beside, or_else}
+use Rattle.log_visits.specs.Answering.{AnswersAs, IsFailure, IsFault}
+use Rattle.log_visits.specs.Asking.{file_with, folder_lines, is_beside, line_at, line_shown, line_with, lines_beside, or_else}
 use Rattle.holder_client.specs.Beside.{is_row_beside, opens_at, path_opened}
 use Rattle.holder_client.specs.Filed.{file_stops, titles_read, with_read}
-use Rattle.holder_client.specs.Holding.{HasNames}
-use Rattle.holder_client.specs.Judging.{Failure, Unseen, bundle_log, of_bytes, opened_first, read_with, then_on, who_of}
+use Rattle.log_visits.specs.Holding.{HasNames}
+use Rattle.log_visits.specs.Judging.{Failure, Unseen, bundle_log, of_bytes, opened_first, read_with, then_on, who_of}
 use Rattle.holder_client.specs.Lines.{lines_of, plain_line, read_line}
-use Rattle.holder_client.specs.Sights.{AreSights, sight_of}
-use Rattle.holder_client.specs.View.{Line, file_line, folder_line, line_path}
-use Rattle.holder_client.specs.Visiting.{Opened, Reading, visit_all}
-use Rattle.holder_client.specs.Visits.{Visit, file_visits, files_that, visits_to_names}
-use Rattle.holder_client.specs.declared.fault.ClientFault.{ClientFault}
+use Rattle.log_visits.specs.Sights.{AreSights, sight_of}
+use Rattle.log_visits.specs.View.{Line, file_line, folder_line, line_path}
+use Rattle.log_visits.specs.Visiting.{Opened, Reading, visit_all}
+use Rattle.log_visits.specs.Visits.{Visit, file_visits, files_that, visits_to_names}
+use Rattle.log_visits.specs.declared.fault.ClientFault.{ClientFault}
 use Rattle.holder_client.specs.declared.reading.ReadFile.{ReadFile}
-use Rattle.holder_client.specs.declared.sights.Sight.{Sight}
+use Rattle.log_visits.specs.declared.sights.Sight.{Sight}
 use Rattle.holder_client.proofs.Admitted.{as_failure, bytes_ok, failure_first, then_ok}
-use Rattle.holder_client.proofs.ListedVisits.{filter_alike, filter_mapped, same_bool}
+use Rattle.log_visits.proofs.ListedVisits.{filter_alike, filter_mapped, same_bool}
 use Rattle.holder_client.proofs.Listings.{no_reading, stops_told}
 use Rattle.holder_client.proofs.Shows.{allowed_kept, files_shown, folders_shown, names_alike}
 use Rattle.role_graph.specs.Edges.{in_order}

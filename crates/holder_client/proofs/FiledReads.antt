@@ -13,19 +13,19 @@ use Rattle.cry_base.specs.declared.roles.Node.TheVariants.{Folder, File}
 use Rattle.folder_nodes.specs.Titles.{Title, Titles, title_at}
 use Rattle.folder_nodes.specs.declared.rows.FileRow.{FileRow}
 use Rattle.folder_nodes.proofs.Ascending.{All-in, head_below, rest_rising}
-use Rattle.holder_client.specs.Answering.{IsFault}
+use Rattle.log_visits.specs.Answering.{IsFault}
 use Rattle.holder_client.specs.Filed.{IsReadBy, everyone, file_stops, read_title, titles_read, with_read}
-use Rattle.holder_client.specs.Holding.{HasKind, HasNames, HoldsKeys, IsFiled, IsFiledBy, IsReadingIn}
-use Rattle.holder_client.specs.Visiting.{Opened, Reading, visit, visit_all}
-use Rattle.holder_client.specs.Visits.{Visit}
-use Rattle.holder_client.specs.Visits.Visit.{ToKey, ToFile}
-use Rattle.holder_client.specs.declared.fault.ClientFault.{ClientFault}
-use Rattle.holder_client.specs.declared.fault.ClientFault.TheVariants as faults
+use Rattle.log_visits.specs.Holding.{HasKind, HasNames, HoldsKeys, IsFiled, IsFiledBy, IsReadingIn}
+use Rattle.log_visits.specs.Visiting.{Opened, Reading, visit, visit_all}
+use Rattle.log_visits.specs.Visits.{Visit}
+use Rattle.log_visits.specs.Visits.Visit.{ToKey, ToFile}
+use Rattle.log_visits.specs.declared.fault.ClientFault.{ClientFault}
+use Rattle.log_visits.specs.declared.fault.ClientFault.TheVariants as faults
 use Rattle.holder_client.specs.declared.reading.ReadFile.{ReadFile}
-use Rattle.holder_client.specs.declared.texts.NamedBytes.{NamedBytes}
-use Rattle.holder_client.proofs.ListedVisits.{taken_more}
-use Rattle.holder_client.proofs.Naming.{IsNamed, file_named}
-use Rattle.holder_client.proofs.Viewed.{fault_first}
+use Rattle.log_visits.specs.declared.texts.NamedBytes.{NamedBytes}
+use Rattle.log_visits.proofs.ListedVisits.{taken_more}
+use Rattle.log_visits.proofs.Naming.{IsNamed, file_named}
+use Rattle.log_visits.proofs.Viewed.{fault_first}
 use Rattle.key_links.specs.Ended.{kind_from, kind_to, role_with, row_numbered}
 use Rattle.key_links.specs.Ringed.{Ringed}
 use Rattle.public_fold.specs.Standing.{PublicView}

@@ -18,24 +18,24 @@ use Rattle.cry_base.proofs.Members.{In-filter}
 use Rattle.folder_nodes.specs.Bare.{file_of_row}
 use Rattle.folder_nodes.specs.declared.rows.FileRow.{FileRow}
 use Rattle.folder_nodes.specs.Trees.{IsTree}
-use Rattle.holder_client.specs.Answering.{AnswersAs, IsFailure, IsFault, client_fault}
+use Rattle.log_visits.specs.Answering.{AnswersAs, IsFailure, IsFault, client_fault}
 use Rattle.holder_client.specs.Filed.{file_stops, viewed}
-use Rattle.holder_client.specs.Judging.{Failure, OfBytes, Unseen, bundle_log, holder_reads, published_check, may_read, of_bytes, opened_first, read_through, read_with, shown_with, then_on, view_with, who_of}
-use Rattle.holder_client.specs.Folding.{folded}
+use Rattle.log_visits.specs.Judging.{Failure, OfBytes, Unseen, bundle_log, holder_reads, published_check, may_read, of_bytes, opened_first, read_through, read_with, shown_with, then_on, view_with, who_of}
+use Rattle.log_visits.specs.Folding.{folded}
 use Rattle.holder_client.specs.Lines.{plain_view}
-use Rattle.holder_client.specs.Sights.{AreSights, MayRead, opens}
-use Rattle.holder_client.specs.View.{Line, view}
-use Rattle.holder_client.specs.Visiting.{Opened, Reading, visit_all}
-use Rattle.holder_client.specs.Visits.{Visit, all_visits, file_visits, files_that, visits_to_names}
-use Rattle.holder_client.specs.Visits.Visit.{ToKey, ToFile}
-use Rattle.holder_client.specs.declared.fault.ClientFault.{ClientFault}
-use Rattle.holder_client.specs.declared.fault.ClientFault.TheVariants as faults
-use Rattle.holder_client.specs.declared.sights.Sight.{Sight}
+use Rattle.log_visits.specs.Sights.{AreSights, MayRead, opens}
+use Rattle.log_visits.specs.View.{Line, view}
+use Rattle.log_visits.specs.Visiting.{Opened, Reading, visit_all}
+use Rattle.log_visits.specs.Visits.{Visit, all_visits, file_visits, files_that, visits_to_names}
+use Rattle.log_visits.specs.Visits.Visit.{ToKey, ToFile}
+use Rattle.log_visits.specs.declared.fault.ClientFault.{ClientFault}
+use Rattle.log_visits.specs.declared.fault.ClientFault.TheVariants as faults
+use Rattle.log_visits.specs.declared.sights.Sight.{Sight}
 use Rattle.holder_client.proofs.Admitted.{as_failure, bytes_ok, failure_first, then_ok}
 use Rattle.holder_client.proofs.FiledReads.{all_after, fails_before}
-use Rattle.holder_client.proofs.ListedVisits.{filter_alike, filter_mapped}
-use Rattle.holder_client.proofs.OwnerVisits.{flat_alike, ordered, own_folder}
-use Rattle.holder_client.proofs.Viewed.{fault_first}
+use Rattle.log_visits.proofs.ListedVisits.{filter_alike, filter_mapped}
+use Rattle.log_visits.proofs.OwnerVisits.{flat_alike, ordered, own_folder}
+use Rattle.log_visits.proofs.Viewed.{fault_first}
 use Rattle.holder_client.proofs.Shows.{opens_row}
 use Rattle.public_fold.specs.Journal.{Stand, nothing}
 use Rattle.role_graph.specs.PublicStore.{GrantsStand}

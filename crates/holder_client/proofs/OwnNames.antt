@@ -7,7 +7,7 @@ use Rattle.cry_base.specs.Naming.{is_name}
 use Rattle.cry_base.specs.Sets.{In}
 use Rattle.cry_base.specs.Store.{Store, FolderEntry, FileEntry, way_to_root}
 use lib.Pointwise.{pointwise_decides}
-use Rattle.holder_client.specs.OwnPaths.{IsWhole, HasOwnNames, is_whole, only_if, is_same_file, folders_differ, files_differ, kinds_differ, folders_are_named, ways_are_whole, has_own_names}
+use Rattle.log_visits.specs.OwnPaths.{IsWhole, HasOwnNames, is_whole, only_if, is_same_file, folders_differ, files_differ, kinds_differ, folders_are_named, ways_are_whole, has_own_names}
 
 bytes_told : (a b : List ℕ) → (bytes_eq a b ≡ true → a ≡ b) × (a ≡ b → bytes_eq a b ≡ true)
 bytes_told a b = pointwise_decides (λ x y. (eqb-true x y, eq-eqb x y)) a b

@@ -18,14 +18,14 @@ use Rattle.folder_nodes.proofs.Ascending.{All-in, rising_before}
 use Rattle.folder_nodes.proofs.Named.{named_file, named_folder}
 use Rattle.folder_nodes.proofs.Upward.{at_id}
 use Rattle.holder_client.specs.Filed.{with_read}
-use Rattle.holder_client.specs.Holding.{HasNames}
+use Rattle.log_visits.specs.Holding.{HasNames}
 use Rattle.holder_client.specs.Lines.{is_before, lines_of, read_line, read_view, sight_line}
-use Rattle.holder_client.specs.Sights.{AreSights, opens, same_number, sight_of}
-use Rattle.holder_client.specs.View.{Line, FolderLine, AncestorLine, FileLine, file_line, folder_line, view}
+use Rattle.log_visits.specs.Sights.{AreSights, opens, same_number, sight_of}
+use Rattle.log_visits.specs.View.{Line, FolderLine, AncestorLine, FileLine, file_line, folder_line, view}
 use Rattle.holder_client.specs.declared.reading.ReadFile.{ReadFile}
-use Rattle.holder_client.specs.declared.sights.Sight.{Sight}
+use Rattle.log_visits.specs.declared.sights.Sight.{Sight}
 use Rattle.holder_client.proofs.FiledReads.{rank, read_found}
-use Rattle.holder_client.proofs.ListedVisits.{filter_alike, filter_mapped, flat_where, map_alike, same_bool}
+use Rattle.log_visits.proofs.ListedVisits.{filter_alike, filter_mapped, flat_where, map_alike, same_bool}
 use Rattle.role_graph.specs.Edges.{in_order}
 use Rattle.role_graph.specs.Rights.{Who, allowed, allowed_to, downs, granted_to, named, named_to, ups}
 use Rattle.role_graph.specs.Rights.Who.{TheOwner, TheHolder}

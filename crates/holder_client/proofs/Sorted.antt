@@ -13,9 +13,9 @@ use Rattle.cry_base.specs.Texts.{bytes_before}
 use Rattle.cry_base.specs.declared.client.Line.{Line}
 use Rattle.holder_client.specs.Lines.{is_before, lines_of, plain_line, read_line, read_view}
 use Rattle.holder_client.specs.declared.reading.ReadFile.{ReadFile}
-use Rattle.holder_client.specs.declared.sights.Sight.{Sight}
-use Rattle.holder_client.specs.View.{Line as PlainLine, line_path}
-use Rattle.holder_client.proofs.InOrder.{first_less, order_mapped}
+use Rattle.log_visits.specs.declared.sights.Sight.{Sight}
+use Rattle.log_visits.specs.View.{Line as PlainLine, line_path}
+use Rattle.log_visits.proofs.InOrder.{first_less, order_mapped}
 use Rattle.role_graph.specs.Edges.{in_order}
 use Rattle.role_graph.proofs.Ordered.{stable_is_in_order}
 

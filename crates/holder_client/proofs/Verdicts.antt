@@ -12,9 +12,9 @@ use Rattle.commit_journal.specs.Placed.{PlainPlaced}
 use Rattle.commit_journal.proofs.Followed.{verdict_more}
 use Rattle.commit_journal.proofs.Judged.{start_short}
 use Rattle.commit_journal.proofs.Walks.{holder_ahead, writer_ahead}
-use Rattle.holder_client.specs.Asking.{Asking, ToList, ToOpen, ToAudit, ToWrite, audited, line_with, line_shown, open_with, opened_store, failure_of, verdict, asked_log}
-use Rattle.holder_client.specs.Judging.{Failure, OfBytes, then_on, of_bytes, read_through, bundle_log, read_with, view_with, shown_with}
-use Rattle.holder_client.specs.Visiting.{Reading}
+use Rattle.log_visits.specs.Asking.{Asking, ToList, ToOpen, ToAudit, ToWrite, audited, line_with, line_shown, open_with, opened_store, failure_of, verdict, asked_log}
+use Rattle.log_visits.specs.Judging.{Failure, OfBytes, then_on, of_bytes, read_through, bundle_log, read_with, view_with, shown_with}
+use Rattle.log_visits.specs.Visiting.{Reading}
 
 -- the verdict on a log
 abbrev judged : Asking → Result (List PlainPlaced) Fault → Option Failure

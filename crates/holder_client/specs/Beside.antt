@@ -6,12 +6,12 @@ use Rattle.cry_base.specs.Naming.{is_path, parent_path, spell_path}
 use Rattle.cry_base.specs.Store.{Store, folder_names}
 use Rattle.cry_base.specs.declared.client.Bundle.{Bundle}
 use Rattle.folder_nodes.specs.declared.rows.FileRow.{FileRow}
-use Rattle.holder_client.specs.Asking.{file_with, folder_lines, line_at, or_else}
-use Rattle.holder_client.specs.Judging.{Failure, of_bytes, opened_first, then_on, who_of}
-use Rattle.holder_client.specs.View.{Line}
-use Rattle.holder_client.specs.Visiting.{Reading, visit_all}
-use Rattle.holder_client.specs.Visits.{visits_to_names}
-use Rattle.holder_client.specs.declared.sights.Sight.{Sight}
+use Rattle.log_visits.specs.Asking.{file_with, folder_lines, line_at, or_else}
+use Rattle.log_visits.specs.Judging.{Failure, of_bytes, opened_first, then_on, who_of}
+use Rattle.log_visits.specs.View.{Line}
+use Rattle.log_visits.specs.Visiting.{Reading, visit_all}
+use Rattle.log_visits.specs.Visits.{visits_to_names}
+use Rattle.log_visits.specs.declared.sights.Sight.{Sight}
 
 -- all in the folder may be read, and it has the path
 abbrev pub is_open_at : Store → List ℕ → Sight → Bool

@@ -5,13 +5,13 @@ use Rattle.cry_base.specs.declared.client.Bundle.{Bundle}
 use Rattle.cry_base.specs.declared.roles.Role.{Role}
 use Rattle.folder_nodes.specs.Titles.{Title, Titles}
 use Rattle.folder_nodes.specs.declared.rows.FileRow.{FileRow}
-use Rattle.holder_client.specs.Holding.{HasNames, HoldsKeys, IsFiled}
-use Rattle.holder_client.specs.Judging.{Failure, of_bytes, opened_first, then_on, who_of}
-use Rattle.holder_client.specs.View.{Line, view}
-use Rattle.holder_client.specs.Visiting.{Opened, Reading, visit_all}
-use Rattle.holder_client.specs.Visits.{Visit, all_visits}
-use Rattle.holder_client.specs.Visits.Visit.{ToKey, ToFile}
-use Rattle.holder_client.specs.declared.opening.OwnersView.{OwnersView}
+use Rattle.log_visits.specs.Holding.{HasNames, HoldsKeys, IsFiled}
+use Rattle.log_visits.specs.Judging.{Failure, of_bytes, opened_first, then_on, who_of}
+use Rattle.log_visits.specs.View.{Line, view}
+use Rattle.log_visits.specs.Visiting.{Opened, Reading, visit_all}
+use Rattle.log_visits.specs.Visits.{Visit, all_visits}
+use Rattle.log_visits.specs.Visits.Visit.{ToKey, ToFile}
+use Rattle.log_visits.specs.declared.opening.OwnersView.{OwnersView}
 use Rattle.holder_client.specs.declared.reading.ReadFile.{ReadFile}
 use Rattle.role_graph.specs.Edges.{file_edge}
 

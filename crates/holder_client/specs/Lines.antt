@@ -8,8 +8,8 @@ use Rattle.cry_base.specs.declared.client.Line.{Line}
 use Rattle.cry_base.specs.declared.client.Line.TheVariants as lines
 use Rattle.cry_base.specs.Listed.{Listed}
 use Rattle.holder_client.specs.declared.reading.ReadFile.{ReadFile}
-use Rattle.holder_client.specs.declared.sights.Sight.{Sight}
-use Rattle.holder_client.specs.View as model
+use Rattle.log_visits.specs.declared.sights.Sight.{Sight}
+use Rattle.log_visits.specs.View as model
 use Rattle.role_graph.specs.Edges.{in_order}
 
 abbrev pub plain_line : Line → model.Line

@@ -7,10 +7,10 @@ use Rattle.commit_journal.specs.Placed.{PlainBody, PlainPlaced}
 use Rattle.commit_journal.specs.declared.past.Past.{Past}
 use Rattle.holder_client.specs.declared.admission.NewCheck.{NewCheck}
 use Rattle.holder_client.specs.declared.log_reader.Reader.{Reader}
-use Rattle.holder_client.specs.Folding.{folded}
-use Rattle.holder_client.specs.Indexed.{HaveStarts, IsIndexOf}
-use Rattle.holder_client.specs.Judging.{body_check, published_check}
-use Rattle.holder_client.specs.Sights.{same_number}
+use Rattle.log_visits.specs.Folding.{folded}
+use Rattle.log_visits.specs.Indexed.{HaveStarts, IsIndexOf}
+use Rattle.log_visits.specs.Judging.{body_check, published_check}
+use Rattle.log_visits.specs.Sights.{same_number}
 use Rattle.public_fold.specs.Journal.{Stand, nothing}
 use Rattle.public_fold.specs.Standing.{IsSeenAs}
 

@@ -2,16 +2,16 @@
 ghost use Rattle.std.specs.Prelude.{◌≡◌, ◌≢◌, ◌++◌, [], ◌∷◌, ℕ, Err, List, MatchOption, None, OnOk, bytes_eq};
 ghost use Rattle.chacha_seal.specs.Sealing.{check_of as the_check_of};
 ghost use Rattle.commit_journal.specs.Placed.{PlainPlaced, plain_body, plain_placed};
-ghost use Rattle.holder_client.specs.Answering.{AnswersAs};
-ghost use Rattle.holder_client.specs.Holding.{IsReadingIn};
-ghost use Rattle.holder_client.specs.Judging as spec;
+ghost use Rattle.log_visits.specs.Answering.{AnswersAs};
+ghost use Rattle.log_visits.specs.Holding.{IsReadingIn};
+ghost use Rattle.log_visits.specs.Judging as spec;
 ghost use Rattle.holder_client.specs.Reads.{HasChecks, Publishes};
-ghost use Rattle.holder_client.specs.Visiting.{Reading};
+ghost use Rattle.log_visits.specs.Visiting.{Reading};
 
-use crate::ClientFault;
 use chacha_seal::check_of;
 use commit_journal::{Body, Placed};
 use cry_base::{Bundle, HolderId, Mem};
+use log_visits::ClientFault;
 use public_fold::PublicState;
 use record_format::Note;
 use std::collections::HashMap;
@@ -27,7 +27,7 @@ pub(crate) struct NewCheck {
 pub(crate) type Checks = HashMap<u32, [u8; 32]>;
 
 /// The check that a note publishes.
-#[tactic(auto, unfolding(crate::specs::Judging::body_check, crate::specs::Judging::check_in, record_format::specs::Told::told_note))]
+#[tactic(auto, unfolding(log_visits::specs::Judging::body_check, log_visits::specs::Judging::check_in, record_format::specs::Told::told_note))]
 fn check_in(placed: &Placed) -> Option<NewCheck>
     ensures { MatchOption result ((h : ℕ) → spec.body_check h (plain_body placed.now.body)
         ≡ None) (Publishes (plain_body placed.now.body)) }

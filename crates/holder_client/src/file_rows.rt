@@ -2,11 +2,11 @@
 ghost use Rattle.std.specs.Prelude.{◌≡◌, ◌||◌, ◌&&◌, ◌==◌, ℕ, IfOk, OnOk, filter};
 ghost use Rattle.std.specs.HashSet.{contains};
 ghost use Rattle.std.specs.List.{list_any};
-ghost use Rattle.holder_client.specs.Sights as spec;
+ghost use Rattle.log_visits.specs.Sights as spec;
 
-use crate::sights::Sight;
 use cry_base::Mem;
 use folder_nodes::FileRow;
+use log_visits::Sight;
 use std::alloc::Global;
 use std::collections::HashSet;
 

@@ -3,8 +3,8 @@ ghost use Rattle.std.specs.Prelude.{◌≡◌, ◌↔◌, IsTrue};
 ghost use Rattle.cry_base.specs.Sets.{In};
 ghost use Rattle.cry_base.specs.Store.{Store};
 ghost use Rattle.role_graph.specs.Rights.{Who};
-ghost use Rattle.holder_client.specs.OwnPaths.{HasOwnNames, has_own_names};
-ghost use Rattle.holder_client.specs.View.{Ascends, IsLine, Line, line_path, view};
+ghost use Rattle.log_visits.specs.OwnPaths.{HasOwnNames, has_own_names};
+ghost use Rattle.log_visits.specs.View.{Ascends, IsLine, Line, line_path, view};
 
 /// A view has a line for each folder that is named and each file that is allowed, and no other, by the bytes of their paths.
 pub fn view_is_what_is_shown()

@@ -5,19 +5,18 @@ ghost use Rattle.std.specs.Ordering.{is_lt};
 ghost use Rattle.folder_nodes.specs.Titles.{tree_store};
 ghost use Rattle.holder_client.specs.Lines as spec;
 ghost use Rattle.holder_client.specs.Lines.{plain_line, plain_view};
-ghost use Rattle.holder_client.specs.View.{Line as PlainLine, line_path};
+ghost use Rattle.log_visits.specs.View.{Line as PlainLine, line_path};
 ghost use Rattle.role_graph.specs.Edges.{in_order};
 
 use crate::reading::ReadFile;
-use crate::sights::Sight;
-use crate::ways::{file_path, folder_path};
 use cry_base::{Line, List, Mem};
 use folder_nodes::{Names, Shape};
+use log_visits::{Sight, file_path, folder_path};
 use std::alloc::Global;
 use std::cmp::Ordering;
 
 /// The path of a line.
-#[tactic(auto, unfolding(crate::specs::View::line_path))]
+#[tactic(auto, unfolding(log_visits::specs::View::line_path))]
 pub(crate) fn path_of(line: &Line) -> &[u8]
     ensures { result.now ≡ line_path (plain_line line.now) }
 {

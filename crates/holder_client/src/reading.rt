@@ -6,35 +6,33 @@ ghost use Rattle.cry_base.specs.Store.{Store};
 ghost use Rattle.cry_base.specs.declared.roles.Role.TheVariants.{Owner};
 ghost use Rattle.folder_nodes.specs.Titles.{Titles};
 ghost use Rattle.folder_nodes.specs.Trees.{IsTree};
-ghost use Rattle.holder_client.specs.Answering.{AnswersBy};
+ghost use Rattle.log_visits.specs.Answering.{AnswersBy};
 ghost use Rattle.holder_client.specs.Filed.{IsNamedBy, IsReadBy, everyone, file_stops, with_read};
-ghost use Rattle.holder_client.specs.Holding.{ArePresent, HasNames, HoldsKeys, IsReadingIn};
-ghost use Rattle.holder_client.specs.Judging.{first_key, opened_first, who_of};
-ghost use Rattle.holder_client.specs.Opening.{IsNameless};
-ghost use Rattle.holder_client.specs.Sights.{AreSights, plain_viewer};
-ghost use Rattle.holder_client.specs.Visiting.{Opened, Reading};
-ghost use Rattle.holder_client.specs.Visiting as spec;
-ghost use Rattle.holder_client.specs.Visits as visits;
+ghost use Rattle.log_visits.specs.Holding.{ArePresent, HasNames, HoldsKeys, IsReadingIn};
+ghost use Rattle.log_visits.specs.Judging.{first_key, opened_first, who_of};
+ghost use Rattle.log_visits.specs.Opening.{IsNameless};
+ghost use Rattle.log_visits.specs.Sights.{AreSights, plain_viewer};
+ghost use Rattle.log_visits.specs.Visiting.{Opened, Reading};
+ghost use Rattle.log_visits.specs.Visiting as spec;
+ghost use Rattle.log_visits.specs.Visits as visits;
 ghost use Rattle.public_fold.specs.KeyStep.{present};
 ghost use Rattle.role_graph.specs.Edges.{file_edge};
 
-use crate::ClientFault;
-use crate::opening::{OwnersView, visit_each, visit_link};
-use crate::records::Records;
-use crate::sights::{Sight, Viewer};
-use crate::texts::{NamedBytes, open_file, present_serial};
-use crate::visit_list::visits_to_names;
 use chacha_seal::Key;
 use cry_base::{Bundle, Edge, Mem, Role, Text};
 use folder_nodes::{FileRow, Names};
 use key_links::KeyRing;
+use log_visits::{
+    ClientFault, NamedBytes, OwnersView, Records, Sight, Viewer, open_file, present_serial,
+    visit_each, visit_link, visits_to_names,
+};
 use public_fold::PublicState;
 use record_format::FILE_TEXT;
 use role_graph::kinds;
 use std::alloc::Global;
 
 /// Who reads with a bundle.
-#[tactic(auto, unfolding(crate::specs::Judging::who_of))]
+#[tactic(auto, unfolding(log_visits::specs::Judging::who_of))]
 pub(crate) fn viewer_of(bundle: &Bundle) -> Viewer
     ensures { plain_viewer result ≡ who_of bundle.now }
 {

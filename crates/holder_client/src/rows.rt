@@ -5,18 +5,18 @@ ghost use Rattle.cry_base.specs.Store.{root_store};
 ghost use Rattle.cry_base.specs.Texts.{ended_lines};
 ghost use Rattle.cry_base.specs.WorkedRows.{granted, store_after};
 ghost use Rattle.role_graph.specs.Rights.Who.{TheOwner, TheHolder};
-ghost use Rattle.holder_client.specs.WorkedViews.{moved_away};
-ghost use Rattle.holder_client.specs.OwnPaths.{has_own_names};
-ghost use Rattle.holder_client.specs.View.{view, spell_view};
+ghost use Rattle.log_visits.specs.WorkedViews.{moved_away};
+ghost use Rattle.log_visits.specs.OwnPaths.{has_own_names};
+ghost use Rattle.log_visits.specs.View.{view, spell_view};
 
 /// A fresh store shows its root.
-#[tactic(auto, unfolding(crate::specs::WorkedViews::views))]
+#[tactic(auto, unfolding(log_visits::specs::WorkedViews::views))]
 pub fn fresh_store_listed()
     ensures { spell_view (view root_store TheOwner) ≡ ended_lines (codes "folder /" ∷ []) }
 {}
 
 /// A grant shows the folder, what is in it, and the names above it.
-#[tactic(auto, unfolding(crate::specs::WorkedViews::views))]
+#[tactic(auto, unfolding(log_visits::specs::WorkedViews::views))]
 pub fn grant()
     ensures holder { spell_view (view granted (TheHolder 1))
         ≡ ended_lines (codes "ancestor /" ∷ codes "folder /a" ∷ codes "file /a/x 00ff" ∷ []) }
@@ -25,7 +25,7 @@ pub fn grant()
 {}
 
 /// Folders above a grant are shown by name alone, and nothing beside them is.
-#[tactic(auto, unfolding(crate::specs::WorkedViews::views))]
+#[tactic(auto, unfolding(log_visits::specs::WorkedViews::views))]
 pub fn ancestors_shown()
     ensures { spell_view (view (store_after root_store
         (MakeFolder (codes "/a") ∷ MakeFolder (codes "/a/b") ∷ MakeFolder (codes "/a/c") ∷ WriteFile (codes "/a/x") (1 ∷ [])
@@ -34,20 +34,20 @@ pub fn ancestors_shown()
 {}
 
 /// Of two grants, the one that is left still allows all below it.
-#[tactic(auto, unfolding(crate::specs::WorkedViews::views))]
+#[tactic(auto, unfolding(log_visits::specs::WorkedViews::views))]
 pub fn two_grants_one_revoked()
     ensures { spell_view (view (store_after granted (Grant 1 (codes "/") ∷ Revoke 1 (codes "/a") ∷ [])) (TheHolder 1))
         ≡ ended_lines (codes "folder /" ∷ codes "folder /a" ∷ codes "file /a/x 00ff" ∷ []) }
 {}
 
 /// Without a grant nothing is shown.
-#[tactic(auto, unfolding(crate::specs::WorkedViews::views))]
+#[tactic(auto, unfolding(log_visits::specs::WorkedViews::views))]
 pub fn revoked()
     ensures { view (store_after granted (Revoke 1 (codes "/a") ∷ [])) (TheHolder 1) ≡ [] }
 {}
 
 /// After a folder's new name the paths below it are new, for those who may see them.
-#[tactic(auto, unfolding(crate::specs::WorkedViews::views))]
+#[tactic(auto, unfolding(log_visits::specs::WorkedViews::views))]
 pub fn rename_after_revocation()
     ensures { spell_view (view (store_after root_store
         (MakeFolder (codes "/a") ∷ MakeFolder (codes "/a/b") ∷ AddHolder ∷ AddHolder ∷ Grant 1 (codes "/a") ∷ Grant 2 (codes "/a/b")
@@ -56,7 +56,7 @@ pub fn rename_after_revocation()
 {}
 
 /// What was moved out of a granted folder isn't shown any more; the owner sees it where it is, a file after its folder.
-#[tactic(auto, unfolding(crate::specs::WorkedViews::views))]
+#[tactic(auto, unfolding(log_visits::specs::WorkedViews::views))]
 pub fn move_away_from_a_grant()
     ensures holder { spell_view (view moved_away (TheHolder 1)) ≡ ended_lines (codes "ancestor /" ∷ codes "folder /s" ∷ []) }
     ensures owner { spell_view (view moved_away TheOwner)
@@ -64,7 +64,7 @@ pub fn move_away_from_a_grant()
 {}
 
 /// The worked stores have names of their own, and one with two nodes of one name hasn't.
-#[tactic(auto, unfolding(crate::specs::WorkedViews::views))]
+#[tactic(auto, unfolding(log_visits::specs::WorkedViews::views))]
 pub fn worked_stores_have_own_names()
     ensures worked { map has_own_names (root_store ∷ granted ∷ moved_away ∷ store_after moved_away (Rename (codes "/s") (codes "t") ∷ [])
         ∷ []) ≡ true ∷ true ∷ true ∷ true ∷ [] }

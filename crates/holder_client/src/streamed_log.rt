@@ -1,11 +1,8 @@
 //! A log that was read batch by batch, and its index: contents are read from the disk once more.
-use crate::ClientFault;
-use crate::index::Index;
-use crate::last_links::FoundLink;
-use crate::records::{FoundContent, Records, take_content};
 use commit_journal::PublicLog;
 use cry_base::Edge;
 use cry_io::Disk;
+use log_visits::{ClientFault, FoundContent, FoundLink, Index, Records, take_content};
 use public_fold::PublicState;
 use std::alloc::Global;
 use std::marker::Model;
@@ -20,7 +17,7 @@ pub(crate) struct StreamedLog<'a> {
 
 impl<'a> Model for StreamedLog<'a> {
     ghost use Rattle.commit_journal.specs.Streaming.{LogState};
-    ghost use Rattle.holder_client.specs.Indexed.{HaveStarts, IsIndexOf};
+    ghost use Rattle.log_visits.specs.Indexed.{HaveStarts, IsIndexOf};
 
     ghost Value = { LogState };
 

@@ -10,8 +10,8 @@ ghost use Rattle.commit_journal.specs.Answering.{Fault, NotAStore};
 ghost use Rattle.commit_journal.specs.Placed.{PlainPlaced};
 ghost use Rattle.move_plan.specs.Fitting.{public_of};
 ghost use Rattle.move_plan.specs.Noting.{note_of};
-ghost use Rattle.holder_client.specs.Asking.{Asking, ToAudit, ToList, ToOpen, asked_log, verdict};
-ghost use Rattle.holder_client.specs.Judging.{Failure, OfBytes};
+ghost use Rattle.log_visits.specs.Asking.{Asking, ToAudit, ToList, ToOpen, asked_log, verdict};
+ghost use Rattle.log_visits.specs.Judging.{Failure, OfBytes};
 ghost use Rattle.public_fold.specs.Told.{told_store};
 
 /// Law: fewer bytes than a header are no store, whoever asks for whatever.

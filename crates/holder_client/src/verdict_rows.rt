@@ -7,13 +7,13 @@ ghost use Rattle.cry_base.specs.declared.roles.Role.TheVariants.{Owner};
 ghost use Rattle.role_graph.specs.Edges.{edge};
 ghost use Rattle.role_graph.specs.Rights.Who.{TheOwner, TheHolder};
 ghost use Rattle.role_graph.specs.Roles.{holder_role, clear_of, sub_of, back_of, files_of, data_of, file_role};
-ghost use Rattle.holder_client.specs.Asking.{folder_lines, is_beside, line_at};
-ghost use Rattle.holder_client.specs.View.{FolderLine};
-ghost use Rattle.holder_client.specs.Visiting.{is_folder_text, is_file_text};
-ghost use Rattle.holder_client.specs.Visits.{ToKey, ToName, ToFile, ToHolder, all_visits, lower_visits, holder_visits, files_that};
+ghost use Rattle.log_visits.specs.Asking.{folder_lines, is_beside, line_at};
+ghost use Rattle.log_visits.specs.View.{FolderLine};
+ghost use Rattle.log_visits.specs.Visiting.{is_folder_text, is_file_text};
+ghost use Rattle.log_visits.specs.Visits.{ToKey, ToName, ToFile, ToHolder, all_visits, lower_visits, holder_visits, files_that};
 
 /// The visits of a holder with one grant: the granted folder first, then the root from below, then names, then the file.
-#[tactic(auto, unfolding(crate::specs::WorkedVerdicts::verdicts))]
+#[tactic(auto, unfolding(log_visits::specs::WorkedVerdicts::verdicts))]
 pub fn visits_of_a_grant()
     ensures { all_visits granted (TheHolder 1) ≡ ToKey (edge 2 (holder_role 1) (clear_of 2)) ∷ ToKey (edge 3 (clear_of 2) (sub_of 2))
         ∷ ToKey (edge 4 (sub_of 2) (back_of 2)) ∷ ToKey (edge 5 (sub_of 2) (files_of 2)) ∷ ToKey (edge 8 (back_of 2) (back_of 1))
@@ -22,7 +22,7 @@ pub fn visits_of_a_grant()
 {}
 
 /// The owner comes into each folder by its own link, and needs none between folders; for writing the holders' keys come last.
-#[tactic(auto, unfolding(crate::specs::WorkedVerdicts::verdicts))]
+#[tactic(auto, unfolding(log_visits::specs::WorkedVerdicts::verdicts))]
 pub fn visits_of_the_owner()
     ensures view { all_visits granted TheOwner ≡ ToKey (edge 1 Owner (clear_of 1)) ∷ ToKey (edge 3 (clear_of 1) (sub_of 1))
         ∷ ToKey (edge 1 Owner (clear_of 2)) ∷ ToKey (edge 3 (clear_of 2) (sub_of 2))
@@ -34,7 +34,7 @@ pub fn visits_of_the_owner()
 {}
 
 /// Folders above a grant are opened from below, deeper ones first, and nothing beside them is.
-#[tactic(auto, unfolding(crate::specs::WorkedVerdicts::verdicts))]
+#[tactic(auto, unfolding(log_visits::specs::WorkedVerdicts::verdicts))]
 pub fn visits_of_ancestors()
     ensures { all_visits (store_after root_store
         (MakeFolder (codes "/a") ∷ MakeFolder (codes "/a/b") ∷ MakeFolder (codes "/a/c") ∷ WriteFile (codes "/a/x") (1 ∷ [])
@@ -47,7 +47,7 @@ pub fn visits_of_ancestors()
 {}
 
 /// Folders below a grant are opened from above, shallower ones first, whatever their numbers.
-#[tactic(auto, unfolding(crate::specs::WorkedVerdicts::verdicts))]
+#[tactic(auto, unfolding(log_visits::specs::WorkedVerdicts::verdicts))]
 pub fn visits_below_a_grant()
     ensures { lower_visits (store_after root_store
         (MakeFolder (codes "/a") ∷ MakeFolder (codes "/a/b") ∷ MakeFolder (codes "/c") ∷ AddHolder ∷ Grant 1 (codes "/")
@@ -57,7 +57,7 @@ pub fn visits_below_a_grant()
 
 /// To open one path, each file in its folder is visited, so that a bad one beside it is told; a word that is no path leads to
 /// none.
-#[tactic(auto, unfolding(crate::specs::WorkedVerdicts::verdicts))]
+#[tactic(auto, unfolding(log_visits::specs::WorkedVerdicts::verdicts))]
 pub fn files_beside_a_path()
     ensures found { files_that (is_beside granted (TheHolder 1) (codes "/a/x")) granted ≡ 1 ∷ [] }
     ensures beside { files_that (is_beside granted (TheHolder 1) (codes "/a/none")) granted ≡ 1 ∷ [] }
@@ -68,7 +68,7 @@ pub fn files_beside_a_path()
 {}
 
 /// The form of texts: the root's name is empty and no other is; a file's begins with the length of its name.
-#[tactic(auto, unfolding(crate::specs::WorkedVerdicts::verdicts))]
+#[tactic(auto, unfolding(log_visits::specs::WorkedVerdicts::verdicts))]
 pub fn forms_of_texts()
     ensures root { map (is_folder_text 1) ([] ∷ codes "a" ∷ []) ≡ true ∷ false ∷ [] }
     ensures folder { map (is_folder_text 2) ([] ∷ codes "a" ∷ codes ".." ∷ codes "a/b" ∷ replicate 65 97 ∷ []) ≡ false ∷ true ∷ false

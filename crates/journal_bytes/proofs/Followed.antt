@@ -20,8 +20,8 @@ use Rattle.cry_base.specs.Stepping.{effect}
 use Rattle.cry_base.specs.Store.{no_store, root_store}
 use Rattle.cry_base.specs.declared.roles.Edge.{Edge}
 use Rattle.cry_base.specs.declared.roles.Role.{Role}
-use Rattle.holder_client.specs.Folding.{folded, stand_behind}
-use Rattle.holder_client.proofs.ToldLemmas.{accepted_told}
+use Rattle.log_visits.specs.Folding.{folded, stand_behind}
+use Rattle.log_visits.proofs.ToldLemmas.{accepted_told}
 use Rattle.key_links.specs.Sealed.{sealed_content, sealed_link}
 use Rattle.move_plan.specs.Change.{Change, change_of, no_change}
 use Rattle.move_plan.specs.Fitting.{fits, public_of}

@@ -17,7 +17,7 @@ use Rattle.cry_base.specs.Stepping.{effect}
 use Rattle.cry_base.specs.Store.{Store, HolderEntry, no_store, root_store}
 use Rattle.cry_base.specs.declared.roles.Role.{Role}
 use Rattle.cry_base.specs.declared.roles.Role.TheVariants.{Owner}
-use Rattle.holder_client.specs.Placing.{PlacedContent, PlacedLink, body_contents, body_links, log_contents, log_links}
+use Rattle.log_visits.specs.Placing.{PlacedContent, PlacedLink, body_contents, body_links, log_contents, log_links}
 use Rattle.move_plan.specs.Change.{Change, change_of, no_change}
 use Rattle.move_plan.specs.Fitting.{fits}
 use Rattle.move_plan.specs.Noting.{note_of}

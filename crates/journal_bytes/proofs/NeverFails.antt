@@ -12,14 +12,14 @@ use Rattle.cry_base.specs.declared.roles.Edge.{Edge}
 use Rattle.cry_base.specs.declared.roles.Role.{Role}
 use Rattle.cry_base.specs.declared.roles.Role.TheVariants.{Owner}
 use Rattle.cry_base.proofs.Members.{In-filter, In-map}
-use Rattle.holder_client.specs.Placing.{PlacedContent, PlacedLink, content_for, link_for, log_contents, log_links}
-use Rattle.holder_client.specs.Verdict.{open_content}
-use Rattle.holder_client.specs.Visiting.{Opened, Reading, key_of, needed, visit, visit_all, visit_text, with_holder_key, with_key, with_name_at, with_parts, with_text_at}
-use Rattle.holder_client.specs.Visits.{Visit, all_visits, allowed_visits, entry_edge, entry_visits, file_visits, files_that, folders_that, holder_visits, is_entry, is_higher, is_deeper, lower_visits, name_visits, upper_visit, upper_visits, visits_to_names}
-use Rattle.holder_client.specs.Visits.Visit.{ToKey, ToName, ToFile, ToHolder}
-use Rattle.holder_client.proofs.FoldedHolds.{each_edge_found}
-use Rattle.holder_client.proofs.Following.{link_decides}
-use Rattle.holder_client.proofs.Opened.{opens_content}
+use Rattle.log_visits.specs.Placing.{PlacedContent, PlacedLink, content_for, link_for, log_contents, log_links}
+use Rattle.log_visits.specs.Verdict.{open_content}
+use Rattle.log_visits.specs.Visiting.{Opened, Reading, key_of, needed, visit, visit_all, visit_text, with_holder_key, with_key, with_name_at, with_parts, with_text_at}
+use Rattle.log_visits.specs.Visits.{Visit, all_visits, allowed_visits, entry_edge, entry_visits, file_visits, files_that, folders_that, holder_visits, is_entry, is_higher, is_deeper, lower_visits, name_visits, upper_visit, upper_visits, visits_to_names}
+use Rattle.log_visits.specs.Visits.Visit.{ToKey, ToName, ToFile, ToHolder}
+use Rattle.log_visits.proofs.FoldedHolds.{each_edge_found}
+use Rattle.log_visits.proofs.Following.{link_decides}
+use Rattle.log_visits.proofs.Opened.{opens_content}
 use Rattle.key_links.specs.Sealed.{sealed_content}
 use Rattle.move_plan.specs.Change.{folder_of_file, parent_of_folder}
 use Rattle.move_plan.specs.Fitting.{public_of}

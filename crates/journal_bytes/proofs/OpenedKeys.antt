@@ -10,13 +10,13 @@ use Rattle.cry_base.specs.Store.{HolderEntry}
 use Rattle.cry_base.specs.declared.roles.Edge.{Edge}
 use Rattle.cry_base.specs.declared.roles.Role.{Role}
 use Rattle.cry_base.specs.declared.roles.Role.TheVariants.{Owner}
-use Rattle.holder_client.specs.Placing.{PlacedLink, PlacedContent, content_for, is_for_edge, last_one, link_for, log_links}
-use Rattle.holder_client.specs.Verdict.{open_content, open_link}
-use Rattle.holder_client.specs.Visiting.{Opened, Reading, is_file_text, is_folder_text, key_of, needed, visit, visit_all, visit_edge, visit_text, with_holder_key, with_key, with_name_at, with_parts, with_text_at}
-use Rattle.holder_client.specs.Visits.{Visit}
-use Rattle.holder_client.specs.Visits.Visit.{ToKey, ToName, ToFile, ToHolder}
-use Rattle.holder_client.proofs.Following.{head_found}
-use Rattle.holder_client.proofs.Opened.{opens_link}
+use Rattle.log_visits.specs.Placing.{PlacedLink, PlacedContent, content_for, is_for_edge, last_one, link_for, log_links}
+use Rattle.log_visits.specs.Verdict.{open_content, open_link}
+use Rattle.log_visits.specs.Visiting.{Opened, Reading, is_file_text, is_folder_text, key_of, needed, visit, visit_all, visit_edge, visit_text, with_holder_key, with_key, with_name_at, with_parts, with_text_at}
+use Rattle.log_visits.specs.Visits.{Visit}
+use Rattle.log_visits.specs.Visits.Visit.{ToKey, ToName, ToFile, ToHolder}
+use Rattle.log_visits.proofs.Following.{head_found}
+use Rattle.log_visits.proofs.Opened.{opens_link}
 use Rattle.key_links.specs.Sealed.{sealed_link}
 use Rattle.record_format.specs.declared.link.LinkRecord.{LinkRecord}
 use Rattle.role_graph.specs.Roles.{data_of, file_role, holder_role, role_id, same_role}

@@ -11,12 +11,12 @@ use Rattle.cry_base.specs.Store.{Store, FolderEntry, FileEntry, HolderEntry}
 use Rattle.cry_base.specs.declared.roles.Edge.{Edge}
 use Rattle.cry_base.specs.declared.roles.Role.{Role}
 use Rattle.cry_base.specs.declared.roles.Role.TheVariants.{Owner}
-use Rattle.holder_client.specs.Placing.{PlacedContent, PlacedLink, content_for, log_contents, log_links}
-use Rattle.holder_client.specs.Verdict.{open_content}
-use Rattle.holder_client.specs.Visiting.{Opened, Reading, is_file_text, visit, visit_all, with_holder_key, with_name_at, with_parts, with_text_at}
-use Rattle.holder_client.specs.Visits.{Visit}
-use Rattle.holder_client.specs.Visits.Visit.{ToKey, ToName, ToFile, ToHolder}
-use Rattle.holder_client.proofs.Opened.{opens_content}
+use Rattle.log_visits.specs.Placing.{PlacedContent, PlacedLink, content_for, log_contents, log_links}
+use Rattle.log_visits.specs.Verdict.{open_content}
+use Rattle.log_visits.specs.Visiting.{Opened, Reading, is_file_text, visit, visit_all, with_holder_key, with_name_at, with_parts, with_text_at}
+use Rattle.log_visits.specs.Visits.{Visit}
+use Rattle.log_visits.specs.Visits.Visit.{ToKey, ToName, ToFile, ToHolder}
+use Rattle.log_visits.proofs.Opened.{opens_content}
 use Rattle.key_links.specs.Sealed.{sealed_content}
 use Rattle.move_plan.specs.Fitting.{public_of}
 use Rattle.role_graph.specs.Roles.{data_of, file_role}

@@ -10,9 +10,9 @@ use Rattle.cry_base.specs.declared.roles.Edge.{Edge}
 use Rattle.cry_base.specs.declared.roles.Role.{Role}
 use Rattle.cry_base.specs.declared.roles.Role.TheVariants.{Owner, Holder, Clear, Sub, Back, Files, Data, File}
 use Rattle.cry_base.proofs.Members.{In-append, In-flat_map, In-map, filter-In}
-use Rattle.holder_client.specs.Visiting.{Opened, Reading, key_of, visit, visit_all}
-use Rattle.holder_client.specs.Visits.{Visit, all_visits, allowed_visits, entry_edge, entry_visits, file_visits, files_that, folders_that, holder_visits, is_entry, lower_visits, name_visits, upper_visits, visits_to_names}
-use Rattle.holder_client.specs.Visits.Visit.{ToKey, ToName, ToFile, ToHolder}
+use Rattle.log_visits.specs.Visiting.{Opened, Reading, key_of, visit, visit_all}
+use Rattle.log_visits.specs.Visits.{Visit, all_visits, allowed_visits, entry_edge, entry_visits, file_visits, files_that, folders_that, holder_visits, is_entry, lower_visits, name_visits, upper_visits, visits_to_names}
+use Rattle.log_visits.specs.Visits.Visit.{ToKey, ToName, ToFile, ToHolder}
 use Rattle.move_plan.specs.Change.{folder_of_file}
 use Rattle.move_plan.specs.Fitting.{public_of}
 use Rattle.role_graph.specs.Edges.{edge, file_edge}

@@ -10,7 +10,7 @@ use Rattle.cry_base.specs.Requests.{Request}
 use Rattle.cry_base.specs.Sets.{In}
 use Rattle.cry_base.specs.Stepping.{effect}
 use Rattle.cry_base.specs.Store.{Store, FolderEntry, FileEntry, no_store, root_store}
-use Rattle.holder_client.specs.Visiting.{is_file_text, is_folder_text}
+use Rattle.log_visits.specs.Visiting.{is_file_text, is_folder_text}
 use Rattle.move_plan.specs.Noting.{note_of}
 use Rattle.public_fold.specs.Journal.{Entry, Journal, Stand, nothing, first_key, entry_store, stand_then, stand_after, store_of}
 use Rattle.public_fold.specs.Journal.Entry.{Session, Made, Did}

@@ -14,7 +14,7 @@ use Rattle.move_plan.specs.Change.{Change, change_of}
 use Rattle.move_plan.specs.Fitting.{public_of}
 use Rattle.move_plan.specs.Noting.{note_of}
 use Rattle.move_plan.proofs.Public.{change_public, edges_public}
-use Rattle.holder_client.proofs.ToldLemmas.{accepted_told}
+use Rattle.log_visits.proofs.ToldLemmas.{accepted_told}
 use Rattle.record_format.specs.Noted.{Note}
 use Rattle.record_format.specs.Noted.Note.{Root, NewHolder, NewFolder, NewFile, Rewrite, NameFile, NameFolder, DropFile, DropFolder, ShiftFile, ShiftFolder, Give, Take}
 use Rattle.public_fold.specs.Fitted.{told_step}

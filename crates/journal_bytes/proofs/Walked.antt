@@ -11,8 +11,8 @@ use Rattle.cry_base.specs.declared.roles.Edge.{Edge}
 use Rattle.cry_base.specs.declared.roles.Role.{Role}
 use Rattle.cry_base.specs.declared.roles.Role.TheVariants.{Owner}
 use Rattle.cry_base.proofs.Members.{In-append, In-map}
-use Rattle.holder_client.specs.Found.{is_of}
-use Rattle.holder_client.specs.Placing.{PlacedContent, PlacedLink, contents_at, last_one, links_at}
+use Rattle.log_visits.specs.Found.{is_of}
+use Rattle.log_visits.specs.Placing.{PlacedContent, PlacedLink, contents_at, last_one, links_at}
 use Rattle.key_links.specs.Sealed.{sealed_content, sealed_link}
 use Rattle.kind_table.specs.Kinds.{kind_of}
 use Rattle.kind_table.specs.declared.kinds.RoleKind.{RoleKind}

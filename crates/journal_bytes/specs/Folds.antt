@@ -6,7 +6,7 @@ use Rattle.commit_journal.specs.Laws.{placed_from}
 use Rattle.commit_journal.specs.Placed.{PlainPlaced}
 use Rattle.move_plan.specs.Fitting.{public_of}
 use Rattle.public_fold.specs.Journal.{Journal, Stand, nothing, store_of, keys_of}
-use Rattle.holder_client.specs.Folding.{folded}
+use Rattle.log_visits.specs.Folding.{folded}
 use Rattle.journal_bytes.specs.Bytes.{bodies_of}
 
 -- the log of a journal's image, as a reader sees it once all is published

@@ -8,11 +8,11 @@ use Rattle.cry_base.specs.Sets.{In}
 use Rattle.cry_base.specs.Store.{Store, FolderEntry, FileEntry, HolderEntry}
 use Rattle.cry_base.specs.declared.roles.Role.{Role}
 use Rattle.cry_base.specs.declared.roles.Role.TheVariants.{Owner}
-use Rattle.holder_client.specs.Found.{is_of}
-use Rattle.holder_client.specs.Placing.{PlacedContent, last_one, log_contents}
-use Rattle.holder_client.specs.Visiting.{Opened, Reading, key_of}
-use Rattle.holder_client.specs.Visits.{Visit, all_visits, holder_visits}
-use Rattle.holder_client.specs.Visits.Visit.{ToKey, ToName, ToFile, ToHolder}
+use Rattle.log_visits.specs.Found.{is_of}
+use Rattle.log_visits.specs.Placing.{PlacedContent, last_one, log_contents}
+use Rattle.log_visits.specs.Visiting.{Opened, Reading, key_of}
+use Rattle.log_visits.specs.Visits.{Visit, all_visits, holder_visits}
+use Rattle.log_visits.specs.Visits.Visit.{ToKey, ToName, ToFile, ToHolder}
 use Rattle.key_links.specs.Sealed.{sealed_content}
 use Rattle.move_plan.specs.Fitting.{public_of}
 use Rattle.public_fold.specs.Journal.{Journal}

@@ -7,7 +7,7 @@ use Rattle.public_fold.specs.Journal.{Journal}
 use Rattle.public_fold.specs.Journal.Entry.{Session}
 use Rattle.public_fold.specs.WorkedSteps.{does, fresh}
 use Rattle.key_links.specs.Sealed.{sealed_link, sealed_content}
-use Rattle.holder_client.specs.WorkedVerdicts.{verdicts}
+use Rattle.log_visits.specs.WorkedVerdicts.{verdicts}
 use Rattle.journal_bytes.specs.Folds.{log_of, public_stand, fold_of}
 use Rattle.journal_bytes.specs.WorkedBytes.{journal_bytes}
 

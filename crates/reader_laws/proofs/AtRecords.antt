@@ -13,15 +13,15 @@ use Rattle.cry_base.specs.declared.roles.Edge.{Edge}
 use Rattle.cry_base.specs.declared.roles.Role.{Role}
 use Rattle.cry_base.specs.declared.roles.Role.TheVariants.{Owner}
 use Rattle.cry_base.proofs.Members.{In-map}
-use Rattle.holder_client.specs.Folding.{folded}
-use Rattle.holder_client.specs.Judging.{opened_first, who_of}
-use Rattle.holder_client.specs.Placing.{PlacedContent, PlacedLink, content_for, is_for_edge, last_one, link_for, log_contents, log_links}
-use Rattle.holder_client.specs.Verdict.{open_content, open_link}
-use Rattle.holder_client.specs.Visiting.{Opened, Reading, is_file_text, is_folder_text, key_of, needed, visit, visit_all, visit_edge, visit_text, with_holder_key, with_key, with_name_at, with_parts, with_text_at}
-use Rattle.holder_client.specs.Visits.{Visit, all_visits, file_visits, holder_visits, visits_to_names}
-use Rattle.holder_client.specs.Visits.Visit.{ToKey, ToName, ToFile, ToHolder}
-use Rattle.holder_client.proofs.FoldedHolds.{each_edge_found}
-use Rattle.holder_client.proofs.Following.{link_decides, the_one}
+use Rattle.log_visits.specs.Folding.{folded}
+use Rattle.log_visits.specs.Judging.{opened_first, who_of}
+use Rattle.log_visits.specs.Placing.{PlacedContent, PlacedLink, content_for, is_for_edge, last_one, link_for, log_contents, log_links}
+use Rattle.log_visits.specs.Verdict.{open_content, open_link}
+use Rattle.log_visits.specs.Visiting.{Opened, Reading, is_file_text, is_folder_text, key_of, needed, visit, visit_all, visit_edge, visit_text, with_holder_key, with_key, with_name_at, with_parts, with_text_at}
+use Rattle.log_visits.specs.Visits.{Visit, all_visits, file_visits, holder_visits, visits_to_names}
+use Rattle.log_visits.specs.Visits.Visit.{ToKey, ToName, ToFile, ToHolder}
+use Rattle.log_visits.proofs.FoldedHolds.{each_edge_found}
+use Rattle.log_visits.proofs.Following.{link_decides, the_one}
 use Rattle.record_format.specs.Spelling.{content_head, link_head}
 use Rattle.role_graph.specs.Edges.{IsEdge, in_order}
 use Rattle.role_graph.specs.Rights.Who.{TheOwner}

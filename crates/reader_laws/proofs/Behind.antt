@@ -16,8 +16,8 @@ use Rattle.cry_base.specs.Sets.{In}
 use Rattle.cry_base.specs.declared.client.Bundle.{Bundle}
 use Rattle.cry_base.specs.declared.client.Bundle.TheVariants as bundles
 use Rattle.cry_base.proofs.Members.{In-flat_map}
-use Rattle.holder_client.specs.Judging.{bundle_log}
-use Rattle.holder_client.specs.Placing.{PlacedContent, body_contents, contents_at, log_contents}
+use Rattle.log_visits.specs.Judging.{bundle_log}
+use Rattle.log_visits.specs.Placing.{PlacedContent, body_contents, contents_at, log_contents}
 use Rattle.journal_bytes.proofs.OpenedKeys.{same_ok, then_told}
 use Rattle.record_format.specs.Plain.{PlainContent}
 use Rattle.record_format.specs.Sizes.{content_size}

@@ -14,7 +14,7 @@ use Rattle.cry_base.specs.Stepping.{effect, moved, with_bytes_at, with_file, wit
 use Rattle.cry_base.specs.Store.{HolderEntry, Store, holder_entry, no_store, node_at, root_store}
 use Rattle.cry_base.specs.declared.roles.Node.{Node}
 use Rattle.cry_base.specs.declared.roles.Node.TheVariants.{Folder, File}
-use Rattle.holder_client.specs.Judging.{body_check, check_in, published_check}
+use Rattle.log_visits.specs.Judging.{body_check, check_in, published_check}
 use Rattle.move_plan.specs.Noting.{move_note, note_of, remove_note, rename_note, write_note}
 use Rattle.record_format.specs.Noted.{Note}
 use Rattle.record_format.specs.Noted.Note.{Root, NewHolder, NewFolder, NewFile, Rewrite, NameFile, NameFolder, DropFile, DropFolder, ShiftFile, ShiftFolder, Give, Take}

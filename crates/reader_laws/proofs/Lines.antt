@@ -12,13 +12,13 @@ use Rattle.cry_base.specs.declared.client.Bundle.{Bundle}
 use Rattle.cry_base.proofs.Finding.{find-found, found-find}
 use Rattle.cry_base.proofs.Members.{In-append, In-filter, In-map, filter-In}
 use Rattle.cry_base.proofs.Paths.{names_told, path_told}
-use Rattle.holder_client.specs.Asking.{file_with, folder_lines, is_beside, line_at, line_shown, line_with, lines_beside, or_else}
-use Rattle.holder_client.specs.Judging.{Unseen, of_bytes, opened_first, then_on, who_of}
-use Rattle.holder_client.specs.View.{Line, file_line, folder_line, line_path, view}
-use Rattle.holder_client.specs.Visiting.{Opened, Reading, visit, visit_all}
-use Rattle.holder_client.specs.Visits.{Visit, file_visits, files_that, visits_to_names}
-use Rattle.holder_client.proofs.OwnPath.{own_paths}
-use Rattle.holder_client.proofs.Viewing.{view_told}
+use Rattle.log_visits.specs.Asking.{file_with, folder_lines, is_beside, line_at, line_shown, line_with, lines_beside, or_else}
+use Rattle.log_visits.specs.Judging.{Unseen, of_bytes, opened_first, then_on, who_of}
+use Rattle.log_visits.specs.View.{Line, file_line, folder_line, line_path, view}
+use Rattle.log_visits.specs.Visiting.{Opened, Reading, visit, visit_all}
+use Rattle.log_visits.specs.Visits.{Visit, file_visits, files_that, visits_to_names}
+use Rattle.log_visits.proofs.OwnPath.{own_paths}
+use Rattle.log_visits.proofs.Viewing.{view_told}
 use Rattle.move_plan.specs.Fitting.{public_of}
 use Rattle.role_graph.specs.Rights.{Who, allowed_to, named_to}
 use Rattle.role_graph.proofs.Granting.{allowed_to_told, named_to_told}

@@ -6,8 +6,8 @@ use Rattle.cry_base.specs.Store.{Store, FileEntry, HolderEntry}
 use Rattle.cry_base.specs.declared.roles.Edge.{Edge}
 use Rattle.cry_base.specs.declared.roles.Role.{Role}
 use Rattle.cry_base.specs.declared.roles.Role.TheVariants.{Owner}
-use Rattle.holder_client.specs.Visits.{Visit}
-use Rattle.holder_client.specs.Visits.Visit.{ToKey, ToName, ToFile, ToHolder}
+use Rattle.log_visits.specs.Visits.{Visit}
+use Rattle.log_visits.specs.Visits.Visit.{ToKey, ToName, ToFile, ToHolder}
 use Rattle.role_graph.specs.Edges.{IsEdge, in_order, put_in_order}
 use Rattle.role_graph.specs.RightsByReach.{HasFolder}
 use Rattle.role_graph.specs.Roles.{data_of, file_role}

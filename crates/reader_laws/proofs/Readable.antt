@@ -12,12 +12,12 @@ use Rattle.cry_base.specs.Store.{FileEntry, HolderEntry, file_names, holder_entr
 use Rattle.cry_base.specs.declared.roles.Edge.{Edge}
 use Rattle.cry_base.specs.declared.roles.Role.TheVariants.{Owner}
 use Rattle.closure_laws.proofs.OwnNames.{own_names}
-use Rattle.holder_client.specs.Folding.{folded, stand_behind}
-use Rattle.holder_client.specs.Judging.{body_check, published_check}
-use Rattle.holder_client.specs.OwnPaths.{HasOwnNames}
-use Rattle.holder_client.specs.Placing.{body_contents, body_links, link_for, log_contents, log_links}
-use Rattle.holder_client.specs.Visiting.{key_of}
-use Rattle.holder_client.proofs.FoldedHolds.{each_edge_found, log_with}
+use Rattle.log_visits.specs.Folding.{folded, stand_behind}
+use Rattle.log_visits.specs.Judging.{body_check, published_check}
+use Rattle.log_visits.specs.OwnPaths.{HasOwnNames}
+use Rattle.log_visits.specs.Placing.{body_contents, body_links, link_for, log_contents, log_links}
+use Rattle.log_visits.specs.Visiting.{key_of}
+use Rattle.log_visits.proofs.FoldedHolds.{each_edge_found, log_with}
 use Rattle.move_plan.specs.Fitting.{public_of}
 use Rattle.role_graph.specs.Edges.{IsEdge}
 use Rattle.role_graph.specs.Roles.{holder_role, role_id, same_role, variant_of}

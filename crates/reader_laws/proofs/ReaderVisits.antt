@@ -9,8 +9,8 @@ use Rattle.cry_base.specs.declared.roles.Edge.{Edge}
 use Rattle.cry_base.specs.declared.roles.Role.{Role}
 use Rattle.cry_base.specs.declared.roles.Role.TheVariants.{Owner}
 use Rattle.cry_base.proofs.Members.{In-append, In-filter, In-flat_map, In-map}
-use Rattle.holder_client.specs.Visits.{Visit, all_visits, allowed_visits, entry_edge, entry_visits, file_visits, files_that, folders_that, is_deeper, is_entry, is_higher, lower_visits, name_visits, upper_visit, upper_visits, visit_from, visits_to_names}
-use Rattle.holder_client.specs.Visits.Visit.{ToKey, ToName, ToFile}
+use Rattle.log_visits.specs.Visits.{Visit, all_visits, allowed_visits, entry_edge, entry_visits, file_visits, files_that, folders_that, is_deeper, is_entry, is_higher, lower_visits, name_visits, upper_visit, upper_visits, visit_from, visits_to_names}
+use Rattle.log_visits.specs.Visits.Visit.{ToKey, ToName, ToFile}
 use Rattle.move_plan.specs.Change.{folder_of_file, parent_of_folder}
 use Rattle.role_graph.specs.Edges.{IsEdge, edge, file_edge, folder_edges, grant_edge, in_order, parent_edges}
 use Rattle.role_graph.specs.Rights.{Who, allowed_to, named_to}

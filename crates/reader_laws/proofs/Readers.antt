@@ -11,11 +11,11 @@ use Rattle.cry_base.specs.declared.roles.Role.{Role}
 use Rattle.cry_base.specs.declared.roles.Role.TheVariants.{Owner}
 use Rattle.cry_base.proofs.Finding.{find-found}
 use Rattle.cry_base.proofs.Members.{In-append, In-filter, In-flat_map, In-map, filter-In}
-use Rattle.holder_client.specs.Judging.{first_key, opened_first, who_of}
-use Rattle.holder_client.specs.View.{view}
-use Rattle.holder_client.specs.Visiting.{Opened, Reading, key_of, visit_all}
-use Rattle.holder_client.specs.Visits.{Visit, all_visits, allowed_visits, entry_visits, file_visits, files_that, folders_that, lower_visits, name_visits, upper_visits, visits_to_names}
-use Rattle.holder_client.specs.Visits.Visit.{ToKey, ToName, ToFile}
+use Rattle.log_visits.specs.Judging.{first_key, opened_first, who_of}
+use Rattle.log_visits.specs.View.{view}
+use Rattle.log_visits.specs.Visiting.{Opened, Reading, key_of, visit_all}
+use Rattle.log_visits.specs.Visits.{Visit, all_visits, allowed_visits, entry_visits, file_visits, files_that, folders_that, lower_visits, name_visits, upper_visits, visits_to_names}
+use Rattle.log_visits.specs.Visits.Visit.{ToKey, ToName, ToFile}
 use Rattle.move_plan.specs.Change.{folder_of_file}
 use Rattle.move_plan.specs.Fitting.{public_of}
 use Rattle.role_graph.specs.Edges.{edge, file_edge}

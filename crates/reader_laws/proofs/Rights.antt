@@ -6,7 +6,7 @@ use Rattle.cry_base.specs.Sets.{In, Path}
 use Rattle.cry_base.specs.Sets.Path.{Here, On}
 use Rattle.cry_base.specs.Store.{Store, FolderEntry, FileEntry, GrantEntry, depth_of, folder_node, folder_entry, has_grant, no_store}
 use Rattle.cry_base.proofs.Members.{In-any, In-filter, In-map, filter-In}
-use Rattle.holder_client.specs.Visits.{folders_that, is_entry}
+use Rattle.log_visits.specs.Visits.{folders_that, is_entry}
 use Rattle.move_plan.specs.Change.{folder_of_file, parent_of_folder}
 use Rattle.role_graph.specs.Rights.{Who, IsAllowed, IsGranted, IsNamed, allowed_to, downs, named_to, ups}
 use Rattle.role_graph.specs.Rights.Who.{TheOwner, TheHolder}

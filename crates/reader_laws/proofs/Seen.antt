@@ -9,8 +9,8 @@ use Rattle.cry_base.specs.Sets.{In, has, reach}
 use Rattle.cry_base.specs.Store.{Store, FolderEntry, FileEntry, and_above, backwards, file_names, folder_names, way_to_root, way_up}
 use Rattle.cry_base.specs.Texts.{bytes_before}
 use Rattle.cry_base.proofs.Finding.{find-found}
-use Rattle.holder_client.specs.View.{FileLine, AncestorLine, FolderLine, Line, file_line, folder_line, line_path, view}
-use Rattle.holder_client.specs.Visits.{Visit}
+use Rattle.log_visits.specs.View.{FileLine, AncestorLine, FolderLine, Line, file_line, folder_line, line_path, view}
+use Rattle.log_visits.specs.Visits.{Visit}
 use Rattle.move_plan.specs.Fitting.{public_of}
 use Rattle.role_graph.specs.Edges.{in_order}
 use Rattle.role_graph.specs.Rights.{Who, allowed, allowed_to, downs, granted_to, named, named_to, ups}

@@ -9,10 +9,10 @@ use Rattle.cry_base.specs.Store.{HolderEntry, holder_entry}
 use Rattle.cry_base.specs.declared.client.Bundle.{Bundle}
 use Rattle.cry_base.specs.declared.client.Bundle.TheVariants as bundles
 use Rattle.cry_base.specs.declared.ids.HolderId.{HolderId}
-use Rattle.holder_client.specs.Judging.{Failure, NoHolder, OfBytes, bundle_log, holder_reads, may_read, of_bytes, opened_first, read_through, read_with, shown_with, then_on, view_with, who_of}
-use Rattle.holder_client.specs.View.{Line, view}
-use Rattle.holder_client.specs.Visiting.{Opened, Reading, visit_all}
-use Rattle.holder_client.specs.Visits.{all_visits}
+use Rattle.log_visits.specs.Judging.{Failure, NoHolder, OfBytes, bundle_log, holder_reads, may_read, of_bytes, opened_first, read_through, read_with, shown_with, then_on, view_with, who_of}
+use Rattle.log_visits.specs.View.{Line, view}
+use Rattle.log_visits.specs.Visiting.{Opened, Reading, visit_all}
+use Rattle.log_visits.specs.Visits.{all_visits}
 use Rattle.move_plan.specs.Fitting.{public_of}
 use Rattle.public_fold.specs.Journal.{Journal, store_of}
 use Rattle.journal_bytes.specs.Folds.{fold_of, log_of, public_stand}

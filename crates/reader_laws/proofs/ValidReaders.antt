@@ -1,10 +1,10 @@
 -- Readers of a valid journal visit it to the end, and see its store.
 use Rattle.std.proofs.Common.{◌≡◌, ℕ, List, Ok}
 use Rattle.cry_base.specs.declared.client.Bundle.{Bundle}
-use Rattle.holder_client.specs.Judging.{opened_first, who_of}
-use Rattle.holder_client.specs.View.{view}
-use Rattle.holder_client.specs.Visiting.{Opened, visit_all}
-use Rattle.holder_client.specs.Visits.{all_visits, file_visits, visits_to_names}
+use Rattle.log_visits.specs.Judging.{opened_first, who_of}
+use Rattle.log_visits.specs.View.{view}
+use Rattle.log_visits.specs.Visiting.{Opened, visit_all}
+use Rattle.log_visits.specs.Visits.{all_visits, file_visits, visits_to_names}
 use Rattle.public_fold.specs.Journal.{Journal, store_of}
 use Rattle.public_fold.specs.Valid.{IsValid}
 use Rattle.journal_bytes.specs.Folds.{public_stand}

@@ -21,8 +21,8 @@ use Rattle.public_fold.specs.Turns.{StandHolds}
 use Rattle.public_fold.proofs.TextsWritten.{note_written}
 use Rattle.public_fold.proofs.TurnsHold.{epoch_stands, first_fits, first_stands, payload_holds}
 use Rattle.move_plan.specs.Fitting.{fits}
-use Rattle.holder_client.specs.Folding.{folded, stand_behind}
-use Rattle.holder_client.specs.Placing.{PlacedContent, body_contents, content_for, contents_at, last_one, log_contents}
+use Rattle.log_visits.specs.Folding.{folded, stand_behind}
+use Rattle.log_visits.specs.Placing.{PlacedContent, body_contents, content_for, contents_at, last_one, log_contents}
 
 -- what is due is there
 due_found : (X Y : Type 0) (is_due : X → Y → Bool) (xs : List X) (ys : List Y) (x : X) → are_due is_due xs ys ≡ true → In x xs → (y : Y) × In y ys × (is_due x y ≡ true)

@@ -13,10 +13,10 @@ use Rattle.cry_base.specs.Store.{HolderEntry, holder_entry}
 use Rattle.cry_base.specs.declared.client.Bundle.{Bundle}
 use Rattle.cry_base.specs.declared.client.Bundle.TheVariants as bundles
 use Rattle.cry_base.specs.declared.ids.HolderId.{HolderId}
-use Rattle.holder_client.specs.Asking.{line_shown, line_with}
-use Rattle.holder_client.specs.Judging.{Failure, OfBytes, bundle_log, holder_reads, may_read, of_bytes, read_through, read_with, shown_with, then_on, view_with}
-use Rattle.holder_client.specs.View.{Line}
-use Rattle.holder_client.specs.Visiting.{Reading}
+use Rattle.log_visits.specs.Asking.{line_shown, line_with}
+use Rattle.log_visits.specs.Judging.{Failure, OfBytes, bundle_log, holder_reads, may_read, of_bytes, read_through, read_with, shown_with, then_on, view_with}
+use Rattle.log_visits.specs.View.{Line}
+use Rattle.log_visits.specs.Visiting.{Reading}
 use Rattle.public_fold.specs.Journal.{Journal, store_of}
 use Rattle.journal_bytes.specs.Folds.{log_of}
 use Rattle.journal_bytes.specs.Journals.{IsHonestFor, StandsForJournal, published_journal}

@@ -3,7 +3,7 @@ use Rattle.std.specs.Prelude.{◌≡◌, ◌⊎◌, List}
 use Rattle.commit_journal.specs.Answering.{Fault, Damaged, Tampered}
 use Rattle.commit_journal.specs.Placed.{PlainPlaced}
 use Rattle.cry_base.specs.Sets.{In}
-use Rattle.holder_client.specs.Placing.{PlacedContent, PlacedLink, log_contents, log_links}
+use Rattle.log_visits.specs.Placing.{PlacedContent, PlacedLink, log_contents, log_links}
 
 -- the fault is of a record that the log holds: its tag is wrong, or its text has another form than its kind
 abbrev pub IsOfRecord : List PlainPlaced → Fault → Type 0

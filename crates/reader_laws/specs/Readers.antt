@@ -3,9 +3,9 @@ use Rattle.std.specs.Prelude.{ℕ, List, [], ◌∷◌, ◌++◌, Result}
 use Rattle.commit_journal.specs.Answering.{Fault}
 use Rattle.cry_base.specs.declared.client.Bundle.{Bundle}
 use Rattle.cry_base.specs.declared.roles.Role.TheVariants.{Owner}
-use Rattle.holder_client.specs.Judging.{opened_first, who_of}
-use Rattle.holder_client.specs.Visiting.{Opened, Reading, visit_all}
-use Rattle.holder_client.specs.Visits.{all_visits, file_visits, holder_visits, visits_to_names}
+use Rattle.log_visits.specs.Judging.{opened_first, who_of}
+use Rattle.log_visits.specs.Visiting.{Opened, Reading, visit_all}
+use Rattle.log_visits.specs.Visits.{all_visits, file_visits, holder_visits, visits_to_names}
 use Rattle.role_graph.specs.Rights.Who.{TheOwner}
 
 -- the visits of a bundle's reader to the names of folders; those to some files behind them; all visits

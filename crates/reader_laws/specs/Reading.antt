@@ -5,9 +5,9 @@ use Rattle.cry_base.specs.Sets.{In}
 use Rattle.cry_base.specs.Store.{FileEntry, HolderEntry, Store, holder_entry}
 use Rattle.cry_base.specs.declared.client.Bundle.{Bundle}
 use Rattle.cry_base.specs.declared.client.Bundle.TheVariants as bundles
-use Rattle.holder_client.specs.Asking.{line_at, or_else}
-use Rattle.holder_client.specs.Judging.{Failure, NoHolder, Unseen, who_of}
-use Rattle.holder_client.specs.View.{Line, view}
+use Rattle.log_visits.specs.Asking.{line_at, or_else}
+use Rattle.log_visits.specs.Judging.{Failure, NoHolder, Unseen, who_of}
+use Rattle.log_visits.specs.View.{Line, view}
 use Rattle.public_fold.specs.Journal.{Journal, store_of}
 use Rattle.role_graph.specs.Rights.{Who, IsAllowedTo}
 

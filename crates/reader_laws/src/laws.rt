@@ -3,10 +3,10 @@ ghost use Rattle.std.specs.Prelude.{[], ◌∷◌, ◌≡◌, ◌⊎◌, Err, Li
 ghost use Rattle.commit_journal.specs.Answering.{WrongKey};
 ghost use Rattle.cry_base.specs.declared.client.Bundle.{Bundle};
 ghost use Rattle.cry_base.specs.declared.ids.HolderId.{HolderId};
-ghost use Rattle.holder_client.specs.Asking.{ToList, ToOpen, failure_of, line_shown, verdict};
-ghost use Rattle.holder_client.specs.Judging.{NoHolder, OfBytes, Unseen, shown_with, who_of};
-ghost use Rattle.holder_client.specs.View.{view};
-ghost use Rattle.holder_client.specs.Visiting.{Opened};
+ghost use Rattle.log_visits.specs.Asking.{ToList, ToOpen, failure_of, line_shown, verdict};
+ghost use Rattle.log_visits.specs.Judging.{NoHolder, OfBytes, Unseen, shown_with, who_of};
+ghost use Rattle.log_visits.specs.View.{view};
+ghost use Rattle.log_visits.specs.Visiting.{Opened};
 ghost use Rattle.public_fold.specs.Journal.{Journal, store_of};
 ghost use Rattle.public_fold.specs.Journal.Entry.{Session};
 ghost use Rattle.public_fold.specs.Valid.{IsValid};

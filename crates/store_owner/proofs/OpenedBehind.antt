@@ -26,12 +26,12 @@ use Rattle.cry_base.specs.Store.{Store, FolderEntry, FileEntry, folder_entry}
 use Rattle.cry_base.proofs.Finding.{found-find}
 use Rattle.cry_base.proofs.Members.{In-map}
 use Rattle.folder_nodes.specs.Titles.{Titles, bytes_in, name_in, title_at, tree_store}
-use Rattle.holder_client.specs.Answering.{IsFault, client_fault}
-use Rattle.holder_client.specs.Asking.{OpenStore, open_with, opened_store}
-use Rattle.holder_client.specs.Holding.{ArePresent, AreSized}
-use Rattle.holder_client.specs.Judging.{Failure, OfBytes, of_bytes}
-use Rattle.holder_client.specs.Visiting.{Opened, visit_all}
-use Rattle.holder_client.specs.declared.fault.ClientFault.{ClientFault}
+use Rattle.log_visits.specs.Answering.{IsFault, client_fault}
+use Rattle.log_visits.specs.Asking.{OpenStore, open_with, opened_store}
+use Rattle.log_visits.specs.Holding.{ArePresent, AreSized}
+use Rattle.log_visits.specs.Judging.{Failure, OfBytes, of_bytes}
+use Rattle.log_visits.specs.Visiting.{Opened, visit_all}
+use Rattle.log_visits.specs.declared.fault.ClientFault.{ClientFault}
 use Rattle.move_plan.specs.Fitting.{folder_stands, public_of}
 use Rattle.public_fold.specs.Journal.{Journal, Stand, store_of}
 use Rattle.public_fold.specs.KeyStep.{KeyState}

@@ -10,15 +10,15 @@ use Rattle.commit_journal.specs.declared.fault.OpenFault.TheVariants as faults
 use Rattle.cry_base.specs.Layout.{header_len}
 use Rattle.cry_base.specs.Store.{Store, folder_entry}
 use Rattle.cry_base.specs.declared.roles.Role.TheVariants.{Owner}
-use Rattle.holder_client.specs.Answering.{IsFault, client_fault}
-use Rattle.holder_client.specs.Asking.{OpenStore, open_with, with_root}
-use Rattle.holder_client.specs.Folding.{folded}
-use Rattle.holder_client.specs.Judging.{Failure, OfBytes, of_bytes, read_through, then_on}
-use Rattle.holder_client.specs.Opening.{IsOpenedBy}
-use Rattle.holder_client.specs.Visiting.{Opened, Reading, visit_all}
-use Rattle.holder_client.specs.Visits.{all_visits, holder_visits}
-use Rattle.holder_client.specs.declared.fault.ClientFault.{ClientFault}
-use Rattle.holder_client.proofs.Viewed.{fault_first}
+use Rattle.log_visits.specs.Answering.{IsFault, client_fault}
+use Rattle.log_visits.specs.Asking.{OpenStore, open_with, with_root}
+use Rattle.log_visits.specs.Folding.{folded}
+use Rattle.log_visits.specs.Judging.{Failure, OfBytes, of_bytes, read_through, then_on}
+use Rattle.log_visits.specs.Opening.{IsOpenedBy}
+use Rattle.log_visits.specs.Visiting.{Opened, Reading, visit_all}
+use Rattle.log_visits.specs.Visits.{all_visits, holder_visits}
+use Rattle.log_visits.specs.declared.fault.ClientFault.{ClientFault}
+use Rattle.log_visits.proofs.Viewed.{fault_first}
 use Rattle.move_plan.specs.Fitting.{folder_stands}
 use Rattle.public_fold.specs.Journal.{Stand, nothing}
 use Rattle.public_fold.specs.Standing.{IsSeenAs, PublicView}

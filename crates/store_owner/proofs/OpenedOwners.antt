@@ -8,8 +8,8 @@ use Rattle.cry_base.specs.Store.{Store, FolderEntry, FileEntry, HolderEntry}
 use Rattle.cry_base.specs.declared.roles.Role.{Role}
 use Rattle.cry_base.specs.declared.roles.Role.TheVariants.{Owner, Holder, Clear, Sub, Back, Files, Data, File}
 use Rattle.folder_nodes.specs.Titles.{Titles, bytes_in, name_in, title_at, tree_store}
-use Rattle.holder_client.specs.Opening.{is_no_holders}
-use Rattle.holder_client.specs.Visiting.{Opened, visit_all}
+use Rattle.log_visits.specs.Opening.{is_no_holders}
+use Rattle.log_visits.specs.Visiting.{Opened, visit_all}
 use Rattle.key_links.specs.Ringed.{Ringed, key_of}
 use Rattle.role_graph.specs.Roles.{holder_role, role_id}
 use Rattle.public_fold.specs.Journal.{Journal, keys_of, store_of}

@@ -6,10 +6,10 @@ use Rattle.chacha_seal.specs.Keys.{KeyParts}
 use Rattle.commit_journal.specs.Placed.{PlainPlaced}
 use Rattle.cry_base.specs.declared.roles.Role.{Role}
 use Rattle.cry_base.specs.declared.roles.Role.TheVariants.{Owner, Holder, Clear, Sub, Back, Files, Data, File}
-use Rattle.holder_client.specs.Folding.{folded}
-use Rattle.holder_client.specs.Opening.{is_no_holders}
-use Rattle.holder_client.specs.Visiting.{Opened, Reading, visit, visit_all, with_holder_key, with_name_at, with_parts, with_text_at}
-use Rattle.holder_client.specs.Visiting as opened
+use Rattle.log_visits.specs.Folding.{folded}
+use Rattle.log_visits.specs.Opening.{is_no_holders}
+use Rattle.log_visits.specs.Visiting.{Opened, Reading, visit, visit_all, with_holder_key, with_name_at, with_parts, with_text_at}
+use Rattle.log_visits.specs.Visiting as opened
 use Rattle.key_links.specs.Ringed.{Ringed, key_of}
 use Rattle.folder_nodes.specs.Titles.{Titles}
 use Rattle.move_plan.specs.Fitting.{folder_stands}

@@ -22,7 +22,7 @@ use Rattle.cry_base.specs.declared.commands.Refusal.{Refusal}
 use Rattle.cry_base.proofs.Members.{In-map}
 use Rattle.cry_base.specs.declared.roles.Edge.{Edge}
 use Rattle.folder_nodes.specs.Titles.{tree_store}
-use Rattle.holder_client.proofs.ToldLemmas.{accepted_told}
+use Rattle.log_visits.proofs.ToldLemmas.{accepted_told}
 use Rattle.key_links.specs.Ringed.{Ringed}
 use Rattle.move_plan.specs.Change.{Change}
 use Rattle.move_plan.specs.Fitting.{public_of}

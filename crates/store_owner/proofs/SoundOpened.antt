@@ -10,7 +10,7 @@ use Rattle.cry_base.specs.Sets.{In}
 use Rattle.cry_base.specs.Store.{folder_entry, no_store}
 use Rattle.cry_base.specs.declared.roles.Role.{Role}
 use Rattle.cry_base.proofs.Members.{In-map}
-use Rattle.holder_client.specs.Folding.{folded, stand_behind}
+use Rattle.log_visits.specs.Folding.{folded, stand_behind}
 use Rattle.key_links.specs.Ringed.{Ringed, key_of}
 use Rattle.move_plan.specs.Fitting.{folder_stands}
 use Rattle.record_format.specs.Plain.{PlainPayload}

@@ -13,12 +13,12 @@ use Rattle.cry_base.specs.declared.roles.Edge.{Edge}
 use Rattle.cry_base.specs.declared.roles.Role.{Role}
 use Rattle.cry_base.specs.declared.roles.Role.TheVariants.{Owner, Holder, Clear, Sub, Back, Files, Data, File}
 use Rattle.cry_base.proofs.Members.{In-append, In-filter, In-flat_map, In-map, filter-In}
-use Rattle.holder_client.specs.Folding.{folded}
-use Rattle.holder_client.specs.Placing.{PlacedContent, PlacedLink, content_for, link_for}
-use Rattle.holder_client.specs.Verdict.{open_content, open_link}
-use Rattle.holder_client.specs.Visiting.{Opened, Reading, is_file_text, is_folder_text, key_of, needed, visit, visit_all, visit_edge, visit_text, with_holder_key, with_key, with_name_at, with_parts, with_text_at}
-use Rattle.holder_client.specs.Visits.{Visit, all_visits, allowed_visits, entry_edge, entry_visits, file_visits, files_that, folders_that, holder_visits, is_entry, lower_visits, name_visits, upper_visits, visits_to_names}
-use Rattle.holder_client.specs.Visits.Visit.{ToKey, ToName, ToFile, ToHolder}
+use Rattle.log_visits.specs.Folding.{folded}
+use Rattle.log_visits.specs.Placing.{PlacedContent, PlacedLink, content_for, link_for}
+use Rattle.log_visits.specs.Verdict.{open_content, open_link}
+use Rattle.log_visits.specs.Visiting.{Opened, Reading, is_file_text, is_folder_text, key_of, needed, visit, visit_all, visit_edge, visit_text, with_holder_key, with_key, with_name_at, with_parts, with_text_at}
+use Rattle.log_visits.specs.Visits.{Visit, all_visits, allowed_visits, entry_edge, entry_visits, file_visits, files_that, folders_that, holder_visits, is_entry, lower_visits, name_visits, upper_visits, visits_to_names}
+use Rattle.log_visits.specs.Visits.Visit.{ToKey, ToName, ToFile, ToHolder}
 use Rattle.move_plan.specs.Change.{folder_of_file}
 use Rattle.move_plan.specs.Fitting.{folder_stands}
 use Rattle.record_format.specs.Noted.{Note}

@@ -13,14 +13,14 @@ use Rattle.cry_io.specs.Told.{WhereBothTold}
 use Rattle.commit_journal.specs.declared.fault.OpenFault.{OpenFault}
 use Rattle.commit_journal.specs.declared.fault.OpenFault.TheVariants as faults
 use Rattle.folder_nodes.specs.Titles.{Titles}
-use Rattle.holder_client.specs.Asking.{OpenStore}
-use Rattle.holder_client.specs.Folding.{folded}
-use Rattle.holder_client.specs.Holding as holding
-use Rattle.holder_client.specs.Holding.{HasNames, HoldsKeys}
-use Rattle.holder_client.specs.Judging.{Failure, OfBytes}
-use Rattle.holder_client.specs.Opening.{HasHolder, IsOpenedBy, is_no_holders}
-use Rattle.holder_client.specs.Visiting.{Opened, Reading, visit_all}
-use Rattle.holder_client.specs.Visits.{Visit, all_visits, holder_visits}
+use Rattle.log_visits.specs.Asking.{OpenStore}
+use Rattle.log_visits.specs.Folding.{folded}
+use Rattle.log_visits.specs.Holding as holding
+use Rattle.log_visits.specs.Holding.{HasNames, HoldsKeys}
+use Rattle.log_visits.specs.Judging.{Failure, OfBytes}
+use Rattle.log_visits.specs.Opening.{HasHolder, IsOpenedBy, is_no_holders}
+use Rattle.log_visits.specs.Visiting.{Opened, Reading, visit_all}
+use Rattle.log_visits.specs.Visits.{Visit, all_visits, holder_visits}
 use Rattle.key_links.specs.Ringed.{Ringed}
 use Rattle.move_plan.specs.Fitting.{folder_stands}
 use Rattle.public_fold.specs.Journal.{Stand, nothing}

@@ -9,7 +9,7 @@ use Rattle.cry_base.specs.Store.{Store, FileEntry}
 use Rattle.cry_base.specs.declared.roles.Role.{Role}
 use Rattle.folder_nodes.specs.Titles.{tree_store}
 use Rattle.grant_book.specs.Granted.{Granted}
-use Rattle.holder_client.specs.Folding.{folded}
+use Rattle.log_visits.specs.Folding.{folded}
 use Rattle.key_links.specs.Ringed.{key_of}
 use Rattle.move_plan.specs.Fitting.{folder_stands}
 use Rattle.public_fold.specs.Journal.{Stand, nothing}

@@ -6,16 +6,16 @@ use Rattle.commit_journal.specs.Placed.{PlainPlaced}
 use Rattle.chacha_seal.specs.Keys.{KeyParts}
 use Rattle.cry_base.specs.Listed.{Listed}
 use Rattle.cry_base.specs.declared.client.Bundle.{Bundle}
-use Rattle.holder_client.specs.Answering.{IsFailure, IsFault}
-use Rattle.holder_client.specs.Asking.{audited}
-use Rattle.holder_client.specs.Folding.{folded}
-use Rattle.holder_client.specs.Judging.{Failure, bundle_log, may_read, of_bytes, read_through, read_with}
-use Rattle.holder_client.specs.Placing.{PlacedLink, log_contents, log_links}
-use Rattle.holder_client.specs.Visiting.{Reading}
-use Rattle.holder_client.specs.declared.fault.ClientFault.{ClientFault}
-use Rattle.holder_client.specs.declared.fault.ClientFault.TheVariants as faults
+use Rattle.log_visits.specs.Answering.{IsFailure, IsFault}
+use Rattle.log_visits.specs.Asking.{audited}
+use Rattle.log_visits.specs.Folding.{folded}
+use Rattle.log_visits.specs.Judging.{Failure, bundle_log, may_read, of_bytes, read_through, read_with}
+use Rattle.log_visits.specs.Placing.{PlacedLink, log_contents, log_links}
+use Rattle.log_visits.specs.Visiting.{Reading}
+use Rattle.log_visits.specs.declared.fault.ClientFault.{ClientFault}
+use Rattle.log_visits.specs.declared.fault.ClientFault.TheVariants as faults
 use Rattle.holder_client.proofs.Admitted.{as_failure, failure_first}
-use Rattle.holder_client.proofs.Viewed.{fault_first}
+use Rattle.log_visits.proofs.Viewed.{fault_first}
 use Rattle.public_fold.specs.Journal.{Stand, nothing}
 use Rattle.trail_audit.specs.Auditing.{RecordFault, bundle_key}
 use Rattle.trail_audit.specs.Derived.{AnswersAudit, AnswersKeys, AreSeen, ContentFault, IsToldOf, MayAnswer, RereadFault, plain_seen}

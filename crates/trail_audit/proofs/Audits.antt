@@ -1,9 +1,9 @@
 -- What an audit answers, by how its reading ends.
 use Rattle.std.proofs.Common.{◌≡◌, ◌↔◌, ℕ, List, Some, Result, Ok, Err, inl, ⊎_elim, sym, ◌∙◌, subst}
 use Rattle.cry_base.specs.declared.client.Bundle.{Bundle}
-use Rattle.holder_client.specs.Asking.{ToAudit, audited, failure_of, verdict}
-use Rattle.holder_client.specs.Judging.{Failure}
-use Rattle.holder_client.specs.Visiting.{Reading}
+use Rattle.log_visits.specs.Asking.{ToAudit, audited, failure_of, verdict}
+use Rattle.log_visits.specs.Judging.{Failure}
+use Rattle.log_visits.specs.Visiting.{Reading}
 use Rattle.trail_audit.specs.Auditing.{RecordFault, MayFail, MayPass}
 
 failed_as : (read : Result Reading Failure) (failure : Failure) → failure_of read ≡ Some failure → read ≡ Err failure

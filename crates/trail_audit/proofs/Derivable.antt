@@ -9,7 +9,7 @@ use Rattle.cry_base.specs.Layout.{batch_len, header_len}
 use Rattle.cry_base.specs.Sets.{In}
 use Rattle.cry_base.specs.Sets.Path.{Here, On}
 use Rattle.cry_base.proofs.Members.{In-map}
-use Rattle.holder_client.specs.Placing.{PlacedLink, body_links, links_at, log_links}
+use Rattle.log_visits.specs.Placing.{PlacedLink, body_links, links_at, log_links}
 use Rattle.journal_bytes.specs.Bytes.{bodies_from, bodies_of, entry_body, keys_then, link_record, step_payload}
 use Rattle.journal_bytes.specs.Folds.{log_of}
 use Rattle.journal_bytes.specs.Keys.{AreWhole, all_keys, bytes_in, key_bytes, owner_parts}

@@ -14,7 +14,7 @@ use Rattle.cry_base.specs.Sets.{In}
 use Rattle.cry_base.specs.declared.roles.Node.TheVariants.{Folder, File}
 use Rattle.cry_base.specs.declared.roles.Role.{Role}
 use Rattle.cry_base.proofs.Members.{In-append, In-filter, In-flat_map, In-map}
-use Rattle.holder_client.specs.Placing.{PlacedContent, body_contents, contents_at, log_contents, log_links}
+use Rattle.log_visits.specs.Placing.{PlacedContent, body_contents, contents_at, log_contents, log_links}
 use Rattle.journal_bytes.specs.Bytes.{bodies_from, bodies_of, content_record, entry_body, keys_then, step_payload}
 use Rattle.journal_bytes.specs.Folds.{log_of}
 use Rattle.journal_bytes.specs.Keys.{AreWhole, all_keys, entry_keys, keys_from, bytes_in, key_bytes, owner_parts}

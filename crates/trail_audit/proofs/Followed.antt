@@ -4,9 +4,9 @@ use Rattle.std.proofs.lemmas.List.{append-nil, length-append, take-append-le, ta
 use Rattle.chacha_seal.specs.Keys.{KeyParts}
 use Rattle.cry_base.specs.Sets.{In}
 use Rattle.cry_base.proofs.Members.{In-append, In-map}
-use Rattle.holder_client.specs.Placing.{PlacedLink}
-use Rattle.holder_client.specs.declared.fault.ClientFault.{ClientFault}
-use Rattle.holder_client.specs.declared.fault.ClientFault.TheVariants as faults
+use Rattle.log_visits.specs.Placing.{PlacedLink}
+use Rattle.log_visits.specs.declared.fault.ClientFault.{ClientFault}
+use Rattle.log_visits.specs.declared.fault.ClientFault.TheVariants as faults
 use Rattle.record_format.specs.declared.link.LinkRecord.{LinkRecord}
 use Rattle.role_graph.proofs.Rising.{get_or-In}
 use Rattle.trail_audit.specs.Records.{ALink, IsTagged}

@@ -11,9 +11,9 @@ use Rattle.std.proofs.lemmas.List.Elements.{filter-append}
 use Rattle.chacha_seal.specs.Keys.{KeyParts}
 use Rattle.cry_base.specs.Sets.{In}
 use Rattle.cry_base.proofs.Members.{In-filter, filter-In}
-use Rattle.holder_client.specs.Placing.{PlacedContent, PlacedLink}
-use Rattle.holder_client.specs.declared.fault.ClientFault.{ClientFault}
-use Rattle.holder_client.specs.declared.fault.ClientFault.TheVariants as faults
+use Rattle.log_visits.specs.Placing.{PlacedContent, PlacedLink}
+use Rattle.log_visits.specs.declared.fault.ClientFault.{ClientFault}
+use Rattle.log_visits.specs.declared.fault.ClientFault.TheVariants as faults
 use Rattle.trail_audit.specs.Derived.{IsOpened, content_shown, is_sealed_by, shown_by}
 use Rattle.trail_audit.specs.Grouped.{HasGroups, content_source, items_of, key_source, link_source, same_sources}
 use Rattle.trail_audit.specs.Trails.{BeginsAt, IsGrown, TagFault}

@@ -8,8 +8,8 @@ use Rattle.commit_journal.specs.Placed.{PlainPlaced}
 use Rattle.record_format.specs.declared.link.LinkRecord.{LinkRecord}
 use Rattle.record_format.specs.Plain.{PlainContent}
 use Rattle.record_format.specs.Sizes.{content_size}
-use Rattle.holder_client.specs.Found.{content_here, link_here}
-use Rattle.holder_client.specs.Placing.{PlacedContent, PlacedLink, contents_at, links_at}
+use Rattle.log_visits.specs.Found.{content_here, link_here}
+use Rattle.log_visits.specs.Placing.{PlacedContent, PlacedLink, contents_at, links_at}
 
 links_with_next : (batch at : ℕ) (links : List LinkRecord) (i : ℕ) (d : LinkRecord) → i < length links →
     links_at batch at (take (suc i) links) ≡ links_at batch at (take i links) ++ link_here batch (at + 98 * i) (get_or links i d) ∷ []

@@ -15,10 +15,10 @@ use Rattle.commit_journal.specs.declared.fault.OpenFault.{OpenFault}
 use Rattle.commit_journal.specs.declared.fault.OpenFault.TheVariants as opening
 use Rattle.cry_base.specs.Sets.{In}
 use Rattle.cry_base.proofs.Members.{In-flat_map}
-use Rattle.holder_client.specs.Answering.{client_fault}
-use Rattle.holder_client.specs.Placing.{PlacedContent, body_contents, log_contents}
-use Rattle.holder_client.specs.declared.fault.ClientFault.{ClientFault}
-use Rattle.holder_client.specs.declared.fault.ClientFault.TheVariants as faults
+use Rattle.log_visits.specs.Answering.{client_fault}
+use Rattle.log_visits.specs.Placing.{PlacedContent, body_contents, log_contents}
+use Rattle.log_visits.specs.declared.fault.ClientFault.{ClientFault}
+use Rattle.log_visits.specs.declared.fault.ClientFault.TheVariants as faults
 use Rattle.role_graph.proofs.Rising.{get_or-In}
 use Rattle.trail_audit.specs.Derived.{AreSeen, ContentFault, PlainSeen, RereadFault}
 use Rattle.trail_audit.specs.Seals.{AreSeals, AreSealsOf}

@@ -18,11 +18,11 @@ use Rattle.role_graph.specs.Roles.{holder_role}
 use Rattle.cry_base.specs.declared.roles.Node.{Node}
 use Rattle.cry_base.specs.declared.roles.Node.TheVariants.{Folder, File}
 use Rattle.commit_journal.specs.Answering.{Damaged, Tampered}
-use Rattle.holder_client.specs.Judging.{Failure, OfBytes}
-use Rattle.holder_client.specs.Placing.{PlacedContent, PlacedLink, log_contents, log_links}
-use Rattle.holder_client.specs.Visiting.{Reading, is_file_text, is_folder_text}
-use Rattle.holder_client.specs.declared.fault.ClientFault.{ClientFault}
-use Rattle.holder_client.specs.declared.fault.ClientFault.TheVariants as faults
+use Rattle.log_visits.specs.Judging.{Failure, OfBytes}
+use Rattle.log_visits.specs.Placing.{PlacedContent, PlacedLink, log_contents, log_links}
+use Rattle.log_visits.specs.Visiting.{Reading, is_file_text, is_folder_text}
+use Rattle.log_visits.specs.declared.fault.ClientFault.{ClientFault}
+use Rattle.log_visits.specs.declared.fault.ClientFault.TheVariants as faults
 use Rattle.record_format.specs.Plain.{PlainContent}
 use Rattle.role_graph.proofs.Rising.{get_or-In}
 use Rattle.trail_audit.specs.Auditing.{RecordFault, bundle_key, is_text, links_read, sealing_id}

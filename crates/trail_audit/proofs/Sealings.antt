@@ -3,7 +3,7 @@ use Rattle.std.proofs.Common.{◌≡◌, ◌<◌, ℕ, zero, suc, List, [], ◌�
 use Rattle.std.proofs.lemmas.List.{append-nil}
 use Rattle.chacha_seal.specs.Keys.{KeyParts}
 use Rattle.commit_journal.specs.Placed.{PlainPlaced}
-use Rattle.holder_client.specs.Placing.{PlacedContent, body_contents}
+use Rattle.log_visits.specs.Placing.{PlacedContent, body_contents}
 use Rattle.trail_audit.specs.Derived.{AreSeen, IsOpened, PlainSeen, audit_of, content_shown}
 use Rattle.trail_audit.specs.Grouped.{content_source, key_source, same_sources}
 use Rattle.trail_audit.specs.Seals.{AreSeals, AreSealsOf}

@@ -10,10 +10,10 @@ use Rattle.record_format.specs.declared.link.LinkRecord.{LinkRecord}
 use Rattle.record_format.specs.Plain.{PlainContent}
 use Rattle.role_graph.specs.Roles.{holder_role}
 use Rattle.public_fold.specs.KeyStep.{present}
-use Rattle.holder_client.specs.Asking.{audited}
-use Rattle.holder_client.specs.Judging.{Failure, OfBytes}
-use Rattle.holder_client.specs.Placing.{PlacedLink, PlacedContent, log_links, log_contents}
-use Rattle.holder_client.specs.Visiting.{Reading, is_folder_text, is_file_text}
+use Rattle.log_visits.specs.Asking.{audited}
+use Rattle.log_visits.specs.Judging.{Failure, OfBytes}
+use Rattle.log_visits.specs.Placing.{PlacedLink, PlacedContent, log_links, log_contents}
+use Rattle.log_visits.specs.Visiting.{Reading, is_folder_text, is_file_text}
 use Rattle.trail_audit.specs.Records.{ALink, AContent, IsTagged}
 use Rattle.trail_audit.specs.Right.{IsRight}
 

@@ -13,12 +13,12 @@ use Rattle.cry_base.specs.Sets.{In}
 use Rattle.cry_base.specs.declared.client.Bundle.{Bundle}
 use Rattle.cry_base.specs.declared.roles.Node.{Node}
 use Rattle.cry_base.specs.declared.roles.Node.TheVariants.{Folder, File}
-use Rattle.holder_client.specs.Asking.{audited}
-use Rattle.holder_client.specs.Judging.{Failure, OfBytes, NoHolder, Unseen}
-use Rattle.holder_client.specs.Placing.{PlacedContent, log_links, log_contents}
-use Rattle.holder_client.specs.Visiting.{Reading}
-use Rattle.holder_client.specs.declared.fault.ClientFault.{ClientFault}
-use Rattle.holder_client.specs.declared.fault.ClientFault.TheVariants as faults
+use Rattle.log_visits.specs.Asking.{audited}
+use Rattle.log_visits.specs.Judging.{Failure, OfBytes, NoHolder, Unseen}
+use Rattle.log_visits.specs.Placing.{PlacedContent, log_links, log_contents}
+use Rattle.log_visits.specs.Visiting.{Reading}
+use Rattle.log_visits.specs.declared.fault.ClientFault.{ClientFault}
+use Rattle.log_visits.specs.declared.fault.ClientFault.TheVariants as faults
 use Rattle.record_format.specs.Plain.{PlainContent}
 use Rattle.trail_audit.specs.Auditing.{MayFail, RecordFault, bundle_key, is_text, sealing_id}
 use Rattle.trail_audit.specs.Records.{AContent, IsTagged}

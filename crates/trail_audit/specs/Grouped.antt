@@ -2,7 +2,7 @@
 use Rattle.std.specs.Prelude.{◌≡◌, Bool, List, [], filter, Option, None, Some, Vec}
 use Rattle.std.specs.HashMap.{HashMap, get}
 use Rattle.chacha_seal.specs.Keys.{KeyParts}
-use Rattle.holder_client.specs.Placing.{PlacedLink}
+use Rattle.log_visits.specs.Placing.{PlacedLink}
 use Rattle.record_format.specs.declared.link.LinkRecord.{LinkRecord}
 use Rattle.record_format.specs.Plain.{PlainContent}
 use Rattle.trail_audit.specs.Auditing.{sealing_id}

@@ -3,7 +3,7 @@ use Rattle.std.specs.Prelude.{◌≡◌, List, length}
 use Rattle.commit_journal.specs.Placed.{PlainPlaced}
 use Rattle.commit_journal.specs.Streaming.{IsReading, LogState}
 use Rattle.commit_journal.specs.declared.past.Past.{Past}
-use Rattle.holder_client.specs.Placing.{log_links}
+use Rattle.log_visits.specs.Placing.{log_links}
 use Rattle.holder_client.specs.Reads.{HasRead}
 use Rattle.trail_audit.specs.Grouped.{HasGroups, source_of_link}
 use Rattle.trail_audit.specs.Seals.{AreSealsOf}

@@ -1,7 +1,7 @@
 -- What the contents of batches are sealed under, as an audit keeps it. This project's own, docs/FORMAT.md, "Records".
 use Rattle.std.specs.Prelude.{◌≡◌, List, [], ◌∷◌}
 use Rattle.commit_journal.specs.Placed.{PlainPlaced}
-use Rattle.holder_client.specs.Placing.{PlacedContent, body_contents}
+use Rattle.log_visits.specs.Placing.{PlacedContent, body_contents}
 use Rattle.trail_audit.specs.Grouped.{content_source}
 use Rattle.trail_audit.specs.declared.seals.Seals.{Seals}
 use Rattle.trail_audit.specs.declared.seals.Seals.TheVariants.{Nothing, Short, One, Several}

@@ -2,9 +2,9 @@
 use Rattle.std.specs.Prelude.{◌≡◌, ◌⊎◌, ◌↔◌, List, [], ◌∷◌, ◌++◌, map}
 use Rattle.chacha_seal.specs.Keys.{KeyParts}
 use Rattle.cry_base.specs.Sets.{In}
-use Rattle.holder_client.specs.Placing.{PlacedLink}
-use Rattle.holder_client.specs.declared.fault.ClientFault.{ClientFault}
-use Rattle.holder_client.specs.declared.fault.ClientFault.TheVariants as faults
+use Rattle.log_visits.specs.Placing.{PlacedLink}
+use Rattle.log_visits.specs.declared.fault.ClientFault.{ClientFault}
+use Rattle.log_visits.specs.declared.fault.ClientFault.TheVariants as faults
 use Rattle.record_format.specs.declared.link.LinkRecord.{LinkRecord}
 use Rattle.trail_audit.specs.Records.{ALink, IsTagged}
 use Rattle.trail_audit.specs.Right.{IsRight, LeadsOn, target_of}

@@ -3,10 +3,10 @@ ghost use Rattle.std.specs.Prelude.{◌≡◌, ◌≢◌, ◌<◌, ◌≤◌, Er
 ghost use Rattle.cry_io.specs.Told.{WhereTold};
 ghost use Rattle.commit_journal.specs.Placed.{PlainPlaced};
 ghost use Rattle.commit_journal.specs.Reading.{IsOnlyRead};
-ghost use Rattle.holder_client.specs.Judging.{read_with};
-ghost use Rattle.holder_client.specs.Placing.{log_links};
+ghost use Rattle.log_visits.specs.Judging.{read_with};
+ghost use Rattle.log_visits.specs.Placing.{log_links};
 ghost use Rattle.holder_client.specs.Reads.{HasRead};
-ghost use Rattle.holder_client.specs.Visiting.{Reading};
+ghost use Rattle.log_visits.specs.Visiting.{Reading};
 ghost use Rattle.public_fold.specs.KeyStep.{present};
 ghost use Rattle.trail_audit.specs.Auditing.{bundle_key as the_bundle_key};
 ghost use Rattle.trail_audit.specs.Derived.{AnswersKeys, MayAnswer};
@@ -21,7 +21,8 @@ use crate::seen_log::see_log;
 use crate::trails::{KnownKeys, right_keys};
 use cry_base::{Bundle, HolderId, List, Role, Serial};
 use cry_io::Disk;
-use holder_client::{ClientFault, Reader};
+use holder_client::Reader;
+use log_visits::ClientFault;
 use public_fold::PublicState;
 use std::alloc::Global;
 

@@ -4,8 +4,8 @@ ghost use Rattle.cry_io.specs.Told.{WhereTold};
 ghost use Rattle.commit_journal.specs.Readers as readers;
 ghost use Rattle.commit_journal.specs.Reading.{IsOnlyRead};
 ghost use Rattle.commit_journal.specs.Streaming.{ShowsGiven};
-ghost use Rattle.holder_client.specs.Answering.{Answers};
-ghost use Rattle.holder_client.specs.Judging as spec;
+ghost use Rattle.log_visits.specs.Answering.{Answers};
+ghost use Rattle.log_visits.specs.Judging as spec;
 ghost use Rattle.trail_audit.specs.Kept.{HasKept, KeepsStarts};
 
 use crate::kept::Kept;
@@ -13,7 +13,7 @@ use chacha_seal::{Key, OwnerK};
 use commit_journal::PublicLog;
 use cry_base::Bundle;
 use cry_io::Disk;
-use holder_client::ClientFault;
+use log_visits::ClientFault;
 use std::alloc::Global;
 
 /// A log that was read to its end, and what was kept of it.

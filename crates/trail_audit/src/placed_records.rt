@@ -3,8 +3,8 @@ ghost use Rattle.std.specs.Prelude.{◌≡◌, ◌+◌, ◌*◌, ◌<◌, ◌^�
 ghost use Rattle.std.specs.List.{sum_by};
 ghost use Rattle.commit_journal.specs.Placed.{plain_body};
 ghost use Rattle.commit_journal.specs.Places.{IsStanding};
-ghost use Rattle.holder_client.specs.Placing as spec;
-ghost use Rattle.holder_client.specs.Placing.{PlacedLink};
+ghost use Rattle.log_visits.specs.Placing as spec;
+ghost use Rattle.log_visits.specs.Placing.{PlacedLink};
 ghost use Rattle.record_format.specs.Plain.{plain_content};
 ghost use Rattle.record_format.specs.Sizes.{content_size};
 ghost use Rattle.record_format.specs.Spellable.{IsContent};
@@ -31,7 +31,7 @@ pub(crate) struct LinkAt {
 }
 
 impl Model for LinkAt {
-    ghost use Rattle.holder_client.specs.Placing.{PlacedLink};
+    ghost use Rattle.log_visits.specs.Placing.{PlacedLink};
 
     ghost Value = { PlacedLink };
 
@@ -51,7 +51,7 @@ pub(crate) struct ContentAt<'a> {
 }
 
 impl<'a> Model for ContentAt<'a> {
-    ghost use Rattle.holder_client.specs.Placing.{PlacedContent};
+    ghost use Rattle.log_visits.specs.Placing.{PlacedContent};
     ghost use Rattle.record_format.specs.Plain.{plain_content};
     ghost use Rattle.record_format.specs.Spellable.{IsContent};
 
@@ -93,7 +93,7 @@ pub(crate) struct KeptContent {
 }
 
 impl Model for KeptContent {
-    ghost use Rattle.holder_client.specs.Placing.{PlacedContent};
+    ghost use Rattle.log_visits.specs.Placing.{PlacedContent};
     ghost use Rattle.record_format.specs.Plain.{plain_content};
     ghost use Rattle.record_format.specs.Spellable.{IsContent};
 

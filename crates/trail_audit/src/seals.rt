@@ -1,7 +1,7 @@
 //! What the contents of a batch say that they are sealed under, kept in the place of their bytes, and a short content itself.
 ghost use Rattle.std.specs.Prelude.{◌≡◌, ◌<◌, [], ◌∷◌, IfOk, List as TheList, false, get_or, length};
 ghost use Rattle.chacha_seal.specs.Keys.{KeyParts};
-ghost use Rattle.holder_client.specs.Placing.{PlacedContent};
+ghost use Rattle.log_visits.specs.Placing.{PlacedContent};
 ghost use Rattle.trail_audit.specs.Derived.{AreSeen, PlainSeen};
 ghost use Rattle.trail_audit.specs.Grouped.{HasGroups, key_source};
 ghost use Rattle.trail_audit.specs.Seals.{AreSeals};

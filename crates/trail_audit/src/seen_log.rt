@@ -5,7 +5,7 @@ ghost use Rattle.cry_io.specs.Told.{WhereTold};
 ghost use Rattle.commit_journal.specs.Placed.{PlainPlaced};
 ghost use Rattle.commit_journal.specs.Reading.{IsOnlyRead};
 ghost use Rattle.commit_journal.specs.Streaming.{IsStart, ShowsGiven, again_in};
-ghost use Rattle.holder_client.specs.Placing.{body_contents, log_contents};
+ghost use Rattle.log_visits.specs.Placing.{body_contents, log_contents};
 ghost use Rattle.trail_audit.specs.Derived.{AreSeen, RereadFault, plain_seen};
 ghost use Rattle.trail_audit.specs.Grouped.{HasGroups, key_source};
 ghost use Rattle.trail_audit.specs.Kept.{KeepsStarts};
@@ -19,7 +19,7 @@ use crate::trails::KnownKeys;
 use commit_journal::{Past, PublicLog};
 use cry_base::List;
 use cry_io::Disk;
-use holder_client::ClientFault;
+use log_visits::ClientFault;
 use std::alloc::Global;
 
 /// Reads a batch once more, opens its contents, and adds what they show. Where they can show nothing, or its content was kept, it

@@ -3,7 +3,7 @@ ghost use Rattle.std.specs.Prelude.{◌≡◌, ◌↔◌, ◌++◌, [], ◌∷�
 ghost use Rattle.chacha_seal.specs.Keys.{KeyParts};
 ghost use Rattle.chacha_seal.specs.Sealing.{seal_tag, sealed};
 ghost use Rattle.cry_base.specs.Sets.{In};
-ghost use Rattle.holder_client.specs.Placing.{PlacedLink};
+ghost use Rattle.log_visits.specs.Placing.{PlacedLink};
 ghost use Rattle.trail_audit.specs.Grouped.{HasGroups, key_source, source_of_link};
 ghost use Rattle.trail_audit.specs.Records.{IsTagged};
 ghost use Rattle.trail_audit.specs.Records.PlainRecord.{ALink};
@@ -15,7 +15,7 @@ use crate::placed_records::{LinkAt, Links};
 use crate::right_key::{RightKey, begins_at, source_of_key};
 use chacha_seal::{BadTag, HolderK, Key, open_in_place};
 use cry_base::{List, Mem};
-use holder_client::ClientFault;
+use log_visits::ClientFault;
 use record_format::link_header;
 use std::alloc::Global;
 use std::collections::HashMap;

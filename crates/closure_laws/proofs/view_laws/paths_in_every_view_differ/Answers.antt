@@ -1,5 +1,5 @@
 use Rattle.public_fold.specs.Journal.{store_of}
-use Rattle.holder_client.proofs.OwnPath.{own_paths}
+use Rattle.log_visits.proofs.OwnPath.{own_paths}
 use Rattle.closure_laws.proofs.OwnNames.{own_names}
 use Rattle.closure_laws.proofs.view_laws.paths_in_every_view_differ.Goals as goal
 

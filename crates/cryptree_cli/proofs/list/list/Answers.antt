@@ -1,5 +1,5 @@
 use Rattle.std.proofs.Common.{Ok, ap, sym, ◌∙◌}
-use Rattle.holder_client.specs.Judging.{shown_with}
+use Rattle.log_visits.specs.Judging.{shown_with}
 use Rattle.cryptree_cli.specs.Listing.{IsExactly, view_answer}
 use Rattle.cryptree_cli.proofs.ListingLemmas.{reads_no_bundle, reads_nothing, reads_text}
 use Rattle.cryptree_cli.proofs.list.list.Goals as goal

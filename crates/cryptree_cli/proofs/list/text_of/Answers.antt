@@ -2,7 +2,7 @@ use Rattle.std.proofs.Common.{◌≡◌, ◌+◌, ◌++◌, [], map, drop, get_o
 use Rattle.std.proofs.lemmas.List.{append-nil, drop_all}
 use Rattle.cry_base.specs.Texts.{ended_lines}
 use Rattle.holder_client.specs.Lines.{plain_line}
-use Rattle.holder_client.specs.View.{spell_view}
+use Rattle.log_visits.specs.View.{spell_view}
 use Rattle.cryptree_cli.proofs.ListingLemmas.{printed_more}
 use Rattle.cryptree_cli.proofs.list.text_of.Goals as goal
 

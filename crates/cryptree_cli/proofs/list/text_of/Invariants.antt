@@ -1,5 +1,5 @@
 use Rattle.std.proofs.Common.{◌≡◌, ◌++◌, map, drop}
-use Rattle.holder_client.specs.View.{spell_view}
+use Rattle.log_visits.specs.View.{spell_view}
 use Rattle.holder_client.specs.Lines.{plain_line}
 use Rattle.cryptree_cli.proofs.list.text_of.Given as goal
 

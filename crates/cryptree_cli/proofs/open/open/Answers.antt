@@ -1,5 +1,5 @@
 use Rattle.std.proofs.Common.{Ok, ap, sym, ◌∙◌}
-use Rattle.holder_client.specs.Asking.{line_shown}
+use Rattle.log_visits.specs.Asking.{line_shown}
 use Rattle.cryptree_cli.specs.Listing.{IsExactly, line_answer}
 use Rattle.cryptree_cli.proofs.ListingLemmas.{reads_no_bundle, reads_nothing, reads_text}
 use Rattle.cryptree_cli.proofs.open.open.Goals as goal

@@ -19,8 +19,8 @@ use Rattle.public_fold.specs.Journal.{Journal}
 use Rattle.store_owner.specs.Published.{HasPublished, StaysPublished}
 use Rattle.cryptree_cli.proofs.RunOpening.{bad_first_is_unjudged, first_alone, first_ends, first_is_bad, fresh_reader, gives_first, key_is_given, not_before, opened_has_no_verdict, opened_stands, reading_draws_none, same_key, seen_unopened, unopened_draws_none, unopened_ends, unopened_is_judged, unopened_is_no_line}
 use Rattle.cryptree_cli.proofs.Takings.{taken_few}
-use Rattle.holder_client.specs.Asking.{verdict}
-use Rattle.holder_client.specs.Asking.Asking.{ToWrite}
+use Rattle.log_visits.specs.Asking.{verdict}
+use Rattle.log_visits.specs.Asking.Asking.{ToWrite}
 use Rattle.cryptree_cli.proofs.run.run.Goals as goal
 
 pub returns-in-Err-clause-first_line : goal.returns-in-Err-clause-first_line

@@ -1,6 +1,6 @@
 use Rattle.std.proofs.Common.{length, sym, ap, ◌∙◌}
 use Rattle.cry_base.specs.Store.{Store}
-use Rattle.holder_client.specs.Judging.{published_check}
+use Rattle.log_visits.specs.Judging.{published_check}
 use Rattle.holder_client.proofs.Admitted.{no_holder, other_key, own_key}
 use Rattle.holder_client.proofs.admission.holder_may.Goals as goal
 

@@ -1,5 +1,5 @@
 use Rattle.std.proofs.Common.{subst}
-use Rattle.holder_client.specs.Answering.{AnswersAs}
+use Rattle.log_visits.specs.Answering.{AnswersAs}
 use Rattle.holder_client.proofs.Admitted.{holder_is_asked, owner_may}
 use Rattle.holder_client.proofs.admission.may_read.Goals as goal
 

@@ -1,7 +1,7 @@
 use Rattle.std.proofs.Common.{◌≡◌, ℕ, take}
 use Rattle.std.specs.HashSet.{contains}
 use Rattle.std.specs.List.{list_any}
-use Rattle.holder_client.specs.Sights.{opens, same_number}
+use Rattle.log_visits.specs.Sights.{opens, same_number}
 use Rattle.holder_client.proofs.file_rows.allowed_folders.Given as goal
 
 abbrev pub invariant-loop-sight : goal.invariant-loop-sight

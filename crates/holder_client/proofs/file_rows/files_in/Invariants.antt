@@ -1,6 +1,6 @@
 use Rattle.std.proofs.Common.{◌≡◌, filter, take}
 use Rattle.std.specs.HashSet.{contains}
-use Rattle.holder_client.specs.Sights.{same_number}
+use Rattle.log_visits.specs.Sights.{same_number}
 use Rattle.folder_nodes.specs.declared.rows.FileRow.{FileRow}
 use Rattle.holder_client.proofs.file_rows.files_in.Given as goal
 

@@ -1,4 +1,4 @@
-use Rattle.holder_client.proofs.OwnPath.{own_paths}
+use Rattle.log_visits.proofs.OwnPath.{own_paths}
 use Rattle.holder_client.proofs.laws.paths_in_a_view_differ.Goals as goal
 
 pub returns : goal.returns

@@ -1,4 +1,4 @@
-use Rattle.holder_client.proofs.Viewing.{view_told, view_ascends}
+use Rattle.log_visits.proofs.Viewing.{view_told, view_ascends}
 use Rattle.holder_client.proofs.laws.view_is_what_is_shown.Goals as goal
 
 pub returns : goal.returns

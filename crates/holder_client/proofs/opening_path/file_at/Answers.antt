@@ -2,7 +2,7 @@ use Rattle.std.proofs.Common.{List, ◌++◌, map, ap, ◌∙◌}
 use Rattle.std.specs.Prelude.{option_map}
 use Rattle.cry_base.specs.declared.client.Line.{Line}
 use Rattle.folder_nodes.specs.Titles.{tree_store}
-use Rattle.holder_client.specs.Asking.{line_at}
+use Rattle.log_visits.specs.Asking.{line_at}
 use Rattle.holder_client.specs.Lines.{plain_line, read_line}
 use Rattle.holder_client.proofs.Besides.{plain_found}
 use Rattle.holder_client.proofs.opening_path.file_at.Goals as goal

@@ -1,6 +1,6 @@
 use Rattle.std.proofs.Common.{ap, ◌∙◌}
 use Rattle.std.specs.Prelude.{option_map}
-use Rattle.holder_client.specs.Asking.{line_at}
+use Rattle.log_visits.specs.Asking.{line_at}
 use Rattle.holder_client.specs.Lines.{plain_line}
 use Rattle.holder_client.proofs.Besides.{plain_found}
 use Rattle.holder_client.proofs.opening_path.folder_at.Goals as goal

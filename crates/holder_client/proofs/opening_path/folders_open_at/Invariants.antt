@@ -3,7 +3,7 @@ use Rattle.std.specs.HashSet.{contains}
 use Rattle.std.specs.List.{list_any}
 use Rattle.folder_nodes.specs.Titles.{tree_store}
 use Rattle.holder_client.specs.Beside.{opens_at}
-use Rattle.holder_client.specs.Sights.{same_number}
+use Rattle.log_visits.specs.Sights.{same_number}
 use Rattle.holder_client.proofs.opening_path.folders_open_at.Given as goal
 
 abbrev pub invariant-loop-sight : goal.invariant-loop-sight

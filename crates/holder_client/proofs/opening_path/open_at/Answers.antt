@@ -6,16 +6,16 @@ use Rattle.cry_base.specs.Store.{Store}
 use Rattle.cry_base.specs.declared.client.Line.{Line as Shown}
 use Rattle.folder_nodes.specs.Bare.{file_of_row}
 use Rattle.folder_nodes.specs.Titles.{tree_store}
-use Rattle.holder_client.specs.Answering.{IsFailure}
-use Rattle.holder_client.specs.Asking.{file_with, line_at}
+use Rattle.log_visits.specs.Answering.{IsFailure}
+use Rattle.log_visits.specs.Asking.{file_with, line_at}
 use Rattle.holder_client.specs.Beside.{is_row_beside}
 use Rattle.holder_client.specs.Filed.{file_stops}
-use Rattle.holder_client.specs.Judging.{Unseen, who_of}
+use Rattle.log_visits.specs.Judging.{Unseen, who_of}
 use Rattle.holder_client.specs.Lines.{plain_line}
-use Rattle.holder_client.specs.View.{Line}
-use Rattle.holder_client.specs.Sights.{AreSights, MayRead}
+use Rattle.log_visits.specs.View.{Line}
+use Rattle.log_visits.specs.Sights.{AreSights, MayRead}
 use Rattle.holder_client.proofs.Besides.{files_fail_path, files_pass_path, first_line, folders_named, names_fail_path, names_pass_path, no_line, none_of, shown_beside, stops_beside}
-use Rattle.holder_client.proofs.OwnerVisits.{seen_tree}
+use Rattle.log_visits.proofs.OwnerVisits.{seen_tree}
 use Rattle.role_graph.specs.Rights.{Who}
 use Rattle.holder_client.proofs.opening_path.open_at.Goals as goal
 

@@ -1,18 +1,18 @@
 use Rattle.std.proofs.Common.{◌≡◌, List, map, sym, ap, subst, ◌∙◌}
 use Rattle.std.specs.List.{AllByRecursion}
-use Rattle.holder_client.specs.Answering.{AnswersBy}
+use Rattle.log_visits.specs.Answering.{AnswersBy}
 use Rattle.holder_client.specs.Filed.{IsNamedBy, everyone}
-use Rattle.holder_client.specs.Judging.{opened_first, who_of}
-use Rattle.holder_client.specs.Opening.{HasItsKind, IsFor, plain_visit}
-use Rattle.holder_client.specs.Sights.{AreSights}
-use Rattle.holder_client.specs.Visiting.{visit_all}
-use Rattle.holder_client.specs.Visits.{Visit, visits_to_names}
-use Rattle.holder_client.specs.declared.opening.OwnersView.{OwnersView}
-use Rattle.holder_client.specs.declared.visit_list.Visit.{Visit as Listed}
+use Rattle.log_visits.specs.Judging.{opened_first, who_of}
+use Rattle.log_visits.specs.Opening.{HasItsKind, IsFor, plain_visit}
+use Rattle.log_visits.specs.Sights.{AreSights}
+use Rattle.log_visits.specs.Visiting.{visit_all}
+use Rattle.log_visits.specs.Visits.{Visit, visits_to_names}
+use Rattle.log_visits.specs.declared.opening.OwnersView.{OwnersView}
+use Rattle.log_visits.specs.declared.visit_list.Visit.{Visit as Listed}
 use Rattle.holder_client.proofs.Beginning.{names_begin, names_end, tells_all}
-use Rattle.holder_client.proofs.Opens.{for_kinds}
-use Rattle.holder_client.proofs.OwnerVisits.{seen_nameless}
-use Rattle.holder_client.proofs.Sized.{unnamed_sized}
+use Rattle.log_visits.proofs.Opens.{for_kinds}
+use Rattle.log_visits.proofs.OwnerVisits.{seen_nameless}
+use Rattle.log_visits.proofs.Sized.{unnamed_sized}
 use Rattle.role_graph.specs.Rights.{Who}
 use Rattle.holder_client.proofs.reading.open_names.Goals as goal
 

@@ -1,15 +1,15 @@
 use Rattle.std.proofs.Common.{refl, sym, ap, subst, ◌∙◌}
 use Rattle.std.proofs.lemmas.Result.{err_from_is_err_and}
 use Rattle.cry_base.specs.declared.roles.Edge.{Edge}
-use Rattle.holder_client.specs.Answering.{IsFault}
+use Rattle.log_visits.specs.Answering.{IsFault}
 use Rattle.holder_client.specs.Filed.{everyone, file_stops}
-use Rattle.holder_client.specs.Found.{plain_link}
-use Rattle.holder_client.specs.Holding.{HasKind}
-use Rattle.holder_client.specs.Placing.{content_for}
-use Rattle.holder_client.specs.Visiting.{visit, visit_all}
-use Rattle.holder_client.proofs.Following.{free_fault}
-use Rattle.holder_client.proofs.NewestLinks.{link_told}
-use Rattle.holder_client.specs.Visits.Visit.{ToKey}
+use Rattle.log_visits.specs.Found.{plain_link}
+use Rattle.log_visits.specs.Holding.{HasKind}
+use Rattle.log_visits.specs.Placing.{content_for}
+use Rattle.log_visits.specs.Visiting.{visit, visit_all}
+use Rattle.log_visits.proofs.Following.{free_fault}
+use Rattle.log_visits.proofs.NewestLinks.{link_told}
+use Rattle.log_visits.specs.Visits.Visit.{ToKey}
 use Rattle.holder_client.proofs.FiledReads.{file_kind, link_fails, text_fails, text_read}
 use Rattle.holder_client.proofs.reading.read_file.Goals as goal
 

@@ -3,7 +3,7 @@ use Rattle.std.proofs.lemmas.List.{take_all}
 use Rattle.std.proofs.lemmas.Result.{err_from_is_err_and}
 use Rattle.folder_nodes.specs.declared.rows.FileRow.{FileRow}
 use Rattle.holder_client.specs.declared.reading.ReadFile.{ReadFile}
-use Rattle.holder_client.proofs.Lasts.{item_at}
+use Rattle.log_visits.proofs.Lasts.{item_at}
 use Rattle.holder_client.proofs.FiledReads.{reads_begin, reads_end, reads_fail, reads_go_on, rows_more}
 use Rattle.holder_client.proofs.reading.read_files.Goals as goal
 

@@ -1,5 +1,5 @@
 use Rattle.std.proofs.Common.{◌≡◌, map, take}
-use Rattle.holder_client.specs.Holding.{ArePresent}
+use Rattle.log_visits.specs.Holding.{ArePresent}
 use Rattle.holder_client.specs.declared.reading.ReadFile.{ReadFile}
 use Rattle.holder_client.proofs.FiledReads.{AreReadTo}
 use Rattle.holder_client.proofs.reading.read_files.Given as goal

@@ -5,12 +5,12 @@ use Rattle.cry_base.specs.Store.{Store}
 use Rattle.folder_nodes.specs.Bare.{file_of_row}
 use Rattle.folder_nodes.specs.declared.rows.FileRow.{FileRow}
 use Rattle.holder_client.specs.Filed.{file_stops}
-use Rattle.holder_client.specs.Judging.{who_of}
-use Rattle.holder_client.specs.Sights.{AreSights, MayRead, opens}
-use Rattle.holder_client.specs.Visits.{visits_to_names}
-use Rattle.holder_client.specs.declared.sights.Sight.{Sight}
+use Rattle.log_visits.specs.Judging.{who_of}
+use Rattle.log_visits.specs.Sights.{AreSights, MayRead, opens}
+use Rattle.log_visits.specs.Visits.{visits_to_names}
+use Rattle.log_visits.specs.declared.sights.Sight.{Sight}
 use Rattle.holder_client.proofs.Listings.{all_pass, allowed_stops, files_fail, names_fail}
-use Rattle.holder_client.proofs.OwnerVisits.{seen_tree}
+use Rattle.log_visits.proofs.OwnerVisits.{seen_tree}
 use Rattle.holder_client.proofs.Shows.{view_shown}
 use Rattle.role_graph.specs.Rights.{Who}
 use Rattle.holder_client.proofs.showing.list_records.Goals as goal

@@ -1,4 +1,4 @@
-use Rattle.holder_client.proofs.ToldLemmas.{accepted_told}
+use Rattle.log_visits.proofs.ToldLemmas.{accepted_told}
 use Rattle.holder_client.proofs.verdict_laws.notes_tell_what_commands_do.Goals as goal
 
 pub returns : goal.returns

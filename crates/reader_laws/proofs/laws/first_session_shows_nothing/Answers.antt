@@ -1,7 +1,7 @@
 use Rattle.std.proofs.Common.{refl}
 use Rattle.cry_base.specs.Store.{holder_entry, no_store}
-use Rattle.holder_client.specs.Asking.{line_at, or_else}
-use Rattle.holder_client.specs.View.{view}
+use Rattle.log_visits.specs.Asking.{line_at, or_else}
+use Rattle.log_visits.specs.View.{view}
 use Rattle.public_fold.specs.Journal.{entry_store, nothing, stand_after, stand_then, store_of}
 use Rattle.role_graph.specs.Edges.{in_order}
 use Rattle.reader_laws.specs.Reading.{if_known, line_shown_of, shown_of}

@@ -1,5 +1,5 @@
 use Rattle.std.proofs.Common.{ap}
-use Rattle.holder_client.specs.Asking.{failure_of, verdict}
+use Rattle.log_visits.specs.Asking.{failure_of, verdict}
 use Rattle.reader_laws.proofs.Lines.{line_of_bytes}
 use Rattle.reader_laws.proofs.Shown.{bytes_shown}
 use Rattle.reader_laws.proofs.laws.standing_bytes_show_their_journal.Goals as goal

@@ -1,8 +1,8 @@
 use Rattle.std.proofs.Common.{◌≡◌, arith, map, Ok, sym, ap, subst, ◌∙◌}
 use Rattle.chacha_seal.specs.Keys.{KeyParts}
 use Rattle.commit_journal.specs.Placed.{plain_log, plain_placed}
-use Rattle.holder_client.specs.Answering.{IsFault}
-use Rattle.holder_client.proofs.Viewed.{of_bytes_alone}
+use Rattle.log_visits.specs.Answering.{IsFault}
+use Rattle.log_visits.proofs.Viewed.{of_bytes_alone}
 use Rattle.store_owner.specs.Opened.{opened_of}
 use Rattle.store_owner.specs.Owned.{OwnerView}
 use Rattle.store_owner.proofs.OpenedBehind.{behind_fails, behind_opens, behind_sound}

@@ -1,7 +1,7 @@
 use Rattle.std.proofs.Common.{◌∙◌, Err, Ok, arith}
 use Rattle.std.proofs.lemmas.Result.{err_from_is_err_and}
 use Rattle.commit_journal.proofs.Walked.{only_read_twice}
-use Rattle.holder_client.specs.Judging.{read_with}
+use Rattle.log_visits.specs.Judging.{read_with}
 use Rattle.trail_audit.proofs.Answered.{log_fails, log_read, records_opened}
 use Rattle.trail_audit.proofs.auditing.audit.Goals as goal
 

@@ -1,7 +1,7 @@
 use Rattle.std.proofs.Common.{Ok, ap, sym, ◌∙◌}
 use Rattle.std.proofs.lemmas.Result.{IfOk-weaker, err_from_is_err_and}
-use Rattle.holder_client.specs.Judging.{read_with}
-use Rattle.holder_client.specs.Placing.{log_links}
+use Rattle.log_visits.specs.Judging.{read_with}
+use Rattle.log_visits.specs.Placing.{log_links}
 use Rattle.public_fold.specs.KeyStep.{KeyState}
 use Rattle.public_fold.specs.Standing.{PublicView}
 use Rattle.trail_audit.specs.Grouped.{HasGroups, source_of_link}

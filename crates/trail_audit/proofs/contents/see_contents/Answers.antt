@@ -1,7 +1,7 @@
 use Rattle.std.proofs.Common.{◌≤◌, ◌∷◌, [], List, length, map, subst, arith}
 use Rattle.std.proofs.lemmas.List.{take_all}
 use Rattle.std.proofs.lemmas.Result.{err_from_is_err_and}
-use Rattle.holder_client.specs.Placing.{PlacedContent}
+use Rattle.log_visits.specs.Placing.{PlacedContent}
 use Rattle.trail_audit.specs.Derived.{AreSeen, plain_seen}
 use Rattle.trail_audit.proofs.Revealed.{all_opened_next, audit_next, content_fault_in, none_seen, one_of}
 use Rattle.trail_audit.proofs.contents.see_contents.Goals as goal

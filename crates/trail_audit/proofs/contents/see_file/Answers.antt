@@ -1,6 +1,6 @@
 use Rattle.std.proofs.Common.{ap, sym, ◌∙◌}
 use Rattle.cry_base.specs.declared.roles.Node.TheVariants.{File}
-use Rattle.holder_client.specs.Placing.{PlacedContent}
+use Rattle.log_visits.specs.Placing.{PlacedContent}
 use Rattle.trail_audit.proofs.Revealed.{file_form, file_seen, seen_added, seen_alike}
 use Rattle.trail_audit.proofs.contents.see_file.Goals as goal
 

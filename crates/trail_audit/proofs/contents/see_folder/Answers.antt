@@ -1,7 +1,7 @@
 use Rattle.std.proofs.Common.{[], ap, sym, ◌∙◌, refl}
 use Rattle.cry_base.specs.declared.roles.Node.TheVariants.{Folder}
-use Rattle.holder_client.specs.Placing.{PlacedContent}
-use Rattle.holder_client.specs.Visiting.{is_folder_text}
+use Rattle.log_visits.specs.Placing.{PlacedContent}
+use Rattle.log_visits.specs.Visiting.{is_folder_text}
 use Rattle.trail_audit.proofs.Revealed.{folder_form, folder_seen, seen_added, seen_alike}
 use Rattle.trail_audit.proofs.contents.see_folder.Goals as goal
 

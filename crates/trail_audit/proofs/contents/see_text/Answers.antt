@@ -1,6 +1,6 @@
 use Rattle.std.proofs.Common.{◌++◌, List, map, ap, sym, ◌∙◌}
 use Rattle.std.proofs.lemmas.List.{append-nil}
-use Rattle.holder_client.specs.Placing.{PlacedContent}
+use Rattle.log_visits.specs.Placing.{PlacedContent}
 use Rattle.trail_audit.specs.Derived.{PlainSeen, plain_seen}
 use Rattle.trail_audit.proofs.Revealed.{other_form, other_seen}
 use Rattle.trail_audit.proofs.contents.see_text.Goals as goal

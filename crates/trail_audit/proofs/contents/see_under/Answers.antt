@@ -2,7 +2,7 @@ use Rattle.std.proofs.Common.{◌++◌, List, [], ◌∷◌, map, ap, ◌∙◌}
 use Rattle.std.specs.HashMap.{get}
 use Rattle.std.proofs.lemmas.Result.{IfErr-weaker, on_ok_weaker}
 use Rattle.chacha_seal.specs.Keys.{KeyParts}
-use Rattle.holder_client.specs.declared.fault.ClientFault.{ClientFault}
+use Rattle.log_visits.specs.declared.fault.ClientFault.{ClientFault}
 use Rattle.trail_audit.specs.Derived.{ContentFault, PlainSeen, plain_seen}
 use Rattle.trail_audit.specs.Grouped.{HasGroups, content_source, items_of, key_source, same_sources}
 use Rattle.trail_audit.proofs.Groups.{among_keys, opened_of_group, shown_of_group}

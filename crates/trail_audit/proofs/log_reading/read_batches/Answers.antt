@@ -14,7 +14,7 @@ use Rattle.commit_journal.specs.Answering.{Fault}
 use Rattle.trail_audit.specs.Kept.{HasKept, KeepsStarts}
 use Rattle.holder_client.proofs.Listings.{opening_disk, opening_seen}
 use Rattle.holder_client.proofs.Adding.{shows_none}
-use Rattle.holder_client.proofs.Viewed.{log_fault}
+use Rattle.log_visits.proofs.Viewed.{log_fault}
 use Rattle.trail_audit.proofs.log_reading.read_batches.Goals as goal
 
 pub returns-in_err-log-clause-verdict : goal.returns-in_err-log-clause-verdict

@@ -3,8 +3,8 @@ use Rattle.chacha_seal.specs.Keys.{KeyParts}
 use Rattle.commit_journal.proofs.Stepped.{anybody_reads, owner_reads}
 use Rattle.commit_journal.specs.Readers as readers
 use Rattle.cry_base.specs.declared.client.Bundle.{Bundle}
-use Rattle.holder_client.specs.Answering.{Answers}
-use Rattle.holder_client.specs.Judging.{bundle_log}
+use Rattle.log_visits.specs.Answering.{Answers}
+use Rattle.log_visits.specs.Judging.{bundle_log}
 use Rattle.trail_audit.proofs.log_reading.read_log.Goals as goal
 
 pub returns-in-Owner-clause-verdict : goal.returns-in-Owner-clause-verdict

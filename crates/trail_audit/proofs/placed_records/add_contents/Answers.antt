@@ -5,8 +5,8 @@ use Rattle.std.proofs.lemmas.List.Sums.{sum_by_more, sum_by_more_le}
 use Rattle.record_format.specs.Plain.{plain_content}
 use Rattle.record_format.specs.Sizes.{content_size}
 use Rattle.record_format.specs.Spellable.{IsContent}
-use Rattle.holder_client.specs.Placing.{contents_at}
-use Rattle.holder_client.proofs.Lasts.{mapped_item}
+use Rattle.log_visits.specs.Placing.{contents_at}
+use Rattle.log_visits.proofs.Lasts.{mapped_item}
 use Rattle.trail_audit.proofs.Listed.{more_contents}
 use Rattle.trail_audit.proofs.placed_records.add_contents.Goals as goal
 

@@ -2,7 +2,7 @@ use Rattle.std.proofs.Common.{◌≡◌, ◌+◌, ◌++◌, map, take}
 use Rattle.std.specs.List.{sum_by}
 use Rattle.record_format.specs.Plain.{plain_content}
 use Rattle.record_format.specs.Sizes.{content_size}
-use Rattle.holder_client.specs.Placing.{contents_at}
+use Rattle.log_visits.specs.Placing.{contents_at}
 use Rattle.trail_audit.proofs.placed_records.add_contents.Given as goal
 
 abbrev pub invariant-loop-content : goal.invariant-loop-content

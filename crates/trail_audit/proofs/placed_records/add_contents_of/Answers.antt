@@ -6,7 +6,7 @@ use Rattle.commit_journal.specs.Placed.{plain_body}
 use Rattle.commit_journal.specs.Places.{IsContentPlace, content_offset}
 use Rattle.record_format.specs.declared.content.ContentRecord.{ContentRecord}
 use Rattle.record_format.specs.Plain.{plain_content, plain_payload}
-use Rattle.holder_client.specs.Placing.{body_contents, contents_at}
+use Rattle.log_visits.specs.Placing.{body_contents, contents_at}
 use Rattle.trail_audit.proofs.placed_records.add_contents_of.Goals as goal
 
 pub returns-in_default : goal.returns-in_default

@@ -1,7 +1,7 @@
 use Rattle.std.proofs.Common.{◌++◌, take, sym, subst, arith}
 use Rattle.std.proofs.lemmas.List.{append-nil}
-use Rattle.holder_client.specs.Placing.{links_at}
-use Rattle.holder_client.proofs.Lasts.{item_at}
+use Rattle.log_visits.specs.Placing.{links_at}
+use Rattle.log_visits.proofs.Lasts.{item_at}
 use Rattle.trail_audit.specs.Grouped.{HasGroups, source_of_link}
 use Rattle.trail_audit.proofs.Listed.{links_on}
 use Rattle.trail_audit.proofs.placed_records.add_links.Goals as goal

@@ -1,5 +1,5 @@
 use Rattle.std.proofs.Common.{◌≡◌, ◌+◌, ◌*◌, ◌++◌, List, take}
-use Rattle.holder_client.specs.Placing.{PlacedLink, links_at}
+use Rattle.log_visits.specs.Placing.{PlacedLink, links_at}
 use Rattle.trail_audit.specs.Grouped.{HasGroups, source_of_link}
 use Rattle.trail_audit.proofs.placed_records.add_links.Given as goal
 

@@ -6,7 +6,7 @@ use Rattle.commit_journal.specs.Placed.{plain_body}
 use Rattle.commit_journal.specs.Places.{IsLinkPlace, link_offset}
 use Rattle.record_format.specs.declared.link.LinkRecord.{LinkRecord}
 use Rattle.record_format.specs.Plain.{plain_payload}
-use Rattle.holder_client.specs.Placing.{body_links, links_at}
+use Rattle.log_visits.specs.Placing.{body_links, links_at}
 use Rattle.trail_audit.specs.Grouped.{HasGroups, source_of_link}
 use Rattle.trail_audit.proofs.placed_records.add_links_of.Goals as goal
 

@@ -1,6 +1,6 @@
 use Rattle.std.proofs.Common.{◌++◌, List, ap, ◌∙◌}
 use Rattle.commit_journal.specs.Placed.{plain_body}
-use Rattle.holder_client.specs.Placing.{PlacedContent, body_contents}
+use Rattle.log_visits.specs.Placing.{PlacedContent, body_contents}
 use Rattle.trail_audit.proofs.placed_records.contents_of.Goals as goal
 
 pub returns : goal.returns

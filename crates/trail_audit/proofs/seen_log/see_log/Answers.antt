@@ -3,7 +3,7 @@ use Rattle.std.proofs.lemmas.List.{take_all}
 use Rattle.std.proofs.lemmas.Result.{err_from_is_err_and}
 use Rattle.commit_journal.proofs.Walked.{only_read_twice}
 use Rattle.commit_journal.specs.Placed.{PlainPlaced}
-use Rattle.holder_client.specs.Placing.{log_contents}
+use Rattle.log_visits.specs.Placing.{log_contents}
 use Rattle.trail_audit.specs.Derived.{AreSeen, PlainSeen, plain_seen}
 use Rattle.trail_audit.specs.declared.seals.Seals.TheVariants.{Nothing}
 use Rattle.trail_audit.proofs.Reread.{batch_at, fault_of_batch, known_before, sealed_here, seen_next, shown_from}

@@ -1,7 +1,7 @@
 use Rattle.std.proofs.Common.{◌≡◌, ◌≤◌, ◌-◌, ℕ, List, [], Some, map, take}
 use Rattle.commit_journal.specs.Reading.{IsOnlyRead}
 use Rattle.commit_journal.specs.Streaming.{ShowsGiven}
-use Rattle.holder_client.specs.Placing.{log_contents}
+use Rattle.log_visits.specs.Placing.{log_contents}
 use Rattle.trail_audit.specs.Derived.{AreSeen, plain_seen}
 use Rattle.trail_audit.proofs.seen_log.see_log.Given as goal
 

@@ -1,8 +1,8 @@
 use Rattle.std.proofs.Common.{List, ap, ◌∙◌}
 use Rattle.std.specs.HashMap.{get}
 use Rattle.std.proofs.lemmas.Result.{IfErr-weaker, on_ok_weaker}
-use Rattle.holder_client.specs.Placing.{PlacedLink}
-use Rattle.holder_client.specs.declared.fault.ClientFault.{ClientFault}
+use Rattle.log_visits.specs.Placing.{PlacedLink}
+use Rattle.log_visits.specs.declared.fault.ClientFault.{ClientFault}
 use Rattle.trail_audit.specs.Grouped.{HasGroups, items_of, key_source, same_sources, source_of_link}
 use Rattle.trail_audit.specs.Trails.{TagFault}
 use Rattle.trail_audit.proofs.Groups.{grown_of_group, tag_fault_of_group}

@@ -1,5 +1,5 @@
 use Rattle.std.proofs.Common.{subst}
-use Rattle.holder_client.specs.Placing.{PlacedLink}
+use Rattle.log_visits.specs.Placing.{PlacedLink}
 use Rattle.trail_audit.specs.Trails.{BeginsAt}
 use Rattle.trail_audit.proofs.Followed.{grown_by_one}
 use Rattle.trail_audit.proofs.trails.follow_link.Goals as goal

@@ -1,5 +1,5 @@
 use Rattle.std.proofs.Common.{◌-◌, ◌^◌, List, take}
-use Rattle.holder_client.specs.Placing.{PlacedLink}
+use Rattle.log_visits.specs.Placing.{PlacedLink}
 use Rattle.trail_audit.specs.Grouped.{HasGroups, key_source, source_of_link}
 use Rattle.trail_audit.proofs.Followed.{AreFoundSoFar}
 use Rattle.trail_audit.proofs.trails.right_keys.Given as goal

@@ -2,11 +2,11 @@ use Rattle.std.proofs.Common.{◌<◌, ◌^◌, ◌++◌, ◌∷◌, [], Ok, sym
 use Rattle.std.proofs.lemmas.Result.{on_ok_weaker}
 use Rattle.commit_journal.specs.Placed.{plain_body, plain_placed}
 use Rattle.public_fold.specs.Standing.{IsSeenAs}
-use Rattle.holder_client.specs.Answering.{AnswersBy, IsFault}
-use Rattle.holder_client.specs.Folding.{stand_behind}
+use Rattle.log_visits.specs.Answering.{AnswersBy, IsFault}
+use Rattle.log_visits.specs.Folding.{stand_behind}
 use Rattle.holder_client.specs.Reads.{HasReadTo}
 use Rattle.holder_client.proofs.Adding.{added, follows_on, has_folded, misfit_met, misfit_stays, none_from}
-use Rattle.holder_client.proofs.Starts.{starts_grow, starts_next}
+use Rattle.log_visits.proofs.Starts.{starts_grow, starts_next}
 use Rattle.holder_client.proofs.log_reader.Reader.add.Goals as goal
 
 pub returns-then-is_some-clause-read : goal.returns-then-is_some-clause-read

@@ -1,9 +1,9 @@
 use Rattle.std.proofs.Common.{ℕ, subst}
 use Rattle.holder_client.specs.Reads.{HasReadTo}
-use Rattle.holder_client.specs.declared.fault.ClientFault.TheVariants as faults
+use Rattle.log_visits.specs.declared.fault.ClientFault.TheVariants as faults
 use Rattle.holder_client.proofs.Admitted.{fold_refused}
 use Rattle.holder_client.proofs.Besides.{none_of}
-use Rattle.holder_client.proofs.Opens.{on_any}
+use Rattle.log_visits.proofs.Opens.{on_any}
 use Rattle.holder_client.proofs.Adding.{admitted}
 use Rattle.holder_client.proofs.log_reader.Reader.admit.Goals as goal
 

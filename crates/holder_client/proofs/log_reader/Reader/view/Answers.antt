@@ -1,9 +1,9 @@
 use Rattle.std.proofs.Common.{Ok, sym, subst}
 use Rattle.std.proofs.lemmas.Result.{err_from_is_err_and}
-use Rattle.holder_client.specs.Answering.{AnswersAs}
+use Rattle.log_visits.specs.Answering.{AnswersAs}
 use Rattle.holder_client.specs.Lines.{plain_view}
 use Rattle.holder_client.proofs.Listings.{may_read_all, reads_fail_view, reads_pass_view}
-use Rattle.holder_client.proofs.OwnerKey.{owner_is_seen}
+use Rattle.log_visits.proofs.OwnerKey.{owner_is_seen}
 use Rattle.holder_client.proofs.log_reader.Reader.view.Goals as goal
 
 pub returns-in_err-admit-clause-answer : goal.returns-in_err-admit-clause-answer

@@ -1,13 +1,13 @@
 use Rattle.std.proofs.Common.{Option, Ok, Err, IfSome, ap, sym, subst, ◌∙◌}
 use Rattle.std.proofs.lemmas.Result.{err_from_is_err_and}
 use Rattle.commit_journal.specs.Streaming.{LogState, ShowsGiven}
-use Rattle.holder_client.specs.Indexed.{IsLastAt, StartsAt}
-use Rattle.holder_client.specs.Placing.{content_for}
-use Rattle.holder_client.specs.Spots.{IsAt}
+use Rattle.log_visits.specs.Indexed.{IsLastAt, StartsAt}
+use Rattle.log_visits.specs.Placing.{content_for}
+use Rattle.log_visits.specs.Spots.{IsAt}
 use Rattle.holder_client.proofs.Adding.{free_again, reread}
-use Rattle.holder_client.proofs.Lasts.{finds_at}
-use Rattle.holder_client.proofs.Starts.{reread_from, start_known}
-use Rattle.holder_client.specs.declared.last_contents.ContentSpot.{ContentSpot}
+use Rattle.log_visits.proofs.Lasts.{finds_at}
+use Rattle.log_visits.proofs.Starts.{reread_from, start_known}
+use Rattle.log_visits.specs.declared.last_contents.ContentSpot.{ContentSpot}
 use Rattle.holder_client.proofs.streamed_log.StreamedLogRecords.content_for.Goals as goal
 
 pub returns-in_err-placed-clause-found : goal.returns-in_err-placed-clause-found

@@ -1,4 +1,4 @@
-use Rattle.holder_client.proofs.Lasts.{found_for}
+use Rattle.log_visits.proofs.Lasts.{found_for}
 use Rattle.holder_client.proofs.streamed_log.StreamedLogRecords.link_for.Goals as goal
 
 pub returns-clause-form : goal.returns-clause-form

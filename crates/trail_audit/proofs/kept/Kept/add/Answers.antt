@@ -1,7 +1,7 @@
 use Rattle.std.proofs.Common.{◌++◌, ◌∷◌, [], List, sym, subst, ◌∙◌}
 use Rattle.std.proofs.lemmas.List.{length-append}
 use Rattle.commit_journal.specs.Placed.{PlainPlaced, plain_placed}
-use Rattle.holder_client.specs.Placing.{body_links, log_links}
+use Rattle.log_visits.specs.Placing.{body_links, log_links}
 use Rattle.trail_audit.specs.Grouped.{HasGroups, source_of_link}
 use Rattle.trail_audit.specs.Seals.{AreSeals, AreSealsOf}
 use Rattle.trail_audit.specs.declared.seals.Seals.{Seals}

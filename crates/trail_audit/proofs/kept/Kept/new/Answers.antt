@@ -1,5 +1,5 @@
 use Rattle.std.proofs.Common.{List, [], refl, sym, subst}
-use Rattle.holder_client.specs.Placing.{log_links}
+use Rattle.log_visits.specs.Placing.{log_links}
 use Rattle.trail_audit.specs.Grouped.{source_of_link}
 use Rattle.trail_audit.specs.Seals.{AreSealsOf}
 use Rattle.trail_audit.specs.declared.seals.Seals.{Seals}

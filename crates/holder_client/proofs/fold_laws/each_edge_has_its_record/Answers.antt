@@ -1,5 +1,0 @@
-use Rattle.holder_client.proofs.FoldedHolds.{each_edge_found}
-use Rattle.holder_client.proofs.fold_laws.each_edge_has_its_record.Goals as goal
-
-pub returns : goal.returns
-returns c = each_edge_found

@@ -1,8 +1,0 @@
-use Rattle.std.proofs.Common.{refl, ◌∙◌}
-use Rattle.holder_client.proofs.Sighted.{holders_made}
-use Rattle.holder_client.proofs.sights.holders_sight.Goals as goal
-
-pub returns : goal.returns
-returns c =
-    holders_made c.args.shape.now.tree c.args.grants.now.pairs c.args.h.0 c.args.row.now c.in_ok-way.way.items c.as_slice.result.now _ c.contains-leads_down.result c.in_ok-way.ensures c.as_slice.ensures.value
-    refl refl c.depth_of.ensures c.has.ensures.value c.has_one-allowed.ensures (c.contains-leads_down.ensures ∙ c.requires c.args.row.now.id.0) refl

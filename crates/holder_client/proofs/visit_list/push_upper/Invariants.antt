@@ -1,8 +1,0 @@
-use Rattle.std.proofs.Common.{◌≡◌, ◌++◌, List, take}
-use Rattle.std.specs.List.{flat_map}
-use Rattle.holder_client.specs.Listing.{AreFirst, from_child}
-use Rattle.holder_client.specs.declared.sights.Sight.{Sight}
-use Rattle.holder_client.proofs.visit_list.push_upper.Given as goal
-
-abbrev pub invariant-loop-sight : goal.invariant-loop-sight
-invariant-loop-sight l = (sights : List Sight) → AreFirst l.first sights → l.visits.items ≡ l.initial.visits.items ++ flat_map (λ (x : Sight). from_child sights x.folder) (take l.sight-index l.folders)

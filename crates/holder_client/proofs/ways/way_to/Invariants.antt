@@ -1,5 +1,0 @@
-use Rattle.holder_client.proofs.WayDown.{WayTo}
-use Rattle.holder_client.proofs.ways.way_to.Given as goal
-
-abbrev pub invariant-loop-climbed : goal.invariant-loop-climbed
-invariant-loop-climbed l = WayTo l.shape.tree l.fn.f.0 l.way.items l.here.0 l._climbed

@@ -1,0 +1,8 @@
+use Rattle.std.proofs.Common.{◌≡◌, ◌++◌, List, take}
+use Rattle.std.specs.List.{flat_map}
+use Rattle.log_visits.specs.Listing.{AreFirst, from_child}
+use Rattle.log_visits.specs.declared.sights.Sight.{Sight}
+use Rattle.log_visits.proofs.visit_list.push_upper.Given as goal
+
+abbrev pub invariant-loop-sight : goal.invariant-loop-sight
+invariant-loop-sight l = (sights : List Sight) → AreFirst l.first sights → l.visits.items ≡ l.initial.visits.items ++ flat_map (λ (x : Sight). from_child sights x.folder) (take l.sight-index l.folders)

@@ -1,0 +1,135 @@
+//! The last link of each edge in a log (docs/FORMAT.md, "Reading").
+ghost use Rattle.std.specs.Prelude.{◌≡◌, ◌+◌, ◌*◌, ◌<◌, ◌^◌, ◌++◌, [], ◌∷◌, List, OnOk, length};
+ghost use Rattle.commit_journal.specs.Placed.{plain_body};
+ghost use Rattle.commit_journal.specs.Places.{IsStanding};
+ghost use Rattle.log_visits.specs.Found.{has_present_serials, head_of_edge, link_here};
+ghost use Rattle.log_visits.specs.Indexed.{HasLastLinks, head_of_link};
+ghost use Rattle.log_visits.specs.Placing as spec;
+ghost use Rattle.public_fold.specs.KeyStep.{present};
+ghost use Rattle.role_graph.specs.Roles.{role_id};
+
+use commit_journal::{Body, Placed, link_place};
+use cry_base::{Edge, Mem, Role, Serial};
+use public_fold::PublicState;
+use record_format::{LINK_LEN, LinkRecord};
+use std::collections::HashMap;
+
+/// What a link is looked for by. The serials are left out: of an edge whose keys are renewed only the last link can be followed, so no
+/// earlier one is kept.
+#[derive(Clone, Copy, PartialEq, Eq, Hash)]
+pub(crate) struct LinkHead {
+    pub(crate) kind: u8,
+    pub(crate) from_id: u32,
+    pub(crate) to_id: u32,
+}
+
+/// A link, and where it stands.
+#[derive(Clone, Copy)]
+pub struct FoundLink {
+    /// The number of its batch.
+    pub batch: u32,
+    /// The place of its first byte in the file.
+    pub at: u64,
+    pub link: LinkRecord,
+}
+
+/// The last link of each edge.
+pub(crate) type LastLinks = HashMap<LinkHead, FoundLink>;
+
+#[tactic(auto, unfolding(role_graph::specs::Roles::role_id))]
+fn id_of(role: Role) -> u32
+    ensures { result ≡ role_id role }
+{
+    match role {
+        Role::Owner => 0,
+        Role::Holder(h) => h.0,
+        Role::Clear(f) | Role::Sub(f) | Role::Back(f) | Role::Files(f) | Role::Data(f) => f.0,
+        Role::File(x) => x.0,
+    }
+}
+
+#[tactic(auto, unfolding(public_fold::specs::KeyStep::present))]
+fn serial_of(state: &PublicState, role: Role) -> Serial
+    ensures { result.0 ≡ present state.now.keys.keys role }
+{
+    match state.present(role) {
+        Some(serial) => serial,
+        None => Serial(0),
+    }
+}
+
+/// The head of the edge's links.
+pub(crate) fn head_sought(edge: &Edge) -> LinkHead
+    ensures { result ≡ head_of_edge edge.now }
+{
+    LinkHead {
+        kind: edge.kind,
+        from_id: id_of(edge.from),
+        to_id: id_of(edge.to),
+    }
+}
+
+/// Whether the link leads from the present key of the edge's source to that of its target.
+pub(crate) fn is_present(state: &PublicState, edge: &Edge, link: &LinkRecord) -> bool
+    ensures { result ≡ has_present_serials state.now.keys edge.now link.now }
+{
+    link.from_serial.0 == serial_of(state, edge.from).0
+        && link.to_serial.0 == serial_of(state, edge.to).0
+}
+
+fn head_of(link: &LinkRecord) -> LinkHead
+    ensures { result ≡ head_of_link link.now }
+{
+    LinkHead {
+        kind: link.kind,
+        from_id: link.from_id,
+        to_id: link.to_id,
+    }
+}
+
+/// Notes a link under its head, in the place of an earlier one.
+#[tactic(auto, using(crate::proofs::Lasts::link_noted))]
+fn note_link(last: &mut LastLinks, found: FoundLink) -> Mem<()>
+    ensures { OnOk result ((so_far : List spec.PlacedLink) → HasLastLinks last.old so_far →
+        HasLastLinks last.new (so_far ++ link_here found.batch found.at found.link ∷ [])) }
+{
+    last.insert(head_of(&found.link), found)?;
+    Ok(())
+}
+
+/// Notes the links of a batch, of which the first stands at the place.
+fn note_links(last: &mut LastLinks, batch: u32, first: u64, links: &[LinkRecord]) -> Mem<()>
+    requires { first + 98 * length links.now < 2 ^ 64 }
+    ensures { OnOk result ((so_far : List spec.PlacedLink) → HasLastLinks last.old so_far
+        → HasLastLinks last.new (so_far ++ spec.links_at batch first links.now)) }
+{
+    let mut at = first;
+    for link in links {
+        note_link(
+            last,
+            FoundLink {
+                batch,
+                at,
+                link: *link,
+            },
+        )?;
+        at += LINK_LEN;
+    }
+    Ok(())
+}
+
+/// Notes the links that a batch of a log carries, behind those of the batches before it.
+pub(crate) fn note_links_of(last: &mut LastLinks, placed: &Placed) -> Mem<()>
+    requires { IsStanding placed.now }
+    ensures { OnOk result ((so_far : List spec.PlacedLink) → HasLastLinks last.old so_far →
+        HasLastLinks last.new (so_far ++ spec.body_links placed.now.batch placed.now.place (plain_body placed.now.body))) }
+{
+    let Body::Commands(payload) = &placed.body else {
+        return Ok(());
+    };
+    let links = payload.links.as_slice();
+    if links.is_empty() {
+        return Ok(());
+    }
+    note_links(last, placed.batch, link_place(placed, 0), links)
+}

@@ -1,0 +1,164 @@
+//! Finds the records that visits open.
+ghost use Rattle.std.specs.Prelude.{◌≡◌, ◌≢◌, ◌<◌, ◌≤◌, ℕ, Err, List, IfOk, IfSome, map};
+ghost use Rattle.commit_journal.specs.Placed.{PlainPlaced, plain_body};
+ghost use Rattle.commit_journal.specs.Places.{IsStanding};
+ghost use Rattle.log_visits.specs.Found.{Finds, FindsAt, IsContentFor, IsLinkFor, newest_for, plain_link};
+ghost use Rattle.log_visits.specs.Placing as spec;
+ghost use Rattle.log_visits.specs.Spots.{contents_in};
+ghost use Rattle.record_format.specs.Plain.{plain_content};
+
+use crate::ClientFault;
+use crate::last_contents::ContentSpot;
+use crate::last_links::FoundLink;
+use commit_journal::{Body, Placed};
+use cry_base::{Edge, Mem, Text};
+use public_fold::PublicState;
+use record_format::ContentRecord;
+use std::alloc::Global;
+
+/// A content, and where it stands.
+#[derive(Drop)]
+pub struct FoundContent {
+    /// The number of its batch.
+    pub batch: u32,
+    /// The place of its first byte in the file.
+    pub at: u64,
+    pub content: ContentRecord,
+}
+
+/// What finds the last records of a log, with the contents' bytes from a source.
+pub trait Records<S> {
+    /// The batches of the log.
+    ghost log: { Self → List PlainPlaced };
+
+    /// Whether the source shows them.
+    ghost shows: { Self → S → Type 0 };
+
+    /// Whether the source was only read since.
+    ghost stays: { S → S → Type 0 };
+
+    /// How often the source failed.
+    ghost faults: { S → ℕ };
+
+    /// The last link that was published for the edge, where it is one from the present key of its source to that of its target. In a
+    /// log whose payloads fit, with what stands after them, it is the last such link: no other one follows it.
+    fn link_for(&self, state: &PublicState, edge: &Edge) -> Option<FoundLink>
+        ensures found { plain_link result ≡ newest_for state.now.keys (log self.now) edge.now }
+        ensures form { IfSome result (IsLinkFor state.now.keys edge.now) };
+
+    /// The last content of the kind that was published for the folder, file or holder. Where the source shows the batches, the
+    /// faults are `DiskFault` and `OutOfMemory` alone.
+    fn content_for(
+        &self,
+        alloc: Global,
+        source: &mut S,
+        kind: u8,
+        object: u32,
+    ) -> Result<Option<FoundContent>, ClientFault>
+        ensures found { shows self.now source.old → Finds result (spec.content_for (log self.now) kind object) }
+        ensures form { IfOk result (λ found. IfSome found (IsContentFor kind object)) }
+        ensures seen { result ≢ Err ClientFault.Unseen }
+        ensures stays { stays source.old source.new }
+        ensures disk_fault { result ≡ Err ClientFault.DiskFault → faults source.old < faults source.new };
+
+    /// Where nothing happened, the source was only read.
+    ghost same: { (a : S) → stays a a };
+
+    ghost twice: { (a b c : S) → stays a b → stays b c → stays a c };
+
+    ghost still_shows: { (records : Self) (a b : S) → stays a b → shows records a → shows records b };
+
+    ghost counts: { (a b : S) → stays a b → faults a ≤ faults b };
+}
+
+fn copied(alloc: Global, content: &ContentRecord) -> Mem<ContentRecord>
+    ensures { IfOk result (λ c. plain_content c ≡ plain_content content.now) }
+{
+    let mut cipher = Text::new(alloc);
+    cipher.append(content.cipher.as_slice())?;
+    Ok(ContentRecord {
+        kind: content.kind,
+        object: content.object,
+        key_serial: content.key_serial,
+        nonce: content.nonce,
+        cipher,
+        tag: content.tag,
+    })
+}
+
+fn contents_of(placed: &Placed) -> &[ContentRecord]
+    ensures { map plain_content result.now ≡ contents_in (plain_body placed.now.body) }
+{
+    match &placed.body {
+        Body::Commands(payload) => payload.contents.as_slice(),
+        Body::NewEpoch => &[],
+    }
+}
+
+/// Takes a copy of the content at a spot out of its batch. `Tampered` comes where the batch has no such content there.
+pub(crate) fn content_at(
+    alloc: Global,
+    placed: &Placed,
+    spot: &ContentSpot,
+    kind: u8,
+    object: u32,
+) -> Result<FoundContent, ClientFault>
+    requires { IsStanding placed.now }
+    ensures found { FindsAt kind object placed.now spot.now result }
+    ensures form { IfOk result (IsContentFor kind object) }
+    ensures seen { result ≢ Err ClientFault.Unseen }
+    ensures no_disk { result ≢ Err ClientFault.DiskFault }
+{
+    let changed = ClientFault::Tampered {
+        batch: spot.batch,
+        at: spot.at,
+    };
+    let Some(content) = contents_of(placed).get(spot.index) else {
+        return Err(changed);
+    };
+    if content.kind != kind || content.object != object {
+        return Err(changed);
+    }
+    let content = copied(alloc, content)?;
+    Ok(FoundContent {
+        batch: spot.batch,
+        at: spot.at,
+        content,
+    })
+}
+
+/// Takes the content at a spot out of its batch, of which nothing else is kept. `Tampered` comes where the batch has no such
+/// content there.
+pub fn take_content(
+    placed: Placed,
+    spot: &ContentSpot,
+    kind: u8,
+    object: u32,
+) -> Result<FoundContent, ClientFault>
+    requires { IsStanding placed }
+    ensures found { FindsAt kind object placed spot.now result }
+    ensures form { IfOk result (IsContentFor kind object) }
+    ensures seen { result ≢ Err ClientFault.Unseen }
+    ensures no_disk { result ≢ Err ClientFault.DiskFault }
+{
+    let changed = ClientFault::Tampered {
+        batch: spot.batch,
+        at: spot.at,
+    };
+    let Body::Commands(payload) = placed.body else {
+        return Err(changed);
+    };
+    let mut contents = payload.contents;
+    if contents.as_slice().len() <= spot.index {
+        return Err(changed);
+    }
+    let content = contents.swap_remove(spot.index);
+    if content.kind != kind || content.object != object {
+        return Err(changed);
+    }
+    Ok(FoundContent {
+        batch: spot.batch,
+        at: spot.at,
+        content,
+    })
+}
