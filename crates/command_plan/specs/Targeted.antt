@@ -7,7 +7,8 @@ use Rattle.cry_base.specs.declared.roles.Node.TheVariants.{Folder, File}
 use Rattle.folder_nodes.specs.Targets.{file_found}
 use Rattle.folder_nodes.specs.Titles.{Titles, bytes_in, title_at}
 use Rattle.folder_nodes.specs.declared.targets.Target.{Target}
-use Rattle.folder_nodes.specs.declared.targets.Target.TheVariants.{AddHolder, MakeFolder, WriteFile, Remove, Rename, Relocate, Grant, Revoke}
+use Rattle.folder_nodes.specs.declared.targets.Target.TheVariants.{AddHolder, MakeFolder, WriteFile, Remove, Rename}
+use Rattle.folder_nodes.specs.declared.targets.Target.TheVariants.{Relocate, Grant, Revoke}
 use Rattle.grant_book.specs.Granted.{Granted}
 use Rattle.grant_book.specs.Refused.{refusal_of_grant}
 use Rattle.journal_bytes.specs.Texting.{file_text}

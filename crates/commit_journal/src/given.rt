@@ -28,7 +28,8 @@ impl Given {
 
     /// One batch more, and what was known before it.
     pub(crate) fn adding(&self, _placed: &Placed, _past: &Past) -> Given
-        ensures { (result.batches ≡ self.now.batches ++ plain_placed _placed.now ∷ []) × (result.starts ≡ self.now.starts ++ _past.now ∷ []) }
+        ensures { (result.batches ≡ self.now.batches ++ plain_placed _placed.now ∷ [])
+            × (result.starts ≡ self.now.starts ++ _past.now ∷ []) }
     {
         Given {}
     }

@@ -14,7 +14,8 @@ use std::alloc::Global;
 impl Shape {
     /// The folders that are in the folder, by number.
     pub fn folders_in(&self, alloc: Global, f: FolderId) -> Mem<List<FolderId>>
-        ensures { IfOk result (λ l. AreListed (λ g. is_child_of f.0 (folder_entry self.now.tree g)) (map (λ (g : AnyFolder). g.0) l.items)) }
+        ensures { IfOk result (λ l. AreListed (λ g. is_child_of f.0 (folder_entry self.now.tree g))
+            (map (λ (g : AnyFolder). g.0) l.items)) }
     {
         self.is_tree();
         folders_among(alloc, self.folders_inside(f.0), self, f)

@@ -209,7 +209,8 @@ impl Reader {
         requires read { HasRead self.now log.now.given }
         requires starts { HasStarts self.now log.now.starts }
         requires shows { WhereTold (D.shown disk.old) (λ s. ShowsGiven log.now s) }
-        ensures answer { WhereTold (D.shown disk.old) (λ _. AnswersAs plain_line result (line_with bundle.now path.now (Ok log.now.given))) }
+        ensures answer { WhereTold (D.shown disk.old)
+            (λ _. AnswersAs plain_line result (line_with bundle.now path.now (Ok log.now.given))) }
         ensures read_only { IsOnlyRead D.shown D.size_of D.may_leave disk.old disk.new }
         ensures counts { D.faults disk.old ≤ D.faults disk.new }
         ensures disk_fault { result ≡ Err ClientFault.DiskFault → D.faults disk.old < D.faults disk.new }

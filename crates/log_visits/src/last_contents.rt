@@ -53,7 +53,8 @@ fn head_of(content: &ContentRecord) -> ContentHead
 /// Notes the spot of a content under its head, in the place of an earlier one.
 #[tactic(auto, using(crate::proofs::Lasts::content_noted, crate::proofs::Starts::start_noted))]
 fn note_content(last: &mut LastContents, spot: ContentSpot, content: &ContentRecord) -> Mem<()>
-    ensures noted { OnOk result ((log : List PlainPlaced) (so_far : List spec.PlacedContent) → IsContentAt log spot (plain_content content.now)
+    ensures noted { OnOk result ((log : List PlainPlaced) (so_far : List spec.PlacedContent)
+        → IsContentAt log spot (plain_content content.now)
         → HasLastContents log last.old so_far →
         HasLastContents log last.new (so_far ++ content_here spot.batch spot.at (plain_content content.now) ∷ [])) }
     ensures starts { OnOk result ((starts : List ThePast) → HaveStarts last.old starts → StartsAt starts spot.position spot.start

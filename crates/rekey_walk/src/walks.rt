@@ -21,7 +21,8 @@ pub fn mark_in(
     target: Role,
     steps: &mut Steps,
 ) -> Mem<()>
-    ensures ok { OnOk result (dirty.new ≡ mark dirty.old (edges (public_store roles.now.shape.now.tree roles.now.grants.now.pairs)) target) }
+    ensures ok { OnOk result (dirty.new
+        ≡ mark dirty.old (edges (public_store roles.now.shape.now.tree roles.now.grants.now.pairs)) target) }
     ensures err { OnErr result (dirty.new ≡ dirty.old) }
     ensures steps { OnOk result (let es = edges (public_store roles.now.shape.now.tree roles.now.grants.now.pairs) in
         steps.new ≤ steps.old + 2 * count_from es (reach_along es (target ∷ [])) + 1) }

@@ -1,5 +1,6 @@
 -- The edges at a role, and how many edges a walk meets.
-use Rattle.std.specs.Prelude.{◌≡◌, ◌↔◌, ℕ, Bool, false, not, cond, ◌==◌, List, [], ◌∷◌, ◌++◌, map, flat_map, filter, length, Option, Some, None, is_some}
+use Rattle.std.specs.Prelude.{◌≡◌, ◌↔◌, ℕ, Bool, false, not, cond, ◌==◌, List, [], ◌∷◌, ◌++◌, map, flat_map, filter, length}
+use Rattle.std.specs.Prelude.{Option, Some, None, is_some}
 use Rattle.cry_base.specs.Sets.{In, has}
 use Rattle.cry_base.specs.Store.{Store, FolderEntry, folder_entry}
 use Rattle.cry_base.specs.declared.roles.Edge.{Edge}

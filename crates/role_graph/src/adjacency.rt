@@ -18,7 +18,8 @@ impl<'a> StoreRoles<'a> {
     /// The edges out of the role: by kind, and then by the number of the role that each leads to. It counts a step for
     /// each of them, and one more.
     pub fn edges_from(&self, alloc: Global, role: Role, steps: &mut Steps) -> Mem<List<Edge>>
-        ensures edges { IfOk result (λ l. l.items ≡ out_of (unordered (public_store self.now.shape.now.tree self.now.grants.now.pairs)) role) }
+        ensures edges { IfOk result (λ l. l.items
+            ≡ out_of (unordered (public_store self.now.shape.now.tree self.now.grants.now.pairs)) role) }
         ensures steps { IfOk result (λ l. steps.new ≡ steps.old + length l.items + 1) }
     {
         let found = self.list_from(alloc, role)?;
@@ -29,7 +30,8 @@ impl<'a> StoreRoles<'a> {
     /// The edges into the role: by kind, and then by the number of the role that each leads from. It counts a step for
     /// each of them, and one more.
     pub fn edges_into(&self, alloc: Global, role: Role, steps: &mut Steps) -> Mem<List<Edge>>
-        ensures edges { IfOk result (λ l. l.items ≡ into (unordered (public_store self.now.shape.now.tree self.now.grants.now.pairs)) role) }
+        ensures edges { IfOk result (λ l. l.items
+            ≡ into (unordered (public_store self.now.shape.now.tree self.now.grants.now.pairs)) role) }
         ensures steps { IfOk result (λ l. steps.new ≡ steps.old + length l.items + 1) }
     {
         let found = self.list_into(alloc, role)?;
@@ -79,7 +81,8 @@ impl<'a> StoreRoles<'a> {
     }
 
     fn from_holder(&self, alloc: Global, h: HolderId) -> Mem<List<Edge>>
-        ensures { IfOk result (λ l. l.items ≡ out_of (unordered (public_store self.now.shape.now.tree self.now.grants.now.pairs)) (Holder h)) }
+        ensures { IfOk result (λ l. l.items
+            ≡ out_of (unordered (public_store self.now.shape.now.tree self.now.grants.now.pairs)) (Holder h)) }
     {
         self.shape.is_tree();
         let folders = self.grants.of_holder(h)?;
@@ -89,7 +92,8 @@ impl<'a> StoreRoles<'a> {
     }
 
     fn from_clear(&self, alloc: Global, f: FolderId) -> Mem<List<Edge>>
-        ensures { IfOk result (λ l. l.items ≡ out_of (unordered (public_store self.now.shape.now.tree self.now.grants.now.pairs)) (Clear f)) }
+        ensures { IfOk result (λ l. l.items
+            ≡ out_of (unordered (public_store self.now.shape.now.tree self.now.grants.now.pairs)) (Clear f)) }
     {
         self.shape.is_tree();
         self.within(alloc, f, &[kinds::clear_to_sub(f)])
@@ -107,7 +111,8 @@ impl<'a> StoreRoles<'a> {
     }
 
     fn from_back(&self, alloc: Global, f: FolderId) -> Mem<List<Edge>>
-        ensures { IfOk result (λ l. l.items ≡ out_of (unordered (public_store self.now.shape.now.tree self.now.grants.now.pairs)) (Back f)) }
+        ensures { IfOk result (λ l. l.items
+            ≡ out_of (unordered (public_store self.now.shape.now.tree self.now.grants.now.pairs)) (Back f)) }
     {
         self.shape.is_tree();
         let mut found = self.within(alloc, f, &[kinds::back_to_data(f)])?;
@@ -119,7 +124,8 @@ impl<'a> StoreRoles<'a> {
     }
 
     fn from_files(&self, alloc: Global, f: FolderId) -> Mem<List<Edge>>
-        ensures { IfOk result (λ l. l.items ≡ out_of (unordered (public_store self.now.shape.now.tree self.now.grants.now.pairs)) (Files f)) }
+        ensures { IfOk result (λ l. l.items
+            ≡ out_of (unordered (public_store self.now.shape.now.tree self.now.grants.now.pairs)) (Files f)) }
     {
         self.shape.is_tree();
         let files = self.shape.files_in(alloc, f)?;

@@ -23,9 +23,11 @@ pub fn walk(
     steps: &mut Steps,
 ) -> Mem<RoleSet>
     ensures reached { IfOk result (λ s. (r : AnyRole) → In r s
-        ↔ IsReached (as_walked way (edges_but removed.now (unordered (public_store roles.now.shape.now.tree roles.now.grants.now.pairs)))) from.now r) }
+        ↔ IsReached (as_walked way
+        (edges_but removed.now (unordered (public_store roles.now.shape.now.tree roles.now.grants.now.pairs)))) from.now r) }
     ensures steps { IfOk result (λ s. steps.new ≤ steps.old
-        + 2 * count_from (as_walked way (unordered (public_store roles.now.shape.now.tree roles.now.grants.now.pairs))) s + length from.now) }
+        + 2 * count_from (as_walked way (unordered (public_store roles.now.shape.now.tree roles.now.grants.now.pairs))) s
+        + length from.now) }
 {
     let mut found = List::new(alloc);
     // A sorted list would move its rows for each role that comes before others.
@@ -52,7 +54,8 @@ fn ends_ahead(
     steps: &mut Steps,
 ) -> Mem<List<Role>>
     ensures ends { IfOk result (λ l. l.items
-        ≡ ends_from (as_walked way (edges_but removed.now (unordered (public_store roles.now.shape.now.tree roles.now.grants.now.pairs)))) role) }
+        ≡ ends_from (as_walked way
+        (edges_but removed.now (unordered (public_store roles.now.shape.now.tree roles.now.grants.now.pairs)))) role) }
     ensures steps { IfOk result (λ l. steps.new ≡ steps.old
         + length (out_of (as_walked way (unordered (public_store roles.now.shape.now.tree roles.now.grants.now.pairs))) role) + 1) }
 {

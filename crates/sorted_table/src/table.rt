@@ -1,5 +1,6 @@
 //! Rows in ascending order of their ranks.
-ghost use Rattle.std.specs.Prelude.{◌≡◌, ◌+◌, ◌-◌, ◌<◌, ◌≤◌, ◌&&◌, [], cond, length, nat_le, nat_lt, filter, IsOk, IsSome, OnOk, IfOk, IfErr, IsTrue, MatchOption};
+ghost use Rattle.std.specs.Prelude.{◌≡◌, ◌+◌, ◌-◌, ◌<◌, ◌≤◌, ◌&&◌, [], cond, length, nat_le, nat_lt, filter, IsOk, IsSome};
+ghost use Rattle.std.specs.Prelude.{OnOk, IfOk, IfErr, IsTrue, MatchOption};
 ghost use Rattle.std.specs.Prelude.{◌↔◌, ◌≢◌, None, AllPairs};
 ghost use Rattle.std.specs.Fn.{CalledAt};
 ghost use Rattle.std.specs.List.{HoldsAt, insert, remove};
