@@ -1,5 +1,5 @@
 -- How `gen` ends, where its script does or the making of its store.
-use Rattle.std.proofs.Common.{◌≡◌, ◌≢◌, ◌<◌, ◌+◌, ◌⊎◌, ℕ, List, [], ◌++◌, length, Option, Some, None, inl, inr, refl, sym, ap, subst, ◌∙◌}
+use Rattle.std.proofs.Common.{◌≡◌, ◌≢◌, ◌<◌, ◌+◌, ◌⊎◌, ℕ, List, [], ◌++◌, length, Option, Some, None, Result, Ok, Err, inl, inr, refl, sym, ap, subst, ◌∙◌}
 use Rattle.std.specs.Prelude.{is_some, IsTrue}
 use Rattle.std.proofs.lemmas.Bool.{false≢true}
 use Rattle.cry_base.specs.declared.limits.Limits.{Limits}
@@ -186,6 +186,13 @@ unmade R D left (faults.RandomShort had need) random_old random_new disk_old dis
 unmade R D left faults.DiskFault random_old random_new disk_old disk_new told short drew unclosed none kept = drew refl
 unmade R D left faults.Closed random_old random_new disk_old disk_new told short drew unclosed none kept = absurd (unclosed refl)
 unmade R D left faults.OutOfMemory random_old random_new disk_old disk_new told short drew unclosed none kept = none refl
+
+-- a script that was applied didn't stop; and one that stopped did so in one way
+pub not_stopped : (status : Status) → (let r : Result (Unit {0}) Status = Ok tt in r) ≢ Err status
+not_stopped status is = cc
+
+pub same_stop : (one other : Status) → (let r : Result (Unit {0}) Status = Err one in r) ≡ Err other → one ≡ other
+same_stop one other is = cc
 
 -- what isn't told as a fault of the disk isn't one
 pub other_fault : (fault : ApplyFault) → apply_status fault ≢ DiskFault → fault ≢ faults.DiskFault

@@ -1,6 +1,7 @@
 -- How `make` ends where the making of its store does.
-use Rattle.std.proofs.Common.{◌≡◌, ◌≢◌, ◌+◌, ◌<◌, ◌⊎◌, ◌++◌, ◌∷◌, ℕ, List, [], Option, length, arith, refl, sym, ap, subst, ◌∙◌, inl, inr, length-append}
+use Rattle.std.proofs.Common.{◌≡◌, ◌≢◌, ◌+◌, ◌<◌, ◌⊎◌, ⊎_elim, ◌++◌, ◌∷◌, ℕ, List, [], Option, length, arith, refl, sym, ap, subst, ◌∙◌, inl, inr, length-append}
 use Rattle.std.specs.Prelude.{is_some, true, false, IsTrue}
+use Rattle.std.proofs.lemmas.Bool.{false≢true}
 use Rattle.cry_io.specs.Stops.{IsDurable}
 use Rattle.cry_io.specs.Told.{WhereTold, WhereBothTold}
 use Rattle.key_links.specs.Fresh.{fresh_draw_len, fresh_image, piece}
@@ -18,7 +19,7 @@ use Rattle.store_owner.specs.declared.apply_fault.ApplyFault.TheVariants as faul
 use Rattle.cryptree_cli.specs.declared.status.Status.{Status}
 use Rattle.cryptree_cli.specs.declared.status.Status.TheVariants.{Done, Usage, BadScript, ReadFault, NotAStore, Damaged, WrongKey, Tampered, WriteFault, DiskFault, RandomFault, RandomShort, OutOfMemory, NotBlank, NoHolder, Unseen}
 use Rattle.cryptree_cli.specs.Running.{apply_status}
-use Rattle.cryptree_cli.specs.Status.{is_make_answer}
+use Rattle.cryptree_cli.specs.Status.{is_before_draw, is_before_print, is_before_write, is_make_answer}
 use Rattle.cryptree_cli.specs.Making.{EndsShort, IsShort, Makes}
 
 -- the image of a fresh store is that of its journal
@@ -117,3 +118,30 @@ done_or_no_memory OutOfMemory a b c d e f = inr refl
 done_or_no_memory NotBlank a b c d e f = absurd (b refl)
 done_or_no_memory (NoHolder known) a b c d e f = absurd (let no : false ≡ true = a in cc)
 done_or_no_memory Unseen a b c d e f = absurd (let no : false ≡ true = a in cc)
+
+-- ---- a store that stands, whose owner's line was printed or met a fault
+
+module _ (status : Status) (told : (status ≡ Done) ⊎ (status ≡ WriteFault)) where
+  pub told_answers : IsTrue (is_make_answer status)
+  told_answers = ⊎_elim (λ e. subst (λ s. IsTrue (is_make_answer s)) (sym e) refl) (λ e. subst (λ s. IsTrue (is_make_answer s)) (sym e) refl) told
+
+  pub told_not_blank : status ≢ NotBlank
+  told_not_blank is = ⊎_elim (λ e. let both = sym e ∙ is in cc) (λ e. let both = sym e ∙ is in cc) told
+
+  pub told_not_short : (left need : ℕ) → status ≢ RandomShort left need
+  told_not_short left need is = ⊎_elim (λ e. let both = sym e ∙ is in cc) (λ e. let both = sym e ∙ is in cc) told
+
+  pub told_not_undrawn : status ≢ RandomFault
+  told_not_undrawn is = ⊎_elim (λ e. let both = sym e ∙ is in cc) (λ e. let both = sym e ∙ is in cc) told
+
+  pub told_not_unwritten : status ≢ DiskFault
+  told_not_unwritten is = ⊎_elim (λ e. let both = sym e ∙ is in cc) (λ e. let both = sym e ∙ is in cc) told
+
+  pub told_drew : IsTrue (is_before_draw status) → ⊥
+  told_drew early = false≢true (⊎_elim (λ e. ap is_before_draw (sym e) ∙ early) (λ e. ap is_before_draw (sym e) ∙ early) told)
+
+  pub told_wrote : IsTrue (is_before_write status) → ⊥
+  told_wrote early = false≢true (⊎_elim (λ e. ap is_before_write (sym e) ∙ early) (λ e. ap is_before_write (sym e) ∙ early) told)
+
+  pub told_printed : IsTrue (is_before_print status) → ⊥
+  told_printed early = false≢true (⊎_elim (λ e. ap is_before_print (sym e) ∙ early) (λ e. ap is_before_print (sym e) ∙ early) told)

@@ -4,7 +4,7 @@ use Rattle.store_owner.specs.Tallied.{tally_in}
 use Rattle.cryptree_cli.specs.Figures.{spell_figures}
 use Rattle.cryptree_cli.specs.Stopping.{LinesKeepUpTo}
 use Rattle.cryptree_cli.specs.declared.status.Status.TheVariants as statuses
-use Rattle.cryptree_cli.proofs.GenerateLemmas.{never_stop, never_told, stop_answers, stop_fills, told_answers, told_before, told_fills}
+use Rattle.cryptree_cli.proofs.GenerateLemmas.{never_stop, never_told, not_stopped, same_stop, stop_answers, stop_fills, told_answers, told_before, told_fills}
 use Rattle.cryptree_cli.proofs.generating.fill.Goals as goal
 
 pub returns-in-Ok-clause-answers : goal.returns-in-Ok-clause-answers
@@ -37,7 +37,7 @@ returns-in-Ok-clause-out_kept g c = λ before.
     told_before (owner_line c.apply_script.new.owner.key ++ spell_figures (tally_in c.apply_script.new.owner)) (g.W.Sink.written c.args.out.now) (g.W.Sink.written c.tell_outcome.new.out) c.tell_outcome.result c.tell_outcome.ensures.tells c.tell_outcome.ensures.kept before
 
 pub returns-in-Ok-clause-calm : goal.returns-in-Ok-clause-calm
-returns-in-Ok-clause-calm g c = λ other. c.in-Ok.ensures.calm (λ e. absurd cc)
+returns-in-Ok-clause-calm g c = λ other. c.in-Ok.ensures.calm (not_stopped statuses.DiskFault)
 
 pub returns-clause-answers : goal.returns-clause-answers
 returns-clause-answers g c = stop_answers c.in-Err.status c.in-Err.ensures.stops
@@ -52,7 +52,7 @@ returns-clause-fills g c = λ seed count key m few is begins.
     (g.W.Sink.written c.args.out.now) (g.W.Sink.written c.args.out.now) c.in-Err.status c.in-Err.ensures.stops (c.in-Err.ensures.applies seed count key m few is begins)
 
 pub returns-clause-calm : goal.returns-clause-calm
-returns-clause-calm g c = λ other. c.in-Err.ensures.calm (λ e. other (let same : c.in-Err.status ≡ statuses.DiskFault = cc in same))
+returns-clause-calm g c = λ other. c.in-Err.ensures.calm (λ e. other (same_stop c.in-Err.status statuses.DiskFault e))
 
 pub returns-clause-short : goal.returns-clause-short
 returns-clause-short g c = λ left need is. c.in-Err.ensures.short left need (ap Err is)

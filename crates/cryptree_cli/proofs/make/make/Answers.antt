@@ -1,11 +1,11 @@
-use Rattle.std.proofs.Common.{List, ℕ, Err, ap, sym, ◌∙◌, subst}
+use Rattle.std.proofs.Common.{List, ℕ, Err, ap, arith, sym, ◌∙◌, subst}
 use Rattle.cry_io.specs.Told.{WhereBothTold, WhereTold}
 use Rattle.script_text.specs.Printing.{owner_line}
 use Rattle.cryptree_cli.specs.declared.status.Status.{Status}
 use Rattle.cryptree_cli.specs.Running.{version_limits}
 use Rattle.cryptree_cli.specs.Making.{EndsShort}
 use Rattle.cryptree_cli.specs.Outside.{PrintsAll, PrintsFront}
-use Rattle.cryptree_cli.proofs.MakeLemmas.{ends_short, is_short, makes, never_fewer, short_of}
+use Rattle.cryptree_cli.proofs.MakeLemmas.{ends_short, is_short, makes, never_fewer, short_of, told_answers, told_drew, told_not_blank, told_not_short, told_not_undrawn, told_not_unwritten, told_printed, told_wrote}
 use Rattle.cryptree_cli.proofs.make.make.Goals as goal
 
 pub returns-in-Ok-make-clause-short_only : goal.returns-in-Ok-make-clause-short_only
@@ -40,3 +40,28 @@ returns-in-Err-clause-short_only g c = λ blank.
     subst (λ (s : Status). WhereTold (g.R.Source.left c.args.random.now) (EndsShort s)) (sym c.apply_status.ensures)
     (ends_short c.in-Err.fault (g.R.Source.left c.args.random.now) (g.R.Source.left c.make.new.random) c.in-Err.ensures.source_told
     (λ short need is. c.in-Err.ensures.short short need (ap (λ f. Err f) is)) (λ is. c.in-Err.ensures.drew (ap (λ f. Err f) is)) (λ is. c.in-Err.ensures.not_closed (ap (λ f. Err f) is)))
+
+pub returns-in-Ok-make-clause-answers : goal.returns-in-Ok-make-clause-answers
+returns-in-Ok-make-clause-answers g c = told_answers c.tell.result c.tell.ensures.answers
+
+pub returns-in-Ok-make-clause-not_blank : goal.returns-in-Ok-make-clause-not_blank
+returns-in-Ok-make-clause-not_blank g c =
+    (λ is. absurd (told_not_blank c.tell.result c.tell.ensures.answers is), λ full. absurd (full (omega (arith, c.size.ensures))))
+
+pub returns-in-Ok-make-clause-short : goal.returns-in-Ok-make-clause-short
+returns-in-Ok-make-clause-short g c = λ left need is. absurd (told_not_short c.tell.result c.tell.ensures.answers left need is)
+
+pub returns-in-Ok-make-clause-random_fault : goal.returns-in-Ok-make-clause-random_fault
+returns-in-Ok-make-clause-random_fault g c = λ is. absurd (told_not_undrawn c.tell.result c.tell.ensures.answers is)
+
+pub returns-in-Ok-make-clause-disk_fault : goal.returns-in-Ok-make-clause-disk_fault
+returns-in-Ok-make-clause-disk_fault g c = λ is. absurd (told_not_unwritten c.tell.result c.tell.ensures.answers is)
+
+pub returns-in-Ok-make-clause-random_kept : goal.returns-in-Ok-make-clause-random_kept
+returns-in-Ok-make-clause-random_kept g c = λ early. absurd (told_drew c.tell.result c.tell.ensures.answers early)
+
+pub returns-in-Ok-make-clause-disk_kept : goal.returns-in-Ok-make-clause-disk_kept
+returns-in-Ok-make-clause-disk_kept g c = λ early. absurd (told_wrote c.tell.result c.tell.ensures.answers early)
+
+pub returns-in-Ok-make-clause-out_kept : goal.returns-in-Ok-make-clause-out_kept
+returns-in-Ok-make-clause-out_kept g c = λ early. absurd (told_printed c.tell.result c.tell.ensures.answers early)
