@@ -1,4 +1,6 @@
+pub mod Dropped
 pub mod Fitted
 pub mod Lists
+pub mod Looked
 pub mod Matched
 pub mod Ordered

@@ -1,7 +1,7 @@
 //! One grant, and its place among all.
 ghost use Rattle.std.specs.Prelude.{◌≡◌, ◌<◌, ◌^◌, ◌==◌};
 ghost use Rattle.grant_book.specs.Granted.{grant_of};
-ghost use Rattle.grant_book.specs.Ranks.{rank_of};
+ghost use Rattle.grant_book.specs.Ranks.{rank_of, rank_on};
 
 use cry_base::{FolderId, HolderId};
 use sorted_table::{Key, Ranked};
@@ -44,13 +44,6 @@ impl Grant {
         self.folder.0 == folder.0
     }
 
-    /// Whether it is a grant to the holder.
-    pub(crate) fn is_of(&self, holder: HolderId) -> bool
-        ensures { result ≡ (self.now.holder == holder.0) }
-    {
-        self.holder.0 == holder.0
-    }
-
     // Orders grants by holder and then by folder.
     fn rank(self) -> u64
         ensures { result ≡ rank_of self }
@@ -71,6 +64,44 @@ impl Key<Grant> for Grant {
     ghost sought = { rank_of };
 
     fn compare_row(&self, row: &Grant) -> Ordering {
+        row.compare(self)
+    }
+}
+
+/// A grant in the order by folder and then by holder.
+#[derive(Clone, Copy, Debug)]
+pub(crate) struct GrantOn(pub(crate) Grant);
+
+impl Model for GrantOn {
+    ghost use Rattle.cry_base.specs.Store.{GrantEntry};
+
+    ghost Value = { GrantEntry };
+
+    ghost view = { λ grant. grant.0 };
+
+    ghost inverse = { λ entry. record { 0 = entry } };
+}
+
+impl GrantOn {
+    fn rank(self) -> u64
+        ensures { result ≡ rank_on self }
+    {
+        u64::from(self.0.folder.0) * 0x1_0000_0000 + u64::from(self.0.holder.0)
+    }
+}
+
+impl Ranked for GrantOn {
+    ghost rank = { rank_on };
+
+    fn compare(&self, other: &Self) -> Ordering {
+        self.rank().cmp(&other.rank())
+    }
+}
+
+impl Key<GrantOn> for GrantOn {
+    ghost sought = { rank_on };
+
+    fn compare_row(&self, row: &GrantOn) -> Ordering {
         row.compare(self)
     }
 }

@@ -1,16 +1,23 @@
 //! The list of holders and the list of grants.
 ghost use Rattle.std.specs.Prelude.{◌≡◌, [], ◌∷◌, ◌++◌, ◌+◌, ◌^◌, ◌<◌, ◌≤◌, ◌↔◌, length, IsOk, OnOk, IfOk, IsTrue, AllPairs};
+ghost use Rattle.std.specs.Prelude.{◌==◌, filter, MatchOption};
 ghost use Rattle.std.specs.List.{list_any};
 ghost use Rattle.cry_base.specs.Sets.{In};
 ghost use Rattle.cry_base.specs.Store.{GrantEntry};
+ghost use Rattle.cry_base.specs.declared.ids.FolderId.{FolderId as FolderNumber};
+ghost use Rattle.cry_base.specs.declared.ids.HolderId.{HolderId as HolderNumber};
 ghost use Rattle.grant_book.specs.Granted.{AreOrdered, IsHolder, check_at, is_grant, grant_of, holders_on, folders_of, with_pair};
 ghost use Rattle.grant_book.specs.Granted.{without_pair, without_pairs_on};
 
 use crate::Grant;
+use crate::grant::GrantOn;
 use cry_base::{FolderId, HolderId, List, Mem};
 use sorted_table::Table;
 use std::alloc::Global;
 use std::marker::Model;
+
+// So many grants on a folder go one by one. Each moves the rows behind it, and beyond this a pass over all is cheaper.
+const FEW: usize = 12;
 
 /// The holders in the order of their numbers, each with the check by which a key is tested, and all grants. `spare` is
 /// how many changes fit without memory; it may be more than was asked for.
@@ -18,6 +25,8 @@ use std::marker::Model;
 pub struct Grants {
     checks: Vec<[u8; 32]>,
     pairs: Table<Grant>,
+    // The same grants by folder, so that those on one folder are found without a look at others.
+    on_folders: Table<GrantOn>,
 }
 
 impl Model for Grants {
@@ -30,10 +39,10 @@ impl Model for Grants {
     ghost view = { λ g. record {
       checks = g.checks.items;
       pairs = g.pairs.rows;
-      spare = min (vec_capacity g.checks - vec_len g.checks) g.pairs.spare;
+      spare = min (vec_capacity g.checks - vec_len g.checks) (min g.pairs.spare g.on_folders.spare);
     } };
 
-    ghost invariant = { λ g. Fits g.checks.items g.pairs.rows };
+    ghost invariant = { λ g. Fits g.checks.items g.pairs.rows g.on_folders.rows };
 }
 
 impl Grants {
@@ -45,6 +54,7 @@ impl Grants {
         Grants {
             checks: Vec::new(alloc),
             pairs: Table::new(alloc),
+            on_folders: Table::new(alloc),
         }
     }
 
@@ -57,7 +67,8 @@ impl Grants {
         ensures has_room { 1 ≤ self.old.spare → IsOk result }
     {
         self.checks.reserve(1)?;
-        self.pairs.reserve(1)
+        self.pairs.reserve(1)?;
+        self.on_folders.reserve(1)
     }
 
     /// Makes the next holder, where there is room. It takes no memory.
@@ -82,7 +93,9 @@ impl Grants {
         ensures pairs { self.new.pairs ≡ with_pair self.old.pairs (grant_of h.0 f.0) }
         ensures spare { self.old.spare ≤ self.new.spare + 1 }
     {
-        self.pairs.insert(Grant::new(h, f));
+        let grant = Grant::new(h, f);
+        self.pairs.insert(grant);
+        self.on_folders.insert(GrantOn(grant));
     }
 
     /// Takes the holder's grant on the folder back. It takes no memory.
@@ -92,16 +105,35 @@ impl Grants {
         ensures pairs { self.new.pairs ≡ without_pair self.old.pairs h.0 f.0 }
         ensures spare { self.old.spare ≤ self.new.spare }
     {
-        self.pairs.remove(&Grant::new(h, f));
+        let grant = Grant::new(h, f);
+        self.pairs.remove(&grant);
+        self.on_folders.remove(&GrantOn(grant));
     }
 
-    /// Takes all grants on the folder back. It takes no memory, and looks at each grant once.
+    /// Takes all grants on the folder back. It takes no memory. Where they are few it looks at no others, and else
+    /// at each grant once.
     pub fn drop_folder(&mut self, f: FolderId)
         ensures checks { self.new.checks ≡ self.old.checks }
         ensures pairs { self.new.pairs ≡ without_pairs_on self.old.pairs f.0 }
         ensures spare { self.old.spare ≤ self.new.spare }
     {
+        if self.grants_on(f).len() > FEW {
+            self.keep_others(f);
+            return;
+        }
+        while let Some(grant) = self.first_on(f) {
+            self.revoke(grant.holder, f);
+        }
+    }
+
+    /// Takes all grants on the folder back, in one pass over all.
+    fn keep_others(&mut self, f: FolderId)
+        ensures checks { self.new.checks ≡ self.old.checks }
+        ensures pairs { self.new.pairs ≡ without_pairs_on self.old.pairs f.0 }
+        ensures spare { self.old.spare ≤ self.new.spare }
+    {
         self.pairs.retain(|pair| !pair.is_on(f));
+        self.on_folders.retain(|on| !on.0.is_on(f));
     }
 
     /// An equal list of holders and of grants.
@@ -112,6 +144,7 @@ impl Grants {
         Ok(Grants {
             checks: Vec::from_slice(*self.checks.allocator(), &self.checks)?,
             pairs: self.pairs.copy()?,
+            on_folders: self.on_folders.copy()?,
         })
     }
 
@@ -150,31 +183,59 @@ impl Grants {
         self.pairs.find(&Grant::new(h, f)).is_some()
     }
 
-    /// The holders that have a grant on that very folder, ascending. It looks at each grant once.
+    /// The holders that have a grant on that very folder, ascending. It looks at no other grant.
     pub fn of_folder(&self, f: FolderId) -> Mem<List<HolderId>>
         ensures holders { IfOk result (λ l. l.items ≡ holders_on self.now.pairs f.0) }
         ensures ascending { IfOk result (λ l. AllPairs (λ a b. a.0 < b.0) l.items) }
     {
         let mut found = List::new(*self.checks.allocator());
-        for pair in self.pairs.as_slice() {
-            if pair.is_on(f) {
-                found.push(pair.holder)?;
-            }
+        for pair in self.grants_on(f) {
+            found.push(pair.0.holder)?;
         }
         Ok(found)
     }
 
-    /// The folders on which the holder has a grant, ascending. It looks at each grant once.
+    /// The folders on which the holder has a grant, ascending. It looks at no other grant.
     pub fn of_holder(&self, h: HolderId) -> Mem<List<FolderId>>
         ensures folders { IfOk result (λ l. l.items ≡ folders_of self.now.pairs h.0) }
         ensures ascending { IfOk result (λ l. AllPairs (λ a b. a.0 < b.0) l.items) }
     {
         let mut found = List::new(*self.checks.allocator());
-        for pair in self.pairs.as_slice() {
-            if pair.is_of(h) {
-                found.push(pair.folder)?;
-            }
+        for pair in self.grants_of(h) {
+            found.push(pair.folder)?;
         }
         Ok(found)
+    }
+
+    /// The holder's grants, by folder.
+    fn grants_of(&self, h: HolderId) -> &[Grant]
+        ensures grants { result.now ≡ filter (λ e. e.holder == h.0) self.now.pairs }
+        ensures ascending { AllPairs (λ (a b : FolderNumber). a.0 < b.0) (folders_of self.now.pairs h.0) }
+    {
+        let _pairs = self.pairs();
+        let first = Grant::new(h, FolderId(0));
+        let last = Grant::new(h, FolderId(u32::MAX));
+        self.pairs.rows_between(&first, &last)
+    }
+
+    /// The grants on that very folder, by holder.
+    fn grants_on(&self, f: FolderId) -> &[GrantOn]
+        ensures grants { result.now ≡ filter (λ e. e.folder == f.0) self.now.pairs }
+        ensures ascending { AllPairs (λ (a b : HolderNumber). a.0 < b.0) (holders_on self.now.pairs f.0) }
+    {
+        let _pairs = self.pairs();
+        let first = GrantOn(Grant::new(HolderId(0), f));
+        let last = GrantOn(Grant::new(HolderId(u32::MAX), f));
+        self.on_folders.rows_between(&first, &last)
+    }
+
+    /// The first of the grants on that very folder.
+    fn first_on(&self, f: FolderId) -> Option<Grant>
+        ensures { MatchOption result (without_pairs_on self.now.pairs f.0 ≡ self.now.pairs) (λ e. In e self.now.pairs × (e.folder ≡ f.0)) }
+    {
+        match self.grants_on(f).first() {
+            Some(on) => Some(on.0),
+            None => None,
+        }
     }
 }

@@ -1,6 +1,6 @@
-use Rattle.std.proofs.Common.{◌≡◌, take}
-use Rattle.grant_book.specs.Granted.{holders_on}
+use Rattle.std.proofs.Common.{◌≡◌, map, take}
+use Rattle.cry_base.specs.Store.{GrantEntry}
 use Rattle.grant_book.proofs.grants.Grants.of_folder.Given as goal
 
 abbrev pub invariant-loop-pair : goal.invariant-loop-pair
-invariant-loop-pair l = l.found.items ≡ holders_on (take l.pair-index l.pair-items) l.f.0
+invariant-loop-pair l = l.found.items ≡ map (λ (e : GrantEntry). record { 0 = e.holder }) (take l.pair-index l.pair-items)

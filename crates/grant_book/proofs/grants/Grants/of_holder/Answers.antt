@@ -1,13 +1,13 @@
-use Rattle.std.proofs.Common.{◌≡◌, ◌∙◌, ap, arith}
+use Rattle.std.proofs.Common.{◌∙◌, map, ap, arith}
 use Rattle.std.proofs.lemmas.List.{take_all}
-use Rattle.grant_book.specs.Granted.{folders_of}
-use Rattle.grant_book.proofs.Ordered.{ordered, folders_rise}
+use Rattle.cry_base.specs.Store.{GrantEntry}
 use Rattle.grant_book.proofs.grants.Grants.of_holder.Goals as goal
 
-pub returns-clause-ascending : goal.returns-clause-ascending
-returns-clause-ascending c =
-    let rows = c.self.inside.pairs.rows in
-    let read = c.as_slice-pair-items in
+pub returns-clause-folders : goal.returns-clause-folders
+returns-clause-folders c =
+    let read = c.grants_of-pair-items in
     let whole = take_all c.loop-pair.pair-index read.result.now (omega arith) in
-    let listed : c.loop-pair.found.items ≡ folders_of rows c.args.h.0 = c.loop-pair.invariant ∙ ap (λ xs. folders_of xs c.args.h.0) (whole ∙ read.ensures.rows) in
-    rw listed (folders_rise rows c.args.h.0 (ordered rows c.self.invariant.numbered read.ensures.rising))
+    c.loop-pair.invariant ∙ ap (map (λ (e : GrantEntry). record { 0 = e.folder })) (whole ∙ read.ensures.grants)
+
+pub returns-clause-ascending : goal.returns-clause-ascending
+returns-clause-ascending c = rw (returns-clause-folders c) c.grants_of-pair-items.ensures.ascending
