@@ -1,10 +1,11 @@
 -- What a binary search finds among rising rows.
-use Rattle.std.proofs.Common.{◌≡◌, ℕ, ◌<◌, ◌≤◌, List, length, get_or, Result, Ok, Err, IfOk, IfErr, ⊎_elim, sym, ap, arith}
+use Rattle.std.proofs.Common.{◌≡◌, ℕ, ◌+◌, ◌<◌, ◌≤◌, List, length, get_or, Result, Ok, Err, IfOk, IfErr, ⊎_elim, sym, ap, arith}
 use Rattle.std.specs.List.Sorted.{IsSearchInRange, IsBinarySearchResult, IsNonDecreasingBy}
 use Rattle.std.specs.Ordering.{nat_cmp, ordering_index}
 use Rattle.std.proofs.lemmas.Cmp.{ranked}
 use Rattle.std.proofs.lemmas.Bool.{cases_lt}
 use Rattle.std.proofs.lemmas.Bool.Decides.{nat_tests}
+use Rattle.std.proofs.lemmas.List.{get_or_default}
 use Rattle.sorted_table.specs.Rows.{IsRising}
 use Rattle.sorted_table.specs.Places.{IsAt, IsGapFor}
 
@@ -34,3 +35,16 @@ searched T rank rows k rising (Err at) within parted = record {
     λ j d low high. ranked _ k _ (sym ((parted (comparisons_rise T rank rows k rising)).1 j d low high)),
   );
 }
+
+-- where the last row is below the rank, the gap is behind all
+pub behind_all : (T : Type 0) (rank : T → ℕ) (rows : List T) (k last : ℕ) (row : T) → IsRising rank rows → length rows ≡ last + 1
+    → row ≡ get_or rows last row → rank row < k → IsGapFor rank rows k (length rows)
+behind_all T rank rows k last row rising size is below = (
+  omega arith,
+  λ j d low high.
+      let up : rank (get_or rows j row) ≤ rank (get_or rows last row) = rank_rises T rank rows rising j last row (omega (arith, high, size)) (omega (arith, size)) in
+      let one : rank (get_or rows j d) ≡ rank (get_or rows j row) = ap rank (get_or_default rows j d row high) in
+      let end : rank row ≡ rank (get_or rows last row) = ap rank is in
+      omega (arith, up, one, end, below),
+  λ j d low high. absurd (omega (arith, low, high)),
+)

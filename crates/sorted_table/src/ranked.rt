@@ -20,6 +20,12 @@ pub trait Key<T: Ranked> {
     /// How the row's rank compares with the one that is sought.
     fn compare_row(&self, row: &T) -> Ordering
         ensures { result ≡ nat_cmp (T.rank row.now) (sought self.now) };
+
+    /// The place where a look-up looks first: that of the row, if no row before it ever went. A wrong guess costs one
+    /// comparison, and one past the end stands for the last row.
+    fn guess(&self) -> usize {
+        usize::MAX
+    }
 }
 
 /// The rank of a row at hand.

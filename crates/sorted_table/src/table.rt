@@ -18,8 +18,8 @@ use std::cmp::Ordering;
 use std::marker::Model;
 
 /// Rows in ascending order of their ranks, which all differ. `spare` is how many more fit without memory; it may be
-/// more than was asked for. A look-up among n rows compares about log2(n) times; a row that comes or goes moves those
-/// behind it.
+/// more than was asked for. A look-up compares once where the key guesses its row's place or where the row goes behind all,
+/// and among n rows about log2(n) times elsewhere; a row that comes or goes moves those behind it.
 #[derive(Drop)]
 pub struct Table<T: Ranked> {
     rows: Vec<T>,
@@ -222,13 +222,21 @@ fn rows_to<'a, T: Ranked, K: Key<T>>(rows: &'a [T], key: &K) -> &'a [T]
     }
 }
 
-// Where the key's row is, or where it would go.
+// Where the key's row is, or where it would go. One comparison finds a row that is where the key guesses, or that goes behind all.
 fn place_of<T: Ranked, K: Key<T>>(rows: &[T], key: &K) -> Result<usize, usize>
     requires { IsRising T.rank rows.now }
     ensures found { IfOk result (IsAt T.rank rows.now (K.sought key.now)) }
     ensures absent { IfErr result (IsGapFor T.rank rows.now (K.sought key.now)) }
 {
-    rows.binary_search_by(|row| key.compare_row(row))
+    let Some(last) = rows.len().checked_sub(1) else {
+        return Err(0);
+    };
+    let at = key.guess().min(last);
+    match key.compare_row(&rows[at]) {
+        Ordering::Equal => Ok(at),
+        Ordering::Less if at == last => Err(rows.len()),
+        _ => rows.binary_search_by(|row| key.compare_row(row)),
+    }
 }
 
 // Moves the row at the place `from` to before what is at the place `to`.
