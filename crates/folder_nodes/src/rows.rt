@@ -72,6 +72,10 @@ impl Key<FolderRow> for FolderKey {
     fn compare_row(&self, row: &FolderRow) -> Ordering {
         row.id.0.cmp(&self.0)
     }
+
+    fn guess(&self) -> usize {
+        (self.0 as usize).saturating_sub(1)
+    }
 }
 
 /// The number of a file that is looked up.
@@ -83,5 +87,9 @@ impl Key<FileRow> for FileKey {
 
     fn compare_row(&self, row: &FileRow) -> Ordering {
         row.id.0.cmp(&self.0)
+    }
+
+    fn guess(&self) -> usize {
+        (self.0 as usize).saturating_sub(1)
     }
 }

@@ -47,6 +47,10 @@ impl Key<NameRow> for NameKey {
     fn compare_row(&self, row: &NameRow) -> Ordering {
         row.id.cmp(&self.0)
     }
+
+    fn guess(&self) -> usize {
+        (self.0 as usize).saturating_sub(1)
+    }
 }
 
 /// The first eight bytes of the name's SHA-256, as a number.
