@@ -128,4 +128,14 @@ impl sorted_table::Key<AnyKey> for Place {
     fn compare_row(&self, row: &AnyKey) -> Ordering {
         row.place().0.cmp(&self.0)
     }
+
+    // Of the tables of two kinds each folder has two rows (`KeysByKind`), of the others its bearer has one.
+    fn guess(&self) -> usize {
+        let before = (self.0 / 8).saturating_sub(1) as usize;
+        match self.0 % 8 {
+            2 | 4 => before * 2,
+            3 | 5 => before * 2 + 1,
+            _ => before,
+        }
+    }
 }
