@@ -1,5 +1,5 @@
 -- What the code lists of a role's edges is what the store has of them.
-use Rattle.std.proofs.Common.{◌≡◌, ℕ, Bool, true, false, cond, ◌==◌, List, [], ◌∷◌, ◌++◌, map, filter, find, Option, Some, None, refl, sym, ap, ◌∙◌, append-nil}
+use Rattle.std.proofs.Common.{◌≡◌, ℕ, Bool, true, false, cond, ◌==◌, List, [], ◌∷◌, ◌++◌, map, filter, find, Option, Some, None, refl, sym, ap, ◌∙◌, append-nil, append_assoc}
 use Rattle.std.specs.List.{flat_map}
 use Rattle.std.proofs.lemmas.Bool.{eqb-true}
 use Rattle.cry_base.specs.Store.{Store, FolderEntry, FileEntry, GrantEntry, folder_entry, file_entry}
@@ -21,6 +21,10 @@ use Rattle.role_graph.specs.PublicStore.{public_store}
 use Rattle.role_graph.specs.Roles.{same_role, variant_of, role_id, holder_role, clear_of, sub_of, back_of, files_of, data_of, file_role}
 use Rattle.role_graph.proofs.Adding.{map_map}
 use Rattle.role_graph.proofs.AtRoles.{files_listed, flat_alike, flat_kept, flat_none, flat_one, given, map_kept, no_edges, no_files, no_folders, no_grants, of_file, of_grant, only, own_part, parts, with_parent}
+
+-- what is added in two steps
+pub added_twice : (old a b all one two : List Edge) → one ≡ old ++ a → two ≡ one ++ b → a ++ b ≡ all → two ≡ old ++ all
+added_twice old a b all one two first second both = second ∙ ap (λ l. l ++ b) first ∙ append_assoc old a b ∙ ap (λ l. old ++ l) both
 
 alone : (a : List Edge) → ((a ++ []) ++ []) ++ [] ≡ a
 alone a = append-nil ((a ++ []) ++ []) ∙ append-nil (a ++ []) ∙ append-nil a

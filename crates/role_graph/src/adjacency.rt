@@ -1,5 +1,5 @@
 //! The edges at one role, looked up without a look at any other. A walk sees edges through these counted calls alone.
-ghost use Rattle.std.specs.Prelude.{◌≡◌, ◌+◌, length, map, IfOk};
+ghost use Rattle.std.specs.Prelude.{◌≡◌, ◌+◌, ◌++◌, length, map, IfOk, OnOk};
 ghost use Rattle.cry_base.specs.declared.ids.FolderId.{FolderId as AnyFolder};
 ghost use Rattle.cry_base.specs.declared.roles.Role.TheVariants.{Owner, Holder, Clear, Sub, Back, Files, Data, File};
 ghost use Rattle.role_graph.specs.Adjacent.{AreChildren, into, out_of, where_stands};
@@ -22,9 +22,9 @@ impl<'a> StoreRoles<'a> {
             ≡ out_of (unordered (public_store self.now.shape.now.tree self.now.grants.now.pairs)) role) }
         ensures steps { IfOk result (λ l. steps.new ≡ steps.old + length l.items + 1) }
     {
-        let found = self.list_from(alloc, role)?;
-        count(found.as_slice(), steps);
-        Ok(found)
+        let mut found = Vec::new(alloc);
+        self.push_from(alloc, &mut found, role, steps)?;
+        to_list(alloc, &found)
     }
 
     /// The edges into the role: by kind, and then by the number of the role that each leads from. It counts a step for
@@ -34,172 +34,218 @@ impl<'a> StoreRoles<'a> {
             ≡ into (unordered (public_store self.now.shape.now.tree self.now.grants.now.pairs)) role) }
         ensures steps { IfOk result (λ l. steps.new ≡ steps.old + length l.items + 1) }
     {
-        let found = self.list_into(alloc, role)?;
-        count(found.as_slice(), steps);
-        Ok(found)
+        let mut found = Vec::new(alloc);
+        self.push_into(alloc, &mut found, role, steps)?;
+        to_list(alloc, &found)
     }
 
-    fn list_from(&self, alloc: Global, role: Role) -> Mem<List<Edge>>
-        ensures { IfOk result (λ l. l.items ≡ out_of (unordered (public_store self.now.shape.now.tree self.now.grants.now.pairs)) role) }
+    /// Adds the edges out of the role, as `edges_from` lists and counts them.
+    pub(crate) fn push_from(
+        &self,
+        alloc: Global,
+        found: &mut Vec<Edge>,
+        role: Role,
+        steps: &mut Steps,
+    ) -> Mem<()>
+        ensures edges { OnOk result (found.new.items
+            ≡ found.old.items ++ out_of (unordered (public_store self.now.shape.now.tree self.now.grants.now.pairs)) role) }
+        ensures steps { OnOk result (steps.new + length found.old.items ≡ steps.old + length found.new.items + 1) }
+    {
+        let before = found.len();
+        self.add_from(alloc, found, role)?;
+        count(found.len() - before, steps);
+        Ok(())
+    }
+
+    /// Adds the edges into the role, as `edges_into` lists and counts them.
+    pub(crate) fn push_into(
+        &self,
+        alloc: Global,
+        found: &mut Vec<Edge>,
+        role: Role,
+        steps: &mut Steps,
+    ) -> Mem<()>
+        ensures edges { OnOk result (found.new.items
+            ≡ found.old.items ++ into (unordered (public_store self.now.shape.now.tree self.now.grants.now.pairs)) role) }
+        ensures steps { OnOk result (steps.new + length found.old.items ≡ steps.old + length found.new.items + 1) }
+    {
+        let before = found.len();
+        self.add_into(alloc, found, role)?;
+        count(found.len() - before, steps);
+        Ok(())
+    }
+
+    fn add_from(&self, alloc: Global, found: &mut Vec<Edge>, role: Role) -> Mem<()>
+        ensures { OnOk result (found.new.items
+            ≡ found.old.items ++ out_of (unordered (public_store self.now.shape.now.tree self.now.grants.now.pairs)) role) }
     {
         self.shape.is_tree();
         match role {
-            Role::Owner => self.from_owner(alloc),
-            Role::Holder(h) => self.from_holder(alloc, h),
-            Role::Clear(f) => self.from_clear(alloc, f),
-            Role::Sub(f) => self.from_sub(alloc, f),
-            Role::Back(f) => self.from_back(alloc, f),
-            Role::Files(f) => self.from_files(alloc, f),
-            Role::Data(_) => Ok(List::new(alloc)),
-            Role::File(_) => Ok(List::new(alloc)),
+            Role::Owner => self.from_owner(found),
+            Role::Holder(h) => self.from_holder(found, h),
+            Role::Clear(f) => self.from_clear(found, f),
+            Role::Sub(f) => self.from_sub(alloc, found, f),
+            Role::Back(f) => self.from_back(found, f),
+            Role::Files(f) => self.from_files(alloc, found, f),
+            Role::Data(_) => Ok(()),
+            Role::File(_) => Ok(()),
         }
     }
 
-    fn list_into(&self, alloc: Global, role: Role) -> Mem<List<Edge>>
-        ensures { IfOk result (λ l. l.items ≡ into (unordered (public_store self.now.shape.now.tree self.now.grants.now.pairs)) role) }
+    fn add_into(&self, alloc: Global, found: &mut Vec<Edge>, role: Role) -> Mem<()>
+        ensures { OnOk result (found.new.items
+            ≡ found.old.items ++ into (unordered (public_store self.now.shape.now.tree self.now.grants.now.pairs)) role) }
     {
         self.shape.is_tree();
         match role {
-            Role::Owner => Ok(List::new(alloc)),
-            Role::Holder(_) => Ok(List::new(alloc)),
-            Role::Clear(f) => self.into_clear(alloc, f),
-            Role::Sub(f) => self.into_sub(alloc, f),
-            Role::Back(f) => self.into_back(alloc, f),
-            Role::Files(f) => self.into_files(alloc, f),
-            Role::Data(f) => self.into_data(alloc, f),
-            Role::File(x) => self.into_file(alloc, x),
+            Role::Owner => Ok(()),
+            Role::Holder(_) => Ok(()),
+            Role::Clear(f) => self.into_clear(found, f),
+            Role::Sub(f) => self.into_sub(found, f),
+            Role::Back(f) => self.into_back(alloc, found, f),
+            Role::Files(f) => self.into_files(found, f),
+            Role::Data(f) => self.into_data(found, f),
+            Role::File(x) => self.into_file(found, x),
         }
     }
 
-    fn from_owner(&self, alloc: Global) -> Mem<List<Edge>>
-        ensures { IfOk result (λ l. l.items ≡ out_of (unordered (public_store self.now.shape.now.tree self.now.grants.now.pairs)) Owner) }
+    fn from_owner(&self, found: &mut Vec<Edge>) -> Mem<()>
+        ensures { OnOk result (found.new.items
+            ≡ found.old.items ++ out_of (unordered (public_store self.now.shape.now.tree self.now.grants.now.pairs)) Owner) }
     {
         self.shape.is_tree();
-        let mut found = List::new(alloc);
-        push_folders(&mut found, self.shape.folders())?;
-        Ok(found)
+        push_folders(found, self.shape.folders())?;
+        Ok(())
     }
 
-    fn from_holder(&self, alloc: Global, h: HolderId) -> Mem<List<Edge>>
-        ensures { IfOk result (λ l. l.items
-            ≡ out_of (unordered (public_store self.now.shape.now.tree self.now.grants.now.pairs)) (Holder h)) }
+    fn from_holder(&self, found: &mut Vec<Edge>, h: HolderId) -> Mem<()>
+        ensures { OnOk result (found.new.items
+            ≡ found.old.items ++ out_of (unordered (public_store self.now.shape.now.tree self.now.grants.now.pairs)) (Holder h)) }
     {
         self.shape.is_tree();
         let folders = self.grants.of_holder(h)?;
-        let mut found = List::new(alloc);
-        push_granted(&mut found, h, folders.as_slice())?;
-        Ok(found)
+        push_granted(found, h, folders.as_slice())?;
+        Ok(())
     }
 
-    fn from_clear(&self, alloc: Global, f: FolderId) -> Mem<List<Edge>>
-        ensures { IfOk result (λ l. l.items
-            ≡ out_of (unordered (public_store self.now.shape.now.tree self.now.grants.now.pairs)) (Clear f)) }
+    fn from_clear(&self, found: &mut Vec<Edge>, f: FolderId) -> Mem<()>
+        ensures { OnOk result (found.new.items
+            ≡ found.old.items ++ out_of (unordered (public_store self.now.shape.now.tree self.now.grants.now.pairs)) (Clear f)) }
     {
         self.shape.is_tree();
-        self.within(alloc, f, &[kinds::clear_to_sub(f)])
+        self.add_within(found, f, &[kinds::clear_to_sub(f)])?;
+        Ok(())
     }
 
-    fn from_sub(&self, alloc: Global, f: FolderId) -> Mem<List<Edge>>
-        ensures { IfOk result (λ l. l.items ≡ out_of (unordered (public_store self.now.shape.now.tree self.now.grants.now.pairs)) (Sub f)) }
+    fn from_sub(&self, alloc: Global, found: &mut Vec<Edge>, f: FolderId) -> Mem<()>
+        ensures { OnOk result (found.new.items
+            ≡ found.old.items ++ out_of (unordered (public_store self.now.shape.now.tree self.now.grants.now.pairs)) (Sub f)) }
     {
         self.shape.is_tree();
         let own = [kinds::sub_to_back(f), kinds::sub_to_files(f)];
-        let mut found = self.within(alloc, f, &own)?;
+        self.add_within(found, f, &own)?;
         let children = self.children(alloc, f)?;
-        push_children(&mut found, f, children.as_slice())?;
-        Ok(found)
+        push_children(found, f, children.as_slice())?;
+        Ok(())
     }
 
-    fn from_back(&self, alloc: Global, f: FolderId) -> Mem<List<Edge>>
-        ensures { IfOk result (λ l. l.items
-            ≡ out_of (unordered (public_store self.now.shape.now.tree self.now.grants.now.pairs)) (Back f)) }
+    fn from_back(&self, found: &mut Vec<Edge>, f: FolderId) -> Mem<()>
+        ensures { OnOk result (found.new.items
+            ≡ found.old.items ++ out_of (unordered (public_store self.now.shape.now.tree self.now.grants.now.pairs)) (Back f)) }
     {
         self.shape.is_tree();
-        let mut found = self.within(alloc, f, &[kinds::back_to_data(f)])?;
+        self.add_within(found, f, &[kinds::back_to_data(f)])?;
         let Some(parent) = self.shape.parent(f) else {
-            return Ok(found);
+            return Ok(());
         };
         found.push(kinds::back_to_back(f, parent))?;
-        Ok(found)
+        Ok(())
     }
 
-    fn from_files(&self, alloc: Global, f: FolderId) -> Mem<List<Edge>>
-        ensures { IfOk result (λ l. l.items
-            ≡ out_of (unordered (public_store self.now.shape.now.tree self.now.grants.now.pairs)) (Files f)) }
+    fn from_files(&self, alloc: Global, found: &mut Vec<Edge>, f: FolderId) -> Mem<()>
+        ensures { OnOk result (found.new.items
+            ≡ found.old.items ++ out_of (unordered (public_store self.now.shape.now.tree self.now.grants.now.pairs)) (Files f)) }
     {
         self.shape.is_tree();
         let files = self.shape.files_in(alloc, f)?;
-        let mut found = List::new(alloc);
-        push_files(&mut found, f, files.as_slice())?;
-        Ok(found)
+        push_files(found, f, files.as_slice())?;
+        Ok(())
     }
 
-    fn into_clear(&self, alloc: Global, f: FolderId) -> Mem<List<Edge>>
-        ensures { IfOk result (λ l. l.items ≡ into (unordered (public_store self.now.shape.now.tree self.now.grants.now.pairs)) (Clear f)) }
+    fn into_clear(&self, found: &mut Vec<Edge>, f: FolderId) -> Mem<()>
+        ensures { OnOk result (found.new.items
+            ≡ found.old.items ++ into (unordered (public_store self.now.shape.now.tree self.now.grants.now.pairs)) (Clear f)) }
     {
         self.shape.is_tree();
         let holders = self.grants.of_folder(f)?;
-        let mut found = self.within(alloc, f, &[kinds::owner_to_clear(f)])?;
-        push_holders(&mut found, f, holders.as_slice())?;
-        Ok(found)
+        self.add_within(found, f, &[kinds::owner_to_clear(f)])?;
+        push_holders(found, f, holders.as_slice())?;
+        Ok(())
     }
 
-    fn into_sub(&self, alloc: Global, f: FolderId) -> Mem<List<Edge>>
-        ensures { IfOk result (λ l. l.items ≡ into (unordered (public_store self.now.shape.now.tree self.now.grants.now.pairs)) (Sub f)) }
+    fn into_sub(&self, found: &mut Vec<Edge>, f: FolderId) -> Mem<()>
+        ensures { OnOk result (found.new.items
+            ≡ found.old.items ++ into (unordered (public_store self.now.shape.now.tree self.now.grants.now.pairs)) (Sub f)) }
     {
         self.shape.is_tree();
-        let mut found = self.within(alloc, f, &[kinds::clear_to_sub(f)])?;
+        self.add_within(found, f, &[kinds::clear_to_sub(f)])?;
         let Some(parent) = self.shape.parent(f) else {
-            return Ok(found);
+            return Ok(());
         };
         found.push(kinds::sub_to_sub(parent, f))?;
-        Ok(found)
+        Ok(())
     }
 
-    fn into_back(&self, alloc: Global, f: FolderId) -> Mem<List<Edge>>
-        ensures { IfOk result (λ l. l.items ≡ into (unordered (public_store self.now.shape.now.tree self.now.grants.now.pairs)) (Back f)) }
+    fn into_back(&self, alloc: Global, found: &mut Vec<Edge>, f: FolderId) -> Mem<()>
+        ensures { OnOk result (found.new.items
+            ≡ found.old.items ++ into (unordered (public_store self.now.shape.now.tree self.now.grants.now.pairs)) (Back f)) }
     {
         self.shape.is_tree();
-        let mut found = self.within(alloc, f, &[kinds::sub_to_back(f)])?;
+        self.add_within(found, f, &[kinds::sub_to_back(f)])?;
         let children = self.children(alloc, f)?;
-        push_child_starts(&mut found, f, children.as_slice())?;
-        Ok(found)
+        push_child_starts(found, f, children.as_slice())?;
+        Ok(())
     }
 
-    fn into_files(&self, alloc: Global, f: FolderId) -> Mem<List<Edge>>
-        ensures { IfOk result (λ l. l.items ≡ into (unordered (public_store self.now.shape.now.tree self.now.grants.now.pairs)) (Files f)) }
+    fn into_files(&self, found: &mut Vec<Edge>, f: FolderId) -> Mem<()>
+        ensures { OnOk result (found.new.items
+            ≡ found.old.items ++ into (unordered (public_store self.now.shape.now.tree self.now.grants.now.pairs)) (Files f)) }
     {
         self.shape.is_tree();
-        self.within(alloc, f, &[kinds::sub_to_files(f)])
+        self.add_within(found, f, &[kinds::sub_to_files(f)])?;
+        Ok(())
     }
 
-    fn into_data(&self, alloc: Global, f: FolderId) -> Mem<List<Edge>>
-        ensures { IfOk result (λ l. l.items ≡ into (unordered (public_store self.now.shape.now.tree self.now.grants.now.pairs)) (Data f)) }
+    fn into_data(&self, found: &mut Vec<Edge>, f: FolderId) -> Mem<()>
+        ensures { OnOk result (found.new.items
+            ≡ found.old.items ++ into (unordered (public_store self.now.shape.now.tree self.now.grants.now.pairs)) (Data f)) }
     {
         self.shape.is_tree();
-        self.within(alloc, f, &[kinds::back_to_data(f)])
+        self.add_within(found, f, &[kinds::back_to_data(f)])?;
+        Ok(())
     }
 
-    fn into_file(&self, alloc: Global, x: FileId) -> Mem<List<Edge>>
-        ensures { IfOk result (λ l. l.items ≡ into (unordered (public_store self.now.shape.now.tree self.now.grants.now.pairs)) (File x)) }
+    fn into_file(&self, found: &mut Vec<Edge>, x: FileId) -> Mem<()>
+        ensures { OnOk result (found.new.items
+            ≡ found.old.items ++ into (unordered (public_store self.now.shape.now.tree self.now.grants.now.pairs)) (File x)) }
     {
         self.shape.is_tree();
         let Some(f) = self.shape.folder_of(x) else {
-            return Ok(List::new(alloc));
+            return Ok(());
         };
-        to_list(alloc, &[kinds::files_to_file(f, x)])
+        found.push(kinds::files_to_file(f, x))?;
+        Ok(())
     }
 
-    /// The edges, where the folder stands.
+    /// Adds the edges, where the folder stands.
     #[tactic(auto, unfolding(crate::specs::Adjacent::where_stands))]
-    fn within(&self, alloc: Global, f: FolderId, edges: &[Edge]) -> Mem<List<Edge>>
-        ensures { IfOk result (λ l. l.items ≡ where_stands self.now.shape.now.tree f.0 edges.now) }
+    fn add_within(&self, found: &mut Vec<Edge>, f: FolderId, edges: &[Edge]) -> Mem<()>
+        ensures { OnOk result (found.new.items ≡ found.old.items ++ where_stands self.now.shape.now.tree f.0 edges.now) }
     {
         if self.shape.has_folder(f) {
-            to_list(alloc, edges)
-        } else {
-            Ok(List::new(alloc))
+            found.extend_from_slice(edges)?;
         }
+        Ok(())
     }
 
     /// The folders in the folder. The root is in none.
@@ -214,11 +260,11 @@ impl<'a> StoreRoles<'a> {
     }
 }
 
-/// Counts a step for each edge, and one more.
-fn count(edges: &[Edge], steps: &mut Steps)
-    ensures { steps.new ≡ steps.old + length edges.now + 1 }
+/// Counts a step for each of so many edges, and one more.
+fn count(edges: usize, steps: &mut Steps)
+    ensures { steps.new ≡ steps.old + edges + 1 }
 {
-    for _edge in edges {
+    for _edge in 0..edges {
         steps.tick();
     }
     steps.tick();

@@ -5,12 +5,12 @@ ghost use Rattle.role_graph.specs.Edges.{edge, file_edge, grant_edge};
 ghost use Rattle.role_graph.specs.Roles.{back_of, clear_of, sub_of};
 
 use crate::kinds;
-use cry_base::{Edge, FileId, FolderId, HolderId, List, Mem};
+use cry_base::{Edge, FileId, FolderId, HolderId, Mem};
 use folder_nodes::FolderRow;
 
 /// Adds the edge from the owner's key to each folder.
 #[tactic(auto, unfolding(crate::specs::Roles::clear_of))]
-pub(crate) fn push_folders(found: &mut List<Edge>, folders: &[FolderRow]) -> Mem<()>
+pub(crate) fn push_folders(found: &mut Vec<Edge>, folders: &[FolderRow]) -> Mem<()>
     ensures { OnOk result (found.new.items ≡ found.old.items ++ map (λ r. edge 1 Owner (clear_of r.id.0)) folders.now) }
 {
     for folder in folders {
@@ -21,7 +21,7 @@ pub(crate) fn push_folders(found: &mut List<Edge>, folders: &[FolderRow]) -> Mem
 
 /// Adds the edge of the holder's grant on each folder.
 #[tactic(auto, unfolding(crate::specs::Edges::grant_edge, crate::specs::Roles::holder_role, crate::specs::Roles::clear_of))]
-pub(crate) fn push_granted(found: &mut List<Edge>, h: HolderId, folders: &[FolderId]) -> Mem<()>
+pub(crate) fn push_granted(found: &mut Vec<Edge>, h: HolderId, folders: &[FolderId]) -> Mem<()>
     ensures { OnOk result (found.new.items ≡ found.old.items ++ map (λ f. grant_edge h.0 f.0) folders.now) }
 {
     for folder in folders {
@@ -32,7 +32,7 @@ pub(crate) fn push_granted(found: &mut List<Edge>, h: HolderId, folders: &[Folde
 
 /// Adds the edge of each holder's grant on the folder.
 #[tactic(auto, unfolding(crate::specs::Edges::grant_edge, crate::specs::Roles::holder_role, crate::specs::Roles::clear_of))]
-pub(crate) fn push_holders(found: &mut List<Edge>, f: FolderId, holders: &[HolderId]) -> Mem<()>
+pub(crate) fn push_holders(found: &mut Vec<Edge>, f: FolderId, holders: &[HolderId]) -> Mem<()>
     ensures { OnOk result (found.new.items ≡ found.old.items ++ map (λ h. grant_edge h.0 f.0) holders.now) }
 {
     for holder in holders {
@@ -43,7 +43,7 @@ pub(crate) fn push_holders(found: &mut List<Edge>, f: FolderId, holders: &[Holde
 
 /// Adds the edge down to each folder in the folder.
 #[tactic(auto, unfolding(crate::specs::Roles::sub_of))]
-pub(crate) fn push_children(found: &mut List<Edge>, f: FolderId, children: &[FolderId]) -> Mem<()>
+pub(crate) fn push_children(found: &mut Vec<Edge>, f: FolderId, children: &[FolderId]) -> Mem<()>
     ensures { OnOk result (found.new.items ≡ found.old.items ++ map (λ g. edge 6 (sub_of f.0) (sub_of g.0)) children.now) }
 {
     for child in children {
@@ -55,7 +55,7 @@ pub(crate) fn push_children(found: &mut List<Edge>, f: FolderId, children: &[Fol
 /// Adds the edge up from each folder in the folder.
 #[tactic(auto, unfolding(crate::specs::Roles::back_of))]
 pub(crate) fn push_child_starts(
-    found: &mut List<Edge>,
+    found: &mut Vec<Edge>,
     f: FolderId,
     children: &[FolderId],
 ) -> Mem<()>
@@ -69,7 +69,7 @@ pub(crate) fn push_child_starts(
 
 /// Adds the edge to each file in the folder.
 #[tactic(auto, unfolding(crate::specs::Edges::file_edge, crate::specs::Roles::files_of, crate::specs::Roles::file_role))]
-pub(crate) fn push_files(found: &mut List<Edge>, f: FolderId, files: &[FileId]) -> Mem<()>
+pub(crate) fn push_files(found: &mut Vec<Edge>, f: FolderId, files: &[FileId]) -> Mem<()>
     ensures { OnOk result (found.new.items ≡ found.old.items ++ map (λ x. file_edge f.0 x.0) files.now) }
 {
     for file in files {

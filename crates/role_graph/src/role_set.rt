@@ -42,7 +42,7 @@ impl RoleSet {
     pub(crate) fn of_seen(alloc: Global, seen: &BTreeSet<Role, Global>) -> Mem<RoleSet>
         ensures { IfOk result (λ s. s ≡ seen.now.keys) }
     {
-        let mut roles = Vec::new(alloc);
+        let mut roles = Vec::with_capacity(alloc, seen.len())?;
         for role in seen {
             roles.push(*role)?;
         }
@@ -113,6 +113,7 @@ impl RoleSet {
         ensures { IfOk result (λ l. l.items ≡ self.now) }
     {
         let mut list = List::new(*self.roles.allocator());
+        list.reserve(self.roles.len())?;
         for role in self.roles.as_slice() {
             list.push(*role)?;
         }

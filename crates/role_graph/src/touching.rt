@@ -56,10 +56,8 @@ impl<'a> StoreRoles<'a> {
             ++ at_role (unordered (public_store self.now.shape.now.tree self.now.grants.now.pairs)) role) }
         ensures steps { OnOk result (steps.new + length found.old.items ≡ steps.old + length found.new.items + 2) }
     {
-        let from = self.edges_from(alloc, role, steps)?;
-        let into = self.edges_into(alloc, role, steps)?;
-        found.extend_from_slice(from.as_slice())?;
-        found.extend_from_slice(into.as_slice())?;
+        self.push_from(alloc, found, role, steps)?;
+        self.push_into(alloc, found, role, steps)?;
         Ok(())
     }
 }

@@ -33,70 +33,93 @@ pub fn walk(
     // A sorted list would move its rows for each role that comes before others.
     let mut seen = BTreeSet::new(alloc);
     add_all(&mut found, &mut seen, from)?;
+    let mut ahead = Ahead::new(alloc);
     let mut done = 0;
     while done < found.as_slice().len() {
         let here = found.as_slice();
-        let ends = ends_ahead(alloc, roles, way, removed, here[done], steps)?;
-        let next = ends.as_slice();
-        add_all(&mut found, &mut seen, next)?;
+        ahead.look(alloc, roles, way, removed, here[done], steps)?;
+        add_all(&mut found, &mut seen, &ahead.ends)?;
         done += 1;
     }
     RoleSet::of_seen(alloc, &seen)
 }
 
-/// Where the walk goes on from the role.
-fn ends_ahead(
-    alloc: Global,
-    roles: &StoreRoles,
-    way: Way,
-    removed: &[Edge],
-    role: Role,
-    steps: &mut Steps,
-) -> Mem<List<Role>>
-    ensures ends { IfOk result (λ l. l.items
-        ≡ ends_from (as_walked way
-        (edges_but removed.now (unordered (public_store roles.now.shape.now.tree roles.now.grants.now.pairs)))) role) }
-    ensures steps { IfOk result (λ l. steps.new ≡ steps.old
-        + length (out_of (as_walked way (unordered (public_store roles.now.shape.now.tree roles.now.grants.now.pairs))) role) + 1) }
-{
-    match way {
-        Way::Along => {
-            let edges = roles.edges_from(alloc, role, steps)?;
-            ends_of(alloc, edges.as_slice(), removed)
+/// What lies ahead of one role. A walk fills the same lists anew at each, since lists of their own would take more time
+/// to get and give back than to fill.
+#[derive(Drop)]
+struct Ahead {
+    /// The edges at the role.
+    edges: Vec<Edge>,
+    /// Where the walk goes on.
+    ends: Vec<Role>,
+}
+
+impl Ahead {
+    /// Nothing yet. It takes no memory.
+    fn new(alloc: Global) -> Ahead {
+        Ahead {
+            edges: Vec::new(alloc),
+            ends: Vec::new(alloc),
         }
-        Way::Against => {
-            let edges = roles.edges_into(alloc, role, steps)?;
-            starts_of(alloc, edges.as_slice(), removed)
+    }
+
+    /// Looks up where the walk goes on from the role.
+    fn look(
+        &mut self,
+        alloc: Global,
+        roles: &StoreRoles,
+        way: Way,
+        removed: &[Edge],
+        role: Role,
+        steps: &mut Steps,
+    ) -> Mem<()>
+        ensures ends { OnOk result (self.new.ends.items
+            ≡ ends_from (as_walked way
+            (edges_but removed.now (unordered (public_store roles.now.shape.now.tree roles.now.grants.now.pairs)))) role) }
+        ensures steps { OnOk result (steps.new ≡ steps.old
+            + length (out_of (as_walked way (unordered (public_store roles.now.shape.now.tree roles.now.grants.now.pairs))) role) + 1) }
+    {
+        self.edges.clear();
+        match way {
+            Way::Along => {
+                roles.push_from(alloc, &mut self.edges, role, steps)?;
+                put_ends(&mut self.ends, &self.edges, removed)?;
+            }
+            Way::Against => {
+                roles.push_into(alloc, &mut self.edges, role, steps)?;
+                put_starts(&mut self.ends, &self.edges, removed)?;
+            }
         }
+        Ok(())
     }
 }
 
-/// The ends of the edges that aren't removed.
+/// Puts the ends of the edges that aren't removed into the list, in place of what it has.
 #[tactic(auto, unfolding(crate::specs::Adjacent::edges_but))]
-fn ends_of(alloc: Global, edges: &[Edge], removed: &[Edge]) -> Mem<List<Role>>
-    ensures { IfOk result (λ l. l.items ≡ map (λ e. e.to) (edges_but removed.now edges.now)) }
+fn put_ends(found: &mut Vec<Role>, edges: &[Edge], removed: &[Edge]) -> Mem<()>
+    ensures { OnOk result (found.new.items ≡ map (λ e. e.to) (edges_but removed.now edges.now)) }
 {
-    let mut found = List::new(alloc);
+    found.clear();
     for edge in edges {
         if !has_edge(removed, edge) {
             found.push(edge.to)?;
         }
     }
-    Ok(found)
+    Ok(())
 }
 
-/// The starts of the edges that aren't removed.
+/// Puts the starts of the edges that aren't removed into the list, in place of what it has.
 #[tactic(auto, unfolding(crate::specs::Adjacent::edges_but))]
-fn starts_of(alloc: Global, edges: &[Edge], removed: &[Edge]) -> Mem<List<Role>>
-    ensures { IfOk result (λ l. l.items ≡ map (λ e. e.from) (edges_but removed.now edges.now)) }
+fn put_starts(found: &mut Vec<Role>, edges: &[Edge], removed: &[Edge]) -> Mem<()>
+    ensures { OnOk result (found.new.items ≡ map (λ e. e.from) (edges_but removed.now edges.now)) }
 {
-    let mut found = List::new(alloc);
+    found.clear();
     for edge in edges {
         if !has_edge(removed, edge) {
             found.push(edge.from)?;
         }
     }
-    Ok(found)
+    Ok(())
 }
 
 /// Whether the edge is one of these.

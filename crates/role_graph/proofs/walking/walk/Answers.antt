@@ -42,11 +42,11 @@ loop-done-preserved c =
     let less : done < length found = subst (λ (l : List Role). done < length l) c.as_slice.ensures c.loop-done-test.true in
     let role_is : get_or c.as_slice-here.result.now done Owner ≡ get_or found done Owner = ap (λ (l : List Role). get_or l done Owner) c.as_slice-here.ensures in
     record {
-      walking = walk_goes_on all left c.args.from.now found c.add_all-in-loop-done.new.found.items done c.args.steps.now c.loop-done.steps c.ends_ahead.new.steps Owner c.loop-done.invariant.walking less
+      walking = walk_goes_on all left c.args.from.now found c.add_all-in-loop-done.new.found.items done c.args.steps.now c.loop-done.steps c.look.new.steps Owner c.loop-done.invariant.walking less
           (fewer_ends c.args.way c.args.removed.now es (get_or found done Owner))
           (c.in_ok-add_all-2.ensures.found c.loop-done.invariant.same
-          ∙ ap (with_new found) (c.as_slice-next.ensures ∙ c.in_ok-ends.ensures.ends ∙ ap (ends_from left) role_is))
-          (c.in_ok-ends.ensures.steps ∙ ap (λ (r : Role). c.loop-done.steps + length (out_of all r) + 1) role_is);
+          ∙ ap (with_new found) (c.deref.ensures.value ∙ c.in_ok-look.ensures.ends ∙ ap (ends_from left) role_is))
+          (c.in_ok-look.ensures.steps ∙ ap (λ (r : Role). c.loop-done.steps + length (out_of all r) + 1) role_is);
       same = c.in_ok-add_all-2.ensures.seen c.loop-done.invariant.same;
     }
 

@@ -1,4 +1,4 @@
-use Rattle.std.proofs.Common.{[], ◌∷◌, ◌++◌, sym, ap, ◌∙◌, append-nil}
+use Rattle.std.proofs.Common.{List, [], ◌∷◌, ◌++◌, sym, ap, ◌∙◌, append-nil}
 use Rattle.cry_base.specs.Store.{Store}
 use Rattle.cry_base.specs.declared.roles.Edge.{Edge}
 use Rattle.folder_nodes.specs.Looking.{parent_id}
@@ -7,7 +7,7 @@ use Rattle.role_graph.specs.Edges.{edge, file_edge, grant_edge}
 use Rattle.role_graph.specs.PublicStore.{public_store}
 use Rattle.role_graph.specs.Roles.{holder_role, clear_of, sub_of, back_of, files_of, data_of, file_role}
 use Rattle.role_graph.proofs.Falling.{tree_public}
-use Rattle.role_graph.proofs.RoleEdges.{beyond, entry_public, where_public, back_from}
+use Rattle.role_graph.proofs.RoleEdges.{added_twice, beyond, entry_public, where_public, back_from}
 use Rattle.role_graph.proofs.store_roles.StoreRoles.from_back.Goals as goal
 
 pub returns-in_default : goal.returns-in_default
@@ -19,9 +19,11 @@ returns-in_default c =
     let is = tree_public tree pairs c.is_tree.ensures in
     let f = c.args.f in
     let none = c.in_default.ensures ∙ ap parent_id (entry_public tree pairs f.0) in
-    c.in_ok-found.ensures ∙ ap (λ (x : Edge). where_stands tree f.0 (x ∷ [])) c.back_to_data.ensures ∙ where_public tree pairs f.0 (edge 7 (back_of f.0) (data_of f.0) ∷ [])
+    c.in_ok-add_within.ensures
+    ∙ ap (λ (l : List Edge). c.args.found.now.items ++ l)
+    (ap (λ (x : Edge). where_stands tree f.0 (x ∷ [])) c.back_to_data.ensures ∙ where_public tree pairs f.0 (edge 7 (back_of f.0) (data_of f.0) ∷ [])
     ∙ sym (append-nil (where_stands s f.0 (edge 7 (back_of f.0) (data_of f.0) ∷ [])))
-    ∙ ap (λ o. where_stands s f.0 (edge 7 (back_of f.0) (data_of f.0) ∷ []) ++ beyond (λ p. edge 8 (back_of f.0) (back_of p.0)) o) none ∙ back_from s is f
+    ∙ ap (λ o. where_stands s f.0 (edge 7 (back_of f.0) (data_of f.0) ∷ []) ++ beyond (λ p. edge 8 (back_of f.0) (back_of p.0)) o) none ∙ back_from s is f)
 
 pub returns : goal.returns
 unfolding clear_of sub_of back_of files_of data_of file_role grant_edge file_edge edge holder_role
@@ -32,6 +34,7 @@ returns c =
     let is = tree_public tree pairs c.is_tree.ensures in
     let f = c.args.f in
     let up = c.in-Some.ensures ∙ ap parent_id (entry_public tree pairs f.0) in
+    added_twice c.args.found.now.items (where_stands s f.0 (edge 7 (back_of f.0) (data_of f.0) ∷ [])) (c.back_to_back.result ∷ []) _ c.add_within.new.found.items c.push.new.self.items
+    (c.in_ok-add_within.ensures ∙ ap (λ (l : List Edge). c.args.found.now.items ++ l) (ap (λ (x : Edge). where_stands tree f.0 (x ∷ [])) c.back_to_data.ensures ∙ where_public tree pairs f.0 (edge 7 (back_of f.0) (data_of f.0) ∷ [])))
     c.in_ok-push.ensures.items
-    ∙ (λ i. (c.in_ok-found.ensures ∙ ap (λ (x : Edge). where_stands tree f.0 (x ∷ [])) c.back_to_data.ensures ∙ where_public tree pairs f.0 (edge 7 (back_of f.0) (data_of f.0) ∷ [])) i ++ c.back_to_back.ensures i ∷ [])
-    ∙ ap (λ o. where_stands s f.0 (edge 7 (back_of f.0) (data_of f.0) ∷ []) ++ beyond (λ p. edge 8 (back_of f.0) (back_of p.0)) o) up ∙ back_from s is f
+    (ap (λ (x : Edge). where_stands s f.0 (edge 7 (back_of f.0) (data_of f.0) ∷ []) ++ x ∷ []) c.back_to_back.ensures ∙ ap (λ o. where_stands s f.0 (edge 7 (back_of f.0) (data_of f.0) ∷ []) ++ beyond (λ p. edge 8 (back_of f.0) (back_of p.0)) o) up ∙ back_from s is f)

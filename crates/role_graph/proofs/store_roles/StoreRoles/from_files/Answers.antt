@@ -17,6 +17,5 @@ returns c =
     let s : Store = public_store tree pairs in
     let is = tree_public tree pairs c.is_tree.ensures in
     let f = c.args.f in
-    c.in_ok-push_files.ensures ∙ ap (λ (l : List Edge). l ++ map (λ (x : FileId). file_edge f.0 x.0) c.as_slice.result.now) c.new-found.ensures
-    ∙ ap (map (λ (x : FileId). file_edge f.0 x.0)) c.as_slice.ensures
-    ∙ files_from s is f c.in_ok-files.files.items c.in_ok-files.ensures
+    c.in_ok-push_files.ensures
+    ∙ ap (λ (l : List Edge). c.args.found.now.items ++ l) (ap (map (λ (x : FileId). file_edge f.0 x.0)) c.as_slice.ensures ∙ files_from s is f c.in_ok-files.files.items c.in_ok-files.ensures)

@@ -15,5 +15,5 @@ returns c =
     let s : Store = public_store tree pairs in
     let is = tree_public tree pairs c.is_tree.ensures in
     let h = c.args.h in
-    c.in_ok-push_granted.ensures ∙ ap (λ (l : List Edge). l ++ map (λ (f : FolderId). grant_edge h.0 f.0) c.as_slice.result.now) c.new-found.ensures
-    ∙ ap (map (λ (f : FolderId). grant_edge h.0 f.0)) (c.as_slice.ensures ∙ c.in_ok-folders.ensures.folders) ∙ holder_from s is h
+    c.in_ok-push_granted.ensures
+    ∙ ap (λ (l : List Edge). c.args.found.now.items ++ l) (ap (map (λ (f : FolderId). grant_edge h.0 f.0)) (c.as_slice.ensures ∙ c.in_ok-folders.ensures.folders) ∙ holder_from s is h)

@@ -1,10 +1,7 @@
-use Rattle.std.proofs.Common.{List, ◌++◌, map, ap, ◌∙◌}
+use Rattle.std.proofs.Common.{List, ◌++◌, ap, ◌∙◌}
 use Rattle.cry_base.specs.Store.{Store}
 use Rattle.cry_base.specs.declared.roles.Edge.{Edge}
-use Rattle.cry_base.specs.declared.roles.Role.TheVariants.{Owner}
-use Rattle.role_graph.specs.Edges.{edge}
 use Rattle.role_graph.specs.PublicStore.{public_store}
-use Rattle.role_graph.specs.Roles.{clear_of}
 use Rattle.role_graph.proofs.Falling.{tree_public}
 use Rattle.role_graph.proofs.RoleEdges.{owner_from}
 use Rattle.role_graph.proofs.store_roles.StoreRoles.from_owner.Goals as goal
@@ -15,4 +12,4 @@ returns c =
     let pairs = c.args.self.now.grants.now.pairs in
     let s : Store = public_store tree pairs in
     let is = tree_public tree pairs c.is_tree.ensures in
-    c.in_ok-push_folders.ensures ∙ ap (λ (l : List Edge). l ++ map (λ r. edge 1 Owner (clear_of r.id.0)) c.folders.result.now) c.new-found.ensures ∙ owner_from s is c.folders.result.now c.folders.ensures
+    c.in_ok-push_folders.ensures ∙ ap (λ (l : List Edge). c.args.found.now.items ++ l) (owner_from s is c.folders.result.now c.folders.ensures)

@@ -1,12 +1,13 @@
-use Rattle.std.proofs.Common.{[], ◌∷◌, ◌++◌, map, ◌∙◌}
+use Rattle.std.proofs.Common.{List, [], ◌∷◌, ◌++◌, map, ap, ◌∙◌}
 use Rattle.cry_base.specs.Store.{Store}
 use Rattle.cry_base.specs.declared.ids.FolderId.{FolderId}
+use Rattle.cry_base.specs.declared.roles.Edge.{Edge}
 use Rattle.role_graph.specs.Adjacent.{where_stands}
 use Rattle.role_graph.specs.Edges.{edge, file_edge, grant_edge}
 use Rattle.role_graph.specs.PublicStore.{public_store}
 use Rattle.role_graph.specs.Roles.{holder_role, clear_of, sub_of, back_of, files_of, data_of, file_role}
 use Rattle.role_graph.proofs.Falling.{tree_public}
-use Rattle.role_graph.proofs.RoleEdges.{where_public, sub_from}
+use Rattle.role_graph.proofs.RoleEdges.{added_twice, where_public, sub_from}
 use Rattle.role_graph.proofs.store_roles.StoreRoles.from_sub.Goals as goal
 
 pub returns : goal.returns
@@ -18,7 +19,7 @@ returns c =
     let is = tree_public tree pairs c.is_tree.ensures in
     let f = c.args.f in
     let ids = c.in_ok-children.children.items in
-    c.in_ok-push_children.ensures
-    ∙ (λ i. (c.in_ok-found.ensures ∙ (λ j. where_stands tree f.0 (c.sub_to_back.ensures j ∷ c.sub_to_files.ensures j ∷ [])) ∙ where_public tree pairs f.0 (edge 4 (sub_of f.0) (back_of f.0) ∷ edge 5 (sub_of f.0) (files_of f.0) ∷ [])) i
-    ++ map (λ (g : FolderId). edge 6 (sub_of f.0) (sub_of g.0)) (c.as_slice.ensures i))
-    ∙ sub_from s is f ids c.in_ok-children.ensures
+    added_twice c.args.found.now.items (where_stands s f.0 (edge 4 (sub_of f.0) (back_of f.0) ∷ edge 5 (sub_of f.0) (files_of f.0) ∷ [])) (map (λ (g : FolderId). edge 6 (sub_of f.0) (sub_of g.0)) ids) _ c.add_within.new.found.items c.push_children.new.found.items
+    (c.in_ok-add_within.ensures ∙ ap (λ (l : List Edge). c.args.found.now.items ++ l) ((λ j. where_stands tree f.0 (c.sub_to_back.ensures j ∷ c.sub_to_files.ensures j ∷ [])) ∙ where_public tree pairs f.0 (edge 4 (sub_of f.0) (back_of f.0) ∷ edge 5 (sub_of f.0) (files_of f.0) ∷ [])))
+    (c.in_ok-push_children.ensures ∙ ap (λ (l : List FolderId). c.add_within.new.found.items ++ map (λ (g : FolderId). edge 6 (sub_of f.0) (sub_of g.0)) l) c.as_slice.ensures)
+    (sub_from s is f ids c.in_ok-children.ensures)

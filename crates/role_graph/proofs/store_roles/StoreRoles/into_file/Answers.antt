@@ -1,12 +1,8 @@
-use Rattle.std.proofs.Common.{◌≡◌, [], ◌∷◌, ap, ◌∙◌}
-use Rattle.std.proofs.lemmas.Result.{IfOk-weaker}
-use Rattle.cry_base.specs.Listed.{Listed}
+use Rattle.std.proofs.Common.{List, [], ◌∷◌, ◌++◌, sym, ap, ◌∙◌, append-nil}
 use Rattle.cry_base.specs.Store.{Store}
 use Rattle.cry_base.specs.declared.roles.Edge.{Edge}
-use Rattle.cry_base.specs.declared.roles.Role.TheVariants.{File}
 use Rattle.folder_nodes.specs.Looking.{folder_id_of}
-use Rattle.role_graph.specs.Adjacent.{into}
-use Rattle.role_graph.specs.Edges.{edge, file_edge, grant_edge, unordered}
+use Rattle.role_graph.specs.Edges.{edge, file_edge, grant_edge}
 use Rattle.role_graph.specs.PublicStore.{public_store}
 use Rattle.role_graph.specs.Roles.{holder_role, clear_of, sub_of, back_of, files_of, data_of, file_role}
 use Rattle.role_graph.proofs.Falling.{tree_public}
@@ -21,7 +17,8 @@ returns-in_default c =
     let s : Store = public_store tree pairs in
     let is = tree_public tree pairs c.is_tree.ensures in
     let x = c.args.x in
-    c.new.ensures ∙ ap (beyond (λ f. edge 9 (files_of f.0) (file_role x.0))) (c.in_default.ensures ∙ ap folder_id_of (file_public tree pairs x.0)) ∙ file_into s is x
+    sym (append-nil c.args.found.now.items)
+    ∙ ap (λ (l : List Edge). c.args.found.now.items ++ l) (ap (beyond (λ f. edge 9 (files_of f.0) (file_role x.0))) (c.in_default.ensures ∙ ap folder_id_of (file_public tree pairs x.0)) ∙ file_into s is x)
 
 pub returns : goal.returns
 unfolding clear_of sub_of back_of files_of data_of file_role grant_edge file_edge edge holder_role
@@ -31,5 +28,5 @@ returns c =
     let s : Store = public_store tree pairs in
     let is = tree_public tree pairs c.is_tree.ensures in
     let x = c.args.x in
-    IfOk-weaker c.to_list.result (λ (l : Listed Edge). l.items ≡ c.files_to_file.result ∷ []) (λ (l : Listed Edge). l.items ≡ into (unordered s) (File x))
-    (λ l e. e ∙ ap (λ (z : Edge). z ∷ []) c.files_to_file.ensures ∙ ap (beyond (λ f. edge 9 (files_of f.0) (file_role x.0))) (c.in-Some.ensures ∙ ap folder_id_of (file_public tree pairs x.0)) ∙ file_into s is x) c.to_list.ensures
+    c.in_ok-push.ensures.items
+    ∙ ap (λ (l : List Edge). c.args.found.now.items ++ l) (ap (λ (z : Edge). z ∷ []) c.files_to_file.ensures ∙ ap (beyond (λ f. edge 9 (files_of f.0) (file_role x.0))) (c.in-Some.ensures ∙ ap folder_id_of (file_public tree pairs x.0)) ∙ file_into s is x)

@@ -1,11 +1,8 @@
-use Rattle.std.proofs.Common.{◌≡◌, [], ◌∷◌, ap, ◌∙◌}
-use Rattle.std.proofs.lemmas.Result.{IfOk-weaker}
-use Rattle.cry_base.specs.Listed.{Listed}
+use Rattle.std.proofs.Common.{List, [], ◌∷◌, ◌++◌, ap, ◌∙◌}
 use Rattle.cry_base.specs.Store.{Store}
 use Rattle.cry_base.specs.declared.roles.Edge.{Edge}
-use Rattle.cry_base.specs.declared.roles.Role.TheVariants.{Files}
-use Rattle.role_graph.specs.Adjacent.{into, where_stands}
-use Rattle.role_graph.specs.Edges.{edge, file_edge, grant_edge, unordered}
+use Rattle.role_graph.specs.Adjacent.{where_stands}
+use Rattle.role_graph.specs.Edges.{edge, file_edge, grant_edge}
 use Rattle.role_graph.specs.PublicStore.{public_store}
 use Rattle.role_graph.specs.Roles.{holder_role, clear_of, sub_of, back_of, files_of, data_of, file_role}
 use Rattle.role_graph.proofs.Falling.{tree_public}
@@ -20,5 +17,5 @@ returns c =
     let s : Store = public_store tree pairs in
     let is = tree_public tree pairs c.is_tree.ensures in
     let f = c.args.f in
-    IfOk-weaker c.within.result (λ (l : Listed Edge). l.items ≡ where_stands tree f.0 (c.sub_to_files.result ∷ [])) (λ (l : Listed Edge). l.items ≡ into (unordered s) (Files f))
-    (λ l e. e ∙ ap (λ (x : Edge). where_stands tree f.0 (x ∷ [])) c.sub_to_files.ensures ∙ where_public tree pairs f.0 (edge 5 (sub_of f.0) (files_of f.0) ∷ []) ∙ files_into s is f) c.within.ensures
+    c.in_ok-add_within.ensures
+    ∙ ap (λ (l : List Edge). c.args.found.now.items ++ l) (ap (λ (x : Edge). where_stands tree f.0 (x ∷ [])) c.sub_to_files.ensures ∙ where_public tree pairs f.0 (edge 5 (sub_of f.0) (files_of f.0) ∷ []) ∙ files_into s is f)
