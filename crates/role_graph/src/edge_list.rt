@@ -155,6 +155,7 @@ pub(crate) fn to_list(alloc: Global, edges: &[Edge]) -> Mem<List<Edge>>
     ensures { IfOk result (λ l. l.items ≡ edges.now) }
 {
     let mut list = List::new(alloc);
+    list.reserve(edges.len())?;
     for edge in edges {
         list.push(*edge)?;
     }

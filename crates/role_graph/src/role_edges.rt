@@ -13,6 +13,7 @@ use folder_nodes::FolderRow;
 pub(crate) fn push_folders(found: &mut Vec<Edge>, folders: &[FolderRow]) -> Mem<()>
     ensures { OnOk result (found.new.items ≡ found.old.items ++ map (λ r. edge 1 Owner (clear_of r.id.0)) folders.now) }
 {
+    found.reserve(folders.len())?;
     for folder in folders {
         found.push(kinds::owner_to_clear(folder.id))?;
     }
@@ -24,6 +25,7 @@ pub(crate) fn push_folders(found: &mut Vec<Edge>, folders: &[FolderRow]) -> Mem<
 pub(crate) fn push_granted(found: &mut Vec<Edge>, h: HolderId, folders: &[FolderId]) -> Mem<()>
     ensures { OnOk result (found.new.items ≡ found.old.items ++ map (λ f. grant_edge h.0 f.0) folders.now) }
 {
+    found.reserve(folders.len())?;
     for folder in folders {
         found.push(kinds::holder_to_clear(h, *folder))?;
     }
@@ -35,6 +37,7 @@ pub(crate) fn push_granted(found: &mut Vec<Edge>, h: HolderId, folders: &[Folder
 pub(crate) fn push_holders(found: &mut Vec<Edge>, f: FolderId, holders: &[HolderId]) -> Mem<()>
     ensures { OnOk result (found.new.items ≡ found.old.items ++ map (λ h. grant_edge h.0 f.0) holders.now) }
 {
+    found.reserve(holders.len())?;
     for holder in holders {
         found.push(kinds::holder_to_clear(*holder, f))?;
     }
@@ -46,6 +49,7 @@ pub(crate) fn push_holders(found: &mut Vec<Edge>, f: FolderId, holders: &[Holder
 pub(crate) fn push_children(found: &mut Vec<Edge>, f: FolderId, children: &[FolderId]) -> Mem<()>
     ensures { OnOk result (found.new.items ≡ found.old.items ++ map (λ g. edge 6 (sub_of f.0) (sub_of g.0)) children.now) }
 {
+    found.reserve(children.len())?;
     for child in children {
         found.push(kinds::sub_to_sub(f, *child))?;
     }
@@ -61,6 +65,7 @@ pub(crate) fn push_child_starts(
 ) -> Mem<()>
     ensures { OnOk result (found.new.items ≡ found.old.items ++ map (λ g. edge 8 (back_of g.0) (back_of f.0)) children.now) }
 {
+    found.reserve(children.len())?;
     for child in children {
         found.push(kinds::back_to_back(*child, f))?;
     }
@@ -72,6 +77,7 @@ pub(crate) fn push_child_starts(
 pub(crate) fn push_files(found: &mut Vec<Edge>, f: FolderId, files: &[FileId]) -> Mem<()>
     ensures { OnOk result (found.new.items ≡ found.old.items ++ map (λ x. file_edge f.0 x.0) files.now) }
 {
+    found.reserve(files.len())?;
     for file in files {
         found.push(kinds::files_to_file(f, *file))?;
     }

@@ -12,6 +12,9 @@ use cry_base::{Edge, List, Mem, Role, Steps};
 use std::alloc::Global;
 use std::collections::BTreeSet;
 
+/// How many roles a walk has room for from its start. Most come to fewer.
+const USUAL_ROLES: usize = 16;
+
 /// The roles that a walk comes to from some of them, these included, along the edges or against them, but for the removed
 /// edges. It takes at most two steps for each edge at a role that it comes to, and one for each role that it begins at.
 pub fn walk(
@@ -30,6 +33,7 @@ pub fn walk(
         + length from.now) }
 {
     let mut found = List::new(alloc);
+    found.reserve(USUAL_ROLES)?;
     // A sorted list would move its rows for each role that comes before others.
     let mut seen = BTreeSet::new(alloc);
     add_all(&mut found, &mut seen, from)?;

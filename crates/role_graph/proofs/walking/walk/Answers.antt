@@ -14,13 +14,14 @@ use Rattle.role_graph.proofs.walking.walk.Goals as goal
 pub loop-done-init : goal.loop-done-init
 loop-done-init c =
     let es = unordered (public_store c.args.roles.now.shape.now.tree c.args.roles.now.grants.now.pairs) in
-    let start : HaveSame c.new-found.result.items c.new-seen.result.keys = λ r. (
-      λ i. absurd (subst (In r) c.new-found.ensures i),
+    let none = c.reserve.ensures.items ∙ c.new-found.ensures in
+    let start : HaveSame c.reserve.new.self.items c.new-seen.result.keys = λ r. (
+      λ i. absurd (subst (In r) none i),
       λ i. absurd (subst (In r) c.new-seen.ensures.empty i),
     ) in
     record {
       walking = walk_begins (as_walked c.args.way es) (as_walked c.args.way (edges_but c.args.removed.now es)) c.args.from.now c.add_all.new.found.items c.args.steps.now
-          (c.in_ok-add_all.ensures.found start ∙ ap (λ (l : List Role). with_new l c.args.from.now) c.new-found.ensures);
+          (c.in_ok-add_all.ensures.found start ∙ ap (λ (l : List Role). with_new l c.args.from.now) none);
       same = c.in_ok-add_all.ensures.seen start;
     }
 
