@@ -45,6 +45,7 @@ pub(crate) fn roles_of(alloc: Global, roles: &[Role]) -> Mem<List<Role>>
     ensures { IfOk result (λ l. l.items ≡ roles.now) }
 {
     let mut list = List::new(alloc);
+    list.reserve(roles.len())?;
     for role in roles {
         list.push(*role)?;
     }
@@ -56,6 +57,7 @@ pub(crate) fn edges_of(alloc: Global, edges: &[Edge]) -> Mem<List<Edge>>
     ensures { IfOk result (λ l. l.items ≡ edges.now) }
 {
     let mut list = List::new(alloc);
+    list.reserve(edges.len())?;
     for edge in edges {
         list.push(*edge)?;
     }
