@@ -39,6 +39,7 @@ pub(crate) fn joined(alloc: Global, first: &[Role], second: &[Role]) -> Mem<List
 fn push_roles(all: &mut List<Role>, roles: &[Role]) -> Mem<()>
     ensures { OnOk result (all.new.items ≡ all.old.items ++ roles.now) }
 {
+    all.reserve(roles.len())?;
     for role in roles {
         all.push(*role)?;
     }
@@ -50,7 +51,7 @@ fn push_roles(all: &mut List<Role>, roles: &[Role]) -> Mem<()>
 pub(crate) fn edges_left(alloc: Global, edges: &[Edge], removed: &[Edge]) -> Mem<Vec<Edge>>
     ensures { IfOk result (λ l. l.items ≡ without same_edge removed.now edges.now) }
 {
-    let mut left = Vec::new(alloc);
+    let mut left = Vec::with_capacity(alloc, edges.len())?;
     for edge in edges {
         if !has_edge(removed, edge) {
             left.push(*edge)?;

@@ -14,6 +14,7 @@ pub(crate) fn given_keys(alloc: Global, roles: &[Role], first: u64) -> Mem<List<
     ensures { IfOk result (λ l. l.items ≡ numbered first roles.now) }
 {
     let mut keys = List::new(alloc);
+    keys.reserve(roles.len())?;
     let mut next = first;
     for role in roles {
         keys.push(KeyHead {
@@ -36,6 +37,7 @@ pub(crate) fn link_heads(
     ensures { IfOk result (λ l. l.items ≡ links_from (keys_then_of keys.now) first edges.now) }
 {
     let mut links = List::new(alloc);
+    links.reserve(edges.len())?;
     let mut next = first;
     for edge in edges {
         links.push(link_head(keys, edge, next))?;
