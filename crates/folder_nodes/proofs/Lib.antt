@@ -4,6 +4,7 @@ pub mod Causes
 pub mod Checked
 pub mod Climbing
 pub mod Digested
+pub mod Descending
 pub mod Downward
 pub mod Heights
 pub mod Indexed

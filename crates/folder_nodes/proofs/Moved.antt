@@ -66,7 +66,7 @@ folder_below s g f e p within =
     let here : v e ≡ depth_of s (folder_node f) = ap (λ z. cond (is_within s z g) (depth_of s (folder_node z)) 0) same ∙ ap (λ b. cond b (depth_of s (folder_node f)) 0) within in
     omega (arith, le, more, here)
 
-file_below : (s : Store) (g x : ℕ) (e : FileEntry) → file_entry s x ≡ Some e → e.id ≡ x → is_within s e.folder g ≡ true → depth_of s (file_node x) ≤ deepest s g
+pub file_below : (s : Store) (g x : ℕ) (e : FileEntry) → file_entry s x ≡ Some e → e.id ≡ x → is_within s e.folder g ≡ true → depth_of s (file_node x) ≤ deepest s g
 unfolding file_entry depth_in is_node_within file_node
 file_below s g x e p same within =
     let v : FileEntry → ℕ = λ e. depth_in s g (file_node e.id) in

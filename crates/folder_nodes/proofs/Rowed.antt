@@ -47,7 +47,7 @@ pub file_entry_of_row : (rows : List FolderRow) (files : List FileRow) (m n x : 
 unfolding file_entry
 file_entry_of_row rows files m n x = find-map FileRow FileEntry file_of_row (λ e. e.id == x) files
 
-any-map : (X Y : Type 0) (h : X → Y) (p : Y → Bool) (xs : List X) → list_any p (map h xs) ≡ list_any (λ x. p (h x)) xs
+pub any-map : (X Y : Type 0) (h : X → Y) (p : Y → Bool) (xs : List X) → list_any p (map h xs) ≡ list_any (λ x. p (h x)) xs
 any-map X Y h p [] = refl
 any-map X Y h p (x ∷ xs) = ap (λ b. p (h x) || b) (any-map X Y h p xs)
 

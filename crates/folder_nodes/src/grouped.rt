@@ -90,6 +90,11 @@ impl<T: Member> Grouped<T> {
         self.rows.find(key)
     }
 
+    /// Whether the rows are in their groups, so that a look-up of one finds no others. No promise rests on it.
+    pub(crate) fn is_arranged(&self) -> bool {
+        self.is_arranged
+    }
+
     /// The numbers of all rows of the group, in ascending order, and where the index isn't arranged those of all rows.
     pub(crate) fn in_group(&self, group: u64) -> &[Spot]
         ensures rising { IsRising (λ (q : TheSpot). q.id) result.now }

@@ -30,7 +30,7 @@ impl Shape {
     }
 
     /// Whether the folder g stands in the folder f.
-    fn is_child(&self, g: u32, f: FolderId) -> bool
+    pub(crate) fn is_child(&self, g: u32, f: FolderId) -> bool
         ensures { result ≡ is_child_of f.0 (folder_entry self.now.tree g) }
     {
         match self.folder_row(g) {

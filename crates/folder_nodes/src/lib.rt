@@ -3,6 +3,7 @@
 
 mod book;
 mod changes;
+mod descent;
 mod finding;
 mod grouped;
 mod inside;

@@ -131,6 +131,13 @@ impl Shape {
         self.files.in_group(u64::from(f))
     }
 
+    /// Whether a file is in the folder.
+    pub(crate) fn has_file_inside(&self, f: u32) -> bool
+        ensures { result ≡ list_any (λ e. e.folder == f) self.now.tree.files }
+    {
+        self.files.has_group(u64::from(f))
+    }
+
     /// Whether the folder has no child. Before `arrange` it looks at all folders and files.
     pub fn is_empty_folder(&self, f: FolderId) -> bool
         requires { IsSome (folder_entry self.now.tree f.0) }
@@ -141,6 +148,11 @@ impl Shape {
             return false;
         }
         !self.files.has_group(number)
+    }
+
+    /// Whether folders and files are in order for look-ups by path. It tells what those cost, and no promise rests on it.
+    pub(crate) fn is_arranged(&self) -> bool {
+        self.folders.is_arranged() && self.files.is_arranged()
     }
 
     /// An equal shape, with memory of its own.

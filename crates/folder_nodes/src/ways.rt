@@ -1,11 +1,9 @@
 //! Ways up the tree: which folders are above a folder, and how many.
-ghost use Rattle.std.specs.Prelude.{◌≡◌, ◌+◌, ◌-◌, ◌≤◌, ◌==◌, ◌&&◌, max, true, not, cond, map, length, Some, IsSome};
-ghost use Rattle.std.specs.List.{fold};
-ghost use Rattle.cry_base.specs.Refusing.{deepest, height_of};
+ghost use Rattle.std.specs.Prelude.{◌≡◌, ◌+◌, ◌≤◌, ◌==◌, ◌&&◌, not, length, IsSome};
 ghost use Rattle.cry_base.specs.Store.{folder_entry, file_entry, folder_node, depth_of, is_within, way_to_root};
 ghost use Rattle.folder_nodes.specs.Looking.{parent_number_of, folder_number_of};
 
-use crate::{FileRow, FolderRow, Shape};
+use crate::Shape;
 use cry_base::{DEPTH, FolderId};
 
 impl Shape {
@@ -70,71 +68,5 @@ impl Shape {
             here = parent;
         }
         DEPTH
-    }
-
-    /// Levels from the folder down to its deepest node: 0 where it has no child. It looks at all folders and files.
-    pub fn height(&self, f: FolderId) -> u32
-        requires { IsSome (folder_entry self.now.tree f.0) }
-        ensures { result ≡ height_of self.now.tree (Some (folder_node f.0)) }
-    {
-        let folders = self.deepest_folder(self.folders.as_slice(), f.0);
-        let deepest = self.deepest_file(self.files.as_slice(), f.0, folders);
-        let depth = self.depth(f);
-        deepest - depth
-    }
-
-    /// How deep a folder is, where it is in the other one, and else 0.
-    fn depth_in(&self, g: u32, f: u32) -> u32
-        ensures depth { result ≡ cond (is_within self.now.tree g f) (depth_of self.now.tree (folder_node g)) 0 }
-        ensures within { result ≤ 64 }
-    {
-        if self.is_within(g, f) {
-            self.depth_of_within(g, f)
-        } else {
-            0
-        }
-    }
-
-    fn depth_of_within(&self, g: u32, f: u32) -> u32
-        requires { is_within self.now.tree g f ≡ true }
-        ensures depth { result ≡ depth_of self.now.tree (folder_node g) }
-        ensures within { result ≤ 64 }
-    {
-        self.depth(FolderId(g))
-    }
-
-    /// The depth of the deepest of the folders that are in this one.
-    fn deepest_folder(&self, rows: &[FolderRow], f: u32) -> u32
-        ensures { result ≡ fold max 0 (map (λ r. cond (is_within self.now.tree r.id.0 f) (depth_of self.now.tree (folder_node r.id.0)) 0)
-            rows.now) }
-    {
-        let mut deepest = 0;
-        for row in rows {
-            deepest = deepest.max(self.depth_in(row.id.0, f));
-        }
-        deepest
-    }
-
-    /// The depth of the deepest of the files that are in this one, where `above` is less.
-    fn deepest_file(&self, rows: &[FileRow], f: u32, above: u32) -> u32
-        ensures { result ≡ fold max above (map (λ r. cond (is_within self.now.tree r.folder.0 f)
-            (depth_of self.now.tree (folder_node r.folder.0) + 1) 0) rows.now) }
-    {
-        let mut deepest = above;
-        for row in rows {
-            deepest = deepest.max(self.file_depth_in(row.folder.0, f));
-        }
-        deepest
-    }
-
-    /// How deep a file in the folder g is, where g is in the other one, and else 0.
-    fn file_depth_in(&self, g: u32, f: u32) -> u32
-        ensures { result ≡ cond (is_within self.now.tree g f) (depth_of self.now.tree (folder_node g) + 1) 0 }
-    {
-        if self.is_within(g, f) {
-            self.depth_of_within(g, f) + 1
-        } else {
-            0
-        }
     }
 }

@@ -73,6 +73,25 @@ fn height(shape: &Shape, folder: FolderId) -> Option<u32> {
     Some(shape.height(folder))
 }
 
+/// The heights of the root and of the folders 2 and 3.
+fn heights(shape: &Shape) -> [Option<u32>; 3] {
+    [
+        height(shape, ROOT),
+        height(shape, FolderId(2)),
+        height(shape, FolderId(3)),
+    ]
+}
+
+#[test]
+fn a_height_is_the_same_once_the_tree_is_in_order(rt: HostRuntime) -> Mem<()> {
+    let mut shape = made(rt.alloc())?;
+    add_file(&mut shape, FolderId(3))?;
+    assert!(rt; heights(&shape) == [Some(3), Some(2), Some(1)]);
+    shape.arrange(rt.alloc())?;
+    assert!(rt; heights(&shape) == [Some(3), Some(2), Some(1)]);
+    Ok(())
+}
+
 #[test]
 fn a_folder_is_removed_once_nothing_is_in_it(rt: HostRuntime) -> Mem<()> {
     let mut shape = made(rt.alloc())?;

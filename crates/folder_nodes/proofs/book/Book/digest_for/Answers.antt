@@ -1,4 +1,4 @@
-use Rattle.std.proofs.Common.{◌≡◌, true, ◌∙◌, ap, sym}
+use Rattle.std.proofs.Common.{◌∙◌, ap, sym}
 use Rattle.folder_nodes.specs.Digests.{name_digest}
 use Rattle.folder_nodes.proofs.Downward.{bytes_told}
 use Rattle.folder_nodes.proofs.Titled.{rank}
