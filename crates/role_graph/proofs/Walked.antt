@@ -1,5 +1,5 @@
 -- A walk that asks for the edges of each role once comes to all that paths lead to, in so many steps.
-use Rattle.std.proofs.Common.{◌≡◌, ℕ, zero, suc, ◌+◌, ◌*◌, ◌≤◌, ◌<◌, Bool, true, false, cond, not, ◌||◌, ◌⊎◌, ◌↔◌, List, [], ◌∷◌, ◌++◌, map, filter, length, get_or, take, inl, inr, ⊎_elim, refl, sym, ap, ◌∙◌, subst, arith}
+use Rattle.std.proofs.Common.{◌≡◌, ℕ, zero, suc, ◌+◌, ◌*◌, ◌≤◌, ◌<◌, Bool, true, false, cond, not, ◌||◌, ◌⊎◌, ◌↔◌, List, [], ◌∷◌, ◌++◌, map, filter, length, get_or, take, Option, Some, None, inl, inr, ⊎_elim, refl, sym, ap, ◌∙◌, subst, arith}
 use Rattle.std.specs.List.{list_any}
 use Rattle.std.proofs.lemmas.Bool.{false≢true}
 use Rattle.std.proofs.lemmas.List.{take_more, take_all, take-append-le, length-append, length-map, append-nil, append_assoc}
@@ -9,7 +9,7 @@ use Rattle.cry_base.specs.declared.roles.Edge.{Edge}
 use Rattle.cry_base.specs.declared.roles.Role.{Role}
 use Rattle.cry_base.proofs.Members.{In-append, In-map, In-filter, filter-In}
 use Rattle.cry_base.proofs.Reaching.{has-in, in-has}
-use Rattle.role_graph.specs.Adjacent.{HaveSame, as_walked, count_from, edges_but, ends_from, grown_by, into, out_of, with_new}
+use Rattle.role_graph.specs.Adjacent.{HaveSame, as_walked, count_from, edges_but, ending_in, ends_from, grown_by, into, out_of, roles_in, with_new}
 use Rattle.role_graph.specs.Closing.{IsReached, IsClosed, turned}
 use Rattle.role_graph.specs.Edges.{Reaches, edge, same_edge}
 use Rattle.role_graph.specs.Roles.{same_role}
@@ -223,6 +223,23 @@ fewer_turned removed es r = subst (λ n. length (ends_from (turned (edges_but re
 pub fewer_ends : (way : Way) (removed es : List Edge) (r : Role) → length (ends_from (as_walked way (edges_but removed es)) r) ≤ length (out_of (as_walked way es) r)
 fewer_ends Along removed es r = fewer_left removed es r
 fewer_ends Against removed es r = fewer_turned removed es r
+
+-- ---- ends that are in a set
+
+pub ends_in : (set : Option (List Role)) (es : List Edge) (r : Role) → roles_in set (ends_from es r) ≡ ends_from (ending_in set es) r
+unfolding roles_in ending_in ends_from out_of
+ends_in None es r = refl
+ends_in (Some set) es r =
+    filter-map Edge Role (λ e. e.to) (has same_role set) (filter (λ e. same_role e.from r) es)
+    ∙ ap (map (λ (e : Edge). e.to)) (filters_turn Edge (λ e. has same_role set e.to) (λ e. same_role e.from r) es)
+
+pub fewer_in : (set : Option (List Role)) (es : List Edge) (r : Role) → length (ends_from (ending_in set es) r) ≤ length (ends_from es r)
+unfolding roles_in
+fewer_in set es r = subst (λ (l : List Role). length l ≤ length (ends_from es r)) (ends_in set es r) (few set (ends_from es r))
+  where
+    few : (set : Option (List Role)) (rs : List Role) → length (roles_in set rs) ≤ length rs
+    few None rs = omega arith
+    few (Some set) rs = shorter Role (has same_role set) rs
 
 -- ---- the walk
 

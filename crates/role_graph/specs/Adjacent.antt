@@ -47,6 +47,15 @@ as_walked Against es = turned es
 unfoldable pub ends_from : List Edge → Role → List Role
 ends_from es r = map (λ e. e.to) (out_of es r)
 
+-- the edges that end in the set, and the roles that are in it. Where there is no set, all
+unfoldable pub ending_in : Option (List Role) → List Edge → List Edge
+ending_in None es = es
+ending_in (Some set) es = filter (λ e. has same_role set e.to) es
+
+unfoldable pub roles_in : Option (List Role) → List Role → List Role
+roles_in None rs = rs
+roles_in (Some set) rs = filter (has same_role set) rs
+
 -- how many edges lead out of the roles, and how many into them
 unfoldable pub count_from : List Edge → List Role → ℕ
 count_from es rs = length (filter (λ e. has same_role rs e.from) es)

@@ -24,5 +24,5 @@ pub use rights::{allowed, named};
 pub use role_set::RoleSet;
 pub use roles::Roles;
 pub use store_roles::StoreRoles;
-pub use walking::{has_edge, walk};
+pub use walking::{has_edge, walk, walk_within};
 pub use way::Way;

@@ -1,8 +1,8 @@
 //! A walk from some roles on. It asks for the edges of each role once.
-ghost use Rattle.std.specs.Prelude.{◌≡◌, ◌↔◌, ◌+◌, ◌*◌, ◌≤◌, length, map, IfOk, OnOk};
+ghost use Rattle.std.specs.Prelude.{◌≡◌, ◌↔◌, ◌+◌, ◌*◌, ◌≤◌, length, map, option_copied, Some, IfOk, OnOk};
 ghost use Rattle.cry_base.specs.Sets.{In, has};
 ghost use Rattle.cry_base.specs.declared.roles.Role.{Role as AnyRole};
-ghost use Rattle.role_graph.specs.Adjacent.{HaveSame, as_walked, count_from, edges_but, ends_from, grown_by, out_of, with_new};
+ghost use Rattle.role_graph.specs.Adjacent.{HaveSame, as_walked, count_from, edges_but, ending_in, ends_from, grown_by, out_of, roles_in, with_new};
 ghost use Rattle.role_graph.specs.Closing.{IsReached};
 ghost use Rattle.role_graph.specs.Edges.{same_edge, unordered};
 ghost use Rattle.role_graph.specs.PublicStore.{public_store};
@@ -17,6 +17,7 @@ const USUAL_ROLES: usize = 16;
 
 /// The roles that a walk comes to from some of them, these included, along the edges or against them, but for the removed
 /// edges. It takes at most two steps for each edge at a role that it comes to, and one for each role that it begins at.
+#[tactic(auto, unfolding(crate::specs::Adjacent::ending_in))]
 pub fn walk(
     alloc: Global,
     roles: &StoreRoles,
@@ -32,6 +33,46 @@ pub fn walk(
         + 2 * count_from (as_walked way (unordered (public_store roles.now.shape.now.tree roles.now.grants.now.pairs))) s
         + length from.now) }
 {
+    walk_on(alloc, roles, way, removed, None, from, steps)
+}
+
+/// What the walk comes to where it goes on to no role but those in a set. It takes as many steps for what it comes to.
+pub fn walk_within(
+    alloc: Global,
+    roles: &StoreRoles,
+    way: Way,
+    removed: &[Edge],
+    within: &RoleSet,
+    from: &[Role],
+    steps: &mut Steps,
+) -> Mem<RoleSet>
+    ensures reached { IfOk result (λ s. (r : AnyRole) → In r s
+        ↔ IsReached (ending_in (Some within.now) (as_walked way
+        (edges_but removed.now (unordered (public_store roles.now.shape.now.tree roles.now.grants.now.pairs))))) from.now r) }
+    ensures steps { IfOk result (λ s. steps.new ≤ steps.old
+        + 2 * count_from (as_walked way (unordered (public_store roles.now.shape.now.tree roles.now.grants.now.pairs))) s
+        + length from.now) }
+{
+    walk_on(alloc, roles, way, removed, Some(within), from, steps)
+}
+
+/// Either walk.
+fn walk_on(
+    alloc: Global,
+    roles: &StoreRoles,
+    way: Way,
+    removed: &[Edge],
+    within: Option<&RoleSet>,
+    from: &[Role],
+    steps: &mut Steps,
+) -> Mem<RoleSet>
+    ensures reached { IfOk result (λ s. (r : AnyRole) → In r s
+        ↔ IsReached (ending_in (option_copied within.entry) (as_walked way
+        (edges_but removed.now (unordered (public_store roles.now.shape.now.tree roles.now.grants.now.pairs))))) from.now r) }
+    ensures steps { IfOk result (λ s. steps.new ≤ steps.old
+        + 2 * count_from (as_walked way (unordered (public_store roles.now.shape.now.tree roles.now.grants.now.pairs))) s
+        + length from.now) }
+{
     let mut found = List::new(alloc);
     found.reserve(USUAL_ROLES)?;
     // A sorted list would move its rows for each role that comes before others.
@@ -42,6 +83,7 @@ pub fn walk(
     while done < found.as_slice().len() {
         let here = found.as_slice();
         ahead.look(alloc, roles, way, removed, here[done], steps)?;
+        ahead.keep(within);
         add_all(&mut found, &mut seen, &ahead.ends)?;
         done += 1;
     }
@@ -95,6 +137,17 @@ impl Ahead {
             }
         }
         Ok(())
+    }
+
+    /// Keeps of the ends those that are in the set, where there is one.
+    #[tactic(auto, unfolding(crate::specs::Adjacent::roles_in))]
+    fn keep(&mut self, within: Option<&RoleSet>)
+        ensures { self.new.ends.items ≡ roles_in (option_copied within.entry) self.old.ends.items }
+    {
+        match within {
+            Some(set) => self.ends.retain(|role| set.has(*role)),
+            None => {}
+        }
     }
 }
 
