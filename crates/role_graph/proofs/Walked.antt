@@ -177,7 +177,7 @@ count_within (e ∷ es) rs = let rest = count_within es rs in
 
 -- ---- what is left of a role's edges, and the same the other way round
 
-shorter : (X : Type 0) (p : X → Bool) (xs : List X) → length (filter p xs) ≤ length xs
+pub shorter : (X : Type 0) (p : X → Bool) (xs : List X) → length (filter p xs) ≤ length xs
 shorter X p [] = omega arith
 shorter X p (x ∷ xs) = let rest = shorter X p xs in elim (p x) as (λ b. length (cond b (x ∷ filter p xs) (filter p xs)) ≤ suc (length xs)) [
   | true ↦ omega (arith, rest)

@@ -110,7 +110,8 @@ impl RoleSet {
 
     /// The roles in their order, as a list.
     pub fn to_list(&self) -> Mem<List<Role>>
-        ensures { IfOk result (λ l. l.items ≡ self.now) }
+        ensures roles { IfOk result (λ l. l.items ≡ self.now) }
+        ensures ascending { IsAscending self.now }
     {
         let mut list = List::new(*self.roles.allocator());
         list.reserve(self.roles.len())?;

@@ -15,4 +15,4 @@ returns-clause-reached c =
     (λ l e r. (
       λ i. (one_reached es from r).0 ((told r).0 (subst (In r) e i)),
       λ way. subst (In r) (sym e) ((told r).1 ((one_reached es from r).1 way)),
-    )) c.to_list-2.ensures
+    )) c.to_list-2.ensures.roles

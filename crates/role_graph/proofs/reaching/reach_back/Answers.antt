@@ -14,4 +14,4 @@ returns-clause-reached c =
     (λ l e r. (
       λ i. (told r).0 (subst (In r) e i),
       λ w. subst (In r) (sym e) ((told r).1 w),
-    )) c.to_list-2.ensures
+    )) c.to_list-2.ensures.roles
