@@ -20,10 +20,10 @@ use Rattle.rekey_walk.proofs.Planning.{marked_is, planned_is}
 use Rattle.rekey_walk.proofs.Reordered.{plan_same, reaches_kept}
 
 -- the same edges in another order
-in_edges : (s : Store) (e : Edge) → In e (unordered s) → In e (edges s)
+pub in_edges : (s : Store) (e : Edge) → In e (unordered s) → In e (edges s)
 in_edges s e i = subst (λ (l : List Edge). In e l) (sym (edges_ordered s)) ((In-order Edge edge_before e (unordered s)).1 i)
 
-in_unordered : (s : Store) (e : Edge) → In e (edges s) → In e (unordered s)
+pub in_unordered : (s : Store) (e : Edge) → In e (edges s) → In e (unordered s)
 in_unordered s e i = (In-order Edge edge_before e (unordered s)).0 (subst (λ (l : List Edge). In e l) (edges_ordered s) i)
 
 length_put : (e : Edge) (es : List Edge) → length (put_in_order edge_before e es) ≡ suc (length es)
@@ -56,7 +56,7 @@ turned_count (e ∷ es) rs = elim (has same_role rs e.to) as (λ b. length (cond
   | false ↦ turned_count es rs
 ]
 
-into_alike : (s : Store) (rs : List Role) → count_from (turned (unordered s)) rs ≡ count_into (edges s) rs
+pub into_alike : (s : Store) (rs : List Role) → count_from (turned (unordered s)) rs ≡ count_into (edges s) rs
 unfolding count_into
 into_alike s rs = turned_count (unordered s) rs ∙ counted_alike s (λ e. has same_role rs e.to)
 
@@ -75,7 +75,7 @@ none_but [] = refl
 none_but (e ∷ es) = ap (λ l. e ∷ l) (none_but es)
 
 -- what is left, in either order
-but_in : (removed : List Edge) (es fs : List Edge) → ((e : Edge) → In e es → In e fs) → (e : Edge) → In e (edges_but removed es) → In e (edges_but removed fs)
+pub but_in : (removed : List Edge) (es fs : List Edge) → ((e : Edge) → In e es → In e fs) → (e : Edge) → In e (edges_but removed es) → In e (edges_but removed fs)
 unfolding edges_but
 but_in removed es fs all e i =
     let both = In-filter Edge (λ x. not (has same_edge removed x)) e es i in

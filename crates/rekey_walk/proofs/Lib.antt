@@ -1,4 +1,5 @@
 pub mod ByWalks
+pub mod Closed
 pub mod Marking
 pub mod Planning
 pub mod Reordered

@@ -59,6 +59,20 @@ impl Dirty {
         self.roles.has(role)
     }
 
+    /// The dirty ones of the roles.
+    pub(crate) fn of_these(&self, alloc: Global, roles: &[Role]) -> Mem<List<Role>>
+        ensures { IfOk result (λ l. l.items ≡ filter (has same_role self.now) roles.now) }
+    {
+        those_in(alloc, roles, &self.roles)
+    }
+
+    /// The set of them.
+    pub(crate) fn roles(&self) -> &RoleSet
+        ensures { result.now ≡ self.now }
+    {
+        &self.roles
+    }
+
     /// Makes the role clean. It takes no memory.
     pub fn clean(&mut self, role: Role)
         ensures { self.new ≡ without_role role self.old }

@@ -7,4 +7,4 @@ pub mod rows;
 mod walks;
 
 pub use dirty::{Dirty, mark_from, plan};
-pub use walks::{mark_in, plan_in};
+pub use walks::{mark_in, plan_closed, plan_in};
