@@ -155,6 +155,16 @@ module _ (s t : Store) (k : KeyState) (c : Change) (links : List Link) (mv : IsM
   unfolding renewed
   planned_told r = plan_told (dirty_left k (edges s) c) (edges_left (edges s) c) c.wanted r
 
+  -- before what is renewed is clean, edges that stay lead from dirty roles to dirty ones
+  pub closed_before : (e : Edge) → In e (edges_left (edges s) c) → In e.from (dirty_left k (edges s) c) → In e.to (dirty_left k (edges s) c)
+  closed_before e i from =
+      let there = (left_told (edges s) c e).0 i in
+      let stays = (mv.leads e).0 (inl ((edges_told s e).0 there.0, there.1)) in
+      (marked_told e.to).1 (
+        ⊎_elim (λ d. inl (ok.closed e there.0 d)) (λ p. inr (p.0, p.1, On p.2 (edge_pair (edges s) e there.0))) ((marked_told e.from).0 from).0,
+        not_gone e.to (mv.ends_after e stays).1,
+      )
+
   -- a dirty role's edges lead to dirty ones
   pub closed_then : (e : Edge) → IsEdge t e → In e.from (dirty_left k (edges s) c) → (In e.from (renewed k (edges s) c) → ⊥) → In e.to (dirty_left k (edges s) c) × (In e.to (renewed k (edges s) c) → ⊥)
   closed_then e w i out = ⊎_elim

@@ -6,6 +6,7 @@ pub mod EdgesAfter
 pub mod EdgesThen
 pub mod Growing
 pub mod Keeping
+pub mod HeldMarks
 pub mod KeepingKeys
 pub mod KeyMoves
 pub mod Levels

@@ -10,6 +10,7 @@ use Rattle.role_graph.specs.Edges.{edges}
 use Rattle.role_graph.specs.RightsByReach.{HasFolder}
 use Rattle.role_graph.specs.Roles.{is_root_role}
 use Rattle.public_fold.specs.Records.{Link}
+use Rattle.public_fold.specs.Rooted.{MayStand}
 use Rattle.public_fold.specs.KeyStep.{KeyState, Stepped, next_serial, newest, present}
 
 -- the role is the owner's, or one of a holder, a folder or a file that stands
@@ -36,6 +37,12 @@ pub record KeysHold (s : Store) (k : KeyState) (links : List Link) : Type 0 wher
   pub linked : (e : Edge) → In e (edges s) → (l : Link) × In l links × (l.edge ≡ e) × (l.from_serial ≡ present k.keys e.from)
       × (l.to_serial ≡ present k.keys e.to)
   pub keyed : (r : Role) → HasRole s r ↔ ((n : ℕ) × (newest k.keys r ≡ Some n))
+
+-- the store may stand, and these keys hold with some links, where the counter stands wherever it does
+pub record IsKept (s : Store) (keys : List (Role × ℕ)) (dirty : List Role) : Type 0 where
+  pub stands : MayStand s
+  pub links : List Link
+  pub hold : KeysHold s (record { keys = keys; dirty = dirty; epoch = 0; count = 0 }) links
 
 -- present keys have serials of their own, all below the next one
 pub record SerialsHold (k : KeyState) : Type 0 where

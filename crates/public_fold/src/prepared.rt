@@ -145,6 +145,7 @@ impl PublicState {
         requires room { HasRoomFor self.old ready }
         ensures { self.new ≡ with_room_of (settled self.old ready) self.new }
     {
+        self.is_seen();
         let Prepared {
             note,
             skeleton,

@@ -31,7 +31,7 @@ pub struct PublicState {
 impl Model for PublicState {
     ghost use Rattle.std.specs.Prelude.{min};
     ghost use Rattle.move_plan.specs.Seen.{seen_store};
-    ghost use Rattle.public_fold.specs.Rooted.{MayStand};
+    ghost use Rattle.public_fold.specs.Keyed.{IsKept};
     ghost use Rattle.public_fold.specs.Standing.{PublicView};
 
     ghost Value = { PublicView };
@@ -45,7 +45,7 @@ impl Model for PublicState {
       key_spare = s.keys.spare;
     } };
 
-    ghost invariant = { λ s. MayStand (seen_store s.shape.tree s.grants) };
+    ghost invariant = { λ s. IsKept (seen_store s.shape.tree s.grants) s.keys.keys s.dirty };
 }
 
 impl PublicState {

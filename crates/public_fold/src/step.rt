@@ -21,7 +21,7 @@ use crate::{FoldFault, PublicState, Skeleton};
 use cry_base::{Edge, List, Mem, Role, Steps};
 use move_plan::{Change, change_of};
 use record_format::Note;
-use rekey_walk::{Dirty, plan_in};
+use rekey_walk::{Dirty, plan_closed};
 use role_graph::StoreRoles;
 use std::alloc::Global;
 
@@ -93,7 +93,7 @@ fn due_step(alloc: Global, state: &PublicState, change: &Change) -> Mem<Due>
     let removed = change.removed.as_slice();
     let wanted = change.wanted.as_slice();
     let mut dirty = dirty_left(alloc, &state.dirty, &roles, change, &mut steps)?;
-    let renewed = plan_in(alloc, &dirty, &roles, removed, wanted, &mut steps)?;
+    let renewed = plan_closed(alloc, &dirty, &roles, removed, wanted, &mut steps)?;
     let renewed = renewed.as_slice();
     let keyed = joined(alloc, renewed, change.fresh.as_slice())?;
     let gone = joined(alloc, renewed, change.gone.as_slice())?;
