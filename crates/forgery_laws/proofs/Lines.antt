@@ -37,7 +37,7 @@ use Rattle.role_graph.proofs.Granting.{allowed_to_told, named_to_told}
 use Rattle.reader_laws.proofs.Readable.{fold_shape}
 use Rattle.reader_laws.proofs.Readers.{allowed_public}
 use Rattle.reader_laws.proofs.Seen.{named_seen}
-use Rattle.reader_laws.proofs.Rights.{HasShape, allowed_is_named, named_above, passes}
+use Rattle.log_visits.proofs.Rights.{HasShape, allowed_is_named, named_above, passes}
 use Rattle.forgery_laws.specs.Written.{AreBytes, AreWrittenLines, HasForged, HasKeyOf, IsWrittenLine, WereNamed}
 use Rattle.forgery_laws.proofs.Authentic.{AreRecords, log_records}
 use Rattle.forgery_laws.proofs.Visited.{IsSound, folders_stay, one_key_first, visits_sound}

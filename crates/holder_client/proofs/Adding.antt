@@ -28,6 +28,7 @@ use Rattle.log_visits.specs.declared.fault.ClientFault.{ClientFault}
 use Rattle.holder_client.specs.declared.log_reader.Reader.{Reader}
 use Rattle.holder_client.proofs.Admitted.{refused_key, taken_key}
 use Rattle.log_visits.proofs.Folded.{behind_epoch}
+use Rattle.log_visits.proofs.StillLeft.{folded_more}
 use Rattle.public_fold.specs.Journal.{Stand, nothing}
 use Rattle.public_fold.specs.KeyStep.{KeyState, no_keys}
 use Rattle.public_fold.specs.Standing.{IsSeenAs}
@@ -51,16 +52,6 @@ pub free_again : (fault : OpenFault) → (fault ≡ opening.DiskFault) ⊎ (faul
 free_again fault is = ⊎_elim (λ (e : fault ≡ opening.DiskFault). subst (λ f. IsFree (client_fault f)) (sym e) tt) (λ (e : fault ≡ opening.OutOfMemory). subst (λ f. IsFree (client_fault f)) (sym e) tt) is
 
 -- ---- one batch more is folded
-
-then_each : {A B C : Type 0} (x : Result A Fault) (f : A → Result C Fault) (g : A → Result B Fault) (h : B → Result C Fault) → ((a : A) → f a ≡ and_then (g a) h) → and_then x f ≡ and_then (and_then x g) h
-unfolding and_then
-then_each (Ok a) f g h same = same a
-then_each (Err fault) f g h same = refl
-
-folded_more : (at : Stand) (log : List PlainPlaced) (p : PlainPlaced) → folded at (log ++ p ∷ []) ≡ and_then (folded at log) (λ behind. folded behind (p ∷ []))
-unfolding folded and_then
-folded_more at [] p = refl
-folded_more at (q ∷ log) p = then_each (stand_behind at q.place q.body) (λ b. folded b (log ++ p ∷ [])) (λ b. folded b log) (λ b. folded b (p ∷ [])) (λ b. folded_more b log p)
 
 folded_on : (first at behind : Stand) (log : List PlainPlaced) (p : PlainPlaced) → folded first log ≡ Ok at → stand_behind at p.place p.body ≡ Ok behind → folded first (log ++ p ∷ []) ≡ Ok behind
 unfolding folded and_then
@@ -162,16 +153,19 @@ follows_on reader log p has are = subst (λ n. IsInEpoch n p.epoch.0 p.body) (sy
 
 pub added : (old new : Reader) (log : List PlainPlaced) (p : PlainPlaced) → HasFolded old log → AreInEpochs 0 (log ++ p ∷ []) → p.batch ≡ length log + 1 → p.batch < 2 ^ 32 →
     ((at : Stand) → IsSeenAs old.state at → AnswersBy (λ (u : Unit {0}) behind. IsSeenAs new.state behind) (Ok tt) (stand_behind at p.place p.body)) →
-    IsIndexOf new.index (log ++ p ∷ []) → HasChecks new.checks (log ++ p ∷ []) → HasFolded new (log ++ p ∷ [])
-added old new log p has are batch small taken index checks =
+    ((at : Stand) → folded nothing (log ++ p ∷ []) ≡ Ok at → IsSeenAs new.state at → IsIndexOf new.index (log ++ p ∷ []) × HasChecks new.checks (log ++ p ∷ [])) →
+    HasFolded new (log ++ p ∷ [])
+added old new log p has are batch small taken kept =
     let at = has.stand.0 in
     let next = taken at has.stand.2 in
     let in_epoch : IsInEpoch at.keys.epoch p.epoch.0 p.body = subst (λ (k : KeyState). IsInEpoch k.epoch p.epoch.0 p.body) (sym has.stand.2.keys) (follows_on old log p has are) in
     let long = length-append log (p ∷ []) in
+    let folds = folded_on nothing at next.0 log p has.stand.1 next.1 in
+    let both = kept next.0 folds next.2 in
     record {
-      index = index;
-      checks = checks;
-      stand = (next.0, folded_on nothing at next.0 log p has.stand.1 next.1, next.2);
+      index = both.0;
+      checks = both.1;
+      stand = (next.0, folds, next.2);
       epoch = sym (ap (λ (k : KeyState). k.epoch) next.2.keys) ∙ behind_epoch at next.0 p.place p.epoch.0 p.body in_epoch next.1 ∙ sym (last_epoch 0 log p);
       count = omega (arith, long, batch, small);
     }

@@ -3,6 +3,7 @@ use Rattle.std.proofs.Common.{◌≡◌, ℕ, List, [], ◌∷◌, Result, refl,
 use Rattle.std.proofs.lemmas.Bool.{false≢true}
 use Rattle.chacha_seal.specs.Keys.{KeyParts}
 use Rattle.commit_journal.specs.Answering.{Fault}
+use Rattle.cry_base.specs.Sets.{In}
 use Rattle.cry_base.specs.Store.{Store}
 use Rattle.cry_base.specs.declared.client.Bundle.{Bundle}
 use Rattle.cry_base.specs.declared.client.Bundle.TheVariants as bundles
@@ -13,7 +14,7 @@ use Rattle.log_visits.specs.Answering.{AnswersBy}
 use Rattle.holder_client.specs.Filed.{IsNamedBy, everyone}
 use Rattle.log_visits.specs.Holding.{ArePresent, HoldsKeys}
 use Rattle.log_visits.specs.Judging.{first_key, opened_first}
-use Rattle.log_visits.specs.Opening.{IsNameless, IsOpenedTo, Tells}
+use Rattle.log_visits.specs.Opening.{IsNameless, IsOpenedTo, IsToStanding, Tells}
 use Rattle.log_visits.specs.Visiting.{Opened, Reading}
 use Rattle.log_visits.specs.Visits.{Visit}
 use Rattle.log_visits.specs.declared.fault.ClientFault.{ClientFault}
@@ -62,12 +63,13 @@ holder_present keys ring one h serial key alone parts newest =
 -- ---- the visits of names
 
 pub names_begin : (bundle : Bundle) (r : Reading) (visits : List Visit) (view : OwnersView) → IsNameless r.stand.store → HoldsKeys everyone view.ring (first_key bundle ∷ []) → view.names.folders ≡ [] → view.names.files ≡ [] →
-    IsOpenedTo everyone r.stand.store visits view (opened_first bundle r)
+    ((v : Visit) → In v visits → IsToStanding r.stand.store v) → IsOpenedTo everyone r.stand.store visits view (opened_first bundle r)
 unfolding opened_first
-names_begin bundle r visits view less keys no_folders no_files = record {
+names_begin bundle r visits view less keys no_folders no_files standing = record {
   keys = keys;
   names = nothing_named r.stand.store view.names less no_folders no_files;
   holders = λ e i never. absurd (false≢true (sym never));
+  standing = standing;
 }
 
 pub names_end : (bare : Store) (result : Result OwnersView ClientFault) (wanted : Result Opened Fault) → AnswersBy (λ (x : OwnersView) o. IsOpenedTo everyone bare [] x o) result wanted →

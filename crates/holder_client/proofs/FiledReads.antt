@@ -1,5 +1,5 @@
 -- Files that were read, seen by the names and bytes that they have then.
-use Rattle.std.proofs.Common.{◌≡◌, ◌≢◌, ℕ, ◌+◌, ◌<◌, ◌≤◌, cond, List, [], ◌∷◌, ◌++◌, drop, get_or, length, map, take, Some, Result, Ok, Err, inl, inr, ⊎_elim, refl, sym, ap, subst, ◌∙◌, arith}
+use Rattle.std.proofs.Common.{◌≡◌, ◌≢◌, ℕ, zero, suc, ◌+◌, ◌<◌, ◌≤◌, Bool, filter, cond, List, [], ◌∷◌, ◌++◌, drop, get_or, length, map, take, Some, Result, Ok, Err, inl, inr, ⊎_elim, refl, sym, ap, subst, ◌∙◌, arith}
 use Rattle.std.specs.List.{AllPairs, flat_map}
 use Rattle.std.proofs.Math.ListN.{drop_of_length-le}
 use Rattle.std.proofs.lemmas.Bool.{eq-eqb, ne_eqb}
@@ -8,13 +8,15 @@ use Rattle.commit_journal.specs.Answering.{Fault, and_then}
 use Rattle.commit_journal.specs.Placed.{PlainPlaced}
 use Rattle.cry_base.specs.Sets.{In}
 use Rattle.cry_base.specs.Stepping.{with_file}
-use Rattle.cry_base.specs.Store.{Store}
+use Rattle.cry_base.specs.Store.{Store, FileEntry}
 use Rattle.cry_base.specs.declared.roles.Node.TheVariants.{Folder, File}
+use Rattle.cry_base.proofs.Members.{In-filter, In-map}
+use Rattle.folder_nodes.specs.Bare.{file_of_row}
 use Rattle.folder_nodes.specs.Titles.{Title, Titles, title_at}
 use Rattle.folder_nodes.specs.declared.rows.FileRow.{FileRow}
 use Rattle.folder_nodes.proofs.Ascending.{All-in, head_below, rest_rising}
 use Rattle.log_visits.specs.Answering.{IsFault}
-use Rattle.holder_client.specs.Filed.{IsReadBy, everyone, file_stops, read_title, titles_read, with_read}
+use Rattle.holder_client.specs.Filed.{AreStanding, IsReadBy, everyone, file_stops, read_title, titles_read, with_read}
 use Rattle.log_visits.specs.Holding.{HasKind, HasNames, HoldsKeys, IsFiled, IsFiledBy, IsReadingIn}
 use Rattle.log_visits.specs.Visiting.{Opened, Reading, visit, visit_all}
 use Rattle.log_visits.specs.Visits.{Visit}
@@ -29,7 +31,7 @@ use Rattle.log_visits.proofs.Viewed.{fault_first}
 use Rattle.key_links.specs.Ended.{kind_from, kind_to, role_with, row_numbered}
 use Rattle.key_links.specs.Ringed.{Ringed}
 use Rattle.public_fold.specs.Standing.{PublicView}
-use Rattle.role_graph.specs.Edges.{edge, file_edge}
+use Rattle.role_graph.specs.Edges.{IsEdge, edge, file_edge}
 use Rattle.role_graph.specs.Roles.{file_role, files_of, role_id}
 
 -- one file more
@@ -114,12 +116,12 @@ text_read ring r o next row f parts passed holds same filed is_row is_name is_by
 -- the files so far were read, and those from an index on are left
 abbrev pub AreReadTo : PublicView → List PlainPlaced → Ringed → List FileRow → ℕ → Ringed → List ReadFile → Type 0
 AreReadTo state log before rows i ring files =
-    (r : Reading) (o : Opened) (bare : Store) (names : Titles) → IsReadingIn state log r → HoldsKeys everyone before o.keys → HasNames bare names o.store →
+    (r : Reading) (o : Opened) (bare : Store) (names : Titles) → IsReadingIn state log r → AreStanding r.stand.store rows → HoldsKeys everyone before o.keys → HasNames bare names o.store →
     (p : Opened) × (visit_all r (flat_map file_stops rows) o ≡ visit_all r (flat_map file_stops (drop i rows)) p) × HoldsKeys everyone ring p.keys × HasNames bare (with_read names files) p.store
 
 pub reads_begin : (state : PublicView) (log : List PlainPlaced) (ring : Ringed) (rows : List FileRow) (files : List ReadFile) → files ≡ [] → AreReadTo state log ring rows 0 ring files
 unfolding titles_read
-reads_begin state log ring rows files none = λ r o bare names of_log holds has. (o, refl, holds, subst (λ l. HasNames bare (with_read names l) o.store) (sym none) has)
+reads_begin state log ring rows files none = λ r o bare names of_log stand holds has. (o, refl, holds, subst (λ l. HasNames bare (with_read names l) o.store) (sym none) has)
 
 pub all_after : (r : Reading) (vs ws : List Visit) (o p : Opened) → visit_all r vs o ≡ Ok p → visit_all r (vs ++ ws) o ≡ visit_all r ws p
 unfolding visit_all and_then
@@ -152,13 +154,40 @@ fails_before r (v ∷ vs) ws o fault =
 from_row : (rows : List FileRow) (i : ℕ) (row : FileRow) → i < length rows → row ≡ get_or rows i row → flat_map file_stops (drop i rows) ≡ file_stops row ++ flat_map file_stops (drop (i + 1) rows)
 from_row rows i row within is = ap (flat_map file_stops) (drop_more rows i row within) ∙ ap (λ (x : FileRow). file_stops x ++ flat_map file_stops (drop (i + 1) rows)) (sym is)
 
+row_in : (rows : List FileRow) (i : ℕ) (d : FileRow) → i < length rows → In (get_or rows i d) rows
+row_in [] i d within = absurd (omega (arith, within))
+row_in (x ∷ rows) zero d within = inl refl
+row_in (x ∷ rows) (suc i) d within = inr (row_in rows i d (omega (arith, within)))
+
+row_stands : (s : Store) (rows : List FileRow) (i : ℕ) (row : FileRow) → i < length rows → row ≡ get_or rows i row → AreStanding s rows → AreStanding s (row ∷ [])
+row_stands s rows i row within is stand = λ r j. ⊎_elim
+    (λ (q : r ≡ row). stand r (subst (λ (x : FileRow). In x rows) (sym (q ∙ is)) (row_in rows i row within)))
+    (λ n. absurd n) j
+
+-- rows of a store's files are of files that stand, and so are some of them
+pub rows_stand : (s : Store) (rows some : List FileRow) (by : FileRow → Bool) → s.files ≡ map file_of_row rows → some ≡ filter by rows → AreStanding s some
+rows_stand s rows some by is chosen = λ r i.
+    let e : FileEntry = file_of_row r in
+    let there = (In-filter FileRow by r rows (subst (λ (l : List FileRow). In r l) chosen i)).0 in
+    let listed : In e (map file_of_row rows) = (In-map FileRow FileEntry file_of_row e rows).1 (r, there, refl) in
+    (e, subst (In e) (sym is) listed, refl, refl)
+
+-- so the visits of a file are to what stands
+pub file_edge_stands : (s : Store) (row : FileRow) → AreStanding s (row ∷ []) → IsEdge s (file_edge row.folder.0 row.id.0)
+file_edge_stands s row stand =
+    let w = stand row (inl refl) in
+    inr (inr (inr (w.0, w.1, λ j. file_edge (sym w.3 j) (sym w.2 j))))
+
+pub file_stands : (s : Store) (row : FileRow) → AreStanding s (row ∷ []) → (e : FileEntry) × In e s.files × (e.id ≡ row.id.0)
+file_stands s row stand = let w = stand row (inl refl) in (w.0, w.1, w.2)
+
 pub reads_go_on : (state : PublicView) (log : List PlainPlaced) (before ring next : Ringed) (rows : List FileRow) (i : ℕ) (row : FileRow) (files new : List ReadFile) (f : ReadFile) → i < length rows → row ≡ get_or rows i row →
     AreReadTo state log before rows i ring files → new ≡ files ++ f ∷ [] →
-    ((r : Reading) (o : Opened) → IsReadingIn state log r → HoldsKeys everyone ring o.keys → (behind : Opened) × (visit_all r (file_stops row) o ≡ Ok behind) × (HoldsKeys everyone next behind.keys × IsReadBy f o behind)) →
+    ((r : Reading) (o : Opened) → IsReadingIn state log r → AreStanding r.stand.store (row ∷ []) → HoldsKeys everyone ring o.keys → (behind : Opened) × (visit_all r (file_stops row) o ≡ Ok behind) × (HoldsKeys everyone next behind.keys × IsReadBy f o behind)) →
     AreReadTo state log before rows (i + 1) next new
-reads_go_on state log before ring next rows i row files new f within is so_far more made = λ r o bare names of_log holds has.
-    let so = so_far r o bare names of_log holds has in
-    let w = made r so.0 of_log so.2 in (
+reads_go_on state log before ring next rows i row files new f within is so_far more made = λ r o bare names of_log stand holds has.
+    let so = so_far r o bare names of_log stand holds has in
+    let w = made r so.0 of_log (row_stands r.stand.store rows i row within is stand) so.2 in (
       w.0,
       so.1 ∙ ap (λ l. visit_all r l so.0) (from_row rows i row within is) ∙ all_after r (file_stops row) (flat_map file_stops (drop (i + 1) rows)) so.0 w.0 w.1,
       w.2.0,
@@ -166,19 +195,19 @@ reads_go_on state log before ring next rows i row files new f within is so_far m
     )
 
 pub reads_fail : (state : PublicView) (log : List PlainPlaced) (before ring : Ringed) (rows : List FileRow) (i : ℕ) (row : FileRow) (files : List ReadFile) (fault : ClientFault) → i < length rows → row ≡ get_or rows i row →
-    AreReadTo state log before rows i ring files → ((r : Reading) (o : Opened) → IsReadingIn state log r → HoldsKeys everyone ring o.keys → IsFault fault (visit_all r (file_stops row) o)) →
-    (r : Reading) (o : Opened) (bare : Store) (names : Titles) → IsReadingIn state log r → HoldsKeys everyone before o.keys → HasNames bare names o.store → IsFault fault (visit_all r (flat_map file_stops rows) o)
-reads_fail state log before ring rows i row files fault within is so_far failed = λ r o bare names of_log holds has.
-    let so = so_far r o bare names of_log holds has in
+    AreReadTo state log before rows i ring files → ((r : Reading) (o : Opened) → IsReadingIn state log r → AreStanding r.stand.store (row ∷ []) → HoldsKeys everyone ring o.keys → IsFault fault (visit_all r (file_stops row) o)) →
+    (r : Reading) (o : Opened) (bare : Store) (names : Titles) → IsReadingIn state log r → AreStanding r.stand.store rows → HoldsKeys everyone before o.keys → HasNames bare names o.store → IsFault fault (visit_all r (flat_map file_stops rows) o)
+reads_fail state log before ring rows i row files fault within is so_far failed = λ r o bare names of_log stand holds has.
+    let so = so_far r o bare names of_log stand holds has in
     subst (IsFault fault) (sym (so.1 ∙ ap (λ l. visit_all r l so.0) (from_row rows i row within is)))
-    (fails_before r (file_stops row) (flat_map file_stops (drop (i + 1) rows)) so.0 fault (failed r so.0 of_log so.2))
+    (fails_before r (file_stops row) (flat_map file_stops (drop (i + 1) rows)) so.0 fault (failed r so.0 of_log (row_stands r.stand.store rows i row within is stand) so.2))
 
 pub reads_end : (state : PublicView) (log : List PlainPlaced) (before ring : Ringed) (rows : List FileRow) (i : ℕ) (files : List ReadFile) → length rows ≤ i → AreReadTo state log before rows i ring files →
-    (r : Reading) (o : Opened) (bare : Store) (names : Titles) → IsReadingIn state log r → HoldsKeys everyone before o.keys → HasNames bare names o.store →
+    (r : Reading) (o : Opened) (bare : Store) (names : Titles) → IsReadingIn state log r → AreStanding r.stand.store rows → HoldsKeys everyone before o.keys → HasNames bare names o.store →
     (behind : Opened) × (visit_all r (flat_map file_stops rows) o ≡ Ok behind) × HasNames bare (with_read names files) behind.store
 unfolding visit_all
-reads_end state log before ring rows i files past so_far = λ r o bare names of_log holds has.
-    let so = so_far r o bare names of_log holds has in
+reads_end state log before ring rows i files past so_far = λ r o bare names of_log stand holds has.
+    let so = so_far r o bare names of_log stand holds has in
     (so.0, so.1 ∙ ap (λ l. visit_all r (flat_map file_stops l) so.0) (drop_of_length-le rows past), so.3)
 
 pub rows_more : (rows : List FileRow) (i : ℕ) (row : FileRow) (files new : List ReadFile) (f : ReadFile) → i < length rows → row ≡ get_or rows i row → map (λ (x : ReadFile). x.row) files ≡ take i rows → f.row ≡ row →

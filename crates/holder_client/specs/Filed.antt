@@ -1,6 +1,7 @@
 -- Files that were read, beside the names of folders that were opened. This project's own, docs/FORMAT.md, "Reading".
-use Rattle.std.specs.Prelude.{Bool, true, List, [], ◌∷◌, Result, Ok}
-use Rattle.cry_base.specs.Store.{Store}
+use Rattle.std.specs.Prelude.{◌≡◌, Bool, true, List, [], ◌∷◌, Result, Ok}
+use Rattle.cry_base.specs.Sets.{In}
+use Rattle.cry_base.specs.Store.{Store, FileEntry}
 use Rattle.cry_base.specs.declared.client.Bundle.{Bundle}
 use Rattle.cry_base.specs.declared.roles.Role.{Role}
 use Rattle.folder_nodes.specs.Titles.{Title, Titles}
@@ -22,6 +23,10 @@ everyone role = true
 -- the two visits of a file
 abbrev pub file_stops : FileRow → List Visit
 file_stops r = ToKey (file_edge r.folder.0 r.id.0) ∷ ToFile r.id.0 ∷ []
+
+-- each of these rows is of a file that stands
+abbrev pub AreStanding : Store → List FileRow → Type 0
+AreStanding s rows = (r : FileRow) → In r rows → (e : FileEntry) × In e s.files × (e.id ≡ r.id.0) × (e.folder ≡ r.folder.0)
 
 -- what is known of a file that was read
 abbrev pub read_title : ReadFile → Title

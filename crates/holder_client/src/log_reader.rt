@@ -5,10 +5,13 @@ ghost use Rattle.commit_journal.specs.Placed.{PlainPlaced, plain_placed};
 ghost use Rattle.commit_journal.specs.Places.{IsStanding};
 ghost use Rattle.commit_journal.specs.declared.past.Past.{Past as ThePast};
 ghost use Rattle.log_visits.specs.Answering.{AnswersAsBy};
+ghost use Rattle.log_visits.specs.Folding.{folded};
 ghost use Rattle.log_visits.specs.Holding.{IsReadingIn};
 ghost use Rattle.log_visits.specs.Indexed.{HaveStarts, IsIndexOf, StartsAt};
 ghost use Rattle.log_visits.specs.Judging as spec;
 ghost use Rattle.holder_client.specs.Reads.{HasChecks, HasFolded, HasRead, HasStarts};
+ghost use Rattle.public_fold.specs.Journal.{Stand, nothing};
+ghost use Rattle.public_fold.specs.Standing.{IsSeenAs};
 ghost use Rattle.role_graph.specs.PublicStore.{GrantsStand};
 
 use crate::admission::{Checks, may_read, note_check};
@@ -21,8 +24,8 @@ use std::collections::HashMap;
 
 /// What a reading needs of a log, whose batches are added one after another: what stands in public after them, the last link
 /// of each edge, where the last content of each head stands and how its batch is read once more, and the holders' checks. It
-/// holds no payload. After a payload that
-/// doesn't fit it keeps the place of that alone.
+/// holds no payload, and of edges and objects that don't stand any more no more than about as much as of those that do. After a payload
+/// that doesn't fit it keeps the place of that alone.
 #[derive(Drop)]
 pub struct Reader {
     pub(crate) index: Index,
@@ -64,7 +67,7 @@ impl Reader {
             return Ok(());
         }
         match take_batch(alloc, &mut self.state, placed) {
-            Ok(()) => self.keep(placed, start),
+            Ok(()) => self.keep(alloc, placed, start),
             Err(ClientFault::Damaged { at }) => {
                 self.misfit = Some(at);
                 Ok(())
@@ -73,12 +76,12 @@ impl Reader {
         }
     }
 
-    /// Keeps what a reading needs of a batch that fits.
-    fn keep(&mut self, placed: &Placed, start: &Past) -> Mem<()>
+    /// Keeps what a reading needs of a batch that fits, once the state has taken it.
+    fn keep(&mut self, alloc: Global, placed: &Placed, start: &Past) -> Mem<()>
         requires stands { IsStanding placed.now }
         requires from_one { 1 ≤ placed.now.batch }
-        ensures kept { OnOk result ((log : List PlainPlaced) → placed.now.batch ≡ length log + 1 → IsIndexOf self.old.index log
-            → HasChecks self.old.checks log →
+        ensures kept { OnOk result ((log : List PlainPlaced) (at : Stand) → placed.now.batch ≡ length log + 1 → IsIndexOf self.old.index log
+            → HasChecks self.old.checks log → folded nothing (log ++ plain_placed placed.now ∷ []) ≡ Ok at → IsSeenAs self.old.state at →
             IsIndexOf self.new.index (log ++ plain_placed placed.now ∷ [])
             × HasChecks self.new.checks (log ++ plain_placed placed.now ∷ [])) }
         ensures starts { OnOk result ((starts : List ThePast) → HaveStarts self.old.index.contents starts
@@ -88,7 +91,24 @@ impl Reader {
     {
         note_check(&mut self.checks, placed)?;
         self.index
-            .note(placed.batch as usize - 1, Some(*start), placed)
+            .note(placed.batch as usize - 1, Some(*start), placed)?;
+        self.tidy(alloc)
+    }
+
+    /// Forgets what doesn't stand any more, where that is much of what it keeps.
+    fn tidy(&mut self, alloc: Global) -> Mem<()>
+        ensures index { OnOk result ((log : List PlainPlaced) (at : Stand) → IsIndexOf self.old.index log → folded nothing log ≡ Ok at
+            → IsSeenAs self.old.state at → IsIndexOf self.new.index log) }
+        ensures starts { OnOk result ((starts : List ThePast) → HaveStarts self.old.index.contents starts
+            → HaveStarts self.new.index.contents starts) }
+        ensures state { self.new.state ≡ self.old.state }
+        ensures checks { self.new.checks ≡ self.old.checks }
+        ensures misfit { self.new.misfit ≡ self.old.misfit }
+    {
+        if !self.index.is_crowded(&self.state) {
+            return Ok(());
+        }
+        self.index.forget(alloc, &self.state)
     }
 
     /// What stands in public after the batches that were added, where all of them fit.

@@ -7,7 +7,7 @@ ghost use Rattle.cry_base.specs.declared.roles.Role.TheVariants.{Owner};
 ghost use Rattle.folder_nodes.specs.Titles.{Titles};
 ghost use Rattle.folder_nodes.specs.Trees.{IsTree};
 ghost use Rattle.log_visits.specs.Answering.{AnswersBy};
-ghost use Rattle.holder_client.specs.Filed.{IsNamedBy, IsReadBy, everyone, file_stops, with_read};
+ghost use Rattle.holder_client.specs.Filed.{AreStanding, IsNamedBy, IsReadBy, everyone, file_stops, with_read};
 ghost use Rattle.log_visits.specs.Holding.{ArePresent, HasNames, HoldsKeys, IsReadingIn};
 ghost use Rattle.log_visits.specs.Judging.{first_key, opened_first, who_of};
 ghost use Rattle.log_visits.specs.Opening.{IsNameless};
@@ -111,7 +111,7 @@ fn read_file<S, R: Records<S>>(
 ) -> Result<ReadFile, ClientFault>
     requires keys { ArePresent state.now.keys.keys ring.old }
     ensures answer { R.shows records.now source.old → (r : Reading) (o : Opened) → IsReadingIn state.now (R.log records.now) r
-        → HoldsKeys everyone ring.old o.keys →
+        → AreStanding r.stand.store (row.now ∷ []) → HoldsKeys everyone ring.old o.keys →
         AnswersBy (λ file behind. HoldsKeys everyone ring.new behind.keys
         × IsReadBy file o behind) result (spec.visit_all r (file_stops row.now) o) }
     ensures row { IfOk result (λ file. file.row ≡ row.now) }
@@ -149,7 +149,8 @@ pub(crate) fn read_files<S, R: Records<S>>(
 ) -> Result<Vec<ReadFile>, ClientFault>
     requires keys { ArePresent state.now.keys.keys ring }
     ensures answer { R.shows records.now source.old → (r : Reading) (o : Opened) (bare : Store) (names : Titles)
-        → IsReadingIn state.now (R.log records.now) r → HoldsKeys everyone ring o.keys → HasNames bare names o.store →
+        → IsReadingIn state.now (R.log records.now) r → AreStanding r.stand.store rows.now → HoldsKeys everyone ring o.keys
+        → HasNames bare names o.store →
         AnswersBy (λ files behind. HasNames bare (with_read names files.items) behind.store) result
         (spec.visit_all r (flat_map file_stops rows.now) o) }
     ensures rows { IfOk result (λ files. map (λ file. file.row) files.items ≡ rows.now) }

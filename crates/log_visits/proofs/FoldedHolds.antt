@@ -18,6 +18,7 @@ use Rattle.public_fold.specs.Fitted.{has_link_head, has_content_head, are_due, h
 use Rattle.public_fold.specs.Journal.{Stand, nothing}
 use Rattle.public_fold.specs.KeyStep.{KeyState, Stepped, next_epoch, present}
 use Rattle.public_fold.specs.Records.{Link}
+use Rattle.public_fold.specs.Rooted.{MayStand}
 use Rattle.public_fold.specs.StandFits.{note_fits}
 use Rattle.public_fold.specs.Turns.{StandHolds}
 use Rattle.public_fold.proofs.TurnsHold.{payload_holds, epoch_stands, first_stands, first_fits}
@@ -25,7 +26,7 @@ use Rattle.log_visits.specs.Folding.{stand_behind, folded}
 use Rattle.log_visits.specs.Placing.{PlacedLink, links_at, body_links, log_links, last_one, is_for_edge, link_for}
 
 -- what is due is there
-due_found : (X Y : Type 0) (is_due : X → Y → Bool) (xs : List X) (ys : List Y) (x : X) → are_due is_due xs ys ≡ true → In x xs → (y : Y) × In y ys × (is_due x y ≡ true)
+pub due_found : (X Y : Type 0) (is_due : X → Y → Bool) (xs : List X) (ys : List Y) (x : X) → are_due is_due xs ys ≡ true → In x xs → (y : Y) × In y ys × (is_due x y ≡ true)
 unfolding are_due
 due_found X Y is_due [] ys x t i = absurd i
 due_found X Y is_due (a ∷ xs) [] x t i = absurd (false≢true t)
@@ -46,7 +47,7 @@ placed_found batch at (l ∷ links) r i =
 abbrev pub HaveRecords : List Link → List PlacedLink → Type 0
 HaveRecords links placed = (l : Link) → In l links → (p : PlacedLink) × In p placed × (has_link_head l p.link ≡ true)
 
-payload_records : (at : Stand) (q : PlainPayload) (batch place : ℕ) → payload_fits at q ≡ true → HaveRecords (told_step at (told_note q.note)).links (body_links batch place (Commands q))
+pub payload_records : (at : Stand) (q : PlainPayload) (batch place : ℕ) → payload_fits at q ≡ true → HaveRecords (told_step at (told_note q.note)).links (body_links batch place (Commands q))
 unfolding payload_fits fits_step has_heads body_links
 payload_records at q batch place t l i =
     let step : Stepped = told_step at (told_note q.note) in
@@ -127,7 +128,7 @@ pub log_with : (first : PlainPlaced) (log : List PlainPlaced) (stand : Stand) �
 log_with p log stand e = log_each HoldsWith payload_with epoch_with ([], first_stands, λ l i. absurd i) p log stand e
 
 -- the last one that passes is there where any passes
-last_found : (X : Type 0) (test : X → Bool) (xs : List X) (x : X) → In x xs → test x ≡ true → is_some (last_one test xs) ≡ true
+pub last_found : (X : Type 0) (test : X → Bool) (xs : List X) (x : X) → In x xs → test x ≡ true → is_some (last_one test xs) ≡ true
 unfolding last_one
 last_found X test [] x i t = absurd i
 last_found X test (y ∷ ys) x i t = ⊎_elim
@@ -181,3 +182,9 @@ first_stand stand f = cc
 pub each_edge_found : (log : List PlainPlaced) (stand : Stand) → folded nothing log ≡ Ok stand → (e : Edge) → In e (edges stand.store) → is_some (link_for stand.keys log e) ≡ true
 each_edge_found [] stand f e i = absurd (empty_edge e (subst (λ (z : Stand). In e (edges z.store)) (sym (first_stand stand f)) i))
 each_edge_found (p ∷ log) stand f e i = edge_found stand (p ∷ log) e (log_with p log stand f) i
+
+-- what a log folds to may stand
+pub folded_may_stand : (log : List PlainPlaced) (stand : Stand) → folded nothing log ≡ Ok stand → MayStand stand.store
+unfolding nothing
+folded_may_stand [] stand f = inl (ap (λ (z : Stand). z.store) (sym (first_stand stand f)))
+folded_may_stand (p ∷ log) stand f = (log_with p log stand f).1.store

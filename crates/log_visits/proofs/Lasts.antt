@@ -1,12 +1,10 @@
 -- The last one that passes, as a walk over a log goes on.
-use Rattle.std.proofs.Common.{◌≡◌, ◌+◌, ◌*◌, ◌<◌, ℕ, zero, suc, Bool, true, false, cond, List, [], ◌∷◌, ◌++◌, get_or, length, take, map, Option, None, Some, IfSome, refl, sym, ap, subst, ◌∙◌, add-one, append_assoc, arith}
+use Rattle.std.proofs.Common.{◌≡◌, ◌+◌, ◌*◌, ◌<◌, ℕ, zero, suc, Bool, true, false, cond, List, [], ◌∷◌, ◌++◌, get_or, length, take, map, Option, None, Some, refl, sym, ap, subst, ◌∙◌, add-one, append_assoc, arith}
 use Rattle.std.specs.HashMap.{HashMap, get}
-use Rattle.std.specs.List.{flat_map, sum_by}
-use Rattle.std.specs.Map.{lookup}
+use Rattle.std.specs.List.{sum_by}
 use Rattle.std.proofs.Math.ListN.{get_or-append, get_or-map}
 use Rattle.std.proofs.Math.Seq.{get_or-append_seam}
-use Rattle.std.proofs.lemmas.Grind.{flat_map-append}
-use Rattle.std.proofs.lemmas.List.{append-nil, length-append, length-map, map-append, take_more}
+use Rattle.std.proofs.lemmas.List.{length-append, length-map}
 use Rattle.std.proofs.lemmas.List.Sums.{sum_by-cons}
 use Rattle.std.proofs.lemmas.Option.{get_or_from_slice_get, slice_get-get_or, slice_get_within}
 use Rattle.commit_journal.specs.Placed.{PlainPlaced, plain_body, plain_placed}
@@ -17,13 +15,10 @@ use Rattle.commit_journal.specs.declared.placed.Placed.{Placed}
 use Rattle.record_format.specs.Spellable.{IsContent}
 use Rattle.std.specs.List.{slice_get}
 use Rattle.std.proofs.lemmas.List.Elements.{All-get_or}
-use Rattle.cry_base.specs.declared.roles.Edge.{Edge}
-use Rattle.public_fold.specs.KeyStep.{KeyState}
 use Rattle.record_format.specs.declared.content.ContentRecord.{ContentRecord}
 use Rattle.record_format.specs.declared.link.LinkRecord.{LinkRecord}
 use Rattle.record_format.specs.Plain.{PlainContent, plain_content}
 use Rattle.record_format.specs.Sizes.{content_size}
-use Rattle.log_visits.specs.declared.index.Index.{Index}
 use Rattle.log_visits.specs.declared.last_contents.ContentHead.{ContentHead}
 use Rattle.log_visits.specs.declared.last_contents.ContentSpot.{ContentSpot}
 use Rattle.log_visits.specs.declared.last_links.FoundLink.{FoundLink}
@@ -32,12 +27,11 @@ use Rattle.std.proofs.lemmas.Bool.{and_parts, eqb-true}
 use Rattle.std.specs.Prelude.{MatchResult, Result, Ok, Err}
 use Rattle.log_visits.specs.declared.fault.ClientFault.{ClientFault}
 use Rattle.log_visits.specs.declared.records.FoundContent.{FoundContent}
-use Rattle.log_visits.specs.Found.{FindsAt, IsFree, IsLinkFor, plain_content_found, content_here, has_present_serials, head_of_edge, is_of, is_sought, link_here, newest_for, only_if, plain_link}
-use Rattle.log_visits.specs.Indexed.{HasLastContents, HasLastLinks, IsContentAt, IsIndexOf, IsLastAt, head_of_content, head_of_link, same_content_heads, same_link_heads}
-use Rattle.log_visits.specs.Placing.{PlacedContent, PlacedLink, body_contents, body_links, contents_at, content_for, is_for_edge, last_one, links_at, log_contents, log_links}
+use Rattle.log_visits.specs.Found.{FindsAt, IsFree, plain_content_found, content_here, is_of, is_sought, link_here, plain_link}
+use Rattle.log_visits.specs.Indexed.{ContentsAreNoted, HasLastContent, HasLastLink, IsContentAt, IsLastAt, LinksAreNoted, head_of_content, head_of_link, same_content_heads, same_link_heads}
+use Rattle.log_visits.specs.Placing.{PlacedContent, PlacedLink, contents_at, content_for, last_one, links_at, log_contents}
 use Rattle.log_visits.specs.Spots.{IsAt, contents_in}
 use Rattle.log_visits.proofs.Following.{last_passes}
-use Rattle.log_visits.proofs.NewestLinks.{for_present}
 
 -- with one more, that one if it passes, and else the last before it
 last_with_next : {X : Type 0} (test : X → Bool) (xs : List X) (x : X) → last_one test (xs ++ x ∷ []) ≡ cond (test x) (Some x) (last_one test xs)
@@ -64,17 +58,16 @@ mapped_item contents i content within is = (
 -- ---- links
 
 -- a link that is noted is the last one that has its head
-pub link_noted : {S : Type 0} (last new : HashMap LinkHead FoundLink S) (head : LinkHead) (found : FoundLink) (so_far : List PlacedLink) → head ≡ head_of_link found.link →
-    ((q : LinkHead) → get same_link_heads new q ≡ cond (same_link_heads head q) (Some found) (get same_link_heads last q)) → HasLastLinks last so_far →
-    HasLastLinks new (so_far ++ link_here found.batch found.at found.link ∷ [])
-link_noted last new head found so_far is updates has = record {
-  found = λ q.
+pub link_noted : {S : Type 0} (last new : HashMap LinkHead FoundLink S) (head : LinkHead) (found : FoundLink) → head ≡ head_of_link found.link →
+    ((q : LinkHead) → get same_link_heads new q ≡ cond (same_link_heads head q) (Some found) (get same_link_heads last q)) → LinksAreNoted last new (link_here found.batch found.at found.link ∷ [])
+link_noted last new head found is updates = λ q so_far has. record {
+  found =
       let x = link_here found.batch found.at found.link in
       let old = get same_link_heads last q in
       ap plain_link (updates q)
       ∙ ap (λ h. plain_link (cond (same_link_heads h q) (Some found) old)) is
       ∙ (elim (is_sought q x) as (λ b. plain_link (cond b (Some found) old) ≡ cond b (Some x) (plain_link old)) [ true ↦ refl | false ↦ refl ])
-      ∙ ap (λ o. cond (is_sought q x) (Some x) o) (has.found q)
+      ∙ ap (λ o. cond (is_sought q x) (Some x) o) has.found
       ∙ sym (last_with_next (is_sought q) so_far x);
 }
 
@@ -90,11 +83,11 @@ links_with_next batch at (l ∷ links) (suc i) d within =
     (links_with_next batch (at + 98) links i d inside ∙ ap (λ n. links_at batch (at + 98) (take i links) ++ link_here batch n (get_or links i d) ∷ []) place)
 
 -- the links so far of a batch, and the next one
-pub more_links : {S : Type 0} (last : HashMap LinkHead FoundLink S) (so_far : List PlacedLink) (batch first at : ℕ) (links : List LinkRecord) (i : ℕ) (link : LinkRecord) → i < length links → at ≡ first + 98 * i → link ≡ get_or links i link →
-    HasLastLinks last ((so_far ++ links_at batch first (take i links)) ++ link_here batch at link ∷ []) → HasLastLinks last (so_far ++ links_at batch first (take (i + 1) links))
-more_links last so_far batch first at links i link within place is has =
+pub more_links : {S : Type 0} (last : HashMap LinkHead FoundLink S) (q : LinkHead) (so_far : List PlacedLink) (batch first at : ℕ) (links : List LinkRecord) (i : ℕ) (link : LinkRecord) → i < length links → at ≡ first + 98 * i → link ≡ get_or links i link →
+    HasLastLink last q ((so_far ++ links_at batch first (take i links)) ++ link_here batch at link ∷ []) → HasLastLink last q (so_far ++ links_at batch first (take (i + 1) links))
+more_links last q so_far batch first at links i link within place is has =
     let before = links_at batch first (take i links) in
-    subst (HasLastLinks last)
+    subst (HasLastLink last q)
     (append_assoc so_far before (link_here batch at link ∷ [])
     ∙ ap (λ n. so_far ++ (before ++ link_here batch n link ∷ [])) place
     ∙ ap (λ (l : LinkRecord). so_far ++ (before ++ link_here batch (first + 98 * i) l ∷ [])) is
@@ -105,17 +98,17 @@ more_links last so_far batch first at links i link within place is has =
 -- ---- contents
 
 -- a content that is noted is the last one that has its head
-pub content_noted : {S : Type 0} (last new : HashMap ContentHead ContentSpot S) (head : ContentHead) (spot : ContentSpot) (content : ContentRecord) (log : List PlainPlaced) (so_far : List PlacedContent) → head ≡ head_of_content content →
-    ((q : ContentHead) → get same_content_heads new q ≡ cond (same_content_heads head q) (Some spot) (get same_content_heads last q)) → IsContentAt log spot (plain_content content) → HasLastContents log last so_far →
-    HasLastContents log new (so_far ++ content_here spot.batch spot.at (plain_content content) ∷ [])
-content_noted last new head spot content log so_far is updates at has = record {
-  found = λ q.
+pub content_noted : {S : Type 0} (last new : HashMap ContentHead ContentSpot S) (head : ContentHead) (spot : ContentSpot) (content : ContentRecord) (log : List PlainPlaced) → head ≡ head_of_content content →
+    ((q : ContentHead) → get same_content_heads new q ≡ cond (same_content_heads head q) (Some spot) (get same_content_heads last q)) → IsContentAt log spot (plain_content content) →
+    ContentsAreNoted log last new (content_here spot.batch spot.at (plain_content content) ∷ [])
+content_noted last new head spot content log is updates at = λ q so_far has. record {
+  found =
       let x = content_here spot.batch spot.at (plain_content content) in
       let old = get same_content_heads last q in
       let before = last_one (is_of q.kind q.object) so_far in
       subst (λ o. IsLastAt log o (last_one (is_of q.kind q.object) (so_far ++ x ∷ []))) (sym (updates q ∙ ap (λ h. cond (same_content_heads h q) (Some spot) old) is))
       (subst (λ w. IsLastAt log (cond (is_of q.kind q.object x) (Some spot) old) w) (sym (last_with_next (is_of q.kind q.object) so_far x))
-      (elim (is_of q.kind q.object x) as (λ b. IsLastAt log (cond b (Some spot) old) (cond b (Some x) before)) [ true ↦ (plain_content content, at, refl) | false ↦ has.found q ]));
+      (elim (is_of q.kind q.object x) as (λ b. IsLastAt log (cond b (Some spot) old) (cond b (Some x) before)) [ true ↦ (plain_content content, at, refl) | false ↦ has.found ]));
 }
 
 contents_with_next : (batch at : ℕ) (contents : List PlainContent) (i : ℕ) (d : PlainContent) → i < length contents →
@@ -133,12 +126,12 @@ contents_with_next batch at (c ∷ contents) (suc i) d within =
     (contents_with_next batch (at + size) contents i d inside ∙ ap (λ n. contents_at batch (at + size) (take i contents) ++ content_here batch n (get_or contents i d) ∷ []) place)
 
 -- the contents so far of a batch, and the next one
-pub more_contents : {S : Type 0} (log : List PlainPlaced) (last : HashMap ContentHead ContentSpot S) (so_far : List PlacedContent) (batch first at : ℕ) (contents : List PlainContent) (i : ℕ) (content : PlainContent) → i < length contents →
+pub more_contents : {S : Type 0} (log : List PlainPlaced) (last : HashMap ContentHead ContentSpot S) (q : ContentHead) (so_far : List PlacedContent) (batch first at : ℕ) (contents : List PlainContent) (i : ℕ) (content : PlainContent) → i < length contents →
     at ≡ first + sum_by content_size (take i contents) → content ≡ get_or contents i content →
-    HasLastContents log last ((so_far ++ contents_at batch first (take i contents)) ++ content_here batch at content ∷ []) → HasLastContents log last (so_far ++ contents_at batch first (take (i + 1) contents))
-more_contents log last so_far batch first at contents i content within place is has =
+    HasLastContent log last q ((so_far ++ contents_at batch first (take i contents)) ++ content_here batch at content ∷ []) → HasLastContent log last q (so_far ++ contents_at batch first (take (i + 1) contents))
+more_contents log last q so_far batch first at contents i content within place is has =
     let before = contents_at batch first (take i contents) in
-    subst (HasLastContents log last)
+    subst (HasLastContent log last q)
     (append_assoc so_far before (content_here batch at content ∷ [])
     ∙ ap (λ n. so_far ++ (before ++ content_here batch n content ∷ [])) place
     ∙ ap (λ (c : PlainContent). so_far ++ (before ++ content_here batch (first + sum_by content_size (take i contents)) c ∷ [])) is
@@ -146,15 +139,7 @@ more_contents log last so_far batch first at contents i content within place is 
     ∙ ap (λ n. so_far ++ contents_at batch first (take n contents)) (sym (add-one i)))
     has
 
--- ---- batches
-
--- an index of nothing is that of a log without batches
-pub nothing_indexed : (index : Index) → index.links.entries ≡ [] → index.contents.entries ≡ [] → IsIndexOf index []
-unfolding last_one log_links log_contents
-nothing_indexed index no_links no_contents = record {
-  last_links = record { found = λ q. ap (λ es. plain_link (lookup (same_link_heads q) es)) no_links };
-  last_contents = record { found = λ q. subst (λ es. IsLastAt [] (lookup (same_content_heads q) es) None) (sym no_contents) refl };
-}
+-- ---- places
 
 pub at_item : {X : Type 0} (xs : List X) (i : ℕ) (x : X) → i < length xs → x ≡ get_or xs i x → IsAt xs i x
 at_item xs i x within is = slice_get-get_or xs i x within ∙ ap Some (sym is)
@@ -183,36 +168,9 @@ at_end xs x i is =
     let inside : length xs < length (xs ++ x ∷ []) = omega (arith, long) in
     subst (λ n. IsAt (xs ++ x ∷ []) n x) is (slice_get-get_or (xs ++ x ∷ []) (length xs) x inside ∙ ap Some (get_or-append_seam xs x [] x))
 
-last_grows : (log more : List PlainPlaced) (o : Option ContentSpot) (wanted : Option PlacedContent) → IsLastAt log o wanted → IsLastAt (log ++ more) o wanted
+pub last_grows : (log more : List PlainPlaced) (o : Option ContentSpot) (wanted : Option PlacedContent) → IsLastAt log o wanted → IsLastAt (log ++ more) o wanted
 last_grows log more None wanted is = is
 last_grows log more (Some spot) wanted is = (is.0, (is.1.0, at_more log more spot.position is.1.0 is.1.1, is.1.2), is.2)
-
-contents_grow : {S : Type 0} (log more : List PlainPlaced) (last : HashMap ContentHead ContentSpot S) (contents : List PlacedContent) → HasLastContents log last contents → HasLastContents (log ++ more) last contents
-contents_grow log more last contents has = record { found = λ q. last_grows log more (get same_content_heads last q) (last_one (is_of q.kind q.object) contents) (has.found q) }
-
-log_with_next : {X : Type 0} (parts : PlainPlaced → List X) (log : List PlainPlaced) (p : PlainPlaced) → flat_map parts log ++ parts p ≡ flat_map parts (log ++ p ∷ [])
-log_with_next {X} parts log p = ap (λ (xs : List X). flat_map parts log ++ xs) (sym (append-nil (parts p))) ∙ sym (flat_map-append parts log (p ∷ []))
-
--- a batch that was noted behind those of a log
-pub batch_noted : (old new : Index) (log : List PlainPlaced) (position : ℕ) (p : PlainPlaced) → length log ≡ position → IsIndexOf old log →
-    HasLastLinks new.links (log_links log ++ body_links p.batch p.place p.body) →
-    ((all : List PlainPlaced) (so_far : List PlacedContent) → IsAt all position p → HasLastContents all old.contents so_far → HasLastContents all new.contents (so_far ++ body_contents p.batch p.place p.body)) →
-    IsIndexOf new (log ++ p ∷ [])
-unfolding log_links log_contents
-batch_noted old new log position p long has links contents = record {
-  last_links = subst (HasLastLinks new.links) (log_with_next (λ b. body_links b.batch b.place b.body) log p) links;
-  last_contents = subst (HasLastContents (log ++ p ∷ []) new.contents) (log_with_next (λ b. body_contents b.batch b.place b.body) log p)
-      (contents (log ++ p ∷ []) (log_contents log) (at_end log p position long) (contents_grow log (p ∷ []) old.contents (log_contents log) has.last_contents));
-}
-
--- the index of the batches so far, and of the next one
-pub index_more : (index : Index) (log : List Placed) (i : ℕ) (p : Placed) → i < length log → p ≡ get_or log i p →
-    IsIndexOf index (map plain_placed (take i log) ++ plain_placed p ∷ []) → IsIndexOf index (map plain_placed (take (i + 1) log))
-index_more index log i p within is has =
-    let more : map plain_placed (take (i + 1) log) ≡ map plain_placed (take i log) ++ plain_placed p ∷ [] =
-    ap (map plain_placed) (take_more log i p within) ∙ map-append plain_placed (take i log) (get_or log i p ∷ []) ∙ ap (λ (q : Placed). map plain_placed (take i log) ++ plain_placed q ∷ []) (sym is)
-    in
-    subst (IsIndexOf index) (sym more) has
 
 -- ---- what was found
 
@@ -242,34 +200,3 @@ standing_form placed i c stands is = of_body placed.place placed.body stands.pay
         let cs = contents_in (plain_body (bodies.Commands payload)) in
         subst IsContent (get_or_from_slice_get cs i c c at) (All-get_or IsContent cs i c (slice_get_within cs i c at) ends.0.contents)
     of_body place bodies.NewEpoch ends at = absurd (let bad : slice_get (let none : List PlainContent = [] in none) i ≡ Some c = at in let within = slice_get_within (let none : List PlainContent = [] in none) i c bad in omega (arith, within))
-
--- what the map has of an edge is its last link, where it is one from present key to present key
-pub newest_wanting : {S : Type 0} (last : HashMap LinkHead FoundLink S) (k : KeyState) (log : List PlainPlaced) (e : Edge) → HasLastLinks last (log_links log) → get same_link_heads last (head_of_edge e) ≡ None →
-    newest_for k log e ≡ None
-unfolding newest_for
-newest_wanting last k log e has is = ap (only_if (is_for_edge k e)) (sym (has.found (head_of_edge e)) ∙ ap plain_link is)
-
-pub newest_present : {S : Type 0} (last : HashMap LinkHead FoundLink S) (k : KeyState) (log : List PlainPlaced) (e : Edge) (l : FoundLink) (b : Bool) → HasLastLinks last (log_links log) →
-    get same_link_heads last (head_of_edge e) ≡ Some l → b ≡ has_present_serials k e l.link → newest_for k log e ≡ cond b (Some (link_here l.batch l.at l.link)) None
-unfolding newest_for
-newest_present last k log e l b has is passes =
-    let here = link_here l.batch l.at l.link in
-    let last_is : last_one (is_sought (head_of_edge e)) (log_links log) ≡ Some here = sym (has.found (head_of_edge e)) ∙ ap plain_link is in
-    ap (only_if (is_for_edge k e)) last_is
-    ∙ ap (λ t. cond t (Some here) None) (for_present k e here (last_passes (is_sought (head_of_edge e)) (log_links log) here last_is) ∙ sym passes)
-
--- a link that was found for an edge is one for it
-pub found_for : (k : KeyState) (log : List PlainPlaced) (e : Edge) (found : Option FoundLink) → plain_link found ≡ newest_for k log e → IfSome found (IsLinkFor k e)
-unfolding newest_for
-found_for k log e None is = tt
-found_for k log e (Some l) is =
-    let here = link_here l.batch l.at l.link in
-    let test = is_for_edge k e in
-    (elim (last_one (is_sought (head_of_edge e)) (log_links log)) as (λ o. Some here ≡ only_if test o → test here ≡ true) [
-      | Some q ↦ λ f. passed test here q (test q) refl f
-      | None ↦ λ f. absurd cc
-    ]) is
-  where
-    passed : (test : PlacedLink → Bool) (x y : PlacedLink) (b : Bool) → test y ≡ b → Some x ≡ cond b (Some y) None → test x ≡ true
-    passed test x y true t is = let same : y ≡ x = cc in subst (λ z. test z ≡ true) same t
-    passed test x y false t is = absurd cc

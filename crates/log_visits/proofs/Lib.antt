@@ -2,6 +2,7 @@ pub mod Folded
 pub mod FoldedHolds
 pub mod Following
 pub mod InOrder
+pub mod IndexKept
 pub mod Keyed
 pub mod Lasts
 pub mod ListedVisits
@@ -9,13 +10,17 @@ pub mod Naming
 pub mod NewestLinks
 pub mod Opened
 pub mod Opens
+pub mod Ordered
 pub mod OwnPath
 pub mod OwnerKey
 pub mod OwnerVisits
+pub mod ReaderVisits
+pub mod Rights
 pub mod Sighted
 pub mod Sized
 pub mod Starts
 pub mod Steps
+pub mod StillLeft
 pub mod ToldLemmas
 pub mod Viewed
 pub mod Viewing

@@ -46,7 +46,7 @@ use Rattle.role_graph.proofs.Typing.{typed}
 -- ---- the last one that passes
 
 -- of two lists it is the second's, where that has one
-abbrev later_or : {X : Type 0} → Option X → Option X → Option X
+abbrev pub later_or : {X : Type 0} → Option X → Option X → Option X
 later_or o before = elim o [ Some y ↦ Some y | None ↦ before ]
 
 or_nothing : {X : Type 0} (o : Option X) → o ≡ later_or o None
@@ -57,7 +57,7 @@ or_twice : {X : Type 0} (o before first : Option X) → later_or (later_or o bef
 or_twice (Some y) before first = refl
 or_twice None before first = refl
 
-last_of_both : {X : Type 0} (test : X → Bool) (xs ys : List X) → last_one test (xs ++ ys) ≡ later_or (last_one test ys) (last_one test xs)
+pub last_of_both : {X : Type 0} (test : X → Bool) (xs ys : List X) → last_one test (xs ++ ys) ≡ later_or (last_one test ys) (last_one test xs)
 unfolding last_one
 last_of_both test [] ys = or_nothing (last_one test ys)
 last_of_both test (x ∷ xs) ys = ap (λ o. later_or o (cond (test x) (Some x) None)) (last_of_both test xs ys) ∙ or_twice (last_one test ys) (last_one test xs) (cond (test x) (Some x) None)
@@ -105,7 +105,7 @@ pub for_present : (k : KeyState) (e : Edge) (p : PlacedLink) → is_sought (head
 unfolding is_for_edge
 for_present k e p t = all_of_four (p.link.kind == e.kind) (p.link.from_id == role_id e.from) (p.link.to_id == role_id e.to) (has_present_serials k e p.link) t
 
-sought_for : (k : KeyState) (e : Edge) (p : PlacedLink) → is_for_edge k e p ≡ true → is_sought (head_of_edge e) p ≡ true
+pub sought_for : (k : KeyState) (e : Edge) (p : PlacedLink) → is_for_edge k e p ≡ true → is_sought (head_of_edge e) p ≡ true
 unfolding is_for_edge
 sought_for k e p t = first_of_four (p.link.kind == e.kind) (p.link.from_id == role_id e.from) (p.link.to_id == role_id e.to) (has_present_serials k e p.link) t
 
@@ -350,7 +350,7 @@ file_kind : (f x : ℕ) → HasKind (file_edge f x)
 unfolding file_edge role_with kind_from kind_to row_numbered role_id files_of file_role
 file_kind f x = kinded 9 (files_of f) (file_role x) (omega arith) (omega arith) refl refl
 
-edge_kind : (s : Store) (e : Edge) → IsEdge s e → HasKind e
+pub edge_kind : (s : Store) (e : Edge) → IsEdge s e → HasKind e
 edge_kind s e w = ⊎_elim
     (λ (o : IsOwnEdge s e). own_kind o.0.id e o.2)
     (λ v. ⊎_elim

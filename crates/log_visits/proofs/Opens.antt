@@ -19,7 +19,7 @@ use Rattle.log_visits.specs.declared.opening.OwnersView.{OwnersView}
 use Rattle.log_visits.specs.declared.visit_list.Visit.{Visit as Listed}
 use Rattle.log_visits.specs.Answering.{IsFault, AnswersBy}
 use Rattle.log_visits.specs.Holding.{ArePresent, HasNames, HoldsKeys, IsHeldBy, IsPresent, IsReadingIn, IsTitledBy}
-use Rattle.log_visits.specs.Opening.{HasHolder, HasItsKind, IsFor, IsNameless, IsOpenedBy, IsOpenedTo, is_no_holders, plain_visit}
+use Rattle.log_visits.specs.Opening.{HasHolder, HasItsKind, IsFor, IsNameless, IsOpenedBy, IsOpenedTo, IsToStanding, is_no_holders, plain_visit}
 use Rattle.log_visits.specs.Visiting.{Reading, Opened, visit, visit_all}
 use Rattle.log_visits.specs.Visiting as opened
 use Rattle.log_visits.specs.Visits.{Visit}
@@ -104,6 +104,7 @@ link_opened told bare e left old new o behind fit before keys same others names 
       keys = keys;
       names = subst (λ (t : _). HasNames bare t behind.store) (sym names) (subst (HasNames bare old.names) (sym same) before.names);
       holders = λ d i never. ⊎_elim (λ has. inl (kept d never has)) (λ j. inr (still_left d.number (ToKey e) left (λ q. cc) j)) (before.holders d (subst (λ (s : Store). In d s.holders) same i) never);
+      standing = λ v i. before.standing v (inr i);
     }
 
 pub link_answered : (told : Role → Bool) (bare : Store) (e : Edge) (left : List Visit) (old new : OwnersView) (o : Opened) (result : Result (Unit {0}) ClientFault) (wanted : Result Opened Fault) → IsFor told (ToKey e) →
@@ -123,6 +124,7 @@ title_opened told bare v left old new o behind other before titled ring =
       keys = subst (λ (x : Ringed). HoldsKeys told x behind.keys) (sym ring) keys;
       names = titled.2;
       holders = subst (λ (x : Ringed). (d : HolderEntry) → In d behind.store.holders → told (Holder (record { 0 = d.number })) ≡ false → HasHolder x d ⊎ In (ToHolder d.number) left) (sym ring) holders;
+      standing = λ w i. before.standing w (inr i);
     }
 
 holder_or : (h : ℕ) (key : List ℕ) (left : List Visit) (old new : Ringed) (d e : HolderEntry) → HasHolder old d ⊎ In (ToHolder d.number) (ToHolder h ∷ left) →
@@ -155,6 +157,7 @@ holder_opened told bare h left old new o behind never before held names =
           let w = (In-map HolderEntry HolderEntry change e o.store.holders).0 (subst (In e) holders i) in
           let number : e.number ≡ w.0.number = ap (λ (x : HolderEntry). x.number) w.2 ∙ same_number w.0 held.key (w.0.number == h) in
           holder_or h held.key left old.ring new.ring w.0 e (before.holders w.0 w.1 (ap (λ n. told (Holder (record { 0 = n }))) (sym number) ∙ apart)) held.ringed held.others (w.0.number == h) refl w.2;
+      standing = λ v i. before.standing v (inr i);
     }
   where
     same_number : (d : HolderEntry) (key : List ℕ) (b : Bool) → (let x : HolderEntry = cond b (record d { key = key }) d in x.number) ≡ d.number
@@ -210,11 +213,13 @@ answered bare (Err fault) wanted so = so
 
 -- before the first visit
 pub opening_begins : (bare : Store) (visits : List Visit) (view : OwnersView) (owner : KeyParts) → IsNameless bare → IsAlone view.ring Owner owner → view.names.folders ≡ [] → view.names.files ≡ [] →
-    ((e : HolderEntry) → In e bare.holders → In (ToHolder e.number) visits) → IsOpenedTo is_no_holders bare visits view (record { keys = (Owner, owner.bytes) ∷ []; store = bare })
-opening_begins bare visits view owner less alone no_folders no_files visited = record {
+    ((e : HolderEntry) → In e bare.holders → In (ToHolder e.number) visits) → ((v : Visit) → In v visits → IsToStanding bare v) →
+    IsOpenedTo is_no_holders bare visits view (record { keys = (Owner, owner.bytes) ∷ []; store = bare })
+opening_begins bare visits view owner less alone no_folders no_files visited standing = record {
   keys = alone_holds is_no_holders view.ring Owner owner alone;
   names = nothing_named bare view.names less no_folders no_files;
   holders = λ e i never. inr (visited e i);
+  standing = standing;
 }
 
 -- an answer that stands for one thing stands for what that implies

@@ -1,5 +1,5 @@
 -- What was known before the batches of the contents that an index has.
-use Rattle.std.proofs.Common.{◌≡◌, ◌+◌, ◌-◌, ℕ, Bool, true, false, cond, List, [], ◌∷◌, ◌++◌, length, Option, None, Some, Ok, IfSome, refl, sym, ap, subst, ◌∙◌, arith}
+use Rattle.std.proofs.Common.{◌≡◌, ◌+◌, ◌-◌, ℕ, true, false, cond, List, [], ◌∷◌, ◌++◌, length, Option, None, Some, Ok, IfSome, refl, sym, subst, ◌∙◌, arith}
 use Rattle.std.specs.HashMap.{HashMap, get}
 use Rattle.std.specs.Map.{lookup}
 use Rattle.commit_journal.specs.declared.past.Past.{Past}

@@ -2,7 +2,10 @@
 use Rattle.std.specs.Prelude.{◌≡◌, ℕ, Bool, ◌&&◌, ◌==◌, IsTrue, List, Option, None, Some, Result, Ok, Err, MatchResult, cond}
 use Rattle.commit_journal.specs.Placed.{PlainPlaced, plain_body}
 use Rattle.commit_journal.specs.declared.placed.Placed.{Placed}
+use Rattle.cry_base.specs.Store.{Store}
 use Rattle.cry_base.specs.declared.roles.Edge.{Edge}
+use Rattle.key_links.specs.Ended.{sealing_role}
+use Rattle.public_fold.specs.Keyed.{HasRole}
 use Rattle.public_fold.specs.KeyStep.{KeyState, present}
 use Rattle.record_format.specs.Plain.{PlainContent, plain_content}
 use Rattle.record_format.specs.Spellable.{IsContent}
@@ -66,6 +69,10 @@ plain_content_found c = content_here c.batch c.at (plain_content c.content)
 abbrev pub plain_found : Option FoundContent → Option PlacedContent
 plain_found None = None
 plain_found (Some c) = Some (plain_content_found c)
+
+-- what has contents of this kind for this object stands
+abbrev pub HasObject : Store → ℕ → ℕ → Type 0
+HasObject s kind object = HasRole s (sealing_role kind object)
 
 -- it has the format's form, and is one of this kind for this folder, file or holder
 pub record IsContentFor (kind object : ℕ) (c : FoundContent) : Type 0 where

@@ -1,8 +1,14 @@
 -- Maps from the heads of records to where the last record of each head stands in a log. A link's head is its edge's.
-use Rattle.std.specs.Prelude.{◌≡◌, ℕ, Bool, IfSome, List, Option, None, Some}
-use Rattle.std.specs.HashMap.{HashMap, get}
+use Rattle.std.specs.Prelude.{◌≡◌, ◌⊎◌, ◌+◌, ◌*◌, ◌++◌, ℕ, Bool, IfSome, List, Option, None, Some, Ok, length}
+use Rattle.std.specs.HashMap.{HashMap, get, hash_map_len}
 use Rattle.commit_journal.specs.Placed.{PlainPlaced}
 use Rattle.commit_journal.specs.declared.past.Past.{Past}
+use Rattle.cry_base.specs.Sets.{In}
+use Rattle.cry_base.specs.Store.{Store}
+use Rattle.cry_base.specs.declared.roles.Edge.{Edge}
+use Rattle.key_links.specs.Ended.{sealing_role}
+use Rattle.public_fold.specs.Journal.{Stand, nothing}
+use Rattle.public_fold.specs.KeyStep.{KeyState, newest}
 use Rattle.record_format.specs.Plain.{PlainContent}
 use Rattle.record_format.specs.declared.content.ContentRecord.{ContentRecord}
 use Rattle.record_format.specs.declared.link.LinkRecord.{LinkRecord}
@@ -13,7 +19,10 @@ use Rattle.log_visits.specs.declared.index.Index.{Index}
 use Rattle.log_visits.specs.declared.last_contents.ContentSpot.{ContentSpot}
 use Rattle.log_visits.specs.declared.last_links.FoundLink.{FoundLink}
 use Rattle.log_visits.specs.declared.last_links.LinkHead.{LinkHead}
-use Rattle.log_visits.specs.Found.{content_here, is_of, is_sought, plain_link}
+use Rattle.public_fold.specs.Standing.{PublicView}
+use Rattle.role_graph.specs.Edges.{IsEdge, edges}
+use Rattle.log_visits.specs.Folding.{folded}
+use Rattle.log_visits.specs.Found.{HasObject, content_here, head_of_edge, is_of, is_sought, plain_link}
 use Rattle.log_visits.specs.Placing.{PlacedLink, PlacedContent, last_one, log_links, log_contents}
 use Rattle.log_visits.specs.Spots.{IsAt, contents_in}
 
@@ -36,9 +45,13 @@ same_link_heads = (link_heads.ghosts).eq
 abbrev pub same_content_heads : ContentHead → ContentHead → Bool
 same_content_heads = (content_heads.ghosts).eq
 
--- the map has the last link of each head
-pub record HasLastLinks {S : Type 0} (last : HashMap LinkHead FoundLink S) (links : List PlacedLink) : Type 0 where
-  pub found : (head : LinkHead) → plain_link (get same_link_heads last head) ≡ last_one (is_sought head) links
+-- the map has the last link of a head
+pub record HasLastLink {S : Type 0} (last : HashMap LinkHead FoundLink S) (head : LinkHead) (links : List PlacedLink) : Type 0 where
+  pub found : plain_link (get same_link_heads last head) ≡ last_one (is_sought head) links
+
+-- these links were noted: whatever last link of a head the map had, it has the last one with these behind
+abbrev pub LinksAreNoted : {S : Type 0} → (old new : HashMap LinkHead FoundLink S) → List PlacedLink → Type 0
+LinksAreNoted old new more = (head : LinkHead) (so_far : List PlacedLink) → HasLastLink old head so_far → HasLastLink new head (so_far ++ more)
 
 -- this content stands at the spot in a log
 abbrev pub IsContentAt : List PlainPlaced → ContentSpot → PlainContent → Type 0
@@ -49,10 +62,15 @@ abbrev pub IsLastAt : List PlainPlaced → Option ContentSpot → Option PlacedC
 IsLastAt log None wanted = wanted ≡ None
 IsLastAt log (Some spot) wanted = (c : PlainContent) × IsContentAt log spot c × (wanted ≡ Some (content_here spot.batch spot.at c))
 
--- the map has the spot in a log of the last content of each head
-pub record HasLastContents {S : Type 0} (log : List PlainPlaced) (last : HashMap ContentHead ContentSpot S) (contents : List PlacedContent)
-    : Type 0 where
-  pub found : (head : ContentHead) → IsLastAt log (get same_content_heads last head) (last_one (is_of head.kind head.object) contents)
+-- the map has the spot in a log of the last content of a head
+pub record HasLastContent {S : Type 0} (log : List PlainPlaced) (last : HashMap ContentHead ContentSpot S) (head : ContentHead)
+    (contents : List PlacedContent) : Type 0 where
+  pub found : IsLastAt log (get same_content_heads last head) (last_one (is_of head.kind head.object) contents)
+
+-- these contents of a log were noted: whatever last content of a head the map had, it has the last one with these behind
+abbrev pub ContentsAreNoted : {S : Type 0} → List PlainPlaced → (old new : HashMap ContentHead ContentSpot S) → List PlacedContent → Type 0
+ContentsAreNoted log old new more =
+    (head : ContentHead) (so_far : List PlacedContent) → HasLastContent log old head so_far → HasLastContent log new head (so_far ++ more)
 
 -- this was known before the batch at a position of a log
 abbrev pub StartsAt : List Past → ℕ → Option Past → Type 0
@@ -62,7 +80,36 @@ StartsAt starts position start = (past : Past) × (start ≡ Some past) × (past
 pub record HaveStarts {S : Type 0} (last : HashMap ContentHead ContentSpot S) (starts : List Past) : Type 0 where
   pub found : (head : ContentHead) → IfSome (get same_content_heads last head) (λ spot. StartsAt starts spot.position spot.start)
 
--- both maps have the last ones of a log
+-- behind the batches of a log, where all of them fit, no edge that stands has links of this head
+abbrev pub IsLeft : List PlainPlaced → LinkHead → Type 0
+IsLeft log head = (at : Stand) (e : Edge) → folded nothing log ≡ Ok at → IsEdge at.store e → head_of_edge e ≡ head → ⊥
+
+-- and nothing that stands has contents of this kind for this object
+abbrev pub IsGone : List PlainPlaced → ContentHead → Type 0
+IsGone log head = (at : Stand) → folded nothing log ≡ Ok at → HasObject at.store head.kind head.object → ⊥
+
+-- the maps have the last ones of a log, but that they may lack those of edges and objects that don't stand behind it
 pub record IsIndexOf (index : Index) (log : List PlainPlaced) : Type 0 where
-  pub last_links : HasLastLinks index.links (log_links log)
-  pub last_contents : HasLastContents log index.contents (log_contents log)
+  pub last_link : (head : LinkHead) → HasLastLink index.links head (log_links log)
+      ⊎ ((get same_link_heads index.links head ≡ None) × IsLeft log head)
+  pub last_content : (head : ContentHead) → HasLastContent log index.contents head (log_contents log)
+      ⊎ ((get same_content_heads index.contents head ≡ None) × IsGone log head)
+
+-- of each head a map has what it had, or nothing, and then no edge of the store has links of it
+abbrev pub LinksAreKept : {S : Type 0} → Store → (old new : HashMap LinkHead FoundLink S) → Type 0
+LinksAreKept s old new = (head : LinkHead) → (get same_link_heads new head ≡ get same_link_heads old head)
+    ⊎ ((get same_link_heads new head ≡ None) × ((e : Edge) → In e (edges s) → head_of_edge e ≡ head → ⊥))
+
+-- the same, and then the role that seals contents of this head has no key
+abbrev pub ContentsAreKept : {S : Type 0} → KeyState → (old new : HashMap ContentHead ContentSpot S) → Type 0
+ContentsAreKept k old new = (head : ContentHead) → (get same_content_heads new head ≡ get same_content_heads old head)
+    ⊎ ((get same_content_heads new head ≡ None) × (newest k.keys (sealing_role head.kind head.object) ≡ None))
+
+-- how many links and contents an index keeps
+abbrev pub rows_of : Index → ℕ
+rows_of index = hash_map_len index.links + hash_map_len index.contents
+
+-- twice as many as those have that stand, and a few more: of a folder five links within it, two with its parent and its name; of a
+-- file a link and its text; a link of each grant; the key of each holder
+abbrev pub most_rows : PublicView → ℕ
+most_rows v = 2 * (8 * length v.tree.folders + 2 * length v.tree.files + length v.pairs + length v.checks) + 64

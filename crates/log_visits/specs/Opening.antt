@@ -17,6 +17,8 @@ use Rattle.log_visits.specs.Visiting.{Reading, Opened}
 use Rattle.log_visits.specs.Visits.{Visit}
 use Rattle.log_visits.specs.Visits.Visit.{ToKey, ToName, ToFile, ToHolder}
 use Rattle.key_links.specs.Ringed.{Ringed, key_of}
+use Rattle.role_graph.specs.Edges.{IsEdge}
+use Rattle.role_graph.specs.RightsByReach.{HasFolder}
 use Rattle.role_graph.specs.Roles.{data_of, file_role}
 
 -- a visit that code lists
@@ -61,13 +63,21 @@ IsFor told (ToHolder h) = IsTrue (told Owner) × (told (Holder (record { 0 = h }
 abbrev pub HasHolder : Ringed → HolderEntry → Type 0
 HasHolder ring e = option_map (λ k. k.bytes) (key_of ring (Holder (record { 0 = e.number }))) ≡ Some e.key
 
+-- the visit is to something that stands
+abbrev pub IsToStanding : Store → Visit → Type 0
+IsToStanding s (ToKey e) = IsEdge s e
+IsToStanding s (ToName f) = HasFolder s f
+IsToStanding s (ToFile x) = (e : FileEntry) × In e s.files × (e.id ≡ x)
+IsToStanding s (ToHolder h) = (e : HolderEntry) × In e s.holders × (e.number ≡ h)
+
 -- the ring has the keys that were opened of the roles that are told; the names are those opened; of the other holders the ring has the
--- key, or a visit is left
+-- key, or a visit is left; the visits that are left are to what stands
 pub record IsOpenedTo (told : Role → Bool) (bare : Store) (left : List Visit) (view : OwnersView) (o : Opened) : Type 0 where
   pub keys : HoldsKeys told view.ring o.keys
   pub names : HasNames bare view.names o.store
   pub holders : (e : HolderEntry) → In e o.store.holders → told (Holder (record { 0 = e.number })) ≡ false → HasHolder view.ring e
       ⊎ In (ToHolder e.number) left
+  pub standing : (v : Visit) → In v left → IsToStanding bare v
 
 -- the ring has exactly the keys that were opened, and the key of each holder; the names and bytes are those opened
 pub record IsOpenedBy (bare : Store) (view : OwnersView) (o : Opened) : Type 0 where

@@ -1,18 +1,22 @@
 //! Where the last content of each head stands in a log (docs/FORMAT.md, "Reading").
-ghost use Rattle.std.specs.Prelude.{◌≡◌, ◌+◌, ◌<◌, ◌^◌, ◌++◌, [], ◌∷◌, List, OnOk, map};
+ghost use Rattle.std.specs.Prelude.{◌≡◌, ◌+◌, ◌<◌, ◌^◌, [], ◌∷◌, List, OnOk, is_some, map};
 ghost use Rattle.std.specs.List.{sum_by};
 ghost use Rattle.commit_journal.specs.Placed.{PlainPlaced, plain_body, plain_placed};
 ghost use Rattle.commit_journal.specs.Places.{IsStanding};
 ghost use Rattle.commit_journal.specs.declared.past.Past.{Past as ThePast};
+ghost use Rattle.key_links.specs.Ended.{sealing_role};
 ghost use Rattle.log_visits.specs.Found.{content_here};
-ghost use Rattle.log_visits.specs.Indexed.{HasLastContents, HaveStarts, IsContentAt, StartsAt, head_of_content};
+ghost use Rattle.log_visits.specs.Indexed.{ContentsAreKept, ContentsAreNoted, HaveStarts, IsContentAt, StartsAt, head_of_content};
 ghost use Rattle.log_visits.specs.Placing as spec;
 ghost use Rattle.log_visits.specs.Spots.{IsAt, contents_in};
+ghost use Rattle.public_fold.specs.KeyStep.{newest};
 ghost use Rattle.record_format.specs.Plain.{plain_content};
 ghost use Rattle.record_format.specs.Sizes.{content_size};
 
+use crate::visiting::sealing_role;
 use commit_journal::{Body, Past, Placed, content_place};
 use cry_base::Mem;
+use public_fold::PublicState;
 use record_format::{CONTENT_FRAME_LEN, ContentRecord};
 use std::collections::HashMap;
 
@@ -53,10 +57,8 @@ fn head_of(content: &ContentRecord) -> ContentHead
 /// Notes the spot of a content under its head, in the place of an earlier one.
 #[tactic(auto, using(crate::proofs::Lasts::content_noted, crate::proofs::Starts::start_noted))]
 fn note_content(last: &mut LastContents, spot: ContentSpot, content: &ContentRecord) -> Mem<()>
-    ensures noted { OnOk result ((log : List PlainPlaced) (so_far : List spec.PlacedContent)
-        → IsContentAt log spot (plain_content content.now)
-        → HasLastContents log last.old so_far →
-        HasLastContents log last.new (so_far ++ content_here spot.batch spot.at (plain_content content.now) ∷ [])) }
+    ensures noted { OnOk result ((log : List PlainPlaced) → IsContentAt log spot (plain_content content.now)
+        → ContentsAreNoted log last.old last.new (content_here spot.batch spot.at (plain_content content.now) ∷ [])) }
     ensures starts { OnOk result ((starts : List ThePast) → HaveStarts last.old starts → StartsAt starts spot.position spot.start
         → HaveStarts last.new starts) }
 {
@@ -74,10 +76,9 @@ fn note_contents(
     contents: &[ContentRecord],
 ) -> Mem<()>
     requires end { first + sum_by content_size (map plain_content contents.now) < 2 ^ 64 }
-    ensures noted { OnOk result ((log : List PlainPlaced) (p : PlainPlaced) (so_far : List spec.PlacedContent) → IsAt log position p
-        → contents_in p.body ≡ map plain_content contents.now →
-        HasLastContents log last.old so_far → HasLastContents log last.new (so_far
-        ++ spec.contents_at batch first (map plain_content contents.now))) }
+    ensures noted { OnOk result ((log : List PlainPlaced) (p : PlainPlaced) → IsAt log position p
+        → contents_in p.body ≡ map plain_content contents.now
+        → ContentsAreNoted log last.old last.new (spec.contents_at batch first (map plain_content contents.now))) }
     ensures starts { OnOk result ((starts : List ThePast) → HaveStarts last.old starts → StartsAt starts position start
         → HaveStarts last.new starts) }
 {
@@ -106,9 +107,9 @@ pub(crate) fn note_contents_of(
     placed: &Placed,
 ) -> Mem<()>
     requires { IsStanding placed.now }
-    ensures noted { OnOk result ((log : List PlainPlaced) (so_far : List spec.PlacedContent) → IsAt log position (plain_placed placed.now)
-        → HasLastContents log last.old so_far →
-        HasLastContents log last.new (so_far ++ spec.body_contents placed.now.batch placed.now.place (plain_body placed.now.body))) }
+    ensures noted { OnOk result ((log : List PlainPlaced) → IsAt log position (plain_placed placed.now)
+        → ContentsAreNoted log last.old last.new
+        (spec.body_contents placed.now.batch placed.now.place (plain_body placed.now.body))) }
     ensures starts { OnOk result ((starts : List ThePast) → HaveStarts last.old starts → StartsAt starts position start
         → HaveStarts last.new starts) }
 {
@@ -127,4 +128,21 @@ pub(crate) fn note_contents_of(
         content_place(placed, 0),
         contents,
     )
+}
+
+/// Whether the role that seals contents of this head has a key.
+fn is_keyed(state: &PublicState, head: &ContentHead) -> bool
+    ensures { result ≡ is_some (newest state.now.keys.keys (sealing_role head.now.kind head.now.object)) }
+{
+    state
+        .present(sealing_role(head.kind, head.object))
+        .is_some()
+}
+
+/// Keeps the contents of those heads alone whose sealing role has a key.
+pub(crate) fn keep_contents(last: &mut LastContents, state: &PublicState)
+    ensures kept { ContentsAreKept state.now.keys last.old last.new }
+    ensures starts { (starts : List ThePast) → HaveStarts last.old starts → HaveStarts last.new starts }
+{
+    last.retain(|head, _| is_keyed(state, head));
 }

@@ -1,18 +1,24 @@
 //! The last link of each edge in a log (docs/FORMAT.md, "Reading").
-ghost use Rattle.std.specs.Prelude.{◌≡◌, ◌+◌, ◌*◌, ◌<◌, ◌^◌, ◌++◌, [], ◌∷◌, List, OnOk, length};
+ghost use Rattle.std.specs.Prelude.{◌≡◌, ◌+◌, ◌*◌, ◌<◌, ◌^◌, [], ◌∷◌, IfOk, IsTrue, OnOk, length};
+ghost use Rattle.std.specs.HashSet.{contains};
 ghost use Rattle.commit_journal.specs.Placed.{plain_body};
 ghost use Rattle.commit_journal.specs.Places.{IsStanding};
+ghost use Rattle.cry_base.specs.Sets.{In};
+ghost use Rattle.cry_base.specs.declared.roles.Edge.{Edge as TheEdge};
 ghost use Rattle.log_visits.specs.Found.{has_present_serials, head_of_edge, link_here};
-ghost use Rattle.log_visits.specs.Indexed.{HasLastLinks, head_of_link};
+ghost use Rattle.log_visits.specs.Indexed.{LinksAreKept, LinksAreNoted, head_of_link, same_link_heads};
 ghost use Rattle.log_visits.specs.Placing as spec;
 ghost use Rattle.public_fold.specs.KeyStep.{present};
+ghost use Rattle.role_graph.specs.PublicStore.{public_store};
 ghost use Rattle.role_graph.specs.Roles.{role_id};
 
 use commit_journal::{Body, Placed, link_place};
 use cry_base::{Edge, Mem, Role, Serial};
 use public_fold::PublicState;
 use record_format::{LINK_LEN, LinkRecord};
-use std::collections::HashMap;
+use role_graph::edges;
+use std::alloc::Global;
+use std::collections::{HashMap, HashSet};
 
 /// What a link is looked for by. The serials are left out: of an edge whose keys are renewed only the last link can be followed, so no
 /// earlier one is kept.
@@ -90,8 +96,7 @@ fn head_of(link: &LinkRecord) -> LinkHead
 /// Notes a link under its head, in the place of an earlier one.
 #[tactic(auto, using(crate::proofs::Lasts::link_noted))]
 fn note_link(last: &mut LastLinks, found: FoundLink) -> Mem<()>
-    ensures { OnOk result ((so_far : List spec.PlacedLink) → HasLastLinks last.old so_far →
-        HasLastLinks last.new (so_far ++ link_here found.batch found.at found.link ∷ [])) }
+    ensures { OnOk result (LinksAreNoted last.old last.new (link_here found.batch found.at found.link ∷ [])) }
 {
     last.insert(head_of(&found.link), found)?;
     Ok(())
@@ -100,8 +105,7 @@ fn note_link(last: &mut LastLinks, found: FoundLink) -> Mem<()>
 /// Notes the links of a batch, of which the first stands at the place.
 fn note_links(last: &mut LastLinks, batch: u32, first: u64, links: &[LinkRecord]) -> Mem<()>
     requires { first + 98 * length links.now < 2 ^ 64 }
-    ensures { OnOk result ((so_far : List spec.PlacedLink) → HasLastLinks last.old so_far
-        → HasLastLinks last.new (so_far ++ spec.links_at batch first links.now)) }
+    ensures { OnOk result (LinksAreNoted last.old last.new (spec.links_at batch first links.now)) }
 {
     let mut at = first;
     for link in links {
@@ -121,8 +125,8 @@ fn note_links(last: &mut LastLinks, batch: u32, first: u64, links: &[LinkRecord]
 /// Notes the links that a batch of a log carries, behind those of the batches before it.
 pub(crate) fn note_links_of(last: &mut LastLinks, placed: &Placed) -> Mem<()>
     requires { IsStanding placed.now }
-    ensures { OnOk result ((so_far : List spec.PlacedLink) → HasLastLinks last.old so_far →
-        HasLastLinks last.new (so_far ++ spec.body_links placed.now.batch placed.now.place (plain_body placed.now.body))) }
+    ensures { OnOk result (LinksAreNoted last.old last.new
+        (spec.body_links placed.now.batch placed.now.place (plain_body placed.now.body))) }
 {
     let Body::Commands(payload) = &placed.body else {
         return Ok(());
@@ -132,4 +136,25 @@ pub(crate) fn note_links_of(last: &mut LastLinks, placed: &Placed) -> Mem<()>
         return Ok(());
     }
     note_links(last, placed.batch, link_place(placed, 0), links)
+}
+
+/// The heads of links that the edges have.
+fn heads_of(alloc: Global, edges: &[Edge]) -> Mem<HashSet<LinkHead>>
+    ensures { IfOk result (λ heads. (e : TheEdge) → In e edges.now → IsTrue (contains same_link_heads heads (head_of_edge e))) }
+{
+    let mut heads = HashSet::new(alloc);
+    for edge in edges {
+        heads.insert(head_sought(edge))?;
+    }
+    Ok(heads)
+}
+
+/// Keeps the links of those edges alone that stand.
+pub(crate) fn keep_links(last: &mut LastLinks, alloc: Global, state: &PublicState) -> Mem<()>
+    ensures { OnOk result (LinksAreKept (public_store state.now.tree state.now.pairs) last.old last.new) }
+{
+    let standing = edges(alloc, state.shape(), state.grants())?;
+    let heads = heads_of(alloc, standing.as_slice())?;
+    last.retain(|head, _| heads.contains(head));
+    Ok(())
 }

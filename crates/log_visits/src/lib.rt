@@ -11,6 +11,7 @@ mod last_links;
 mod opening;
 pub mod opening_laws;
 mod records;
+mod row_counts;
 mod sights;
 mod text_forms;
 mod texts;

@@ -1,11 +1,14 @@
 //! Finds the records that visits open.
-ghost use Rattle.std.specs.Prelude.{◌≡◌, ◌≢◌, ◌<◌, ◌≤◌, ℕ, Err, List, IfOk, IfSome, map};
+ghost use Rattle.std.specs.Prelude.{◌≡◌, ◌≢◌, ◌<◌, ◌≤◌, ℕ, Err, IfOk, IfSome, List, Ok, map};
 ghost use Rattle.commit_journal.specs.Placed.{PlainPlaced, plain_body};
 ghost use Rattle.commit_journal.specs.Places.{IsStanding};
-ghost use Rattle.log_visits.specs.Found.{Finds, FindsAt, IsContentFor, IsLinkFor, newest_for, plain_link};
+ghost use Rattle.log_visits.specs.Folding.{folded};
+ghost use Rattle.log_visits.specs.Found.{Finds, FindsAt, HasObject, IsContentFor, IsLinkFor, newest_for, plain_link};
 ghost use Rattle.log_visits.specs.Placing as spec;
 ghost use Rattle.log_visits.specs.Spots.{contents_in};
+ghost use Rattle.public_fold.specs.Journal.{Stand, nothing};
 ghost use Rattle.record_format.specs.Plain.{plain_content};
+ghost use Rattle.role_graph.specs.Edges.{IsEdge};
 
 use crate::ClientFault;
 use crate::last_contents::ContentSpot;
@@ -40,14 +43,15 @@ pub trait Records<S> {
     /// How often the source failed.
     ghost faults: { S → ℕ };
 
-    /// The last link that was published for the edge, where it is one from the present key of its source to that of its target. In a
-    /// log whose payloads fit, with what stands after them, it is the last such link: no other one follows it.
+    /// The last link that was published for an edge that stands behind the batches, where it is one from the present key of its source
+    /// to that of its target. With what stands after them it is the last such link: no other one follows it.
     fn link_for(&self, state: &PublicState, edge: &Edge) -> Option<FoundLink>
-        ensures found { plain_link result ≡ newest_for state.now.keys (log self.now) edge.now }
+        ensures found { (at : Stand) → folded nothing (log self.now) ≡ Ok at → IsEdge at.store edge.now
+            → plain_link result ≡ newest_for state.now.keys (log self.now) edge.now }
         ensures form { IfSome result (IsLinkFor state.now.keys edge.now) };
 
-    /// The last content of the kind that was published for the folder, file or holder. Where the source shows the batches, the
-    /// faults are `DiskFault` and `OutOfMemory` alone.
+    /// The last content of the kind that was published for the folder, file or holder, where that stands behind the batches. Where
+    /// the source shows them, the faults are `DiskFault` and `OutOfMemory` alone.
     fn content_for(
         &self,
         alloc: Global,
@@ -55,7 +59,8 @@ pub trait Records<S> {
         kind: u8,
         object: u32,
     ) -> Result<Option<FoundContent>, ClientFault>
-        ensures found { shows self.now source.old → Finds result (spec.content_for (log self.now) kind object) }
+        ensures found { shows self.now source.old → (at : Stand) → folded nothing (log self.now) ≡ Ok at → HasObject at.store kind object
+            → Finds result (spec.content_for (log self.now) kind object) }
         ensures form { IfOk result (λ found. IfSome found (IsContentFor kind object)) }
         ensures seen { result ≢ Err ClientFault.Unseen }
         ensures stays { stays source.old source.new }

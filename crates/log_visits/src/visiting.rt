@@ -67,7 +67,7 @@ pub(crate) struct OpenedText {
 
 /// The role whose key seals the contents of this kind.
 #[tactic(auto, unfolding(key_links::specs::Ended::sealing_role))]
-fn sealing_role(kind: u8, object: u32) -> Role
+pub(crate) fn sealing_role(kind: u8, object: u32) -> Role
     ensures { result ≡ ends.sealing_role kind object }
 {
     match kind {

@@ -32,11 +32,11 @@ use Rattle.public_fold.specs.Journal.{Stand, nothing}
 use Rattle.journal_bytes.proofs.OwnerVisits.{all_stay, edge_open, new_open}
 use Rattle.reader_laws.specs.Failing.{IsOfRecord}
 use Rattle.reader_laws.specs.Reading.{AreAllowed}
-use Rattle.reader_laws.proofs.Ordered.{AreOrdered, CanVisit, LeadsTo, OneLeadsTo, can_more, ordered_both}
+use Rattle.log_visits.proofs.Ordered.{AreOrdered, CanVisit, LeadsTo, OneLeadsTo, can_more, ordered_both}
 use Rattle.reader_laws.proofs.Readable.{fold_shape}
-use Rattle.reader_laws.proofs.ReaderVisits.{AreFilesIn, AtFirst, Named, all_ordered, files_ordered, names_ordered}
+use Rattle.log_visits.proofs.ReaderVisits.{AreFilesIn, AtFirst, Named, all_ordered, files_ordered, names_ordered}
 use Rattle.reader_laws.proofs.Readers.{first_open}
-use Rattle.reader_laws.proofs.Rights.{HasShape}
+use Rattle.log_visits.proofs.Rights.{HasShape}
 use Rattle.reader_laws.proofs.Written.{HasTexts, each_text_found}
 
 -- what is found stands in the list

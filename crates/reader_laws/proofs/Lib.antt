@@ -3,12 +3,9 @@ pub mod Behind
 pub mod Checks
 pub mod Lines
 pub mod Openable
-pub mod Ordered
 pub mod Published
 pub mod Readable
-pub mod ReaderVisits
 pub mod Readers
-pub mod Rights
 pub mod Seen
 pub mod Shown
 pub mod ValidReaders

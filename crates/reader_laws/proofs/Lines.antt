@@ -30,7 +30,7 @@ use Rattle.journal_bytes.specs.Opening.{is_to_file, reading_of, seen_by}
 use Rattle.reader_laws.specs.Reading.{AreAllowed, IsReaderOf, IsRightFor, line_shown_of}
 use Rattle.reader_laws.proofs.Readable.{IsReadable}
 use Rattle.reader_laws.proofs.Readers.{file_listed, file_visited, files_pass, listed_file, names_pass, seen, to_names}
-use Rattle.reader_laws.proofs.Rights.{allowed_is_named}
+use Rattle.log_visits.proofs.Rights.{allowed_is_named}
 use Rattle.reader_laws.proofs.Seen.{AreToNames, allowed_seen, file_as, file_folder_is, file_line_seen, files_are, folder_lines_seen, names_seen, passed_over}
 use Rattle.reader_laws.proofs.Shown.{answered, bundle_reads, published_readable}
 

@@ -30,7 +30,7 @@ use Rattle.journal_bytes.proofs.OpenedKeys.{found_opens, visits_drawn}
 use Rattle.journal_bytes.proofs.OpenedTexts.{same_some}
 use Rattle.journal_bytes.proofs.OwnerVisits.{all_stay, edge_open}
 use Rattle.journal_bytes.proofs.Walked.{IsLinkUnder}
-use Rattle.reader_laws.proofs.Ordered.{AreOrdered, CanVisit, LeadsTo, can_more}
+use Rattle.log_visits.proofs.Ordered.{AreOrdered, CanVisit, LeadsTo, can_more}
 
 -- a store's records as they are due in a log
 pub record IsOpenable (keys : List KeyParts) (s : Store) (r : Reading) : Type 0 where

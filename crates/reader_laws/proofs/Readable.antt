@@ -40,7 +40,7 @@ use Rattle.journal_bytes.proofs.PlainTexts.{file_form, folder_form, journal_plai
 use Rattle.reader_laws.proofs.Checks.{journal_checked}
 use Rattle.reader_laws.proofs.Openable.{IsOpenable}
 use Rattle.reader_laws.proofs.Published.{MayPublish}
-use Rattle.reader_laws.proofs.Rights.{HasShape, shape_of}
+use Rattle.log_visits.proofs.Rights.{HasShape, shape_of}
 
 -- the payloads can be followed, the checks are those of the holders, the records are as they are due, and the keys are the
 -- journal's

@@ -32,10 +32,10 @@ use Rattle.journal_bytes.proofs.OpenedTexts.{unseen, visits_seen}
 use Rattle.journal_bytes.proofs.OwnerVisits.{all_stay, edge_open, new_open}
 use Rattle.reader_laws.specs.Reading.{AreAllowed, IsReaderOf}
 use Rattle.reader_laws.proofs.Openable.{AllGo, ordered_go}
-use Rattle.reader_laws.proofs.Ordered.{AreOrdered}
+use Rattle.log_visits.proofs.Ordered.{AreOrdered}
 use Rattle.reader_laws.proofs.Readable.{IsReadable, fold_shape}
-use Rattle.reader_laws.proofs.ReaderVisits.{AreFilesIn, AtFirst, Named, all_ordered, files_ordered, names_ordered}
-use Rattle.reader_laws.proofs.Rights.{HasShape, passes}
+use Rattle.log_visits.proofs.ReaderVisits.{AreFilesIn, AtFirst, Named, all_ordered, files_ordered, names_ordered}
+use Rattle.log_visits.proofs.Rights.{HasShape, passes}
 use Rattle.reader_laws.proofs.Seen.{AreToFiles, AreToNames, allowed_seen, file_as, file_folder_is, file_id_is, files_are, named_seen, view_seen}
 
 -- ---- rights are seen by everyone

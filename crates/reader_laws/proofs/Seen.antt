@@ -18,7 +18,7 @@ use Rattle.role_graph.specs.Rights.Who.{TheOwner, TheHolder}
 use Rattle.role_graph.specs.RightsByReach.{HasFolder}
 use Rattle.public_fold.specs.Tree.{AreNumbered}
 use Rattle.journal_bytes.specs.Opening.{is_to_file, is_to_name, seen_by}
-use Rattle.reader_laws.proofs.Rights.{allowed_is_named, named_above}
+use Rattle.log_visits.proofs.Rights.{allowed_is_named, named_above}
 
 -- ---- lists
 

@@ -14,6 +14,7 @@ use Rattle.log_visits.specs.Judging.{Unseen, who_of}
 use Rattle.holder_client.specs.Lines.{plain_line}
 use Rattle.log_visits.specs.View.{Line}
 use Rattle.log_visits.specs.Sights.{AreSights, MayRead}
+use Rattle.holder_client.proofs.FiledReads.{rows_stand}
 use Rattle.holder_client.proofs.Besides.{files_fail_path, files_pass_path, first_line, folders_named, names_fail_path, names_pass_path, no_line, none_of, shown_beside, stops_beside}
 use Rattle.log_visits.proofs.OwnerVisits.{seen_tree}
 use Rattle.role_graph.specs.Rights.{Who}
@@ -82,7 +83,7 @@ returns-in_err-files-clause-answer g c = λ shown r of_log may.
     in
     rw (p.1, p.2)
     (subst (IsFailure c.in_err-files.field-0.0) (sym passed)
-    (files_fail_path r a.0 who path (flat_map file_stops c.as_slice-4.result.now) c.in_err-files.field-0.0 stops (c.in_err-files.ensures.answer (g.met.R.Records.still_shows c.args.records.now c.args.source.now c.open_names.new.source c.in_ok-ring.ensures.stays shown) r a.0 bare c.in_ok-ring.field-0.names of_log a.2.0 a.2.1)))
+    (files_fail_path r a.0 who path (flat_map file_stops c.as_slice-4.result.now) c.in_err-files.field-0.0 stops (c.in_err-files.ensures.answer (g.met.R.Records.still_shows c.args.records.now c.args.source.now c.open_names.new.source c.in_ok-ring.ensures.stays shown) r a.0 bare c.in_ok-ring.field-0.names of_log (rows_stand bare rows c.as_slice-4.result.now _ is chosen) a.2.0 a.2.1)))
 
 pub returns-in-Some-2-clause-answer : goal.returns-in-Some-2-clause-answer
 returns-in-Some-2-clause-answer g c = λ shown r of_log may.
@@ -110,7 +111,7 @@ returns-in-Some-2-clause-answer g c = λ shown r of_log may.
     let stops = stops_beside c.shape-shape.result.now.tree bare a.0.store c.in_ok-ring.field-0.names who c.as_slice-3.result.now rows path folders tree beside is a.2.1
     ∙ ap (flat_map file_stops) (sym chosen)
     in
-    let b = c.in_ok-files.ensures.answer (g.met.R.Records.still_shows c.args.records.now c.args.source.now c.open_names.new.source c.in_ok-ring.ensures.stays shown) r a.0 bare c.in_ok-ring.field-0.names of_log a.2.0 a.2.1 in
+    let b = c.in_ok-files.ensures.answer (g.met.R.Records.still_shows c.args.records.now c.args.source.now c.open_names.new.source c.in_ok-ring.ensures.stays shown) r a.0 bare c.in_ok-ring.field-0.names of_log (rows_stand bare rows c.as_slice-4.result.now _ is chosen) a.2.0 a.2.1 in
     let held : Option Line = option_map plain_line c.in_ok-line-2.field-0 in
     let files = files_pass_path r a.0 b.0 who path (flat_map file_stops c.as_slice-4.result.now) held stops b.1
     (c.in_ok-line-2.ensures ∙ ap (line_at path)
@@ -144,7 +145,7 @@ returns-clause-answer g c = λ shown r of_log may.
     let stops = stops_beside c.shape-shape.result.now.tree bare a.0.store c.in_ok-ring.field-0.names who c.as_slice-3.result.now rows path folders tree beside is a.2.1
     ∙ ap (flat_map file_stops) (sym chosen)
     in
-    let b = c.in_ok-files.ensures.answer (g.met.R.Records.still_shows c.args.records.now c.args.source.now c.open_names.new.source c.in_ok-ring.ensures.stays shown) r a.0 bare c.in_ok-ring.field-0.names of_log a.2.0 a.2.1 in
+    let b = c.in_ok-files.ensures.answer (g.met.R.Records.still_shows c.args.records.now c.args.source.now c.open_names.new.source c.in_ok-ring.ensures.stays shown) r a.0 bare c.in_ok-ring.field-0.names of_log (rows_stand bare rows c.as_slice-4.result.now _ is chosen) a.2.0 a.2.1 in
     let held : Option Line = option_map plain_line c.in_ok-line-2.field-0 in
     let files = files_pass_path r a.0 b.0 who path (flat_map file_stops c.as_slice-4.result.now) held stops b.1
     (c.in_ok-line-2.ensures ∙ ap (line_at path)

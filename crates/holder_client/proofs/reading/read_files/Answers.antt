@@ -16,7 +16,7 @@ loop-row-init g c = record {
 }
 
 pub returns-in_err-file-clause-answer : goal.returns-in_err-file-clause-answer
-returns-in_err-file-clause-answer g c = λ shown r o bare names of_log holds has.
+returns-in_err-file-clause-answer g c = λ shown r o bare names of_log stand holds has.
     let p = err_from_is_err_and c.from_residual.result c.from_residual.ensures.1 in
     let rows = c.args.rows.now in
     let i = c.loop-row.row-index in
@@ -25,7 +25,7 @@ returns-in_err-file-clause-answer g c = λ shown r o bare names of_log holds has
     let own : row ≡ get_or rows i row = item_at rows i d row c.loop-row-test.true in
     rw (p.1, p.2)
     (reads_fail c.args.state.now (g.R.Records.log c.args.records.now) c.args.ring c.loop-row.ring rows i row c.loop-row.files.items c.in_err-file.field-0.0 c.loop-row-test.true own
-    (c.loop-row.invariant.read shown) (c.in_err-file.ensures.answer (g.met.R.Records.still_shows c.args.records.now c.args.source.now c.loop-row.source c.loop-row.invariant.stays shown)) r o bare names of_log holds has)
+    (c.loop-row.invariant.read shown) (c.in_err-file.ensures.answer (g.met.R.Records.still_shows c.args.records.now c.args.source.now c.loop-row.source c.loop-row.invariant.stays shown)) r o bare names of_log stand holds has)
 
 pub loop-row-preserved : goal.loop-row-preserved
 loop-row-preserved g c =
@@ -43,9 +43,9 @@ loop-row-preserved g c =
     }
 
 pub returns-clause-answer : goal.returns-clause-answer
-returns-clause-answer g c = λ shown r o bare names of_log holds has.
+returns-clause-answer g c = λ shown r o bare names of_log stand holds has.
     let past : length c.args.rows.now ≤ c.loop-row.row-index = omega (arith, c.loop-row-test.false) in
-    reads_end c.args.state.now (g.R.Records.log c.args.records.now) c.args.ring c.loop-row.ring c.args.rows.now c.loop-row.row-index c.loop-row.files.items past (c.loop-row.invariant.read shown) r o bare names of_log holds has
+    reads_end c.args.state.now (g.R.Records.log c.args.records.now) c.args.ring c.loop-row.ring c.args.rows.now c.loop-row.row-index c.loop-row.files.items past (c.loop-row.invariant.read shown) r o bare names of_log stand holds has
 
 pub returns-clause-rows : goal.returns-clause-rows
 returns-clause-rows g c = c.loop-row.invariant.rows ∙ take_all c.loop-row.row-index c.args.rows.now (omega arith)

@@ -9,6 +9,7 @@ use Rattle.log_visits.specs.Judging.{who_of}
 use Rattle.log_visits.specs.Sights.{AreSights, MayRead, opens}
 use Rattle.log_visits.specs.Visits.{visits_to_names}
 use Rattle.log_visits.specs.declared.sights.Sight.{Sight}
+use Rattle.holder_client.proofs.FiledReads.{rows_stand}
 use Rattle.holder_client.proofs.Listings.{all_pass, allowed_stops, files_fail, names_fail}
 use Rattle.log_visits.proofs.OwnerVisits.{seen_tree}
 use Rattle.holder_client.proofs.Shows.{view_shown}
@@ -44,7 +45,7 @@ returns-in_err-files-clause-answer g c = λ shown r of_log may.
     let chosen = c.as_slice-3.ensures.value ∙ c.in_ok-rows.ensures in
     rw (p.1, p.2)
     (files_fail c.args.bundle.now r (flat_map file_stops c.as_slice-3.result.now) a.0 c.in_err-files.field-0.0 (stops ∙ ap (λ (l : List FileRow). visits_to_names bare who ++ flat_map file_stops l) (sym chosen)) a.1
-    (c.in_err-files.ensures.answer (g.met.R.Records.still_shows c.args.records.now c.args.source.now c.open_names.new.source c.in_ok-ring.ensures.stays shown) r a.0 bare c.in_ok-ring.field-0.names of_log a.2.0 a.2.1))
+    (c.in_err-files.ensures.answer (g.met.R.Records.still_shows c.args.records.now c.args.source.now c.open_names.new.source c.in_ok-ring.ensures.stays shown) r a.0 bare c.in_ok-ring.field-0.names of_log (rows_stand bare rows c.as_slice-3.result.now _ is chosen) a.2.0 a.2.1))
 
 pub returns-clause-answer : goal.returns-clause-answer
 returns-clause-answer g c = λ shown r of_log may.
@@ -60,7 +61,7 @@ returns-clause-answer g c = λ shown r of_log may.
     let is : bare.files ≡ map file_of_row rows = ap (λ (s : Store). s.files) of_log.1.store ∙ sym (c.files.ensures ∙ ap (λ (t : Store). t.files) c.shape.ensures) in
     let stops = allowed_stops bare who c.as_slice-2.result.now rows tree (subst (AreSights bare who) (sym c.as_slice-2.ensures.value) listed) is in
     let chosen = c.as_slice-3.ensures.value ∙ c.in_ok-rows.ensures in
-    let b = c.in_ok-files.ensures.answer (g.met.R.Records.still_shows c.args.records.now c.args.source.now c.open_names.new.source c.in_ok-ring.ensures.stays shown) r a.0 bare c.in_ok-ring.field-0.names of_log a.2.0 a.2.1 in
+    let b = c.in_ok-files.ensures.answer (g.met.R.Records.still_shows c.args.records.now c.args.source.now c.open_names.new.source c.in_ok-ring.ensures.stays shown) r a.0 bare c.in_ok-ring.field-0.names of_log (rows_stand bare rows c.as_slice-3.result.now _ is chosen) a.2.0 a.2.1 in
     let folders : bare.folders ≡ c.shape-2.result.now.tree.folders = ap (λ (s : Store). s.folders) of_log.1.store ∙ ap (λ (t : Store). t.folders) (sym c.shape-2.ensures) in
     let same = c.as_slice-4.ensures.value ∙ sym c.as_slice-2.ensures.value in
     all_pass c.args.bundle.now r (flat_map file_stops c.as_slice-3.result.now) a.0 b.0 (stops ∙ ap (λ (l : List FileRow). visits_to_names bare who ++ flat_map file_stops l) (sym chosen)) a.1 b.1

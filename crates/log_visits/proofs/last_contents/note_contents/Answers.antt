@@ -4,7 +4,7 @@ use Rattle.std.proofs.lemmas.List.Sums.{sum_by_more, sum_by_more_le}
 use Rattle.std.proofs.lemmas.Option.{slice_get-get_or}
 use Rattle.record_format.specs.Plain.{plain_content}
 use Rattle.record_format.specs.Sizes.{content_size}
-use Rattle.log_visits.specs.Indexed.{HasLastContents}
+use Rattle.log_visits.specs.Indexed.{HasLastContent}
 use Rattle.log_visits.specs.Placing.{contents_at}
 use Rattle.log_visits.specs.Spots.{IsAt}
 use Rattle.log_visits.proofs.Lasts.{mapped_item, more_contents}
@@ -15,7 +15,7 @@ unfolding contents_at
 loop-content-init c = record {
   index = refl;
   place = omega arith;
-  noted = λ log p so_far at carries has. subst (HasLastContents log c.args.last.now) (sym (append-nil so_far)) has;
+  noted = λ log p at carries q so_far has. subst (HasLastContent log c.args.last.now q) (sym (append-nil so_far)) has;
   starts = λ starts have at. have;
 }
 
@@ -45,9 +45,9 @@ loop-content-preserved c =
     record {
       index = omega (arith, c.loop-content.invariant.index);
       place = omega (arith, more, size, c.loop-content.invariant.place, ap length c.as_slice.ensures);
-      noted = λ log p so_far at carries has.
-          more_contents log c.note_content.new.last so_far c.args.batch c.args.first c.loop-content.at plain i (plain_content content) item.0 c.loop-content.invariant.place item.1
-          (c.in_ok-note_content.ensures.noted log (so_far ++ contents_at c.args.batch c.args.first (take i plain))
-          (p, at, subst (λ l. IsAt l c.loop-content.index (plain_content content)) (sym carries) here) (c.loop-content.invariant.noted log p so_far at carries has));
+      noted = λ log p at carries q so_far has.
+          more_contents log c.note_content.new.last q so_far c.args.batch c.args.first c.loop-content.at plain i (plain_content content) item.0 c.loop-content.invariant.place item.1
+          (c.in_ok-note_content.ensures.noted log
+          (p, at, subst (λ l. IsAt l c.loop-content.index (plain_content content)) (sym carries) here) q (so_far ++ contents_at c.args.batch c.args.first (take i plain)) (c.loop-content.invariant.noted log p at carries q so_far has));
       starts = λ starts have at. c.in_ok-note_content.ensures.starts starts (c.loop-content.invariant.starts starts have at) at;
     }

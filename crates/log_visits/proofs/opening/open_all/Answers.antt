@@ -1,17 +1,21 @@
 use Rattle.std.proofs.Common.{◌≡◌, ◌++◌, List, [], ◌∷◌, Ok, map, sym, ap, subst, ◌∙◌}
 use Rattle.std.proofs.lemmas.Result.{err_from_is_err_and}
 use Rattle.std.specs.List.{AllByRecursion}
+use Rattle.commit_journal.specs.Placed.{plain_placed}
 use Rattle.commit_journal.specs.declared.placed.Placed.{Placed}
+use Rattle.cry_base.specs.Sets.{In}
 use Rattle.cry_base.specs.declared.roles.Role.TheVariants.{Owner}
 use Rattle.log_visits.specs.declared.opening.OwnersView.{OwnersView}
 use Rattle.log_visits.specs.declared.visit_list.Visit.{Visit as Listed}
 use Rattle.log_visits.specs.Answering.{AnswersBy, IsFault}
 use Rattle.log_visits.specs.Holding.{IsReadingOf}
-use Rattle.log_visits.specs.Opening.{HasItsKind, IsFor, IsOpenedBy, IsOpenedTo, is_no_holders, plain_visit}
+use Rattle.log_visits.specs.Opening.{HasItsKind, IsFor, IsOpenedBy, IsOpenedTo, IsToStanding, is_no_holders, plain_visit}
 use Rattle.log_visits.specs.Visiting.{Opened, visit_all}
 use Rattle.log_visits.specs.Visits.{Visit, all_visits, holder_visits}
 use Rattle.log_visits.proofs.Opens.{alone_present, answered, for_kinds, opening_begins}
+use Rattle.log_visits.proofs.FoldedHolds.{folded_may_stand}
 use Rattle.log_visits.proofs.OwnerVisits.{seen_nameless}
+use Rattle.log_visits.proofs.ReaderVisits.{owners_stand}
 use Rattle.log_visits.proofs.Sized.{unnamed_sized}
 use Rattle.role_graph.specs.Rights.Who.{TheOwner}
 use Rattle.log_visits.proofs.opening.open_all.Goals as goal
@@ -30,7 +34,8 @@ returns-in_err-view-clause-answer c = λ r of_log.
     let opening : IsOpenedTo is_no_holders bare visits view begun =
     subst (λ l. IsOpenedTo is_no_holders bare l view begun) (sym same)
     (opening_begins bare (map plain_visit c.in_ok-visits.visits.items) view c.args.owner (seen_nameless state r.stand of_log.1 c.in_ok-visits.ensures.nameless) c.new.ensures
-    c.new-2.ensures.folders c.new-2.ensures.files (λ e i. c.in_ok-visits.ensures.holders r.stand e of_log.1 i))
+    c.new-2.ensures.folders c.new-2.ensures.files (λ e i. c.in_ok-visits.ensures.holders r.stand e of_log.1 i)
+    (subst (λ (l : List Visit). (v : Visit) → In v l → IsToStanding bare v) (sym (c.in_ok-visits.ensures.visits r.stand of_log.1)) (owners_stand bare (folded_may_stand (map plain_placed c.args.log.now) r.stand of_log.2))))
     in
     let reading : IsReadingOf state c.in_ok-indexed.indexed r = subst (λ (log : List Placed). IsReadingOf state log r) (sym c.in_ok-indexed.ensures) of_log in
     rw (p.1, p.2)
@@ -50,7 +55,8 @@ returns-clause-answer c = λ r of_log.
     let opening : IsOpenedTo is_no_holders bare visits view begun =
     subst (λ l. IsOpenedTo is_no_holders bare l view begun) (sym same)
     (opening_begins bare (map plain_visit c.in_ok-visits.visits.items) view c.args.owner (seen_nameless state r.stand of_log.1 c.in_ok-visits.ensures.nameless) c.new.ensures
-    c.new-2.ensures.folders c.new-2.ensures.files (λ e i. c.in_ok-visits.ensures.holders r.stand e of_log.1 i))
+    c.new-2.ensures.folders c.new-2.ensures.files (λ e i. c.in_ok-visits.ensures.holders r.stand e of_log.1 i)
+    (subst (λ (l : List Visit). (v : Visit) → In v l → IsToStanding bare v) (sym (c.in_ok-visits.ensures.visits r.stand of_log.1)) (owners_stand bare (folded_may_stand (map plain_placed c.args.log.now) r.stand of_log.2))))
     in
     let reading : IsReadingOf state c.in_ok-indexed.indexed r = subst (λ (log : List Placed). IsReadingOf state log r) (sym c.in_ok-indexed.ensures) of_log in
     let told =

@@ -30,18 +30,18 @@ returns-in-Ok-clause-read c =
     let new = c.keep.new.self in
     let fits = sym c.is_some.ensures ∙ c.if-is_some.false in
     let has = has_folded old log old.misfit fits read in
-    let next = kept log batch has.index has.checks in
     let small : c.args.placed.now.batch < 2 ^ 32 = omega arith in
     subst (λ m. HasReadTo m new (log ++ plain_placed c.args.placed.now ∷ [])) (sym (c.keep.ensures.misfit ∙ none_from old.misfit fits))
     (added old new log (plain_placed c.args.placed.now) has epochs batch small
     (λ at seen. subst (λ s. AnswersBy (λ (u : Unit {0}) behind. IsSeenAs s behind) (Ok tt) (stand_behind at c.args.placed.now.place (plain_body c.args.placed.now.body))) (sym c.keep.ensures.state) (c.in-Ok.ensures.answer at seen))
-    next.0 next.1))
+    (λ at folds seen. kept log at batch has.index has.checks folds (subst (λ s. IsSeenAs s at) c.keep.ensures.state seen))))
     c.keep.ensures.kept
 
 pub returns-in-Err-Damaged-clause-read : goal.returns-in-Err-Damaged-clause-read
 returns-in-Err-Damaged-clause-read c = λ log read epochs batch.
     let old = c.args.self.now in
-    misfit_met old log (plain_placed c.args.placed.now) c.in-Err-Damaged.at (has_folded old log old.misfit (sym c.is_some.ensures ∙ c.if-is_some.false) read) (λ at seen. subst (λ fault. IsFault fault (stand_behind at c.args.placed.now.place (plain_body c.args.placed.now.body))) c.in-Err-Damaged.field-0-is (c.in-Err-Damaged.ensures.answer at seen))
+    rw c.in-Err-Damaged.field-0-is
+    (misfit_met old log (plain_placed c.args.placed.now) c.in-Err-Damaged.at (has_folded old log old.misfit (sym c.is_some.ensures ∙ c.if-is_some.false) read) (λ at seen. subst (λ fault. IsFault fault (stand_behind at c.args.placed.now.place (plain_body c.args.placed.now.body))) c.in-Err-Damaged.field-0-is (c.in-Err-Damaged.ensures.answer at seen)))
 
 pub returns-then-is_some-clause-starts : goal.returns-then-is_some-clause-starts
 returns-then-is_some-clause-starts c = λ starts have number next. starts_grow c.args.self.now.index.contents starts (c.args.start.now ∷ []) have

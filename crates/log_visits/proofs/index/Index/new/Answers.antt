@@ -1,4 +1,4 @@
-use Rattle.log_visits.proofs.Lasts.{nothing_indexed}
+use Rattle.log_visits.proofs.IndexKept.{nothing_indexed}
 use Rattle.log_visits.proofs.Starts.{no_starts}
 use Rattle.log_visits.proofs.index.Index.new.Goals as goal
 

@@ -1,7 +1,7 @@
 use Rattle.std.proofs.Common.{◌≡◌, ◌≤◌, length, map, take, ◌∙◌, arith}
 use Rattle.std.proofs.lemmas.List.{length-map, length-take-le}
 use Rattle.commit_journal.specs.Placed.{plain_placed}
-use Rattle.log_visits.proofs.Lasts.{index_more}
+use Rattle.log_visits.proofs.IndexKept.{index_more}
 use Rattle.log_visits.proofs.indexed_log.IndexedLog.of.Goals as goal
 
 pub loop-position-preserved : goal.loop-position-preserved

@@ -4,13 +4,14 @@ use Rattle.std.specs.Prelude.{nat_lt, not}
 use Rattle.std.specs.List.{flat_map}
 use Rattle.std.proofs.lemmas.Bool.{and_from, and_parts, cases_Bool, eq-eqb, eqb-true, ltb-false, ltb-true, not-true, not_from_false, or_cases, or_parts}
 use Rattle.cry_base.specs.Sets.{In}
-use Rattle.cry_base.specs.Store.{Store, FolderEntry, FileEntry, GrantEntry}
+use Rattle.cry_base.specs.Store.{Store, FolderEntry, FileEntry, GrantEntry, HolderEntry}
 use Rattle.cry_base.specs.declared.roles.Edge.{Edge}
 use Rattle.cry_base.specs.declared.roles.Role.{Role}
 use Rattle.cry_base.specs.declared.roles.Role.TheVariants.{Owner}
 use Rattle.cry_base.proofs.Members.{In-append, In-filter, In-flat_map, In-map}
-use Rattle.log_visits.specs.Visits.{Visit, all_visits, allowed_visits, entry_edge, entry_visits, file_visits, files_that, folders_that, is_deeper, is_entry, is_higher, lower_visits, name_visits, upper_visit, upper_visits, visit_from, visits_to_names}
-use Rattle.log_visits.specs.Visits.Visit.{ToKey, ToName, ToFile}
+use Rattle.log_visits.specs.Visits.{Visit, all_visits, allowed_visits, entry_edge, entry_visits, file_visits, files_that, folders_that, holder_visits, is_deeper, is_entry, is_higher, lower_visits, name_visits, upper_visit, upper_visits, visit_from, visits_to_names}
+use Rattle.log_visits.specs.Opening.{IsToStanding}
+use Rattle.log_visits.specs.Visits.Visit.{ToKey, ToName, ToFile, ToHolder}
 use Rattle.move_plan.specs.Change.{folder_of_file, parent_of_folder}
 use Rattle.role_graph.specs.Edges.{IsEdge, edge, file_edge, folder_edges, grant_edge, in_order, parent_edges}
 use Rattle.role_graph.specs.Rights.{Who, allowed_to, named_to}
@@ -18,8 +19,9 @@ use Rattle.role_graph.specs.Rights.Who.{TheOwner, TheHolder}
 use Rattle.role_graph.specs.RightsByReach.{HasFolder}
 use Rattle.role_graph.specs.Roles.{back_of, clear_of, data_of, files_of, holder_role, sub_of}
 use Rattle.role_graph.proofs.Edging.{In-order}
-use Rattle.reader_laws.proofs.Ordered.{AreOrdered, CanVisit, OneLeadsTo, OpenBefore, order_sorted, ordered_both, ordered_each, ordered_in_order}
-use Rattle.reader_laws.proofs.Rights.{HasShape, IsUnder, depth, entry_granted, folder_told, over_named, parent_is, parent_stands, parent_told, passes, passing, under_allowed, under_what_stands}
+use Rattle.public_fold.specs.Rooted.{MayStand}
+use Rattle.log_visits.proofs.Ordered.{AreOrdered, CanVisit, LeadsTo, OneLeadsTo, OpenBefore, order_sorted, ordered_both, ordered_each, ordered_in_order}
+use Rattle.log_visits.proofs.Rights.{HasShape, IsUnder, depth, entry_granted, folder_told, over_named, parent_is, parent_stands, parent_told, passes, passing, shape_of, under_allowed, under_what_stands}
 
 -- the key that a reader has at first
 abbrev pub first_role : Who → Role
@@ -338,3 +340,35 @@ module _ (s : Store) (who : Who) (shape : HasShape s) where
   all_ordered =
       let xs = files_that (λ e. allowed_to s who e.folder) s in
       ordered_both s (AtFirst who) (visits_to_names s who) (file_visits s xs) names_ordered (files_ordered xs allowed_files)
+
+-- ---- what is visited stands
+
+each_stands : (s : Store) (is_open : Role → Type 0) (vs : List Visit) → AreOrdered s is_open vs → (v : Visit) → In v vs → IsToStanding s v
+each_stands s is_open [] ordered v i = absurd i
+each_stands s is_open (w ∷ vs) ordered v i = ⊎_elim
+    (λ (q : v ≡ w). subst (IsToStanding s) (sym q) (can_stand w ordered.0))
+    (λ j. each_stands s (λ role. is_open role ⊎ LeadsTo w role) vs ordered.1 v j) i
+  where
+    can_stand : (w : Visit) → CanVisit s is_open w → IsToStanding s w
+    can_stand (ToKey e) can = can.0
+    can_stand (ToName f) can = can.0
+    can_stand (ToFile x) can = can.0
+    can_stand (ToHolder h) can = can.0
+
+pub names_stand : (s : Store) (who : Who) → MayStand s → (v : Visit) → In v (visits_to_names s who) → IsToStanding s v
+names_stand s who may = each_stands s (AtFirst who) (visits_to_names s who) (names_ordered s who (shape_of s may))
+
+holder_stands : (s : Store) (v : Visit) → In v (holder_visits s) → IsToStanding s v
+unfolding holder_visits
+holder_stands s v i =
+    let numbers = map (λ (e : HolderEntry). e.number) s.holders in
+    let w = (In-map ℕ Visit ToHolder v (in_order nat_lt numbers)).0 i in
+    let e = (In-map HolderEntry ℕ (λ e. e.number) w.0 s.holders).0 ((In-order ℕ nat_lt w.0 numbers).0 w.1) in
+    subst (IsToStanding s) (sym w.2) (e.0, e.1, sym e.2)
+
+-- all that an owner visits stands
+pub owners_stand : (s : Store) → MayStand s → (v : Visit) → In v (all_visits s TheOwner ++ holder_visits s) → IsToStanding s v
+owners_stand s may v i = ⊎_elim
+    (λ j. each_stands s (AtFirst TheOwner) (all_visits s TheOwner) (all_ordered s TheOwner (shape_of s may)) v j)
+    (λ j. holder_stands s v j)
+    ((In-append Visit v (all_visits s TheOwner) (holder_visits s)).0 i)

@@ -1,0 +1,25 @@
+//! How many links and contents an index may keep.
+ghost use Rattle.std.specs.Prelude.{◌≤◌};
+ghost use Rattle.log_visits.specs.Indexed as spec;
+
+use public_fold::PublicState;
+
+/// So many are kept of any store, that of a small one nothing is forgotten at each batch.
+const FEW: usize = 64;
+
+/// Twice as many links and contents as those that stand have, and a few more.
+pub(crate) fn most_rows(state: &PublicState) -> usize
+    ensures { result ≤ spec.most_rows state.now }
+{
+    let folders = state.shape().folders().len();
+    let files = state.shape().files().len();
+    let grants = state.grants().pairs().len();
+    let holders = state.grants().holders() as usize;
+    folders
+        .saturating_mul(8)
+        .saturating_add(files.saturating_mul(2))
+        .saturating_add(grants)
+        .saturating_add(holders)
+        .saturating_mul(2)
+        .saturating_add(FEW)
+}
