@@ -1,5 +1,5 @@
 -- What a table of keys finds when keys come or go.
-use Rattle.std.proofs.Common.{◌≡◌, ℕ, ◌+◌, ◌*◌, ◌<◌, ◌≤◌, Bool, true, false, cond, ◌==◌, ◌&&◌, ◌||◌, List, ◌∷◌, ◌++◌, length, get_or, drop, Some, None, refl, sym, ap, ◌∙◌, subst, ◌⊎◌, ⊎_elim, arith}
+use Rattle.std.proofs.Common.{◌≡◌, ℕ, ◌+◌, ◌*◌, ◌<◌, ◌≤◌, Bool, true, false, cond, ◌==◌, ◌&&◌, ◌||◌, List, ◌∷◌, ◌++◌, length, get_or, drop, Some, None, refl, sym, ap, ◌∙◌, arith}
 use Rattle.std.specs.Prelude.{Option, IsSome, unwrap_or}
 use Rattle.std.specs.Option.{option_map}
 use Rattle.std.proofs.lemmas.Bool.{false≢true}
@@ -14,9 +14,8 @@ use Rattle.role_graph.specs.Roles.{variant_of, role_id, same_role}
 use Rattle.role_graph.proofs.Comparing.{same_role_tells}
 use Rattle.sorted_table.specs.Rows.{row_at, with_row, without, replaced}
 use Rattle.public_fold.specs.KeyStep.{keys_without, newest, present}
-use Rattle.public_fold.specs.KeyTables.{IsTableOf, KeyRows, bearer_of, key_rank, role_rank, rows_for, serial_at, serial_in}
-use Rattle.public_fold.specs.declared.bearers.Bearer.{Bearer}
-use Rattle.public_fold.specs.declared.bearers.Bearer.TheVariants.{OfHolders, OfFolders, OfFiles}
+use Rattle.public_fold.specs.KeyTables.{IsTableOf, KeyRows, role_rank, row_place, serial_at, serial_in}
+use Rattle.public_fold.specs.declared.key_rows.KeyRow.{KeyRow}
 use Rattle.public_fold.proofs.KeepingKeys.{newest-first, newest-later, without-gone, without-kept}
 use Rattle.folder_nodes.proofs.Placing.{found_with, found_without, found_replaced}
 
@@ -43,75 +42,35 @@ map_cond : {X Y : Type 0} (f : X → Y) (b : Bool) (o p : Option X) → option_m
 map_cond f true o p = refl
 map_cond f false o p = refl
 
-module _ (rows : List (Role × ℕ)) where
+module _ (rows : List KeyRow) where
   -- a key that comes is found, and the others as before
-  pub serial-with : (key : Role × ℕ) (role : Role) → serial_at (with_row key_rank rows key) role ≡ cond (same_role key.0 role) (Some key.1) (serial_at rows role)
-  unfolding serial_at key_rank
-  serial-with key role =
-      ap (option_map (λ k. k.1)) (found_with (Role × ℕ) key_rank rows key (role_rank role))
-      ∙ map_cond (λ (k : Role × ℕ). k.1) (role_rank key.0 == role_rank role) (Some key) (row_at key_rank rows (role_rank role))
-      ∙ ap (λ b. cond b (Some key.1) (serial_at rows role)) (same_rank key.0 role)
+  pub serial-with : (key : Role × ℕ) (row : KeyRow) (role : Role) → row.place ≡ role_rank key.0 → row.serial.0 ≡ key.1
+      → serial_at (with_row row_place rows row) role ≡ cond (same_role key.0 role) (Some key.1) (serial_at rows role)
+  unfolding serial_at
+  serial-with key row role place serial =
+      ap (option_map (λ r. r.serial.0)) (found_with KeyRow row_place rows row (role_rank role))
+      ∙ map_cond (λ (r : KeyRow). r.serial.0) (row.place == role_rank role) (Some row) (row_at row_place rows (role_rank role))
+      ∙ ap (λ b. cond b (Some row.serial.0) (serial_at rows role)) (ap (λ n. n == role_rank role) place ∙ same_rank key.0 role)
+      ∙ ap (λ n. cond (same_role key.0 role) (Some n) (serial_at rows role)) serial
 
   -- so is one that comes in the place of its role's
-  pub serial-replaced : (key : Role × ℕ) (role : Role) → IsSome (row_at key_rank rows (key_rank key)) → serial_at (replaced key_rank rows key) role ≡ cond (same_role key.0 role) (Some key.1) (serial_at rows role)
-  unfolding serial_at key_rank
-  serial-replaced key role there =
-      ap (option_map (λ k. k.1)) (found_replaced (Role × ℕ) key_rank rows key (role_rank role) there)
-      ∙ map_cond (λ (k : Role × ℕ). k.1) (role_rank key.0 == role_rank role) (Some key) (row_at key_rank rows (role_rank role))
-      ∙ ap (λ b. cond b (Some key.1) (serial_at rows role)) (same_rank key.0 role)
+  pub serial-replaced : (key : Role × ℕ) (row : KeyRow) (role : Role) → row.place ≡ role_rank key.0 → row.serial.0 ≡ key.1
+      → IsSome (row_at row_place rows row.place)
+      → serial_at (replaced row_place rows row) role ≡ cond (same_role key.0 role) (Some key.1) (serial_at rows role)
+  unfolding serial_at
+  serial-replaced key row role place serial there =
+      ap (option_map (λ r. r.serial.0)) (found_replaced KeyRow row_place rows row (role_rank role) there)
+      ∙ map_cond (λ (r : KeyRow). r.serial.0) (row.place == role_rank role) (Some row) (row_at row_place rows (role_rank role))
+      ∙ ap (λ b. cond b (Some row.serial.0) (serial_at rows role)) (ap (λ n. n == role_rank role) place ∙ same_rank key.0 role)
+      ∙ ap (λ n. cond (same_role key.0 role) (Some n) (serial_at rows role)) serial
 
   -- a key that goes isn't found any more, and the others are found as before
-  pub serial-without : (gone role : Role) → serial_at (without key_rank rows (role_rank gone)) role ≡ cond (same_role role gone) None (serial_at rows role)
+  pub serial-without : (gone role : Role) → serial_at (without row_place rows (role_rank gone)) role ≡ cond (same_role role gone) None (serial_at rows role)
   unfolding serial_at
   serial-without gone role =
-      ap (option_map (λ k. k.1)) (found_without (Role × ℕ) key_rank rows (role_rank gone) (role_rank role))
-      ∙ map_cond (λ (k : Role × ℕ). k.1) (role_rank gone == role_rank role) None (row_at key_rank rows (role_rank role))
+      ap (option_map (λ r. r.serial.0)) (found_without KeyRow row_place rows (role_rank gone) (role_rank role))
+      ∙ map_cond (λ (r : KeyRow). r.serial.0) (role_rank gone == role_rank role) None (row_at row_place rows (role_rank role))
       ∙ ap (λ b. cond b None (serial_at rows role)) (eq_turned (role_rank gone) (role_rank role) ∙ same_rank role gone)
-
--- where one table changes, what is found changes at the roles of its bearers alone
-pub one_changed : (f g : Bearer → List (Role × ℕ)) (b : Bearer) (p : Role → Bool) (v : Option ℕ)
-    → ((role : Role) → p role ≡ true → bearer_of role ≡ b)
-    → ((role : Role) → serial_at (g b) role ≡ cond (p role) v (serial_at (f b) role))
-    → ((c : Bearer) → (c ≡ b) ⊎ (g c ≡ f c))
-    → (role : Role) → serial_at (g (bearer_of role)) role ≡ cond (p role) v (serial_at (f (bearer_of role)) role)
-one_changed f g b p v only came others role =
-    ⊎_elim
-    (λ (e : bearer_of role ≡ b). subst (λ c. serial_at (g c) role ≡ cond (p role) v (serial_at (f c) role)) (sym e) (came role))
-    (λ (e : g (bearer_of role) ≡ f (bearer_of role)).
-    (elim (p role) as (λ t. p role ≡ t → serial_at (g (bearer_of role)) role ≡ cond t v (serial_at (f (bearer_of role)) role)) [
-      | true ↦ λ t. subst (λ c. serial_at (g c) role ≡ v) (sym (only role t)) (came role ∙ ap (λ z. cond z v (serial_at (f b) role)) t)
-      | false ↦ λ t. ap (λ l. serial_at l role) e
-    ]) refl)
-    (others (bearer_of role))
-
-module _ (t u : KeyRows) (b : Bearer) (others : (c : Bearer) → (c ≡ b) ⊎ (rows_for u c ≡ rows_for t c)) where
-  -- a key that comes into the table of its bearers
-  pub put_in : (key : Role × ℕ) → bearer_of key.0 ≡ b
-      → ((role : Role) → serial_at (rows_for u b) role ≡ cond (same_role key.0 role) (Some key.1) (serial_at (rows_for t b) role))
-      → (role : Role) → serial_in u role ≡ cond (same_role key.0 role) (Some key.1) (serial_in t role)
-  unfolding serial_in
-  put_in key is came =
-      one_changed (rows_for t) (rows_for u) b (same_role key.0) (Some key.1)
-      (λ role same. ap bearer_of (sym ((same_role_tells key.0 role).0 same)) ∙ is) came others
-
-  -- and one that goes from it
-  pub gone_from : (gone : Role) → bearer_of gone ≡ b
-      → ((role : Role) → serial_at (rows_for u b) role ≡ cond (same_role role gone) None (serial_at (rows_for t b) role))
-      → (role : Role) → serial_in u role ≡ cond (same_role role gone) None (serial_in t role)
-  unfolding serial_in
-  gone_from gone is went =
-      one_changed (rows_for t) (rows_for u) b (λ role. same_role role gone) None
-      (λ role same. ap bearer_of ((same_role_tells role gone).0 same) ∙ is) went others
-
--- from the same rows the same is found
-pub same_rows : (t u : KeyRows) → u.holders ≡ t.holders → u.folders ≡ t.folders → u.files ≡ t.files → (role : Role) → serial_in u role ≡ serial_in t role
-unfolding serial_in rows_for
-same_rows t u holders folders files role =
-    (elim (bearer_of role) as (λ b. serial_at (rows_for u b) role ≡ serial_at (rows_for t b) role) [
-      | OfHolders ↦ ap (λ l. serial_at l role) holders
-      | OfFolders ↦ ap (λ l. serial_at l role) folders
-      | OfFiles ↦ ap (λ l. serial_at l role) files
-    ])
 
 -- a key that came stands before the others
 pub with_key : (keys : List (Role × ℕ)) (rows after : KeyRows) (key : Role × ℕ) → ((role : Role) → serial_in after role ≡ cond (same_role key.0 role) (Some key.1) (serial_in rows role)) → IsTableOf keys rows → IsTableOf (key ∷ keys) after

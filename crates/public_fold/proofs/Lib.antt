@@ -38,6 +38,7 @@ pub mod NoteMoves
 pub mod TurnsHold
 pub mod TextsWritten
 pub mod RootAlone
+mod InKinds
 pub mod KeyTabled
 pub mod FoundEdges
 pub mod StaysRooted

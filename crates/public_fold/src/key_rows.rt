@@ -1,7 +1,7 @@
 //! Keys as rows of a table, in the order of their roles.
 ghost use Rattle.std.specs.Prelude.{◌≡◌, ◌+◌, ◌≤◌, cond, option_map, Some, None};
 ghost use Rattle.cry_base.specs.declared.roles.Role.{Role as AnyRole};
-ghost use Rattle.public_fold.specs.KeyTables.{key_rank, role_rank, serial_at};
+ghost use Rattle.public_fold.specs.KeyTables.{role_rank, row_place, serial_at};
 ghost use Rattle.role_graph.specs.Roles.{same_role};
 
 use crate::KeyHead;
@@ -9,21 +9,31 @@ use cry_base::{Role, Serial};
 use sorted_table::{Key, Ranked, Table};
 use std::cmp::Ordering;
 
-impl Ranked for KeyHead {
-    ghost rank = { key_rank };
+/// A key's serial beside its role's place. Rows are compared and moved by these numbers alone.
+#[derive(Clone, Copy)]
+pub(crate) struct KeyRow {
+    place: u64,
+    serial: Serial,
+}
 
-    fn compare(&self, other: &Self) -> Ordering {
-        self.place().0.cmp(&other.place().0)
+impl KeyRow {
+    /// The row of the key.
+    pub(crate) fn of(key: KeyHead) -> KeyRow
+        ensures place { result.place ≡ role_rank key.0 }
+        ensures serial { result.serial.0 ≡ key.1 }
+    {
+        KeyRow {
+            place: RolePlace::of(key.role).0,
+            serial: key.serial,
+        }
     }
 }
 
-impl KeyHead {
-    /// Its place among others, by which it is looked up.
-    #[tactic(auto, unfolding(crate::specs::KeyTables::key_rank))]
-    fn place(&self) -> RolePlace
-        ensures { result.0 ≡ key_rank self.now }
-    {
-        RolePlace::of(self.role)
+impl Ranked for KeyRow {
+    ghost rank = { row_place };
+
+    fn compare(&self, other: &Self) -> Ordering {
+        self.place.cmp(&other.place)
     }
 }
 
@@ -50,40 +60,46 @@ impl RolePlace {
     }
 }
 
-impl Key<KeyHead> for RolePlace {
+impl Key<KeyRow> for RolePlace {
     ghost sought = { λ place. place.0 };
 
-    fn compare_row(&self, row: &KeyHead) -> Ordering {
-        row.place().0.cmp(&self.0)
+    fn compare_row(&self, row: &KeyRow) -> Ordering {
+        row.place.cmp(&self.0)
+    }
+
+    // Each bearer has one row in the table of its kind.
+    fn guess(&self) -> usize {
+        (self.0 / 8).saturating_sub(1) as usize
     }
 }
 
 /// The serial of the role's key among the rows.
-pub(crate) fn serial_among(rows: &Table<KeyHead>, role: Role) -> Option<Serial>
+pub(crate) fn serial_among(rows: &Table<KeyRow>, role: Role) -> Option<Serial>
     ensures { option_map (λ serial. serial.0) result ≡ serial_at rows.now.rows role }
 {
     match rows.find(&RolePlace::of(role)) {
-        Some(key) => Some(key.serial),
+        Some(row) => Some(row.serial),
         None => None,
     }
 }
 
 /// Puts the key into the place of its role's, or beside the others where the role has none.
-pub(crate) fn put_row(rows: &mut Table<KeyHead>, key: KeyHead)
+pub(crate) fn put_row(rows: &mut Table<KeyRow>, key: KeyHead)
     requires { 1 ≤ rows.old.spare }
     ensures serials { (role : AnyRole) → serial_at rows.new.rows role
         ≡ cond (same_role key.0 role) (Some key.1) (serial_at rows.old.rows role) }
     ensures spare { rows.old.spare ≤ rows.new.spare + 1 }
 {
-    if rows.find(&key.place()).is_some() {
-        rows.replace(key);
+    let row = KeyRow::of(key);
+    if rows.find(&RolePlace(row.place)).is_some() {
+        rows.replace(row);
     } else {
-        rows.insert(key);
+        rows.insert(row);
     }
 }
 
 /// Takes out the role's key, where it has one.
-pub(crate) fn remove_row(rows: &mut Table<KeyHead>, gone: Role)
+pub(crate) fn remove_row(rows: &mut Table<KeyRow>, gone: Role)
     ensures serials { (role : AnyRole) → serial_at rows.new.rows role ≡ cond (same_role role gone) None (serial_at rows.old.rows role) }
     ensures spare { rows.old.spare ≤ rows.new.spare }
 {

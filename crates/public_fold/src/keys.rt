@@ -4,19 +4,18 @@ ghost use Rattle.public_fold.specs.KeyStep.{keys_without, newest, present};
 ghost use Rattle.public_fold.specs.KeysAfter.{keys_then_of};
 
 use crate::KeyHead;
-use crate::by_bearer::{KeysByBearer, remove_keys, set_keys};
+use crate::by_kind::{KeysByKind, remove_keys, set_keys};
 use crate::key_order::KeyOrder;
 use crate::lists::{has_role, is_same_role};
 use cry_base::{Mem, Role, Serial};
 use std::alloc::Global;
 use std::marker::Model;
 
-/// The newest key of each role. Contracts see the keys as a list, the newest first; there is one row a role, so that a
-/// look-up among n roles compares about log2(n) times. `spare` is how many more fit without memory; it may be more than
-/// was asked for.
+/// The newest key of each role. Contracts see the keys as a list, the newest first; there is one row a role, in the table of
+/// its kind. `spare` is how many more fit without memory; it may be more than was asked for.
 #[derive(Drop)]
 pub(crate) struct KeyTable {
-    rows: KeysByBearer,
+    rows: KeysByKind,
     order: KeyOrder,
 }
 
@@ -36,7 +35,7 @@ impl KeyTable {
         ensures { result.keys ≡ [] }
     {
         KeyTable {
-            rows: KeysByBearer::new(alloc),
+            rows: KeysByKind::new(alloc),
             order: KeyOrder::new(),
         }
     }

@@ -2,8 +2,7 @@
 #![tactic(auto)]
 
 mod advance;
-mod bearers;
-mod by_bearer;
+mod by_kind;
 mod changing;
 mod counter;
 mod fault;
@@ -13,6 +12,7 @@ pub mod key_laws;
 mod key_order;
 mod key_rows;
 mod keys;
+mod kinds;
 pub mod laws;
 mod lists;
 mod marks;

@@ -1,4 +1,4 @@
-//! Keys in a table for each kind of bearer, found by their roles.
+//! Keys in a table for each kind of role, found by their roles.
 ghost use Rattle.std.specs.Prelude.{◌≡◌, ℕ, ◌+◌, ◌≤◌, ◌∷◌, ◌++◌, List, length, cond, option_map, IfOk, IsOk, OnOk, Some, None};
 ghost use Rattle.cry_base.specs.declared.roles.Role.{Role as AnyRole};
 ghost use Rattle.public_fold.specs.KeyStep.{keys_without};
@@ -6,46 +6,46 @@ ghost use Rattle.public_fold.specs.KeyTables.{IsTableOf, serial_in};
 ghost use Rattle.role_graph.specs.Roles.{same_role};
 
 use crate::KeyHead;
-use crate::bearers::{Bearer, bearer_of};
-use crate::key_rows::{put_row, remove_row, serial_among};
+use crate::key_rows::{KeyRow, put_row, remove_row, serial_among};
+use crate::kinds::{KINDS, kind_of};
 use cry_base::{Mem, Role, Serial};
 use sorted_table::Table;
 use std::alloc::Global;
 use std::marker::Model;
 
-/// One key a role. Numbers rise within a kind of bearer, so that a key that comes for a new folder or file stands behind all others in its
-/// table, and moves none but those of its own folder. `spare` is how many more fit without memory, of whatever kinds.
+/// One key a role. Numbers rise within a kind of role, so that a key that comes for a new folder or file stands behind all others in its
+/// table, and one that goes moves those of its own kind alone. `spare` is how many more fit without memory, of whatever kinds.
 #[derive(Drop)]
-pub(crate) struct KeysByBearer {
-    holders: Table<KeyHead>,
-    folders: Table<KeyHead>,
-    files: Table<KeyHead>,
+pub(crate) struct KeysByKind {
+    tables: [Table<KeyRow>; KINDS],
 }
 
-impl Model for KeysByBearer {
-    ghost use Rattle.std.specs.Prelude.{min};
-    ghost use Rattle.public_fold.specs.KeyTables.{KeyRows};
+impl Model for KeysByKind {
+    ghost use Rattle.std.specs.Prelude.{◌≡◌, length, map};
+    ghost use Rattle.public_fold.specs.KeyTables.{KeyRows, least};
 
     ghost Value = { KeyRows };
 
-    ghost view = { λ k. record {
-      holders = k.holders.rows;
-      folders = k.folders.rows;
-      files = k.files.rows;
-      spare = min k.holders.spare (min k.folders.spare k.files.spare);
-    } };
+    ghost view = { λ k. record { tables = map (λ t. t.rows) k.tables; spare = least (map (λ t. t.spare) k.tables) } };
+
+    ghost invariant = { λ k. length k.tables ≡ 7 };
 }
 
-impl KeysByBearer {
+impl KeysByKind {
     /// No keys. It takes no memory.
-    #[tactic(auto, unfolding(crate::specs::KeyTables::serial_in, crate::specs::KeyTables::rows_for, crate::specs::KeyTables::serial_at))]
-    pub(crate) fn new(alloc: Global) -> KeysByBearer
+    pub(crate) fn new(alloc: Global) -> KeysByKind
         ensures { (role : AnyRole) → serial_in result role ≡ None }
     {
-        KeysByBearer {
-            holders: Table::new(alloc),
-            folders: Table::new(alloc),
-            files: Table::new(alloc),
+        KeysByKind {
+            tables: [
+                Table::new(alloc),
+                Table::new(alloc),
+                Table::new(alloc),
+                Table::new(alloc),
+                Table::new(alloc),
+                Table::new(alloc),
+                Table::new(alloc),
+            ],
         }
     }
 
@@ -53,11 +53,7 @@ impl KeysByBearer {
     pub(crate) fn serial(&self, role: Role) -> Option<Serial>
         ensures { option_map (λ serial. serial.0) result ≡ serial_in self.now role }
     {
-        match bearer_of(role) {
-            Bearer::OfHolders => serial_among(&self.holders, role),
-            Bearer::OfFolders => serial_among(&self.folders, role),
-            Bearer::OfFiles => serial_among(&self.files, role),
-        }
+        serial_among(&self.tables[kind_of(role)], role)
     }
 
     /// Makes room for at least so many keys beside those that are there.
@@ -67,9 +63,10 @@ impl KeysByBearer {
         ensures kept { self.old.spare ≤ self.new.spare }
         ensures has_room { more ≤ self.old.spare → IsOk result }
     {
-        self.holders.reserve(more)?;
-        self.folders.reserve(more)?;
-        self.files.reserve(more)
+        for kind in 0..KINDS {
+            self.tables[kind].reserve(more)?;
+        }
+        Ok(())
     }
 
     /// Puts the key into the place of its role's, or beside the others where the role has none. It takes no memory.
@@ -78,11 +75,7 @@ impl KeysByBearer {
         ensures serials { (role : AnyRole) → serial_in self.new role ≡ cond (same_role key.0 role) (Some key.1) (serial_in self.old role) }
         ensures spare { self.old.spare ≤ self.new.spare + 1 }
     {
-        match bearer_of(key.role) {
-            Bearer::OfHolders => put_row(&mut self.holders, key),
-            Bearer::OfFolders => put_row(&mut self.folders, key),
-            Bearer::OfFiles => put_row(&mut self.files, key),
-        }
+        put_row(&mut self.tables[kind_of(key.role)], key);
     }
 
     /// Takes out the role's key, where it has one.
@@ -90,30 +83,29 @@ impl KeysByBearer {
         ensures serials { (role : AnyRole) → serial_in self.new role ≡ cond (same_role role gone) None (serial_in self.old role) }
         ensures spare { self.old.spare ≤ self.new.spare }
     {
-        match bearer_of(gone) {
-            Bearer::OfHolders => remove_row(&mut self.holders, gone),
-            Bearer::OfFolders => remove_row(&mut self.folders, gone),
-            Bearer::OfFiles => remove_row(&mut self.files, gone),
-        }
+        remove_row(&mut self.tables[kind_of(gone)], gone);
     }
 
     /// Equal keys, with memory of their own.
-    pub(crate) fn copy(&self) -> Mem<KeysByBearer>
+    pub(crate) fn copy(&self) -> Mem<KeysByKind>
         ensures { IfOk result (λ copy. (role : AnyRole) → serial_in copy role ≡ serial_in self.now role) }
     {
-        let holders = self.holders.copy()?;
-        let folders = self.folders.copy()?;
-        let files = self.files.copy()?;
-        Ok(KeysByBearer {
-            holders,
-            folders,
-            files,
-        })
+        let [holders, clear, sub, back, files, data, file] = &self.tables;
+        let tables = [
+            holders.copy()?,
+            clear.copy()?,
+            sub.copy()?,
+            back.copy()?,
+            files.copy()?,
+            data.copy()?,
+            file.copy()?,
+        ];
+        Ok(KeysByKind { tables })
     }
 }
 
 /// Takes the keys of some roles out.
-pub(crate) fn remove_keys(rows: &mut KeysByBearer, gone: &[Role])
+pub(crate) fn remove_keys(rows: &mut KeysByKind, gone: &[Role])
     ensures keys { (keys : List (AnyRole × ℕ)) → IsTableOf keys rows.old → IsTableOf (keys_without gone.now keys) rows.new }
     ensures spare { rows.old.spare ≤ rows.new.spare }
 {
@@ -123,7 +115,7 @@ pub(crate) fn remove_keys(rows: &mut KeysByBearer, gone: &[Role])
 }
 
 /// Puts these keys before those that are there: of two for one role the first one counts.
-pub(crate) fn set_keys(rows: &mut KeysByBearer, given: &[KeyHead])
+pub(crate) fn set_keys(rows: &mut KeysByKind, given: &[KeyHead])
     requires { length given.now ≤ rows.old.spare }
     ensures keys { (keys : List (AnyRole × ℕ)) → IsTableOf keys rows.old → IsTableOf (given.now ++ keys) rows.new }
     ensures spare { rows.old.spare ≤ rows.new.spare + length given.now }
@@ -134,7 +126,7 @@ pub(crate) fn set_keys(rows: &mut KeysByBearer, given: &[KeyHead])
 }
 
 /// Puts the key before those that are there.
-fn set_key(rows: &mut KeysByBearer, key: KeyHead)
+fn set_key(rows: &mut KeysByKind, key: KeyHead)
     requires { 1 ≤ rows.old.spare }
     ensures keys { (keys : List (AnyRole × ℕ)) → IsTableOf keys rows.old → IsTableOf (key ∷ keys) rows.new }
     ensures spare { rows.old.spare ≤ rows.new.spare + 1 }

@@ -1,7 +1,7 @@
 use Rattle.std.proofs.Common.{◌+◌, ◌≤◌, ◌++◌, ℕ, List, length, map, reverse}
 use Rattle.cry_base.specs.declared.roles.Role.{Role}
 use Rattle.public_fold.specs.KeyTables.{IsTableOf}
-use Rattle.public_fold.proofs.by_bearer.set_keys.Given as goal
+use Rattle.public_fold.proofs.by_kind.set_keys.Given as goal
 
 abbrev pub invariant-loop-key : goal.invariant-loop-key
 invariant-loop-key l = record {

@@ -2,7 +2,7 @@ use Rattle.std.proofs.Common.{ap, sym, ◌∙◌, arith, cond, None}
 use Rattle.cry_base.specs.Sets.{has}
 use Rattle.role_graph.specs.Roles.{same_role}
 use Rattle.public_fold.proofs.KeyTabled.{gone_all, gone_more, newest-left}
-use Rattle.public_fold.proofs.by_bearer.remove_keys.Goals as goal
+use Rattle.public_fold.proofs.by_kind.remove_keys.Goals as goal
 
 pub loop-role-preserved : goal.loop-role-preserved
 loop-role-preserved c = record {

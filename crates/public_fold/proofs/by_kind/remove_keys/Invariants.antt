@@ -3,7 +3,7 @@ use Rattle.cry_base.specs.Sets.{has}
 use Rattle.cry_base.specs.declared.roles.Role.{Role}
 use Rattle.role_graph.specs.Roles.{same_role}
 use Rattle.public_fold.specs.KeyTables.{serial_in}
-use Rattle.public_fold.proofs.by_bearer.remove_keys.Given as goal
+use Rattle.public_fold.proofs.by_kind.remove_keys.Given as goal
 
 abbrev pub invariant-loop-role : goal.invariant-loop-role
 invariant-loop-role l = record {
