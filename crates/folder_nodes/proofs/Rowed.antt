@@ -6,7 +6,6 @@ use Rattle.std.specs.Option.{option_map}
 use Rattle.std.proofs.lemmas.Bool.{lt-ltb, le-ltb}
 use Rattle.std.proofs.lemmas.List.{map-append}
 use Rattle.std.proofs.lemmas.List.Elements.{All-nil, All-cons, All-head, All-tail, All-weaker}
-use Rattle.cry_base.specs.Refusing.{has_child}
 use Rattle.cry_base.specs.Sets.{In}
 use Rattle.cry_base.specs.Store.{Store, FolderEntry, FileEntry, and_above, way_up, way_to_root, folder_entry, file_entry}
 use Rattle.cry_base.specs.Stepping.{with_new_folder, with_new_file, with_folder, with_file, without_folder, without_file}
@@ -50,12 +49,6 @@ file_entry_of_row rows files m n x = find-map FileRow FileEntry file_of_row (λ 
 pub any-map : (X Y : Type 0) (h : X → Y) (p : Y → Bool) (xs : List X) → list_any p (map h xs) ≡ list_any (λ x. p (h x)) xs
 any-map X Y h p [] = refl
 any-map X Y h p (x ∷ xs) = ap (λ b. p (h x) || b) (any-map X Y h p xs)
-
-pub child_of_rows : (rows : List FolderRow) (files : List FileRow) (m n f : ℕ) → has_child (bare_store rows files m n) f ≡ (list_any (λ r. r.parent == f) rows || list_any (λ r. r.folder.0 == f) files)
-unfolding has_child
-child_of_rows rows files m n f =
-    ap (λ b. b || list_any (λ (e : FileEntry). e.folder == f) (map file_of_row files)) (any-map FolderRow FolderEntry folder_of_row (λ e. e.parent == f) rows)
-    ∙ ap (λ b. list_any (λ (r : FolderRow). r.parent == f) rows || b) (any-map FileRow FileEntry file_of_row (λ e. e.folder == f) files)
 
 pub some_of : (X : Type 0) (o : Option X) → IsSome o → (x : X) × (o ≡ Some x)
 some_of X None h = absurd (false≢true h)

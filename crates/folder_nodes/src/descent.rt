@@ -9,13 +9,17 @@ use cry_base::FolderId;
 
 impl Shape {
     /// Levels from the folder down to its deepest node: 0 where it has no child. It goes down from the folder; before `arrange` it looks
-    /// at all folders and files.
+    /// at all folders and files, and climbs from each where a folder is in this one.
     pub fn height(&self, f: FolderId) -> u32
         requires { IsSome (folder_entry self.now.tree f.0) }
         ensures { result ≡ height_of self.now.tree (Some (folder_node f.0)) }
     {
+        self.is_tree();
         if self.is_arranged() {
             return self.levels_below(f);
+        }
+        if !self.has_folder_inside(f.0) {
+            return self.file_levels(f);
         }
         self.height_among_all(f)
     }
@@ -43,7 +47,7 @@ impl Shape {
         if self.has_file_inside(f.0) { 1 } else { 0 }
     }
 
-    /// Levels from the folder down to its deepest node. It looks at all folders and files.
+    /// Levels from the folder down to its deepest node. It climbs from all folders and files.
     fn height_among_all(&self, f: FolderId) -> u32
         requires { IsSome (folder_entry self.now.tree f.0) }
         ensures { result ≡ height_of self.now.tree (Some (folder_node f.0)) }

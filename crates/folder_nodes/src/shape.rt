@@ -131,6 +131,13 @@ impl Shape {
         self.files.in_group(u64::from(f))
     }
 
+    /// Whether a folder is in the folder.
+    pub(crate) fn has_folder_inside(&self, f: u32) -> bool
+        ensures { result ≡ list_any (λ e. e.parent == f) self.now.tree.folders }
+    {
+        self.folders.has_group(u64::from(f))
+    }
+
     /// Whether a file is in the folder.
     pub(crate) fn has_file_inside(&self, f: u32) -> bool
         ensures { result ≡ list_any (λ e. e.folder == f) self.now.tree.files }
@@ -139,15 +146,12 @@ impl Shape {
     }
 
     /// Whether the folder has no child. Before `arrange` it looks at all folders and files.
+    #[tactic(auto, unfolding(cry_base::specs::Refusing::has_child))]
     pub fn is_empty_folder(&self, f: FolderId) -> bool
         requires { IsSome (folder_entry self.now.tree f.0) }
         ensures { result ≡ not (has_child self.now.tree f.0) }
     {
-        let number = u64::from(f.0);
-        if self.folders.has_group(number) {
-            return false;
-        }
-        !self.files.has_group(number)
+        !self.has_folder_inside(f.0) && !self.has_file_inside(f.0)
     }
 
     /// Whether folders and files are in order for look-ups by path. It tells what those cost, and no promise rests on it.
