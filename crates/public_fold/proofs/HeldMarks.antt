@@ -1,5 +1,5 @@
 -- What holds of a state's keys holds of them after a note that fits, and its marks are closed.
-use Rattle.std.proofs.Common.{◌≡◌, ℕ, Bool, true, false, List, [], ◌∷◌, ◌++◌, map, inl, refl, sym, ap, ◌∙◌, subst}
+use Rattle.std.proofs.Common.{◌≡◌, ℕ, Bool, true, false, List, [], ◌∷◌, ◌++◌, map, inl, refl, sym, subst}
 use Rattle.cry_base.specs.Sets.{In}
 use Rattle.cry_base.specs.Store.{Store, GrantEntry, no_store}
 use Rattle.cry_base.specs.declared.roles.Edge.{Edge}

@@ -9,7 +9,6 @@ use Rattle.role_graph.specs.PublicStore.{public_store}
 use Rattle.role_graph.specs.Roles.{same_role}
 use Rattle.role_graph.proofs.AtEnds.{touches}
 use Rattle.rekey_walk.specs.Dirty.{mark_all, plan}
-use Rattle.move_plan.specs.Change.{Change}
 use Rattle.move_plan.specs.Seen.{plain_change}
 use Rattle.public_fold.specs.Keyed.{IsKept}
 use Rattle.public_fold.specs.KeyStep.{KeyState, published_edges, without}

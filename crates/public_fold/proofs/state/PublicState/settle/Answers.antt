@@ -1,9 +1,8 @@
-use Rattle.std.proofs.Common.{◌≡◌, true, ℕ, List, ◌++◌, inr, sym, ap, ◌∙◌, subst}
+use Rattle.std.proofs.Common.{◌≡◌, ℕ, List, ◌++◌, inr, sym, ◌∙◌, subst}
 use Rattle.std.specs.Prelude.{min}
 use Rattle.cry_base.specs.Store.{Store}
 use Rattle.cry_base.specs.declared.roles.Role.{Role}
 use Rattle.record_format.specs.Told.{told_note}
-use Rattle.move_plan.specs.Fitting.{fits}
 use Rattle.move_plan.specs.Seen.{seen_store}
 use Rattle.public_fold.specs.Keyed.{IsKept}
 use Rattle.public_fold.specs.KeyStep.{keys_without}

@@ -1,4 +1,4 @@
-use Rattle.std.proofs.Common.{◌≡◌, filter, rules, sym, ap, ◌∙◌}
+use Rattle.std.proofs.Common.{rules, sym, ap, ◌∙◌}
 use Rattle.std.specs.Prelude.{option_copied}
 use Rattle.std.proofs.lemmas.Fn.{filter_same}
 use Rattle.cry_base.specs.Sets.{has}

@@ -1,4 +1,4 @@
-use Rattle.std.proofs.Common.{◌≡◌, ◌+◌, ◌++◌, List, length, map, arith, sym, ap, ◌∙◌}
+use Rattle.std.proofs.Common.{◌≡◌, ◌++◌, List, length, map, arith, sym, ap, ◌∙◌}
 use Rattle.cry_base.specs.declared.roles.Edge.{Edge}
 use Rattle.role_graph.specs.Adjacent.{as_walked, edges_but, ends_from, into, out_of}
 use Rattle.role_graph.specs.Edges.{unordered}
