@@ -87,8 +87,9 @@ pub fn mark_from(alloc: Global, dirty: &mut Dirty, edges: &[Edge], target: Role)
     ensures err { OnErr result (dirty.new ≡ dirty.old) }
 {
     let reached = reach(alloc, edges, target)?;
-    let mut marked = dirty.roles.copy()?;
-    marked.extend(reached.as_slice())?;
+    let reached = reached.as_slice();
+    let mut marked = dirty.roles.copy_with(reached.len())?;
+    marked.extend(reached)?;
     dirty.roles = marked;
     Ok(())
 }
@@ -98,8 +99,9 @@ pub(crate) fn add(dirty: &mut Dirty, roles: &RoleSet) -> Mem<()>
     ensures ok { OnOk result (IsJoined dirty.old roles.now dirty.new) }
     ensures err { OnErr result (dirty.new ≡ dirty.old) }
 {
-    let mut marked = dirty.roles.copy()?;
-    marked.extend(roles.as_slice())?;
+    let roles = roles.as_slice();
+    let mut marked = dirty.roles.copy_with(roles.len())?;
+    marked.extend(roles)?;
     dirty.roles = marked;
     Ok(())
 }

@@ -103,9 +103,17 @@ impl RoleSet {
     pub fn copy(&self) -> Mem<RoleSet>
         ensures { IfOk result (λ s. s ≡ self.now) }
     {
-        Ok(RoleSet {
-            roles: self.roles.clone()?,
-        })
+        self.copy_with(0)
+    }
+
+    /// The same set once more, with room for so many roles beside its own.
+    pub fn copy_with(&self, more: usize) -> Mem<RoleSet>
+        ensures { IfOk result (λ s. s ≡ self.now) }
+    {
+        let room = self.roles.len().saturating_add(more);
+        let mut roles = Vec::with_capacity(*self.roles.allocator(), room)?;
+        roles.extend_from_slice(&self.roles)?;
+        Ok(RoleSet { roles })
     }
 
     /// The roles in their order, as a list.

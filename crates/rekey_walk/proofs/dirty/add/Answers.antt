@@ -6,7 +6,7 @@ pub returns-clause-ok : goal.returns-clause-ok
 returns-clause-ok c =
     let dirty = c.args.dirty.now in
     let same : c.in_ok-marked.marked ≡ dirty = c.in_ok-marked.ensures ∙ c.dirty.view_is in
-    let slice : c.as_slice.result.now ≡ c.args.roles.now = c.as_slice.ensures.roles in
+    let slice : c.as_slice-roles.result.now ≡ c.args.roles.now = c.as_slice-roles.ensures.roles in
     record {
       ascending = c.in_ok-extend.ensures.ascending;
       kept = λ r i. c.in_ok-extend.ensures.kept r (subst (In r) (sym same) i);

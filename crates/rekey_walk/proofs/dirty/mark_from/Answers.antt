@@ -8,7 +8,7 @@ returns-clause-ok c =
     let dirty = c.args.dirty.now in
     let reached = c.in_ok-reached.reached.items in
     let same : c.in_ok-marked.marked ≡ dirty = c.in_ok-marked.ensures ∙ c.dirty.view_is in
-    let slice : c.as_slice.result.now ≡ reached = c.as_slice.ensures in
+    let slice : c.as_slice-reached.result.now ≡ reached = c.as_slice-reached.ensures in
     marked_is dirty c.args.edges.now c.args.target reached c.extend.new.self c.in_ok-extend.ensures.ascending c.in_ok-reached.ensures.reached
     (λ r i. c.in_ok-extend.ensures.kept r (subst (In r) (sym same) i))
     (λ r i. ⊎_elim (λ o. inl (subst (In r) same o)) (λ t. inr (subst (In r) slice t)) (c.in_ok-extend.ensures.added r i))
