@@ -1,5 +1,5 @@
 //! A walk from some roles on. It asks for the edges of each role once.
-ghost use Rattle.std.specs.Prelude.{◌≡◌, ◌↔◌, ◌+◌, ◌*◌, ◌≤◌, length, map, option_copied, Some, IfOk, OnOk};
+ghost use Rattle.std.specs.Prelude.{◌≡◌, ◌↔◌, ◌+◌, ◌*◌, ◌≤◌, [], length, map, option_copied, Some, IfOk, OnOk};
 ghost use Rattle.cry_base.specs.Sets.{In, has};
 ghost use Rattle.cry_base.specs.declared.roles.Role.{Role as AnyRole};
 ghost use Rattle.role_graph.specs.Adjacent.{HaveSame, as_walked, count_from, edges_but, ending_in, ends_from, grown_by, out_of, roles_in, with_new};
@@ -102,7 +102,10 @@ struct Ahead {
 
 impl Ahead {
     /// Nothing yet. It takes no memory.
-    fn new(alloc: Global) -> Ahead {
+    fn new(alloc: Global) -> Ahead
+        ensures edges { result.edges.items ≡ [] }
+        ensures ends { result.ends.items ≡ [] }
+    {
         Ahead {
             edges: Vec::new(alloc),
             ends: Vec::new(alloc),
