@@ -16,8 +16,8 @@ use std::alloc::Global;
 use std::marker::Model;
 
 /// The tree without names, the holders and the grants, each role's newest serial, the dirty roles, and where the counter
-/// of serials stands. No secret is in it. `spare` is how many changes of tree, holders and grants have their memory, and
-/// `key_spare` how many keys more; either may be more than was asked for.
+/// of serials stands. No secret is in it. All that edges lead to from a dirty role is dirty. `spare` is how many changes of
+/// tree, holders and grants have their memory, and `key_spare` how many keys more; either may be more than was asked for.
 #[derive(Drop)]
 pub struct PublicState {
     pub(crate) shape: Shape,
