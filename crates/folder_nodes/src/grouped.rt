@@ -38,6 +38,10 @@ impl<T: Member> Key<T> for Number {
     fn compare_row(&self, row: &T) -> Ordering {
         row.number().cmp(&self.0)
     }
+
+    fn guess(&self) -> usize {
+        (self.0 as usize).saturating_sub(1)
+    }
 }
 
 /// Rows by number. Each stands in an index too, under its group, so that a look-up of a group doesn't look at all of
