@@ -100,7 +100,7 @@ impl PublicState {
         &self.dirty
     }
 
-    /// The serial of the role's newest key, where it has one. It takes about log2 of all keys steps.
+    /// The serial of the role's newest key, where it has one. It takes at most about log2 of all keys steps.
     pub fn present(&self, role: Role) -> Option<Serial>
         ensures { option_map (λ serial. serial.0) result ≡ newest self.now.keys.keys role }
     {
