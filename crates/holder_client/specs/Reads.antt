@@ -8,7 +8,7 @@ use Rattle.commit_journal.specs.declared.past.Past.{Past}
 use Rattle.holder_client.specs.declared.admission.NewCheck.{NewCheck}
 use Rattle.holder_client.specs.declared.log_reader.Reader.{Reader}
 use Rattle.log_visits.specs.Folding.{folded}
-use Rattle.log_visits.specs.Indexed.{HaveStarts, IsIndexOf}
+use Rattle.log_visits.specs.Indexed.{HaveStarts, IsIndexOf, IsTidy}
 use Rattle.log_visits.specs.Judging.{body_check, published_check}
 use Rattle.log_visits.specs.Sights.{same_number}
 use Rattle.public_fold.specs.Journal.{Stand, nothing}
@@ -41,3 +41,7 @@ HasRead reader log = HasReadTo reader.misfit reader log
 -- what was known before each of them: the reader has it of the batches that it reads once more
 abbrev pub HasStarts : Reader → List Past → Type 0
 HasStarts reader starts = HaveStarts reader.index.contents starts
+
+-- where all batches fit, the reader keeps little beside the links and contents of what stands
+abbrev pub KeepsLittle : Reader → Type 0
+KeepsLittle reader = reader.misfit ≡ None → IsTidy reader.index reader.state

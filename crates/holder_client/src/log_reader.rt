@@ -7,9 +7,9 @@ ghost use Rattle.commit_journal.specs.declared.past.Past.{Past as ThePast};
 ghost use Rattle.log_visits.specs.Answering.{AnswersAsBy};
 ghost use Rattle.log_visits.specs.Folding.{folded};
 ghost use Rattle.log_visits.specs.Holding.{IsReadingIn};
-ghost use Rattle.log_visits.specs.Indexed.{HaveStarts, IsIndexOf, StartsAt};
+ghost use Rattle.log_visits.specs.Indexed.{HaveStarts, IsIndexOf, IsTidy, StartsAt};
 ghost use Rattle.log_visits.specs.Judging as spec;
-ghost use Rattle.holder_client.specs.Reads.{HasChecks, HasFolded, HasRead, HasStarts};
+ghost use Rattle.holder_client.specs.Reads.{HasChecks, HasFolded, HasRead, HasStarts, KeepsLittle};
 ghost use Rattle.public_fold.specs.Journal.{Stand, nothing};
 ghost use Rattle.public_fold.specs.Standing.{IsSeenAs};
 ghost use Rattle.role_graph.specs.PublicStore.{GrantsStand};
@@ -50,8 +50,8 @@ impl Reader {
         })
     }
 
-    /// Adds the next batch, with what [`PublicLog::past`](commit_journal::PublicLog::past) was before it. After `Err` the reader is
-    /// that of no log, and of no more use.
+    /// Adds the next batch, with what [`PublicLog::past`](commit_journal::PublicLog::past) was before it. What the reader keeps then is
+    /// at most some twice of what stands has, or of what stands alone. After `Err` it is that of no log, and of no more use.
     pub fn add(&mut self, alloc: Global, placed: &Placed, start: &Past) -> Mem<()>
         requires stands { IsStanding placed.now }
         requires next { (log : List PlainPlaced) × HasRead self.old log × AreInEpochs 0 (log ++ plain_placed placed.now ∷ [])
@@ -61,6 +61,7 @@ impl Reader {
             HasRead self.new (log ++ plain_placed placed.now ∷ [])) }
         ensures starts { OnOk result ((starts : List ThePast) → HasStarts self.old starts → start.now.number ≡ length starts
             → placed.now.batch ≡ length starts + 1 → HasStarts self.new (starts ++ start.now ∷ [])) }
+        ensures tidy { OnOk result (KeepsLittle self.new) }
     {
         let _number = placed.batch;
         if self.misfit.is_some() {
@@ -88,6 +89,7 @@ impl Reader {
             → StartsAt starts (placed.now.batch - 1) (Some start.now) → HaveStarts self.new.index.contents starts) }
         ensures state { self.new.state ≡ self.old.state }
         ensures misfit { self.new.misfit ≡ self.old.misfit }
+        ensures tidy { OnOk result (IsTidy self.new.index self.new.state) }
     {
         note_check(&mut self.checks, placed)?;
         self.index
@@ -104,6 +106,7 @@ impl Reader {
         ensures state { self.new.state ≡ self.old.state }
         ensures checks { self.new.checks ≡ self.old.checks }
         ensures misfit { self.new.misfit ≡ self.old.misfit }
+        ensures tidy { OnOk result (IsTidy self.new.index self.new.state) }
     {
         if !self.index.is_crowded(&self.state) {
             return Ok(());

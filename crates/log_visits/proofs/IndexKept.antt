@@ -2,7 +2,7 @@
 use Rattle.std.proofs.Common.{◌≡◌, ◌⊎◌, ℕ, ◌+◌, ◌<◌, ◌==◌, ◌&&◌, Bool, true, false, cond, filter, get_or, take, map, List, [], ◌∷◌, ◌++◌, length, Option, None, Some, Ok, IfSome, inl, inr, ⊎_elim, refl, sym, ap, subst, ◌∙◌}
 use Rattle.std.specs.HashMap.{HashMap, get}
 use Rattle.std.specs.HashSet.{HashSet, contains}
-use Rattle.std.specs.List.{flat_map}
+use Rattle.std.specs.List.{flat_map, list_any}
 use Rattle.std.specs.Map.{lookup}
 use Rattle.std.proofs.lemmas.Grind.{flat_map-append}
 use Rattle.std.specs.Prelude.{is_some}
@@ -28,7 +28,7 @@ use Rattle.role_graph.specs.PublicStore.{public_store}
 use Rattle.role_graph.proofs.Edging.{edges_told}
 use Rattle.log_visits.specs.Folding.{folded}
 use Rattle.log_visits.specs.Found.{HasObject, IsLinkFor, has_present_serials, head_of_edge, is_of, is_sought, link_here, newest_for, only_if, plain_link}
-use Rattle.log_visits.specs.Indexed.{ContentsAreKept, ContentsAreNoted, HasLastContent, HasLastLink, HaveStarts, IsGone, IsIndexOf, IsLastAt, IsLeft, LinksAreKept, LinksAreNoted, StartsAt, same_content_heads, same_link_heads}
+use Rattle.log_visits.specs.Indexed.{AreHeadsOf, HasEdge, HasStandingAlone, IsKeyed, ContentsAreKept, ContentsAreNoted, HasLastContent, HasLastLink, HaveStarts, IsGone, IsIndexOf, IsLastAt, IsLeft, LinksAreKept, LinksAreNoted, StartsAt, same_content_heads, same_link_heads}
 use Rattle.log_visits.specs.Placing.{body_contents, body_links, is_for_edge, last_one, log_contents, log_links}
 use Rattle.log_visits.specs.Spots.{IsAt}
 use Rattle.log_visits.specs.declared.index.Index.{Index}
@@ -155,32 +155,53 @@ same_contents q k t =
     let object = eqb-true q.object k.object a.1 in
     λ i. record { kind = kind i; object = object i }
 
--- the head of one edge more
-pub heads_more : {S : Type 0} (old new : HashSet LinkHead S) (key : LinkHead) (edges : List Edge) (i : ℕ) (d : Edge) → i < length edges → key ≡ head_of_edge (get_or edges i d) →
-    ((q : LinkHead) → contains same_link_heads new q ≡ cond (same_link_heads key q) true (contains same_link_heads old q)) →
-    ((e : Edge) → In e (take i edges) → contains same_link_heads old (head_of_edge e) ≡ true) → (e : Edge) → In e (take (i + 1) edges) → contains same_link_heads new (head_of_edge e) ≡ true
-heads_more old new key edges i d within is updates has e there =
-    updates (head_of_edge e) ∙ ⊎_elim
-    (λ (u : In e (take i edges)). ap (λ b. cond (same_link_heads key (head_of_edge e)) true b) (has e u) ∙ either (same_link_heads key (head_of_edge e)))
-    (λ (u : In e (get_or edges i d ∷ [])). ⊎_elim
-    (λ (q : e ≡ get_or edges i d).
-    ap (λ b. cond b true (contains same_link_heads old (head_of_edge e))) (ap (λ h. same_link_heads h (head_of_edge e)) (is ∙ ap head_of_edge (sym q)) ∙ own_link (head_of_edge e)))
-    (λ n. absurd n) u)
-    ((In-append Edge e (take i edges) (get_or edges i d ∷ [])).0 (subst (In e) (take_more edges i d within) there))
-  where
-    either : (b : Bool) → cond b true true ≡ true
-    either true = refl
-    either false = refl
+pub no_heads : {S : Type 0} (heads : HashSet LinkHead S) → heads.keys ≡ [] → AreHeadsOf heads []
+no_heads heads none = record {
+  all = λ e i. absurd i;
+  only = λ q t. absurd (false≢true (ap (list_any (same_link_heads q)) (sym none) ∙ t));
+}
 
-pub links_kept : {S : Type 0} (old new : HashMap LinkHead FoundLink S) (keep : LinkHead → Bool) (s : Store) → new.entries ≡ filter (λ (e : LinkHead × FoundLink). keep e.0) old.entries →
-    ((e : Edge) → In e (edges s) → keep (head_of_edge e) ≡ true) → LinksAreKept s old new
-links_kept old new keep s is kept = λ q. by_keep q (keep q) refl
+-- the head of one edge more
+module _ {S : Type 0} (old new : HashSet LinkHead S) (key : LinkHead) (edges : List Edge) (i : ℕ) (d : Edge) (within : i < length edges) (is : key ≡ head_of_edge (get_or edges i d))
+    (updates : (q : LinkHead) → contains same_link_heads new q ≡ cond (same_link_heads key q) true (contains same_link_heads old q)) (has : AreHeadsOf old (take i edges)) where
+  heads_longer : (e : Edge) → In e (take i edges ++ get_or edges i d ∷ []) → contains same_link_heads new (head_of_edge e) ≡ true
+  heads_longer e there =
+      updates (head_of_edge e) ∙ ⊎_elim
+      (λ (u : In e (take i edges)). ap (λ b. cond (same_link_heads key (head_of_edge e)) true b) (has.all e u) ∙ either (same_link_heads key (head_of_edge e)))
+      (λ (u : In e (get_or edges i d ∷ [])). ⊎_elim
+      (λ (q : e ≡ get_or edges i d).
+      ap (λ b. cond b true (contains same_link_heads old (head_of_edge e))) (ap (λ h. same_link_heads h (head_of_edge e)) (is ∙ ap head_of_edge (sym q)) ∙ own_link (head_of_edge e)))
+      (λ n. absurd n) u)
+      ((In-append Edge e (take i edges) (get_or edges i d ∷ [])).0 there)
+    where
+      either : (b : Bool) → cond b true true ≡ true
+      either true = refl
+      either false = refl
+
+  only_longer : (q : LinkHead) (b : Bool) → same_link_heads key q ≡ b → cond b true (contains same_link_heads old q) ≡ true →
+      (e : Edge) × In e (take i edges ++ get_or edges i d ∷ []) × (head_of_edge e ≡ q)
+  only_longer q true same t = (get_or edges i d, (In-append Edge (get_or edges i d) (take i edges) (get_or edges i d ∷ [])).1 (inr (inl refl)), sym is ∙ same_links key q same)
+  only_longer q false same t = let w = has.only q t in (w.0, (In-append Edge w.0 (take i edges) (get_or edges i d ∷ [])).1 (inl w.1), w.2)
+
+  pub heads_more : AreHeadsOf new (take (i + 1) edges)
+  heads_more = subst (AreHeadsOf new) (sym (take_more edges i d within)) (record {
+    all = heads_longer;
+    only = λ q t. only_longer q (same_link_heads key q) refl (sym (updates q) ∙ t);
+  })
+
+pub links_kept : {S T : Type 0} (old new : HashMap LinkHead FoundLink S) (heads : HashSet LinkHead T) (s : Store) →
+    new.entries ≡ filter (λ (e : LinkHead × FoundLink). contains same_link_heads heads e.0) old.entries → AreHeadsOf heads (edges s) → LinksAreKept s old new
+links_kept old new heads s is are = λ q. by_keep q (contains same_link_heads heads q) refl
   where
-    by_keep : (q : LinkHead) (b : Bool) → keep q ≡ b → (get same_link_heads new q ≡ get same_link_heads old q) ⊎ ((get same_link_heads new q ≡ None) × ((e : Edge) → In e (edges s) → head_of_edge e ≡ q → ⊥))
-    by_keep q true t = inl (ap (lookup (same_link_heads q)) is ∙ lookup-filter-keys (same_link_heads q) keep true (λ k same. ap keep (sym (same_links q k same)) ∙ t) old.entries)
+    by_keep : (q : LinkHead) (b : Bool) → contains same_link_heads heads q ≡ b →
+        ((get same_link_heads new q ≡ get same_link_heads old q) × HasEdge s q) ⊎ ((get same_link_heads new q ≡ None) × (HasEdge s q → ⊥))
+    by_keep q true t = inl (
+      ap (lookup (same_link_heads q)) is ∙ lookup-filter-keys (same_link_heads q) (contains same_link_heads heads) true (λ k same. ap (contains same_link_heads heads) (sym (same_links q k same)) ∙ t) old.entries,
+      are.only q t,
+    )
     by_keep q false t = inr (
-      ap (lookup (same_link_heads q)) is ∙ lookup-filter-keys (same_link_heads q) keep false (λ k same. ap keep (sym (same_links q k same)) ∙ t) old.entries,
-      λ e i own. false≢true (sym t ∙ ap keep (sym own) ∙ kept e i),
+      ap (lookup (same_link_heads q)) is ∙ lookup-filter-keys (same_link_heads q) (contains same_link_heads heads) false (λ k same. ap (contains same_link_heads heads) (sym (same_links q k same)) ∙ t) old.entries,
+      λ w. false≢true (sym t ∙ ap (contains same_link_heads heads) (sym w.2) ∙ are.all w.0 w.1),
     )
 
 not_some : {X : Type 0} (o : Option X) → is_some o ≡ false → o ≡ None
@@ -192,9 +213,12 @@ pub contents_kept : {S : Type 0} (old new : HashMap ContentHead ContentSpot S) (
 contents_kept old new k is = λ q. by_keep q (is_some (newest k.keys (sealing_role q.kind q.object))) refl
   where
     by_keep : (q : ContentHead) (b : Bool) → is_some (newest k.keys (sealing_role q.kind q.object)) ≡ b →
-        (get same_content_heads new q ≡ get same_content_heads old q) ⊎ ((get same_content_heads new q ≡ None) × (newest k.keys (sealing_role q.kind q.object) ≡ None))
-    by_keep q true t = inl (ap (lookup (same_content_heads q)) is ∙ lookup-filter-keys (same_content_heads q) (λ h. is_some (newest k.keys (sealing_role h.kind h.object))) true
-        (λ h same. ap (λ (x : ContentHead). is_some (newest k.keys (sealing_role x.kind x.object))) (sym (same_contents q h same)) ∙ t) old.entries)
+        ((get same_content_heads new q ≡ get same_content_heads old q) × IsKeyed k q) ⊎ ((get same_content_heads new q ≡ None) × (newest k.keys (sealing_role q.kind q.object) ≡ None))
+    by_keep q true t = inl (
+      ap (lookup (same_content_heads q)) is ∙ lookup-filter-keys (same_content_heads q) (λ h. is_some (newest k.keys (sealing_role h.kind h.object))) true
+          (λ h same. ap (λ (x : ContentHead). is_some (newest k.keys (sealing_role x.kind x.object))) (sym (same_contents q h same)) ∙ t) old.entries,
+      t,
+    )
     by_keep q false t = inr (
       ap (lookup (same_content_heads q)) is ∙ lookup-filter-keys (same_content_heads q) (λ h. is_some (newest k.keys (sealing_role h.kind h.object))) false
           (λ h same. ap (λ (x : ContentHead). is_some (newest k.keys (sealing_role x.kind x.object))) (sym (same_contents q h same)) ∙ t) old.entries,
@@ -232,15 +256,15 @@ pub forgotten : (old new : Index) (v : PublicView) (log : List PlainPlaced) (at 
     ContentsAreKept v.keys old.contents new.contents → IsIndexOf new log
 forgotten old new v log at has folds seen links contents = record {
   last_link = λ q. ⊎_elim
-      (λ same. ⊎_elim
-      (λ is. inl (record { found = ap plain_link same ∙ is.found }))
-      (λ w. inr (same ∙ w.0, w.1)) (has.last_link q))
-      (λ w. inr (w.0, λ other e behind stands is. w.1 e (edge_seen v at e seen (subst (λ (z : Stand). IsEdge z.store e) (one_stand log other at behind folds) stands)) is))
+      (λ kept. ⊎_elim
+      (λ is. inl (record { found = ap plain_link kept.0 ∙ is.found }))
+      (λ w. inr (kept.0 ∙ w.0, w.1)) (has.last_link q))
+      (λ w. inr (w.0, λ other e behind stands is. w.1 (e, edge_seen v at e seen (subst (λ (z : Stand). IsEdge z.store e) (one_stand log other at behind folds) stands), is)))
       (links q);
   last_content = λ q. ⊎_elim
-      (λ same. ⊎_elim
-      (λ is. inl (record { found = subst (λ o. IsLastAt log o (last_one (is_of q.kind q.object) (log_contents log))) (sym same) is.found }))
-      (λ w. inr (same ∙ w.0, w.1)) (has.last_content q))
+      (λ kept. ⊎_elim
+      (λ is. inl (record { found = subst (λ o. IsLastAt log o (last_one (is_of q.kind q.object) (log_contents log))) (sym kept.0) is.found }))
+      (λ w. inr (kept.0 ∙ w.0, w.1)) (has.last_content q))
       (λ w. inr (
         w.0,
         λ other behind object.
@@ -255,9 +279,22 @@ forgotten old new v log at has folds seen links contents = record {
 pub starts_kept : {S : Type 0} (k : KeyState) (old new : HashMap ContentHead ContentSpot S) (starts : List Past) → ContentsAreKept k old new → HaveStarts old starts → HaveStarts new starts
 starts_kept k old new starts kept have = record {
   found = λ q. ⊎_elim
-      (λ same. subst (λ o. IfSome o (λ s. StartsAt starts s.position s.start)) (sym same) (have.found q))
+      (λ same. subst (λ o. IfSome o (λ s. StartsAt starts s.position s.start)) (sym same.0) (have.found q))
       (λ w. subst (λ o. IfSome o (λ s. StartsAt starts s.position s.start)) (sym w.0) tt)
       (kept q);
+}
+
+-- what is left is of what stands
+pub standing_alone : (old new : Index) (v : PublicView) → LinksAreKept (public_store v.tree v.pairs) old.links new.links → ContentsAreKept v.keys old.contents new.contents → HasStandingAlone new v
+standing_alone old new v links contents = record {
+  links = λ q some. ⊎_elim
+      (λ kept. kept.1)
+      (λ w. absurd (false≢true (sym (ap is_some w.0) ∙ some)))
+      (links q);
+  contents = λ q some. ⊎_elim
+      (λ kept. kept.1)
+      (λ w. absurd (false≢true (sym (ap is_some w.0) ∙ some)))
+      (contents q);
 }
 
 -- ---- what is found

@@ -1,5 +1,6 @@
 -- Maps from the heads of records to where the last record of each head stands in a log. A link's head is its edge's.
-use Rattle.std.specs.Prelude.{◌≡◌, ◌⊎◌, ◌+◌, ◌*◌, ◌++◌, ℕ, Bool, IfSome, List, Option, None, Some, Ok, length}
+use Rattle.std.specs.Prelude.{◌≡◌, ◌≤◌, ◌⊎◌, ◌+◌, ◌*◌, ◌++◌, ℕ, Bool, IfSome, IsSome, List, Option, None, Some, Ok, length, true}
+use Rattle.std.specs.HashSet.{HashSet, contains}
 use Rattle.std.specs.HashMap.{HashMap, get, hash_map_len}
 use Rattle.commit_journal.specs.Placed.{PlainPlaced}
 use Rattle.commit_journal.specs.declared.past.Past.{Past}
@@ -21,6 +22,7 @@ use Rattle.log_visits.specs.declared.last_links.FoundLink.{FoundLink}
 use Rattle.log_visits.specs.declared.last_links.LinkHead.{LinkHead}
 use Rattle.public_fold.specs.Standing.{PublicView}
 use Rattle.role_graph.specs.Edges.{IsEdge, edges}
+use Rattle.role_graph.specs.PublicStore.{public_store}
 use Rattle.log_visits.specs.Folding.{folded}
 use Rattle.log_visits.specs.Found.{HasObject, content_here, head_of_edge, is_of, is_sought, plain_link}
 use Rattle.log_visits.specs.Placing.{PlacedLink, PlacedContent, last_one, log_links, log_contents}
@@ -95,15 +97,33 @@ pub record IsIndexOf (index : Index) (log : List PlainPlaced) : Type 0 where
   pub last_content : (head : ContentHead) → HasLastContent log index.contents head (log_contents log)
       ⊎ ((get same_content_heads index.contents head ≡ None) × IsGone log head)
 
--- of each head a map has what it had, or nothing, and then no edge of the store has links of it
-abbrev pub LinksAreKept : {S : Type 0} → Store → (old new : HashMap LinkHead FoundLink S) → Type 0
-LinksAreKept s old new = (head : LinkHead) → (get same_link_heads new head ≡ get same_link_heads old head)
-    ⊎ ((get same_link_heads new head ≡ None) × ((e : Edge) → In e (edges s) → head_of_edge e ≡ head → ⊥))
+-- the heads of links that these edges have, and no others
+pub record AreHeadsOf {S : Type 0} (heads : HashSet LinkHead S) (es : List Edge) : Type 0 where
+  pub all : (e : Edge) → In e es → contains same_link_heads heads (head_of_edge e) ≡ true
+  pub only : (head : LinkHead) → contains same_link_heads heads head ≡ true → (e : Edge) × In e es × (head_of_edge e ≡ head)
 
--- the same, and then the role that seals contents of this head has no key
+-- the head is that of an edge that stands in the store
+abbrev pub HasEdge : Store → LinkHead → Type 0
+HasEdge s head = (e : Edge) × In e (edges s) × (head_of_edge e ≡ head)
+
+-- of the heads of edges in the store a map has what it had, and of others nothing
+abbrev pub LinksAreKept : {S : Type 0} → Store → (old new : HashMap LinkHead FoundLink S) → Type 0
+LinksAreKept s old new = (head : LinkHead) → ((get same_link_heads new head ≡ get same_link_heads old head) × HasEdge s head)
+    ⊎ ((get same_link_heads new head ≡ None) × (HasEdge s head → ⊥))
+
+-- the role that seals contents of this head has a key
+abbrev pub IsKeyed : KeyState → ContentHead → Type 0
+IsKeyed k head = IsSome (newest k.keys (sealing_role head.kind head.object))
+
+-- of the heads whose role has a key a map has what it had, and of others nothing
 abbrev pub ContentsAreKept : {S : Type 0} → KeyState → (old new : HashMap ContentHead ContentSpot S) → Type 0
-ContentsAreKept k old new = (head : ContentHead) → (get same_content_heads new head ≡ get same_content_heads old head)
+ContentsAreKept k old new = (head : ContentHead) → ((get same_content_heads new head ≡ get same_content_heads old head) × IsKeyed k head)
     ⊎ ((get same_content_heads new head ≡ None) × (newest k.keys (sealing_role head.kind head.object) ≡ None))
+
+-- an index has links of edges that stand alone, and contents alone whose role has a key
+pub record HasStandingAlone (index : Index) (v : PublicView) : Type 0 where
+  pub links : (head : LinkHead) → IsSome (get same_link_heads index.links head) → HasEdge (public_store v.tree v.pairs) head
+  pub contents : (head : ContentHead) → IsSome (get same_content_heads index.contents head) → IsKeyed v.keys head
 
 -- how many links and contents an index keeps
 abbrev pub rows_of : Index → ℕ
@@ -113,3 +133,7 @@ rows_of index = hash_map_len index.links + hash_map_len index.contents
 -- file a link and its text; a link of each grant; the key of each holder
 abbrev pub most_rows : PublicView → ℕ
 most_rows v = 2 * (8 * length v.tree.folders + 2 * length v.tree.files + length v.pairs + length v.checks) + 64
+
+-- an index is small beside what stands, or has nothing else
+abbrev pub IsTidy : Index → PublicView → Type 0
+IsTidy index v = (rows_of index ≤ most_rows v) ⊎ HasStandingAlone index v

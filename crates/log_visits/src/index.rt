@@ -1,11 +1,11 @@
 //! Where the last link of each edge and the last content of each head stand in a log, found without a walk over it.
-ghost use Rattle.std.specs.Prelude.{◌≡◌, ◌≤◌, [], ◌∷◌, ◌++◌, IfSome, List, Ok, OnOk, false, length};
+ghost use Rattle.std.specs.Prelude.{◌≡◌, [], ◌∷◌, ◌++◌, IfSome, List, Ok, OnOk, length, nat_lt};
 ghost use Rattle.commit_journal.specs.Placed.{PlainPlaced, plain_placed};
 ghost use Rattle.commit_journal.specs.Places.{IsStanding};
 ghost use Rattle.commit_journal.specs.declared.past.Past.{Past as ThePast};
 ghost use Rattle.log_visits.specs.Folding.{folded};
 ghost use Rattle.log_visits.specs.Found.{HasObject, IsLinkFor, newest_for, plain_link};
-ghost use Rattle.log_visits.specs.Indexed.{HaveStarts, IsIndexOf, IsLastAt, StartsAt};
+ghost use Rattle.log_visits.specs.Indexed.{HasStandingAlone, HaveStarts, IsIndexOf, IsLastAt, StartsAt};
 ghost use Rattle.log_visits.specs.Indexed as sizes;
 ghost use Rattle.log_visits.specs.Placing as spec;
 ghost use Rattle.public_fold.specs.Journal.{Stand, nothing};
@@ -59,7 +59,7 @@ impl Index {
     /// Whether it keeps twice as much as what stands has and some more. At least half of that can be forgotten, so that telling it to
     /// forget then costs little for each record that was noted.
     pub fn is_crowded(&self, state: &PublicState) -> bool
-        ensures { result ≡ false → sizes.rows_of self.now ≤ sizes.most_rows state.now }
+        ensures { result ≡ nat_lt (sizes.most_rows state.now) (sizes.rows_of self.now) }
     {
         let rows = self.links.len() + self.contents.len();
         rows > most_rows(state)
@@ -71,6 +71,7 @@ impl Index {
             → IsSeenAs state.now at → IsIndexOf self.new log) }
         ensures starts { OnOk result ((starts : List ThePast) → HaveStarts self.old.contents starts
             → HaveStarts self.new.contents starts) }
+        ensures alone { OnOk result (HasStandingAlone self.new state.now) }
     {
         keep_links(&mut self.links, alloc, state)?;
         keep_contents(&mut self.contents, state);

@@ -1,12 +1,9 @@
 //! The last link of each edge in a log (docs/FORMAT.md, "Reading").
-ghost use Rattle.std.specs.Prelude.{◌≡◌, ◌+◌, ◌*◌, ◌<◌, ◌^◌, [], ◌∷◌, IfOk, IsTrue, OnOk, length};
-ghost use Rattle.std.specs.HashSet.{contains};
+ghost use Rattle.std.specs.Prelude.{◌≡◌, ◌+◌, ◌*◌, ◌<◌, ◌^◌, [], ◌∷◌, IfOk, OnOk, length};
 ghost use Rattle.commit_journal.specs.Placed.{plain_body};
 ghost use Rattle.commit_journal.specs.Places.{IsStanding};
-ghost use Rattle.cry_base.specs.Sets.{In};
-ghost use Rattle.cry_base.specs.declared.roles.Edge.{Edge as TheEdge};
 ghost use Rattle.log_visits.specs.Found.{has_present_serials, head_of_edge, link_here};
-ghost use Rattle.log_visits.specs.Indexed.{LinksAreKept, LinksAreNoted, head_of_link, same_link_heads};
+ghost use Rattle.log_visits.specs.Indexed.{AreHeadsOf, LinksAreKept, LinksAreNoted, head_of_link};
 ghost use Rattle.log_visits.specs.Placing as spec;
 ghost use Rattle.public_fold.specs.KeyStep.{present};
 ghost use Rattle.role_graph.specs.PublicStore.{public_store};
@@ -140,7 +137,7 @@ pub(crate) fn note_links_of(last: &mut LastLinks, placed: &Placed) -> Mem<()>
 
 /// The heads of links that the edges have.
 fn heads_of(alloc: Global, edges: &[Edge]) -> Mem<HashSet<LinkHead>>
-    ensures { IfOk result (λ heads. (e : TheEdge) → In e edges.now → IsTrue (contains same_link_heads heads (head_of_edge e))) }
+    ensures { IfOk result (λ heads. AreHeadsOf heads edges.now) }
 {
     let mut heads = HashSet::new(alloc);
     for edge in edges {

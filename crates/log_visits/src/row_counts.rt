@@ -1,5 +1,5 @@
 //! How many links and contents an index may keep.
-ghost use Rattle.std.specs.Prelude.{◌≤◌};
+ghost use Rattle.std.specs.Prelude.{◌≡◌, ◌-◌, ◌^◌, min};
 ghost use Rattle.log_visits.specs.Indexed as spec;
 
 use public_fold::PublicState;
@@ -9,7 +9,7 @@ const FEW: usize = 64;
 
 /// Twice as many links and contents as those that stand have, and a few more.
 pub(crate) fn most_rows(state: &PublicState) -> usize
-    ensures { result ≤ spec.most_rows state.now }
+    ensures { result ≡ min (spec.most_rows state.now) (2 ^ 64 - 1) }
 {
     let folders = state.shape().folders().len();
     let files = state.shape().files().len();

@@ -1,8 +1,7 @@
-use Rattle.std.proofs.Common.{◌≡◌, rules, sym, ap, subst, ◌∙◌}
+use Rattle.std.proofs.Common.{◌≡◌, rules, ap, subst, ◌∙◌}
 use Rattle.std.specs.HashSet.{contains}
 use Rattle.std.proofs.lemmas.Map.Made.{filter_same_pairs}
-use Rattle.cry_base.specs.Sets.{In}
-use Rattle.log_visits.specs.Indexed.{same_link_heads}
+use Rattle.log_visits.specs.Indexed.{AreHeadsOf, same_link_heads}
 use Rattle.log_visits.proofs.IndexKept.{links_kept}
 use Rattle.role_graph.specs.Edges.{edges}
 use Rattle.role_graph.specs.PublicStore.{public_store}
@@ -16,6 +15,6 @@ returns c =
     let is : c.as_slice.result.now ≡ edges s =
     c.as_slice.ensures ∙ c.in_ok-standing.ensures ∙ ap (λ t. edges (public_store t pairs)) c.shape.ensures ∙ ap (λ ps. edges (public_store c.args.state.now.tree ps)) c.grants.ensures.pairs
     in
-    links_kept c.args.last.now c.retain.new.self (λ q. contains same_link_heads heads q) s
+    links_kept c.args.last.now c.retain.new.self heads s
     (filter_same_pairs _ (λ e. contains same_link_heads heads e.0) _ (λ k v b w f called. search rules) _ _ c.retain.ensures.filtered)
-    (λ e i. c.in_ok-heads.ensures e (subst (In e) (sym is) i))
+    (subst (AreHeadsOf heads) is c.in_ok-heads.ensures)
