@@ -1,8 +1,7 @@
 -- The number under which a name is looked up. No promise rests on which number it is.
-use Rattle.std.specs.Prelude.{ℕ, List, take}
-use Rattle.std.specs.Int.{w64, from_be_bytes}
-use Rattle.sha2.specs.Sha256.{sha256}
+use Rattle.std.specs.Prelude.{ℕ, List}
+use Rattle.std.specs.Hash.DefaultHasher.{initial, write, finish}
 
--- the first eight bytes of its SHA-256 (FIPS 180-4), the highest first
+-- its SipHash-1-3 with both keys 0 (std's `DefaultHasher`)
 unfoldable pub name_digest : List ℕ → ℕ
-name_digest name = from_be_bytes w64 (take 8 (sha256 name))
+name_digest name = finish (write initial name)

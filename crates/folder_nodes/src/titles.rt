@@ -4,9 +4,9 @@ ghost use Rattle.folder_nodes.specs.Digests.{name_digest};
 
 use crate::grouped::Member;
 use cry_base::Text;
-use sha2::{Digest, Sha256};
 use sorted_table::{Key, Ranked};
 use std::cmp::Ordering;
+use std::hash::{DefaultHasher, Hasher};
 
 /// The name of a folder or file with its digest, and a file's bytes.
 #[derive(Drop)]
@@ -53,13 +53,12 @@ impl Key<NameRow> for NameKey {
     }
 }
 
-/// The first eight bytes of the name's SHA-256, as a number.
+/// The name's SipHash-1-3, which spreads names over all numbers whoever chose them.
 #[tactic(auto, unfolding(crate::specs::Digests::name_digest))]
 pub(crate) fn digest_of(name: &[u8]) -> u64
     ensures { result ≡ name_digest name.now }
 {
-    let digest = Sha256::digest(name);
-    let mut front = [0; 8];
-    front.copy_from_slice(&digest[..8]);
-    u64::from_be_bytes(front)
+    let mut hasher = DefaultHasher::new();
+    hasher.write(name);
+    hasher.finish()
 }
