@@ -17,7 +17,6 @@ use Rattle.folder_nodes.proofs.Downward.{entry_id, entry_in, file_id, folders_fo
 use Rattle.folder_nodes.proofs.Heights.{depth_below}
 use Rattle.folder_nodes.proofs.Located.{file_in}
 use Rattle.folder_nodes.proofs.Moved.{depth_in, deepest_told, folder_below, file_below, files_found}
-use Rattle.folder_nodes.proofs.Rowed.{some_of}
 use Rattle.folder_nodes.proofs.Treed.{rises, depth_told, file_depth_told, within_on, within_off}
 use Rattle.folder_nodes.proofs.Upward.{Rises}
 
@@ -249,11 +248,3 @@ module _ (s : Store) (tree : IsTree s) where
             let below : depth_of s (file_node x) ≤ deepest s w.0.id = file_below s w.0.id x e p (file_id s x e p) w.2 in
             let most : deepest s w.0.id ≤ depth_of s (folder_node f) + n = child_most w.0 w.1 in omega (arith, below, most))
             (within_child s tree f r.0 e.folder r.2 within)
-
-  -- below a folder that has no folder in it are its files alone
-  pub leaf_levels : (f n : ℕ) → IsSome (folder_entry s f) → n ≡ cond (list_any (λ (e : FileEntry). e.folder == f) s.files) 1 0 → list_any (λ (e : FolderEntry). e.parent == f) s.folders ≡ false
-      → depth_of s (folder_node f) + n ≡ deepest s f
-  leaf_levels f n stands is none =
-      let w = some_of FolderEntry (folder_entry s f) stands in
-      descend_end f w.0 w.1 n [] (descend_start f w.0 w.1 n is) (λ e i up. absurd (false≢true (sym none
-      ∙ (In-any FolderEntry (λ e. e.parent == f) (λ e. e.parent ≡ f) (λ e. (eqb-true e.parent f, eq-eqb e.parent f)) s.folders).1 (e, i, up))))

@@ -1,15 +1,11 @@
 -- What stands in an index of rows by their groups.
-use Rattle.std.specs.Prelude.{◌≡◌, ℕ, ◌<◌, Bool, cond, List}
+use Rattle.std.specs.Prelude.{◌≡◌, ℕ, ◌<◌, List}
 use Rattle.cry_base.specs.Sets.{In}
 use Rattle.folder_nodes.specs.declared.spots.Spot.{Spot}
 
 -- where a row of the group with the number stands
 abbrev pub spot_of : ℕ → ℕ → Spot
 spot_of group id = record { group = group; id = id }
-
--- the group of a row in an index that is arranged; in one that isn't all rows are in one group
-abbrev pub group_in : {T : Type 0} → Bool → (T → ℕ) → T → ℕ
-group_in is_arranged group r = cond is_arranged (group r) 0
 
 -- where a row stands in its group
 abbrev pub place_of : {T : Type 0} → (T → ℕ) → (T → ℕ) → T → Spot

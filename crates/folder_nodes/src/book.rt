@@ -15,7 +15,7 @@ use std::alloc::Global;
 use std::marker::Model;
 
 /// The names of folders, or those of files. Each is in the group of its digest, so that a look-up by name doesn't
-/// look at all of them once `arrange` was called. `spare` is how many changes have their memory.
+/// look at all of them. `spare` is how many changes have their memory.
 #[derive(Drop)]
 pub(crate) struct Book {
     rows: Grouped<NameRow>,
@@ -50,13 +50,6 @@ impl Book {
         ensures has_room { 1 ≤ self.old.spare → IsOk result }
     {
         self.rows.reserve()
-    }
-
-    /// Puts the names into their groups, for look-ups by name from now on.
-    pub(crate) fn arrange(&mut self, alloc: Global) -> Mem<()>
-        ensures { self.new.titles ≡ self.old.titles }
-    {
-        self.rows.arrange(alloc)
     }
 
     /// Puts a name and bytes under the number, in the place of those that it had.

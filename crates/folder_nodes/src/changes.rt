@@ -74,9 +74,10 @@ impl Shape {
 
     /// Puts a folder, with all below it, or a file into another folder.
     pub fn relocate(&mut self, node: Node, into: FolderId)
-        requires { CanMove self.old.tree node into.0 }
+        requires room { 1 ≤ self.old.spare }
+        requires fits { CanMove self.old.tree node into.0 }
         ensures tree { self.new.tree ≡ moved self.old.tree (Some node) into.0 }
-        ensures spare { self.new.spare ≡ self.old.spare }
+        ensures spare { self.old.spare ≤ self.new.spare + 1 }
     {
         match node {
             Node::Folder(folder) => self.shift_folder(folder, into),
@@ -85,9 +86,10 @@ impl Shape {
     }
 
     fn shift_folder(&mut self, folder: FolderId, into: FolderId)
-        requires { CanShift self.old.tree folder.0 into.0 }
+        requires room { 1 ≤ self.old.spare }
+        requires fits { CanShift self.old.tree folder.0 into.0 }
         ensures tree { self.new.tree ≡ with_folder self.old.tree folder.0 (λ e. record e { parent = into.0 }) }
-        ensures spare { self.new.spare ≡ self.old.spare }
+        ensures spare { self.old.spare ≤ self.new.spare + 1 }
     {
         self.folders.replace(FolderRow {
             id: folder,
@@ -96,10 +98,11 @@ impl Shape {
     }
 
     fn shift_file(&mut self, file: FileId, into: FolderId)
+        requires room { 1 ≤ self.old.spare }
         requires stands { IsSome (file_entry self.old.tree file.0) }
         requires place { HasPlace self.old.tree into.0 }
         ensures tree { self.new.tree ≡ with_file self.old.tree file.0 (λ e. record e { folder = into.0 }) }
-        ensures spare { self.new.spare ≡ self.old.spare }
+        ensures spare { self.old.spare ≤ self.new.spare + 1 }
     {
         self.files.replace(FileRow {
             id: file,

@@ -1,5 +1,5 @@
 //! Rows that are found by their numbers, and all those of a group together.
-ghost use Rattle.std.specs.Prelude.{◌≡◌, ℕ, ◌+◌, ◌≤◌, ◌<◌, ◌==◌, ◌&&◌, [], All, cond, filter, map, nat_le, None, IsOk, IsSome, OnOk, IfOk};
+ghost use Rattle.std.specs.Prelude.{◌≡◌, ℕ, ◌+◌, ◌≤◌, ◌<◌, ◌==◌, ◌&&◌, [], All, filter, length, map, nat_le, None, IsOk, IsSome, OnOk, IfOk};
 ghost use Rattle.std.specs.List.{list_any};
 ghost use Rattle.std.specs.Option.{option_copied};
 ghost use Rattle.cry_base.specs.Sets.{In};
@@ -10,7 +10,7 @@ ghost use Rattle.sorted_table.specs.Rows.{IsRising, row_at, with_row, without, r
 
 use crate::spots::Spot;
 use cry_base::Mem;
-use sorted_table::{Key, Ranked, Table};
+use sorted_table::{Key, Ranked, Table, Walk};
 use std::alloc::Global;
 use std::cmp::Ordering;
 use std::marker::Model;
@@ -44,26 +44,24 @@ impl<T: Member> Key<T> for Number {
     }
 }
 
-/// Rows by number. Each stands in an index too, under its group, so that a look-up of a group doesn't look at all of
-/// them. Until `arrange` is called all rows count as one group there: then a new row with the highest number moves none,
-/// and a look-up finds the numbers of all. `spare` is how many changes have their memory.
+/// Rows by number. Each stands in an index too, under its group, so that a look-up of a group looks at no other rows.
+/// `spare` is how many changes have their memory.
 #[derive(Drop)]
 pub(crate) struct Grouped<T: Member> {
     rows: Table<T>,
     spots: Table<Spot>,
-    is_arranged: bool,
 }
 
 impl<T: Member> Model for Grouped<T> {
     ghost use Rattle.std.specs.Prelude.{min};
-    ghost use Rattle.folder_nodes.specs.Indexing.{IsIndexed, group_in};
+    ghost use Rattle.folder_nodes.specs.Indexing.{IsIndexed};
     ghost use Rattle.sorted_table.specs.Tabled.{Tabled};
 
     ghost Value = { Tabled T };
 
     ghost view = { λ g. record { rows = g.rows.rows; spare = min g.rows.spare g.spots.spare } };
 
-    ghost invariant = { λ g. IsIndexed T.rank (group_in g.is_arranged T.group) g.rows.rows g.spots.rows };
+    ghost invariant = { λ g. IsIndexed T.rank T.group g.rows.rows g.spots.rows };
 }
 
 impl<T: Member> Grouped<T> {
@@ -74,16 +72,22 @@ impl<T: Member> Grouped<T> {
         Grouped {
             rows: Table::new(alloc),
             spots: Table::new(alloc),
-            is_arranged: false,
         }
     }
 
     /// The rows in ascending order.
-    pub(crate) fn as_slice(&self) -> &[T]
-        ensures rows { result.now ≡ self.now.rows }
+    pub(crate) fn rows(&self) -> Walk<'_, T>
+        ensures rows { result ≡ self.now.rows }
         ensures rising { IsRising T.rank self.now.rows }
     {
-        self.rows.as_slice()
+        Walk::of(self.rows.as_slice())
+    }
+
+    /// How many rows there are. It looks at none of them.
+    pub(crate) fn len(&self) -> usize
+        ensures { result ≡ length self.now.rows }
+    {
+        self.rows.as_slice().len()
     }
 
     /// The row with the key's rank.
@@ -94,27 +98,18 @@ impl<T: Member> Grouped<T> {
         self.rows.find(key)
     }
 
-    /// Whether the rows are in their groups, so that a look-up of one finds no others. No promise rests on it.
-    pub(crate) fn is_arranged(&self) -> bool {
-        self.is_arranged
-    }
-
-    /// The numbers of all rows of the group, in ascending order, and where the index isn't arranged those of all rows.
+    /// The numbers of all rows of the group, in ascending order.
     pub(crate) fn in_group(&self, group: u64) -> &[Spot]
         ensures rising { IsRising (λ (q : TheSpot). q.id) result.now }
         ensures all { (r : T) → In r self.now.rows → T.group r ≡ group → In (T.rank r) (map (λ (q : TheSpot). q.id) result.now) }
     {
-        let group = group_in(self.is_arranged, group);
         spots_under(&self.spots, group)
     }
 
-    /// Whether a row is of the group. Where the index isn't arranged, it looks at all rows.
+    /// Whether a row is of the group.
     pub(crate) fn has_group(&self, group: u64) -> bool
         ensures { result ≡ list_any (λ r. T.group r == group) self.now.rows }
     {
-        if !self.is_arranged {
-            return has_member(self.rows.as_slice(), group);
-        }
         !spots_under(&self.spots, group).is_empty()
     }
 
@@ -128,19 +123,6 @@ impl<T: Member> Grouped<T> {
         self.rows.reserve(1)?;
         self.spots.reserve(1)
     }
-
-    /// Puts the rows into their groups, for look-ups from now on.
-    pub(crate) fn arrange(&mut self, alloc: Global) -> Mem<()>
-        ensures { self.new.rows ≡ self.old.rows }
-    {
-        if self.is_arranged {
-            return Ok(());
-        }
-        let spots = spots_of(alloc, self.rows.as_slice())?;
-        self.spots = spots;
-        self.is_arranged = true;
-        Ok(())
-    }
 }
 
 impl<T: Member + Drop> Grouped<T> {
@@ -149,11 +131,7 @@ impl<T: Member + Drop> Grouped<T> {
         ensures { IfOk result (λ made. made.rows ≡ rows.rows) }
     {
         let spots = spots_of(alloc, rows.as_slice())?;
-        Ok(Grouped {
-            rows,
-            spots,
-            is_arranged: true,
-        })
+        Ok(Grouped { rows, spots })
     }
 
     /// Adds a row whose number no row has, where there is room. It takes no memory.
@@ -163,21 +141,23 @@ impl<T: Member + Drop> Grouped<T> {
         ensures rows { self.new.rows ≡ with_row T.rank self.old.rows row }
         ensures spare { self.old.spare ≤ self.new.spare + 1 }
     {
-        self.spots.insert(spot_in(self.is_arranged, &row));
+        self.spots.insert(spot_in(&row));
         self.rows.insert(row);
     }
 
-    /// Puts a row into the place of the one that has its number. The index changes only where the group does.
+    /// Puts a row into the place of the one that has its number, where there is room. The index changes only where the
+    /// group does.
     pub(crate) fn replace(&mut self, row: T)
-        requires { IsSome (row_at T.rank self.old.rows (T.rank row)) }
+        requires room { 1 ≤ self.old.spare }
+        requires there { IsSome (row_at T.rank self.old.rows (T.rank row)) }
         ensures rows { self.new.rows ≡ replaced T.rank self.old.rows row }
-        ensures spare { self.new.spare ≡ self.old.spare }
+        ensures spare { self.old.spare ≤ self.new.spare + 1 }
     {
-        let to = spot_in(self.is_arranged, &row);
+        let to = spot_in(&row);
         let Some(was) = self.rows.find(&Number(to.id)) else {
             unreachable!();
         };
-        let from = spot_in(self.is_arranged, was);
+        let from = spot_in(was);
         if from.group == to.group {
             self.rows.replace(row);
             return;
@@ -194,7 +174,7 @@ impl<T: Member + Drop> Grouped<T> {
         let Some(row) = self.rows.find(key) else {
             return;
         };
-        let spot = spot_in(self.is_arranged, row);
+        let spot = spot_in(row);
         let _ = self.spots.remove(&spot);
         let _ = self.rows.remove(key);
     }
@@ -207,11 +187,7 @@ impl<T: Member + Copy> Grouped<T> {
     {
         let rows = self.rows.copy()?;
         let spots = self.spots.copy()?;
-        Ok(Grouped {
-            rows,
-            spots,
-            is_arranged: self.is_arranged,
-        })
+        Ok(Grouped { rows, spots })
     }
 }
 
@@ -229,29 +205,15 @@ fn spots_under(spots: &Table<Spot>, group: u64) -> &[Spot]
     spots.rows_between(&first, &last)
 }
 
-/// Whether a row is of the group.
-fn has_member<T: Member>(rows: &[T], group: u64) -> bool
-    ensures { result ≡ list_any (λ r. T.group r == group) rows.now }
-{
-    rows.iter().any(|row| row.group_number() == group)
-}
-
-/// Where the row stands in an index that is arranged, or in one that isn't.
-fn spot_in<T: Member>(is_arranged: bool, row: &T) -> Spot
-    ensures place { result ≡ index.spot_of (index.group_in is_arranged T.group row.now) (T.rank row.now) }
+/// Where the row stands in the index.
+fn spot_in<T: Member>(row: &T) -> Spot
+    ensures place { result ≡ index.place_of T.rank T.group row.now }
     ensures small { T.rank row.now < 4294967296 }
 {
     Spot {
-        group: group_in(is_arranged, row.group_number()),
+        group: row.group_number(),
         id: row.number(),
     }
-}
-
-/// The group under which rows of the group stand in an index that is arranged, or in one that isn't.
-fn group_in(is_arranged: bool, group: u64) -> u64
-    ensures { result ≡ cond is_arranged group 0 }
-{
-    if is_arranged { group } else { 0 }
 }
 
 /// The index of the rows by their groups.
@@ -270,7 +232,7 @@ fn spots_by_number<T: Member>(alloc: Global, rows: &[T]) -> Mem<Vec<Spot>>
 {
     let mut spots = Vec::new(alloc);
     for row in rows {
-        spots.push(spot_in(true, row))?;
+        spots.push(spot_in(row))?;
     }
     Ok(spots)
 }

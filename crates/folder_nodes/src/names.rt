@@ -57,15 +57,6 @@ impl Names {
         self.files.reserve()
     }
 
-    /// Puts the names in order for look-ups by path, as `Shape::arrange` does it with the folders and files.
-    pub fn arrange(&mut self, alloc: Global) -> Mem<()>
-        ensures folders { self.new.folders ≡ self.old.folders }
-        ensures files { self.new.files ≡ self.old.files }
-    {
-        self.folders.arrange(alloc)?;
-        self.files.arrange(alloc)
-    }
-
     /// Gives a folder or file its name, which is empty for the root alone, and its bytes, in the place of those that
     /// it had.
     pub fn set(&mut self, node: Node, name: Text, bytes: Text)

@@ -145,18 +145,13 @@ impl Shape {
         self.files.has_group(u64::from(f))
     }
 
-    /// Whether the folder has no child. Before `arrange` it looks at all folders and files.
+    /// Whether the folder has no child.
     #[tactic(auto, unfolding(cry_base::specs::Refusing::has_child))]
     pub fn is_empty_folder(&self, f: FolderId) -> bool
         requires { IsSome (folder_entry self.now.tree f.0) }
         ensures { result ≡ not (has_child self.now.tree f.0) }
     {
         !self.has_folder_inside(f.0) && !self.has_file_inside(f.0)
-    }
-
-    /// Whether folders and files are in order for look-ups by path. It tells what those cost, and no promise rests on it.
-    pub(crate) fn is_arranged(&self) -> bool {
-        self.folders.is_arranged() && self.files.is_arranged()
     }
 
     /// An equal shape, with memory of its own.
@@ -182,14 +177,5 @@ impl Shape {
     {
         self.folders.reserve()?;
         self.files.reserve()
-    }
-
-    /// Puts the folders and files in order for look-ups by path. Before it a look-up finds the same, but looks at all of
-    /// them, and a new folder or file moves none; after it one moves those of later folders. The order stays.
-    pub fn arrange(&mut self, alloc: Global) -> Mem<()>
-        ensures { self.new.tree ≡ self.old.tree }
-    {
-        self.folders.arrange(alloc)?;
-        self.files.arrange(alloc)
     }
 }

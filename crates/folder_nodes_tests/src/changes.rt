@@ -44,15 +44,16 @@ fn made(alloc: Global) -> Mem<Shape> {
     Ok(shape)
 }
 
-fn move_file(shape: &mut Shape, file: FileId, into: FolderId) -> bool {
+fn move_file(shape: &mut Shape, file: FileId, into: FolderId) -> Mem<bool> {
+    shape.reserve()?;
     if shape.folder_of(file).is_none() || !shape.has_folder(into) {
-        return false;
+        return Ok(false);
     }
     if shape.depth(into) >= 64 {
-        return false;
+        return Ok(false);
     }
     shape.relocate(Node::File(file), into);
-    true
+    Ok(true)
 }
 
 fn remove_folder(shape: &mut Shape, folder: FolderId) -> bool {
@@ -83,11 +84,10 @@ fn heights(shape: &Shape) -> [Option<u32>; 3] {
 }
 
 #[test]
-fn a_height_is_the_same_once_the_tree_is_in_order(rt: HostRuntime) -> Mem<()> {
+fn a_height_goes_down_to_the_deepest_file(rt: HostRuntime) -> Mem<()> {
     let mut shape = made(rt.alloc())?;
+    assert!(rt; heights(&shape) == [Some(2), Some(1), Some(0)]);
     add_file(&mut shape, FolderId(3))?;
-    assert!(rt; heights(&shape) == [Some(3), Some(2), Some(1)]);
-    shape.arrange(rt.alloc())?;
     assert!(rt; heights(&shape) == [Some(3), Some(2), Some(1)]);
     Ok(())
 }
@@ -100,7 +100,7 @@ fn a_folder_is_removed_once_nothing_is_in_it(rt: HostRuntime) -> Mem<()> {
     assert!(rt; shape.is_under(FolderId(3), ROOT));
     assert!(rt; remove_folder(&mut shape, FolderId(3)));
     assert!(rt; !remove_folder(&mut shape, FolderId(2)));
-    assert!(rt; move_file(&mut shape, FIRST, ROOT));
+    assert!(rt; move_file(&mut shape, FIRST, ROOT)?);
     assert!(rt; remove_folder(&mut shape, FolderId(2)));
     let copy = shape.copy()?;
     assert!(rt; copy.folder_of(FIRST) == Some(ROOT));
@@ -134,15 +134,25 @@ fn row(id: u32, parent: u32) -> FolderRow {
 /// Whether the shape has these folders and that file.
 fn has_rows(shape: &Option<Shape>, folders: &[FolderRow]) -> bool {
     match shape {
-        Some(shape) => shape.folders() == folders && shape.files() == [FILE].as_slice(),
+        Some(shape) => shape.folders().eq(folders) && shape.files().eq(&[FILE]),
         None => false,
+    }
+}
+
+/// How many folders and files the shape has.
+fn counts(shape: &Option<Shape>) -> (usize, usize) {
+    match shape {
+        Some(shape) => (shape.folder_count(), shape.file_count()),
+        None => (0, 0),
     }
 }
 
 #[test]
 fn rows_of_a_tree_are_its_shape(rt: HostRuntime) -> Mem<()> {
     let rows = [row(1, 0), row(2, 4), row(4, 1)];
-    assert!(rt; has_rows(&restored(rt.alloc(), &rows)?, &rows));
+    let shape = restored(rt.alloc(), &rows)?;
+    assert!(rt; has_rows(&shape, &rows));
+    assert!(rt; counts(&shape) == (3, 1));
     assert!(rt; restored(rt.alloc(), &[row(1, 0), row(2, 4), row(4, 2)])?.is_none());
     Ok(())
 }

@@ -49,19 +49,6 @@ fn a_path_finds_the_first_node_that_has_it(rt: HostRuntime) -> Mem<()> {
 }
 
 #[test]
-fn a_path_finds_the_same_once_names_are_in_order(rt: HostRuntime) -> Mem<()> {
-    let mut tree = tree_of(rt.alloc(), &FOLDERS, &FILES)?;
-    if let Some(tree) = &mut tree {
-        tree.shape.arrange(rt.alloc())?;
-        tree.names.arrange(rt.alloc())?;
-    }
-    for (path, node) in &FOUND {
-        assert!(rt; found(&tree, path) == *node);
-    }
-    Ok(())
-}
-
-#[test]
 fn a_name_is_told_until_it_is_forgotten(rt: HostRuntime) -> Mem<()> {
     let mut names = Names::new(rt.alloc());
     let file = FileId(1);

@@ -68,7 +68,7 @@ impl Reader {
             return Ok(());
         }
         match take_batch(alloc, &mut self.state, placed) {
-            Ok(()) => self.keep(alloc, placed, start),
+            Ok(()) => self.keep(placed, start),
             Err(ClientFault::Damaged { at }) => {
                 self.misfit = Some(at);
                 Ok(())
@@ -78,7 +78,7 @@ impl Reader {
     }
 
     /// Keeps what a reading needs of a batch that fits, once the state has taken it.
-    fn keep(&mut self, alloc: Global, placed: &Placed, start: &Past) -> Mem<()>
+    fn keep(&mut self, placed: &Placed, start: &Past) -> Mem<()>
         requires stands { IsStanding placed.now }
         requires from_one { 1 ≤ placed.now.batch }
         ensures kept { OnOk result ((log : List PlainPlaced) (at : Stand) → placed.now.batch ≡ length log + 1 → IsIndexOf self.old.index log
@@ -94,24 +94,24 @@ impl Reader {
         note_check(&mut self.checks, placed)?;
         self.index
             .note(placed.batch as usize - 1, Some(*start), placed)?;
-        self.tidy(alloc)
+        self.tidy();
+        Ok(())
     }
 
     /// Forgets what doesn't stand any more, where that is much of what it keeps.
-    fn tidy(&mut self, alloc: Global) -> Mem<()>
-        ensures index { OnOk result ((log : List PlainPlaced) (at : Stand) → IsIndexOf self.old.index log → folded nothing log ≡ Ok at
-            → IsSeenAs self.old.state at → IsIndexOf self.new.index log) }
-        ensures starts { OnOk result ((starts : List ThePast) → HaveStarts self.old.index.contents starts
-            → HaveStarts self.new.index.contents starts) }
+    fn tidy(&mut self)
+        ensures index { (log : List PlainPlaced) (at : Stand) → IsIndexOf self.old.index log → folded nothing log ≡ Ok at
+            → IsSeenAs self.old.state at → IsIndexOf self.new.index log }
+        ensures starts { (starts : List ThePast) → HaveStarts self.old.index.contents starts
+            → HaveStarts self.new.index.contents starts }
         ensures state { self.new.state ≡ self.old.state }
         ensures checks { self.new.checks ≡ self.old.checks }
         ensures misfit { self.new.misfit ≡ self.old.misfit }
-        ensures tidy { OnOk result (IsTidy self.new.index self.new.state) }
+        ensures tidy { IsTidy self.new.index self.new.state }
     {
-        if !self.index.is_crowded(&self.state) {
-            return Ok(());
+        if self.index.is_crowded(&self.state) {
+            self.index.forget(&self.state);
         }
-        self.index.forget(alloc, &self.state)
     }
 
     /// What stands in public after the batches that were added, where all of them fit.

@@ -10,7 +10,7 @@ use Rattle.kind_table.specs.declared.kinds.RoleKind.TheVariants.{Owner, Holder, 
 use Rattle.kind_table.specs.declared.nine.TheConstants.{NINE}
 use Rattle.record_format.specs.declared.link.LinkRecord.{LinkRecord}
 
-kind_of_with : (kind : RoleKind) (id : ℕ) → kind_of (role_with kind id) ≡ kind
+pub kind_of_with : (kind : RoleKind) (id : ℕ) → kind_of (role_with kind id) ≡ kind
 unfolding kind_of role_with
 kind_of_with Owner id = refl
 kind_of_with Holder id = refl

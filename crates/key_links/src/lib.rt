@@ -16,4 +16,5 @@ mod typed;
 pub use any_fresh::AnyFresh;
 pub use contents::{open_content, seal_content};
 pub use links::{follow, link};
+pub use record_roles::{source_with, target_with};
 pub use ring::KeyRing;

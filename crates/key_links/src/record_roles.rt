@@ -38,11 +38,35 @@ fn kind_from(number: u8) -> RoleKind
     }
 }
 
+#[tactic(auto, unfolding(crate::specs::Ended::kind_to, crate::specs::Ended::row_numbered))]
+fn kind_to(number: u8) -> RoleKind
+    ensures { result ≡ spec.kind_to number }
+{
+    match row_numbered(&NINE.rows, number) {
+        Some(row) => row.to,
+        None => RoleKind::Owner,
+    }
+}
+
+/// The role with this number that links of a kind lead from. A kind that is none of the nine leads from the owner's key.
+pub fn source_with(kind: u8, id: u32) -> Role
+    ensures { result ≡ spec.role_with (spec.kind_from kind) id }
+{
+    role_with(kind_from(kind), id)
+}
+
+/// The role with this number that links of a kind lead to. A kind that is none of the nine leads to the owner's key.
+pub fn target_with(kind: u8, id: u32) -> Role
+    ensures { result ≡ spec.role_with (spec.kind_to kind) id }
+{
+    role_with(kind_to(kind), id)
+}
+
 /// The role that the link leads from.
 pub(crate) fn source_role(link: &LinkRecord) -> Role
     ensures { result ≡ spec.source_role link.now }
 {
-    role_with(kind_from(link.kind), link.from_id)
+    source_with(link.kind, link.from_id)
 }
 
 /// The role whose key seals the contents of this kind.

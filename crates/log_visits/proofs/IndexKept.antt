@@ -1,15 +1,13 @@
 -- What an index keeps of a log, as batches are noted and as it forgets what doesn't stand.
-use Rattle.std.proofs.Common.{◌≡◌, ◌⊎◌, ℕ, ◌+◌, ◌<◌, ◌==◌, ◌&&◌, Bool, true, false, cond, filter, get_or, take, map, List, [], ◌∷◌, ◌++◌, length, Option, None, Some, Ok, IfSome, inl, inr, ⊎_elim, refl, sym, ap, subst, ◌∙◌}
+use Rattle.std.proofs.Common.{◌≡◌, ◌⊎◌, ℕ, ◌+◌, ◌<◌, ◌==◌, Bool, true, false, cond, filter, get_or, take, map, List, [], ◌∷◌, ◌++◌, length, Option, None, Some, Ok, IfSome, inl, inr, ⊎_elim, refl, sym, ap, subst, ◌∙◌}
 use Rattle.std.specs.HashMap.{HashMap, get}
-use Rattle.std.specs.HashSet.{HashSet, contains}
-use Rattle.std.specs.List.{flat_map, list_any}
+use Rattle.std.specs.List.{flat_map}
 use Rattle.std.specs.Map.{lookup}
 use Rattle.std.proofs.lemmas.Grind.{flat_map-append}
 use Rattle.std.specs.Prelude.{is_some}
-use Rattle.std.proofs.lemmas.Bool.{and_from, and_parts, eq-eqb, eqb-true, false≢true}
+use Rattle.std.proofs.lemmas.Bool.{and_parts, eqb-true, false≢true}
 use Rattle.std.proofs.lemmas.List.{append-nil, map-append, take_more}
 use Rattle.std.proofs.lemmas.Map.Entries.{lookup-filter-keys}
-use Rattle.cry_base.proofs.Members.{In-append}
 use Rattle.commit_journal.specs.Placed.{PlainPlaced, plain_placed}
 use Rattle.commit_journal.specs.declared.placed.Placed.{Placed}
 use Rattle.commit_journal.specs.declared.past.Past.{Past}
@@ -28,7 +26,7 @@ use Rattle.role_graph.specs.PublicStore.{public_store}
 use Rattle.role_graph.proofs.Edging.{edges_told}
 use Rattle.log_visits.specs.Folding.{folded}
 use Rattle.log_visits.specs.Found.{HasObject, IsLinkFor, has_present_serials, head_of_edge, is_of, is_sought, link_here, newest_for, only_if, plain_link}
-use Rattle.log_visits.specs.Indexed.{AreHeadsOf, HasEdge, HasStandingAlone, IsKeyed, ContentsAreKept, ContentsAreNoted, HasLastContent, HasLastLink, HaveStarts, IsGone, IsIndexOf, IsLastAt, IsLeft, LinksAreKept, LinksAreNoted, StartsAt, same_content_heads, same_link_heads}
+use Rattle.log_visits.specs.Indexed.{HasEdge, HasStandingAlone, IsKeyed, ContentsAreKept, ContentsAreNoted, HasLastContent, HasLastLink, HaveStarts, IsGone, IsIndexOf, IsLastAt, IsLeft, LinksAreKept, LinksAreNoted, StartsAt, same_content_heads, same_link_heads, stands}
 use Rattle.log_visits.specs.Placing.{body_contents, body_links, is_for_edge, last_one, log_contents, log_links}
 use Rattle.log_visits.specs.Spots.{IsAt}
 use Rattle.log_visits.specs.declared.index.Index.{Index}
@@ -37,6 +35,7 @@ use Rattle.log_visits.specs.declared.last_contents.ContentSpot.{ContentSpot}
 use Rattle.log_visits.specs.declared.last_links.FoundLink.{FoundLink}
 use Rattle.log_visits.specs.declared.last_links.LinkHead.{LinkHead}
 use Rattle.log_visits.proofs.FoldedHolds.{first_stand, log_with}
+use Rattle.log_visits.proofs.HeadedEdges.{head_stands, same_links}
 use Rattle.log_visits.proofs.Following.{last_passes}
 use Rattle.log_visits.proofs.Lasts.{at_end, last_grows}
 use Rattle.log_visits.proofs.NewestLinks.{for_present, last_of_both, later_or}
@@ -134,20 +133,6 @@ index_more index log i p within is has =
 
 -- ---- what is forgotten
 
-same_links : (q k : LinkHead) → same_link_heads q k ≡ true → q ≡ k
-same_links q k t =
-    let a = and_parts (q.kind == k.kind) ((q.from_id == k.from_id) && (q.to_id == k.to_id)) t in
-    let b = and_parts (q.from_id == k.from_id) (q.to_id == k.to_id) a.1 in
-    let kind = eqb-true q.kind k.kind a.0 in
-    let from = eqb-true q.from_id k.from_id b.0 in
-    let to = eqb-true q.to_id k.to_id b.1 in
-    λ i. record { kind = kind i; from_id = from i; to_id = to i }
-
-own_link : (q : LinkHead) → same_link_heads q q ≡ true
-own_link q =
-    and_from (q.kind == q.kind) ((q.from_id == q.from_id) && (q.to_id == q.to_id)) (eq-eqb q.kind q.kind refl)
-    (and_from (q.from_id == q.from_id) (q.to_id == q.to_id) (eq-eqb q.from_id q.from_id refl) (eq-eqb q.to_id q.to_id refl))
-
 same_contents : (q k : ContentHead) → same_content_heads q k ≡ true → q ≡ k
 same_contents q k t =
     let a = and_parts (q.kind == k.kind) (q.object == k.object) t in
@@ -155,53 +140,19 @@ same_contents q k t =
     let object = eqb-true q.object k.object a.1 in
     λ i. record { kind = kind i; object = object i }
 
-pub no_heads : {S : Type 0} (heads : HashSet LinkHead S) → heads.keys ≡ [] → AreHeadsOf heads []
-no_heads heads none = record {
-  all = λ e i. absurd i;
-  only = λ q t. absurd (false≢true (ap (list_any (same_link_heads q)) (sym none) ∙ t));
-}
-
--- the head of one edge more
-module _ {S : Type 0} (old new : HashSet LinkHead S) (key : LinkHead) (edges : List Edge) (i : ℕ) (d : Edge) (within : i < length edges) (is : key ≡ head_of_edge (get_or edges i d))
-    (updates : (q : LinkHead) → contains same_link_heads new q ≡ cond (same_link_heads key q) true (contains same_link_heads old q)) (has : AreHeadsOf old (take i edges)) where
-  heads_longer : (e : Edge) → In e (take i edges ++ get_or edges i d ∷ []) → contains same_link_heads new (head_of_edge e) ≡ true
-  heads_longer e there =
-      updates (head_of_edge e) ∙ ⊎_elim
-      (λ (u : In e (take i edges)). ap (λ b. cond (same_link_heads key (head_of_edge e)) true b) (has.all e u) ∙ either (same_link_heads key (head_of_edge e)))
-      (λ (u : In e (get_or edges i d ∷ [])). ⊎_elim
-      (λ (q : e ≡ get_or edges i d).
-      ap (λ b. cond b true (contains same_link_heads old (head_of_edge e))) (ap (λ h. same_link_heads h (head_of_edge e)) (is ∙ ap head_of_edge (sym q)) ∙ own_link (head_of_edge e)))
-      (λ n. absurd n) u)
-      ((In-append Edge e (take i edges) (get_or edges i d ∷ [])).0 there)
-    where
-      either : (b : Bool) → cond b true true ≡ true
-      either true = refl
-      either false = refl
-
-  only_longer : (q : LinkHead) (b : Bool) → same_link_heads key q ≡ b → cond b true (contains same_link_heads old q) ≡ true →
-      (e : Edge) × In e (take i edges ++ get_or edges i d ∷ []) × (head_of_edge e ≡ q)
-  only_longer q true same t = (get_or edges i d, (In-append Edge (get_or edges i d) (take i edges) (get_or edges i d ∷ [])).1 (inr (inl refl)), sym is ∙ same_links key q same)
-  only_longer q false same t = let w = has.only q t in (w.0, (In-append Edge w.0 (take i edges) (get_or edges i d ∷ [])).1 (inl w.1), w.2)
-
-  pub heads_more : AreHeadsOf new (take (i + 1) edges)
-  heads_more = subst (AreHeadsOf new) (sym (take_more edges i d within)) (record {
-    all = heads_longer;
-    only = λ q t. only_longer q (same_link_heads key q) refl (sym (updates q) ∙ t);
-  })
-
-pub links_kept : {S T : Type 0} (old new : HashMap LinkHead FoundLink S) (heads : HashSet LinkHead T) (s : Store) →
-    new.entries ≡ filter (λ (e : LinkHead × FoundLink). contains same_link_heads heads e.0) old.entries → AreHeadsOf heads (edges s) → LinksAreKept s old new
-links_kept old new heads s is are = λ q. by_keep q (contains same_link_heads heads q) refl
+pub links_kept : {S : Type 0} (old new : HashMap LinkHead FoundLink S) (s : Store) →
+    new.entries ≡ filter (λ (e : LinkHead × FoundLink). stands s e.0) old.entries → LinksAreKept s old new
+links_kept old new s is = λ q. by_keep q (stands s q) refl
   where
-    by_keep : (q : LinkHead) (b : Bool) → contains same_link_heads heads q ≡ b →
+    by_keep : (q : LinkHead) (b : Bool) → stands s q ≡ b →
         ((get same_link_heads new q ≡ get same_link_heads old q) × HasEdge s q) ⊎ ((get same_link_heads new q ≡ None) × (HasEdge s q → ⊥))
     by_keep q true t = inl (
-      ap (lookup (same_link_heads q)) is ∙ lookup-filter-keys (same_link_heads q) (contains same_link_heads heads) true (λ k same. ap (contains same_link_heads heads) (sym (same_links q k same)) ∙ t) old.entries,
-      are.only q t,
+      ap (lookup (same_link_heads q)) is ∙ lookup-filter-keys (same_link_heads q) (stands s) true (λ k same. ap (stands s) (sym (same_links q k same)) ∙ t) old.entries,
+      (head_stands s q).0 t,
     )
     by_keep q false t = inr (
-      ap (lookup (same_link_heads q)) is ∙ lookup-filter-keys (same_link_heads q) (contains same_link_heads heads) false (λ k same. ap (contains same_link_heads heads) (sym (same_links q k same)) ∙ t) old.entries,
-      λ w. false≢true (sym t ∙ ap (contains same_link_heads heads) (sym w.2) ∙ are.all w.0 w.1),
+      ap (lookup (same_link_heads q)) is ∙ lookup-filter-keys (same_link_heads q) (stands s) false (λ k same. ap (stands s) (sym (same_links q k same)) ∙ t) old.entries,
+      λ w. false≢true (sym t ∙ (head_stands s q).1 w),
     )
 
 not_some : {X : Type 0} (o : Option X) → is_some o ≡ false → o ≡ None

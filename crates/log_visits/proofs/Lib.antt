@@ -1,6 +1,7 @@
 pub mod Folded
 pub mod FoldedHolds
 pub mod Following
+pub mod HeadedEdges
 pub mod InOrder
 pub mod IndexKept
 pub mod Keyed

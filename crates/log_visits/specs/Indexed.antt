@@ -1,13 +1,13 @@
 -- Maps from the heads of records to where the last record of each head stands in a log. A link's head is its edge's.
-use Rattle.std.specs.Prelude.{◌≡◌, ◌≤◌, ◌⊎◌, ◌+◌, ◌*◌, ◌++◌, ℕ, Bool, IfSome, IsSome, List, Option, None, Some, Ok, length, true}
-use Rattle.std.specs.HashSet.{HashSet, contains}
+use Rattle.std.specs.Prelude.{◌≡◌, ◌≤◌, ◌⊎◌, ◌+◌, ◌*◌, ◌++◌, ℕ, Bool, IfSome, IsSome, List, Option, None, Some, Ok, length}
 use Rattle.std.specs.HashMap.{HashMap, get, hash_map_len}
+use Rattle.std.specs.List.{list_any}
 use Rattle.commit_journal.specs.Placed.{PlainPlaced}
 use Rattle.commit_journal.specs.declared.past.Past.{Past}
 use Rattle.cry_base.specs.Sets.{In}
 use Rattle.cry_base.specs.Store.{Store}
 use Rattle.cry_base.specs.declared.roles.Edge.{Edge}
-use Rattle.key_links.specs.Ended.{sealing_role}
+use Rattle.key_links.specs.Ended.{kind_from, kind_to, role_with, sealing_role}
 use Rattle.public_fold.specs.Journal.{Stand, nothing}
 use Rattle.public_fold.specs.KeyStep.{KeyState, newest}
 use Rattle.record_format.specs.Plain.{PlainContent}
@@ -97,14 +97,21 @@ pub record IsIndexOf (index : Index) (log : List PlainPlaced) : Type 0 where
   pub last_content : (head : ContentHead) → HasLastContent log index.contents head (log_contents log)
       ⊎ ((get same_content_heads index.contents head ≡ None) × IsGone log head)
 
--- the heads of links that these edges have, and no others
-pub record AreHeadsOf {S : Type 0} (heads : HashSet LinkHead S) (es : List Edge) : Type 0 where
-  pub all : (e : Edge) → In e es → contains same_link_heads heads (head_of_edge e) ≡ true
-  pub only : (head : LinkHead) → contains same_link_heads heads head ≡ true → (e : Edge) × In e es × (head_of_edge e ≡ head)
-
 -- the head is that of an edge that stands in the store
 abbrev pub HasEdge : Store → LinkHead → Type 0
 HasEdge s head = (e : Edge) × In e (edges s) × (head_of_edge e ≡ head)
+
+-- the edge that leads between the roles of a head
+abbrev pub edge_of_head : LinkHead → Edge
+edge_of_head head = record {
+  kind = head.kind;
+  from = role_with (kind_from head.kind) head.from_id;
+  to = role_with (kind_to head.kind) head.to_id;
+}
+
+-- whether it is, by a look at each edge
+abbrev pub stands : Store → LinkHead → Bool
+stands s head = list_any (λ e. same_link_heads (head_of_edge e) head) (edges s)
 
 -- of the heads of edges in the store a map has what it had, and of others nothing
 abbrev pub LinksAreKept : {S : Type 0} → Store → (old new : HashMap LinkHead FoundLink S) → Type 0

@@ -65,17 +65,16 @@ impl Index {
         rows > most_rows(state)
     }
 
-    /// Forgets the links of edges that don't stand and the contents of what doesn't stand. After `Err` it is the index of no log.
-    pub fn forget(&mut self, alloc: Global, state: &PublicState) -> Mem<()>
-        ensures kept { OnOk result ((log : List PlainPlaced) (at : Stand) → IsIndexOf self.old log → folded nothing log ≡ Ok at
-            → IsSeenAs state.now at → IsIndexOf self.new log) }
-        ensures starts { OnOk result ((starts : List ThePast) → HaveStarts self.old.contents starts
-            → HaveStarts self.new.contents starts) }
-        ensures alone { OnOk result (HasStandingAlone self.new state.now) }
+    /// Forgets the links of edges that don't stand and the contents of what doesn't stand. It looks each of them up, and takes no
+    /// memory.
+    pub fn forget(&mut self, state: &PublicState)
+        ensures kept { (log : List PlainPlaced) (at : Stand) → IsIndexOf self.old log → folded nothing log ≡ Ok at
+            → IsSeenAs state.now at → IsIndexOf self.new log }
+        ensures starts { (starts : List ThePast) → HaveStarts self.old.contents starts → HaveStarts self.new.contents starts }
+        ensures alone { HasStandingAlone self.new state.now }
     {
-        keep_links(&mut self.links, alloc, state)?;
+        keep_links(&mut self.links, state);
         keep_contents(&mut self.contents, state);
-        Ok(())
     }
 
     /// The last link that was published for the edge, where it is one from the present key of its source to that of its target.

@@ -1,21 +1,22 @@
 //! The last link of each edge in a log (docs/FORMAT.md, "Reading").
-ghost use Rattle.std.specs.Prelude.{◌≡◌, ◌+◌, ◌*◌, ◌<◌, ◌^◌, [], ◌∷◌, IfOk, OnOk, length};
+ghost use Rattle.std.specs.Prelude.{◌≡◌, ◌+◌, ◌*◌, ◌<◌, ◌^◌, ◌↔◌, [], ◌∷◌, IsTrue, OnOk, length};
 ghost use Rattle.commit_journal.specs.Placed.{plain_body};
 ghost use Rattle.commit_journal.specs.Places.{IsStanding};
 ghost use Rattle.log_visits.specs.Found.{has_present_serials, head_of_edge, link_here};
-ghost use Rattle.log_visits.specs.Indexed.{AreHeadsOf, LinksAreKept, LinksAreNoted, head_of_link};
+ghost use Rattle.log_visits.specs.Indexed.{LinksAreKept, LinksAreNoted, edge_of_head, head_of_link, stands};
 ghost use Rattle.log_visits.specs.Placing as spec;
 ghost use Rattle.public_fold.specs.KeyStep.{present};
+ghost use Rattle.role_graph.specs.Joined.{HasEdge};
 ghost use Rattle.role_graph.specs.PublicStore.{public_store};
 ghost use Rattle.role_graph.specs.Roles.{role_id};
 
 use commit_journal::{Body, Placed, link_place};
 use cry_base::{Edge, Mem, Role, Serial};
+use key_links::{source_with, target_with};
 use public_fold::PublicState;
 use record_format::{LINK_LEN, LinkRecord};
-use role_graph::edges;
-use std::alloc::Global;
-use std::collections::{HashMap, HashSet};
+use role_graph::{Roles, StoreRoles};
+use std::collections::HashMap;
 
 /// What a link is looked for by. The serials are left out: of an edge whose keys are renewed only the last link can be followed, so no
 /// earlier one is kept.
@@ -135,23 +136,39 @@ pub(crate) fn note_links_of(last: &mut LastLinks, placed: &Placed) -> Mem<()>
     note_links(last, placed.batch, link_place(placed, 0), links)
 }
 
-/// The heads of links that the edges have.
-fn heads_of(alloc: Global, edges: &[Edge]) -> Mem<HashSet<LinkHead>>
-    ensures { IfOk result (λ heads. AreHeadsOf heads edges.now) }
+/// The edge that leads from the head's one role to its other.
+fn edge_with(head: &LinkHead) -> Edge
+    ensures { result ≡ edge_of_head head.now }
 {
-    let mut heads = HashSet::new(alloc);
-    for edge in edges {
-        heads.insert(head_sought(edge))?;
+    Edge {
+        kind: head.kind,
+        from: source_with(head.kind, head.from_id),
+        to: target_with(head.kind, head.to_id),
     }
-    Ok(heads)
+}
+
+/// Whether an edge that stands has links of the head. It looks one edge up.
+fn is_standing(state: &PublicState, head: &LinkHead) -> bool
+    ensures { result ≡ stands (public_store state.now.tree state.now.pairs) head.now }
+{
+    let edge = edge_with(head);
+    head_sought(&edge) == *head && has_edge(state, &edge)
+}
+
+/// Whether an edge that stands leads from the edge's source to its target.
+fn has_edge(state: &PublicState, edge: &Edge) -> bool
+    ensures { IsTrue result ↔ HasEdge (public_store state.now.tree state.now.pairs) edge.now.from edge.now.to }
+{
+    let roles = StoreRoles {
+        shape: state.shape(),
+        grants: state.grants(),
+    };
+    roles.has_edge(edge.from, edge.to)
 }
 
 /// Keeps the links of those edges alone that stand.
-pub(crate) fn keep_links(last: &mut LastLinks, alloc: Global, state: &PublicState) -> Mem<()>
-    ensures { OnOk result (LinksAreKept (public_store state.now.tree state.now.pairs) last.old last.new) }
+pub(crate) fn keep_links(last: &mut LastLinks, state: &PublicState)
+    ensures { LinksAreKept (public_store state.now.tree state.now.pairs) last.old last.new }
 {
-    let standing = edges(alloc, state.shape(), state.grants())?;
-    let heads = heads_of(alloc, standing.as_slice())?;
-    last.retain(|head, _| heads.contains(head));
-    Ok(())
+    last.retain(|head, _| is_standing(state, head));
 }

@@ -114,6 +114,7 @@ impl<'a> StoreRoles<'a> {
             ≡ found.old.items ++ out_of (unordered (public_store self.now.shape.now.tree self.now.grants.now.pairs)) Owner) }
     {
         self.shape.is_tree();
+        found.reserve(self.shape.folder_count())?;
         push_folders(found, self.shape.folders())?;
         Ok(())
     }

@@ -11,6 +11,7 @@ use crate::kinds;
 use cry_base::{Edge, FolderId, List, Mem, Role};
 use folder_nodes::{FileRow, FolderRow, Shape};
 use grant_book::{Grant, Grants};
+use sorted_table::Walk;
 use std::alloc::Global;
 
 /// The edges of the folders, the grants and the files: by kind, then by the number of the role that the edge leads from,
@@ -43,8 +44,8 @@ fn unordered_edges(alloc: Global, shape: &Shape, grants: &Grants) -> Mem<Vec<Edg
 }
 
 /// Adds the edges of each folder within itself.
-fn push_within(all: &mut Vec<Edge>, folders: &[FolderRow]) -> Mem<()>
-    ensures { OnOk result (all.new.items ≡ all.old.items ++ flat_map (λ r. folder_edges r.id.0) folders.now) }
+fn push_within(all: &mut Vec<Edge>, folders: Walk<'_, FolderRow>) -> Mem<()>
+    ensures { OnOk result (all.new.items ≡ all.old.items ++ flat_map (λ r. folder_edges r.id.0) folders.entry) }
 {
     for folder in folders {
         all.extend_from_slice(&edges_within(folder.id))?;
@@ -53,9 +54,9 @@ fn push_within(all: &mut Vec<Edge>, folders: &[FolderRow]) -> Mem<()>
 }
 
 /// Adds the edges of each folder and its parent.
-fn push_between(all: &mut Vec<Edge>, folders: &[FolderRow]) -> Mem<()>
+fn push_between(all: &mut Vec<Edge>, folders: Walk<'_, FolderRow>) -> Mem<()>
     ensures { OnOk result (all.new.items ≡ all.old.items
-        ++ flat_map (λ r. cond (r.parent == 0) [] (parent_edges r.id.0 r.parent)) folders.now) }
+        ++ flat_map (λ r. cond (r.parent == 0) [] (parent_edges r.id.0 r.parent)) folders.entry) }
 {
     for folder in folders {
         push_to_parent(all, folder)?;
@@ -85,8 +86,8 @@ fn push_grants(all: &mut Vec<Edge>, pairs: &[Grant]) -> Mem<()>
 }
 
 /// Adds the edge of each file.
-fn push_files(all: &mut Vec<Edge>, files: &[FileRow]) -> Mem<()>
-    ensures { OnOk result (all.new.items ≡ all.old.items ++ map (λ r. file_edge r.folder.0 r.id.0) files.now) }
+fn push_files(all: &mut Vec<Edge>, files: Walk<'_, FileRow>) -> Mem<()>
+    ensures { OnOk result (all.new.items ≡ all.old.items ++ map (λ r. file_edge r.folder.0 r.id.0) files.entry) }
 {
     for file in files {
         all.push(of_file(file))?;

@@ -7,13 +7,13 @@ ghost use Rattle.role_graph.specs.Roles.{back_of, clear_of, sub_of};
 use crate::kinds;
 use cry_base::{Edge, FileId, FolderId, HolderId, Mem};
 use folder_nodes::FolderRow;
+use sorted_table::Walk;
 
 /// Adds the edge from the owner's key to each folder.
 #[tactic(auto, unfolding(crate::specs::Roles::clear_of))]
-pub(crate) fn push_folders(found: &mut Vec<Edge>, folders: &[FolderRow]) -> Mem<()>
-    ensures { OnOk result (found.new.items ≡ found.old.items ++ map (λ r. edge 1 Owner (clear_of r.id.0)) folders.now) }
+pub(crate) fn push_folders(found: &mut Vec<Edge>, folders: Walk<'_, FolderRow>) -> Mem<()>
+    ensures { OnOk result (found.new.items ≡ found.old.items ++ map (λ r. edge 1 Owner (clear_of r.id.0)) folders.entry) }
 {
-    found.reserve(folders.len())?;
     for folder in folders {
         found.push(kinds::owner_to_clear(folder.id))?;
     }

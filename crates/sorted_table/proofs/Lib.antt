@@ -1,6 +1,11 @@
+pub mod Around
+pub mod Blocked
 pub mod Found
+pub mod Halves
 pub mod Ordered
+pub mod Parted
 pub mod Placed
 pub mod Rising
 pub mod Searched
-mod Shifted
+pub mod Shifted
+pub mod Spared

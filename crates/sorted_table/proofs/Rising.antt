@@ -1,21 +1,21 @@
 -- Rows stay rising.
-use Rattle.std.proofs.Common.{◌≡◌, ℕ, zero, suc, ◌+◌, ◌-◌, ◌<◌, ◌≤◌, Bool, true, false, cond, not, ◌==◌, nat_lt, List, [], ◌∷◌, ◌++◌, map, filter, length, get_or, refl, sym, ap, subst, arith, ⊎_elim}
+use Rattle.std.proofs.Common.{◌≡◌, ℕ, zero, suc, ◌+◌, ◌-◌, ◌<◌, ◌≤◌, Bool, true, false, cond, not, ◌==◌, nat_lt, nat_le, List, [], ◌∷◌, ◌++◌, map, filter, length, get_or, refl, sym, ap, subst, arith, ⊎_elim}
 use Rattle.std.specs.List.{All, AllPairs, items_where_true}
-use Rattle.std.proofs.lemmas.Bool.{ltb-true, eqb-true, cases_lt}
+use Rattle.std.proofs.lemmas.Bool.{ltb-true, eqb-true, cases_lt, lt-leb}
 use Rattle.std.proofs.lemmas.List.Elements.{All-nil, All-cons, All-head, All-tail, All-append, All-weaker, All-map}
 use Rattle.std.proofs.lemmas.List.Kept.{AllPairs-cons, AllPairs-filter}
 use Rattle.sorted_table.specs.Rows.{IsRising, with_row, without, replaced}
 
-AllPairs-nil : (T : Type 0) (R : T → T → Type 0) → AllPairs R []
+pub AllPairs-nil : (T : Type 0) (R : T → T → Type 0) → AllPairs R []
 AllPairs-nil T R = λ i j d lt within. absurd (omega arith)
 
-AllPairs-head : (T : Type 0) (R : T → T → Type 0) (x : T) (xs : List T) → AllPairs R (x ∷ xs) → All (R x) xs
+pub AllPairs-head : (T : Type 0) (R : T → T → Type 0) (x : T) (xs : List T) → AllPairs R (x ∷ xs) → All (R x) xs
 AllPairs-head T R x xs pairs = λ k d within. pairs 0 (suc k) d (omega arith) (omega arith)
 
-AllPairs-tail : (T : Type 0) (R : T → T → Type 0) (x : T) (xs : List T) → AllPairs R (x ∷ xs) → AllPairs R xs
+pub AllPairs-tail : (T : Type 0) (R : T → T → Type 0) (x : T) (xs : List T) → AllPairs R (x ∷ xs) → AllPairs R xs
 AllPairs-tail T R x xs pairs = λ i j d lt within. pairs (suc i) (suc j) d (omega arith) (omega arith)
 
-AllPairs-append : (T : Type 0) (R : T → T → Type 0) (xs ys : List T) → AllPairs R xs → AllPairs R ys → All (λ x. All (R x) ys) xs → AllPairs R (xs ++ ys)
+pub AllPairs-append : (T : Type 0) (R : T → T → Type 0) (xs ys : List T) → AllPairs R xs → AllPairs R ys → All (λ x. All (R x) ys) xs → AllPairs R (xs ++ ys)
 AllPairs-append T R [] ys front behind across = behind
 AllPairs-append T R (x ∷ xs) ys front behind across =
     AllPairs-cons R x (xs ++ ys)
@@ -112,3 +112,10 @@ rises_more T rank rows place some below up = λ j d lt within.
 
 pub rises_all : (T : Type 0) (rank : T → ℕ) (rows : List T) (place : ℕ) → length rows ≤ place → RisesBelow rank rows place → IsRising rank rows
 rises_all T rank rows place all below = λ i j d lt within. rising-steps T rank rows (λ k e inside. below k e (omega (arith, all, inside)) inside) j i d lt within
+
+-- where the first row is above a rank, all are
+pub none_within : (T : Type 0) (rank : T → ℕ) (x : T) (xs : List T) (k : ℕ) → IsRising rank (x ∷ xs) → k < rank x → All (λ r. nat_le (rank r) k ≡ false) (x ∷ xs)
+none_within T rank x xs k rising high =
+    All-cons (λ r. nat_le (rank r) k ≡ false) x xs (lt-leb (rank x) k high)
+    (All-weaker (λ y. rank x < rank y) (λ y. nat_le (rank y) k ≡ false) (λ y up. lt-leb (rank y) k (omega (arith, high, up))) xs
+    (AllPairs-head T (λ a b. rank a < rank b) x xs rising))

@@ -111,7 +111,7 @@ inserted T rows after last to row end le moved =
     ∙ ap (λ l. insert l to row) (ap (λ n. remove (rows ++ row ∷ []) n) end ∙ last_removed T rows row)
 
 -- a row that was put into the place of another stands in the place of that one
-removed_set : (T : Type 0) (rows : List T) (i : ℕ) (row : T) → i < length rows → remove (set rows i row) i ≡ remove rows i
+pub removed_set : (T : Type 0) (rows : List T) (i : ℕ) (row : T) → i < length rows → remove (set rows i row) i ≡ remove rows i
 removed_set T [] i row within = absurd (omega arith)
 removed_set T (x ∷ rows) zero row within = refl
 removed_set T (x ∷ rows) (suc i) row within = ap (λ (l : List T). x ∷ l) (removed_set T rows i row (omega arith))

@@ -1,14 +1,15 @@
 //! Rows in ascending order of their ranks.
-ghost use Rattle.std.specs.Prelude.{◌≡◌, ◌+◌, ◌-◌, ◌<◌, ◌≤◌, ◌&&◌, [], cond, length, nat_le, nat_lt, filter, IsOk, IsSome};
+ghost use Rattle.std.specs.Prelude.{◌≡◌, ◌+◌, ◌-◌, ◌<◌, ◌≤◌, ◌&&◌, ◌++◌, [], cond, length, nat_le, nat_lt, filter, IsOk, IsSome};
 ghost use Rattle.std.specs.Prelude.{OnOk, IfOk, IfErr, IsTrue, MatchOption};
-ghost use Rattle.std.specs.Prelude.{◌↔◌, ◌≢◌, None, AllPairs};
+ghost use Rattle.std.specs.Prelude.{◌↔◌, ◌≢◌, None, All, AllPairs};
 ghost use Rattle.std.specs.Fn.{CalledAt};
 ghost use Rattle.std.specs.List.{HoldsAt, insert, remove};
 ghost use Rattle.std.specs.List.Retain.{IsFiltered};
 ghost use Rattle.std.specs.List.Sorted.{IsPermutation};
 ghost use Rattle.std.specs.Option.{option_copied};
+ghost use Rattle.sorted_table.specs.Parts.{first_rank};
 ghost use Rattle.sorted_table.specs.Places.{IsAt, IsGapFor};
-ghost use Rattle.sorted_table.specs.Rows.{IsRising, row_at, with_row, without, replaced};
+ghost use Rattle.sorted_table.specs.Rows.{IsRising, row_at, row_from, with_row, without, replaced};
 
 use crate::ranked::SameRank;
 use crate::{Key, Ranked};
@@ -84,6 +85,56 @@ impl<T: Ranked> Table<T> {
         rows_to(rows_from(&self.rows, first), last)
     }
 
+    /// How many rows there are.
+    pub(crate) fn len(&self) -> usize
+        ensures { result ≡ length self.now.rows }
+    {
+        self.rows.len()
+    }
+
+    /// Whether the first row's rank is at most the key's, or there are none.
+    pub(crate) fn starts_by<K: Key<T>>(&self, key: &K) -> bool
+        ensures { result ≡ nat_le (first_rank T.rank self.now.rows) (K.sought key.now) }
+    {
+        match self.rows.first() {
+            Some(row) => key.compare_row(row) != Ordering::Greater,
+            None => true,
+        }
+    }
+
+    /// The rows from the key's rank on, in ascending order.
+    pub(crate) fn rows_from<K: Key<T>>(&self, key: &K) -> &[T]
+        ensures { result.now ≡ filter (λ r. nat_le (K.sought key.now) (T.rank r)) self.now.rows }
+    {
+        rows_from(&self.rows, key)
+    }
+
+    /// The first row whose rank is at least the key's.
+    pub fn first_from<K: Key<T>>(&self, key: &K) -> Option<&T>
+        ensures { option_copied result ≡ row_from T.rank self.now.rows (K.sought key.now) }
+    {
+        rows_from(&self.rows, key).first()
+    }
+
+    /// Whether all rows have ranks below the key's.
+    pub(crate) fn ends_below<K: Key<T>>(&self, key: &K) -> bool
+        ensures { IsTrue result → All (λ r. T.rank r < K.sought key.now) self.now.rows }
+    {
+        match self.rows.last() {
+            Some(row) => matches!(key.compare_row(row), Ordering::Less),
+            None => true,
+        }
+    }
+
+    /// A table without rows, with room for so many.
+    pub(crate) fn with_room(alloc: Global, room: usize) -> Mem<Self>
+        ensures { IfOk result (λ made. (made.rows ≡ []) × (room ≤ made.spare)) }
+    {
+        Ok(Table {
+            rows: Vec::with_capacity(alloc, room)?,
+        })
+    }
+
     /// Makes room for at least `more` rows beside those that are there.
     pub fn reserve(&mut self, more: usize) -> Mem<()>
         ensures rows { self.new.rows ≡ self.old.rows }
@@ -103,6 +154,7 @@ impl<T: Ranked + Drop> Table<T> {
         requires absent { row_at T.rank self.old.rows (T.rank row) ≡ None }
         ensures rows { self.new.rows ≡ with_row T.rank self.old.rows row }
         ensures spare { self.old.spare ≤ self.new.spare + 1 }
+        ensures count { length self.new.rows ≡ length self.old.rows + 1 }
     {
         let Err(at) = place_of(&self.rows, &SameRank(&row)) else {
             unreachable!();
@@ -148,10 +200,58 @@ impl<T: Ranked + Drop> Table<T> {
         ensures row { result ≡ row_at T.rank self.old.rows (K.sought key.now) }
         ensures rows { self.new.rows ≡ without T.rank self.old.rows (K.sought key.now) }
         ensures spare { self.old.spare ≤ self.new.spare }
+        ensures room { length self.old.rows + self.old.spare ≤ length self.new.rows + self.new.spare }
+        ensures fewer { length self.new.rows ≤ length self.old.rows }
     {
         match place_of(&self.rows, key) {
             Ok(at) => Some(self.rows.remove(at)),
             Err(_) => None,
+        }
+    }
+
+    /// Moves the rows from the place on into a table without rows, where there is room.
+    pub(crate) fn move_tail(&mut self, at: usize, tail: &mut Table<T>)
+        requires empty { tail.old.rows ≡ [] }
+        requires room { length self.old.rows ≤ at + tail.old.spare }
+        requires within { at ≤ length self.old.rows }
+        ensures rows { self.old.rows ≡ self.new.rows ++ tail.new.rows }
+        ensures count { length self.new.rows ≡ at }
+        ensures spare { length self.old.rows + self.old.spare ≤ length self.new.rows + self.new.spare }
+        ensures tail_spare { tail.old.spare ≤ length tail.new.rows + tail.new.spare }
+    {
+        while self.rows.len() > at {
+            let Some(row) = self.rows.pop() else {
+                unreachable!();
+            };
+            let _ = tail.rows.push(row);
+        }
+        tail.rows.reverse();
+    }
+
+    /// Adds a row whose rank no row has to a table without room: the upper half of the rows moves into a table without rows,
+    /// or the upper quarter where the row goes behind all, so that rows which come in order fill three quarters of their tables.
+    pub(crate) fn split(&mut self, row: T, upper: &mut Table<T>)
+        requires absent { row_at T.rank self.old.rows (T.rank row) ≡ None }
+        requires full { length self.old.rows ≡ 128 }
+        requires empty { upper.old.rows ≡ [] }
+        requires room { 128 ≤ upper.old.spare }
+        ensures rows { self.new.rows ++ upper.new.rows ≡ with_row T.rank self.old.rows row }
+        ensures left { (1 ≤ length self.new.rows) × (length self.new.rows ≤ 97) }
+        ensures moved { (1 ≤ length upper.new.rows) × (length upper.new.rows ≤ 97) }
+        ensures spare { length self.old.rows + self.old.spare ≤ length self.new.rows + self.new.spare }
+        ensures upper_spare { upper.old.spare ≤ length upper.new.rows + upper.new.spare }
+    {
+        let rows = self.as_slice().len();
+        let moved = if self.ends_below(&SameRank(&row)) {
+            32
+        } else {
+            64
+        };
+        self.move_tail(rows - moved, upper);
+        if upper.starts_by(&SameRank(&row)) {
+            upper.insert(row);
+        } else {
+            self.insert(row);
         }
     }
 
@@ -176,6 +276,15 @@ impl<T: Ranked + Copy> Table<T> {
         Ok(Some(Table {
             rows: Vec::from_slice(alloc, rows)?,
         }))
+    }
+
+    /// An equal table with a buffer of its own, which has room for so many rows in all.
+    pub(crate) fn copy_with_room(&self, room: usize) -> Mem<Self>
+        ensures { IfOk result (λ copy. (copy.rows ≡ self.now.rows) × (room ≤ length copy.rows + copy.spare)) }
+    {
+        let mut rows = Vec::with_capacity(*self.rows.allocator(), room)?;
+        rows.extend_from_slice(&self.rows)?;
+        Ok(Table { rows })
     }
 
     /// An equal table, with a buffer of its own.

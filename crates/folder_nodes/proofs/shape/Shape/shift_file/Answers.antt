@@ -8,8 +8,8 @@ use Rattle.folder_nodes.proofs.Moved.{file_moved}
 use Rattle.folder_nodes.proofs.Rowed.{file_row_stands, file_rows_put, place_told}
 use Rattle.folder_nodes.proofs.shape.Shape.shift_file.Goals as goal
 
-pub replace-requires : goal.replace-requires
-replace-requires c =
+pub replace-requires-clause-there : goal.replace-requires-clause-there
+replace-requires-clause-there c =
     let i = c.self.inside in
     let s = bare_store i.folders.rows i.files.rows i.folders_made i.files_made in
     let stands : IsSome (file_entry s c.args.file.0) = subst (λ (v : Shaped). IsSome (file_entry v.tree c.args.file.0)) (sym c.self.view_is) c.requires.stands in

@@ -40,8 +40,7 @@ returns-in-Ok-clause-read c =
 pub returns-in-Err-Damaged-clause-read : goal.returns-in-Err-Damaged-clause-read
 returns-in-Err-Damaged-clause-read c = λ log read epochs batch.
     let old = c.args.self.now in
-    rw c.in-Err-Damaged.field-0-is
-    (misfit_met old log (plain_placed c.args.placed.now) c.in-Err-Damaged.at (has_folded old log old.misfit (sym c.is_some.ensures ∙ c.if-is_some.false) read) (λ at seen. subst (λ fault. IsFault fault (stand_behind at c.args.placed.now.place (plain_body c.args.placed.now.body))) c.in-Err-Damaged.field-0-is (c.in-Err-Damaged.ensures.answer at seen)))
+    misfit_met old log (plain_placed c.args.placed.now) c.in-Err-Damaged.at (has_folded old log old.misfit (sym c.is_some.ensures ∙ c.if-is_some.false) read) (λ at seen. subst (λ fault. IsFault fault (stand_behind at c.args.placed.now.place (plain_body c.args.placed.now.body))) c.in-Err-Damaged.field-0-is (c.in-Err-Damaged.ensures.answer at seen))
 
 pub returns-then-is_some-clause-starts : goal.returns-then-is_some-clause-starts
 returns-then-is_some-clause-starts c = λ starts have number next. starts_grow c.args.self.now.index.contents starts (c.args.start.now ∷ []) have

@@ -1,6 +1,5 @@
-use Rattle.std.proofs.Common.{List, ◌++◌, ap, ◌∙◌}
+use Rattle.std.proofs.Common.{◌++◌, ◌∙◌}
 use Rattle.cry_base.specs.Store.{Store}
-use Rattle.cry_base.specs.declared.roles.Edge.{Edge}
 use Rattle.role_graph.specs.PublicStore.{public_store}
 use Rattle.role_graph.proofs.Falling.{tree_public}
 use Rattle.role_graph.proofs.RoleEdges.{owner_from}
@@ -12,4 +11,4 @@ returns c =
     let pairs = c.args.self.now.grants.now.pairs in
     let s : Store = public_store tree pairs in
     let is = tree_public tree pairs c.is_tree.ensures in
-    c.in_ok-push_folders.ensures ∙ ap (λ (l : List Edge). c.args.found.now.items ++ l) (owner_from s is c.folders.result.now c.folders.ensures)
+    c.in_ok-push_folders.ensures ∙ (λ k. c.in_ok-reserve.ensures.items k ++ owner_from s is c.folders.result c.folders.ensures k)

@@ -1,0 +1,293 @@
+//! Rows in ascending order of their ranks, in blocks: one that comes or goes moves no rows but those of its block.
+ghost use Rattle.std.specs.Prelude.{◌≡◌, ℕ, ◌+◌, ◌-◌, ◌*◌, ◌/◌, min, ◌<◌, ◌≤◌, ◌&&◌, [], length, vec_len, vec_capacity, All, nat_le, filter, IsOk, IsSome, OnOk, IfOk, MatchOption};
+ghost use Rattle.std.specs.Prelude.{◌≢◌, None, AllPairs};
+ghost use Rattle.std.specs.List.Sorted.{IsPermutation};
+ghost use Rattle.std.specs.Option.{option_copied};
+ghost use Rattle.sorted_table.specs.Parts.{rows_of, held, IsBlock, IsBlockFor, IsFresh};
+ghost use Rattle.sorted_table.specs.Tabled.{Tabled};
+ghost use Rattle.sorted_table.specs.Rows.{IsRising, row_at, row_from, with_row, without, replaced};
+
+use crate::ranked::SameRank;
+use crate::{Key, Ranked, Span, Table, Walk};
+use cry_base::Mem;
+use std::alloc::Global;
+use std::marker::Model;
+
+/// How many rows a block has at the most.
+const MOST: usize = 128;
+
+/// Rows in ascending order of their ranks, which all differ. `spare` is how many more fit without memory; it may be more than was
+/// asked for. A look-up compares about log2(n) times among n rows. A row that comes or goes moves no rows but those of its block;
+/// where a block splits or goes, the list of blocks moves too. From a table without rows on, that is one row in 32 that come.
+#[derive(Drop)]
+pub struct Blocks<T: Ranked> {
+    blocks: Vec<Table<T>>,
+    fresh: Vec<Table<T>>,
+}
+
+impl<T: Ranked> Model for Blocks<T> {
+    ghost use Rattle.std.specs.Prelude.{◌≤◌, ◌+◌, length, All, vec_len, vec_capacity};
+    ghost use Rattle.sorted_table.specs.Parts.{rows_of, held, spare_of, IsBlock, IsFresh};
+    ghost use Rattle.sorted_table.specs.Rows.{IsRising};
+    ghost use Rattle.sorted_table.specs.Tabled.{Tabled};
+
+    ghost Value = { Tabled T };
+
+    ghost view = { λ t. record { rows = rows_of t.blocks.items; spare = spare_of (vec_len t.fresh) (held t.blocks.items) } };
+
+    ghost invariant = { λ t. IsRising T.rank (rows_of t.blocks.items) × All (λ (b : Tabled T). IsBlock 128 b) t.blocks.items
+        × All (λ (b : Tabled T). IsFresh 128 b) t.fresh.items × (vec_len t.blocks + vec_len t.fresh ≤ vec_capacity t.blocks)
+        × (vec_len t.blocks + vec_len t.fresh ≤ vec_capacity t.fresh) };
+}
+
+impl<T: Ranked> Blocks<T> {
+    /// A table without rows. It takes no memory.
+    pub fn new(alloc: Global) -> Self
+        ensures { result.rows ≡ [] }
+    {
+        Blocks {
+            blocks: Vec::new(alloc),
+            fresh: Vec::new(alloc),
+        }
+    }
+
+    /// The rows in ascending order, a table of some after another.
+    pub fn as_tables(&self) -> &[Table<T>]
+        ensures rows { rows_of result.now ≡ self.now.rows }
+        ensures rising { IsRising T.rank self.now.rows }
+    {
+        &self.blocks
+    }
+
+    /// The row with the key's rank.
+    pub fn find<K: Key<T>>(&self, key: &K) -> Option<&T>
+        ensures row { option_copied result ≡ row_at T.rank self.now.rows (K.sought key.now) }
+        ensures rising { IsRising T.rank self.now.rows }
+    {
+        match block_for(&self.blocks, key) {
+            Some(at) => self.blocks[at].find(key),
+            None => None,
+        }
+    }
+
+    /// All rows in ascending order.
+    pub fn rows(&self) -> Walk<'_, T>
+        ensures rows { result ≡ self.now.rows }
+        ensures rising { IsRising T.rank self.now.rows }
+    {
+        Walk::new(&[], &self.blocks)
+    }
+
+    /// The rows from the key's rank on, in ascending order.
+    pub fn rows_from<K: Key<T>>(&self, key: &K) -> Walk<'_, T>
+        ensures rows { result ≡ filter (λ r. nat_le (K.sought key.now) (T.rank r)) self.now.rows }
+        ensures rising { IsRising T.rank self.now.rows }
+    {
+        let Some(at) = block_for(&self.blocks, key) else {
+            return Walk::new(&[], &[]);
+        };
+        Walk::new(self.blocks[at].rows_from(key), &self.blocks[at + 1..])
+    }
+
+    /// The rows with ranks from that of the first key up to that of the last one, in ascending order.
+    pub fn rows_between<K: Key<T>>(&self, first: &K, last: K) -> Span<'_, T, K>
+        ensures rows { result ≡ filter (λ r. nat_le (K.sought first.now) (T.rank r)
+            && nat_le (T.rank r) (K.sought last)) self.now.rows }
+        ensures rising { IsRising T.rank result }
+    {
+        Span::new(self.rows_from(first), last)
+    }
+
+    /// The first row whose rank is at least the key's.
+    pub fn first_from<K: Key<T>>(&self, key: &K) -> Option<&T>
+        ensures { option_copied result ≡ row_from T.rank self.now.rows (K.sought key.now) }
+    {
+        let at = block_for(&self.blocks, key)?;
+        match self.blocks[at].first_from(key) {
+            Some(row) => Some(row),
+            None if at + 1 < self.blocks.len() => self.blocks[at + 1].first_from(key),
+            None => None,
+        }
+    }
+}
+
+impl<T: Ranked + Drop> Blocks<T> {
+    /// A table of rows in any order, whose ranks all differ.
+    pub fn of_unordered(alloc: Global, rows: Vec<T>) -> Mem<Self>
+        requires { AllPairs (λ x y. T.rank x ≢ T.rank y) rows.items }
+        ensures { IfOk result (λ made. IsPermutation rows.items made.rows) }
+    {
+        Self::of_table(alloc, Table::of_unordered(rows))
+    }
+
+    /// The rows of a table.
+    pub fn of_table(alloc: Global, mut rows: Table<T>) -> Mem<Self>
+        ensures { IfOk result (λ made. made.rows ≡ rows.rows) }
+    {
+        let mut blocks = Vec::with_capacity(alloc, rows.as_slice().len().div_ceil(MOST))?;
+        while rows.len() > 0 {
+            let mut block = Table::with_room(alloc, MOST)?;
+            rows.move_tail(rows.len().saturating_sub(MOST), &mut block);
+            blocks.push(block)?;
+        }
+        blocks.reverse();
+        let fresh = Vec::with_capacity(alloc, blocks.len())?;
+        Ok(Blocks { blocks, fresh })
+    }
+
+    /// Makes room for at least `more` rows beside those that are there.
+    pub fn reserve(&mut self, more: usize) -> Mem<()>
+        ensures rows { self.new.rows ≡ self.old.rows }
+        ensures room { OnOk result (more ≤ self.new.spare) }
+        ensures kept { self.old.spare ≤ self.new.spare }
+        ensures has_room { more ≤ self.old.spare → IsOk result }
+    {
+        // Most calls want one row, and a block that waits is enough without a look at the others.
+        if more <= self.fresh.len() {
+            return Ok(());
+        }
+        let wanted = blocks_for(more, &self.blocks);
+        if wanted <= self.fresh.len() {
+            return Ok(());
+        }
+        self.blocks.reserve(wanted)?;
+        self.fresh.reserve(self.blocks.capacity())?;
+        while self.fresh.len() < wanted {
+            let block = Table::with_room(*self.fresh.allocator(), MOST)?;
+            self.fresh.push(block)?;
+        }
+        Ok(())
+    }
+
+    /// Adds a row whose rank no row has, where there is room. It takes no memory.
+    pub fn insert(&mut self, row: T)
+        requires room { 1 ≤ self.old.spare }
+        requires absent { row_at T.rank self.old.rows (T.rank row) ≡ None }
+        ensures rows { self.new.rows ≡ with_row T.rank self.old.rows row }
+        ensures spare { self.old.spare ≤ self.new.spare + 1 }
+    {
+        let Some(at) = block_for(&self.blocks, &SameRank(&row)) else {
+            let mut block = take_fresh(&mut self.fresh);
+            block.insert(row);
+            let _ = self.blocks.push(block);
+            return;
+        };
+        let block = &mut self.blocks[at];
+        if block.len() < MOST {
+            block.insert(row);
+            return;
+        }
+        let mut upper = take_fresh(&mut self.fresh);
+        block.split(row, &mut upper);
+        let _ = self.blocks.insert(at + 1, upper);
+    }
+
+    /// Puts a row into the place of the one that has its rank.
+    pub fn replace(&mut self, row: T)
+        requires { IsSome (row_at T.rank self.old.rows (T.rank row)) }
+        ensures rows { self.new.rows ≡ replaced T.rank self.old.rows row }
+        ensures spare { self.new.spare ≡ self.old.spare }
+    {
+        let Some(at) = block_for(&self.blocks, &SameRank(&row)) else {
+            unreachable!();
+        };
+        self.blocks[at].replace(row);
+    }
+
+    /// Takes the row with the key's rank out, and adds one whose rank no other row has, where there is room. It takes no memory.
+    pub fn exchange<K: Key<T>>(&mut self, key: &K, row: T)
+        requires room { 1 ≤ self.old.spare }
+        requires there { IsSome (row_at T.rank self.old.rows (K.sought key.now)) }
+        requires absent { row_at T.rank (without T.rank self.old.rows (K.sought key.now)) (T.rank row) ≡ None }
+        ensures rows { self.new.rows ≡ with_row T.rank (without T.rank self.old.rows (K.sought key.now)) row }
+        ensures spare { self.old.spare ≤ self.new.spare + 1 }
+    {
+        let _ = self.remove(key);
+        self.insert(row);
+    }
+
+    /// Takes the row with the key's rank out, where there is one.
+    pub fn remove<K: Key<T>>(&mut self, key: &K) -> Option<T>
+        ensures row { result ≡ row_at T.rank self.old.rows (K.sought key.now) }
+        ensures rows { self.new.rows ≡ without T.rank self.old.rows (K.sought key.now) }
+        ensures spare { self.old.spare ≤ self.new.spare }
+    {
+        let at = block_for(&self.blocks, key)?;
+        let block = &mut self.blocks[at];
+        let row = block.remove(key);
+        if block.len() != 0 {
+            return row;
+        }
+        let block = self.blocks.remove(at);
+        let _ = self.fresh.push(block);
+        row
+    }
+}
+
+impl<T: Ranked + Copy> Blocks<T> {
+    /// An equal table, with memory of its own.
+    pub fn copy(&self) -> Mem<Self>
+        ensures { IfOk result (λ copy. copy.rows ≡ self.now.rows) }
+    {
+        let alloc = *self.blocks.allocator();
+        let mut blocks = Vec::with_capacity(alloc, self.blocks.len())?;
+        for at in 0..self.blocks.len() {
+            blocks.push(self.blocks[at].copy_with_room(MOST)?)?;
+        }
+        let fresh = Vec::with_capacity(alloc, blocks.len())?;
+        Ok(Blocks { blocks, fresh })
+    }
+}
+
+// The block in which the key's row is, or would go.
+fn block_for<T: Ranked, K: Key<T>>(blocks: &[Table<T>], key: &K) -> Option<usize>
+    requires rising { IsRising T.rank (rows_of blocks.now) }
+    requires filled { All (IsBlock 128) blocks.now }
+    ensures { MatchOption result (length blocks.now ≤ 0) (IsBlockFor T.rank blocks.now (K.sought key.now)) }
+{
+    if blocks.is_empty() {
+        return None;
+    }
+    let behind = blocks.partition_point(|block| block.starts_by(key));
+    Some(behind.saturating_sub(1))
+}
+
+// Takes an empty block from those that wait.
+fn take_fresh<T: Ranked>(fresh: &mut Vec<Table<T>>) -> Table<T>
+    requires some { 1 ≤ vec_len fresh.old }
+    requires empty { All (λ (b : Tabled T). IsFresh 128 b) fresh.old.items }
+    ensures taken { IsFresh 128 result }
+    ensures left { All (λ (b : Tabled T). IsFresh 128 b) fresh.new.items }
+    ensures count { vec_len fresh.new + 1 ≡ vec_len fresh.old }
+    ensures capacity { vec_capacity fresh.new ≡ vec_capacity fresh.old }
+{
+    let Some(block) = fresh.pop() else {
+        unreachable!();
+    };
+    block
+}
+
+// How many blocks have to wait so that so many rows fit.
+fn blocks_for<T: Ranked>(more: usize, blocks: &[Table<T>]) -> usize
+    requires { All (IsBlock 128) blocks.now }
+    ensures { result ≡ min more ((more + held blocks.now) / 32) }
+{
+    let rows = more as u128;
+    rows.min((rows + rows_held(blocks)) / 32) as usize
+}
+
+// The rows that stand in the way of room, as `spare` counts it.
+fn rows_held<T: Ranked>(blocks: &[Table<T>]) -> u128
+    requires { All (IsBlock 128) blocks.now }
+    ensures rows { result ≡ held blocks.now }
+    ensures small { result ≤ 31 * length blocks.now + 31 }
+{
+    if blocks.is_empty() {
+        return 31;
+    }
+    let mut rows = 0;
+    for at in 0..blocks.len() {
+        rows += blocks[at].len().saturating_sub(97) as u128;
+    }
+    rows
+}
