@@ -81,11 +81,3 @@ seek_over s tree f above here n seeks full =
       | None ↦ λ p. seek_top s f above here n seeks p
       | Some e ↦ λ p. absurd (let level : length (way_to_root s here) ≡ suc (length (way_to_root s e.parent)) = level_on s tree here e p in omega (arith, seeks.1, level, full))
     ]) refl
-
--- what is within a folder stands
-pub within_stands : (s : Store) (g f : ℕ) → is_within s g f ≡ true → IsSome (folder_entry s g)
-within_stands s g f within =
-    (elim (folder_entry s g) as (λ o. folder_entry s g ≡ o → IsSome o) [
-      | None ↦ λ p. absurd (let u : is_within s g f ≡ false = within_off s g f p in cc)
-      | Some e ↦ λ p. refl
-    ]) refl

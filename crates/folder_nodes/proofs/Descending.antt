@@ -1,9 +1,9 @@
 -- Steps down the tree, from child to child.
-use Rattle.std.proofs.Common.{◌≡◌, ℕ, zero, suc, ◌+◌, ◌-◌, ◌<◌, ◌≤◌, max, Bool, true, false, cond, ◌==◌, ◌||◌, ◌⊎◌, List, [], ◌∷◌, map, find, take, get_or, length, Option, Some, None, refl, sym, ap, ◌∙◌, subst, inl, inr, ⊎_elim, arith}
+use Rattle.std.proofs.Common.{◌≡◌, ℕ, zero, suc, ◌+◌, ◌-◌, ◌≤◌, max, Bool, true, false, cond, ◌==◌, ◌||◌, ◌⊎◌, List, [], ◌∷◌, ◌++◌, map, find, length, Option, Some, None, refl, sym, ap, ◌∙◌, subst, inl, inr, ⊎_elim, arith}
 use Rattle.std.specs.Prelude.{IsSome}
 use Rattle.std.specs.List.{All, fold, list_any}
 use Rattle.std.proofs.lemmas.Bool.{eqb-true, eq-eqb, false≢true, or_cases, or_right}
-use Rattle.std.proofs.lemmas.List.Elements.{All-head, All-tail, All-nil, All-weaker, All-more}
+use Rattle.std.proofs.lemmas.List.Elements.{All-append, All-cons, All-head, All-tail, All-nil, All-weaker}
 use Rattle.cry_base.specs.Refusing.{deepest, is_node_within}
 use Rattle.cry_base.specs.Sets.{In}
 use Rattle.cry_base.specs.Store.{Store, FolderEntry, FileEntry, way_to_root, folder_entry, file_entry, folder_node, file_node, depth_of, is_within}
@@ -191,25 +191,24 @@ module _ (s : Store) (tree : IsTree s) where
     child_within g t = let w = child_told g t in subst (λ k. deepest s k ≤ deepest s f) w.2 (child_below w.0 w.1)
 
     -- a child more, or what isn't one
-    pub descend_on : (n m k i : ℕ) (d : Spot) (spots : List Spot) → i < length spots → Descends s f n (take i spots) → is_child_of f (folder_entry s (get_or spots i d).id) ≡ true
-        → depth_of s (folder_node (get_or spots i d).id) + m ≡ deepest s (get_or spots i d).id → k ≡ max n (m + 1) → Descends s f k (take (i + 1) spots)
-    descend_on n m k i d spots within old child levels is =
-        let g = (get_or spots i d).id in
-        let here : depth_of s (folder_node g) ≡ depth_of s (folder_node f) + 1 = child_level g child in
-        let below : deepest s g ≤ deepest s f = child_within g child in
+    pub descend_on : (n m k : ℕ) (q : Spot) (spots : List Spot) → Descends s f n spots → is_child_of f (folder_entry s q.id) ≡ true
+        → depth_of s (folder_node q.id) + m ≡ deepest s q.id → k ≡ max n (m + 1) → Descends s f k (spots ++ q ∷ [])
+    descend_on n m k q spots old child levels is =
+        let here : depth_of s (folder_node q.id) ≡ depth_of s (folder_node f) + 1 = child_level q.id child in
+        let below : deepest s q.id ≤ deepest s f = child_within q.id child in
         let reached : depth_of s (folder_node f) + n ≤ deepest s f = old.reached in record {
           reached = omega (arith, reached, is, levels, here, below);
           files = λ some. let one : 1 ≤ n = old.files some in omega (arith, one, is);
-          covered = All-more (IsCovered s f k) spots i d within
-              (All-weaker (IsCovered s f n) (IsCovered s f k) (λ q before t. let le : deepest s q.id ≤ depth_of s (folder_node f) + n = before t in omega (arith, le, is)) (take i spots) old.covered)
-              (λ t. omega (arith, levels, here, is));
+          covered = All-append (IsCovered s f k) spots (q ∷ [])
+              (All-weaker (IsCovered s f n) (IsCovered s f k) (λ q before t. let le : deepest s q.id ≤ depth_of s (folder_node f) + n = before t in omega (arith, le, is)) spots old.covered)
+              (All-cons (IsCovered s f k) q [] (λ t. omega (arith, levels, here, is)) (All-nil (IsCovered s f k)));
         }
 
-    pub descend_past : (n k i : ℕ) (d : Spot) (spots : List Spot) → i < length spots → Descends s f n (take i spots) → is_child_of f (folder_entry s (get_or spots i d).id) ≡ false → k ≡ n → Descends s f k (take (i + 1) spots)
-    descend_past n k i d spots within old other is = subst (λ z. Descends s f z (take (i + 1) spots)) (sym is) (record {
+    pub descend_past : (n k : ℕ) (q : Spot) (spots : List Spot) → Descends s f n spots → is_child_of f (folder_entry s q.id) ≡ false → k ≡ n → Descends s f k (spots ++ q ∷ [])
+    descend_past n k q spots old other is = subst (λ z. Descends s f z (spots ++ q ∷ [])) (sym is) (record {
       reached = old.reached;
       files = old.files;
-      covered = All-more (IsCovered s f n) spots i d within old.covered (λ t. absurd (false≢true (sym other ∙ t)));
+      covered = All-append (IsCovered s f n) spots (q ∷ []) old.covered (All-cons (IsCovered s f n) q [] (λ t. absurd (false≢true (sym other ∙ t))) (All-nil (IsCovered s f n)));
     })
 
     -- where the files and all children are within them, the levels are all

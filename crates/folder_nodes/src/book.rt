@@ -8,7 +8,7 @@ ghost use Rattle.folder_nodes.specs.declared.spots.Spot.{Spot as TheSpot};
 ghost use Rattle.sorted_table.specs.Rows.{IsRising};
 
 use crate::grouped::Grouped;
-use crate::spots::Spot;
+use crate::spots::Spots;
 use crate::titles::{NameKey, NameRow, digest_of};
 use cry_base::{Mem, Text};
 use std::alloc::Global;
@@ -117,9 +117,9 @@ impl Book {
 
     /// The numbers of all that have the name, in ascending order; numbers with other names of its digest may stand
     /// among them.
-    pub(crate) fn named(&self, name: &[u8]) -> &[Spot]
-        ensures rising { IsRising (λ (q : TheSpot). q.id) result.now }
-        ensures all { (t : Title) → In t self.now.titles → t.name ≡ name.now → In t.id (map (λ (q : TheSpot). q.id) result.now) }
+    pub(crate) fn named(&self, name: &[u8]) -> Spots<'_>
+        ensures rising { IsRising (λ (q : TheSpot). q.id) result }
+        ensures all { (t : Title) → In t self.now.titles → t.name ≡ name.now → In t.id (map (λ (q : TheSpot). q.id) result) }
     {
         self.rows.in_group(digest_of(name))
     }

@@ -10,7 +10,7 @@ ghost use Rattle.folder_nodes.specs.declared.walking.Way.TheVariants.{At};
 
 use crate::naming::{front_of, is_root, last_piece};
 use crate::spelling::{leads_to_file, leads_to_folder};
-use crate::spots::Spot;
+use crate::spots::Spots;
 use crate::trying::{files_to_try, first_file, first_folder, folders_to_try};
 use crate::walking::{Way, walk};
 use crate::{Names, Shape, path_ok};
@@ -133,27 +133,19 @@ fn file_node(file: Option<u32>) -> Option<Node>
 }
 
 /// The first of the folders that has the path.
-fn folder_with(spots: &[Spot], shape: &Shape, names: &Names, path: &[u8]) -> Option<u32>
+fn folder_with(mut spots: Spots<'_>, shape: &Shape, names: &Names, path: &[u8]) -> Option<u32>
     ensures { result ≡ option_map (λ (q : TheSpot). q.id)
-        (find (λ q. spelling.leads_to_folder (tree_store shape.now.tree names.now) q.id path.now) spots.now) }
+        (find (λ q. spelling.leads_to_folder (tree_store shape.now.tree names.now) q.id path.now) spots.entry) }
 {
-    for spot in spots {
-        if leads_to_folder(shape, names, spot.id, path) {
-            return Some(spot.id);
-        }
-    }
-    None
+    let first = spots.find(|spot| leads_to_folder(shape, names, spot.id, path))?;
+    Some(first.id)
 }
 
 /// The first of the files that has the path.
-fn file_with(spots: &[Spot], shape: &Shape, names: &Names, path: &[u8]) -> Option<u32>
+fn file_with(mut spots: Spots<'_>, shape: &Shape, names: &Names, path: &[u8]) -> Option<u32>
     ensures { result ≡ option_map (λ (q : TheSpot). q.id)
-        (find (λ q. spelling.leads_to_file (tree_store shape.now.tree names.now) q.id path.now) spots.now) }
+        (find (λ q. spelling.leads_to_file (tree_store shape.now.tree names.now) q.id path.now) spots.entry) }
 {
-    for spot in spots {
-        if leads_to_file(shape, names, spot.id, path) {
-            return Some(spot.id);
-        }
-    }
-    None
+    let first = spots.find(|spot| leads_to_file(shape, names, spot.id, path))?;
+    Some(first.id)
 }

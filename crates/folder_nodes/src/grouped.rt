@@ -8,9 +8,9 @@ ghost use Rattle.folder_nodes.specs.Ranking.{spot_rank};
 ghost use Rattle.folder_nodes.specs.declared.spots.Spot.{Spot as TheSpot};
 ghost use Rattle.sorted_table.specs.Rows.{IsRising, row_at, with_row, without, replaced};
 
-use crate::spots::Spot;
+use crate::spots::{Spot, Spots, are_none};
 use cry_base::Mem;
-use sorted_table::{Key, Ranked, Table, Walk};
+use sorted_table::{Blocks, Key, Ranked, Table, Walk};
 use std::alloc::Global;
 use std::cmp::Ordering;
 use std::marker::Model;
@@ -48,8 +48,8 @@ impl<T: Member> Key<T> for Number {
 /// `spare` is how many changes have their memory.
 #[derive(Drop)]
 pub(crate) struct Grouped<T: Member> {
-    rows: Table<T>,
-    spots: Table<Spot>,
+    rows: Blocks<T>,
+    spots: Blocks<Spot>,
 }
 
 impl<T: Member> Model for Grouped<T> {
@@ -70,8 +70,8 @@ impl<T: Member> Grouped<T> {
         ensures { result.rows ≡ [] }
     {
         Grouped {
-            rows: Table::new(alloc),
-            spots: Table::new(alloc),
+            rows: Blocks::new(alloc),
+            spots: Blocks::new(alloc),
         }
     }
 
@@ -80,14 +80,14 @@ impl<T: Member> Grouped<T> {
         ensures rows { result ≡ self.now.rows }
         ensures rising { IsRising T.rank self.now.rows }
     {
-        Walk::of(self.rows.as_slice())
+        self.rows.rows()
     }
 
     /// How many rows there are. It looks at none of them.
     pub(crate) fn len(&self) -> usize
         ensures { result ≡ length self.now.rows }
     {
-        self.rows.as_slice().len()
+        self.rows.len()
     }
 
     /// The row with the key's rank.
@@ -99,9 +99,9 @@ impl<T: Member> Grouped<T> {
     }
 
     /// The numbers of all rows of the group, in ascending order.
-    pub(crate) fn in_group(&self, group: u64) -> &[Spot]
-        ensures rising { IsRising (λ (q : TheSpot). q.id) result.now }
-        ensures all { (r : T) → In r self.now.rows → T.group r ≡ group → In (T.rank r) (map (λ (q : TheSpot). q.id) result.now) }
+    pub(crate) fn in_group(&self, group: u64) -> Spots<'_>
+        ensures rising { IsRising (λ (q : TheSpot). q.id) result }
+        ensures all { (r : T) → In r self.now.rows → T.group r ≡ group → In (T.rank r) (map (λ (q : TheSpot). q.id) result) }
     {
         spots_under(&self.spots, group)
     }
@@ -110,7 +110,18 @@ impl<T: Member> Grouped<T> {
     pub(crate) fn has_group(&self, group: u64) -> bool
         ensures { result ≡ list_any (λ r. T.group r == group) self.now.rows }
     {
-        !spots_under(&self.spots, group).is_empty()
+        !are_none(&spots_under(&self.spots, group))
+    }
+}
+
+impl<T: Member + Drop> Grouped<T> {
+    /// The rows of a table, with their index.
+    pub(crate) fn of_table(alloc: Global, rows: Table<T>) -> Mem<Self>
+        ensures { IfOk result (λ made. made.rows ≡ rows.rows) }
+    {
+        let spots = spots_of(alloc, rows.as_slice())?;
+        let rows = Blocks::of_table(alloc, rows)?;
+        Ok(Grouped { rows, spots })
     }
 
     /// Takes the memory of one change.
@@ -122,16 +133,6 @@ impl<T: Member> Grouped<T> {
     {
         self.rows.reserve(1)?;
         self.spots.reserve(1)
-    }
-}
-
-impl<T: Member + Drop> Grouped<T> {
-    /// The rows of a table, with their index.
-    pub(crate) fn of_table(alloc: Global, rows: Table<T>) -> Mem<Self>
-        ensures { IfOk result (λ made. made.rows ≡ rows.rows) }
-    {
-        let spots = spots_of(alloc, rows.as_slice())?;
-        Ok(Grouped { rows, spots })
     }
 
     /// Adds a row whose number no row has, where there is room. It takes no memory.
@@ -192,17 +193,17 @@ impl<T: Member + Copy> Grouped<T> {
 }
 
 /// The places in the group, in ascending order.
-fn spots_under(spots: &Table<Spot>, group: u64) -> &[Spot]
-    ensures places { result.now ≡ filter (λ q. nat_le (spot_rank group 0) (spot_rank q.group q.id)
+fn spots_under(spots: &Blocks<Spot>, group: u64) -> Spots<'_>
+    ensures places { result ≡ filter (λ q. nat_le (spot_rank group 0) (spot_rank q.group q.id)
         && nat_le (spot_rank q.group q.id) (spot_rank group 4294967295)) spots.now.rows }
-    ensures rising { IsRising (λ (q : TheSpot). spot_rank q.group q.id) result.now }
+    ensures rising { IsRising (λ (q : TheSpot). spot_rank q.group q.id) result }
 {
     let first = Spot { group, id: 0 };
     let last = Spot {
         group,
         id: u32::MAX,
     };
-    spots.rows_between(&first, &last)
+    spots.rows_between(&first, last)
 }
 
 /// Where the row stands in the index.
@@ -217,12 +218,12 @@ fn spot_in<T: Member>(row: &T) -> Spot
 }
 
 /// The index of the rows by their groups.
-fn spots_of<T: Member>(alloc: Global, rows: &[T]) -> Mem<Table<Spot>>
+fn spots_of<T: Member>(alloc: Global, rows: &[T]) -> Mem<Blocks<Spot>>
     requires { IsRising T.rank rows.now }
     ensures { IfOk result (λ spots. index.IsIndexed T.rank T.group rows.now spots.rows) }
 {
     let spots = spots_by_number(alloc, rows)?;
-    Ok(Table::of_unordered(spots))
+    Blocks::of_unordered(alloc, spots)
 }
 
 /// Where the rows stand in their groups, in the order of the rows.

@@ -7,7 +7,7 @@ ghost use Rattle.folder_nodes.specs.Inside.{AreListed, is_child_of, is_file_of};
 ghost use Rattle.folder_nodes.specs.declared.spots.Spot.{Spot as TheSpot};
 
 use crate::Shape;
-use crate::spots::Spot;
+use crate::spots::Spots;
 use cry_base::{FileId, FolderId, List, Mem};
 use std::alloc::Global;
 
@@ -51,9 +51,9 @@ impl Shape {
 }
 
 /// Those of the folders that are in the folder f.
-fn folders_among(alloc: Global, spots: &[Spot], shape: &Shape, f: FolderId) -> Mem<List<FolderId>>
+fn folders_among(alloc: Global, spots: Spots<'_>, shape: &Shape, f: FolderId) -> Mem<List<FolderId>>
     ensures { IfOk result (λ l. map (λ (g : AnyFolder). g.0) l.items
-        ≡ map (λ (q : TheSpot). q.id) (filter (λ q. is_child_of f.0 (folder_entry shape.now.tree q.id)) spots.now)) }
+        ≡ map (λ (q : TheSpot). q.id) (filter (λ q. is_child_of f.0 (folder_entry shape.now.tree q.id)) spots.entry)) }
 {
     let mut found = List::new(alloc);
     for spot in spots {
@@ -65,9 +65,9 @@ fn folders_among(alloc: Global, spots: &[Spot], shape: &Shape, f: FolderId) -> M
 }
 
 /// Those of the files that are in the folder.
-fn files_among(alloc: Global, spots: &[Spot], shape: &Shape, f: FolderId) -> Mem<List<FileId>>
+fn files_among(alloc: Global, spots: Spots<'_>, shape: &Shape, f: FolderId) -> Mem<List<FileId>>
     ensures { IfOk result (λ l. map (λ (x : AnyFile). x.0) l.items
-        ≡ map (λ (q : TheSpot). q.id) (filter (λ q. is_file_of f.0 (file_entry shape.now.tree q.id)) spots.now)) }
+        ≡ map (λ (q : TheSpot). q.id) (filter (λ q. is_file_of f.0 (file_entry shape.now.tree q.id)) spots.entry)) }
 {
     let mut found = List::new(alloc);
     for spot in spots {

@@ -8,7 +8,7 @@ ghost use Rattle.folder_nodes.specs.declared.spots.Spot.{Spot as TheSpot};
 ghost use Rattle.sorted_table.specs.Rows.{IsRising};
 
 use crate::book::Book;
-use crate::spots::Spot;
+use crate::spots::Spots;
 use cry_base::{FileId, Mem, Node, Text};
 use std::alloc::Global;
 use std::marker::Model;
@@ -101,17 +101,17 @@ impl Names {
     }
 
     /// The numbers of all folders that have the name, in ascending order, and maybe others among them.
-    pub(crate) fn folders_named(&self, name: &[u8]) -> &[Spot]
-        ensures rising { IsRising (λ (q : TheSpot). q.id) result.now }
-        ensures all { (t : Title) → In t self.now.folders → t.name ≡ name.now → In t.id (map (λ (q : TheSpot). q.id) result.now) }
+    pub(crate) fn folders_named(&self, name: &[u8]) -> Spots<'_>
+        ensures rising { IsRising (λ (q : TheSpot). q.id) result }
+        ensures all { (t : Title) → In t self.now.folders → t.name ≡ name.now → In t.id (map (λ (q : TheSpot). q.id) result) }
     {
         self.folders.named(name)
     }
 
     /// The numbers of all files that have the name, in ascending order, and maybe others among them.
-    pub(crate) fn files_named(&self, name: &[u8]) -> &[Spot]
-        ensures rising { IsRising (λ (q : TheSpot). q.id) result.now }
-        ensures all { (t : Title) → In t self.now.files → t.name ≡ name.now → In t.id (map (λ (q : TheSpot). q.id) result.now) }
+    pub(crate) fn files_named(&self, name: &[u8]) -> Spots<'_>
+        ensures rising { IsRising (λ (q : TheSpot). q.id) result }
+        ensures all { (t : Title) → In t self.now.files → t.name ≡ name.now → In t.id (map (λ (q : TheSpot). q.id) result) }
     {
         self.files.named(name)
     }

@@ -11,7 +11,7 @@ ghost use Rattle.folder_nodes.specs.Titles.{tree_store};
 ghost use Rattle.folder_nodes.specs.declared.spots.Spot.{Spot as TheSpot};
 
 use crate::naming::{count_names, last_piece};
-use crate::spots::Spot;
+use crate::spots::Spots;
 use crate::trying::{files_to_try, folders_to_try, is_file_in, is_folder_in};
 use crate::{Names, Shape};
 use cry_base::{DEPTH, FolderId, Node};
@@ -37,22 +37,18 @@ pub(crate) fn has_named(shape: &Shape, names: &Names, f: u32, name: &[u8]) -> bo
     has_file_in(files_to_try(shape, names, f, name), shape, names, f, name)
 }
 
-fn has_folder_in(spots: &[Spot], shape: &Shape, names: &Names, f: u32, name: &[u8]) -> bool
+fn has_folder_in(mut spots: Spots<'_>, shape: &Shape, names: &Names, f: u32, name: &[u8]) -> bool
     ensures { result ≡ list_any (λ (q : TheSpot). spelling.is_folder_in f name.now
-        (folder_entry (tree_store shape.now.tree names.now) q.id)) spots.now }
+        (folder_entry (tree_store shape.now.tree names.now) q.id)) spots.entry }
 {
-    spots
-        .iter()
-        .any(|spot| is_folder_in(shape, names, spot.id, f, name))
+    spots.any(|spot| is_folder_in(shape, names, spot.id, f, name))
 }
 
-fn has_file_in(spots: &[Spot], shape: &Shape, names: &Names, f: u32, name: &[u8]) -> bool
+fn has_file_in(mut spots: Spots<'_>, shape: &Shape, names: &Names, f: u32, name: &[u8]) -> bool
     ensures { result ≡ list_any (λ (q : TheSpot). spelling.is_file_in f name.now (file_entry (tree_store shape.now.tree names.now) q.id))
-        spots.now }
+        spots.entry }
 {
-    spots
-        .iter()
-        .any(|spot| is_file_in(shape, names, spot.id, f, name))
+    spots.any(|spot| is_file_in(shape, names, spot.id, f, name))
 }
 
 /// Whether another name in the folder of the node is this one.

@@ -13,7 +13,7 @@ ghost use Rattle.sorted_table.specs.Rows.{IsRising};
 
 use crate::grouped::Grouped;
 use crate::rows::{FileKey, FolderKey};
-use crate::spots::Spot;
+use crate::spots::Spots;
 use crate::{FileRow, FolderRow};
 use cry_base::{FileId, FolderId, Mem};
 use std::alloc::Global;
@@ -116,17 +116,17 @@ impl Shape {
     }
 
     /// The numbers of all folders in the folder, in ascending order.
-    pub(crate) fn folders_inside(&self, f: u32) -> &[Spot]
-        ensures rising { IsRising (λ (q : TheSpot). q.id) result.now }
-        ensures all { (e : FolderEntry) → In e self.now.tree.folders → e.parent ≡ f → In e.id (map (λ (q : TheSpot). q.id) result.now) }
+    pub(crate) fn folders_inside(&self, f: u32) -> Spots<'_>
+        ensures rising { IsRising (λ (q : TheSpot). q.id) result }
+        ensures all { (e : FolderEntry) → In e self.now.tree.folders → e.parent ≡ f → In e.id (map (λ (q : TheSpot). q.id) result) }
     {
         self.folders.in_group(u64::from(f))
     }
 
     /// The numbers of all files in the folder, in ascending order.
-    pub(crate) fn files_inside(&self, f: u32) -> &[Spot]
-        ensures rising { IsRising (λ (q : TheSpot). q.id) result.now }
-        ensures all { (e : FileEntry) → In e self.now.tree.files → e.folder ≡ f → In e.id (map (λ (q : TheSpot). q.id) result.now) }
+    pub(crate) fn files_inside(&self, f: u32) -> Spots<'_>
+        ensures rising { IsRising (λ (q : TheSpot). q.id) result }
+        ensures all { (e : FileEntry) → In e self.now.tree.files → e.folder ≡ f → In e.id (map (λ (q : TheSpot). q.id) result) }
     {
         self.files.in_group(u64::from(f))
     }

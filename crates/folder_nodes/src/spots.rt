@@ -1,5 +1,7 @@
 //! Where a row stands in an index: under the number of its group, beside the rows of that group.
-use sorted_table::{Key, Ranked};
+ghost use Rattle.std.specs.Prelude.{◌≡◌, ◌==◌, length, nat_le, nat_lt};
+
+use sorted_table::{Key, Ranked, Span};
 use std::cmp::Ordering;
 
 /// The number of a folder or file, under that of its group.
@@ -31,4 +33,45 @@ impl Key<Spot> for Spot {
     fn compare_row(&self, row: &Spot) -> Ordering {
         row.compare(self)
     }
+}
+
+/// The spots of one group that are still to come, in ascending order.
+pub(crate) type Spots<'a> = Span<'a, Spot, Spot>;
+
+/// The same spots once more.
+pub(crate) fn again<'a>(spots: &Spots<'a>) -> Spots<'a>
+    ensures { result ≡ spots.now }
+{
+    let Ok(copy) = spots.clone() else {
+        unreachable!();
+    };
+    copy
+}
+
+/// Whether no spots are left.
+pub(crate) fn are_none(spots: &Spots<'_>) -> bool
+    ensures { result ≡ (length spots.now == 0) }
+{
+    again(spots).next().is_none()
+}
+
+/// Whether there are at most so many spots. It looks at one more than that at the most.
+pub(crate) fn are_at_most(spots: &Spots<'_>, most: usize) -> bool
+    ensures { result ≡ nat_le (length spots.now) most }
+{
+    again(spots).nth(most).is_none()
+}
+
+/// Whether there are fewer spots than others. It looks at both until one ends, so it costs no more than the shorter.
+pub(crate) fn are_fewer(spots: &Spots<'_>, others: &Spots<'_>) -> bool
+    ensures { result ≡ nat_lt (length spots.now) (length others.now) }
+{
+    let mut left = again(spots);
+    let mut others_left = again(others);
+    while others_left.next().is_some() {
+        if left.next().is_none() {
+            return true;
+        }
+    }
+    false
 }

@@ -10,7 +10,7 @@ ghost use Rattle.folder_nodes.specs.declared.spots.Spot.{Spot as TheSpot};
 ghost use Rattle.sorted_table.specs.Rows.{IsRising};
 
 use crate::spelling::name_of;
-use crate::spots::Spot;
+use crate::spots::{Spots, are_at_most, are_fewer};
 use crate::{Names, Shape};
 use cry_base::{FileId, FolderId, Node};
 
@@ -24,43 +24,38 @@ pub(crate) fn folders_to_try<'a>(
     names: &'a Names,
     f: u32,
     name: &[u8],
-) -> &'a [Spot]
+) -> Spots<'a>
     requires { is_name name.now ≡ true }
-    ensures rising { IsRising (λ (q : TheSpot). q.id) result.now }
+    ensures rising { IsRising (λ (q : TheSpot). q.id) result }
     ensures all { (k : ℕ) → spelling.is_folder_in f name.now (folder_entry (tree_store shape.now.tree names.now) k) ≡ true
-        → In k (map (λ (q : TheSpot). q.id) result.now) }
+        → In k (map (λ (q : TheSpot). q.id) result) }
 {
     shape.is_tree();
     let inside = shape.folders_inside(f);
-    if inside.len() <= FEW {
+    if are_at_most(&inside, FEW) {
         return inside;
     }
     let named = names.folders_named(name);
-    if named.len() < inside.len() {
+    if are_fewer(&named, &inside) {
         return named;
     }
     inside
 }
 
 /// Numbers of files, in ascending order, among which are all that are in the folder and have the name.
-pub(crate) fn files_to_try<'a>(
-    shape: &'a Shape,
-    names: &'a Names,
-    f: u32,
-    name: &[u8],
-) -> &'a [Spot]
+pub(crate) fn files_to_try<'a>(shape: &'a Shape, names: &'a Names, f: u32, name: &[u8]) -> Spots<'a>
     requires { is_name name.now ≡ true }
-    ensures rising { IsRising (λ (q : TheSpot). q.id) result.now }
+    ensures rising { IsRising (λ (q : TheSpot). q.id) result }
     ensures all { (k : ℕ) → spelling.is_file_in f name.now (file_entry (tree_store shape.now.tree names.now) k) ≡ true
-        → In k (map (λ (q : TheSpot). q.id) result.now) }
+        → In k (map (λ (q : TheSpot). q.id) result) }
 {
     shape.is_tree();
     let inside = shape.files_inside(f);
-    if inside.len() <= FEW {
+    if are_at_most(&inside, FEW) {
         return inside;
     }
     let named = names.files_named(name);
-    if named.len() < inside.len() {
+    if are_fewer(&named, &inside) {
         return named;
     }
     inside
@@ -94,45 +89,37 @@ pub(crate) fn is_file_in(shape: &Shape, names: &Names, x: u32, f: u32, name: &[u
 
 /// The first of the folders that is in the folder f and has the name.
 pub(crate) fn first_folder(
-    spots: &[Spot],
+    mut spots: Spots<'_>,
     shape: &Shape,
     names: &Names,
     f: u32,
     name: &[u8],
 ) -> Option<u32>
     ensures { result ≡ option_map (λ (q : TheSpot). q.id)
-        (find (λ q. spelling.is_folder_in f name.now (folder_entry (tree_store shape.now.tree names.now) q.id)) spots.now) }
+        (find (λ q. spelling.is_folder_in f name.now (folder_entry (tree_store shape.now.tree names.now) q.id)) spots.entry) }
 {
-    for spot in spots {
-        if is_folder_in(shape, names, spot.id, f, name) {
-            return Some(spot.id);
-        }
-    }
-    None
+    let first = spots.find(|spot| is_folder_in(shape, names, spot.id, f, name))?;
+    Some(first.id)
 }
 
 /// The first of the files that is in the folder and has the name.
 pub(crate) fn first_file(
-    spots: &[Spot],
+    mut spots: Spots<'_>,
     shape: &Shape,
     names: &Names,
     f: u32,
     name: &[u8],
 ) -> Option<u32>
     ensures { result ≡ option_map (λ (q : TheSpot). q.id)
-        (find (λ q. spelling.is_file_in f name.now (file_entry (tree_store shape.now.tree names.now) q.id)) spots.now) }
+        (find (λ q. spelling.is_file_in f name.now (file_entry (tree_store shape.now.tree names.now) q.id)) spots.entry) }
 {
-    for spot in spots {
-        if is_file_in(shape, names, spot.id, f, name) {
-            return Some(spot.id);
-        }
-    }
-    None
+    let first = spots.find(|spot| is_file_in(shape, names, spot.id, f, name))?;
+    Some(first.id)
 }
 
 /// Whether another of the folders than g is in the folder f and has the name.
 pub(crate) fn has_another(
-    spots: &[Spot],
+    mut spots: Spots<'_>,
     shape: &Shape,
     names: &Names,
     g: u32,
@@ -140,7 +127,7 @@ pub(crate) fn has_another(
     name: &[u8],
 ) -> bool
     ensures { result ≡ list_any (λ (q : TheSpot). not (q.id == g)
-        && spelling.is_folder_in f name.now (folder_entry (tree_store shape.now.tree names.now) q.id)) spots.now }
+        && spelling.is_folder_in f name.now (folder_entry (tree_store shape.now.tree names.now) q.id)) spots.entry }
 {
-    spots.iter().any(|spot| spot.id != g && is_folder_in(shape, names, spot.id, f, name))
+    spots.any(|spot| spot.id != g && is_folder_in(shape, names, spot.id, f, name))
 }

@@ -7,6 +7,7 @@ ghost use Rattle.folder_nodes.specs.Titles.{tree_store};
 ghost use Rattle.folder_nodes.specs.Ways.{IsWay};
 
 use crate::naming::{behind_slash, first_piece};
+use crate::spots::again;
 use crate::trying::{first_folder, folders_to_try, has_another};
 use crate::{Names, Shape};
 use cry_base::ROOT;
@@ -25,7 +26,7 @@ pub(crate) fn only_folder(shape: &Shape, names: &Names, f: u32, name: &[u8]) -> 
     ensures { IsWay (λ k. spelling.is_folder_in f name.now (folder_entry (tree_store shape.now.tree names.now) k)) result }
 {
     let spots = folders_to_try(shape, names, f, name);
-    let Some(first) = first_folder(spots, shape, names, f, name) else {
+    let Some(first) = first_folder(again(&spots), shape, names, f, name) else {
         return Way::Nowhere;
     };
     if has_another(spots, shape, names, first, f, name) {

@@ -17,8 +17,7 @@ use grant_book::Grants;
 use record_format::Note;
 
 /// Whether the note fits: its row's condition holds, and the root stands where the note isn't the one that makes it. It
-/// goes up from the folders that the note names, and down from one that is moved. While the shape isn't arranged it looks at all folders
-/// and files for one that is moved or removed.
+/// goes up from the folders that the note names, and down from one that is moved.
 pub fn fits(shape: &Shape, grants: &Grants, note: &Note) -> bool
     ensures { result ≡ fits_store (seen_store shape.now.tree grants.now) (told_note note.now) }
 {

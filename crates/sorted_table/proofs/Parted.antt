@@ -3,6 +3,7 @@ use Rattle.std.proofs.Common.{◌≡◌, ℕ, zero, suc, ◌-◌, ◌<◌, ◌�
 use Rattle.std.specs.List.{All, AllPairs, AllWithin, insert, remove}
 use Rattle.std.specs.List.Sorted.{IsPartitionedBy, IsPartitionPoint}
 use Rattle.std.proofs.lemmas.Bool.{leb-true, leb-false, le-leb, cases_lt}
+use Rattle.std.proofs.lemmas.List.{get_or_default}
 use Rattle.std.proofs.lemmas.List.Elements.{All-nil, All-cons, All-head, All-tail, All-append, All-take, All-drop, All-weaker, All-from_all_within}
 use Rattle.std.proofs.lemmas.List.Kept.{AllPairs-cons}
 use Rattle.sorted_table.specs.Parts.{rows_of, first_rank, IsBlock, IsBlockFor}
@@ -166,3 +167,18 @@ module _ (T : Type 0) (rank : T → ℕ) where
     block_found (suc i) at is some le point =
         let here : i ≡ at = omega (arith, is) in
         subst (IsBlockFor rank blocks k) here (omega (arith, le), front i (omega (arith, le)) (λ d. point.0 i d (omega arith) (omega arith)), behind (suc i) point.1)
+
+    -- the block that starts by the rank, where the next one doesn't
+    pub block_here : (at : ℕ) (b : Tabled T) → at < length blocks → b ≡ get_or blocks at b → starts b ≡ true
+        → ((d : Tabled T) → suc at < length blocks → starts (get_or blocks (suc at) d) ≡ false) → IsBlockFor rank blocks k at
+    block_here at b within is told next = (
+      within,
+      front at within (λ d. ap starts (get_or_default blocks at d b within ∙ sym is) ∙ told),
+      behind (suc at) (λ j d low lt.
+          let after : suc at < length blocks = omega (arith, low, lt) in
+          let no = next d after in
+          (elim (starts (get_or blocks j d)) as (λ v. starts (get_or blocks j d) ≡ v → starts (get_or blocks j d) ≡ false) [
+            | true ↦ λ up. let early = parted (suc at) j d low lt up in cc
+            | false ↦ λ down. down
+          ]) refl),
+    )

@@ -1,5 +1,5 @@
 -- Rows that stand in blocks, one block behind another.
-use Rattle.std.specs.Prelude.{◌≡◌, ℕ, suc, ◌+◌, ◌-◌, ◌*◌, ◌<◌, ◌≤◌, List, [], ◌∷◌, length, take, drop}
+use Rattle.std.specs.Prelude.{◌≡◌, ℕ, suc, ◌+◌, ◌-◌, ◌*◌, ◌^◌, min, ◌<◌, ◌≤◌, List, [], ◌∷◌, length, take, drop}
 use Rattle.std.specs.List.{All, flat_map, sum_by}
 use Rattle.sorted_table.specs.Tabled.{Tabled}
 
@@ -29,12 +29,23 @@ IsBlockFor rank blocks k i =
 abbrev pub over : {T : Type 0} → Tabled T → ℕ
 over b = length b.rows - 97
 
--- those of all blocks; where there is none the first row will take a block, as one that comes to a full block does
+-- how many rows all blocks have, and how many of those are over
+abbrev pub all_rows : {T : Type 0} → List (Tabled T) → ℕ
+all_rows {T} blocks = sum_by (λ (b : Tabled T). length b.rows) blocks
+
+abbrev pub all_over : {T : Type 0} → List (Tabled T) → ℕ
+all_over {T} blocks = sum_by (λ (b : Tabled T). over b) blocks
+
+-- those that are over; where there is no block the first row will take one, as a row that comes to a full block does
 abbrev pub held : {T : Type 0} → List (Tabled T) → ℕ
 held [] = 31
-held {T} (b ∷ blocks) = over b + sum_by (λ (a : Tabled T). over a) blocks
+held {T} (b ∷ blocks) = all_over (b ∷ blocks)
 
 -- how many rows fit beside those that are there, wherever they go. Each block that waits gives room for one that comes to a full block,
 -- and then for 31 more before another block of these can be full
 abbrev pub spare_of : ℕ → ℕ → ℕ
 spare_of fresh rows = fresh + (31 * fresh + 31 - rows)
+
+-- the same, where the rows are counted in 64 bits
+abbrev pub room_for : ℕ → ℕ → ℕ → ℕ
+room_for fresh rows count = min (spare_of fresh rows) (2 ^ 64 - 1 - count)

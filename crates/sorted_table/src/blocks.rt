@@ -1,43 +1,56 @@
 //! Rows in ascending order of their ranks, in blocks: one that comes or goes moves no rows but those of its block.
-ghost use Rattle.std.specs.Prelude.{◌≡◌, ℕ, ◌+◌, ◌-◌, ◌*◌, ◌/◌, min, ◌<◌, ◌≤◌, ◌&&◌, [], length, vec_len, vec_capacity, All, nat_le, filter, IsOk, IsSome, OnOk, IfOk, MatchOption};
-ghost use Rattle.std.specs.Prelude.{◌≢◌, None, AllPairs};
+ghost use Rattle.std.specs.Prelude.{◌≡◌, ℕ, ◌+◌, ◌-◌, ◌*◌, ◌/◌, ◌^◌, min, ◌<◌, ◌≤◌, ◌&&◌, [], length, vec_len, vec_capacity, All, nat_le, filter, IsOk, IsSome, OnOk, IfOk, MatchOption};
+ghost use Rattle.std.specs.Prelude.{◌≢◌, None, AllPairs, IsTrue};
 ghost use Rattle.std.specs.List.Sorted.{IsPermutation};
 ghost use Rattle.std.specs.Option.{option_copied};
-ghost use Rattle.sorted_table.specs.Parts.{rows_of, held, IsBlock, IsBlockFor, IsFresh};
+ghost use Rattle.sorted_table.specs.Parts.{rows_of, all_over, held, IsBlock, IsBlockFor, IsFresh};
 ghost use Rattle.sorted_table.specs.Tabled.{Tabled};
 ghost use Rattle.sorted_table.specs.Rows.{IsRising, row_at, row_from, with_row, without, replaced};
 
-use crate::ranked::SameRank;
+use crate::ranked::{SameRank, Within};
 use crate::{Key, Ranked, Span, Table, Walk};
-use cry_base::Mem;
+use cry_base::{Mem, OutOfMemory};
 use std::alloc::Global;
 use std::marker::Model;
 
 /// How many rows a block has at the most.
 const MOST: usize = 128;
 
+/// How many rows a block keeps that has filled from its end. So rows that came in order, of which none went, stand so many to a block.
+const FILLED: usize = 96;
+
+/// How many rows a block that splits has then at the most.
+const LEFT: usize = 97;
+
 /// Rows in ascending order of their ranks, which all differ. `spare` is how many more fit without memory; it may be more than was
-/// asked for. A look-up compares about log2(n) times among n rows. A row that comes or goes moves no rows but those of its block;
-/// where a block splits or goes, the list of blocks moves too. From a table without rows on, that is one row in 32 that come.
+/// asked for. A look-up compares three times at the most where the key guesses its row's place, twice where the row goes behind all,
+/// and among n rows about log2(n) times elsewhere. A row that comes or goes moves no rows but those of its block; where a block
+/// splits or goes, the list of blocks moves too. From a table without rows on, that is one row in 32 that come.
 #[derive(Drop)]
 pub struct Blocks<T: Ranked> {
     blocks: Vec<Table<T>>,
+    // Blocks without rows, for those that split.
     fresh: Vec<Table<T>>,
+    // How many rows there are.
+    count: usize,
+    // How many of them stand in a block beyond those that a split leaves it.
+    beyond: usize,
 }
 
 impl<T: Ranked> Model for Blocks<T> {
-    ghost use Rattle.std.specs.Prelude.{◌≤◌, ◌+◌, length, All, vec_len, vec_capacity};
-    ghost use Rattle.sorted_table.specs.Parts.{rows_of, held, spare_of, IsBlock, IsFresh};
+    ghost use Rattle.std.specs.Prelude.{◌≡◌, ◌≤◌, ◌+◌, length, All, vec_len, vec_capacity};
+    ghost use Rattle.sorted_table.specs.Parts.{rows_of, all_rows, all_over, held, room_for, IsBlock, IsFresh};
     ghost use Rattle.sorted_table.specs.Rows.{IsRising};
     ghost use Rattle.sorted_table.specs.Tabled.{Tabled};
 
     ghost Value = { Tabled T };
 
-    ghost view = { λ t. record { rows = rows_of t.blocks.items; spare = spare_of (vec_len t.fresh) (held t.blocks.items) } };
+    ghost view = { λ t. record { rows = rows_of t.blocks.items; spare = room_for (vec_len t.fresh) (held t.blocks.items) t.count } };
 
     ghost invariant = { λ t. IsRising T.rank (rows_of t.blocks.items) × All (λ (b : Tabled T). IsBlock 128 b) t.blocks.items
         × All (λ (b : Tabled T). IsFresh 128 b) t.fresh.items × (vec_len t.blocks + vec_len t.fresh ≤ vec_capacity t.blocks)
-        × (vec_len t.blocks + vec_len t.fresh ≤ vec_capacity t.fresh) };
+        × (vec_len t.blocks + vec_len t.fresh ≤ vec_capacity t.fresh)
+        × (t.count ≡ all_rows t.blocks.items) × (t.beyond ≡ all_over t.blocks.items) };
 }
 
 impl<T: Ranked> Blocks<T> {
@@ -48,7 +61,16 @@ impl<T: Ranked> Blocks<T> {
         Blocks {
             blocks: Vec::new(alloc),
             fresh: Vec::new(alloc),
+            count: 0,
+            beyond: 0,
         }
+    }
+
+    /// How many rows there are, from a count that is kept.
+    pub fn len(&self) -> usize
+        ensures { result ≡ length self.now.rows }
+    {
+        self.count
     }
 
     /// The rows in ascending order, a table of some after another.
@@ -65,7 +87,10 @@ impl<T: Ranked> Blocks<T> {
         ensures rising { IsRising T.rank self.now.rows }
     {
         match block_for(&self.blocks, key) {
-            Some(at) => self.blocks[at].find(key),
+            Some(at) => self.blocks[at].find(&Within {
+                key,
+                before: start_of(at),
+            }),
             None => None,
         }
     }
@@ -86,7 +111,11 @@ impl<T: Ranked> Blocks<T> {
         let Some(at) = block_for(&self.blocks, key) else {
             return Walk::new(&[], &[]);
         };
-        Walk::new(self.blocks[at].rows_from(key), &self.blocks[at + 1..])
+        let within = Within {
+            key,
+            before: start_of(at),
+        };
+        Walk::new(self.blocks[at].rows_from(&within), &self.blocks[at + 1..])
     }
 
     /// The rows with ranks from that of the first key up to that of the last one, in ascending order.
@@ -103,7 +132,11 @@ impl<T: Ranked> Blocks<T> {
         ensures { option_copied result ≡ row_from T.rank self.now.rows (K.sought key.now) }
     {
         let at = block_for(&self.blocks, key)?;
-        match self.blocks[at].first_from(key) {
+        let within = Within {
+            key,
+            before: start_of(at),
+        };
+        match self.blocks[at].first_from(&within) {
             Some(row) => Some(row),
             None if at + 1 < self.blocks.len() => self.blocks[at + 1].first_from(key),
             None => None,
@@ -124,29 +157,34 @@ impl<T: Ranked + Drop> Blocks<T> {
     pub fn of_table(alloc: Global, mut rows: Table<T>) -> Mem<Self>
         ensures { IfOk result (λ made. made.rows ≡ rows.rows) }
     {
-        let mut blocks = Vec::with_capacity(alloc, rows.as_slice().len().div_ceil(MOST))?;
+        let count = rows.len();
+        let mut blocks = Vec::with_capacity(alloc, count.div_ceil(FILLED))?;
         while rows.len() > 0 {
             let mut block = Table::with_room(alloc, MOST)?;
-            rows.move_tail(rows.len().saturating_sub(MOST), &mut block);
+            rows.move_tail((rows.len() - 1) / FILLED * FILLED, &mut block);
             blocks.push(block)?;
         }
         blocks.reverse();
         let fresh = Vec::with_capacity(alloc, blocks.len())?;
-        Ok(Blocks { blocks, fresh })
+        Ok(Blocks {
+            blocks,
+            fresh,
+            count,
+            beyond: 0,
+        })
     }
 
-    /// Makes room for at least `more` rows beside those that are there.
+    /// Makes room for at least `more` rows beside those that are there. Where there is room it only compares counts.
     pub fn reserve(&mut self, more: usize) -> Mem<()>
         ensures rows { self.new.rows ≡ self.old.rows }
         ensures room { OnOk result (more ≤ self.new.spare) }
         ensures kept { self.old.spare ≤ self.new.spare }
         ensures has_room { more ≤ self.old.spare → IsOk result }
     {
-        // Most calls want one row, and a block that waits is enough without a look at the others.
-        if more <= self.fresh.len() {
-            return Ok(());
+        if more > usize::MAX - self.count {
+            return Err(OutOfMemory);
         }
-        let wanted = blocks_for(more, &self.blocks);
+        let wanted = blocks_for(more, rows_held(&self.blocks, self.beyond));
         if wanted <= self.fresh.len() {
             return Ok(());
         }
@@ -166,6 +204,7 @@ impl<T: Ranked + Drop> Blocks<T> {
         ensures rows { self.new.rows ≡ with_row T.rank self.old.rows row }
         ensures spare { self.old.spare ≤ self.new.spare + 1 }
     {
+        self.count += 1;
         let Some(at) = block_for(&self.blocks, &SameRank(&row)) else {
             let mut block = take_fresh(&mut self.fresh);
             block.insert(row);
@@ -173,10 +212,13 @@ impl<T: Ranked + Drop> Blocks<T> {
             return;
         };
         let block = &mut self.blocks[at];
-        if block.len() < MOST {
+        let rows = block.len();
+        if rows < MOST {
+            self.beyond += over(rows + 1) - over(rows);
             block.insert(row);
             return;
         }
+        self.beyond -= over(rows);
         let mut upper = take_fresh(&mut self.fresh);
         block.split(row, &mut upper);
         let _ = self.blocks.insert(at + 1, upper);
@@ -214,8 +256,15 @@ impl<T: Ranked + Drop> Blocks<T> {
     {
         let at = block_for(&self.blocks, key)?;
         let block = &mut self.blocks[at];
-        let row = block.remove(key);
-        if block.len() != 0 {
+        let before = block.len();
+        let row = block.remove(&Within {
+            key,
+            before: start_of(at),
+        });
+        let after = block.len();
+        self.count -= before - after;
+        self.beyond -= over(before) - over(after);
+        if after != 0 {
             return row;
         }
         let block = self.blocks.remove(at);
@@ -235,21 +284,49 @@ impl<T: Ranked + Copy> Blocks<T> {
             blocks.push(self.blocks[at].copy_with_room(MOST)?)?;
         }
         let fresh = Vec::with_capacity(alloc, blocks.len())?;
-        Ok(Blocks { blocks, fresh })
+        Ok(Blocks {
+            blocks,
+            fresh,
+            count: self.count,
+            beyond: self.beyond,
+        })
     }
 }
 
-// The block in which the key's row is, or would go.
+// The block in which the key's row is, or would go. Two comparisons find the one that the key guesses.
 fn block_for<T: Ranked, K: Key<T>>(blocks: &[Table<T>], key: &K) -> Option<usize>
     requires rising { IsRising T.rank (rows_of blocks.now) }
     requires filled { All (IsBlock 128) blocks.now }
     ensures { MatchOption result (length blocks.now ≤ 0) (IsBlockFor T.rank blocks.now (K.sought key.now)) }
 {
-    if blocks.is_empty() {
-        return None;
+    let last = blocks.len().checked_sub(1)?;
+    let guessed = (key.guess() / FILLED).min(last);
+    if is_block_for(blocks, guessed, key) {
+        return Some(guessed);
     }
     let behind = blocks.partition_point(|block| block.starts_by(key));
     Some(behind.saturating_sub(1))
+}
+
+// Whether the key's row stands in this block if anywhere: whether the block starts by the key and the next one doesn't.
+fn is_block_for<T: Ranked, K: Key<T>>(blocks: &[Table<T>], at: usize, key: &K) -> bool
+    requires within { at < length blocks.now }
+    requires rising { IsRising T.rank (rows_of blocks.now) }
+    requires filled { All (IsBlock 128) blocks.now }
+    ensures { IsTrue result → IsBlockFor T.rank blocks.now (K.sought key.now) at }
+{
+    if !blocks[at].starts_by(key) {
+        return false;
+    }
+    if at + 1 == blocks.len() {
+        return true;
+    }
+    !blocks[at + 1].starts_by(key)
+}
+
+// The place that a block's first row has among all rows, where rows came in order and none went.
+fn start_of(block: usize) -> usize {
+    block.saturating_mul(FILLED)
 }
 
 // Takes an empty block from those that wait.
@@ -268,26 +345,29 @@ fn take_fresh<T: Ranked>(fresh: &mut Vec<Table<T>>) -> Table<T>
 }
 
 // How many blocks have to wait so that so many rows fit.
-fn blocks_for<T: Ranked>(more: usize, blocks: &[Table<T>]) -> usize
-    requires { All (IsBlock 128) blocks.now }
-    ensures { result ≡ min more ((more + held blocks.now) / 32) }
+fn blocks_for(more: usize, held: u128) -> usize
+    requires { held < 2 ^ 72 }
+    ensures { result ≡ min more ((more + held) / 32) }
 {
     let rows = more as u128;
-    rows.min((rows + rows_held(blocks)) / 32) as usize
+    rows.min((rows + held) / 32) as usize
 }
 
 // The rows that stand in the way of room, as `spare` counts it.
-fn rows_held<T: Ranked>(blocks: &[Table<T>]) -> u128
-    requires { All (IsBlock 128) blocks.now }
+fn rows_held<T: Ranked>(blocks: &[Table<T>], beyond: usize) -> u128
+    requires { beyond ≡ all_over blocks.now }
     ensures rows { result ≡ held blocks.now }
-    ensures small { result ≤ 31 * length blocks.now + 31 }
+    ensures small { result < 2 ^ 72 }
 {
     if blocks.is_empty() {
         return 31;
     }
-    let mut rows = 0;
-    for at in 0..blocks.len() {
-        rows += blocks[at].len().saturating_sub(97) as u128;
-    }
-    rows
+    beyond as u128
+}
+
+// Of so many rows of a block, those beyond the ones that a split leaves it.
+fn over(rows: usize) -> usize
+    ensures { result ≡ rows - 97 }
+{
+    rows.saturating_sub(LEFT)
 }

@@ -39,3 +39,22 @@ impl<'a, T: Ranked> Key<T> for SameRank<'a, T> {
         row.compare(self.0)
     }
 }
+
+/// A key to the rows from a place on, which guesses the place among them.
+#[derive(Drop)]
+pub(crate) struct Within<'a, K> {
+    pub(crate) key: &'a K,
+    pub(crate) before: usize,
+}
+
+impl<'a, T: Ranked, K: Key<T>> Key<T> for Within<'a, K> {
+    ghost sought = { λ within. K.sought within.key.now };
+
+    fn compare_row(&self, row: &T) -> Ordering {
+        self.key.compare_row(row)
+    }
+
+    fn guess(&self) -> usize {
+        self.key.guess().saturating_sub(self.before)
+    }
+}

@@ -236,6 +236,7 @@ impl<T: Ranked + Drop> Table<T> {
         requires empty { upper.old.rows ≡ [] }
         requires room { 128 ≤ upper.old.spare }
         ensures rows { self.new.rows ++ upper.new.rows ≡ with_row T.rank self.old.rows row }
+        ensures count { length self.new.rows + length upper.new.rows ≡ 129 }
         ensures left { (1 ≤ length self.new.rows) × (length self.new.rows ≤ 97) }
         ensures moved { (1 ≤ length upper.new.rows) × (length upper.new.rows ≤ 97) }
         ensures spare { length self.old.rows + self.old.spare ≤ length self.new.rows + self.new.spare }

@@ -1,6 +1,10 @@
 use Rattle.std.proofs.Common.{◌≢◌, sym, subst}
 use Rattle.std.specs.List.{AllPairs}
+use Rattle.std.specs.List.Sorted.{IsPermutation}
+use Rattle.std.proofs.lemmas.Result.{IfOk-weaker}
+use Rattle.folder_nodes.specs.Indexing.{IsIndexed}
 use Rattle.folder_nodes.specs.declared.spots.Spot.{Spot}
+use Rattle.sorted_table.specs.Tabled.{Tabled}
 use Rattle.folder_nodes.proofs.Indexed.{by_spot, index_of, places_apart}
 use Rattle.folder_nodes.proofs.grouped.spots_of.Goals as goal
 
@@ -11,5 +15,9 @@ of_unordered-requires g c =
 
 pub returns : goal.returns
 returns g c =
-    index_of g.row.T.Denot g.T.Ranked.rank g.T.Member.group c.args.rows.now c.in_ok-spots.spots.items c.of_unordered.result.rows
-    c.in_ok-spots.ensures.small c.in_ok-spots.ensures.spots c.of_unordered.ensures
+    IfOk-weaker c.of_unordered.result
+    (λ (made : Tabled Spot). IsPermutation c.in_ok-spots.spots.items made.rows)
+    (λ (made : Tabled Spot). IsIndexed g.T.Ranked.rank g.T.Member.group c.args.rows.now made.rows)
+    (λ made moved. index_of g.row.T.Denot g.T.Ranked.rank g.T.Member.group c.args.rows.now c.in_ok-spots.spots.items made.rows
+    c.in_ok-spots.ensures.small c.in_ok-spots.ensures.spots moved)
+    c.of_unordered.ensures

@@ -13,6 +13,6 @@ returns g c =
     let blocks = c.args.blocks.now in
     let point = IsPartitionPoint-from_clause (λ (b : Tabled T). nat_le (first_rank rank b.rows) k) blocks c.partition_point-behind.result
     c.partition_point-behind.ensures.partitioned (parted T rank blocks k c.requires.rising c.requires.filled) (λ a r f' called. search rules) in
-    let some : 1 ≤ length blocks = grind (arith, c.is_empty.ensures, c.if-is_empty.ensures) in
+    let some : 1 ≤ length blocks = grind (arith, c.checked_sub.ensures, c.branch-last.ensures, c.in_ok-last.ensures) in
     block_found T rank blocks k c.requires.rising c.requires.filled c.partition_point-behind.result c.saturating_sub.result (omega (arith, c.saturating_sub.ensures))
     some c.partition_point-behind.ensures.bound point

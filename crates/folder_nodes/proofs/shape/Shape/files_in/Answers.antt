@@ -12,7 +12,7 @@ pub returns : goal.returns
 returns c =
     let s = c.args.self.now.tree in
     let f = c.args.f.0 in
-    let spots = c.files_inside.result.now in
+    let spots = c.files_inside.result in
     IfOk-weaker c.files_among.result
     (λ (l : Listed FileId). map (λ (g : FileId). g.0) l.items ≡ map (λ (q : Spot). q.id) (filter (λ (q : Spot). is_file_of f (file_entry s q.id)) spots))
     (λ (l : Listed FileId). AreListed (λ g. is_file_of f (file_entry s g)) (map (λ (g : FileId). g.0) l.items))

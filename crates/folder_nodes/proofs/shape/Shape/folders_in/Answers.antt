@@ -12,7 +12,7 @@ pub returns : goal.returns
 returns c =
     let s = c.args.self.now.tree in
     let f = c.args.f.0 in
-    let spots = c.folders_inside.result.now in
+    let spots = c.folders_inside.result in
     IfOk-weaker c.folders_among.result
     (λ (l : Listed FolderId). map (λ (g : FolderId). g.0) l.items ≡ map (λ (q : Spot). q.id) (filter (λ (q : Spot). is_child_of f (folder_entry s q.id)) spots))
     (λ (l : Listed FolderId). AreListed (λ g. is_child_of f (folder_entry s g)) (map (λ (g : FolderId). g.0) l.items))

@@ -4,6 +4,7 @@ use Rattle.std.proofs.lemmas.List.Elements.{All-set}
 use Rattle.sorted_table.specs.Parts.{IsBlockFor, IsBlock}
 use Rattle.sorted_table.specs.Tabled.{Tabled}
 use Rattle.sorted_table.proofs.Blocked.{block_row_at, block_replaced, block_is, rising_still}
+use Rattle.sorted_table.proofs.Spared.{rows_set, over_set}
 use Rattle.sorted_table.proofs.blocks.Blocks.replace.Goals as goal
 
 pub replace-requires : goal.replace-requires
@@ -28,13 +29,17 @@ invariant_of-self g c =
     let some = full.0 in
     let small = full.1 in
     let most = full.2 in
-    let still : IsBlock 128 after = (omega (arith, size, some), omega (arith, size, small), omega (arith, size, told.spare, most)) in (
+    let still : IsBlock 128 after = (omega (arith, size, some), omega (arith, size, small), omega (arith, size, told.spare, most)) in
+    let sum = rows_set _ blocks c.in-Some.at place.0 block here after in
+    let heavy = over_set _ blocks c.in-Some.at place.0 block here after in (
       rising_still _ rank _ blocks c.in-Some.at place block here kept.0 kept.1 c.args.row _
           (block_replaced _ rank _ blocks c.in-Some.at place block here c.args.row refl after told.rows),
       All-set (λ (b : Tabled g.row.T.Denot). IsBlock 128 b) blocks c.in-Some.at after still kept.1,
       kept.2,
       kept.3,
       kept.4,
+      omega (arith, sum, size, kept.5),
+      omega (arith, heavy, size, kept.6),
     )
 
 pub returns-clause-rows : goal.returns-clause-rows

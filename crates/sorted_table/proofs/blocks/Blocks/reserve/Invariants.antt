@@ -6,6 +6,8 @@ use Rattle.sorted_table.proofs.blocks.Blocks.reserve.Given as goal
 abbrev pub invariant-loop-self : goal.invariant-loop-self
 invariant-loop-self g l =
     (l.self-inside.blocks ≡ l.initial.self-inside.blocks)
+    × (l.self-inside.count ≡ l.initial.self-inside.count)
+    × (l.self-inside.beyond ≡ l.initial.self-inside.beyond)
     × All (λ (b : Tabled g.row.T.Denot). IsFresh 128 b) l.self-inside.fresh.items
     × (vec_len l.initial.self-inside.fresh ≤ vec_len l.self-inside.fresh)
     × (vec_len l.self-inside.fresh ≤ l.wanted)
