@@ -5,7 +5,6 @@ ghost use Rattle.chacha_seal.specs.Sealing.{cipher_key, seal_tag};
 use crate::derived::Derived;
 use crate::{HolderK, Nonce, OwnerK};
 use cry_base::{HolderId, Serial};
-use hmac_seal::tags_equal;
 use std::cell::OnceCell;
 use std::fmt;
 use std::marker::{Model, PhantomData};
@@ -103,7 +102,7 @@ impl<K> Key<K> {
         ensures { IfSome result (λ derived. derived.now ≡ self.now.bytes) }
     {
         let derived = self.derived.try_get_or_init(|| Derived::of(&self.bytes))?;
-        if tags_equal(derived.bytes(), &self.bytes) {
+        if *derived.bytes() == self.bytes {
             Some(derived)
         } else {
             None
