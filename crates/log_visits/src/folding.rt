@@ -50,8 +50,7 @@ pub fn take_batch(
 }
 
 /// What stands in public after the batches of a log, in order. `Damaged` comes exactly for the first payload that doesn't
-/// fit what stands before it, with the place of its first byte. The owner's key has the serial 0 in it. The tree is in order for
-/// look-ups by path.
+/// fit what stands before it, with the place of its first byte. The owner's key has the serial 0 in it.
 pub fn fold(alloc: Global, log: &[Placed]) -> Result<PublicState, ClientFault>
     requires epochs { AreInEpochs 0 (map plain_placed log.now) }
     ensures answer { AnswersBy IsSeenAs result (folded nothing (map plain_placed log.now)) }
@@ -62,6 +61,5 @@ pub fn fold(alloc: Global, log: &[Placed]) -> Result<PublicState, ClientFault>
     for placed in log {
         take_batch(alloc, &mut state, placed)?;
     }
-    state.arrange(alloc)?;
     Ok(state)
 }

@@ -2,7 +2,6 @@
 ghost use Rattle.std.specs.Prelude.{◌≡◌, ◌≢◌, ◌<◌, ◌++◌, ◌∷◌, [], All, Bool, Err, IfOk, IfSome, IsTrue, List, OnOk, map};
 ghost use Rattle.std.specs.List.{AllByRecursion};
 ghost use Rattle.commit_journal.specs.Places.{IsStanding};
-ghost use Rattle.cry_base.specs.Store.{Store};
 ghost use Rattle.cry_base.specs.declared.roles.Role.{Role as TheRole};
 ghost use Rattle.cry_base.specs.declared.roles.Role.TheVariants.{Owner};
 ghost use Rattle.log_visits.specs.Answering.{AnswersBy};
@@ -26,7 +25,7 @@ use crate::visit_list::{Visit, owner_visits};
 use crate::visiting::visit_edge;
 use chacha_seal::{Key, OwnerK};
 use commit_journal::Placed;
-use cry_base::{Edge, Mem};
+use cry_base::Edge;
 use folder_nodes::Names;
 use key_links::KeyRing;
 use public_fold::PublicState;
@@ -136,22 +135,10 @@ pub fn visit_each<S, R: Records<S>>(
     Ok(view)
 }
 
-/// What was opened, with the names in order for look-ups by path.
-fn arranged(alloc: Global, view: OwnersView) -> Mem<OwnersView>
-    ensures ring { IfOk result (λ x. x.ring ≡ view.ring) }
-    ensures opened { IfOk result (λ x. (bare : Store) (o : Opened) → IsOpenedBy bare view o → IsOpenedBy bare x o) }
-    ensures sized { IfOk result (λ x. AreSized view.names → AreSized x.names) }
-{
-    let OwnersView { ring, names } = view;
-    let mut names = names;
-    names.arrange(alloc)?;
-    Ok(OwnersView { ring, names })
-}
-
 /// Opens all of a store that the owner's key opens: every key, every name, all bytes, and the holders' keys. Its answer is
 /// that of the owner's visits one after another: `Damaged` behind the header where a record is missing, `Tampered` with the
 /// place of the first record whose tag is wrong, `Damaged` with the place of the first content whose text has another form.
-/// `OutOfMemory` may come at any time, and no disk is touched. The names are in order for look-ups by path.
+/// `OutOfMemory` may come at any time, and no disk is touched.
 pub fn open_all(
     alloc: Global,
     state: &PublicState,
@@ -174,6 +161,5 @@ pub fn open_all(
         ring: KeyRing::new(alloc, owner),
         names: Names::new(alloc),
     };
-    let view = visit_each(alloc, state, &indexed, &mut (), visits.as_slice(), begun)?;
-    Ok(arranged(alloc, view)?)
+    visit_each(alloc, state, &indexed, &mut (), visits.as_slice(), begun)
 }

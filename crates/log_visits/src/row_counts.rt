@@ -11,8 +11,8 @@ const FEW: usize = 64;
 pub(crate) fn most_rows(state: &PublicState) -> usize
     ensures { result ≡ min (spec.most_rows state.now) (2 ^ 64 - 1) }
 {
-    let folders = state.shape().folders().len();
-    let files = state.shape().files().len();
+    let folders = state.shape().folder_count();
+    let files = state.shape().file_count();
     let grants = state.grants().pairs().len();
     let holders = state.grants().holders() as usize;
     folders

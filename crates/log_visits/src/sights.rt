@@ -17,6 +17,7 @@ use cry_base::{FolderId, HolderId, Mem};
 use folder_nodes::{FolderRow, Shape};
 use grant_book::Grants;
 use public_fold::PublicState;
+use sorted_table::Walk;
 use std::alloc::Global;
 use std::collections::HashSet;
 
@@ -107,8 +108,8 @@ fn owners_sight(shape: &Shape, row: &FolderRow) -> Sight
     }
 }
 
-fn owners_sights(alloc: Global, shape: &Shape, rows: &[FolderRow]) -> Mem<Vec<Sight>>
-    ensures { IfOk result (λ l. l.items ≡ map (spec.owners_sight shape.now.tree) rows.now) }
+fn owners_sights(alloc: Global, shape: &Shape, rows: Walk<'_, FolderRow>) -> Mem<Vec<Sight>>
+    ensures { IfOk result (λ l. l.items ≡ map (spec.owners_sight shape.now.tree) rows.entry) }
 {
     let mut sights = Vec::new(alloc);
     for row in rows {
@@ -147,9 +148,9 @@ fn holders_sights(
     shape: &Shape,
     grants: &Grants,
     h: HolderId,
-    rows: &[FolderRow],
+    rows: Walk<'_, FolderRow>,
 ) -> Mem<Vec<Sight>>
-    ensures { IfOk result (λ l. l.items ≡ map (spec.holders_sight shape.now.tree grants.now.pairs h.0) rows.now) }
+    ensures { IfOk result (λ l. l.items ≡ map (spec.holders_sight shape.now.tree grants.now.pairs h.0) rows.entry) }
 {
     let above = above_grants(alloc, shape, grants, h)?;
     let mut sights = Vec::new(alloc);

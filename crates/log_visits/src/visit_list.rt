@@ -22,6 +22,7 @@ use cry_base::{Edge, FileId, FolderId, HolderId, Mem};
 use folder_nodes::FileRow;
 use public_fold::PublicState;
 use role_graph::kinds;
+use sorted_table::Walk;
 use std::alloc::Global;
 use std::collections::HashMap;
 
@@ -244,8 +245,8 @@ pub fn visits_to_names(alloc: Global, viewer: Viewer, sights: &[Sight]) -> Mem<V
 }
 
 /// Adds two visits for each file.
-fn push_files(visits: &mut Vec<Visit>, files: &[FileRow]) -> Mem<()>
-    ensures { OnOk result (visits.new.items ≡ visits.old.items ++ flat_map (λ r. list.file_part r.folder r.id) files.now) }
+fn push_files(visits: &mut Vec<Visit>, files: Walk<'_, FileRow>) -> Mem<()>
+    ensures { OnOk result (visits.new.items ≡ visits.old.items ++ flat_map (λ r. list.file_part r.folder r.id) files.entry) }
 {
     for file in files {
         visits.extend_from_slice(&of_file(file))?;

@@ -45,7 +45,7 @@ impl PublicState {
         if !has_records(ready.skeleton(), payload) {
             return Err(FoldFault::Unfit);
         }
-        self.make_room(&ready)?;
+        self.reserve(&ready)?;
         self.settle(ready);
         Ok(())
     }

@@ -9,15 +9,15 @@ use crate::KeyHead;
 use crate::key_rows::{KeyRow, put_row, remove_row, serial_among};
 use crate::kinds::{KINDS, kind_of};
 use cry_base::{Mem, Role, Serial};
-use sorted_table::Table;
+use sorted_table::Blocks;
 use std::alloc::Global;
 use std::marker::Model;
 
 /// One key a role. Numbers rise within a kind of role, so that a key that comes for a new folder or file stands behind all others in its
-/// table, and one that goes moves those of its own kind alone. `spare` is how many more fit without memory, of whatever kinds.
+/// table, and one that goes moves those of its own block alone. `spare` is how many more fit without memory, of whatever kinds.
 #[derive(Drop)]
 pub(crate) struct KeysByKind {
-    tables: [Table<KeyRow>; KINDS],
+    tables: [Blocks<KeyRow>; KINDS],
 }
 
 impl Model for KeysByKind {
@@ -38,13 +38,13 @@ impl KeysByKind {
     {
         KeysByKind {
             tables: [
-                Table::new(alloc),
-                Table::new(alloc),
-                Table::new(alloc),
-                Table::new(alloc),
-                Table::new(alloc),
-                Table::new(alloc),
-                Table::new(alloc),
+                Blocks::new(alloc),
+                Blocks::new(alloc),
+                Blocks::new(alloc),
+                Blocks::new(alloc),
+                Blocks::new(alloc),
+                Blocks::new(alloc),
+                Blocks::new(alloc),
             ],
         }
     }

@@ -6,7 +6,7 @@ ghost use Rattle.role_graph.specs.Roles.{same_role};
 
 use crate::KeyHead;
 use cry_base::{Role, Serial};
-use sorted_table::{Key, Ranked, Table};
+use sorted_table::{Blocks, Key, Ranked};
 use std::cmp::Ordering;
 
 /// A key's serial beside its role's place. Rows are compared and moved by these numbers alone.
@@ -74,7 +74,7 @@ impl Key<KeyRow> for RolePlace {
 }
 
 /// The serial of the role's key among the rows.
-pub(crate) fn serial_among(rows: &Table<KeyRow>, role: Role) -> Option<Serial>
+pub(crate) fn serial_among(rows: &Blocks<KeyRow>, role: Role) -> Option<Serial>
     ensures { option_map (λ serial. serial.0) result ≡ serial_at rows.now.rows role }
 {
     match rows.find(&RolePlace::of(role)) {
@@ -84,7 +84,7 @@ pub(crate) fn serial_among(rows: &Table<KeyRow>, role: Role) -> Option<Serial>
 }
 
 /// Puts the key into the place of its role's, or beside the others where the role has none.
-pub(crate) fn put_row(rows: &mut Table<KeyRow>, key: KeyHead)
+pub(crate) fn put_row(rows: &mut Blocks<KeyRow>, key: KeyHead)
     requires { 1 ≤ rows.old.spare }
     ensures serials { (role : AnyRole) → serial_at rows.new.rows role
         ≡ cond (same_role key.0 role) (Some key.1) (serial_at rows.old.rows role) }
@@ -99,7 +99,7 @@ pub(crate) fn put_row(rows: &mut Table<KeyRow>, key: KeyHead)
 }
 
 /// Takes out the role's key, where it has one.
-pub(crate) fn remove_row(rows: &mut Table<KeyRow>, gone: Role)
+pub(crate) fn remove_row(rows: &mut Blocks<KeyRow>, gone: Role)
     ensures serials { (role : AnyRole) → serial_at rows.new.rows role ≡ cond (same_role role gone) None (serial_at rows.old.rows role) }
     ensures spare { rows.old.spare ≤ rows.new.spare }
 {

@@ -119,18 +119,8 @@ impl PublicState {
         })
     }
 
-    /// Takes the memory that the prepared change of a command wants of this state, whose tree it first puts in order for look-ups by
-    /// path. At `Err` the state is as it was, but for room.
-    pub fn reserve(&mut self, alloc: Global, ready: &Prepared) -> Mem<()>
-        ensures content { self.new ≡ with_room_of self.old self.new }
-        ensures room { OnOk result (HasRoomFor self.new ready.now) }
-    {
-        self.arrange(alloc)?;
-        self.make_room(ready)
-    }
-
     /// Takes the memory that the prepared change wants of this state. At `Err` the state is as it was, but for room.
-    pub(crate) fn make_room(&mut self, ready: &Prepared) -> Mem<()>
+    pub fn reserve(&mut self, ready: &Prepared) -> Mem<()>
         ensures content { self.new ≡ with_room_of self.old self.new }
         ensures room { OnOk result (HasRoomFor self.new ready.now) }
     {

@@ -142,13 +142,6 @@ impl PublicState {
         }
     }
 
-    /// Puts the tree in order for look-ups by path (`Shape::arrange`). The state is as it was, but for room.
-    pub fn arrange(&mut self, alloc: Global) -> Mem<()>
-        ensures { self.new ≡ with_room_of self.old self.new }
-    {
-        self.shape.arrange(alloc)
-    }
-
     /// An equal state, with memory of its own. It copies all that stands.
     pub fn copy(&self) -> Mem<PublicState>
         ensures { IfOk result (λ s. s ≡ with_room_of self.now s) }

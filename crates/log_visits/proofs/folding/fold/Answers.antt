@@ -1,9 +1,6 @@
-use Rattle.std.proofs.Common.{◌≡◌, ◌+◌, ◌<◌, ◌≤◌, length, drop, map, subst, sym, arith}
+use Rattle.std.proofs.Common.{◌+◌, ◌<◌, ◌≤◌, length, drop, map, subst, arith}
 use Rattle.std.proofs.lemmas.Result.{err_from_is_err_and}
 use Rattle.commit_journal.specs.Placed.{plain_placed}
-use Rattle.cry_base.specs.declared.roles.Role.TheVariants.{Owner}
-use Rattle.public_fold.specs.KeyStep.{present}
-use Rattle.public_fold.specs.Standing.{IsSeenAs, PublicView}
 use Rattle.log_visits.proofs.Folded.{IsFoldedTo, folding_begins, folding_fails, folding_goes_on, folding_ends, rest_from, rest_behind, batch_in_epoch}
 use Rattle.log_visits.proofs.OwnerKey.{owner_is_seen}
 use Rattle.log_visits.proofs.folding.fold.Goals as goal
@@ -48,16 +45,13 @@ pub returns-clause-answer : goal.returns-clause-answer
 returns-clause-answer c =
     let log = c.args.log.now in
     let past : length log ≤ c.loop-placed.placed-index = omega (arith, c.loop-placed-test.false) in
-    let told = folding_ends c.loop-placed.state (map plain_placed log)
+    folding_ends c.loop-placed.state (map plain_placed log)
     (subst (λ rest. IsFoldedTo (map plain_placed log) rest c.loop-placed.state) (rest_behind log c.loop-placed.placed-index past) c.loop-placed.invariant)
-    in
-    (told.0, told.1, subst (λ (v : PublicView). IsSeenAs v told.0) (sym c.arrange.ensures) told.2)
 
 pub returns-clause-owner : goal.returns-clause-owner
 returns-clause-owner c =
     let log = c.args.log.now in
     let past : length log ≤ c.loop-placed.placed-index = omega (arith, c.loop-placed-test.false) in
-    subst (λ (v : PublicView). present v.keys.keys Owner ≡ 0) (sym c.arrange.ensures)
-    (owner_is_seen c.loop-placed.state (map plain_placed log)
+    owner_is_seen c.loop-placed.state (map plain_placed log)
     (folding_ends c.loop-placed.state (map plain_placed log)
-    (subst (λ rest. IsFoldedTo (map plain_placed log) rest c.loop-placed.state) (rest_behind log c.loop-placed.placed-index past) c.loop-placed.invariant)))
+    (subst (λ rest. IsFoldedTo (map plain_placed log) rest c.loop-placed.state) (rest_behind log c.loop-placed.placed-index past) c.loop-placed.invariant))

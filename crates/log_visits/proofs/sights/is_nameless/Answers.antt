@@ -5,6 +5,6 @@ use Rattle.log_visits.proofs.sights.is_nameless.Goals as goal
 
 pub returns : goal.returns
 returns c =
-    rows_nameless c.args.state.now.tree c.folders-folders.result.now c.files-files.result.now
+    rows_nameless c.args.state.now.tree c.folders-folders.result c.files-files.result
     (sym (c.folders-folders.ensures ∙ ap (λ (t : Store). t.folders) c.shape-shape.ensures))
     (sym (c.files-files.ensures ∙ ap (λ (t : Store). t.files) c.shape-shape.ensures))

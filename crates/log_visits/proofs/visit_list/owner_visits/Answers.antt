@@ -9,7 +9,7 @@ use Rattle.role_graph.specs.Rights.Who.{TheOwner}
 pub returns-clause-visits : goal.returns-clause-visits
 returns-clause-visits c = λ at seen.
     let state = c.args.state.now in
-    let files = c.files.result.now in
+    let files = c.files.result in
     let tree = c.in_ok-seen.ensures.tree in
     let count : c.holders.result ≡ length state.checks = c.holders.ensures ∙ ap length c.grants.ensures.checks in
     let sights : AreSights at.store TheOwner c.as_slice.result.now = subst (AreSights at.store TheOwner) (sym c.as_slice.ensures.value) (c.in_ok-seen.ensures.sights at seen tt) in
@@ -21,14 +21,14 @@ returns-clause-visits c = λ at seen.
 
 pub returns-clause-owners : goal.returns-clause-owners
 returns-clause-owners c =
-    let files = c.files.result.now in
+    let files = c.files.result in
     all_fit c.in_ok-visits.visits.items c.push_holders.new.visits.items files c.holders.result (c.in_ok-visits.ensures.told is_no_holders (λ role is. is))
     (are_listed c.in_ok-visits.visits.items c.push_files.new.visits.items c.push_holders.new.visits.items files c.holders.result c.in_ok-push_files.ensures c.in_ok-push_holders.ensures)
 
 pub returns-clause-holders : goal.returns-clause-holders
 returns-clause-holders c = λ at e seen i.
     let state = c.args.state.now in
-    let files = c.files.result.now in
+    let files = c.files.result in
     let count : c.holders.result ≡ length state.checks = c.holders.ensures ∙ ap length c.grants.ensures.checks in
     let listed = are_listed c.in_ok-visits.visits.items c.push_files.new.visits.items c.push_holders.new.visits.items files c.holders.result c.in_ok-push_files.ensures c.in_ok-push_holders.ensures in
     holders_visited state at c.in_ok-visits.visits.items c.push_holders.new.visits.items files e seen (rw (← count) listed) i

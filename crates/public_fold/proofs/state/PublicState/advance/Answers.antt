@@ -40,12 +40,12 @@ returns-clause-seen c =
     let note = told_note c.args.payload.now.note in
     λ at sees.
     subst (λ (v : PublicView). IsSeenAs v (told_stand at note)) (sym c.settle.ensures)
-    (subst (λ (v : PublicView). IsSeenAs (settled v c.in_ok-ready.ready) (told_stand at note)) (sym c.make_room.ensures.content) (c.in_ok-ready.ensures.after at sees))
+    (subst (λ (v : PublicView). IsSeenAs (settled v c.in_ok-ready.ready) (told_stand at note)) (sym c.reserve.ensures.content) (c.in_ok-ready.ensures.after at sees))
 
 pub returns-clause-checks : goal.returns-clause-checks
 returns-clause-checks c =
     ap (λ (v : PublicView). v.checks) c.settle.ensures
-    ∙ ap (λ (v : PublicView). checks_then v.checks (told_note c.in_ok-ready.ready.note)) c.make_room.ensures.content
+    ∙ ap (λ (v : PublicView). checks_then v.checks (told_note c.in_ok-ready.ready.note)) c.reserve.ensures.content
     ∙ ap (λ n. checks_then c.args.self.now.checks (told_note n)) c.in_ok-ready.ensures.note
 
 pub returns-clause-fits : goal.returns-clause-fits
