@@ -99,7 +99,10 @@ impl<T: Ranked> Blocks<T> {
     pub fn rows(&self) -> Walk<'_, T>
         ensures rows { result ≡ self.now.rows }
         ensures rising { IsRising T.rank self.now.rows }
+        ensures counted { length result < 2 ^ 64 }
     {
+        // Read for its bound.
+        let _count = self.count;
         Walk::new(&[], &self.blocks)
     }
 
@@ -107,7 +110,10 @@ impl<T: Ranked> Blocks<T> {
     pub fn rows_from<K: Key<T>>(&self, key: &K) -> Walk<'_, T>
         ensures rows { result ≡ filter (λ r. nat_le (K.sought key.now) (T.rank r)) self.now.rows }
         ensures rising { IsRising T.rank self.now.rows }
+        ensures counted { length result < 2 ^ 64 }
     {
+        // Read for its bound.
+        let _count = self.count;
         let Some(at) = block_for(&self.blocks, key) else {
             return Walk::new(&[], &[]);
         };
@@ -123,6 +129,7 @@ impl<T: Ranked> Blocks<T> {
         ensures rows { result ≡ filter (λ r. nat_le (K.sought first.now) (T.rank r)
             && nat_le (T.rank r) (K.sought last)) self.now.rows }
         ensures rising { IsRising T.rank result }
+        ensures counted { length result < 2 ^ 64 }
     {
         Span::new(self.rows_from(first), last)
     }
