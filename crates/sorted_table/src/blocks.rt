@@ -24,8 +24,9 @@ const LEFT: usize = 97;
 
 /// Rows in ascending order of their ranks, which all differ. `spare` is how many more fit without memory; it may be more than was
 /// asked for. A look-up compares three times at the most where the key guesses its row's place, twice where the row goes behind all,
-/// and among n rows about log2(n) times elsewhere. A row that comes or goes moves no rows but those of its block; where a block
-/// splits or goes, the list of blocks moves too. From a table without rows on, that is one row in 32 that come.
+/// and among n rows about log2(n) times elsewhere. A row that comes or goes moves no rows but those of its block, of which there are
+/// 128 at the most; where a block splits or goes, the list of blocks moves too. From a table without rows on, that is one row in 32
+/// that come. A block goes when its last row does, and waits for the next split: the table gives no memory back.
 #[derive(Drop)]
 pub struct Blocks<T: Ranked> {
     blocks: Vec<Table<T>>,
