@@ -1,7 +1,7 @@
 //! Links and contents of keys of any kind.
 ghost use Rattle.std.specs.Prelude.{◌≡◌, ◌↔◌, ◌<◌, ◌≤◌, ◌^◌, IfOk, IsOk, OnErr, OnOk, length};
 ghost use Rattle.cry_base.specs.Sets.{In};
-ghost use Rattle.key_links.specs.Ended.{kind_from, sealing_role, source_role, target_role};
+ghost use Rattle.key_links.specs.Ended.{kind_from, kind_to, sealing_role, source_role, target_role};
 ghost use Rattle.key_links.specs.Opened.{IsAuthenticContent, IsAuthenticLink, StartsAt, target_of, text_of, with_text};
 ghost use Rattle.key_links.specs.Ringed.{parts_of, role_of};
 ghost use Rattle.key_links.specs.Sealed.{sealed_content, sealed_link};
@@ -10,11 +10,13 @@ ghost use Rattle.kind_table.specs.Rows.{row};
 ghost use Rattle.kind_table.specs.declared.nine.TheConstants.{NINE};
 ghost use Rattle.record_format.specs.Plain.{plain_content};
 ghost use Rattle.record_format.specs.Spellable.{longest_text, shortest_text};
+ghost use Rattle.kind_table.specs.declared.kinds.RoleKind.TheVariants as kind;
 
 use crate::any_key::AnyKey;
 use crate::{follow, link, open_content, seal_content};
-use chacha_seal::{BadTag, Nonce};
+use chacha_seal::{BackK, BadTag, ClearK, DataK, FileK, FilesK, Key, Nonce, SubK};
 use cry_base::Text;
+use kind_table::LinksTo;
 use record_format::{ContentRecord, LinkRecord};
 
 /// The key `to`, sealed under the key `from`.
@@ -47,17 +49,84 @@ pub(crate) fn follow_any(source: &AnyKey, link: &LinkRecord) -> Result<AnyKey, B
     ensures parts { IfOk result (λ key. parts_of key ≡ target_of (parts_of source.now) link.now) }
 {
     match link.kind {
-        1 => Ok(AnyKey::Clear(follow(source.owner(), link)?)),
-        2 => Ok(AnyKey::Clear(follow(source.holder(), link)?)),
-        3 => Ok(AnyKey::Sub(follow(source.clear(), link)?)),
-        4 => Ok(AnyKey::Back(follow(source.sub(), link)?)),
-        5 => Ok(AnyKey::Files(follow(source.sub(), link)?)),
-        6 => Ok(AnyKey::Sub(follow(source.sub(), link)?)),
-        7 => Ok(AnyKey::Data(follow(source.back(), link)?)),
-        8 => Ok(AnyKey::Back(follow(source.back(), link)?)),
-        9 => Ok(AnyKey::File(follow(source.files(), link)?)),
+        1 => clear_behind(source.owner(), link),
+        2 => clear_behind(source.holder(), link),
+        3 => sub_behind(source.clear(), link),
+        4 => back_behind(source.sub(), link),
+        5 => files_behind(source.sub(), link),
+        6 => sub_behind(source.sub(), link),
+        7 => data_behind(source.back(), link),
+        8 => back_behind(source.back(), link),
+        9 => file_behind(source.files(), link),
         _ => unreachable!(),
     }
+}
+
+/// The folder's key that grants hand out, to which the link leads. The kinds have a function each, since a key is large and a function
+/// pays at entry for all that it may hold.
+#[tactic(auto, unfolding(crate::specs::Ringed::role_of, crate::specs::Ringed::parts_of, crate::specs::Ended::role_with))]
+fn clear_behind<A: LinksTo<ClearK>>(source: &Key<A>, link: &LinkRecord) -> Result<AnyKey, BadTag>
+    requires { StartsAt A.NUMBER source.now link.now }
+    ensures authentic { IsOk result ↔ IsAuthenticLink source.now link.now }
+    ensures role { kind_to link.now.kind ≡ kind.Clear → IfOk result (λ key. role_of key ≡ target_role link.now) }
+    ensures parts { IfOk result (λ key. parts_of key ≡ target_of source.now link.now) }
+{
+    Ok(AnyKey::Clear(follow(source, link)?))
+}
+
+/// The subfolder key to which the link leads.
+#[tactic(auto, unfolding(crate::specs::Ringed::role_of, crate::specs::Ringed::parts_of, crate::specs::Ended::role_with))]
+fn sub_behind<A: LinksTo<SubK>>(source: &Key<A>, link: &LinkRecord) -> Result<AnyKey, BadTag>
+    requires { StartsAt A.NUMBER source.now link.now }
+    ensures authentic { IsOk result ↔ IsAuthenticLink source.now link.now }
+    ensures role { kind_to link.now.kind ≡ kind.Sub → IfOk result (λ key. role_of key ≡ target_role link.now) }
+    ensures parts { IfOk result (λ key. parts_of key ≡ target_of source.now link.now) }
+{
+    Ok(AnyKey::Sub(follow(source, link)?))
+}
+
+/// The backlink key to which the link leads.
+#[tactic(auto, unfolding(crate::specs::Ringed::role_of, crate::specs::Ringed::parts_of, crate::specs::Ended::role_with))]
+fn back_behind<A: LinksTo<BackK>>(source: &Key<A>, link: &LinkRecord) -> Result<AnyKey, BadTag>
+    requires { StartsAt A.NUMBER source.now link.now }
+    ensures authentic { IsOk result ↔ IsAuthenticLink source.now link.now }
+    ensures role { kind_to link.now.kind ≡ kind.Back → IfOk result (λ key. role_of key ≡ target_role link.now) }
+    ensures parts { IfOk result (λ key. parts_of key ≡ target_of source.now link.now) }
+{
+    Ok(AnyKey::Back(follow(source, link)?))
+}
+
+/// The files key to which the link leads.
+#[tactic(auto, unfolding(crate::specs::Ringed::role_of, crate::specs::Ringed::parts_of, crate::specs::Ended::role_with))]
+fn files_behind<A: LinksTo<FilesK>>(source: &Key<A>, link: &LinkRecord) -> Result<AnyKey, BadTag>
+    requires { StartsAt A.NUMBER source.now link.now }
+    ensures authentic { IsOk result ↔ IsAuthenticLink source.now link.now }
+    ensures role { kind_to link.now.kind ≡ kind.Files → IfOk result (λ key. role_of key ≡ target_role link.now) }
+    ensures parts { IfOk result (λ key. parts_of key ≡ target_of source.now link.now) }
+{
+    Ok(AnyKey::Files(follow(source, link)?))
+}
+
+/// The data key to which the link leads.
+#[tactic(auto, unfolding(crate::specs::Ringed::role_of, crate::specs::Ringed::parts_of, crate::specs::Ended::role_with))]
+fn data_behind<A: LinksTo<DataK>>(source: &Key<A>, link: &LinkRecord) -> Result<AnyKey, BadTag>
+    requires { StartsAt A.NUMBER source.now link.now }
+    ensures authentic { IsOk result ↔ IsAuthenticLink source.now link.now }
+    ensures role { kind_to link.now.kind ≡ kind.Data → IfOk result (λ key. role_of key ≡ target_role link.now) }
+    ensures parts { IfOk result (λ key. parts_of key ≡ target_of source.now link.now) }
+{
+    Ok(AnyKey::Data(follow(source, link)?))
+}
+
+/// The file's key to which the link leads.
+#[tactic(auto, unfolding(crate::specs::Ringed::role_of, crate::specs::Ringed::parts_of, crate::specs::Ended::role_with))]
+fn file_behind<A: LinksTo<FileK>>(source: &Key<A>, link: &LinkRecord) -> Result<AnyKey, BadTag>
+    requires { StartsAt A.NUMBER source.now link.now }
+    ensures authentic { IsOk result ↔ IsAuthenticLink source.now link.now }
+    ensures role { kind_to link.now.kind ≡ kind.File → IfOk result (λ key. role_of key ≡ target_role link.now) }
+    ensures parts { IfOk result (λ key. parts_of key ≡ target_of source.now link.now) }
+{
+    Ok(AnyKey::File(follow(source, link)?))
 }
 
 /// The text of an object, sealed under the key of the role that seals this kind.

@@ -121,7 +121,9 @@ impl KeyRing {
         }
     }
 
-    /// Puts the key into its place, where there is room.
+    /// Puts the key into its place, where there is room. A key is large, so this and what it calls are inlined, which copies it
+    /// less often.
+    #[inline(always)]
     pub(crate) fn keep(&mut self, key: AnyKey)
         requires { 1 ≤ self.old.spare }
         ensures key { IsWithKey self.new self.old (role_of key) (parts_of key) }
