@@ -25,13 +25,16 @@ pub(crate) fn has_role(roles: &[Role], role: Role) -> bool
     roles.iter().any(|other| is_same_role(role, *other))
 }
 
-/// The one list, and behind it the other.
-pub(crate) fn joined(alloc: Global, first: &[Role], second: &[Role]) -> Mem<List<Role>>
-    ensures { IfOk result (λ l. l.items ≡ first.now ++ second.now) }
+/// The one list, and behind it the other, which takes no memory where the one is empty: so it is in most steps.
+pub(crate) fn joined(alloc: Global, first: &[Role], second: List<Role>) -> Mem<List<Role>>
+    ensures { IfOk result (λ l. l.items ≡ first.now ++ second.items) }
 {
+    if first.is_empty() {
+        return Ok(second);
+    }
     let mut all = List::new(alloc);
     push_roles(&mut all, first)?;
-    push_roles(&mut all, second)?;
+    push_roles(&mut all, second.as_slice())?;
     Ok(all)
 }
 

@@ -7,7 +7,7 @@ ghost use Rattle.role_graph.specs.Roles.{same_role};
 ghost use Rattle.public_fold.specs.KeyStep.{without};
 
 use crate::lists::edges_left;
-use cry_base::{Edge, List, Mem, Role, Steps};
+use cry_base::{Edge, Mem, Role, Steps};
 use role_graph::{StoreRoles, in_their_order};
 use std::alloc::Global;
 
@@ -20,7 +20,7 @@ pub(crate) fn published(
     added: &[Edge],
     renewed: &[Role],
     steps: &mut Steps,
-) -> Mem<List<Edge>>
+) -> Mem<Vec<Edge>>
     ensures { IfOk result (λ l. l.items ≡ in_order edge_before (without same_edge removed.now
         (filter (λ e. has same_role renewed.now e.from || has same_role renewed.now e.to)
         (edges (public_store roles.now.shape.now.tree roles.now.grants.now.pairs))) ++ added.now)) }
@@ -28,7 +28,7 @@ pub(crate) fn published(
     let touching = roles.edges_touching(alloc, renewed, steps)?;
     let mut found = edges_left(alloc, touching.as_slice(), removed)?;
     push_all(&mut found, added)?;
-    in_their_order(alloc, found)
+    in_their_order(found)
 }
 
 /// Adds the edges at the end.

@@ -35,7 +35,7 @@ pub(crate) struct Due {
     /// The dirty roles that are left.
     pub(crate) dirty: Dirty,
     /// The edges that are published.
-    pub(crate) edges: List<Edge>,
+    pub(crate) edges: Vec<Edge>,
 }
 
 /// What a note's step gives and publishes, and what it leaves.
@@ -75,30 +75,30 @@ pub(crate) fn step_of(
         return Err(FoldFault::Unfit);
     }
     let change = change_of(alloc, &state.shape, &state.grants, note)?;
-    let due = due_step(alloc, state, &change)?;
+    let due = due_step(alloc, state, change)?;
     numbered_step(alloc, &state.keys, from, note, due)
 }
 
 /// The step of a change, before its serials are counted. Marks, plan and what is published are looked up at the roles
 /// that they come to, and no list of all edges is made.
-fn due_step(alloc: Global, state: &PublicState, change: &Change) -> Mem<Due>
-    requires { IsOfFittingNote (public_store_of state.now) (plain_change change.now) }
-    ensures { IfOk result (λ d. IsDue state.now.keys (edges_of (public_store state.now.tree state.now.pairs)) (plain_change change.now) d) }
+fn due_step(alloc: Global, state: &PublicState, change: Change) -> Mem<Due>
+    requires { IsOfFittingNote (public_store_of state.now) (plain_change change) }
+    ensures { IfOk result (λ d. IsDue state.now.keys (edges_of (public_store state.now.tree state.now.pairs)) (plain_change change) d) }
 {
     let roles = StoreRoles {
         shape: &state.shape,
         grants: &state.grants,
     };
     let mut steps = Steps::new();
+    let mut dirty = dirty_left(alloc, &state.dirty, &roles, &change, &mut steps)?;
     let removed = change.removed.as_slice();
     let wanted = change.wanted.as_slice();
-    let mut dirty = dirty_left(alloc, &state.dirty, &roles, change, &mut steps)?;
     let renewed = plan_closed(alloc, &dirty, &roles, removed, wanted, &mut steps)?;
     let renewed = renewed.as_slice();
-    let keyed = joined(alloc, renewed, change.fresh.as_slice())?;
-    let gone = joined(alloc, renewed, change.gone.as_slice())?;
     let added = change.added.as_slice();
     let edges = published(alloc, &roles, removed, added, renewed, &mut steps)?;
+    let keyed = joined(alloc, renewed, change.fresh)?;
+    let gone = joined(alloc, renewed, change.gone)?;
     clean(&mut dirty, renewed);
     Ok(Due {
         keyed,

@@ -20,15 +20,16 @@ pub fn edges(alloc: Global, shape: &Shape, grants: &Grants) -> Mem<List<Edge>>
     ensures { IfOk result (λ l. l.items ≡ edges_of (public_store shape.now.tree grants.now.pairs)) }
 {
     let all = unordered_edges(alloc, shape, grants)?;
-    in_their_order(alloc, all)
+    let sorted = in_their_order(all)?;
+    to_list(alloc, &sorted)
 }
 
 /// The edges in their order.
-pub fn in_their_order(alloc: Global, mut edges: Vec<Edge>) -> Mem<List<Edge>>
+pub fn in_their_order(mut edges: Vec<Edge>) -> Mem<Vec<Edge>>
     ensures { IfOk result (λ l. l.items ≡ in_order edge_before edges.items) }
 {
     sort(&mut edges)?;
-    to_list(alloc, &edges)
+    Ok(edges)
 }
 
 /// The same edges as the folders, the grants and the files come. It doesn't sort them.

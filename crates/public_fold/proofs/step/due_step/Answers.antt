@@ -23,7 +23,7 @@ use Rattle.public_fold.proofs.step.due_step.Goals as goal
 
 pub plan_closed-requires : goal.plan_closed-requires
 plan_closed-requires c =
-    let change = plain_change c.args.change.now in
+    let change = plain_change c.args.change in
     let v = c.args.state.now in
     let dirty = c.in_ok-dirty.dirty in
     let kept = subst (λ (w : PublicView). IsKept (public_store_of w) w.keys.keys w.keys.dirty) c.state.view_is c.state.invariant in
@@ -35,7 +35,7 @@ plan_closed-requires c =
 
 pub returns : goal.returns
 returns c =
-    let change = plain_change c.args.change.now in
+    let change = plain_change c.args.change in
     let s : Store = public_store c.state.inside.shape.tree c.state.inside.grants.pairs in
     let k : KeyState = record { keys = c.state.inside.keys.keys; dirty = c.state.inside.dirty; epoch = c.state.inside.epoch; count = c.state.inside.count } in
     let again : List Role = c.in_ok-renewed.renewed.items in
@@ -47,8 +47,8 @@ returns c =
     (due_is k (edges s) change c.in_ok-dirty.dirty again made
     c.in_ok-dirty.ensures
     (c.in_ok-renewed.ensures.plan ∙ (λ i. plan c.in_ok-dirty.dirty (edges_but (c.as_slice-removed.ensures i) (edges s)) (c.as_slice-wanted.ensures i)))
-    (c.in_ok-keyed.ensures ∙ (λ i. c.as_slice-renewed.ensures i ++ c.as_slice.ensures i))
-    (c.in_ok-gone.ensures ∙ (λ i. c.as_slice-renewed.ensures i ++ c.as_slice-2.ensures i))
+    (c.in_ok-keyed.ensures ∙ (λ i. c.as_slice-renewed.ensures i ++ c.args.change.fresh.items))
+    (c.in_ok-gone.ensures ∙ (λ i. c.as_slice-renewed.ensures i ++ c.args.change.gone.items))
     (c.in_ok-edges.ensures
     ∙ (λ i. in_order edge_before (without same_edge (c.as_slice-removed.ensures i) (filter (touches (c.as_slice-renewed.ensures i)) (edges s)) ++ c.as_slice-added.ensures i))
     ∙ ap (λ (l : Store). in_order edge_before (without same_edge change.removed (filter (touches again) (edges l)) ++ change.added)) (sym same)

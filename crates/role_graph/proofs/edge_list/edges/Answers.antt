@@ -10,4 +10,5 @@ pub returns : goal.returns
 returns c =
     let store = public_store c.args.shape.now.tree c.args.grants.now.pairs in
     let all : in_order edge_before c.in_ok-all.all.items ≡ edges store = ap (λ (l : List Edge). in_order edge_before l) c.in_ok-all.ensures ∙ sym (edges_ordered store) in
-    IfOk-weaker c.in_their_order.result (λ l. l.items ≡ in_order edge_before c.in_ok-all.all.items) (λ l. l.items ≡ edges store) (λ l e. e ∙ all) c.in_their_order.ensures
+    IfOk-weaker c.to_list.result (λ l. l.items ≡ c.deref.result.now) (λ l. l.items ≡ edges store)
+    (λ l e. e ∙ c.deref.ensures.value ∙ c.in_ok-sorted.ensures ∙ all) c.to_list.ensures
