@@ -1,10 +1,10 @@
 -- How many rows stand in blocks, and how much room a change of one block leaves.
-use Rattle.std.proofs.Common.{◌≡◌, ℕ, ◌+◌, ◌<◌, ◌≤◌, List, [], ◌∷◌, length, get_or, set, refl, sym, ap, subst, ◌∙◌, arith}
+use Rattle.std.proofs.Common.{◌≡◌, ℕ, ◌+◌, ◌<◌, ◌≤◌, Bool, filter, List, [], ◌∷◌, length, get_or, set, refl, sym, ap, subst, ◌∙◌, arith}
 use Rattle.std.specs.List.{insert, remove, sum_by}
 use Rattle.std.proofs.lemmas.List.{length-set, get_or-set_same}
 use Rattle.std.proofs.lemmas.List.Concat.{length-flat_map}
 use Rattle.std.proofs.lemmas.List.Edits.{length-insert}
-use Rattle.std.proofs.lemmas.List.Sums.{sum_by-set, sum_by-insert, sum_by-remove, sum_by-le-sum_by, get_or-le-sum_by}
+use Rattle.std.proofs.lemmas.List.Sums.{sum_by-set, sum_by-insert, sum_by-remove, sum_by-le-sum_by, get_or-le-sum_by, length-filter, count_by-le-length}
 use Rattle.sorted_table.specs.Parts.{rows_of, all_rows, all_over, over, held, room_for, IsFresh}
 use Rattle.sorted_table.specs.Tabled.{Tabled}
 use Rattle.sorted_table.proofs.Shifted.{removed_set}
@@ -28,6 +28,10 @@ block_waits f h m some full = omega (arith, some, full)
 pub no_rows : (T : Type 0) (rows : List T) → length rows ≤ 0 → rows ≡ []
 no_rows T [] none = refl
 no_rows T (x ∷ rows) none = absurd (omega (arith, none))
+
+-- rows that are kept are no more than all
+pub fewer_kept : (T : Type 0) (p : T → Bool) (rows : List T) → length (filter p rows) ≤ length rows
+fewer_kept T p rows = let told = length-filter p rows in let most = count_by-le-length p rows in omega (arith, told, most)
 
 module _ (T : Type 0) where
   -- a block that lost its last row waits again

@@ -24,8 +24,9 @@ const LEFT: usize = 97;
 
 /// Rows in ascending order of their ranks, which all differ. `spare` is how many more fit without memory; it may be more than was
 /// asked for. A look-up compares three times at the most where the key guesses its row's place, twice where the row goes behind all,
-/// and among n rows about log2(n) times elsewhere. A row that comes or goes moves no rows but those of its block; where a block
-/// splits or goes, the list of blocks moves too. From a table without rows on, that is one row in 32 that come.
+/// and among n rows about log2(n) times elsewhere. A row that comes or goes moves no rows but those of its block, of which there are
+/// 128 at the most; where a block splits or goes, the list of blocks moves too. From a table without rows on, that is one row in 32
+/// that come. A block goes when its last row does, and waits for the next split: the table gives no memory back.
 #[derive(Drop)]
 pub struct Blocks<T: Ranked> {
     blocks: Vec<Table<T>>,
@@ -99,7 +100,10 @@ impl<T: Ranked> Blocks<T> {
     pub fn rows(&self) -> Walk<'_, T>
         ensures rows { result ≡ self.now.rows }
         ensures rising { IsRising T.rank self.now.rows }
+        ensures counted { length result < 2 ^ 64 }
     {
+        // Read for its bound.
+        let _count = self.count;
         Walk::new(&[], &self.blocks)
     }
 
@@ -107,7 +111,10 @@ impl<T: Ranked> Blocks<T> {
     pub fn rows_from<K: Key<T>>(&self, key: &K) -> Walk<'_, T>
         ensures rows { result ≡ filter (λ r. nat_le (K.sought key.now) (T.rank r)) self.now.rows }
         ensures rising { IsRising T.rank self.now.rows }
+        ensures counted { length result < 2 ^ 64 }
     {
+        // Read for its bound.
+        let _count = self.count;
         let Some(at) = block_for(&self.blocks, key) else {
             return Walk::new(&[], &[]);
         };
@@ -123,6 +130,7 @@ impl<T: Ranked> Blocks<T> {
         ensures rows { result ≡ filter (λ r. nat_le (K.sought first.now) (T.rank r)
             && nat_le (T.rank r) (K.sought last)) self.now.rows }
         ensures rising { IsRising T.rank result }
+        ensures counted { length result < 2 ^ 64 }
     {
         Span::new(self.rows_from(first), last)
     }

@@ -22,7 +22,7 @@ pub trait Key<T: Ranked> {
         ensures { result ≡ nat_cmp (T.rank row.now) (sought self.now) };
 
     /// The place where a look-up looks first: that of the row, if no row before it ever went. A wrong guess costs one
-    /// comparison, and one past the end stands for the last row.
+    /// comparison, or three at the most where rows stand in blocks, and one past the end stands for the last row.
     fn guess(&self) -> usize {
         usize::MAX
     }
