@@ -7,6 +7,7 @@ ghost use Rattle.log_visits.specs.Sights as spec;
 use cry_base::Mem;
 use folder_nodes::FileRow;
 use log_visits::Sight;
+use sorted_table::Walk;
 use std::alloc::Global;
 use std::collections::HashSet;
 
@@ -42,9 +43,9 @@ fn is_in(folders: &HashSet<u32>, row: &FileRow) -> bool
 pub(crate) fn files_in(
     alloc: Global,
     folders: &HashSet<u32>,
-    files: &[FileRow],
+    files: Walk<'_, FileRow>,
 ) -> Mem<Vec<FileRow>>
-    ensures { IfOk result (λ l. l.items ≡ filter (λ r. contains spec.same_number folders.now r.folder.0) files.now) }
+    ensures { IfOk result (λ l. l.items ≡ filter (λ r. contains spec.same_number folders.now r.folder.0) files.entry) }
 {
     let mut found = Vec::new(alloc);
     for row in files {
@@ -56,8 +57,12 @@ pub(crate) fn files_in(
 }
 
 /// The files in folders that are allowed.
-pub(crate) fn allowed_files(alloc: Global, sights: &[Sight], files: &[FileRow]) -> Mem<Vec<FileRow>>
-    ensures { IfOk result (λ l. l.items ≡ filter (λ r. list_any (spec.opens r.folder.0) sights.now) files.now) }
+pub(crate) fn allowed_files(
+    alloc: Global,
+    sights: &[Sight],
+    files: Walk<'_, FileRow>,
+) -> Mem<Vec<FileRow>>
+    ensures { IfOk result (λ l. l.items ≡ filter (λ r. list_any (spec.opens r.folder.0) sights.now) files.entry) }
 {
     let folders = allowed_folders(alloc, sights)?;
     files_in(alloc, &folders, files)

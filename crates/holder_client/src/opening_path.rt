@@ -34,6 +34,7 @@ use cry_io::Disk;
 use folder_nodes::{FileRow, Names, Shape, front_of, path_ok};
 use log_visits::{ClientFault, OwnersView, Records, Sight, all_sights, folder_path, is_nameless};
 use public_fold::PublicState;
+use sorted_table::Walk;
 use std::alloc::Global;
 use std::collections::HashSet;
 
@@ -145,10 +146,10 @@ fn files_beside(
     shape: &Shape,
     names: &Names,
     sights: &[Sight],
-    files: &[FileRow],
+    files: Walk<'_, FileRow>,
     path: &[u8],
 ) -> Mem<Vec<FileRow>>
-    ensures { IfOk result (λ l. l.items ≡ filter (spec.is_row_beside (tree_store shape.now.tree names.now) sights.now path.now) files.now) }
+    ensures { IfOk result (λ l. l.items ≡ filter (spec.is_row_beside (tree_store shape.now.tree names.now) sights.now path.now) files.entry) }
 {
     if !path_ok(path) {
         return Ok(Vec::new(alloc));

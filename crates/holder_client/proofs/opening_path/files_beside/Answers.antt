@@ -7,4 +7,4 @@ use Rattle.holder_client.proofs.opening_path.files_beside.Goals as goal
 pub returns-then-not-path_ok : goal.returns-then-not-path_ok
 returns-then-not-path_ok c =
     let apart : is_path c.args.path.now ≡ false = cc in
-    c.new.ensures.items ∙ nothing_beside (tree_store c.args.shape.now.tree c.args.names.now) c.args.sights.now c.args.path.now c.args.files.now apart
+    c.new.ensures.items ∙ nothing_beside (tree_store c.args.shape.now.tree c.args.names.now) c.args.sights.now c.args.path.now c.args.files apart

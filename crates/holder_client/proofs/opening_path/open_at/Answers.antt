@@ -74,7 +74,7 @@ returns-in_err-files-clause-answer g c = λ shown r of_log may.
     (c.in_ok-line.ensures ∙ ap (line_at path) (folders_named c.shape-shape.result.now.tree bare a.0.store c.in_ok-ring.field-0.names who c.as_slice-2.result.now folders (subst (AreSights bare who) (sym c.as_slice-2.ensures.value) listed) a.2.1))
     in
     let passed = names ∙ no_line found (file_with r a.0 who path) (ap (option_map plain_line) (none_of Shown c.in_ok-line.field-0 c.in_default.not-Some)) in
-    let rows = c.files.result.now in
+    let rows = c.files.result in
     let is : bare.files ≡ map file_of_row rows = ap (λ (s : Store). s.files) of_log.1.store ∙ sym (c.files.ensures ∙ ap (λ (t : Store). t.files) c.shape-shape.ensures) in
     let beside = subst (AreSights bare who) (sym c.as_slice-3.ensures.value) listed in
     let chosen : c.as_slice-4.result.now ≡ filter (is_row_beside t c.as_slice-3.result.now path) rows = c.as_slice-4.ensures.value ∙ c.in_ok-rows.ensures in
@@ -104,7 +104,7 @@ returns-in-Some-2-clause-answer g c = λ shown r of_log may.
     (c.in_ok-line.ensures ∙ ap (line_at path) (folders_named c.shape-shape.result.now.tree bare a.0.store c.in_ok-ring.field-0.names who c.as_slice-2.result.now folders (subst (AreSights bare who) (sym c.as_slice-2.ensures.value) listed) a.2.1))
     in
     let passed = names ∙ no_line found (file_with r a.0 who path) (ap (option_map plain_line) (none_of Shown c.in_ok-line.field-0 c.in_default.not-Some)) in
-    let rows = c.files.result.now in
+    let rows = c.files.result in
     let is : bare.files ≡ map file_of_row rows = ap (λ (s : Store). s.files) of_log.1.store ∙ sym (c.files.ensures ∙ ap (λ (t : Store). t.files) c.shape-shape.ensures) in
     let beside = subst (AreSights bare who) (sym c.as_slice-3.ensures.value) listed in
     let chosen : c.as_slice-4.result.now ≡ filter (is_row_beside t c.as_slice-3.result.now path) rows = c.as_slice-4.ensures.value ∙ c.in_ok-rows.ensures in
@@ -138,7 +138,7 @@ returns-clause-answer g c = λ shown r of_log may.
     (c.in_ok-line.ensures ∙ ap (line_at path) (folders_named c.shape-shape.result.now.tree bare a.0.store c.in_ok-ring.field-0.names who c.as_slice-2.result.now folders (subst (AreSights bare who) (sym c.as_slice-2.ensures.value) listed) a.2.1))
     in
     let passed = names ∙ no_line found (file_with r a.0 who path) (ap (option_map plain_line) (none_of Shown c.in_ok-line.field-0 c.in_default.not-Some)) in
-    let rows = c.files.result.now in
+    let rows = c.files.result in
     let is : bare.files ≡ map file_of_row rows = ap (λ (s : Store). s.files) of_log.1.store ∙ sym (c.files.ensures ∙ ap (λ (t : Store). t.files) c.shape-shape.ensures) in
     let beside = subst (AreSights bare who) (sym c.as_slice-3.ensures.value) listed in
     let chosen : c.as_slice-4.result.now ≡ filter (is_row_beside t c.as_slice-3.result.now path) rows = c.as_slice-4.ensures.value ∙ c.in_ok-rows.ensures in

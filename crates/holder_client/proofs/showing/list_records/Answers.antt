@@ -34,7 +34,7 @@ returns-in_err-files-clause-answer g c = λ shown r of_log may.
     let state = c.args.state.now in
     let bare = r.stand.store in
     let who = who_of c.args.bundle.now in
-    let rows = c.files.result.now in
+    let rows = c.files.result in
     let tree = seen_tree state r.stand of_log.1 c.in_ok-seen.ensures.tree in
     let listed : AreSights bare who c.in_ok-seen.seen.items =
     subst (λ (w : Who). AreSights bare w c.in_ok-seen.seen.items) c.viewer_of.ensures (c.in_ok-seen.ensures.sights r.stand of_log.1 (subst (λ (w : Who). MayRead bare w) (sym c.viewer_of.ensures) may))
@@ -52,7 +52,7 @@ returns-clause-answer g c = λ shown r of_log may.
     let state = c.args.state.now in
     let bare = r.stand.store in
     let who = who_of c.args.bundle.now in
-    let rows = c.files.result.now in
+    let rows = c.files.result in
     let tree = seen_tree state r.stand of_log.1 c.in_ok-seen.ensures.tree in
     let listed : AreSights bare who c.in_ok-seen.seen.items =
     subst (λ (w : Who). AreSights bare w c.in_ok-seen.seen.items) c.viewer_of.ensures (c.in_ok-seen.ensures.sights r.stand of_log.1 (subst (λ (w : Who). MayRead bare w) (sym c.viewer_of.ensures) may))
