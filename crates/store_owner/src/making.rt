@@ -102,7 +102,7 @@ impl Blank {
         ensures journal_room { OnOk result (root_payload_len ≤ self.new.journal.room) }
     {
         self.journal.prepare(ROOT_PAYLOAD_LEN)?;
-        self.state.reserve(alloc, ready)?;
+        self.state.reserve(ready)?;
         self.names.reserve()?;
         self.ring.reserve(KEYS)?;
         StepRoom::reserve(alloc, &mut self.ring, ready.skeleton())

@@ -348,8 +348,8 @@ impl Owner {
         ensures payload { OnOk result (size ≤ self.new.journal.room) }
     {
         self.journal.prepare(size)?;
-        self.state.reserve(alloc, &change.ready)?;
-        prepare_names(alloc, &mut self.names)?;
+        self.state.reserve(&change.ready)?;
+        self.names.reserve()?;
         StepRoom::reserve(alloc, &mut self.ring, change.ready.skeleton())
     }
 
@@ -501,14 +501,4 @@ fn commit_within<D: Disk>(
     ensures counts { CountsFault result (D.faults disk.old) (D.faults disk.new) }
 {
     journal.commit(disk, payload)
-}
-
-/// Puts the names in order for look-ups by path, and takes the memory of one change.
-fn prepare_names(alloc: Global, names: &mut Names) -> Mem<()>
-    ensures folders { names.new.folders ≡ names.old.folders }
-    ensures files { names.new.files ≡ names.old.files }
-    ensures room { OnOk result (1 ≤ names.new.spare) }
-{
-    names.arrange(alloc)?;
-    names.reserve()
 }

@@ -24,8 +24,8 @@ invariant_of-self-in_err-reserve c = λ still.
       subst (λ (j : JournalState). IsWithin i.tally j.end) (sym c.prepare.ensures.state) both.1,
     )
 
-pub invariant_of-self-in_err-prepare_names : goal.invariant_of-self-in_err-prepare_names
-invariant_of-self-in_err-prepare_names c = λ still.
+pub invariant_of-self-in_err-reserve-2 : goal.invariant_of-self-in_err-reserve-2
+invariant_of-self-in_err-reserve-2 c = λ still.
     let i = c.self.inside in
     let both = c.self.invariant (sym (ap (λ (j : JournalState). j.is_closed) c.prepare.ensures.state) ∙ still) in
     let old : OwnerView = record { key = i.key.bytes; journal = i.journal; state = i.state; names = i.names; ring = i.ring; counter = i.counter; file_bytes = i.limits.file_bytes; tally = i.tally } in (
@@ -33,8 +33,8 @@ invariant_of-self-in_err-prepare_names c = λ still.
         key = refl;
         journal = c.prepare.ensures.state;
         state = c.reserve.ensures.content;
-        folder_names = c.prepare_names.ensures.folders;
-        file_names = c.prepare_names.ensures.files;
+        folder_names = c.reserve-2.ensures.folders;
+        file_names = c.reserve-2.ensures.files;
         ring_keys = refl;
         counter = refl;
         file_bytes = refl;
@@ -52,9 +52,9 @@ invariant_of-self-2 c = λ still.
         key = refl;
         journal = c.prepare.ensures.state;
         state = c.reserve.ensures.content;
-        folder_names = c.prepare_names.ensures.folders;
-        file_names = c.prepare_names.ensures.files;
-        ring_keys = c.reserve-2.ensures.keys;
+        folder_names = c.reserve-2.ensures.folders;
+        file_names = c.reserve-2.ensures.files;
+        ring_keys = c.reserve-3.ensures.keys;
         counter = refl;
         file_bytes = refl;
         tally = refl;
