@@ -4,6 +4,7 @@ pub mod Beginning
 pub mod Besides
 pub mod FiledReads
 pub mod Listings
+pub mod OneFault
 pub mod OwnNames
 pub mod Shows
 pub mod Sorted

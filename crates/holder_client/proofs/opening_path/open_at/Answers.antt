@@ -1,4 +1,4 @@
-use Rattle.std.proofs.Common.{◌≡◌, Option, Err, map, filter, sym, ap, subst, ◌∙◌}
+use Rattle.std.proofs.Common.{rules, ◌≡◌, Option, Err, map, filter, sym, ap, subst, ◌∙◌, arith}
 use Rattle.std.specs.Prelude.{option_map}
 use Rattle.std.specs.List.{flat_map}
 use Rattle.std.proofs.lemmas.Result.{err_from_is_err_and}
@@ -13,8 +13,10 @@ use Rattle.holder_client.specs.Filed.{file_stops}
 use Rattle.log_visits.specs.Judging.{Unseen, who_of}
 use Rattle.holder_client.specs.Lines.{plain_line}
 use Rattle.log_visits.specs.View.{Line}
+use Rattle.log_visits.specs.declared.fault.ClientFault.TheVariants as ClientFault
 use Rattle.log_visits.specs.Sights.{AreSights, MayRead}
 use Rattle.holder_client.proofs.FiledReads.{rows_stand}
+use Rattle.holder_client.proofs.OneFault.{one_fault}
 use Rattle.holder_client.proofs.Besides.{files_fail_path, files_pass_path, first_line, folders_named, names_fail_path, names_pass_path, no_line, none_of, shown_beside, stops_beside}
 use Rattle.log_visits.proofs.OwnerVisits.{seen_tree}
 use Rattle.role_graph.specs.Rights.{Who}
@@ -152,3 +154,42 @@ returns-clause-answer g c = λ shown r of_log may.
     (shown_beside c.shape-shape.result.now.tree bare b.0.store c.in_ok-ring.field-0.names c.in_ok-files.files.items who c.as_slice-3.result.now rows path folders tree beside is (c.in_ok-files.ensures.rows ∙ chosen) b.2))
     in
     passed ∙ files ∙ no_line held (Err Unseen) (ap (option_map plain_line) c.in-None.is)
+
+pub returns-in_err-line-clause-answer : goal.returns-in_err-line-clause-answer
+returns-in_err-line-clause-answer g c = λ shown r of_log may.
+    let p = err_from_is_err_and c.from_residual-in_err-line.result c.from_residual-in_err-line.ensures.1 in
+    rw (p.1, p.2) (search rules)
+
+pub returns-in_err-rows-clause-answer : goal.returns-in_err-rows-clause-answer
+returns-in_err-rows-clause-answer g c = λ shown r of_log may.
+    let p = err_from_is_err_and c.from_residual-in_err-rows.result c.from_residual-in_err-rows.ensures.1 in
+    rw (p.1, p.2) (search rules)
+
+pub returns-in_err-line-2-clause-answer : goal.returns-in_err-line-2-clause-answer
+returns-in_err-line-2-clause-answer g c = λ shown r of_log may.
+    let p = err_from_is_err_and c.from_residual-in_err-line-2.result c.from_residual-in_err-line-2.ensures.1 in
+    rw (p.1, p.2) (search rules)
+
+pub returns-in_err-files-clause-stays : goal.returns-in_err-files-clause-stays
+returns-in_err-files-clause-stays g c =
+    g.met.R.Records.twice c.args.source.now c.open_names.new.source c.read_files.new.source c.in_ok-ring.ensures.stays c.in_err-files.ensures.stays
+
+pub returns-in_err-line-2-clause-stays : goal.returns-in_err-line-2-clause-stays
+returns-in_err-line-2-clause-stays g c =
+    g.met.R.Records.twice c.args.source.now c.open_names.new.source c.read_files.new.source c.in_ok-ring.ensures.stays c.in_ok-files.ensures.stays
+
+pub returns-in-Some-2-clause-stays : goal.returns-in-Some-2-clause-stays
+returns-in-Some-2-clause-stays g c =
+    g.met.R.Records.twice c.args.source.now c.open_names.new.source c.read_files.new.source c.in_ok-ring.ensures.stays c.in_ok-files.ensures.stays
+
+pub returns-clause-stays : goal.returns-clause-stays
+returns-clause-stays g c =
+    g.met.R.Records.twice c.args.source.now c.open_names.new.source c.read_files.new.source c.in_ok-ring.ensures.stays c.in_ok-files.ensures.stays
+
+pub returns-in_err-files-clause-disk_fault : goal.returns-in_err-files-clause-disk_fault
+returns-in_err-files-clause-disk_fault g c = λ e.
+    let p = err_from_is_err_and c.from_residual-in_err-files.result c.from_residual-in_err-files.ensures.1 in
+    let mid = g.met.R.Records.counts c.args.source.now c.open_names.new.source c.in_ok-ring.ensures.stays in
+    let cause = sym p.2 ∙ one_fault Shown c.from_residual-in_err-files.result p.0 ClientFault.DiskFault p.1 e in
+    let rose = c.in_err-files.ensures.disk_fault (ap (λ f. Err f) cause) in
+    omega (arith, mid, rose)

@@ -1,4 +1,4 @@
-use Rattle.std.proofs.Common.{◌≡◌, List, ◌++◌, Ok, map, filter, sym, ap, subst, ◌∙◌}
+use Rattle.std.proofs.Common.{rules, ◌≡◌, List, ◌++◌, Ok, Err, map, filter, sym, ap, subst, ◌∙◌, arith}
 use Rattle.std.specs.List.{flat_map, list_any}
 use Rattle.std.proofs.lemmas.Result.{err_from_is_err_and}
 use Rattle.cry_base.specs.Store.{Store}
@@ -8,8 +8,10 @@ use Rattle.holder_client.specs.Filed.{file_stops}
 use Rattle.log_visits.specs.Judging.{who_of}
 use Rattle.log_visits.specs.Sights.{AreSights, MayRead, opens}
 use Rattle.log_visits.specs.Visits.{visits_to_names}
+use Rattle.log_visits.specs.declared.fault.ClientFault.TheVariants as ClientFault
 use Rattle.log_visits.specs.declared.sights.Sight.{Sight}
 use Rattle.holder_client.proofs.FiledReads.{rows_stand}
+use Rattle.holder_client.proofs.OneFault.{one_fault}
 use Rattle.holder_client.proofs.Listings.{all_pass, allowed_stops, files_fail, names_fail}
 use Rattle.log_visits.proofs.OwnerVisits.{seen_tree}
 use Rattle.holder_client.proofs.Shows.{view_shown}
@@ -68,3 +70,33 @@ returns-clause-answer g c = λ shown r of_log may.
     ∙ ap Ok (sym (view_shown c.shape-2.result.now.tree bare b.0.store c.in_ok-ring.field-0.names c.in_ok-files.files.items rows who c.as_slice-4.result.now folders tree is
     (subst (AreSights bare who) (sym c.as_slice-4.ensures.value) listed) (c.in_ok-files.ensures.rows ∙ chosen ∙ ap (λ (l : List Sight). filter (λ (x : FileRow). list_any (opens x.folder.0) l) rows) (sym same)) b.2))
     ∙ ap Ok (sym c.in_ok-view_lines.ensures)
+
+pub returns-in_err-rows-clause-answer : goal.returns-in_err-rows-clause-answer
+returns-in_err-rows-clause-answer g c = λ shown r of_log may.
+    let p = err_from_is_err_and c.from_residual-in_err-rows.result c.from_residual-in_err-rows.ensures.1 in
+    rw (p.1, p.2) (search rules)
+
+pub returns-in_err-view_lines-clause-answer : goal.returns-in_err-view_lines-clause-answer
+returns-in_err-view_lines-clause-answer g c = λ shown r of_log may.
+    let p = err_from_is_err_and c.from_residual-in_err-view_lines.result c.from_residual-in_err-view_lines.ensures.1 in
+    rw (p.1, p.2) (search rules)
+
+pub returns-in_err-files-clause-stays : goal.returns-in_err-files-clause-stays
+returns-in_err-files-clause-stays g c =
+    g.met.R.Records.twice c.args.source.now c.open_names.new.source c.read_files.new.source c.in_ok-ring.ensures.stays c.in_err-files.ensures.stays
+
+pub returns-in_err-view_lines-clause-stays : goal.returns-in_err-view_lines-clause-stays
+returns-in_err-view_lines-clause-stays g c =
+    g.met.R.Records.twice c.args.source.now c.open_names.new.source c.read_files.new.source c.in_ok-ring.ensures.stays c.in_ok-files.ensures.stays
+
+pub returns-clause-stays : goal.returns-clause-stays
+returns-clause-stays g c =
+    g.met.R.Records.twice c.args.source.now c.open_names.new.source c.read_files.new.source c.in_ok-ring.ensures.stays c.in_ok-files.ensures.stays
+
+pub returns-in_err-files-clause-disk_fault : goal.returns-in_err-files-clause-disk_fault
+returns-in_err-files-clause-disk_fault g c = λ e.
+    let p = err_from_is_err_and c.from_residual-in_err-files.result c.from_residual-in_err-files.ensures.1 in
+    let mid = g.met.R.Records.counts c.args.source.now c.open_names.new.source c.in_ok-ring.ensures.stays in
+    let cause = sym p.2 ∙ one_fault _ c.from_residual-in_err-files.result p.0 ClientFault.DiskFault p.1 e in
+    let rose = c.in_err-files.ensures.disk_fault (ap (λ f. Err f) cause) in
+    omega (arith, mid, rose)
