@@ -1,6 +1,5 @@
 //! Keys, and keys whose serial isn't settled yet.
 ghost use Rattle.std.specs.Prelude.{◌≡◌, length, IfSome};
-ghost use Rattle.chacha_seal.specs.Sealing.{cipher_key, seal_tag};
 
 use crate::derived::Derived;
 use crate::{HolderK, Nonce, OwnerK};
@@ -77,28 +76,8 @@ impl<K> Key<K> {
         self.serial
     }
 
-    /// The key of the stream that it seals with.
-    pub(crate) fn cipher(&self) -> [u8; 32]
-        ensures { result ≡ cipher_key self.now.bytes }
-    {
-        match self.derived() {
-            Some(derived) => derived.cipher(),
-            None => Derived::of(&self.bytes).cipher(),
-        }
-    }
-
-    /// The tag that it makes of a header and the cipher bytes behind it.
-    pub(crate) fn tag(&self, header: &[u8], cipher: &[u8]) -> [u8; 32]
-        ensures { result ≡ seal_tag self.now.bytes header.now cipher.now }
-    {
-        match self.derived() {
-            Some(derived) => derived.tag(header, cipher),
-            None => Derived::of(&self.bytes).tag(header, cipher),
-        }
-    }
-
     /// What it seals with. No contract says what a cell keeps, so what was derived of other bytes wouldn't count: none ever is.
-    fn derived(&self) -> Option<&Derived>
+    pub(crate) fn derived(&self) -> Option<&Derived>
         ensures { IfSome result (λ derived. derived.now ≡ self.now.bytes) }
     {
         let derived = self.derived.try_get_or_init(|| Derived::of(&self.bytes))?;

@@ -1,5 +1,6 @@
 //! An owner's key as a log uses it.
-ghost use Rattle.std.specs.Prelude.{◌≡◌, []};
+ghost use Rattle.std.specs.Prelude.{◌≡◌, [], ◌∷◌, ◌++◌};
+ghost use Rattle.std.specs.Int.{w32, to_be_bytes};
 ghost use Rattle.hmac_seal.specs.Holding.{Holds};
 ghost use Rattle.chacha_seal.specs.Sealing.{owner_tag_key, veil_of};
 
@@ -64,9 +65,17 @@ impl LogKey {
         ensures { result ≡ veil_of self.now.bytes epoch.0 number }
     {
         let mut veil = self.veils.copy();
-        veil.add(&[FOR_VEIL]);
-        veil.add(&epoch.0.to_be_bytes());
-        veil.add(&number.to_be_bytes());
+        veil.add(&veil_message(epoch, number));
         veil.end()
     }
+}
+
+/// The message whose HMAC under an owner's key is a veil key. It is added whole, since each part that is added costs a call.
+fn veil_message(epoch: Epoch, number: u32) -> [u8; 9]
+    ensures { result ≡ 3 ∷ to_be_bytes w32 epoch.0 ++ to_be_bytes w32 number }
+{
+    let mut message = [FOR_VEIL; 9];
+    message[1..5].copy_from_slice(&epoch.0.to_be_bytes());
+    message[5..].copy_from_slice(&number.to_be_bytes());
+    message
 }

@@ -3,6 +3,7 @@ ghost use Rattle.std.specs.Prelude.{◌≡◌, ℕ, List, ◌↔◌, IsOk, IfOk,
 ghost use Rattle.chacha_seal.specs.Sealing.{sealed, seal_tag};
 
 use crate::Key;
+use crate::derived::Derived;
 use crate::stream::xor_stream;
 use cry_base::Serial;
 use hmac_seal::tags_equal;
@@ -15,7 +16,6 @@ pub struct BadTag;
 
 /// Makes cipher bytes the text that was sealed, where `tag` is the one of `header` and these
 /// (docs/FORMAT.md). `BadTag` comes exactly where it isn't; the bytes are then as they were.
-#[tactic(auto, unfolding(crate::specs::Sealing::sealed))]
 pub fn open_in_place<K>(
     key: &Key<K>,
     nonce: u64,
@@ -29,10 +29,31 @@ pub fn open_in_place<K>(
         → OnOk result (text.new ≡ plain) }
     ensures bad_tag { OnErr result (text.new ≡ text.old) }
 {
-    if !tags_equal(&key.tag(header, text), tag) {
+    match key.derived() {
+        Some(derived) => open_with(derived, nonce, header, text, tag),
+        None => open_with(&Derived::of(key.bytes()), nonce, header, text, tag),
+    }
+}
+
+/// The same, by what was derived from the key.
+#[tactic(auto, unfolding(crate::specs::Sealing::sealed))]
+fn open_with(
+    derived: &Derived,
+    nonce: u64,
+    header: &[u8],
+    text: &mut [u8],
+    tag: &[u8; 32],
+) -> Result<(), BadTag>
+    ensures authentic { IsOk result ↔ (tag.now ≡ seal_tag derived.now header.now text.old) }
+    ensures opened { OnOk result (text.new ≡ sealed derived.now nonce text.old) }
+    ensures inverse { (plain : List ℕ) → text.old ≡ sealed derived.now nonce plain
+        → OnOk result (text.new ≡ plain) }
+    ensures bad_tag { OnErr result (text.new ≡ text.old) }
+{
+    if !tags_equal(&derived.tag(header, text), tag) {
         return Err(BadTag);
     }
-    xor_stream(key.cipher(), nonce, text);
+    xor_stream(derived.cipher(), nonce, text);
     Ok(())
 }
 

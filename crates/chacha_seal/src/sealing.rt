@@ -2,18 +2,31 @@
 ghost use Rattle.std.specs.Prelude.{◌≡◌, ℕ, List};
 ghost use Rattle.chacha_seal.specs.Sealing.{sealed, seal_tag, masked};
 
+use crate::derived::Derived;
 use crate::stream::xor_stream;
 use crate::{Key, Nonce};
 
 /// Makes the text its cipher bytes, and answers the tag of `header` and these (docs/FORMAT.md). It
 /// spends the nonce.
-#[tactic(auto, unfolding(crate::specs::Sealing::sealed))]
 pub fn seal_in_place<K>(key: &Key<K>, nonce: Nonce, header: &[u8], text: &mut [u8]) -> [u8; 32]
     ensures cipher { text.new ≡ sealed key.now.bytes nonce text.old }
     ensures tag { result ≡ seal_tag key.now.bytes header.now text.new }
 {
-    xor_stream(key.cipher(), nonce.spend(), text);
-    key.tag(header, text)
+    let nonce = nonce.spend();
+    match key.derived() {
+        Some(derived) => seal_with(derived, nonce, header, text),
+        None => seal_with(&Derived::of(key.bytes()), nonce, header, text),
+    }
+}
+
+/// The same, by what was derived from the key.
+#[tactic(auto, unfolding(crate::specs::Sealing::sealed))]
+fn seal_with(derived: &Derived, nonce: u64, header: &[u8], text: &mut [u8]) -> [u8; 32]
+    ensures cipher { text.new ≡ sealed derived.now nonce text.old }
+    ensures tag { result ≡ seal_tag derived.now header.now text.new }
+{
+    xor_stream(derived.cipher(), nonce, text);
+    derived.tag(header, text)
 }
 
 /// Lays the veil over a payload, or takes it away (docs/FORMAT.md): it is its own inverse.

@@ -11,9 +11,19 @@ pub(crate) fn xor_stream(key: [u8; 32], number: u64, text: &mut [u8])
     ensures { text.new ≡ spec.xor_stream key number text.old }
 {
     let mut words = ChaCha20Rng::from_seed(key);
-    words.set_stream(number);
+    choose(&mut words, number);
     for i in 0..text.len().div_ceil(4) {
         xor_word(words.next_word().to_le_bytes(), text, 4 * i);
+    }
+}
+
+/// Turns a new generator to the stream of this number. It begins with that of number 0, and another one costs a generator more.
+fn choose(words: &mut ChaCha20Rng, number: u64)
+    requires new { words.old.stream ≡ 0 }
+    ensures { words.new ≡ record words.old { stream = number } }
+{
+    if number != 0 {
+        words.set_stream(number);
     }
 }
 

@@ -4,7 +4,7 @@ use Rattle.chacha_seal.proofs.Laying.{drawn_word, laid_all, laid_none}
 use Rattle.chacha_seal.proofs.stream.xor_stream.Goals as goal
 
 pub loop-i-init : goal.loop-i-init
-loop-i-init c = (rw (c.set_stream.ensures, c.from_seed-words.ensures) refl, laid_none _ _ 0 _ refl)
+loop-i-init c = (rw (c.choose.ensures, c.from_seed-words.ensures) refl, laid_none _ _ 0 _ refl)
 
 pub loop-i-preserved : goal.loop-i-preserved
 loop-i-preserved c =
