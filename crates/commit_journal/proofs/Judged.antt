@@ -77,3 +77,10 @@ filled n at s buf items now within buf_is now_is =
     let short : buf ≡ take n (drop at s) = buf_is ∙ ap (λ k. take k (drop at s)) same in
     let long : length buf ≡ n = ap length short ∙ length-take-le n (drop at s) (omega (arith, length-drop at s)) in
     now_is ∙ ap (λ k. take k (buf ++ drop (length buf) items)) (sym long) ∙ take-append_seam buf (drop (length buf) items) ∙ short
+
+-- what was read into the first n bytes of a buffer that has as many
+pub read_into_front : (n at : ℕ) (s items now : List ℕ) → n ≤ length items → now ≡ slice_range s at (at + length (take n items))
+    → now ≡ take n (drop at s)
+read_into_front n at s items now long now_is =
+    let same : at + length (take n items) - at ≡ n = omega (arith, length-take-le n items long) in
+    now_is ∙ ap (λ k. take k (drop at s)) same

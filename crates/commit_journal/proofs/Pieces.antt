@@ -1,9 +1,9 @@
 -- The parts of a spelled batch, found again in its bytes.
-use Rattle.std.proofs.Common.{◌≡◌, ℕ, ◌+◌, ◌-◌, ◌<◌, ◌^◌, List, [], ◌∷◌, ◌++◌, length, take, drop, get_or, append_assoc, arith, refl, sym, ap, ◌∙◌, length-append}
+use Rattle.std.proofs.Common.{◌≡◌, ℕ, ◌+◌, ◌-◌, ◌<◌, ◌≤◌, ◌^◌, List, [], ◌∷◌, ◌++◌, length, take, drop, get_or, append_assoc, arith, refl, sym, ap, ◌∙◌, length-append}
 use Rattle.std.specs.Prelude.{slice_range, slice_index}
 use Rattle.std.specs.Int.{w32, from_be_bytes}
 use Rattle.std.proofs.Math.Seq.{take-append_seam, drop-append_seam}
-use Rattle.std.proofs.lemmas.List.{append-nil}
+use Rattle.std.proofs.lemmas.List.{append-nil, drop-drop, drop-take, take-append-drop, take-take}
 use Rattle.std.proofs.lemmas.Nat.{from_be_bytes-to_be_bytes_4}
 use Rattle.record_format.specs.Spelling.{be32}
 use Rattle.record_format.proofs.Lengths.{length-be32}
@@ -20,6 +20,22 @@ piece a b c whole i j whole_is i_is j_is =
     ∙ ap (λ r. take (j - i) r) (drop-append_seam a (b ++ c))
     ∙ ap (λ k. take k (b ++ c)) n
     ∙ take-append_seam b c
+
+two_parts : (n m : ℕ) (whole : List ℕ) → take n whole ++ take m (drop n whole) ≡ take (n + m) whole
+two_parts n m whole =
+    sym (ap (λ xs. xs ++ take m (drop n whole)) (take-take n (n + m) whole (omega arith)))
+    ∙ sym (ap (λ xs. take n (take (n + m) whole) ++ xs) (drop-take n m whole))
+    ∙ take-append-drop n (take (n + m) whole)
+
+-- two parts of a list that stand side by side are one
+pub side_by_side : (whole : List ℕ) (i j k : ℕ) → i ≤ j → j ≤ k → slice_range whole i k ≡ slice_range whole i j ++ slice_range whole j k
+side_by_side whole i j k first second =
+    let from_i : i + (j - i) ≡ j = omega arith in
+    let total : k - i ≡ (j - i) + (k - j) = omega arith in
+    let behind : drop (j - i) (drop i whole) ≡ drop j whole = drop-drop (j - i) i whole ∙ ap (λ n. drop n whole) from_i in
+    ap (λ n. take n (drop i whole)) total
+    ∙ sym (two_parts (j - i) (k - j) (drop i whole))
+    ∙ ap (λ xs. take (j - i) (drop i whole) ++ take (k - j) xs) behind
 
 get_or_behind : (a c : List ℕ) (x : ℕ) → get_or (a ++ x ∷ c) (length a) 0 ≡ x
 get_or_behind [] c x = refl

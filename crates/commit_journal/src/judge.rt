@@ -1,5 +1,5 @@
 //! Judges a whole batch in memory (docs/FORMAT.md, "The file").
-ghost use Rattle.std.specs.Prelude.{◌≡◌, ◌≢◌, ◌+◌, ◌≤◌, ◌^◌, length, slice_range, option_copied, Err, IfOk};
+ghost use Rattle.std.specs.Prelude.{◌≡◌, ◌≢◌, ◌+◌, ◌≤◌, ◌^◌, ◌++◌, length, slice_range, option_copied, Err, IfOk};
 ghost use Rattle.cry_base.specs.Layout.{batch_len, header_len, payload_offset, slot_offset, tag_offset};
 ghost use Rattle.cry_base.specs.Limits.{most_store_bytes};
 ghost use Rattle.chacha_seal.specs.Sealing.{masked};
@@ -44,9 +44,16 @@ pub(crate) fn tag_due(owner: &LogKey, previous: &[u8; 32], size: usize, batch: &
     let mut tag = owner.tag_start();
     tag.add(previous);
     tag.add(&batch[..HEAD_LEN]);
-    tag.add(&batch[PAYLOAD..PAYLOAD + size]);
-    tag.add(&batch[PAYLOAD + size..PAYLOAD + size + 32]);
+    tag.add(payload_and_check(size, batch));
     tag.end()
+}
+
+/// The payload of a batch and the check behind it.
+fn payload_and_check(size: usize, batch: &[u8]) -> &[u8]
+    requires { length batch.now ≡ batch_len + size }
+    ensures { result.now ≡ log.payload_in size batch.now ++ log.check_in size batch.now }
+{
+    &batch[PAYLOAD..PAYLOAD + size + 32]
 }
 
 /// Takes the veil away from a payload, and reads it.

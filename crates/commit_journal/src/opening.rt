@@ -1,6 +1,6 @@
 //! Opening a store for writing: its log as the owner's key reads it, and the slots that a stop left empty
 //! (docs/FORMAT.md, "Opening for writing").
-ghost use Rattle.std.specs.Prelude.{◌≡◌, ◌≢◌, ◌⊎◌, ◌<◌, ◌≤◌, ◌+◌, ◌^◌, Err, drop, length, is_some, IfOk, IfErr, OnErr, OnOk, All};
+ghost use Rattle.std.specs.Prelude.{◌≡◌, ◌≢◌, ◌⊎◌, ◌<◌, ◌≤◌, ◌+◌, ◌^◌, Err, drop, length, is_some, vec_len, IfOk, IfErr, OnErr, OnOk, All};
 ghost use Rattle.std.specs.Option.{option_to_list};
 ghost use Rattle.cry_base.specs.Layout.{batch_len, header_len};
 ghost use Rattle.cry_base.specs.Limits.{most_store_bytes};
@@ -27,7 +27,7 @@ use crate::past::Past;
 use crate::reading::{read_head, read_start};
 use crate::{Journal, OpenFault, Placed};
 use chacha_seal::{Key, LogKey, OwnerK};
-use cry_base::{Limits, List};
+use cry_base::{Limits, List, Mem};
 use cry_io::Disk;
 use std::alloc::Global;
 
@@ -69,13 +69,25 @@ fn read_owned_head<D: Disk>(disk: &mut D, limit: u64, past: &Past) -> Result<Hea
     Ok(head)
 }
 
-/// What stands behind an open gate, as its owner reads it. The memory that it takes is no more than the disk backs.
+/// Makes a buffer at least so long. What stood in it means nothing.
+fn lengthen(buffer: &mut Vec<u8>, len: usize) -> Mem<()>
+    ensures { OnOk result (len ≤ vec_len buffer.new) }
+{
+    if buffer.len() < len {
+        buffer.resize(len, 0)?;
+    }
+    Ok(())
+}
+
+/// What stands behind an open gate, as its owner reads it. The batch is read into the front of a buffer, which grows where that is
+/// longer, and so to no more than twice what the disk backs.
 fn read_owned<D: Disk>(
     alloc: Global,
     disk: &mut D,
     owner: &LogKey,
     limit: u64,
     past: &Past,
+    buffer: &mut Vec<u8>,
 ) -> Result<OwnedTurn, OpenFault>
     requires behind { header_len ≤ past.now.at }
     requires small { past.now.at ≤ 2 ^ 32 }
@@ -94,9 +106,12 @@ fn read_owned<D: Disk>(
     ensures disk_fault { result ≡ Err OpenFault.DiskFault → D.faults disk.old < D.faults disk.new }
 {
     let head = read_owned_head(disk, limit, past)?;
-    let mut batch = Vec::from_elem(alloc, 0, BATCH_LEN as usize + head.size as usize)?;
-    disk.read_at(past.at, &mut batch)?;
-    judge_owned(alloc, owner, past, &head, &mut batch)
+    let len = BATCH_LEN as usize + head.size as usize;
+    lengthen(buffer, len)?;
+    let bytes = buffer.as_mut_slice();
+    let batch = &mut bytes[..len];
+    disk.read_at(past.at, batch)?;
+    judge_owned(alloc, owner, past, &head, batch)
 }
 
 fn walk<D: Disk>(
@@ -125,11 +140,12 @@ fn walk<D: Disk>(
     let mut past = read_start(disk, owner)?;
     let mut log = List::new(alloc);
     let mut slots = List::new(alloc);
+    let mut buffer = Vec::new(alloc);
     while past.gate == OPEN {
         let OwnedTurn {
             turn: Turn { placed, past: next },
             unfilled,
-        } = read_owned(alloc, disk, owner, limit, &past)?;
+        } = read_owned(alloc, disk, owner, limit, &past, &mut buffer)?;
         log.push(placed)?;
         keep(&mut slots, unfilled)?;
         past = next;

@@ -1,5 +1,5 @@
-use Rattle.std.proofs.Common.{◌≡◌, ◌+◌, length, drop, Option, sym, ◌∙◌, ap, subst, take, arith}
-use Rattle.std.specs.Prelude.{All, option_to_list, slice_range}
+use Rattle.std.proofs.Common.{◌≡◌, ◌+◌, drop, Option, sym, ◌∙◌, subst, take, arith}
+use Rattle.std.specs.Prelude.{All, option_to_list}
 use Rattle.std.proofs.lemmas.Result.{IfOk-weaker, err_from_is_err_and}
 use Rattle.cry_base.specs.Layout.{batch_len}
 use Rattle.commit_journal.specs.declared.filling.Unfilled.{Unfilled}
@@ -7,7 +7,7 @@ use Rattle.commit_journal.specs.Filling.{IsWithin}
 use Rattle.commit_journal.specs.Opening.{owned_at, owned_head, owned_turn}
 use Rattle.commit_journal.proofs.CommitLemmas.{ok_both}
 use Rattle.commit_journal.proofs.Counted.{turn_counts}
-use Rattle.commit_journal.proofs.Judged.{fault_first, filled}
+use Rattle.commit_journal.proofs.Judged.{fault_first, read_into_front}
 use Rattle.commit_journal.proofs.OwnedLemmas.{owned_turn_is}
 use Rattle.commit_journal.proofs.SlotsUnfilled.{unfilled_read, unfilled_within}
 use Rattle.commit_journal.proofs.opening.read_owned.Goals as goal
@@ -24,36 +24,25 @@ pub returns-clause-answer : goal.returns-clause-answer
 returns-clause-answer g c = λ s is.
     let past = c.args.past.now in
     let head = c.in_ok-head.head in
-    let n = c.in_ok-batch.batch.len in
-    let sized = g.met.D.Disk.size_is_shown c.args.disk.now s is in
-    let long : n ≡ batch_len + head.size = c.in_ok-batch.ensures.len in
-    let loan : length c.deref_mut.result.now ≡ n = c.deref_mut.ensures.len in
-    let bytes = c.in_ok-read_at.ensures.bytes s (c.in_ok-head.ensures.read_only.same_bytes ∙ is) ∙ ap (λ k. slice_range s past.at (past.at + k)) loan in
-    let whole : c.deref_mut-2.result.now ≡ take (batch_len + head.size) (drop past.at s) =
-    filled n past.at s c.read_at.new.buf c.in_ok-batch.batch.items c.deref_mut-2.result.now
-    (omega (arith, sized, long, c.in_ok-head.ensures.inside)) bytes c.deref_mut-2.ensures.value
-    ∙ ap (λ k. take k (drop past.at s)) long
+    let whole : c.read_at.new.buf ≡ take (batch_len + head.size) (drop past.at s) =
+    read_into_front (batch_len + head.size) past.at s c.as_mut_slice-bytes.result.now c.read_at.new.buf
+    (omega (arith, c.in_ok-lengthen.ensures, c.as_mut_slice-bytes.ensures.len)) (c.in_ok-read_at.ensures.bytes s (c.in_ok-head.ensures.read_only.same_bytes ∙ is))
     in
-    rw (owned_turn_is c.args.limit c.args.owner.now.bytes past (drop past.at s) head c.deref_mut-2.result.now (c.in_ok-head.ensures.answer s is) whole)
+    rw (owned_turn_is c.args.limit c.args.owner.now.bytes past (drop past.at s) head c.read_at.new.buf (c.in_ok-head.ensures.answer s is) whole)
     c.judge_owned.ensures.answer
 
 pub returns-clause-unfilled : goal.returns-clause-unfilled
 returns-clause-unfilled g c =
     let past = c.args.past.now in
     let head = c.in_ok-head.head in
-    let n = c.in_ok-batch.batch.len in
     ok_both c.judge_owned.result _ _ _
     (λ o turn slot. λ s is.
     let sized = g.met.D.Disk.size_is_shown c.args.disk.now s is in
-    let long : n ≡ batch_len + head.size = c.in_ok-batch.ensures.len in
-    let loan : length c.deref_mut.result.now ≡ n = c.deref_mut.ensures.len in
-    let bytes = c.in_ok-read_at.ensures.bytes s (c.in_ok-head.ensures.read_only.same_bytes ∙ is) ∙ ap (λ k. slice_range s past.at (past.at + k)) loan in
-    let whole : c.deref_mut-2.result.now ≡ take (batch_len + head.size) (drop past.at s) =
-    filled n past.at s c.read_at.new.buf c.in_ok-batch.batch.items c.deref_mut-2.result.now
-    (omega (arith, sized, long, c.in_ok-head.ensures.inside)) bytes c.deref_mut-2.ensures.value
-    ∙ ap (λ k. take k (drop past.at s)) long
+    let whole : c.read_at.new.buf ≡ take (batch_len + head.size) (drop past.at s) =
+    read_into_front (batch_len + head.size) past.at s c.as_mut_slice-bytes.result.now c.read_at.new.buf
+    (omega (arith, c.in_ok-lengthen.ensures, c.as_mut_slice-bytes.ensures.len)) (c.in_ok-read_at.ensures.bytes s (c.in_ok-head.ensures.read_only.same_bytes ∙ is))
     in
-    unfilled_read c.args.owner.now.bytes s c.deref_mut-2.result.now past head o whole (omega (arith, sized, c.in_ok-head.ensures.inside)) turn slot)
+    unfilled_read c.args.owner.now.bytes s c.read_at.new.buf past head o whole (omega (arith, sized, c.in_ok-head.ensures.inside)) turn slot)
     c.judge_owned.ensures.turn c.judge_owned.ensures.unfilled
 
 pub returns-clause-within : goal.returns-clause-within
