@@ -69,18 +69,19 @@ fn read_owned_head<D: Disk>(disk: &mut D, limit: u64, past: &Past) -> Result<Hea
     Ok(head)
 }
 
-/// Makes a buffer at least so long. What stood in it means nothing.
-fn lengthen(buffer: &mut Vec<u8>, len: usize) -> Mem<()>
+/// Makes a buffer at least so long. What stood in it means nothing, so a shorter one is given back before a longer one is taken.
+fn lengthen(alloc: Global, buffer: &mut Vec<u8>, len: usize) -> Mem<()>
     ensures { OnOk result (len ≤ vec_len buffer.new) }
 {
     if buffer.len() < len {
-        buffer.resize(len, 0)?;
+        *buffer = Vec::new(alloc);
+        *buffer = Vec::from_elem(alloc, 0, len)?;
     }
     Ok(())
 }
 
-/// What stands behind an open gate, as its owner reads it. The batch is read into the front of a buffer, which grows where that is
-/// longer, and so to no more than twice what the disk backs.
+/// What stands behind an open gate, as its owner reads it. The batch is read into the front of the buffer, which is made longer where
+/// the batch is, so that the memory it takes is no more than the disk backs.
 fn read_owned<D: Disk>(
     alloc: Global,
     disk: &mut D,
@@ -107,7 +108,7 @@ fn read_owned<D: Disk>(
 {
     let head = read_owned_head(disk, limit, past)?;
     let len = BATCH_LEN as usize + head.size as usize;
-    lengthen(buffer, len)?;
+    lengthen(alloc, buffer, len)?;
     let bytes = buffer.as_mut_slice();
     let batch = &mut bytes[..len];
     disk.read_at(past.at, batch)?;
