@@ -18,12 +18,12 @@ seen_store tree granted = record (public_store tree granted.pairs) {
   holders_made = length granted.checks;
 }
 
--- a change as the definitions have it: the items of its lists
+-- a change as the definitions have it: what stands in its lists
 abbrev pub plain_change : Declared → Change
 plain_change c = record {
   removed = c.removed.items;
   gone = c.gone.items;
-  wanted = c.wanted.items;
-  fresh = c.fresh.items;
+  wanted = c.wanted;
+  fresh = c.fresh;
   added = c.added.items;
 }

@@ -11,7 +11,7 @@ use crate::changes::{
 };
 use crate::dropping::drop_folder;
 use crate::fitting::{folder_of, parent_of};
-use crate::{ChangeFault, fits};
+use crate::{ChangeFault, FewRoles, fits};
 use cry_base::{Edge, List, Mem, Role};
 use folder_nodes::Shape;
 use grant_book::Grants;
@@ -26,11 +26,11 @@ pub struct Change {
     /// The roles that go, with their marks.
     pub gone: List<Role>,
     /// The roles that must be clean for what is added or written.
-    pub wanted: List<Role>,
+    pub wanted: FewRoles,
     /// The roles that come, each with a new key.
-    pub fresh: List<Role>,
+    pub fresh: FewRoles,
     /// The edges that come.
-    pub added: List<Edge>,
+    pub added: Vec<Edge>,
 }
 
 /// The change of the note. `Unfit` comes exactly where the note doesn't fit, and is tested before any memory is taken.

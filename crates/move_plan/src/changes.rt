@@ -6,8 +6,8 @@ ghost use Rattle.move_plan.specs.Seen.{plain_change};
 ghost use Rattle.record_format.specs.Noted.Note.{Root, NewHolder, NewFolder, NewFile, Rewrite, NameFile, NameFolder, DropFile, ShiftFile};
 ghost use Rattle.record_format.specs.Noted.Note.{ShiftFolder, Give, Take};
 
-use crate::Change;
-use crate::edging::{edges_of, folder_edges_with_parent, folder_roles, roles_of};
+use crate::edging::{added_edges, edges_of, folder_edges_with_parent, folder_roles, roles_of};
+use crate::{Change, FewRoles};
 use cry_base::{FileId, FolderId, HolderId, List, Mem, Role};
 use role_graph::{edges_between, edges_within, kinds};
 use std::alloc::Global;
@@ -17,12 +17,12 @@ pub(crate) fn make_root(alloc: Global) -> Mem<Change>
     ensures { IfOk result (λ c. (s : Store) → plain_change c ≡ change_of_note s Root) }
 {
     let root = FolderId(1);
-    let fresh = roles_of(alloc, &folder_roles(root))?;
-    let added = edges_of(alloc, &edges_within(root))?;
+    let fresh = FewRoles::five(folder_roles(root));
+    let added = added_edges(alloc, &edges_within(root))?;
     Ok(Change {
         removed: List::new(alloc),
         gone: List::new(alloc),
-        wanted: List::new(alloc),
+        wanted: FewRoles::none(),
         fresh,
         added,
     })
@@ -32,13 +32,13 @@ pub(crate) fn make_root(alloc: Global) -> Mem<Change>
 pub(crate) fn make_holder(alloc: Global, holder: HolderId) -> Mem<Change>
     ensures { IfOk result (λ c. (s : Store) (check : AnyList ℕ) → plain_change c ≡ change_of_note s (NewHolder holder.0 check)) }
 {
-    let fresh = roles_of(alloc, &[Role::Holder(holder)])?;
+    let fresh = FewRoles::one(Role::Holder(holder));
     Ok(Change {
         removed: List::new(alloc),
         gone: List::new(alloc),
-        wanted: List::new(alloc),
+        wanted: FewRoles::none(),
         fresh,
-        added: List::new(alloc),
+        added: Vec::new(alloc),
     })
 }
 
@@ -46,9 +46,9 @@ pub(crate) fn make_holder(alloc: Global, holder: HolderId) -> Mem<Change>
 pub(crate) fn make_folder(alloc: Global, folder: FolderId, parent: FolderId) -> Mem<Change>
     ensures { IfOk result (λ c. (s : Store) → plain_change c ≡ change_of_note s (NewFolder folder.0 parent.0)) }
 {
-    let wanted = roles_of(alloc, &[Role::Sub(parent)])?;
-    let fresh = roles_of(alloc, &folder_roles(folder))?;
-    let added = edges_of(alloc, &folder_edges_with_parent(folder, parent))?;
+    let wanted = FewRoles::one(Role::Sub(parent));
+    let fresh = FewRoles::five(folder_roles(folder));
+    let added = added_edges(alloc, &folder_edges_with_parent(folder, parent))?;
     Ok(Change {
         removed: List::new(alloc),
         gone: List::new(alloc),
@@ -62,9 +62,9 @@ pub(crate) fn make_folder(alloc: Global, folder: FolderId, parent: FolderId) -> 
 pub(crate) fn make_file(alloc: Global, file: FileId, folder: FolderId) -> Mem<Change>
     ensures { IfOk result (λ c. (s : Store) → plain_change c ≡ change_of_note s (NewFile file.0 folder.0)) }
 {
-    let wanted = roles_of(alloc, &[Role::Files(folder)])?;
-    let fresh = roles_of(alloc, &[Role::File(file)])?;
-    let added = edges_of(alloc, &[kinds::files_to_file(folder, file)])?;
+    let wanted = FewRoles::one(Role::Files(folder));
+    let fresh = FewRoles::one(Role::File(file));
+    let added = added_edges(alloc, &[kinds::files_to_file(folder, file)])?;
     Ok(Change {
         removed: List::new(alloc),
         gone: List::new(alloc),
@@ -100,13 +100,13 @@ pub(crate) fn name_folder(alloc: Global, folder: FolderId) -> Mem<Change>
 fn only_wanted(alloc: Global, role: Role) -> Mem<Change>
     ensures { IfOk result (λ c. plain_change c ≡ record no_change { wanted = role ∷ [] }) }
 {
-    let wanted = roles_of(alloc, &[role])?;
+    let wanted = FewRoles::one(role);
     Ok(Change {
         removed: List::new(alloc),
         gone: List::new(alloc),
         wanted,
-        fresh: List::new(alloc),
-        added: List::new(alloc),
+        fresh: FewRoles::none(),
+        added: Vec::new(alloc),
     })
 }
 
@@ -120,9 +120,9 @@ pub(crate) fn drop_file(alloc: Global, file: FileId, folder: FolderId) -> Mem<Ch
     Ok(Change {
         removed,
         gone,
-        wanted: List::new(alloc),
-        fresh: List::new(alloc),
-        added: List::new(alloc),
+        wanted: FewRoles::none(),
+        fresh: FewRoles::none(),
+        added: Vec::new(alloc),
     })
 }
 
@@ -138,13 +138,13 @@ pub(crate) fn move_file(
         → plain_change c ≡ change_of_note s (ShiftFile file.0 into.0)) }
 {
     let removed = edges_of(alloc, &[kinds::files_to_file(folder, file)])?;
-    let wanted = roles_of(alloc, &[Role::Files(into)])?;
-    let added = edges_of(alloc, &[kinds::files_to_file(into, file)])?;
+    let wanted = FewRoles::one(Role::Files(into));
+    let added = added_edges(alloc, &[kinds::files_to_file(into, file)])?;
     Ok(Change {
         removed,
         gone: List::new(alloc),
         wanted,
-        fresh: List::new(alloc),
+        fresh: FewRoles::none(),
         added,
     })
 }
@@ -161,13 +161,13 @@ pub(crate) fn move_folder(
         → plain_change c ≡ change_of_note s (ShiftFolder folder.0 into.0)) }
 {
     let removed = edges_of(alloc, &edges_between(folder, parent))?;
-    let wanted = roles_of(alloc, &[Role::Sub(into), Role::Back(folder)])?;
-    let added = edges_of(alloc, &edges_between(folder, into))?;
+    let wanted = FewRoles::two(Role::Sub(into), Role::Back(folder));
+    let added = added_edges(alloc, &edges_between(folder, into))?;
     Ok(Change {
         removed,
         gone: List::new(alloc),
         wanted,
-        fresh: List::new(alloc),
+        fresh: FewRoles::none(),
         added,
     })
 }
@@ -176,12 +176,12 @@ pub(crate) fn move_folder(
 pub(crate) fn give(alloc: Global, holder: HolderId, folder: FolderId) -> Mem<Change>
     ensures { IfOk result (λ c. (s : Store) → plain_change c ≡ change_of_note s (Give holder.0 folder.0)) }
 {
-    let added = edges_of(alloc, &[kinds::holder_to_clear(holder, folder)])?;
+    let added = added_edges(alloc, &[kinds::holder_to_clear(holder, folder)])?;
     Ok(Change {
         removed: List::new(alloc),
         gone: List::new(alloc),
-        wanted: List::new(alloc),
-        fresh: List::new(alloc),
+        wanted: FewRoles::none(),
+        fresh: FewRoles::none(),
         added,
     })
 }
@@ -191,12 +191,12 @@ pub(crate) fn take(alloc: Global, holder: HolderId, folder: FolderId) -> Mem<Cha
     ensures { IfOk result (λ c. (s : Store) → plain_change c ≡ change_of_note s (Take holder.0 folder.0)) }
 {
     let removed = edges_of(alloc, &[kinds::holder_to_clear(holder, folder)])?;
-    let wanted = roles_of(alloc, &[Role::Clear(folder)])?;
+    let wanted = FewRoles::one(Role::Clear(folder));
     Ok(Change {
         removed,
         gone: List::new(alloc),
         wanted,
-        fresh: List::new(alloc),
-        added: List::new(alloc),
+        fresh: FewRoles::none(),
+        added: Vec::new(alloc),
     })
 }

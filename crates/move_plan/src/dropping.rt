@@ -4,8 +4,8 @@ ghost use Rattle.move_plan.specs.Change.{change_of as change_of_note, edges_at};
 ghost use Rattle.move_plan.specs.Seen.{plain_change, seen_store};
 ghost use Rattle.record_format.specs.Noted.Note.{DropFolder};
 
-use crate::Change;
 use crate::edging::{folder_roles, roles_of};
+use crate::{Change, FewRoles};
 use cry_base::{Edge, FolderId, List, Mem, Steps};
 use folder_nodes::Shape;
 use grant_book::Grants;
@@ -27,9 +27,9 @@ pub(crate) fn drop_folder(
     Ok(Change {
         removed,
         gone,
-        wanted: List::new(alloc),
-        fresh: List::new(alloc),
-        added: List::new(alloc),
+        wanted: FewRoles::none(),
+        fresh: FewRoles::none(),
+        added: Vec::new(alloc),
     })
 }
 

@@ -63,3 +63,11 @@ pub(crate) fn edges_of(alloc: Global, edges: &[Edge]) -> Mem<List<Edge>>
     }
     Ok(list)
 }
+
+/// These edges as a vector, which moves on into what is published.
+pub(crate) fn added_edges(alloc: Global, edges: &[Edge]) -> Mem<Vec<Edge>>
+    ensures { IfOk result (λ l. l.items ≡ edges.now) }
+{
+    let added = Vec::from_slice(alloc, edges)?;
+    Ok(added)
+}

@@ -6,10 +6,12 @@ mod changes;
 mod dropping;
 mod edging;
 mod fault;
+mod few_roles;
 mod fitting;
 pub mod laws;
 pub mod rows;
 
 pub use change::{Change, change_of};
 pub use fault::ChangeFault;
+pub use few_roles::FewRoles;
 pub use fitting::fits;

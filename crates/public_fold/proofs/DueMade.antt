@@ -9,14 +9,14 @@ use Rattle.role_graph.specs.Roles.{same_role}
 use Rattle.rekey_walk.specs.Dirty.{mark_all, plan}
 use Rattle.move_plan.specs.Change.{Change}
 use Rattle.public_fold.specs.KeyStep.{KeyState, dirty_left, edges_left, published_edges, renewed, without, keys_without}
-use Rattle.public_fold.specs.Stepping.{IsDue}
+use Rattle.public_fold.specs.Stepping.{IsDue, keyed_of}
 use Rattle.public_fold.specs.declared.step.Due.{Due}
 
 -- where marks and plan are those of the edges, and what was found for the plan is published
 pub due_is : (k : KeyState) (before : List Edge) (c : Change) (marked again : List Role) (d : Due)
     → marked ≡ without same_role c.gone (mark_all k.dirty before (map (λ (e : Edge). e.to) c.removed))
     → again ≡ plan marked (edges_but c.removed before) c.wanted
-    → d.keyed.items ≡ again ++ c.fresh
+    → keyed_of d ≡ again ++ c.fresh
     → d.gone.items ≡ again ++ c.gone
     → d.edges.items ≡ published_edges before c again
     → d.dirty ≡ without same_role again marked

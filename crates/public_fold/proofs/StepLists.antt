@@ -1,5 +1,5 @@
 -- Lists of roles, keys and links, built item by item.
-use Rattle.std.proofs.Common.{◌≡◌, ℕ, ◌+◌, ◌<◌, ◌≤◌, true, false, cond, not, ◌&&◌, ◌||◌, List, [], ◌∷◌, ◌++◌, length, get_or, drop, map, Some, None, refl, sym, ap, ◌∙◌}
+use Rattle.std.proofs.Common.{◌≡◌, ℕ, ◌+◌, ◌<◌, ◌≤◌, true, false, cond, not, ◌&&◌, ◌||◌, List, [], ◌∷◌, ◌++◌, length, get_or, drop, map, Some, None, refl, sym, ap, ◌∙◌, arith}
 use Rattle.std.specs.List.{list_any}
 use Rattle.std.proofs.lemmas.List.{append_assoc, append-nil, at_drop_more, at_drop_all}
 use Rattle.cry_base.specs.Sets.{has}
@@ -56,6 +56,14 @@ numbered_more X done xs n i d h =
 pub numbered_all : (X : Type 0) (done : List (X × ℕ)) (xs : List X) (n i : ℕ) → length xs ≤ i → done ++ numbered n (drop i xs) ≡ done
 unfolding numbered
 numbered_all X done xs n i h = ap (λ l. done ++ l) (at_drop_all (λ (l : List X). numbered n l) xs i h) ∙ append-nil done
+
+-- what is numbered in two parts, of which the other one goes on behind the one
+pub numbered_apart : (X : Type 0) (n : ℕ) (xs ys : List X) → numbered n (xs ++ ys) ≡ numbered n xs ++ numbered (n + length xs) ys
+unfolding numbered
+numbered_apart X n [] ys = let e : n ≡ n + 0 = omega arith in ap (λ m. numbered m ys) e
+numbered_apart X n (x ∷ xs) ys =
+    let e : n + 1 + length xs ≡ n + length (x ∷ xs) = omega arith in
+    ap (λ l. (x, n) ∷ l) (numbered_apart X (n + 1) xs ys ∙ ap (λ m. numbered (n + 1) xs ++ numbered m ys) e)
 
 pub linked_more : (keys : List (Role × ℕ)) (done : List Link) (es : List Edge) (n i : ℕ) (d : Edge) → i < length es
     → (done ++ link_of keys (get_or es i d, n) ∷ []) ++ links_from keys (n + 1) (drop (i + 1) es) ≡ done ++ links_from keys n (drop i es)

@@ -15,7 +15,7 @@ use Rattle.move_plan.specs.Fitting.{file_stands, fits, folder_stands, has_depth_
 use Rattle.public_fold.specs.Heads.{content_head, due_of, textless}
 use Rattle.public_fold.specs.KeyStep.{KeyState, content_of, contents_from, given, key_step, keys_then, keys_without, links_from, next_serial, numbered, published, published_edges, renewed, step_with}
 use Rattle.public_fold.specs.Records.{Piece, file_piece, folder_piece, holder_piece, pieces_of, sealing_role}
-use Rattle.public_fold.specs.Stepping.{IsDue, IsNumbered, IsStep, counted, keys_left}
+use Rattle.public_fold.specs.Stepping.{IsDue, IsNumbered, IsStep, counted, keyed_of, keys_left}
 use Rattle.public_fold.specs.Told.{told_store}
 use Rattle.public_fold.specs.declared.step.Due.{Due}
 use Rattle.public_fold.specs.declared.step.Step.{Step}
@@ -85,7 +85,7 @@ as_many (p ∷ ps) = ap suc (as_many ps)
 -- ---- the step
 
 module _ (k : KeyState) (before : List Edge) (c : Change) (note : Note) (pieces : List Piece) (d : Due) (due : map bare pieces ≡ due_of note) (is : IsDue k before c d) where
-  keyed_len : length d.keyed.items ≡ length (given k c (renewed k before c))
+  keyed_len : length (keyed_of d) ≡ length (given k c (renewed k before c))
   unfolding given
   keyed_len = ap length is.keyed ∙ sym (numbered-length Role (next_serial k) (renewed k before c ++ c.fresh))
 

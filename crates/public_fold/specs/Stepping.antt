@@ -18,9 +18,13 @@ use Rattle.public_fold.specs.declared.step.Step.{Step}
 abbrev pub IsOfFittingNote : Store → Change → Type 0
 IsOfFittingNote s c = (note : Note) × (fits s note ≡ true) × (c ≡ change_of s note)
 
+-- the roles that get keys: those that are renewed, and then those that come
+abbrev pub keyed_of : Due → List Role
+keyed_of d = d.renewed.items ++ d.fresh
+
 -- the roles that get keys, those whose old keys go, the dirty roles that are left, and the edges that are published
 pub record IsDue (k : KeyState) (before : List Edge) (c : Change) (d : Due) : Type 0 where
-  pub keyed : d.keyed.items ≡ renewed k before c ++ c.fresh
+  pub keyed : keyed_of d ≡ renewed k before c ++ c.fresh
   pub gone : d.gone.items ≡ renewed k before c ++ c.gone
   pub dirty : d.dirty ≡ without same_role (renewed k before c) (dirty_left k before c)
   pub edges : d.edges.items ≡ published_edges before c (renewed k before c)
@@ -35,15 +39,15 @@ keys_at keys from = record { keys = keys; dirty = []; epoch = from.epoch; count 
 
 -- where the counter stands once keys, links and contents took their serials
 abbrev pub counted : KeyState → Note → Due → ℕ
-counted k note d = k.count + length d.keyed.items + length d.edges.items + length (due_of note)
+counted k note d = k.count + length (keyed_of d) + length d.edges.items + length (due_of note)
 
 -- the same with their serials
 pub record IsNumbered (k : KeyState) (note : Note) (d : Due) (s : Step) : Type 0 where
-  pub given : s.skeleton.keys.items ≡ numbered (next_serial k) d.keyed.items
+  pub given : s.skeleton.keys.items ≡ numbered (next_serial k) (keyed_of d)
   pub gone : s.left.gone.items ≡ d.gone.items
-  pub links : s.skeleton.links.items ≡ links_from (keys_left k.keys s) (next_serial k + length d.keyed.items) d.edges.items
+  pub links : s.skeleton.links.items ≡ links_from (keys_left k.keys s) (next_serial k + length (keyed_of d)) d.edges.items
   pub contents : s.skeleton.contents.items
-      ≡ map content_head (contents_from (keys_left k.keys s) (next_serial k + length d.keyed.items + length d.edges.items) (due_of note))
+      ≡ map content_head (contents_from (keys_left k.keys s) (next_serial k + length (keyed_of d) + length d.edges.items) (due_of note))
   pub dirty : s.left.dirty ≡ d.dirty
   pub epoch : s.left.epoch ≡ k.epoch
   pub count : s.left.count ≡ counted k note d

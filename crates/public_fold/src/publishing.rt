@@ -1,5 +1,5 @@
 //! Which edges a step publishes (docs/FORMAT.md, "The key step").
-ghost use Rattle.std.specs.Prelude.{◌≡◌, ◌++◌, ◌||◌, filter, IfOk, OnOk};
+ghost use Rattle.std.specs.Prelude.{◌≡◌, ◌++◌, ◌||◌, filter, IfOk};
 ghost use Rattle.cry_base.specs.Sets.{has};
 ghost use Rattle.role_graph.specs.Edges.{same_edge, edge_before, edges, in_order};
 ghost use Rattle.role_graph.specs.PublicStore.{public_store};
@@ -17,24 +17,26 @@ pub(crate) fn published(
     alloc: Global,
     roles: &StoreRoles,
     removed: &[Edge],
-    added: &[Edge],
+    added: Vec<Edge>,
     renewed: &[Role],
     steps: &mut Steps,
 ) -> Mem<Vec<Edge>>
     ensures { IfOk result (λ l. l.items ≡ in_order edge_before (without same_edge removed.now
         (filter (λ e. has same_role renewed.now e.from || has same_role renewed.now e.to)
-        (edges (public_store roles.now.shape.now.tree roles.now.grants.now.pairs))) ++ added.now)) }
+        (edges (public_store roles.now.shape.now.tree roles.now.grants.now.pairs))) ++ added.items)) }
 {
     let touching = roles.edges_touching(alloc, renewed, steps)?;
-    let mut found = edges_left(alloc, touching.as_slice(), removed)?;
-    push_all(&mut found, added)?;
-    in_their_order(found)
+    let left = edges_left(alloc, touching.as_slice(), removed)?;
+    in_their_order(with_added(left, added)?)
 }
 
-/// Adds the edges at the end.
-fn push_all(found: &mut Vec<Edge>, edges: &[Edge]) -> Mem<()>
-    ensures { OnOk result (found.new.items ≡ found.old.items ++ edges.now) }
+/// The edges that are left, and behind them those that come, which takes no memory where none are left: so it is in most steps.
+fn with_added(mut left: Vec<Edge>, added: Vec<Edge>) -> Mem<Vec<Edge>>
+    ensures { IfOk result (λ l. l.items ≡ left.items ++ added.items) }
 {
-    found.extend_from_slice(edges)?;
-    Ok(())
+    if left.is_empty() {
+        return Ok(added);
+    }
+    left.extend_from_slice(&added)?;
+    Ok(left)
 }

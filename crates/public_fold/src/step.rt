@@ -19,7 +19,7 @@ use crate::publishing::published;
 use crate::sealing::{content_count, content_heads};
 use crate::{FoldFault, PublicState, Skeleton};
 use cry_base::{Edge, List, Mem, Role, Steps};
-use move_plan::{Change, change_of};
+use move_plan::{Change, FewRoles, change_of};
 use record_format::Note;
 use rekey_walk::{Dirty, plan_closed};
 use role_graph::StoreRoles;
@@ -28,8 +28,10 @@ use std::alloc::Global;
 /// A step before its serials are counted.
 #[derive(Debug, Drop)]
 pub(crate) struct Due {
-    /// The roles that get keys.
-    pub(crate) keyed: List<Role>,
+    /// The roles whose keys are renewed. They get keys first.
+    pub(crate) renewed: List<Role>,
+    /// The roles that come. They get keys behind those.
+    pub(crate) fresh: FewRoles,
     /// The roles whose old keys go.
     pub(crate) gone: List<Role>,
     /// The dirty roles that are left.
@@ -91,17 +93,23 @@ fn due_step(alloc: Global, state: &PublicState, change: Change) -> Mem<Due>
     };
     let mut steps = Steps::new();
     let mut dirty = dirty_left(alloc, &state.dirty, &roles, &change, &mut steps)?;
-    let removed = change.removed.as_slice();
-    let wanted = change.wanted.as_slice();
+    let Change {
+        removed,
+        gone,
+        wanted,
+        fresh,
+        added,
+    } = change;
+    let removed = removed.as_slice();
+    let wanted = wanted.as_slice();
     let renewed = plan_closed(alloc, &dirty, &roles, removed, wanted, &mut steps)?;
-    let renewed = renewed.as_slice();
-    let added = change.added.as_slice();
-    let edges = published(alloc, &roles, removed, added, renewed, &mut steps)?;
-    let keyed = joined(alloc, renewed, change.fresh)?;
-    let gone = joined(alloc, renewed, change.gone)?;
-    clean(&mut dirty, renewed);
+    let again = renewed.as_slice();
+    let edges = published(alloc, &roles, removed, added, again, &mut steps)?;
+    let gone = joined(alloc, again, gone)?;
+    clean(&mut dirty, again);
     Ok(Due {
-        keyed,
+        renewed,
+        fresh,
         gone,
         dirty,
         edges,
@@ -120,24 +128,21 @@ fn numbered_step(
     ensures step { IfOk result (IsNumbered (keys_at old.now.keys from) (told_note note.now) due) }
     ensures unfit { result ≡ Err FoldFault.Unfit → 4294967295 ≤ counted (keys_at old.now.keys from) (told_note note.now) due }
 {
-    let (keyed, published) = (due.keyed.as_slice(), due.edges.as_slice());
-    let counted = count_after(
-        from.count,
-        keyed.len(),
-        published.len(),
-        content_count(note),
-    );
+    let (renewed, fresh) = (due.renewed.as_slice(), due.fresh.as_slice());
+    let published = due.edges.as_slice();
+    let key_count = renewed.len() + fresh.len();
+    let counted = count_after(from.count, key_count, published.len(), content_count(note));
     let Some(count) = counted else {
         return Err(FoldFault::Unfit);
     };
     let first = next_serial(from.epoch, from.count);
-    let given = given_keys(alloc, keyed, first)?;
+    let given = given_keys(alloc, renewed, fresh, first)?;
     let keys = KeysThen {
         given: given.as_slice(),
         gone: due.gone.as_slice(),
         old,
     };
-    let first_link = first + keyed.len() as u64;
+    let first_link = first + key_count as u64;
     let links = link_heads(alloc, &keys, published, first_link)?;
     let first_content = first_link + published.len() as u64;
     let contents = content_heads(alloc, &keys, note, first_content)?;

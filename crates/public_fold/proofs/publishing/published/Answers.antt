@@ -10,8 +10,8 @@ use Rattle.public_fold.proofs.publishing.published.Goals as goal
 pub returns : goal.returns
 returns c =
     let es = edges (public_store c.args.roles.now.shape.now.tree c.args.roles.now.grants.now.pairs) in
-    let due : List Edge = without same_edge c.args.removed.now (filter (touches c.args.renewed.now) es) ++ c.args.added.now in
-    let all : c.push_all.new.found.items ≡ due =
-    c.in_ok-push_all.ensures ∙ ap (λ (l : List Edge). l ++ c.args.added.now) (c.in_ok-found.ensures ∙ ap (without same_edge c.args.removed.now) (c.as_slice.ensures ∙ c.in_ok-touching.ensures.edges)) in
-    IfOk-weaker c.in_their_order.result (λ l. l.items ≡ in_order edge_before c.push_all.new.found.items) (λ l. l.items ≡ in_order edge_before due)
+    let left : List Edge = without same_edge c.args.removed.now (filter (touches c.args.renewed.now) es) in
+    let all : c.in_ok-with_added.field-0.items ≡ left ++ c.args.added.items =
+    c.in_ok-with_added.ensures ∙ ap (λ (l : List Edge). l ++ c.args.added.items) (c.in_ok-left.ensures ∙ ap (without same_edge c.args.removed.now) (c.as_slice.ensures ∙ c.in_ok-touching.ensures.edges)) in
+    IfOk-weaker c.in_their_order.result (λ l. l.items ≡ in_order edge_before c.in_ok-with_added.field-0.items) (λ l. l.items ≡ in_order edge_before (left ++ c.args.added.items))
     (λ l e. e ∙ ap (λ (x : List Edge). in_order edge_before x) all) c.in_their_order.ensures

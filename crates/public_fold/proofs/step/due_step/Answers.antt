@@ -1,4 +1,4 @@
-use Rattle.std.proofs.Common.{◌≡◌, ◌++◌, List, filter, map, sym, ap, ◌∙◌, subst}
+use Rattle.std.proofs.Common.{◌≡◌, ◌++◌, List, filter, map, refl, sym, ap, ◌∙◌, subst}
 use Rattle.cry_base.specs.Store.{Store}
 use Rattle.cry_base.specs.declared.roles.Edge.{Edge}
 use Rattle.cry_base.specs.declared.roles.Role.{Role}
@@ -39,19 +39,19 @@ returns c =
     let s : Store = public_store c.state.inside.shape.tree c.state.inside.grants.pairs in
     let k : KeyState = record { keys = c.state.inside.keys.keys; dirty = c.state.inside.dirty; epoch = c.state.inside.epoch; count = c.state.inside.count } in
     let again : List Role = c.in_ok-renewed.renewed.items in
-    let made : Due = record { keyed = c.in_ok-keyed.keyed; gone = c.in_ok-gone.gone; dirty = c.clean.new.dirty; edges = c.in_ok-edges.edges } in
+    let made : Due = record { renewed = c.in_ok-renewed.renewed; fresh = c.args.change.fresh; gone = c.in_ok-gone.gone; dirty = c.clean.new.dirty; edges = c.in_ok-edges.edges } in
     let v = c.args.state.now in
     let stands : MayStand (public_store_of v) = subst (λ (w : PublicView). MayStand (public_store_of w)) c.state.view_is c.state.invariant.stands in
     let same : public_store v.tree v.pairs ≡ s = ap (λ (w : PublicView). public_store w.tree w.pairs) (sym c.state.view_is) in
     subst (λ (w : PublicView). IsDue w.keys (edges (public_store w.tree w.pairs)) change made) c.state.view_is
     (due_is k (edges s) change c.in_ok-dirty.dirty again made
     c.in_ok-dirty.ensures
-    (c.in_ok-renewed.ensures.plan ∙ (λ i. plan c.in_ok-dirty.dirty (edges_but (c.as_slice-removed.ensures i) (edges s)) (c.as_slice-wanted.ensures i)))
-    (c.in_ok-keyed.ensures ∙ (λ i. c.as_slice-renewed.ensures i ++ c.args.change.fresh.items))
-    (c.in_ok-gone.ensures ∙ (λ i. c.as_slice-renewed.ensures i ++ c.args.change.gone.items))
+    (c.in_ok-renewed.ensures.plan ∙ (λ i. plan c.in_ok-dirty.dirty (edges_but (c.as_slice-removed.ensures i) (edges s)) (c.as_slice-wanted.ensures.roles i)))
+    refl
+    (c.in_ok-gone.ensures ∙ (λ i. c.as_slice-again.ensures i ++ c.args.change.gone.items))
     (c.in_ok-edges.ensures
-    ∙ (λ i. in_order edge_before (without same_edge (c.as_slice-removed.ensures i) (filter (touches (c.as_slice-renewed.ensures i)) (edges s)) ++ c.as_slice-added.ensures i))
+    ∙ (λ i. in_order edge_before (without same_edge (c.as_slice-removed.ensures i) (filter (touches (c.as_slice-again.ensures i)) (edges s)) ++ change.added))
     ∙ ap (λ (l : Store). in_order edge_before (without same_edge change.removed (filter (touches again) (edges l)) ++ change.added)) (sym same)
     ∙ found_for v change stands c.requires again
     ∙ ap (λ (l : Store). published_edges (edges l) change again) same)
-    (c.clean.ensures ∙ ap (λ (l : List Role). without same_role l c.in_ok-dirty.dirty) c.as_slice-renewed.ensures))
+    (c.clean.ensures ∙ ap (λ (l : List Role). without same_role l c.in_ok-dirty.dirty) c.as_slice-again.ensures))
