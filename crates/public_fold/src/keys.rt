@@ -11,22 +11,28 @@ use cry_base::{Mem, Role, Serial};
 use std::alloc::Global;
 use std::marker::Model;
 
+/// For how many keys room is made at once, at the least: so most steps find it made, and ask no table.
+const AHEAD: usize = 16;
+
 /// The newest key of each role. Contracts see the keys as a list, the newest first; there is one row a role, in the table of
 /// its kind. `spare` is how many more fit without memory; it may be more than was asked for.
 #[derive(Drop)]
 pub(crate) struct KeyTable {
     rows: KeysByKind,
     order: KeyOrder,
+    // So many keys more fit into each table.
+    room: usize,
 }
 
 impl Model for KeyTable {
+    ghost use Rattle.std.specs.Prelude.{◌≤◌};
     ghost use Rattle.public_fold.specs.KeyTables.{IsTableOf, KeyList};
 
     ghost Value = { KeyList };
 
-    ghost view = { λ t. record { keys = t.order.keys; spare = t.rows.spare } };
+    ghost view = { λ t. record { keys = t.order.keys; spare = t.room } };
 
-    ghost invariant = { λ t. IsTableOf t.order.keys t.rows };
+    ghost invariant = { λ t. IsTableOf t.order.keys t.rows × (t.room ≤ t.rows.spare) };
 }
 
 impl KeyTable {
@@ -37,6 +43,7 @@ impl KeyTable {
         KeyTable {
             rows: KeysByKind::new(alloc),
             order: KeyOrder::new(),
+            room: 0,
         }
     }
 
@@ -54,7 +61,13 @@ impl KeyTable {
         ensures kept { self.old.spare ≤ self.new.spare }
         ensures has_room { more ≤ self.old.spare → IsOk result }
     {
-        self.rows.reserve(more)
+        if more <= self.room {
+            return Ok(());
+        }
+        let room = more.max(AHEAD);
+        self.rows.reserve(room)?;
+        self.room = room;
+        Ok(())
     }
 
     /// Puts the keys that are given before the old ones, of which those of some roles go. It takes no memory.
@@ -66,6 +79,7 @@ impl KeyTable {
         self.order = self.order.giving(given, gone);
         remove_keys(&mut self.rows, gone);
         set_keys(&mut self.rows, given);
+        self.room -= given.len();
     }
 
     /// An equal table, with memory of its own.
@@ -75,6 +89,7 @@ impl KeyTable {
         Ok(KeyTable {
             rows: self.rows.copy()?,
             order: self.order.giving(&[], &[]),
+            room: 0,
         })
     }
 }

@@ -6,5 +6,5 @@ use Rattle.public_fold.proofs.keys.KeyTable.newest.Goals as goal
 pub returns : goal.returns
 returns c =
     c.serial.ensures
-    ∙ c.self.invariant c.args.role
+    ∙ c.self.invariant.0 c.args.role
     ∙ ap (λ (v : KeyList). newest v.keys c.args.role) c.self.view_is
