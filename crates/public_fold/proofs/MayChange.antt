@@ -1,9 +1,9 @@
 -- A note that fits can be done to the tree and to the grants.
-use Rattle.std.proofs.Common.{◌≡◌, ◌≢◌, ℕ, ◌+◌, true, false, not, ◌==◌, ◌&&◌, nat_lt, nat_le, length, Some, refl, sym, ◌∙◌}
+use Rattle.std.proofs.Common.{◌≡◌, ◌≢◌, ℕ, ◌+◌, true, not, ◌==◌, ◌&&◌, nat_lt, nat_le, length, Some, None, refl, sym, ◌∙◌}
 use Rattle.std.specs.Prelude.{is_some, ◌||◌}
 use Rattle.std.proofs.lemmas.Bool.{and_parts, eqb-true, eqb-false, not-true, ltb-true, leb-true, false≢true}
 use Rattle.cry_base.specs.Refusing.{has_child, height_of}
-use Rattle.cry_base.specs.Store.{Store, depth_of, file_entry, folder_entry, folder_node, has_grant, holder_entry, is_within}
+use Rattle.cry_base.specs.Store.{Store, root_store, depth_of, file_entry, folder_entry, folder_node, has_grant, holder_entry, is_within}
 use Rattle.folder_nodes.specs.Changing.{CanShift, HasPlace}
 use Rattle.grant_book.specs.Granted.{Granted, IsHolder}
 use Rattle.grant_book.specs.Refused.{is_holder}
@@ -15,6 +15,7 @@ use Rattle.move_plan.specs.Fitting.{file_stands, fits, folder_stands, has_depth_
 use Rattle.move_plan.specs.Seen.{seen_store}
 use Rattle.move_plan.proofs.Seeing.{child_seen, depth_seen, file_seen, grant_seen, holder_seen, into_seen, other_seen}
 use Rattle.public_fold.specs.Changing.{CanChangeGrants, CanChangeTree}
+use Rattle.public_fold.specs.Preparing.{root_made}
 
 place : (t : Store) (f : ℕ) → has_depth_left t f ≡ true → HasPlace t f
 unfolding has_depth_left folder_stands
@@ -99,19 +100,35 @@ module _ (t : Store) (g : Granted) where
   pub may_change_grants : (note : Note) → fits (seen_store t g) note ≡ true → needs_root note ≡ true → CanChangeGrants g.checks g.pairs note
   may_change_grants note h n = grants_row note n (row_of (seen_store t g) note h)
 
--- the note that makes the root is one
-pub root_is : (note : Note) → needs_root note ≡ false → note ≡ Root
+-- the note that makes a tree whole makes the root, and that tree is the root's
+pub root_is : (note : Note) (tree : Store) → Some tree ≡ root_made note → (note ≡ Root) × (tree ≡ root_store)
+root_is Root tree made = (refl, cc)
+root_is (NewHolder k check) tree made = absurd cc
+root_is (NewFolder f p) tree made = absurd cc
+root_is (NewFile x f) tree made = absurd cc
+root_is (Rewrite x) tree made = absurd cc
+root_is (NameFile x) tree made = absurd cc
+root_is (NameFolder f) tree made = absurd cc
+root_is (DropFile x) tree made = absurd cc
+root_is (DropFolder f) tree made = absurd cc
+root_is (ShiftFile x q) tree made = absurd cc
+root_is (ShiftFolder f q) tree made = absurd cc
+root_is (Give k f) tree made = absurd cc
+root_is (Take k f) tree made = absurd cc
+
+-- and every other one needs the root
+pub root_needed : (note : Note) → None ≡ root_made note → needs_root note ≡ true
 unfolding needs_root
-root_is Root n = refl
-root_is (NewHolder k check) n = absurd (false≢true (sym n))
-root_is (NewFolder f p) n = absurd (false≢true (sym n))
-root_is (NewFile x f) n = absurd (false≢true (sym n))
-root_is (Rewrite x) n = absurd (false≢true (sym n))
-root_is (NameFile x) n = absurd (false≢true (sym n))
-root_is (NameFolder f) n = absurd (false≢true (sym n))
-root_is (DropFile x) n = absurd (false≢true (sym n))
-root_is (DropFolder f) n = absurd (false≢true (sym n))
-root_is (ShiftFile x q) n = absurd (false≢true (sym n))
-root_is (ShiftFolder f q) n = absurd (false≢true (sym n))
-root_is (Give k f) n = absurd (false≢true (sym n))
-root_is (Take k f) n = absurd (false≢true (sym n))
+root_needed Root made = absurd cc
+root_needed (NewHolder k check) made = refl
+root_needed (NewFolder f p) made = refl
+root_needed (NewFile x f) made = refl
+root_needed (Rewrite x) made = refl
+root_needed (NameFile x) made = refl
+root_needed (NameFolder f) made = refl
+root_needed (DropFile x) made = refl
+root_needed (DropFolder f) made = refl
+root_needed (ShiftFile x q) made = refl
+root_needed (ShiftFolder f q) made = refl
+root_needed (Give k f) made = refl
+root_needed (Take k f) made = refl

@@ -13,7 +13,7 @@ use Rattle.public_fold.specs.Changing.{checks_then, pairs_then, tree_then}
 use Rattle.public_fold.specs.Fitted.{told_stand, told_step}
 use Rattle.public_fold.specs.Journal.{Stand, note_step}
 use Rattle.public_fold.specs.KeyStep.{KeyState}
-use Rattle.public_fold.specs.Preparing.{CanSettle, IsRootFor, PreparedView, begun, begun_keys, begun_view, settled, with_check}
+use Rattle.public_fold.specs.Preparing.{CanSettle, PreparedView, begun, begun_keys, begun_view, root_made, settled, with_check}
 use Rattle.public_fold.specs.Records.{pieces_of}
 use Rattle.public_fold.specs.Standing.{IsPublicOf, IsSeenAs, PublicView, public_store_of}
 use Rattle.public_fold.specs.Told.{told_store}
@@ -38,21 +38,21 @@ check_fits s (declared.ShiftFolder folder into) check = refl
 check_fits s (declared.Give holder folder) check = refl
 check_fits s (declared.Take holder folder) check = refl
 
-pub check_root : (n : Declared) (check : List ℕ) (tree : Store) → IsRootFor (told_note n) tree → IsRootFor (told_note (with_check n check)) tree
+pub check_root : (n : Declared) (check : List ℕ) → root_made (told_note n) ≡ root_made (told_note (with_check n check))
 unfolding told_note
-check_root (declared.NewHolder holder old) check tree is = is
-check_root declared.Root check tree is = is
-check_root (declared.NewFolder folder parent) check tree is = is
-check_root (declared.NewFile file folder) check tree is = is
-check_root (declared.Rewrite file) check tree is = is
-check_root (declared.NameFile file) check tree is = is
-check_root (declared.NameFolder folder) check tree is = is
-check_root (declared.DropFile file) check tree is = is
-check_root (declared.DropFolder folder) check tree is = is
-check_root (declared.ShiftFile file into) check tree is = is
-check_root (declared.ShiftFolder folder into) check tree is = is
-check_root (declared.Give holder folder) check tree is = is
-check_root (declared.Take holder folder) check tree is = is
+check_root (declared.NewHolder holder old) check = refl
+check_root declared.Root check = refl
+check_root (declared.NewFolder folder parent) check = refl
+check_root (declared.NewFile file folder) check = refl
+check_root (declared.Rewrite file) check = refl
+check_root (declared.NameFile file) check = refl
+check_root (declared.NameFolder folder) check = refl
+check_root (declared.DropFile file) check = refl
+check_root (declared.DropFolder folder) check = refl
+check_root (declared.ShiftFile file into) check = refl
+check_root (declared.ShiftFolder folder into) check = refl
+check_root (declared.Give holder folder) check = refl
+check_root (declared.Take holder folder) check = refl
 
 -- nor does what stands after it
 pub check_told : (n : Declared) (check : List ℕ) (at : Stand) → told_stand at (told_note (with_check n check)) ≡ told_stand at (told_note n)

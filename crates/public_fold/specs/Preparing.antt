@@ -1,5 +1,5 @@
 -- A change that is prepared on a state, and made later.
-use Rattle.std.specs.Prelude.{◌≡◌, ℕ, ◌≤◌, Bool, true, false, List, ◌++◌, length}
+use Rattle.std.specs.Prelude.{◌≡◌, ℕ, ◌≤◌, Bool, true, false, List, ◌++◌, length, Option, Some, None}
 use Rattle.cry_base.specs.Store.{Store, root_store}
 use Rattle.cry_base.specs.declared.roles.Role.{Role}
 use Rattle.record_format.specs.Noted.{Note}
@@ -61,10 +61,10 @@ pub record CanSettle (v : PublicView) (p : PreparedView) : Type 0 where
   pub begins : Bool
   pub leaves : (at : Stand) → IsSeenAs v at → IsSeenAs (settled v p) (told_stand (begun begins at) (told_note p.note))
 
--- where the note makes the root, the tree is that of the root alone
-abbrev pub IsRootFor : Note → Store → Type 0
-IsRootFor Root tree = tree ≡ root_store
-IsRootFor note tree = Unit {0}
+-- the tree that the note makes whole: that of the root alone, where it makes the root
+abbrev pub root_made : Note → Option Store
+root_made Root = Some root_store
+root_made note = None
 
 -- whether the note makes a holder, and the same note with another check
 abbrev pub is_new_holder : Declared → Bool

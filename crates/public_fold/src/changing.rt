@@ -1,11 +1,11 @@
 //! What a note changes in the tree, the holders and the grants.
-ghost use Rattle.std.specs.Prelude.{◌≡◌, ◌<◌, ◌≤◌, not, true, IfOk};
+ghost use Rattle.std.specs.Prelude.{◌≡◌, ◌<◌, ◌≤◌, true, IfOk, option_map};
 ghost use Rattle.cry_base.specs.Store.{root_store};
-ghost use Rattle.move_plan.specs.Fitting.{fits as fits_store, needs_root};
+ghost use Rattle.move_plan.specs.Fitting.{fits as fits_store};
 ghost use Rattle.move_plan.specs.Seen.{seen_store};
 ghost use Rattle.record_format.specs.Told.{told_note};
 ghost use Rattle.public_fold.specs.Changing.{CanChangeGrants, CanChangeTree, checks_then, pairs_then, tree_then};
-ghost use Rattle.public_fold.specs.Preparing.{IsRootFor};
+ghost use Rattle.public_fold.specs.Preparing.{root_made};
 ghost use Rattle.public_fold.specs.Rooted.{MayStand};
 
 use cry_base::{Mem, Node};
@@ -15,30 +15,27 @@ use record_format::Note;
 use std::alloc::Global;
 
 /// Makes the change of a note that fits; the root's is the tree at hand, since nothing stands before it. It takes no memory.
-pub(crate) fn change_store(shape: &mut Shape, grants: &mut Grants, note: &Note, root: Shape)
+pub(crate) fn change_store(
+    shape: &mut Shape,
+    grants: &mut Grants,
+    note: &Note,
+    root: Option<Box<Shape>>,
+)
     requires fits { fits_store (seen_store shape.old.tree grants.old) (told_note note.now) ≡ true }
     requires may_stand { MayStand (seen_store shape.old.tree grants.old) }
-    requires root { IsRootFor (told_note note.now) root.tree }
+    requires root { option_map (λ b. b.value.tree) root ≡ root_made (told_note note.now) }
     requires shape_room { 1 ≤ shape.old.spare }
     requires grants_room { 1 ≤ grants.old.spare }
     ensures tree { shape.new.tree ≡ tree_then shape.old.tree (told_note note.now) }
     ensures pairs { grants.new.pairs ≡ pairs_then grants.old.pairs (told_note note.now) }
     ensures checks { grants.new.checks ≡ checks_then grants.old.checks (told_note note.now) }
 {
-    if is_root(note) {
-        *shape = root;
+    if let Some(root) = root {
+        *shape = Box::into_inner(root);
         return;
     }
     change_shape(shape, note);
     change_grants(grants, note);
-}
-
-/// Whether the note is the one that makes the root.
-#[tactic(auto, unfolding(move_plan::specs::Fitting::needs_root, record_format::specs::Told::told_note))]
-fn is_root(note: &Note) -> bool
-    ensures { result ≡ not (needs_root (told_note note.now)) }
-{
-    matches!(note, Note::Root)
 }
 
 /// The tree with the root alone.

@@ -1,10 +1,10 @@
 //! A note's change, prepared on a state with all the memory that it takes, and made later without any.
-ghost use Rattle.std.specs.Prelude.{◌≡◌, ◌<◌, true, false, Err, IfOk, OnOk};
+ghost use Rattle.std.specs.Prelude.{◌≡◌, ◌<◌, true, false, Err, IfOk, OnOk, option_map};
 ghost use Rattle.record_format.specs.Told.{told_note};
 ghost use Rattle.public_fold.specs.Fitted.{told_stand, told_step};
 ghost use Rattle.public_fold.specs.Heads.{IsSkeleton};
 ghost use Rattle.public_fold.specs.Journal.{Stand};
-ghost use Rattle.public_fold.specs.Preparing.{CanSettle, HasRoomFor, IsRootFor, begun, is_new_holder, settled, with_check};
+ghost use Rattle.public_fold.specs.Preparing.{CanSettle, HasRoomFor, begun, is_new_holder, root_made, settled, with_check};
 ghost use Rattle.public_fold.specs.StandFits.{note_fits};
 ghost use Rattle.public_fold.specs.Standing.{IsSeenAs, PublicView, with_room_of};
 
@@ -23,13 +23,14 @@ pub struct Prepared {
     note: Note,
     skeleton: Skeleton,
     left: Left,
-    /// Where the note makes the root: the tree with the root alone.
-    root: Shape,
+    /// Where the note makes the root: the tree with the root alone. It lies apart, since no other note's change has one.
+    root: Option<Box<Shape>>,
 }
 
 impl Model for Prepared {
+    ghost use Rattle.std.specs.Prelude.{◌≡◌, option_map};
     ghost use Rattle.record_format.specs.Told.{told_note};
-    ghost use Rattle.public_fold.specs.Preparing.{IsRootFor, PreparedView};
+    ghost use Rattle.public_fold.specs.Preparing.{PreparedView, root_made};
 
     ghost Value = { PreparedView };
 
@@ -42,7 +43,7 @@ impl Model for Prepared {
       count = p.left.count;
     } };
 
-    ghost invariant = { λ p. IsRootFor (told_note p.note) p.root.tree };
+    ghost invariant = { λ p. option_map (λ b. b.value.tree) p.root ≡ root_made (told_note p.note) };
 }
 
 impl Prepared {
@@ -151,13 +152,16 @@ impl PublicState {
     }
 }
 
-/// The tree with the root alone, where the note makes it; else one without a folder, which takes no memory.
+/// The tree with the root alone, where the note makes it.
 #[tactic(auto, unfolding(record_format::specs::Told::told_note))]
-fn root_for(alloc: Global, note: &Note) -> Mem<Shape>
-    ensures { IfOk result (λ shape. IsRootFor (told_note note.now) shape.tree) }
+fn root_for(alloc: Global, note: &Note) -> Mem<Option<Box<Shape>>>
+    ensures { IfOk result (λ root. option_map (λ b. b.value.tree) root ≡ root_made (told_note note.now)) }
 {
     match note {
-        Note::Root => root_shape(alloc),
+        Note::Root => {
+            let root = root_shape(alloc)?;
+            Ok(Some(Box::new(alloc, root)?))
+        }
         Note::NewHolder { .. }
         | Note::NewFolder { .. }
         | Note::NewFile { .. }
@@ -169,6 +173,6 @@ fn root_for(alloc: Global, note: &Note) -> Mem<Shape>
         | Note::ShiftFile { .. }
         | Note::ShiftFolder { .. }
         | Note::Give { .. }
-        | Note::Take { .. } => Ok(Shape::new(alloc)),
+        | Note::Take { .. } => Ok(None),
     }
 }

@@ -3,15 +3,16 @@ use Rattle.record_format.specs.Told.{told_note}
 use Rattle.record_format.specs.declared.note.Note.{Note}
 use Rattle.move_plan.specs.Fitting.{fits}
 use Rattle.public_fold.specs.Fitted.{told_stand}
-use Rattle.public_fold.specs.Preparing.{IsRootFor, PreparedView, keys_settled, settled}
+use Rattle.public_fold.specs.Preparing.{PreparedView, keys_settled, root_made, settled}
 use Rattle.public_fold.specs.Standing.{IsPublicOf, IsSeenAs, public_store_of}
 use Rattle.public_fold.proofs.PreparedTold.{can_with, check_fits, check_root, check_seen, check_told, seen_then}
 use Rattle.public_fold.proofs.prepared.Prepared.set_check.Goals as goal
 
 pub invariant_of-self : goal.invariant_of-self
 invariant_of-self c =
-    subst (λ (n : Note). IsRootFor (told_note n) c.self.inside.root.tree) (sym c.note_with-self-inside.ensures)
-    (check_root c.self.inside.note c.args.check c.self.inside.root.tree c.self.invariant)
+    c.self.invariant
+    ∙ check_root c.self.inside.note c.args.check
+    ∙ ap (λ (n : Note). root_made (told_note n)) (sym c.note_with-self-inside.ensures)
 
 pub returns-clause-told : goal.returns-clause-told
 returns-clause-told c = λ at.
