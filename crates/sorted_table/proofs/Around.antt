@@ -1,10 +1,10 @@
 -- What an edit among some rows makes of all of them, where those around are too low or too high to be met.
-use Rattle.std.proofs.Common.{◌≡◌, ℕ, ◌<◌, ◌≤◌, Bool, true, false, cond, not, ◌==◌, nat_lt, nat_le, List, [], ◌∷◌, ◌++◌, map, filter, length, slice_get, Option, Some, None, refl, sym, ap, ◌∙◌, arith, append_assoc}
+use Rattle.std.proofs.Common.{◌≡◌, ℕ, ◌<◌, Bool, true, false, cond, not, ◌==◌, nat_lt, nat_le, List, [], ◌∷◌, ◌++◌, map, filter, Option, Some, None, refl, sym, ap, ◌∙◌, arith, append_assoc}
 use Rattle.std.specs.List.{All, find}
 use Rattle.std.proofs.lemmas.Bool.{lt-ltb, le-ltb, le-leb, lt-leb, ne_eqb}
 use Rattle.std.proofs.lemmas.List.Elements.{All-head, All-tail, All-weaker, filter-append}
 use Rattle.std.proofs.lemmas.List.{map-append}
-use Rattle.sorted_table.specs.Rows.{row_at, row_from, with_row, without, replaced}
+use Rattle.sorted_table.specs.Rows.{row_at, with_row, without, replaced}
 
 filter_all : (T : Type 0) (p : T → Bool) (xs : List T) → All (λ x. p x ≡ true) xs → filter p xs ≡ xs
 filter_all T p [] all = refl
@@ -50,21 +50,6 @@ map_all T f (x ∷ xs) all =
     ap (λ (y : T). y ∷ map f xs) (All-head (λ x. f x ≡ x) x xs all)
     ∙ ap (λ (l : List T). x ∷ l) (map_all T f xs (All-tail (λ x. f x ≡ x) x xs all))
 
--- the first that a filter keeps
-pub first_kept : (T : Type 0) (p : T → Bool) (xs : List T) → slice_get (filter p xs) 0 ≡ find p xs
-first_kept T p [] = refl
-first_kept T p (x ∷ xs) = elim (p x) as (λ b. slice_get (cond b (x ∷ filter p xs) (filter p xs)) 0 ≡ cond b (Some x) (find p xs)) [
-  | true ↦ refl
-  | false ↦ first_kept T p xs
-]
-
--- where all pass, the first is found
-pub find_first : (T : Type 0) (p : T → Bool) (xs ys : List T) → 1 ≤ length xs → All (λ x. p x ≡ true) xs → find p (xs ++ ys) ≡ find p xs
-find_first T p [] ys some all = absurd (omega (arith, some))
-find_first T p (x ∷ xs) ys some all =
-    let told = All-head (λ x. p x ≡ true) x xs all in
-    ap (λ b. cond b (Some x) (find p (xs ++ ys))) told ∙ sym (ap (λ b. cond b (Some x) (find p xs)) told)
-
 module _ (T : Type 0) (rank : T → ℕ) (k : ℕ) (front rows behind : List T)
     (low : All (λ r. rank r < k) front) (high : All (λ r. k < rank r) behind) where
   fronts : (P : T → Type 0) → ((x : T) → rank x < k → P x) → All P front
@@ -88,9 +73,6 @@ module _ (T : Type 0) (rank : T → ℕ) (k : ℕ) (front rows behind : List T)
       ∙ ap (λ (l : List T). l ++ filter p (rows ++ behind)) (filter_all T p front (fronts (λ r. p r ≡ true) (λ x less. ap not (other x (λ e. omega (arith, less, e))))))
       ∙ ap (λ (l : List T). front ++ l) (filter-append p rows behind
       ∙ ap (λ (l : List T). filter p rows ++ l) (filter_all T p behind (behinds (λ r. p r ≡ true) (λ x more. ap not (other x (λ e. omega (arith, more, e)))))))
-
-  pub row_from-around : row_from rank (front ++ (rows ++ behind)) k ≡ row_from rank (rows ++ behind) k
-  row_from-around = find_front T (λ r. nat_le k (rank r)) front (rows ++ behind) (fronts (λ r. nat_le k (rank r) ≡ false) (λ x less. lt-leb k (rank x) less))
 
   -- the rows from the rank on
   pub from-around : filter (λ r. nat_le k (rank r)) (front ++ (rows ++ behind)) ≡ filter (λ r. nat_le k (rank r)) rows ++ behind

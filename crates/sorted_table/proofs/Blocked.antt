@@ -1,18 +1,14 @@
 -- Rows in blocks, of which one is looked up or changed.
-use Rattle.std.proofs.Common.{◌≡◌, ℕ, suc, ◌+◌, ◌<◌, ◌≤◌, true, nat_le, filter, List, [], ◌∷◌, ◌++◌, length, get_or, set, take, drop, Some, None, refl, sym, ap, subst, ◌∙◌, arith}
+use Rattle.std.proofs.Common.{◌≡◌, ℕ, suc, ◌+◌, ◌≤◌, nat_le, filter, List, [], ◌∷◌, ◌++◌, length, get_or, set, take, drop, refl, sym, ap, subst, ◌∙◌, arith}
 use Rattle.std.specs.List.{All, insert, remove}
-use Rattle.std.specs.Option.{option_or}
-use Rattle.std.proofs.lemmas.Bool.{le-leb}
-use Rattle.std.proofs.lemmas.List.Elements.{All-weaker}
 use Rattle.std.proofs.lemmas.List.Concat.{flat_map-append}
-use Rattle.std.proofs.lemmas.List.Folds.{find-append}
 use Rattle.sorted_table.specs.Parts.{rows_of, IsBlock, IsBlockFor}
-use Rattle.sorted_table.specs.Rows.{IsRising, row_at, row_from, with_row, without, replaced}
+use Rattle.sorted_table.specs.Rows.{IsRising, row_at, with_row, without, replaced}
 use Rattle.sorted_table.specs.Tabled.{Tabled}
-use Rattle.sorted_table.proofs.Around.{find_first, row_at-around, row_from-around, from-around, without-around, with_row-around, replaced-around}
+use Rattle.sorted_table.proofs.Around.{row_at-around, from-around, without-around, with_row-around, replaced-around}
 use Rattle.sorted_table.proofs.Rising.{rising-with_row, rising-without, rising-replaced}
 use Rattle.sorted_table.proofs.Shifted.{removed_set}
-use Rattle.sorted_table.proofs.Parted.{All-parts, rows_at, rows_set, rows_split, rows_dropped, rows_past}
+use Rattle.sorted_table.proofs.Parted.{rows_at, rows_set, rows_split}
 
 empty : (T : Type 0) (rows : List T) → length rows ≤ 0 → rows ≡ []
 empty T [] none = refl
@@ -28,37 +24,6 @@ module _ (T : Type 0) (rank : T → ℕ) (k : ℕ) (blocks : List (Tabled T)) (i
 
     pub block_row_at : row_at rank (rows_of blocks) k ≡ row_at rank b.rows k
     block_row_at = ap (λ l. row_at rank l k) all_rows ∙ row_at-around T rank k (rows_of (take i blocks)) b.rows (rows_of (drop (suc i) blocks)) place.1 place.2
-
-    from_here : row_from rank (rows_of blocks) k ≡ option_or (row_from rank b.rows k) (row_from rank (rows_of (drop (suc i) blocks)) k)
-    from_here =
-        ap (λ l. row_from rank l k) all_rows
-        ∙ row_from-around T rank k (rows_of (take i blocks)) b.rows (rows_of (drop (suc i) blocks)) place.1 place.2
-        ∙ find-append (λ r. nat_le k (rank r)) b.rows (rows_of (drop (suc i) blocks))
-
-    -- the first row from the rank on is in the block, or begins the next one
-    pub from_this : (r : T) → row_from rank b.rows k ≡ Some r → row_from rank (rows_of blocks) k ≡ Some r
-    from_this r found = from_here ∙ ap (λ o. option_or o (row_from rank (rows_of (drop (suc i) blocks)) k)) found
-
-    none_here : row_from rank b.rows k ≡ None → row_from rank (rows_of blocks) k ≡ row_from rank (rows_of (drop (suc i) blocks)) k
-    none_here none = from_here ∙ ap (λ o. option_or o (row_from rank (rows_of (drop (suc i) blocks)) k)) none
-
-    pub from_last : length blocks ≤ i + 1 → row_from rank b.rows k ≡ None → row_from rank (rows_of blocks) k ≡ None
-    from_last last none = none_here none ∙ ap (λ l. row_from rank l k) (rows_past T blocks (suc i) (omega (arith, last)))
-
-    pub from_next : (j : ℕ) (a : Tabled T) → j ≡ i + 1 → j < length blocks → a ≡ get_or blocks j a → All (λ (b : Tabled T). IsBlock 128 b) blocks
-        → row_from rank b.rows k ≡ None → row_from rank (rows_of blocks) k ≡ row_from rank a.rows k
-    from_next j a next within at filled none =
-        let some : 1 ≤ length a.rows = subst (λ (b : Tabled T). 1 ≤ length b.rows) (sym at) (filled j a within).0 in
-        let same : j ≡ suc i = omega (arith, next) in
-        let more = rows_of (drop (suc (suc i)) blocks) in
-        let parts : rows_of (drop (suc i) blocks) ≡ a.rows ++ more =
-        rows_dropped T blocks (suc i) a (omega (arith, same, within))
-        ∙ ap (λ (e : Tabled T). e.rows ++ more) (sym (at ∙ ap (λ n. get_or blocks n a) same)) in
-        let high = (All-parts T (λ r. k < rank r) a.rows more (subst (All (λ r. k < rank r)) parts place.2)).0 in
-        none_here none
-        ∙ ap (λ l. row_from rank l k) parts
-        ∙ find_first T (λ r. nat_le k (rank r)) a.rows more some
-        (All-weaker (λ r. k < rank r) (λ r. nat_le k (rank r) ≡ true) (λ x more. le-leb k (rank x) (omega (arith, more))) a.rows high)
 
     -- the rows from the rank on
     pub rows_on : (j : ℕ) → j ≡ i + 1 → filter (λ r. nat_le k (rank r)) (rows_of blocks) ≡ filter (λ r. nat_le k (rank r)) b.rows ++ rows_of (drop j blocks)

@@ -69,18 +69,6 @@ rows_at T (b ∷ bs) (suc i) d within =
     ap (λ (l : List T). b.rows ++ l) (rows_at T bs i d (omega (arith, within)))
     ∙ sym (append_assoc b.rows (rows_of (take i bs)) ((get_or bs i d).rows ++ rows_of (drop (suc i) bs)))
 
-pub rows_dropped : (T : Type 0) (blocks : List (Tabled T)) (i : ℕ) (d : Tabled T) → i < length blocks
-    → rows_of (drop i blocks) ≡ (get_or blocks i d).rows ++ rows_of (drop (suc i) blocks)
-rows_dropped T [] i d within = absurd (omega arith)
-rows_dropped T (b ∷ bs) zero d within = refl
-rows_dropped T (b ∷ bs) (suc i) d within = rows_dropped T bs i d (omega (arith, within))
-
-pub rows_past : (T : Type 0) (blocks : List (Tabled T)) (i : ℕ) → length blocks ≤ i → rows_of (drop i blocks) ≡ []
-rows_past T [] zero past = refl
-rows_past T [] (suc i) past = refl
-rows_past T (b ∷ bs) zero past = absurd (omega (arith, past))
-rows_past T (b ∷ bs) (suc i) past = rows_past T bs i (omega (arith, past))
-
 pub rows_set : (T : Type 0) (blocks : List (Tabled T)) (i : ℕ) (a : Tabled T) → i < length blocks
     → rows_of (set blocks i a) ≡ rows_of (take i blocks) ++ (a.rows ++ rows_of (drop (suc i) blocks))
 rows_set T [] i a within = absurd (omega arith)

@@ -1,5 +1,5 @@
 -- Rows in ascending order of a rank, which no two of them share.
-use Rattle.std.specs.Prelude.{ℕ, ◌<◌, cond, not, ◌==◌, nat_lt, nat_le, List, ◌∷◌, ◌++◌, Option, map, filter, find, AllPairs}
+use Rattle.std.specs.Prelude.{ℕ, ◌<◌, cond, not, ◌==◌, nat_lt, List, ◌∷◌, ◌++◌, Option, map, filter, find, AllPairs}
 
 -- each row's rank is above those of the rows before it
 abbrev pub IsRising : {T : Type 0} → (T → ℕ) → List T → Type 0
@@ -20,7 +20,3 @@ without rank rows k = filter (λ r. not (rank r == k)) rows
 -- the new row in the place of the one that has its rank
 abbrev pub replaced : {T : Type 0} → (T → ℕ) → List T → T → List T
 replaced rank rows row = map (λ r. cond (rank r == rank row) row r) rows
-
--- the first row whose rank is at least this one
-abbrev pub row_from : {T : Type 0} → (T → ℕ) → List T → ℕ → Option T
-row_from rank rows k = find (λ r. nat_le k (rank r)) rows

@@ -5,7 +5,7 @@ ghost use Rattle.std.specs.List.Sorted.{IsPermutation};
 ghost use Rattle.std.specs.Option.{option_copied};
 ghost use Rattle.sorted_table.specs.Parts.{rows_of, all_over, held, IsBlock, IsBlockFor, IsFresh};
 ghost use Rattle.sorted_table.specs.Tabled.{Tabled};
-ghost use Rattle.sorted_table.specs.Rows.{IsRising, row_at, row_from, with_row, without, replaced};
+ghost use Rattle.sorted_table.specs.Rows.{IsRising, row_at, with_row, without, replaced};
 
 use crate::ranked::{SameRank, Within};
 use crate::{Key, Ranked, Span, Table, Walk};
@@ -74,14 +74,6 @@ impl<T: Ranked> Blocks<T> {
         self.count
     }
 
-    /// The rows in ascending order, a table of some after another.
-    pub fn as_tables(&self) -> &[Table<T>]
-        ensures rows { rows_of result.now ≡ self.now.rows }
-        ensures rising { IsRising T.rank self.now.rows }
-    {
-        &self.blocks
-    }
-
     /// The row with the key's rank.
     pub fn find<K: Key<T>>(&self, key: &K) -> Option<&T>
         ensures row { option_copied result ≡ row_at T.rank self.now.rows (K.sought key.now) }
@@ -133,22 +125,6 @@ impl<T: Ranked> Blocks<T> {
         ensures counted { length result < 2 ^ 64 }
     {
         Span::new(self.rows_from(first), last)
-    }
-
-    /// The first row whose rank is at least the key's.
-    pub fn first_from<K: Key<T>>(&self, key: &K) -> Option<&T>
-        ensures { option_copied result ≡ row_from T.rank self.now.rows (K.sought key.now) }
-    {
-        let at = block_for(&self.blocks, key)?;
-        let within = Within {
-            key,
-            before: start_of(at),
-        };
-        match self.blocks[at].first_from(&within) {
-            Some(row) => Some(row),
-            None if at + 1 < self.blocks.len() => self.blocks[at + 1].first_from(key),
-            None => None,
-        }
     }
 }
 

@@ -9,7 +9,7 @@ ghost use Rattle.std.specs.List.Sorted.{IsPermutation};
 ghost use Rattle.std.specs.Option.{option_copied};
 ghost use Rattle.sorted_table.specs.Parts.{first_rank};
 ghost use Rattle.sorted_table.specs.Places.{IsAt, IsGapFor};
-ghost use Rattle.sorted_table.specs.Rows.{IsRising, row_at, row_from, with_row, without, replaced};
+ghost use Rattle.sorted_table.specs.Rows.{IsRising, row_at, with_row, without, replaced};
 
 use crate::ranked::SameRank;
 use crate::{Key, Ranked};
@@ -109,13 +109,6 @@ impl<T: Ranked> Table<T> {
         rows_from(&self.rows, key)
     }
 
-    /// The first row whose rank is at least the key's.
-    pub fn first_from<K: Key<T>>(&self, key: &K) -> Option<&T>
-        ensures { option_copied result ≡ row_from T.rank self.now.rows (K.sought key.now) }
-    {
-        rows_from(&self.rows, key).first()
-    }
-
     /// Whether all rows have ranks below the key's.
     pub(crate) fn ends_below<K: Key<T>>(&self, key: &K) -> bool
         ensures { IsTrue result → All (λ r. T.rank r < K.sought key.now) self.now.rows }
@@ -174,25 +167,6 @@ impl<T: Ranked + Drop> Table<T> {
             unreachable!();
         };
         self.rows[at] = row;
-    }
-
-    /// Takes the row with the key's rank out, and adds one whose rank no other row has. It takes no memory, and moves the rows
-    /// between the two places alone.
-    pub fn exchange<K: Key<T>>(&mut self, key: &K, row: T)
-        requires there { IsSome (row_at T.rank self.old.rows (K.sought key.now)) }
-        requires absent { row_at T.rank (without T.rank self.old.rows (K.sought key.now)) (T.rank row) ≡ None }
-        ensures rows { self.new.rows ≡ with_row T.rank (without T.rank self.old.rows (K.sought key.now)) row }
-        ensures spare { self.new.spare ≡ self.old.spare }
-    {
-        let Ok(from) = place_of(&self.rows, key) else {
-            unreachable!();
-        };
-        let to = match place_of(&self.rows, &SameRank(&row)) {
-            Ok(at) => at,
-            Err(at) => at,
-        };
-        self.rows[from] = row;
-        shift(&mut self.rows, from, to);
     }
 
     /// Takes the row with the key's rank out, where there is one.

@@ -1,5 +1,5 @@
 //! The rows of a table in blocks, one after another.
-ghost use Rattle.std.specs.Prelude.{◌≡◌, ◌≤◌, ◌++◌, ◌<◌, ◌^◌, ⊤, length, All};
+ghost use Rattle.std.specs.Prelude.{◌≡◌, ◌≤◌, ◌++◌, ⊤, length, All};
 ghost use Rattle.std.specs.Iterator.{YieldsFirstRef, item_count};
 ghost use Rattle.sorted_table.specs.Parts.{rows_of};
 ghost use Rattle.sorted_table.specs.Tabled.{Tabled};
@@ -34,14 +34,6 @@ impl<'a, T: Ranked> Walk<'a, T> {
         ensures { result ≡ rows.now ++ rows_of tables.now }
     {
         Walk { rows, tables }
-    }
-
-    /// A walk over these rows.
-    pub fn of(rows: &'a [T]) -> Self
-        ensures rows { result ≡ rows.now }
-        ensures counted { length result < 2 ^ 64 }
-    {
-        Walk { rows, tables: &[] }
     }
 }
 
