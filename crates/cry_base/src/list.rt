@@ -35,14 +35,19 @@ impl<T> List<T> {
         }
     }
 
-    /// Makes room for at least `more` items beside those that are there.
+    /// Makes room for at least `more` items beside those that are there. An empty list takes no more than that, since most lists
+    /// are made for what they hold; one that has items takes more, so that it doesn't move at each item that comes.
     pub fn reserve(&mut self, more: usize) -> Mem<()>
         ensures items { self.new.items ≡ self.old.items }
         ensures room { OnOk result (more ≤ self.new.spare) }
         ensures kept { self.old.spare ≤ self.new.spare }
         ensures has_room { more ≤ self.old.spare → IsOk result }
     {
-        self.vec.reserve(more)?;
+        if self.vec.is_empty() {
+            self.vec.reserve_exact(more)?;
+        } else {
+            self.vec.reserve(more)?;
+        }
         Ok(())
     }
 

@@ -1,5 +1,5 @@
 //! Bytes to payloads, from left to right.
-ghost use Rattle.std.specs.Prelude.{◌≡◌, map, Ok, IfOk, IfErr};
+ghost use Rattle.std.specs.Prelude.{◌≡◌, ◌≤◌, [], map, Ok, IfOk, IfErr};
 ghost use Rattle.record_format.specs.Fields.{repeat_at};
 ghost use Rattle.record_format.specs.Plain.{PlainPayload, plain_content, plain_payload};
 ghost use Rattle.record_format.specs.Reading.{Gives, Answers, note_of_one, note_of_two, new_holder_at, one_id_at, two_ids_at, note_at};
@@ -7,11 +7,12 @@ ghost use Rattle.record_format.specs.Reading.{link_at, content_at, payload_at, w
 ghost use Rattle.record_format.specs.Spellable.{IsSpellable};
 ghost use Rattle.record_format.specs.Spelling.{spell_payload};
 
-use crate::content::text_range;
+use crate::content::{CONTENT_FRAME_LEN, text_range};
 use crate::fault::Stop;
 use crate::fields::{array_of, byte_of, bytes_of, u32_between, u32_of, u64_of};
+use crate::link::LINK_LEN;
 use crate::{ContentRecord, LinkRecord, Note, Payload, PayloadFault};
-use cry_base::{FileId, FolderId, HolderId, List, Serial, Text};
+use cry_base::{FileId, FolderId, HolderId, List, Mem, Serial, Text};
 use std::alloc::Global;
 
 fn with_one_id(code: u8, id: u32) -> Note
@@ -158,11 +159,21 @@ fn content_of(alloc: Global, bytes: &[u8]) -> Result<(ContentRecord, &[u8]), Sto
     Ok((content, rest))
 }
 
-// No room is made by the count, which comes from outside: each record is pushed once it was read.
+/// Room for so many records, but for no more than the bytes may hold, since the count comes from outside.
+fn room_for<T: Drop>(alloc: Global, count: u32, least_len: u64, bytes: &[u8]) -> Mem<List<T>>
+    requires { 1 ≤ least_len }
+    ensures { IfOk result (λ records. records.items ≡ []) }
+{
+    let most = bytes.len() / least_len as usize;
+    let mut records = List::new(alloc);
+    records.reserve(most.min(count as usize))?;
+    Ok(records)
+}
+
 fn links_of(alloc: Global, count: u32, bytes: &[u8]) -> Result<(List<LinkRecord>, &[u8]), Stop>
     ensures { Gives (λ x. (x.0.items, x.1.now)) result (repeat_at link_at count bytes.now) }
 {
-    let mut links = List::new(alloc);
+    let mut links = room_for(alloc, count, LINK_LEN, bytes)?;
     let mut rest = bytes;
     for _ in 0..count {
         let (link, after) = link_of(rest)?;
@@ -179,7 +190,7 @@ fn contents_of(
 ) -> Result<(List<ContentRecord>, &[u8]), Stop>
     ensures { Gives (λ x. (map plain_content x.0.items, x.1.now)) result (repeat_at content_at count bytes.now) }
 {
-    let mut contents = List::new(alloc);
+    let mut contents = room_for(alloc, count, CONTENT_FRAME_LEN, bytes)?;
     let mut rest = bytes;
     for _ in 0..count {
         let (content, after) = content_of(alloc, rest)?;

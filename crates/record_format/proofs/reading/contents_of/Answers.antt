@@ -8,11 +8,11 @@ use Rattle.record_format.proofs.Repeats.{starts, goes_on, stops_there, is_done}
 use Rattle.record_format.proofs.reading.contents_of.Goals as goal
 
 pub loop-init : goal.loop-init
-loop-init c = starts content_at (map plain_content c.new-contents.result.items) c.args.count c.args.bytes.now (ap (map plain_content) c.new-contents.ensures)
+loop-init c = starts content_at (map plain_content c.in_ok-contents.contents.items) c.args.count c.args.bytes.now (ap (map plain_content) c.in_ok-contents.ensures)
 
 pub returns-in_err-content : goal.returns-in_err-content
 returns-in_err-content c =
-    let p = err_from_is_err_and c.from_residual.result c.from_residual.ensures.1 in
+    let p = err_from_is_err_and c.from_residual-in_err-content.result c.from_residual-in_err-content.ensures.1 in
     let total = repeat_at content_at c.args.count c.args.bytes.now in
     rw (p.1, p.2) (stops_there c.in_err-content.field-0.0 content_at (map plain_content c.loop.contents.items) c.args.count c.loop.counter c.loop.rest.now total c.loop-test.true c.in_err-content.ensures c.loop.invariant)
 

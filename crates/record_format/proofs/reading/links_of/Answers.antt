@@ -6,11 +6,11 @@ use Rattle.record_format.proofs.Repeats.{starts, goes_on, stops_there, is_done}
 use Rattle.record_format.proofs.reading.links_of.Goals as goal
 
 pub loop-init : goal.loop-init
-loop-init c = starts link_at c.new-links.result.items c.args.count c.args.bytes.now c.new-links.ensures
+loop-init c = starts link_at c.in_ok-links.links.items c.args.count c.args.bytes.now c.in_ok-links.ensures
 
 pub returns-in_err-link : goal.returns-in_err-link
 returns-in_err-link c =
-    let p = err_from_is_err_and c.from_residual.result c.from_residual.ensures.1 in
+    let p = err_from_is_err_and c.from_residual-in_err-link.result c.from_residual-in_err-link.ensures.1 in
     let total = repeat_at link_at c.args.count c.args.bytes.now in
     rw (p.1, p.2) (stops_there c.in_err-link.field-0.0 link_at c.loop.links.items c.args.count c.loop.counter c.loop.rest.now total c.loop-test.true c.in_err-link.ensures c.loop.invariant)
 
