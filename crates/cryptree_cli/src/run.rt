@@ -31,6 +31,7 @@ use commit_journal::OpenFault;
 use cry_base::{FILE_BYTES, Limits, STORE_BYTES};
 use cry_io::{Disk, Sink, Source};
 use std::alloc::Global;
+use std::mem;
 use store_owner::{ApplyFault, Owner};
 
 /// The sizes of the one version of stores that there is.
@@ -170,7 +171,10 @@ fn apply_lines<S: Source, R: Source, D: Disk, W: Sink>(
     ensures disk_counts { D.faults disk.old ≤ D.faults disk.new }
     ensures out_counts { W.faults out.old ≤ W.faults out.new }
 {
-    match run_lines(alloc, &mut reader, input, &mut owner, random, disk, out) {
+    let ran = run_lines(alloc, &mut reader, input, &mut owner, random, disk, out);
+    // The program ends behind this: the system takes all memory back at once, and not a key and a name at a time.
+    mem::forget(owner);
+    match ran {
         Ok(()) => Status::Done,
         Err(fault) => script_status(fault),
     }
