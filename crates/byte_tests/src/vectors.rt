@@ -1,4 +1,4 @@
-//! Published vectors: RFC 4231, section 4, and RFC 8439, appendix A.1; and what a key shows of itself.
+//! Published vectors: test cases of RFC 4231, and the first one of the appendix of RFC 8439; and what a key shows of itself.
 ghost use Rattle.std.specs.Prelude;
 
 use chacha_seal::{Key, mask_in_place};
