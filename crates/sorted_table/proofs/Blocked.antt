@@ -7,7 +7,7 @@ use Rattle.sorted_table.specs.Rows.{IsRising, row_at, with_row, without, replace
 use Rattle.sorted_table.specs.Tabled.{Tabled}
 use Rattle.sorted_table.proofs.Around.{row_at-around, from-around, without-around, with_row-around, replaced-around}
 use Rattle.sorted_table.proofs.Rising.{rising-with_row, rising-without, rising-replaced}
-use Rattle.sorted_table.proofs.Shifted.{removed_set}
+use Rattle.sorted_table.proofs.Writing.{removed_set}
 use Rattle.sorted_table.proofs.Parted.{rows_at, rows_set, rows_split}
 
 empty : (T : Type 0) (rows : List T) → length rows ≤ 0 → rows ≡ []

@@ -7,5 +7,5 @@ pub mod Parted
 pub mod Placed
 pub mod Rising
 pub mod Searched
-pub mod Shifted
 pub mod Spared
+pub mod Writing

@@ -9,7 +9,7 @@ use Rattle.std.proofs.lemmas.List.Kept.{AllPairs-cons}
 use Rattle.sorted_table.specs.Parts.{rows_of, first_rank, IsBlock, IsBlockFor}
 use Rattle.sorted_table.specs.Rows.{IsRising}
 use Rattle.sorted_table.specs.Tabled.{Tabled}
-use Rattle.sorted_table.proofs.Shifted.{removed_set}
+use Rattle.sorted_table.proofs.Writing.{removed_set}
 use Rattle.sorted_table.proofs.Rising.{AllPairs-nil, AllPairs-head, AllPairs-tail}
 
 pub All-parts : (T : Type 0) (P : T → Type 0) (xs ys : List T) → All P (xs ++ ys) → All P xs × All P ys

@@ -7,7 +7,7 @@ use Rattle.std.proofs.lemmas.List.Edits.{length-insert}
 use Rattle.std.proofs.lemmas.List.Sums.{sum_by-set, sum_by-insert, sum_by-remove, sum_by-le-sum_by, get_or-le-sum_by, length-filter, count_by-le-length}
 use Rattle.sorted_table.specs.Parts.{rows_of, all_rows, all_over, over, held, room_for, IsFresh}
 use Rattle.sorted_table.specs.Tabled.{Tabled}
-use Rattle.sorted_table.proofs.Shifted.{removed_set}
+use Rattle.sorted_table.proofs.Writing.{removed_set}
 
 pub room_less : (f g h k m n : ℕ) → f ≤ g → k ≤ h → n ≤ m → room_for f h m ≤ room_for g k n
 room_less f g h k m n more less fewer = omega (arith, more, less, fewer)

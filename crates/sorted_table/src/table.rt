@@ -1,9 +1,9 @@
 //! Rows in ascending order of their ranks.
-ghost use Rattle.std.specs.Prelude.{◌≡◌, ◌+◌, ◌-◌, ◌<◌, ◌≤◌, ◌&&◌, ◌++◌, [], cond, length, nat_le, nat_lt, filter, IsOk, IsSome};
+ghost use Rattle.std.specs.Prelude.{◌≡◌, ◌+◌, ◌-◌, ◌<◌, ◌≤◌, ◌&&◌, ◌++◌, ◌∷◌, [], List, length, nat_le, filter, IsOk, IsSome};
 ghost use Rattle.std.specs.Prelude.{OnOk, IfOk, IfErr, IsTrue, MatchOption};
 ghost use Rattle.std.specs.Prelude.{◌↔◌, ◌≢◌, None, All, AllPairs};
 ghost use Rattle.std.specs.Fn.{CalledAt};
-ghost use Rattle.std.specs.List.{HoldsAt, insert, remove};
+ghost use Rattle.std.specs.List.{insert, remove};
 ghost use Rattle.std.specs.List.Retain.{IsFiltered};
 ghost use Rattle.std.specs.List.Sorted.{IsPermutation};
 ghost use Rattle.std.specs.Option.{option_copied};
@@ -152,9 +152,8 @@ impl<T: Ranked + Drop> Table<T> {
         let Err(at) = place_of(&self.rows, &SameRank(&row)) else {
             unreachable!();
         };
-        let last = self.rows.len();
         let _ = self.rows.push(row);
-        shift(&mut self.rows, last, at);
+        bring_last(&mut self.rows, at);
     }
 
     /// Puts a row into the place of the one that has its rank.
@@ -323,15 +322,10 @@ fn place_of<T: Ranked, K: Key<T>>(rows: &[T], key: &K) -> Result<usize, usize>
     }
 }
 
-// Moves the row at the place `from` to before what is at the place `to`.
-fn shift<T>(rows: &mut [T], from: usize, to: usize)
-    requires from { from < length rows.old }
-    requires to { to ≤ length rows.old }
-    ensures { HoldsAt (λ row. rows.new ≡ insert (remove rows.old from) (cond (nat_lt from to) (to - 1) to) row) rows.old from }
+// Moves the last row to before what is at the place.
+fn bring_last<T>(rows: &mut [T], to: usize)
+    requires { to < length rows.old }
+    ensures { (before : List T) (last : T) → rows.old ≡ before ++ last ∷ [] → rows.new ≡ insert before to last }
 {
-    if from < to {
-        rows[from..to].rotate_left(1);
-    } else {
-        rows[to..from + 1].rotate_right(1);
-    }
+    rows[to..].rotate_right(1);
 }
