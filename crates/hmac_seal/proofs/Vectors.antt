@@ -1,4 +1,4 @@
--- Test cases of RFC 4231, section 4, computed from the definition: a wrong pad, block or order of it
+-- Test cases of RFC 4231, computed from the definition: a wrong pad, block or order of it
 -- does not check.
 use Rattle.std.proofs.Common.{◌≡◌, [], ◌∷◌, codes, replicate, refl}
 use Rattle.sha2.specs.Sha256.{compress, digest_bytes, first_words, hash_after, rounds, schedule, sha256}

@@ -160,7 +160,7 @@ fn content_of(alloc: Global, bytes: &[u8]) -> Result<(ContentRecord, &[u8]), Sto
 }
 
 /// Room for so many records, but for no more than the bytes may hold, since the count comes from outside.
-fn room_for<T: Drop>(alloc: Global, count: u32, least_len: u64, bytes: &[u8]) -> Mem<List<T>>
+fn list_with_room<T: Drop>(alloc: Global, count: u32, least_len: u64, bytes: &[u8]) -> Mem<List<T>>
     requires { 1 ≤ least_len }
     ensures { IfOk result (λ records. records.items ≡ []) }
 {
@@ -173,7 +173,7 @@ fn room_for<T: Drop>(alloc: Global, count: u32, least_len: u64, bytes: &[u8]) ->
 fn links_of(alloc: Global, count: u32, bytes: &[u8]) -> Result<(List<LinkRecord>, &[u8]), Stop>
     ensures { Gives (λ x. (x.0.items, x.1.now)) result (repeat_at link_at count bytes.now) }
 {
-    let mut links = room_for(alloc, count, LINK_LEN, bytes)?;
+    let mut links = list_with_room(alloc, count, LINK_LEN, bytes)?;
     let mut rest = bytes;
     for _ in 0..count {
         let (link, after) = link_of(rest)?;
@@ -190,7 +190,7 @@ fn contents_of(
 ) -> Result<(List<ContentRecord>, &[u8]), Stop>
     ensures { Gives (λ x. (map plain_content x.0.items, x.1.now)) result (repeat_at content_at count bytes.now) }
 {
-    let mut contents = room_for(alloc, count, CONTENT_FRAME_LEN, bytes)?;
+    let mut contents = list_with_room(alloc, count, CONTENT_FRAME_LEN, bytes)?;
     let mut rest = bytes;
     for _ in 0..count {
         let (content, after) = content_of(alloc, rest)?;
