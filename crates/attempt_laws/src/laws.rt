@@ -6,7 +6,7 @@ ghost use Rattle.cry_base.specs.declared.limits.Limits.{Limits};
 ghost use Rattle.public_fold.specs.Journal.{Entry, Journal, entry_step, nothing, stand_after};
 ghost use Rattle.public_fold.specs.Journal.Entry.{Made, Session};
 ghost use Rattle.public_fold.specs.Valid.{IsValid};
-ghost use Rattle.journal_bytes.specs.Attempts.{Attempt, Course, Event, attempts};
+ghost use Rattle.journal_bytes.specs.Attempts.{Course, Event, attempts};
 ghost use Rattle.journal_bytes.specs.Bytes.{batches_of};
 ghost use Rattle.journal_bytes.specs.Script.{Going, script_going};
 ghost use Rattle.attempt_laws.specs.Happenings.{IsCourse};

@@ -1,7 +1,7 @@
 //! The steps of a commit. A batch that was staged is a `Staged`, of which `open_gate` makes a `Gated`, and `unveil` takes
 //! a `Gated` alone: no slot is written before its gate is open on the disk. When a store is opened, `gated_at` makes a `Gated` of a
 //! batch that stands behind an open gate.
-ghost use Rattle.std.specs.Prelude.{◌≡◌, ◌+◌, ◌-◌, ◌<◌, ◌≤◌, ◌^◌, ℕ, List, [], ◌∷◌, length, max, is_some, IfOk, OnErr, OnOk};
+ghost use Rattle.std.specs.Prelude.{◌≡◌, ◌+◌, ◌-◌, ◌<◌, ◌≤◌, ◌^◌, [], ◌∷◌, length, max, is_some, IfOk, OnErr, OnOk};
 ghost use Rattle.cry_base.specs.Layout.{payload_offset, slot_offset};
 ghost use Rattle.cry_io.specs.Counts.{CountsFault};
 ghost use Rattle.cry_io.specs.Told.{WhereTold, WhereBothTold};

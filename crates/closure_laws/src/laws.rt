@@ -1,5 +1,5 @@
 //! Laws of histories.
-ghost use Rattle.std.specs.Prelude.{◌≡◌, ◌↔◌, ◌++◌, ℕ, List, [], ◌∷◌, IsTrue};
+ghost use Rattle.std.specs.Prelude.{◌≡◌, ◌↔◌, ◌++◌, ℕ, List, IsTrue};
 ghost use Rattle.cry_base.specs.Sets.{In};
 ghost use Rattle.public_fold.specs.Journal.{Stand, Entry, Journal};
 ghost use Rattle.role_graph.specs.Rights.{Who};

@@ -1,10 +1,10 @@
 //! Worked rows of histories, each computed by the checker from the definitions.
 ghost use Rattle.std.specs.Prelude.{◌≡◌, [], ◌∷◌, ◌++◌, codes, true, false, map};
-ghost use Rattle.cry_base.specs.Requests.Request.{Relocate, Rename, MakeFolder};
+ghost use Rattle.cry_base.specs.Requests.Request.{Relocate, MakeFolder};
 ghost use Rattle.cry_base.specs.Texts.{ended_lines};
 ghost use Rattle.role_graph.specs.Rights.Who.{TheOwner, TheHolder};
 ghost use Rattle.public_fold.specs.Journal.{nothing};
-ghost use Rattle.public_fold.specs.WorkedSteps.{fresh, renaming, rewriting, granting, revoking, writing_again, renaming_again, moving_away};
+ghost use Rattle.public_fold.specs.WorkedSteps.{rewriting, granting, revoking, writing_again, renaming_again, moving_away};
 ghost use Rattle.public_fold.specs.WorkedSteps.{does, dropping, making_again};
 ghost use Rattle.closure_laws.specs.Gains.{gains_from};
 ghost use Rattle.closure_laws.specs.Invariants.{invariants_hold};

@@ -1,5 +1,5 @@
 //! The serials from which links lead to one, and the trails from them.
-ghost use Rattle.std.specs.Prelude.{◌≡◌, ◌<◌, ◌==◌, ◌++◌, ◌∷◌, ℕ, [], List as TheList, cond, get_or, length, map, IfNone, IfOk, IfSome};
+ghost use Rattle.std.specs.Prelude.{◌≡◌, ◌<◌, ◌==◌, ◌++◌, ◌∷◌, ℕ, [], List as TheList, cond, length, map, IfNone, IfOk, IfSome};
 ghost use Rattle.std.specs.Prelude.{OnOk};
 ghost use Rattle.std.specs.HashMap.{get};
 ghost use Rattle.cry_base.specs.Sets.{In};

@@ -1,13 +1,11 @@
 -- What a command refuses, notes, seals and names is what its target says.
-use Rattle.std.proofs.Common.{◌≡◌, ◌≤◌, ℕ, ◌+◌, false, true, List, [], length, replicate, Option, Some, None, Result, Ok, Err, refl, sym, ap, ◌∙◌, subst}
+use Rattle.std.proofs.Common.{◌≡◌, ◌≤◌, ℕ, ◌+◌, false, true, List, [], length, replicate, Some, Result, Ok, Err, refl, sym, ap, ◌∙◌, subst}
 use Rattle.std.specs.Borrow.{Bor}
 use Rattle.std.specs.Result.{IfOk}
 use Rattle.cry_base.specs.Refusing.{has_bad_name, id_of}
 use Rattle.cry_base.specs.Requests.{Request}
 use Rattle.cry_base.specs.Requests.Request.{AddHolder, MakeFolder, WriteFile, Remove, Rename, Relocate, Grant, Revoke}
 use Rattle.cry_base.specs.Store.{Store, node_at}
-use Rattle.cry_base.specs.declared.ids.FileId.{FileId}
-use Rattle.cry_base.specs.declared.ids.FolderId.{FolderId}
 use Rattle.cry_base.specs.declared.roles.Node.{Node}
 use Rattle.cry_base.specs.declared.roles.Node.TheVariants.{Folder, File}
 use Rattle.cry_base.specs.Listed.{Listed}

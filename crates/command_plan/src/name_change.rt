@@ -1,5 +1,5 @@
 //! The names and bytes that a command leaves, with all their memory taken before it is done.
-ghost use Rattle.std.specs.Prelude.{◌≡◌, ◌<◌, IfOk};
+ghost use Rattle.std.specs.Prelude.{◌<◌, IfOk};
 ghost use Rattle.cry_base.specs.Requests.{Request};
 ghost use Rattle.folder_nodes.specs.Targets.{IsTargetOf};
 ghost use Rattle.folder_nodes.specs.Titles.{tree_store};

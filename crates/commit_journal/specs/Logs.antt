@@ -1,7 +1,7 @@
 -- The batches of a log as who reads it may read them: the owner as `log_verdict` says, and a holder, and the owner who
 -- opens it for writing. This project's own, docs/FORMAT.md, "Reading" and "Opening for writing".
 use Rattle.std.specs.Prelude.{◌≡◌, ◌≤◌, ℕ, zero, suc, ◌+◌, ◌-◌, ◌==◌, nat_le, if◌then◌else◌, List, [], ◌∷◌, ◌++◌, length, take, drop, codes}
-use Rattle.std.specs.Prelude.{slice_index, slice_range, Option, Some, Result, Ok, Err}
+use Rattle.std.specs.Prelude.{Option, Some, Result, Ok, Err}
 use Rattle.std.specs.Str.{bytes_eq}
 use Rattle.cry_base.specs.Layout.{batch_len, header_len, magic_len, tag_offset}
 use Rattle.chacha_seal.specs.Sealing.{veil_of, masked}

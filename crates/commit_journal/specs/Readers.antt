@@ -1,6 +1,6 @@
 -- The batches of a log as who reads it reads them, batch by batch: the owner, or anybody without a key. This project's own,
 -- docs/FORMAT.md, "Reading".
-use Rattle.std.specs.Prelude.{ℕ, ◌+◌, Bool, true, nat_le, if◌then◌else◌, List, [], ◌∷◌, ◌++◌, length, take, drop, codes, slice_index}
+use Rattle.std.specs.Prelude.{ℕ, ◌+◌, Bool, true, nat_le, if◌then◌else◌, List, [], ◌∷◌, ◌++◌, length, take, drop, codes}
 use Rattle.std.specs.Prelude.{slice_range, Option, None, Some, Result, Ok, Err}
 use Rattle.std.specs.Str.{bytes_eq}
 use Rattle.cry_base.specs.Layout.{first_gate_offset, header_len, magic_len, slot_offset, tag_offset}

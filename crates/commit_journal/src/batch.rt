@@ -1,5 +1,5 @@
 //! A batch in memory, from its head to the gate behind it, as layout.rt draws it.
-ghost use Rattle.std.specs.Prelude.{◌≡◌, ◌+◌, ◌<◌, ◌≤◌, ◌^◌, ℕ, List, [], ◌∷◌, ◌++◌, length, take, drop};
+ghost use Rattle.std.specs.Prelude.{◌≡◌, ◌+◌, ◌<◌, ◌≤◌, ◌^◌, [], ◌∷◌, ◌++◌, length, take, drop};
 ghost use Rattle.cry_base.specs.Layout.{back_len, batch_len, payload_offset};
 ghost use Rattle.hmac_seal.specs.Hmac as mac;
 ghost use Rattle.chacha_seal.specs.Sealing as sealing;

@@ -1,7 +1,6 @@
 //! Why a store was not read.
 use cry_base::OutOfMemory;
 use cry_io::Failed;
-use record_format::PayloadFault;
 use std::alloc::AllocError;
 use thiserror::Error;
 

@@ -1,6 +1,6 @@
 //! Opening a store for writing: its log as the owner's key reads it, and the slots that a stop left empty
 //! (docs/FORMAT.md, "Opening for writing").
-ghost use Rattle.std.specs.Prelude.{◌≡◌, ◌≢◌, ◌⊎◌, ◌<◌, ◌≤◌, ◌+◌, ◌^◌, Err, drop, length, is_some, vec_len, IfOk, IfErr, OnErr, OnOk, All};
+ghost use Rattle.std.specs.Prelude.{◌≡◌, ◌⊎◌, ◌<◌, ◌≤◌, ◌+◌, ◌^◌, Err, drop, length, is_some, vec_len, IfOk, IfErr, OnErr, OnOk, All};
 ghost use Rattle.std.specs.Option.{option_to_list};
 ghost use Rattle.cry_base.specs.Layout.{batch_len, header_len};
 ghost use Rattle.cry_base.specs.Limits.{most_store_bytes};

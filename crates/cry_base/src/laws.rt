@@ -1,5 +1,5 @@
 //! Laws of the plain store.
-ghost use Rattle.std.specs.Prelude.{◌≡◌, ◌↔◌, ℕ, List, [], ◌∷◌, IsTrue, Some, Ok, Err, None};
+ghost use Rattle.std.specs.Prelude.{◌≡◌, ◌↔◌, ℕ, List, IsTrue, Some, Ok, Err, None};
 ghost use Rattle.std.specs.List.{list_all};
 ghost use Rattle.cry_base.specs.Naming.{is_name, is_path, IsPath, names_of, spell_path};
 ghost use Rattle.cry_base.specs.Refusing.{refusal_of};

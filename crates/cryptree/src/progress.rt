@@ -1,5 +1,5 @@
 //! The line that shows on a terminal that a long run goes on. Nothing is promised of it, and it promises nothing.
-ghost use Rattle.std.specs.Prelude.{◌≡◌, ◌+◌, ◌≤◌, ◌^◌, length};
+ghost use Rattle.std.specs.Prelude.{◌≡◌, ◌+◌};
 
 use cry_io::{Disk, Failed};
 use cryptree_cli::words::Form;

@@ -1,5 +1,5 @@
 -- What the lines of a run publish, however they end: no stop takes it back.
-use Rattle.std.proofs.Common.{◌≡◌, ◌≢◌, ◌≤◌, ℕ, List, [], ◌++◌, Option, Some, Result, Ok, Err, arith, sym, subst}
+use Rattle.std.proofs.Common.{◌≡◌, ◌≤◌, ℕ, List, [], ◌++◌, Option, Some, Result, Ok, Err, arith, sym, subst}
 use Rattle.batch_log.specs.Moments.{FromThenOn}
 use Rattle.batch_log.proofs.InOrder.{on_in_both}
 use Rattle.batch_log.proofs.Moments.{in_both}

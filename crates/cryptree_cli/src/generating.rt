@@ -3,7 +3,7 @@
 ghost use Rattle.std.specs.Prelude.{◌≡◌, ◌≢◌, ◌<◌, ◌≤◌, ◌⊎◌, ◌↔◌, ◌++◌, ℕ, [], List, Err, IfErr, false, is_some, IsTrue};
 ghost use Rattle.batch_log.specs.Moments.{FromThenOn};
 ghost use Rattle.cry_io.specs.Stops.{IsDurable};
-ghost use Rattle.cry_io.specs.Told.{WhereTold, WhereBothTold};
+ghost use Rattle.cry_io.specs.Told.{WhereTold};
 ghost use Rattle.public_fold.specs.Journal.{Journal};
 ghost use Rattle.journal_bytes.specs.Script.{opened};
 ghost use Rattle.script_text.specs.Printing.{owner_line};

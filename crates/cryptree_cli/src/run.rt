@@ -1,6 +1,6 @@
 //! The command `run`: the owner's line, then the store opened for writing, then each command's line answered before the next is
 //! read, in this order.
-ghost use Rattle.std.specs.Prelude.{◌≡◌, ◌≢◌, ◌⊎◌, ◌+◌, ◌<◌, ◌≤◌, ℕ, [], List, Err, IfErr, OnOk, None, Option, Some, false, is_some};
+ghost use Rattle.std.specs.Prelude.{◌≡◌, ◌≢◌, ◌⊎◌, ◌<◌, ◌≤◌, ℕ, [], List, Err, IfErr, None, Option, Some, false, is_some};
 ghost use Rattle.std.specs.Prelude.{length, IsTrue};
 ghost use Rattle.batch_log.specs.Moments.{FromThenOn};
 ghost use Rattle.commit_journal.specs.Holding.{GoesOn};

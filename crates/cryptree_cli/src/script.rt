@@ -10,7 +10,7 @@ ghost use Rattle.cryptree_cli.specs.Taking.{TakesCommand};
 
 use crate::lines::{LineReader, Next, NextFault};
 use crate::outside::print;
-use cry_base::{Command, List, Reply, Text};
+use cry_base::{Command, List, Reply};
 use cry_io::{Sink, Source};
 use script_text::{LineFault, print_reply, read_line};
 use std::alloc::Global;

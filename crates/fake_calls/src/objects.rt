@@ -1,5 +1,5 @@
 //! The outside of a call: its input, its random bytes, its disk and its output.
-ghost use Rattle.std.specs.Prelude.{◌≡◌, ◌≤◌, length, IfOk};
+ghost use Rattle.std.specs.Prelude.{◌≡◌, IfOk};
 
 use crate::call::Fault;
 use cry_base::{List, Mem, Text};

@@ -1,5 +1,5 @@
 //! The way from the root down to the folder of a path's last name.
-ghost use Rattle.std.specs.Prelude.{◌≡◌, ℕ, true, false};
+ghost use Rattle.std.specs.Prelude.{◌≡◌, true, false};
 ghost use Rattle.cry_base.specs.Naming.{is_name, is_path, is_root_path, names_of, front};
 ghost use Rattle.cry_base.specs.Store.{folder_entry};
 ghost use Rattle.folder_nodes.specs.Spelling as spelling;

@@ -1,6 +1,6 @@
 //! Ways up the tree: which folders are above a folder, and how many.
-ghost use Rattle.std.specs.Prelude.{◌≡◌, ◌+◌, ◌≤◌, ◌==◌, ◌&&◌, not, length, IsSome};
-ghost use Rattle.cry_base.specs.Store.{folder_entry, file_entry, folder_node, depth_of, is_within, way_to_root};
+ghost use Rattle.std.specs.Prelude.{◌≡◌, ◌≤◌, ◌==◌, ◌&&◌, not, IsSome};
+ghost use Rattle.cry_base.specs.Store.{folder_entry, file_entry, folder_node, depth_of, is_within};
 ghost use Rattle.folder_nodes.specs.Looking.{parent_number_of, folder_number_of};
 
 use crate::Shape;

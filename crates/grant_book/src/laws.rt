@@ -1,5 +1,5 @@
 //! The lists of holders and grants stand for those of a plain store, and each change for its effect there.
-ghost use Rattle.std.specs.Prelude.{◌≡◌, ℕ, Bool, List, [], ◌∷◌, ◌++◌, true, false};
+ghost use Rattle.std.specs.Prelude.{◌≡◌, ℕ, Bool, List, [], ◌∷◌, ◌++◌};
 ghost use Rattle.cry_base.specs.Refusing.{finds_no_holder, grants_again, revokes_nothing, id_of};
 ghost use Rattle.cry_base.specs.Requests.Request.{Grant, Revoke};
 ghost use Rattle.cry_base.specs.Stepping.{effect, with_new_holder, without_folder};

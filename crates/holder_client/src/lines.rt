@@ -1,11 +1,11 @@
 //! The lines of what was opened (docs/FORMAT.md, "Lines").
-ghost use Rattle.std.specs.Prelude.{◌≡◌, ◌++◌, [], ◌∷◌, IfOk, OnOk, cond, filter, map};
+ghost use Rattle.std.specs.Prelude.{◌≡◌, ◌++◌, IfOk, OnOk, map};
 ghost use Rattle.std.specs.List.{flat_map};
 ghost use Rattle.std.specs.Ordering.{is_lt};
 ghost use Rattle.folder_nodes.specs.Titles.{tree_store};
 ghost use Rattle.holder_client.specs.Lines as spec;
 ghost use Rattle.holder_client.specs.Lines.{plain_line, plain_view};
-ghost use Rattle.log_visits.specs.View.{Line as PlainLine, line_path};
+ghost use Rattle.log_visits.specs.View.{line_path};
 ghost use Rattle.role_graph.specs.Edges.{in_order};
 
 use crate::reading::ReadFile;

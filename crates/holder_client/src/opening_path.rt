@@ -1,5 +1,5 @@
 //! The one line of a path that a key shows (docs/FORMAT.md, "Reading").
-ghost use Rattle.std.specs.Prelude.{◌≡◌, ◌≢◌, ◌<◌, ◌≤◌, ◌||◌, ℕ, Err, IfOk, Ok, OnOk, filter, find, map, option_map, true};
+ghost use Rattle.std.specs.Prelude.{◌≡◌, ◌<◌, ◌≤◌, ◌||◌, ℕ, Err, IfOk, Ok, OnOk, filter, find, map, option_map, true};
 ghost use Rattle.std.specs.HashSet.{contains};
 ghost use Rattle.std.specs.List.{flat_map, list_any};
 ghost use Rattle.std.specs.Str.{bytes_eq};

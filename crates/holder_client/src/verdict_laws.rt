@@ -6,7 +6,7 @@ ghost use Rattle.cry_base.specs.Requests.{Request};
 ghost use Rattle.cry_base.specs.Stepping.{effect};
 ghost use Rattle.cry_base.specs.Store.{Store};
 ghost use Rattle.cry_base.specs.declared.client.Bundle.{Bundle};
-ghost use Rattle.commit_journal.specs.Answering.{Fault, NotAStore};
+ghost use Rattle.commit_journal.specs.Answering.{NotAStore};
 ghost use Rattle.commit_journal.specs.Placed.{PlainPlaced};
 ghost use Rattle.move_plan.specs.Fitting.{public_of};
 ghost use Rattle.move_plan.specs.Noting.{note_of};

@@ -39,7 +39,7 @@ use Rattle.public_fold.proofs.KeyMoves.{IsSound, command_moves, effect_sound, ep
 use Rattle.public_fold.proofs.KeepingKeys.{IsMove, keys_after, planned_told}
 use Rattle.public_fold.proofs.Serials.{numbered-length}
 use Rattle.journal_bytes.specs.Bytes as bytes
-use Rattle.journal_bytes.specs.Bytes.{bodies_from, bodies_of, content_record, entry_body, link_record, step_payload}
+use Rattle.journal_bytes.specs.Bytes.{bodies_from, bodies_of, entry_body, step_payload}
 use Rattle.journal_bytes.specs.Folds.{log_of}
 use Rattle.journal_bytes.specs.Keys.{AreWhole, all_keys, bytes_in, drawn_by, entry_keys, key_bytes, keys_from, owner_parts, with_bytes}
 use Rattle.journal_bytes.specs.Notes.{declared_note}

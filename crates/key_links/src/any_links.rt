@@ -1,7 +1,7 @@
 //! Links and contents of keys of any kind.
 ghost use Rattle.std.specs.Prelude.{◌≡◌, ◌↔◌, ◌<◌, ◌≤◌, ◌^◌, IfOk, IsOk, OnErr, OnOk, length};
 ghost use Rattle.cry_base.specs.Sets.{In};
-ghost use Rattle.key_links.specs.Ended.{kind_from, kind_to, sealing_role, source_role, target_role};
+ghost use Rattle.key_links.specs.Ended.{kind_to, sealing_role, source_role, target_role};
 ghost use Rattle.key_links.specs.Opened.{IsAuthenticContent, IsAuthenticLink, StartsAt, target_of, text_of, with_text};
 ghost use Rattle.key_links.specs.Ringed.{parts_of, role_of};
 ghost use Rattle.key_links.specs.Sealed.{sealed_content, sealed_link};

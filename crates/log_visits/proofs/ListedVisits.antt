@@ -26,7 +26,7 @@ use Rattle.log_visits.specs.Opening.{IsFor, Tells, is_no_holders, plain_visit}
 use Rattle.log_visits.specs.Sights.{AreSights, is_child, is_deeper, is_lower, is_shallower, is_upper, plain_viewer, same_number, sight_of}
 use Rattle.log_visits.specs.Visits as spec
 use Rattle.log_visits.specs.Visits.{Visit, folders_that, is_entry, entry_edge, entry_visits, lower_visits, allowed_visits, visit_from, upper_visit, upper_visits, name_visits, visits_to_names, is_higher}
-use Rattle.log_visits.specs.Visits.Visit.{ToKey, ToName, ToFile, ToHolder}
+use Rattle.log_visits.specs.Visits.Visit.{ToKey, ToName}
 use Rattle.log_visits.proofs.InOrder.{order_mapped}
 use Rattle.log_visits.proofs.OwnerVisits.{both_all, each_all, flat_alike, listed_plainly, ordered}
 use Rattle.key_links.specs.Ended.{kind_from, kind_to, role_with, row_numbered}

@@ -1,6 +1,6 @@
 //! Names, bytes and holders' keys that are opened, each with the key of its folder, its file or the owner (docs/FORMAT.md,
 //! "Reading").
-ghost use Rattle.std.specs.Prelude.{◌≡◌, ◌≢◌, ◌≤◌, Bool, Err, IfOk, IfSome, IsTrue, MatchOption, OnOk, false, length};
+ghost use Rattle.std.specs.Prelude.{◌≡◌, ◌≢◌, ◌≤◌, Bool, Err, IfOk, IfSome, IsTrue, OnOk, length};
 ghost use Rattle.cry_base.specs.Limits.{most_file_bytes};
 ghost use Rattle.cry_base.specs.Naming.{is_name};
 ghost use Rattle.cry_base.specs.Store.{Store};
@@ -8,7 +8,7 @@ ghost use Rattle.cry_base.specs.declared.roles.Role.{Role as TheRole};
 ghost use Rattle.cry_base.specs.declared.roles.Role.TheVariants.{Owner};
 ghost use Rattle.log_visits.specs.Answering.{AnswersBy};
 ghost use Rattle.log_visits.specs.Found.{IsContentFor, plain_found};
-ghost use Rattle.log_visits.specs.Holding.{ArePresent, AreSized, HasNames, HasParts, HoldsKeys, IsFiledBy, IsHeldBy, IsTitledBy};
+ghost use Rattle.log_visits.specs.Holding.{ArePresent, AreSized, HasNames, HoldsKeys, IsFiledBy, IsHeldBy, IsTitledBy};
 ghost use Rattle.log_visits.specs.Placing.{content_for};
 ghost use Rattle.log_visits.specs.Visiting as spec;
 ghost use Rattle.log_visits.specs.Visits.Visit.{ToFile, ToHolder, ToName};
@@ -20,7 +20,7 @@ use crate::records::FoundContent;
 use crate::text_forms::{file_parts, is_folder_text, text_of};
 use crate::visiting::{OpenedText, open_text};
 use chacha_seal::Key;
-use cry_base::{FileId, FolderId, HolderId, Mem, Node, Role, Serial, Text};
+use cry_base::{FileId, FolderId, HolderId, Node, Role, Serial, Text};
 use folder_nodes::Names;
 use key_links::KeyRing;
 use public_fold::PublicState;

@@ -5,7 +5,7 @@ ghost use Rattle.cry_base.specs.Naming.{spell_path};
 ghost use Rattle.cry_base.specs.Store.{FolderEntry, backwards, folder_names, way_to_root};
 ghost use Rattle.cry_base.specs.declared.ids.FolderId.{FolderId as TheFolder};
 ghost use Rattle.folder_nodes.specs.Spelling.{joined};
-ghost use Rattle.folder_nodes.specs.Titles.{name_in, title_at, title_of, tree_store};
+ghost use Rattle.folder_nodes.specs.Titles.{name_in, title_at, tree_store};
 
 use cry_base::{FolderId, Mem, Node, Text};
 use folder_nodes::{Names, Shape};

@@ -1,7 +1,6 @@
 //! Roles and edges of a folder and of a file, and lists of them.
 ghost use Rattle.std.specs.Prelude.{◌≡◌, ◌++◌, IfOk};
 ghost use Rattle.role_graph.specs.Edges.{edge_before, in_order, folder_edges as edges_of_folder, parent_edges as edges_to_parent};
-ghost use Rattle.role_graph.specs.Edges.{grant_edge as edge_of_grant, file_edge as edge_of_file};
 ghost use Rattle.role_graph.specs.Roles.{folder_roles as roles_of_folder};
 
 use cry_base::{Edge, FolderId, List, Mem, Role};

@@ -1,5 +1,5 @@
 //! Laws of journals.
-ghost use Rattle.std.specs.Prelude.{◌<◌, ◌+◌, ◌↔◌, ℕ, ◌≡◌, ◌≤◌, List, [], ◌∷◌, ◌++◌, length, Some};
+ghost use Rattle.std.specs.Prelude.{◌<◌, ◌+◌, ◌↔◌, ℕ, ◌≡◌, ◌≤◌, List, ◌++◌, length};
 ghost use Rattle.cry_base.specs.declared.roles.Role.{Role};
 ghost use Rattle.role_graph.specs.Edges.{Reaches, edges};
 ghost use Rattle.role_graph.specs.RightsByReach.{IsRightful, IsSettled, IsStandingRole};

@@ -1,9 +1,9 @@
 //! Worked rows of journals, each computed by the checker from the definitions.
-ghost use Rattle.std.specs.Prelude.{◌≡◌, ◌*◌, ◌^◌, ◌+◌, [], ◌∷◌, map, codes, length, true, false, Some, None, replicate};
+ghost use Rattle.std.specs.Prelude.{◌≡◌, [], ◌∷◌, map, length, true, replicate};
 ghost use Rattle.role_graph.specs.Edges.{grant_edge};
 ghost use Rattle.role_graph.specs.Roles.{clear_of, sub_of, back_of, files_of, data_of, file_role};
 ghost use Rattle.public_fold.specs.Journal.{nothing};
-ghost use Rattle.public_fold.specs.Lengths.{end_of, payloads_from};
+ghost use Rattle.public_fold.specs.Lengths.{end_of};
 ghost use Rattle.public_fold.specs.StandFits.{all_fit};
 ghost use Rattle.public_fold.specs.Valid.{IsValid};
 ghost use Rattle.public_fold.specs.WorkedSteps.{edges_agree, fresh, renaming, rewriting, granting, revoking, writing_again, renaming_again};

@@ -1,5 +1,5 @@
 //! Laws of marks and plans: the sets that are computed are those told by paths.
-ghost use Rattle.std.specs.Prelude.{◌≡◌, ◌↔◌, ◌⊎◌, ℕ, List, [], ◌∷◌};
+ghost use Rattle.std.specs.Prelude.{◌↔◌, ◌⊎◌, List};
 ghost use Rattle.cry_base.specs.Sets.{In};
 ghost use Rattle.cry_base.specs.declared.roles.Edge.{Edge};
 ghost use Rattle.cry_base.specs.declared.roles.Role.{Role};

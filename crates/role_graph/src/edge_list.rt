@@ -1,5 +1,5 @@
 //! The edges of all that stands, in their order.
-ghost use Rattle.std.specs.Prelude.{◌≡◌, ◌==◌, ◌++◌, ◌∷◌, [], cond, map, IfOk, OnOk};
+ghost use Rattle.std.specs.Prelude.{◌≡◌, ◌==◌, ◌++◌, [], cond, map, IfOk, OnOk};
 ghost use Rattle.std.specs.List.{flat_map};
 ghost use Rattle.role_graph.specs.Edges as spec;
 ghost use Rattle.role_graph.specs.Edges.{edges as edges_of, edge_before, in_order, unordered, folder_edges, parent_edges, grant_edge};

@@ -1,5 +1,5 @@
 //! What edges lead to, and what leads along them.
-ghost use Rattle.std.specs.Prelude.{◌≡◌, ◌<◌, ◌↔◌, true, false, not, ◌&&◌, IfOk, OnErr, if◌then◌else◌};
+ghost use Rattle.std.specs.Prelude.{◌≡◌, ◌<◌, ◌↔◌, true, false, not, ◌&&◌, IfOk, if◌then◌else◌};
 ghost use Rattle.cry_base.specs.Sets.{In, has};
 ghost use Rattle.cry_base.specs.declared.roles.Role.{Role as AnyRole};
 ghost use Rattle.role_graph.specs.Ascending.{IsAscending, with_role};

@@ -1,11 +1,10 @@
 //! Worked rows of the graph of roles, each computed by the checker from the definitions.
-ghost use Rattle.std.specs.Prelude.{◌≡◌, [], ◌∷◌, IsTrue, true, false, map};
+ghost use Rattle.std.specs.Prelude.{◌≡◌, [], ◌∷◌, true, false, map};
 ghost use Rattle.cry_base.specs.WorkedRows.{granted};
 ghost use Rattle.cry_base.specs.Store.{file_node, folder_node};
-ghost use Rattle.role_graph.specs.Edges.{edges, reach_along};
+ghost use Rattle.role_graph.specs.Edges.{edges};
 ghost use Rattle.role_graph.specs.Rights.{allowed, named, shown};
 ghost use Rattle.role_graph.specs.Rights.Who.{TheHolder};
-ghost use Rattle.role_graph.specs.Roles.{holder_role, clear_of, sub_of, back_of, files_of, data_of, file_role};
 
 /// Of a fresh store with one folder, one file and a grant, the kinds of the edges in their order.
 #[tactic(auto, unfolding(crate::specs::WorkedGraph::graph))]

@@ -1,6 +1,6 @@
 //! Bytes that come in pieces, cut into lines.
 ghost use Rattle.std.specs.Prelude.{◌≡◌, ◌<◌, ◌≤◌, ◌+◌, ◌++◌, ◌∷◌, [], length, take, drop, IfOk, IfSome, IsNone, OnOk, OnErr};
-ghost use Rattle.script_text.specs.Cutting.{EndsLine, IsOneLine, TakesLine, TakesRest, line_over};
+ghost use Rattle.script_text.specs.Cutting.{IsOneLine, TakesLine, TakesRest, line_over};
 
 use crate::gauge::Gauge;
 use cry_base::{List, Mem, Text};

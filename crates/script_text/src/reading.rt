@@ -1,5 +1,5 @@
 //! Lines that are read.
-ghost use Rattle.std.specs.Prelude.{◌≡◌, ◌≢◌, ◌==◌, ◌<◌, ℕ, length, IfOk, IfSome, ok_or, position};
+ghost use Rattle.std.specs.Prelude.{◌≡◌, ◌≢◌, ◌==◌, ◌<◌, length, IfOk, IfSome, ok_or, position};
 ghost use Rattle.script_text.specs.Reading.{IsBundleLine, bundle_of, holder_of, key_of, number_of};
 
 use crate::LineFault;

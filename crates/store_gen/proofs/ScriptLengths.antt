@@ -1,7 +1,6 @@
 -- How long a generated script is.
-use Rattle.std.proofs.Common.{◌≡◌, ℕ, zero, suc, ◌+◌, ◌*◌, ◌<◌, ◌≤◌, List, [], ◌∷◌, ◌++◌, length, map, refl, ap, subst, arith, length-append}
+use Rattle.std.proofs.Common.{◌≡◌, ℕ, zero, suc, ◌+◌, ◌*◌, ◌≤◌, [], ◌∷◌, length, ap, arith, length-append}
 use Rattle.std.specs.Prelude.{decimal}
-use Rattle.cry_base.specs.Requests.{Request}
 use Rattle.cry_base.specs.Stepping.{effect}
 use Rattle.cry_base.specs.Store.{Store}
 use Rattle.cry_base.specs.Texts.{ended_lines, hex_of}
@@ -12,7 +11,7 @@ use Rattle.store_gen.specs.declared.change.Change.{Change}
 use Rattle.store_gen.specs.declared.change.Change.TheVariants as change
 use Rattle.store_gen.specs.declared.generator.Generator.{Generator}
 use Rattle.store_gen.proofs.Accepted.{Suits, kept, suited, advanced_stands}
-use Rattle.store_gen.proofs.Lines.{drawn_more, lines_of, one_digit, script_parts}
+use Rattle.store_gen.proofs.Lines.{lines_of, one_digit, script_parts}
 use Rattle.store_gen.proofs.Opening.{opened_store, opened_stands}
 
 -- a line of a change has 15 bytes at most, without its newline

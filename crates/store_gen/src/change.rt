@@ -1,6 +1,5 @@
 //! What a drawn line asks for, and how it is spelled.
-ghost use Rattle.std.specs.Prelude.{◌≡◌, ◌<◌, ◌≤◌, ◌+◌, ◌++◌, ◌∷◌, [], codes, length, decimal, OnOk};
-ghost use Rattle.cry_base.specs.Texts.{hex_of};
+ghost use Rattle.std.specs.Prelude.{◌≡◌, ◌<◌, ◌≤◌, ◌+◌, ◌++◌, ◌∷◌, [], length, decimal, OnOk};
 ghost use Rattle.store_gen.specs.Rule.{IsSmall, asks, folder_path};
 ghost use Rattle.store_gen.specs.Spelling.{spelled};
 

@@ -1,7 +1,7 @@
 //! Scripts, from a number.
 ghost use Rattle.std.specs.Prelude.{◌≡◌, ◌++◌, map, IfOk, OnOk};
 ghost use Rattle.cry_base.specs.Texts.{ended_lines};
-ghost use Rattle.store_gen.specs.Rule.{IsReady, drawn_requests, opening, script_of};
+ghost use Rattle.store_gen.specs.Rule.{IsReady, drawn_requests, script_of};
 ghost use Rattle.store_gen.specs.Spelling.{spelled};
 
 use crate::change::put_line;

@@ -8,7 +8,7 @@ use Rattle.cry_base.specs.declared.roles.Role.{Role}
 use Rattle.cry_base.specs.declared.roles.Role.TheVariants.{Owner, Holder, Clear, Sub, Back, Files, Data, File}
 use Rattle.log_visits.specs.Folding.{folded}
 use Rattle.log_visits.specs.Opening.{is_no_holders}
-use Rattle.log_visits.specs.Visiting.{Opened, Reading, visit, visit_all, with_holder_key, with_name_at, with_parts, with_text_at}
+use Rattle.log_visits.specs.Visiting.{Opened, visit_all}
 use Rattle.log_visits.specs.Visiting as opened
 use Rattle.key_links.specs.Ringed.{Ringed, key_of}
 use Rattle.folder_nodes.specs.Titles.{Titles}

@@ -33,7 +33,7 @@ use Rattle.journal_bytes.specs.Bytes.{batches_of, bodies_of}
 use Rattle.journal_bytes.specs.Journals.{StandsForJournal}
 use Rattle.journal_bytes.specs.Keys.{AreWhole}
 use Rattle.journal_bytes.specs.Script.{answer, journal_then}
-use Rattle.journal_bytes.proofs.Grown.{batches_fit, batches_grow, journal_recovered}
+use Rattle.journal_bytes.proofs.Grown.{batches_fit, journal_recovered}
 use Rattle.journal_bytes.proofs.NextEntry.{between}
 use Rattle.store_owner.specs.Applying.{IsSealed}
 use Rattle.store_owner.specs.Owned.{IsOwnerOf, OwnerView, limits_in}

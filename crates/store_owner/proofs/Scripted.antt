@@ -19,7 +19,6 @@ use Rattle.store_owner.specs.Drawing.{joined}
 use Rattle.store_owner.specs.Owned.{IsOwnerOf, OwnerView, limits_in}
 use Rattle.store_owner.specs.Sessions.{AnswersBehind, GoesOn, StandsAt, with_draws}
 use Rattle.store_owner.specs.Tallied.{CountsCommand, CountsOne, KeepsCount, counted_in}
-use Rattle.store_owner.specs.declared.apply_fault.ApplyFault.{ApplyFault}
 use Rattle.store_owner.proofs.OwnerGoesOn.{not_refused}
 use Rattle.store_owner.proofs.Tallies.{counts_on}
 use Rattle.store_owner.specs.Stopping.{ComesToRest}

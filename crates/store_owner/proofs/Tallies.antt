@@ -1,5 +1,5 @@
 -- What an owner counts is what its journal's entries publish.
-use Rattle.std.proofs.Common.{◌≡◌, ℕ, ◌+◌, ◌*◌, ◌≤◌, Bool, true, false, cond, not, List, [], ◌∷◌, ◌++◌, filter, length, map, replicate, Option, None, Result, Ok, Err, append-nil, arith, refl, sym, ap, subst, ◌∙◌, length-append}
+use Rattle.std.proofs.Common.{◌≡◌, ℕ, ◌+◌, Bool, true, false, not, List, [], ◌∷◌, ◌++◌, filter, length, map, replicate, None, Result, Ok, Err, append-nil, arith, refl, sym, ap, subst, ◌∙◌, length-append}
 use Rattle.std.proofs.lemmas.List.{length-map}
 use Rattle.std.specs.List.{flat_map}
 use Rattle.std.specs.Prelude.{IfOk, OnErr, OnOk}
@@ -9,9 +9,7 @@ use Rattle.commit_journal.specs.Image.{image}
 use Rattle.commit_journal.specs.Journals.{JournalState}
 use Rattle.cry_base.specs.Refusing.{refusal_of}
 use Rattle.cry_base.specs.Requests.{Request}
-use Rattle.cry_base.specs.Store.{Store}
 use Rattle.cry_base.specs.declared.commands.Reply.{Reply}
-use Rattle.cry_base.specs.declared.commands.Reply.TheVariants as replies
 use Rattle.move_plan.specs.Noting.{note_of}
 use Rattle.record_format.specs.Noted.{Note}
 use Rattle.record_format.specs.declared.note.Note.{Note as Declared}
@@ -25,12 +23,10 @@ use Rattle.public_fold.specs.Keyed.{links_of}
 use Rattle.public_fold.specs.Lengths.{end_of}
 use Rattle.public_fold.specs.Preparing.{begun}
 use Rattle.public_fold.specs.Records.{Content, Link}
-use Rattle.public_fold.specs.Standing.{IsSeenAs}
 use Rattle.public_fold.specs.declared.heads.Skeleton.{Skeleton}
 use Rattle.public_fold.proofs.Prefixes.{steps_grow}
 use Rattle.journal_bytes.specs.Bytes.{batches_of, image_of}
 use Rattle.journal_bytes.specs.Folds.{public_stand}
-use Rattle.journal_bytes.specs.Owning.{IsStoreOf}
 use Rattle.journal_bytes.specs.Script.{journal_then}
 use Rattle.journal_bytes.specs.WorkedBytes.{journal_bytes}
 use Rattle.journal_bytes.proofs.NextEntry.{between, stand_between}
@@ -40,7 +36,6 @@ use Rattle.store_owner.specs.Counted.{counted_with, root_counted, with_command}
 use Rattle.store_owner.specs.Making.{made_with}
 use Rattle.store_owner.specs.Owned.{IsOwnerOf, OwnerView}
 use Rattle.store_owner.specs.Planning.{IsDrafted, reply_for}
-use Rattle.store_owner.specs.Sound.{granted_in}
 use Rattle.store_owner.specs.Tallied.{CountsCommand, CountsOne, counted_in, is_command, tally_in, tally_of}
 use Rattle.store_owner.specs.declared.apply_fault.ApplyFault.{ApplyFault}
 use Rattle.store_owner.specs.declared.change.Change.{Change}

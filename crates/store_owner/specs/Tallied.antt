@@ -1,5 +1,5 @@
 -- The figures of a journal, and how an owner comes to them. This project's own, docs/MODEL.md.
-use Rattle.std.specs.Prelude.{◌≡◌, ℕ, Bool, true, false, not, List, filter, length, replicate, Result, Ok, Err}
+use Rattle.std.specs.Prelude.{◌≡◌, Bool, true, false, not, filter, length, replicate, Result, Ok, Err}
 use Rattle.std.specs.List.{flat_map}
 use Rattle.cry_base.specs.Requests.{Request}
 use Rattle.cry_base.specs.Store.{Store}

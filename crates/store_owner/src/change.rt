@@ -1,10 +1,7 @@
 //! What a command seals and changes, with its memory.
-ghost use Rattle.std.specs.Prelude.{◌≡◌, ◌++◌, ◌≤◌, true, length};
-ghost use Rattle.chacha_seal.specs.Sealing.{check_of as the_check_of};
-ghost use Rattle.public_fold.specs.Journal.{Stand, first_key};
-ghost use Rattle.public_fold.specs.Preparing.{is_new_holder, with_check};
-ghost use Rattle.public_fold.specs.Standing.{IsSeenAs};
-ghost use Rattle.store_owner.specs.Planning.{IsKeyed, holder_key, reply_for};
+ghost use Rattle.std.specs.Prelude.{◌≡◌, ◌≤◌, true, length};
+ghost use Rattle.public_fold.specs.Preparing.{is_new_holder};
+ghost use Rattle.store_owner.specs.Planning.{IsKeyed, reply_for};
 
 use chacha_seal::check_of;
 use command_plan::NameChange;

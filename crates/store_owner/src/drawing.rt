@@ -1,6 +1,5 @@
 //! A whole piece drawn from a source.
-ghost use Rattle.std.specs.Prelude.{◌≡◌, ◌<◌, ◌≤◌, length, is_some, IsErrOf, IfErr};
-ghost use Rattle.cry_io.specs.Counts.{CountsFault};
+ghost use Rattle.std.specs.Prelude.{◌≡◌, ◌<◌, length, is_some, IfErr};
 ghost use Rattle.cry_io.specs.Told.{WhereBothTold};
 ghost use Rattle.store_owner.specs.Drawing.{Draws, FailsByCount, IsShortOf};
 

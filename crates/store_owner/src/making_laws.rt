@@ -1,5 +1,5 @@
 //! Laws of a store that was just made.
-ghost use Rattle.std.specs.Prelude.{◌≡◌, ◌≤◌, ℕ, List, None, Some, [], ◌∷◌, length};
+ghost use Rattle.std.specs.Prelude.{◌≡◌, ◌≤◌, ℕ, List, None, Some, [], length};
 ghost use Rattle.cry_base.specs.Limits.{most_file_bytes};
 ghost use Rattle.commit_journal.specs.Journals.{IsJournalOf};
 ghost use Rattle.folder_nodes.specs.Titles.{title_at};

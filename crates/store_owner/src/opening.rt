@@ -1,7 +1,6 @@
 //! Opens a store for writing (docs/FORMAT.md, "Opening for writing").
 ghost use Rattle.std.specs.Prelude.{◌≡◌, ◌≢◌, ◌⊎◌, ◌<◌, ◌≤◌, All, Err, IfErr, IfOk, OnErr, OnOk, Ok, drop, is_some, length, map};
 ghost use Rattle.cry_base.specs.Limits.{most_file_bytes, most_store_bytes};
-ghost use Rattle.cry_base.specs.declared.roles.Role.TheVariants.{Owner as OwnerRole};
 ghost use Rattle.cry_io.specs.Stops.{IsDurable};
 ghost use Rattle.cry_io.specs.Told.{WhereTold, WhereBothTold};
 ghost use Rattle.batch_log.specs.Moments.{FromThenOn};

@@ -1,6 +1,4 @@
 //! A law of what an owner keeps of a store.
-ghost use Rattle.std.specs.Prelude.{◌≡◌};
-ghost use Rattle.cry_base.specs.Store.{Store};
 ghost use Rattle.public_fold.specs.Journal.{Journal, store_of};
 ghost use Rattle.journal_bytes.specs.Owning.{IsStoreOf};
 ghost use Rattle.store_owner.specs.Owned.{IsOwnerOf, OwnerView};

@@ -1,5 +1,5 @@
 //! Laws of what an owner counts: the figures of its journal.
-ghost use Rattle.std.specs.Prelude.{◌≡◌, ℕ, List, None, length};
+ghost use Rattle.std.specs.Prelude.{◌≡◌, ℕ, List, None};
 ghost use Rattle.cry_base.specs.Refusing.{refusal_of};
 ghost use Rattle.cry_base.specs.Requests.{Request};
 ghost use Rattle.public_fold.specs.Journal.{Journal, store_of};

@@ -1,9 +1,6 @@
 //! The contents of a log, opened with all right keys (docs/FORMAT.md, "Records").
-ghost use Rattle.std.specs.Prelude.{◌≡◌, ◌++◌, [], ◌∷◌, IfErr, IfOk, IsTrue, List as TheList, MatchOption, OnOk, false, map, true};
+ghost use Rattle.std.specs.Prelude.{◌≡◌, ◌++◌, [], ◌∷◌, IfErr, IfOk, IsTrue, List as TheList, OnOk, map, true};
 ghost use Rattle.chacha_seal.specs.Keys.{KeyParts};
-ghost use Rattle.log_visits.specs.Holding.{HasParts};
-ghost use Rattle.log_visits.specs.Placing.{PlacedContent};
-ghost use Rattle.log_visits.specs.Visiting.{is_file_text as the_file_text, is_folder_text as the_folder_text};
 ghost use Rattle.trail_audit.specs.Auditing.{is_text as the_text, sealing_id as the_sealing_id};
 ghost use Rattle.trail_audit.specs.Derived as spec;
 ghost use Rattle.trail_audit.specs.Grouped.{HasGroups, content_source, key_source};
@@ -15,7 +12,7 @@ use crate::grouped::{Source, group_of};
 use crate::placed_records::ContentAt;
 use crate::trails::{KnownKeys, Openers};
 use chacha_seal::{BadTag, HolderK, Key, open_in_place};
-use cry_base::{FileId, FolderId, List, Mem, Node, Text};
+use cry_base::{FileId, FolderId, List, Node, Text};
 use log_visits::{ClientFault, file_parts, is_folder_text, text_of};
 use record_format::{FILE_TEXT, FOLDER_NAME, HOLDER_KEY, content_header};
 use std::alloc::Global;

@@ -1,4 +1,4 @@
-use Rattle.std.proofs.Common.{◌≡◌, ◌++◌, Err, ap}
+use Rattle.std.proofs.Common.{◌++◌, Err, ap}
 use Rattle.script_text.specs.Printing.{owner_line}
 use Rattle.store_owner.specs.Tallied.{tally_in}
 use Rattle.cryptree_cli.specs.Figures.{spell_figures}
