@@ -2,10 +2,13 @@
 #![tactic(auto)]
 
 mod files;
+mod known;
 mod progress;
+mod read_ahead;
 
 use crate::files::{Access, Random, open_store};
 use crate::progress::{Progress, Watched};
+use crate::read_ahead::ReadAhead;
 use cry_base::{List, Mem, Text};
 use cry_io::{FileDisk, StdSink, StdSource};
 use cryptree_cli::status::{Status, fault_line};
@@ -53,7 +56,8 @@ fn run(rt: &HostRuntime, words: &List<Text>) -> Status {
         _ => (None, Random::Nothing),
     };
     let progress = form.and_then(|form| Progress::of(rt, form));
-    let mut disk = Watched::over(FileDisk::over(store), progress);
+    let file = ReadAhead::over(rt.alloc(), FileDisk::over(store));
+    let mut disk = Watched::over(file, progress);
     let mut random = StdSource::new(random);
     let mut input = StdSource::new(rt.stdin());
     let mut out = StdSink::new(rt.stdout());

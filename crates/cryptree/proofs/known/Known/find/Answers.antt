@@ -1,0 +1,7 @@
+use Rattle.cryptree.proofs.Parts.{range_known}
+use Rattle.cryptree.proofs.known.Known.find.Goals as goal
+
+pub returns-clause-bytes : goal.returns-clause-bytes
+returns-clause-bytes c = λ s is.
+    let has = c.has.ensures c.if-not-has.false in
+    range_known _ _ s _ _ c.args.place c.args.len c.deref.ensures.value is.1 has.0 has.1
