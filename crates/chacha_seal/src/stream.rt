@@ -12,8 +12,12 @@ pub(crate) fn xor_stream(key: [u8; 32], number: u64, text: &mut [u8])
 {
     let mut words = ChaCha20Rng::from_seed(key);
     choose(&mut words, number);
-    for i in 0..text.len().div_ceil(4) {
+    let whole = text.len() / 4;
+    for i in 0..whole {
         xor_word(words.next_word().to_le_bytes(), text, 4 * i);
+    }
+    if 4 * whole < text.len() {
+        xor_rest(words.next_word().to_le_bytes(), text, 4 * whole);
     }
 }
 
@@ -27,16 +31,12 @@ fn choose(words: &mut ChaCha20Rng, number: u64)
     }
 }
 
-/// Lays a word of the stream over the four bytes of the text from `at` on, or over what is left of it.
+/// Lays a word of the stream over the four bytes of the text from `at` on.
 fn xor_word(word: [u8; 4], text: &mut [u8], at: usize)
-    requires within { at < length text.old }
+    requires within { at + 4 ≤ length text.old }
     ensures { (key before : List ℕ) (number : ℕ) → at % 4 ≡ 0 → word ≡ spec.word_for key number at
         → text.old ≡ spec.laid key number at before → text.new ≡ spec.laid key number (at + 4) before }
 {
-    if text.len() - at < 4 {
-        xor_rest(word, text, at);
-        return;
-    }
     text[at] ^= word[0];
     text[at + 1] ^= word[1];
     text[at + 2] ^= word[2];
