@@ -2,6 +2,7 @@ pub mod Answering
 pub mod Asking
 pub mod Folding
 pub mod Found
+pub mod Hashing
 pub mod Holding
 pub mod Indexed
 pub mod Judging

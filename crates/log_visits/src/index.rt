@@ -16,6 +16,7 @@ use crate::last_contents::{
     ContentHead, ContentSpot, LastContents, keep_contents, note_contents_of,
 };
 use crate::last_links::{FoundLink, LastLinks, head_sought, is_present, keep_links, note_links_of};
+use crate::number_hasher::ByNumber;
 use crate::row_counts::most_rows;
 use commit_journal::{Past, Placed};
 use cry_base::{Edge, Mem};
@@ -38,8 +39,8 @@ impl Index {
         ensures starts { HaveStarts result.contents [] }
     {
         Index {
-            links: HashMap::new(alloc),
-            contents: HashMap::new(alloc),
+            links: HashMap::with_hasher(alloc, ByNumber::new()),
+            contents: HashMap::with_hasher(alloc, ByNumber::new()),
         }
     }
 

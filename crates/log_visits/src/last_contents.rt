@@ -13,6 +13,7 @@ ghost use Rattle.public_fold.specs.KeyStep.{newest};
 ghost use Rattle.record_format.specs.Plain.{plain_content};
 ghost use Rattle.record_format.specs.Sizes.{content_size};
 
+use crate::number_hasher::ByNumber;
 use crate::visiting::sealing_role;
 use commit_journal::{Body, Past, Placed, content_place};
 use cry_base::Mem;
@@ -43,7 +44,7 @@ pub struct ContentSpot {
 }
 
 /// The spot of the last content of each head.
-pub(crate) type LastContents = HashMap<ContentHead, ContentSpot>;
+pub(crate) type LastContents = HashMap<ContentHead, ContentSpot, ByNumber>;
 
 fn head_of(content: &ContentRecord) -> ContentHead
     ensures { result ≡ head_of_content content.now }

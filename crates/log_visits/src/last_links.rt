@@ -3,6 +3,7 @@ ghost use Rattle.std.specs.Prelude.{◌≡◌, ◌+◌, ◌*◌, ◌<◌, ◌^�
 ghost use Rattle.commit_journal.specs.Placed.{plain_body};
 ghost use Rattle.commit_journal.specs.Places.{IsStanding};
 ghost use Rattle.log_visits.specs.Found.{has_present_serials, head_of_edge, link_here};
+ghost use Rattle.log_visits.specs.Hashing as hashing;
 ghost use Rattle.log_visits.specs.Indexed.{LinksAreKept, LinksAreNoted, edge_of_head, head_of_link, stands};
 ghost use Rattle.log_visits.specs.Placing as spec;
 ghost use Rattle.public_fold.specs.KeyStep.{present};
@@ -10,6 +11,7 @@ ghost use Rattle.role_graph.specs.Joined.{HasEdge};
 ghost use Rattle.role_graph.specs.PublicStore.{public_store};
 ghost use Rattle.role_graph.specs.Roles.{role_id};
 
+use crate::number_hasher::ByNumber;
 use commit_journal::{Body, Placed, link_place};
 use cry_base::{Edge, Mem, Role, Serial};
 use key_links::{source_with, target_with};
@@ -17,14 +19,50 @@ use public_fold::PublicState;
 use record_format::{LINK_LEN, LinkRecord};
 use role_graph::{Roles, StoreRoles};
 use std::collections::HashMap;
+use std::hash::{Hash, Hasher};
 
 /// What a link is looked for by. The serials are left out: of an edge whose keys are renewed only the last link can be followed, so no
 /// earlier one is kept.
-#[derive(Clone, Copy, PartialEq, Eq, Hash)]
+#[derive(Clone, Copy, PartialEq, Eq)]
 pub(crate) struct LinkHead {
     pub(crate) kind: u8,
     pub(crate) from_id: u32,
     pub(crate) to_id: u32,
+}
+
+impl Hash for LinkHead {
+    ghost use Rattle.log_visits.specs.Hashing.{ids_of};
+    ghost use Rattle.std.proofs.Common.{rules};
+    ghost use Rattle.std.specs.Cmp.Rules.{hashing};
+    ghost use Rattle.std.specs.Hash as fed;
+    ghost use Rattle.std.specs.Prelude.{◌++◌};
+
+    ghost hash_input = { λ h. fed.u32 (ids_of h).0 ++ (fed.u8 h.kind ++ fed.u32 (ids_of h).1) };
+
+    ghost respects_eq = { Prim.search (hashing, rules) };
+
+    fn hash<H: Hasher>(&self, state: &mut H) {
+        let (other, id) = ids_of(self);
+        other.hash(state);
+        self.kind.hash(state);
+        id.hash(state);
+    }
+}
+
+/// The ids of a head's ends, that by which it is looked for behind the other: of a folder's link to its parent the folder's, of
+/// any other the target's. Many holders may have one folder, and many folders one holder, so a grant's is scattered.
+fn ids_of(head: &LinkHead) -> (u32, u32)
+    ensures { result ≡ hashing.ids_of head.now }
+{
+    match head.kind {
+        2 => (
+            head.from_id,
+            head.to_id
+                .wrapping_add(head.from_id.wrapping_mul(0x9e37_79b1)),
+        ),
+        8 => (head.to_id, head.from_id),
+        _ => (head.from_id, head.to_id),
+    }
 }
 
 /// A link, and where it stands.
@@ -38,7 +76,7 @@ pub struct FoundLink {
 }
 
 /// The last link of each edge.
-pub(crate) type LastLinks = HashMap<LinkHead, FoundLink>;
+pub(crate) type LastLinks = HashMap<LinkHead, FoundLink, ByNumber>;
 
 #[tactic(auto, unfolding(role_graph::specs::Roles::role_id))]
 fn id_of(role: Role) -> u32

@@ -8,6 +8,7 @@ mod index;
 mod indexed_log;
 mod last_contents;
 mod last_links;
+mod number_hasher;
 mod opening;
 pub mod opening_laws;
 mod records;
