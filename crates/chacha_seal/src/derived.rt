@@ -40,14 +40,11 @@ impl Derived {
     pub(crate) fn of(bytes: &[u8; 32]) -> Derived
         ensures { result ≡ bytes.now }
     {
-        let mut tag = Hmac::start(bytes);
-        let mut cipher = tag.copy();
-        cipher.add(&[FOR_CIPHER]);
-        tag.add(&[FOR_TAG]);
+        let key = Hmac::start(bytes);
         Derived {
             bytes: *bytes,
-            cipher: cipher.end(),
-            tag: Hmac::start(&tag.end()),
+            cipher: key.end_with(&[FOR_CIPHER], &[]),
+            tag: Hmac::start(&key.end_with(&[FOR_TAG], &[])),
         }
     }
 
@@ -70,10 +67,7 @@ impl Derived {
     pub(crate) fn tag(&self, header: &[u8], cipher: &[u8]) -> [u8; 32]
         ensures { result ≡ spec.seal_tag self.now header.now cipher.now }
     {
-        let mut tag = self.tag.copy();
-        tag.add(header);
-        tag.add(cipher);
-        tag.end()
+        self.tag.end_with(header, cipher)
     }
 }
 

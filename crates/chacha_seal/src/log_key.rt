@@ -64,9 +64,7 @@ impl LogKey {
     pub fn veil_key(&self, epoch: Epoch, number: u32) -> [u8; 32]
         ensures { result ≡ veil_of self.now.bytes epoch.0 number }
     {
-        let mut veil = self.veils.copy();
-        veil.add(&veil_message(epoch, number));
-        veil.end()
+        self.veils.end_with(&veil_message(epoch, number), &[])
     }
 }
 

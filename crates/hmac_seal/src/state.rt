@@ -56,6 +56,19 @@ impl Hmac {
         outer.update(self.inner.finalize());
         outer.finalize()
     }
+
+    /// The HMAC of the message with `a` and then `b` behind it. The message so far stays, and no more of the state is copied than
+    /// the hashes write on.
+    pub fn end_with(&self, a: &[u8], b: &[u8]) -> [u8; 32]
+        ensures { (key message : List ℕ) → Holds self.now key message → result ≡ hmac key (message ++ (a.now ++ b.now)) }
+    {
+        let mut inner = same(&self.inner);
+        inner.update(a);
+        inner.update(b);
+        let mut outer = same(&self.outer);
+        outer.update(inner.finalize());
+        outer.finalize()
+    }
 }
 
 /// The hash as it stands, once more. A copy takes no memory, so that it can't fail.

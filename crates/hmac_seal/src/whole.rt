@@ -8,8 +8,5 @@ use crate::Hmac;
 pub fn hmac(key: &[u8], a: &[u8], b: &[u8]) -> [u8; 32]
     ensures { result ≡ spec.hmac key.now (a.now ++ b.now) }
 {
-    let mut state = Hmac::start(key);
-    state.add(a);
-    state.add(b);
-    state.end()
+    Hmac::start(key).end_with(a, b)
 }
