@@ -1,15 +1,14 @@
 -- What an index keeps of a log, as batches are noted and as it forgets what doesn't stand.
-use Rattle.std.proofs.Common.{◌≡◌, ◌⊎◌, ℕ, ◌+◌, ◌<◌, ◌==◌, Bool, true, false, cond, filter, get_or, take, map, List, [], ◌∷◌, ◌++◌, length, Option, None, Some, Ok, IfSome, inl, inr, ⊎_elim, refl, sym, ap, subst, ◌∙◌}
+use Rattle.std.proofs.Common.{◌≡◌, ◌⊎◌, ℕ, ◌==◌, Bool, true, false, cond, filter, List, [], ◌∷◌, ◌++◌, length, Option, None, Some, Ok, IfSome, inl, inr, ⊎_elim, refl, sym, ap, subst, ◌∙◌}
 use Rattle.std.specs.HashMap.{HashMap, get}
 use Rattle.std.specs.List.{flat_map}
 use Rattle.std.specs.Map.{lookup}
 use Rattle.std.proofs.lemmas.Grind.{flat_map-append}
 use Rattle.std.specs.Prelude.{is_some}
 use Rattle.std.proofs.lemmas.Bool.{and_parts, eqb-true, false≢true}
-use Rattle.std.proofs.lemmas.List.{append-nil, map-append, take_more}
+use Rattle.std.proofs.lemmas.List.{append-nil}
 use Rattle.std.proofs.lemmas.Map.Entries.{lookup-filter-keys}
-use Rattle.commit_journal.specs.Placed.{PlainPlaced, plain_placed}
-use Rattle.commit_journal.specs.declared.placed.Placed.{Placed}
+use Rattle.commit_journal.specs.Placed.{PlainPlaced}
 use Rattle.commit_journal.specs.declared.past.Past.{Past}
 use Rattle.cry_base.specs.Sets.{In}
 use Rattle.cry_base.specs.Store.{Store}
@@ -27,7 +26,7 @@ use Rattle.role_graph.proofs.Edging.{edges_told}
 use Rattle.log_visits.specs.Folding.{folded}
 use Rattle.log_visits.specs.Found.{HasObject, IsLinkFor, has_present_serials, head_of_edge, is_of, is_sought, link_here, newest_for, only_if, plain_link}
 use Rattle.log_visits.specs.Indexed.{HasEdge, HasStandingAlone, IsKeyed, ContentsAreKept, ContentsAreNoted, HasLastContent, HasLastLink, HaveStarts, IsGone, IsIndexOf, IsLastAt, IsLeft, LinksAreKept, LinksAreNoted, StartsAt, same_content_heads, same_link_heads, stands}
-use Rattle.log_visits.specs.Placing.{body_contents, body_links, is_for_edge, last_one, log_contents, log_links}
+use Rattle.log_visits.specs.Placing.{PlacedLink, body_contents, body_links, is_for_edge, last_one, log_contents, log_links}
 use Rattle.log_visits.specs.Spots.{IsAt}
 use Rattle.log_visits.specs.declared.index.Index.{Index}
 use Rattle.log_visits.specs.declared.last_contents.ContentHead.{ContentHead}
@@ -51,7 +50,8 @@ nothing_indexed index no_links no_contents = record {
 
 -- ---- one batch more
 
-log_with_next : {X : Type 0} (parts : PlainPlaced → List X) (log : List PlainPlaced) (p : PlainPlaced) → flat_map parts log ++ parts p ≡ flat_map parts (log ++ p ∷ [])
+-- the records of a log's batches, and those of one more
+pub log_with_next : {X : Type 0} (parts : PlainPlaced → List X) (log : List PlainPlaced) (p : PlainPlaced) → flat_map parts log ++ parts p ≡ flat_map parts (log ++ p ∷ [])
 log_with_next {X} parts log p = ap (λ (xs : List X). flat_map parts log ++ xs) (sym (append-nil (parts p))) ∙ sym (flat_map-append parts log (p ∷ []))
 
 no_link : (o : Option FoundLink) → plain_link o ≡ None → o ≡ None
@@ -121,15 +121,6 @@ batch_noted old new log position p long has links contents = record {
   last_link = λ q. link_noted_on old new log p q links (has.last_link q);
   last_content = λ q. content_noted_on old new log p q (contents (log ++ p ∷ []) (at_end log p position long)) (has.last_content q);
 }
-
--- the index of the batches so far, and of the next one
-pub index_more : (index : Index) (log : List Placed) (i : ℕ) (p : Placed) → i < length log → p ≡ get_or log i p →
-    IsIndexOf index (map plain_placed (take i log) ++ plain_placed p ∷ []) → IsIndexOf index (map plain_placed (take (i + 1) log))
-index_more index log i p within is has =
-    let more : map plain_placed (take (i + 1) log) ≡ map plain_placed (take i log) ++ plain_placed p ∷ [] =
-    ap (map plain_placed) (take_more log i p within) ∙ map-append plain_placed (take i log) (get_or log i p ∷ []) ∙ ap (λ (q : Placed). map plain_placed (take i log) ++ plain_placed q ∷ []) (sym is)
-    in
-    subst (IsIndexOf index) (sym more) has
 
 -- ---- what is forgotten
 
@@ -269,17 +260,22 @@ link_form index k log e l has is passes =
     (λ w. absurd (let none : get same_link_heads index.links (head_of_edge e) ≡ None = w.0 in cc))
     (has.last_link (head_of_edge e))
 
--- what the map has of an edge is its last link, where it is one from present key to present key
+-- the last link of an edge is its newest, where it is one from present key to present key
+pub last_wanting : (k : KeyState) (log : List PlainPlaced) (e : Edge) → last_one (is_sought (head_of_edge e)) (log_links log) ≡ None → newest_for k log e ≡ None
+unfolding newest_for
+last_wanting k log e is = ap (only_if (is_for_edge k e)) is
+
+pub last_present : (k : KeyState) (log : List PlainPlaced) (e : Edge) (here : PlacedLink) (b : Bool) → last_one (is_sought (head_of_edge e)) (log_links log) ≡ Some here → b ≡ has_present_serials k e here.link →
+    newest_for k log e ≡ cond b (Some here) None
+unfolding newest_for
+last_present k log e here b is passes =
+    ap (only_if (is_for_edge k e)) is
+    ∙ ap (λ t. cond t (Some here) None) (for_present k e here (last_passes (is_sought (head_of_edge e)) (log_links log) here is) ∙ sym passes)
+
 pub newest_wanting : {S : Type 0} (last : HashMap LinkHead FoundLink S) (k : KeyState) (log : List PlainPlaced) (e : Edge) → HasLastLink last (head_of_edge e) (log_links log) → get same_link_heads last (head_of_edge e) ≡ None →
     newest_for k log e ≡ None
-unfolding newest_for
-newest_wanting last k log e has is = ap (only_if (is_for_edge k e)) (sym (has.found) ∙ ap plain_link is)
+newest_wanting last k log e has is = last_wanting k log e (sym (has.found) ∙ ap plain_link is)
 
 pub newest_present : {S : Type 0} (last : HashMap LinkHead FoundLink S) (k : KeyState) (log : List PlainPlaced) (e : Edge) (l : FoundLink) (b : Bool) → HasLastLink last (head_of_edge e) (log_links log) →
     get same_link_heads last (head_of_edge e) ≡ Some l → b ≡ has_present_serials k e l.link → newest_for k log e ≡ cond b (Some (link_here l.batch l.at l.link)) None
-unfolding newest_for
-newest_present last k log e l b has is passes =
-    let here = link_here l.batch l.at l.link in
-    let last_is : last_one (is_sought (head_of_edge e)) (log_links log) ≡ Some here = sym (has.found) ∙ ap plain_link is in
-    ap (only_if (is_for_edge k e)) last_is
-    ∙ ap (λ t. cond t (Some here) None) (for_present k e here (last_passes (is_sought (head_of_edge e)) (log_links log) here last_is) ∙ sym passes)
+newest_present last k log e l b has is passes = last_present k log e (link_here l.batch l.at l.link) b (sym (has.found) ∙ ap plain_link is) passes

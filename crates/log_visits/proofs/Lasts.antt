@@ -34,7 +34,7 @@ use Rattle.log_visits.specs.Spots.{IsAt, contents_in}
 use Rattle.log_visits.proofs.Following.{last_passes}
 
 -- with one more, that one if it passes, and else the last before it
-last_with_next : {X : Type 0} (test : X → Bool) (xs : List X) (x : X) → last_one test (xs ++ x ∷ []) ≡ cond (test x) (Some x) (last_one test xs)
+pub last_with_next : {X : Type 0} (test : X → Bool) (xs : List X) (x : X) → last_one test (xs ++ x ∷ []) ≡ cond (test x) (Some x) (last_one test xs)
 unfolding last_one
 last_with_next test [] x = refl
 last_with_next test (y ∷ xs) x =

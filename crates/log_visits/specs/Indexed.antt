@@ -136,10 +136,17 @@ pub record HasStandingAlone (index : Index) (v : PublicView) : Type 0 where
 abbrev pub rows_of : Index → ℕ
 rows_of index = hash_map_len index.links + hash_map_len index.contents
 
--- twice as many as those have that stand, and a few more: of a folder five links within it, two with its parent and its name; of a
--- file a link and its text; a link of each grant; the key of each holder
+-- at least as many links as the edges that stand have: of a folder five within it and two with its parent, of a file and of a grant one
+abbrev pub most_links : PublicView → ℕ
+most_links v = 7 * length v.tree.folders + length v.tree.files + length v.pairs
+
+-- as many contents as what stands has: the name of a folder, the text of a file, the key of a holder
+abbrev pub most_contents : PublicView → ℕ
+most_contents v = length v.tree.folders + length v.tree.files + length v.checks
+
+-- twice as many as both, and a few more
 abbrev pub most_rows : PublicView → ℕ
-most_rows v = 2 * (8 * length v.tree.folders + 2 * length v.tree.files + length v.pairs + length v.checks) + 64
+most_rows v = 2 * (most_links v + most_contents v) + 64
 
 -- an index is small beside what stands, or has nothing else
 abbrev pub IsTidy : Index → PublicView → Type 0

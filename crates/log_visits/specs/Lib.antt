@@ -12,6 +12,7 @@ pub mod OwnPaths
 pub mod Placing
 pub mod Sights
 pub mod Spots
+pub mod Spotted
 pub mod Verdict
 pub mod View
 pub mod Visiting

@@ -3,20 +3,28 @@ ghost use Rattle.std.specs.Prelude.{◌≡◌, All, IfOk};
 ghost use Rattle.commit_journal.specs.Places.{IsStanding};
 
 use crate::ClientFault;
-use crate::index::Index;
-use crate::last_links::FoundLink;
-use crate::records::{FoundContent, Records, content_at};
+use crate::last_contents::ContentHead;
+use crate::last_links::{FoundLink, head_sought, is_present};
+use crate::number_hasher::ByNumber;
+use crate::record_spots::{
+    ContentSpots, LinkSpots, content_at, link_at, note_contents_at, note_links_at,
+};
+use crate::records::{FoundContent, Records};
+use crate::row_counts::{most_contents, most_links};
 use commit_journal::Placed;
 use cry_base::{Edge, Mem};
 use public_fold::PublicState;
 use std::alloc::Global;
+use std::collections::HashMap;
 use std::marker::Model;
 
-/// A log whose last link and last content of each head are found without a walk over it. Contracts see its batches.
+/// A log whose last link and last content of each head are found without a walk over it. It names their spots, since the log holds
+/// them. Contracts see its batches.
 #[derive(Drop)]
 pub(crate) struct IndexedLog<'a> {
     log: &'a [Placed],
-    index: Index,
+    links: LinkSpots,
+    contents: ContentSpots,
 }
 
 impl<'a> Model for IndexedLog<'a> {
@@ -24,26 +32,40 @@ impl<'a> Model for IndexedLog<'a> {
     ghost use Rattle.commit_journal.specs.Placed.{plain_placed};
     ghost use Rattle.commit_journal.specs.Places.{IsStanding};
     ghost use Rattle.commit_journal.specs.declared.placed.Placed.{Placed as ThePlaced};
-    ghost use Rattle.log_visits.specs.Indexed.{IsIndexOf};
+    ghost use Rattle.log_visits.specs.Spotted.{AreSpotsOf};
 
     ghost Value = { List ThePlaced };
 
     ghost view = { λ i. i.log.now };
 
-    ghost invariant = { λ i. IsIndexOf i.index (map plain_placed i.log.now) × All IsStanding i.log.now };
+    ghost invariant = { λ i. AreSpotsOf i.links i.contents (map plain_placed i.log.now) × All IsStanding i.log.now };
 }
 
 impl<'a> IndexedLog<'a> {
-    /// Walks over the log once.
-    pub(crate) fn of(alloc: Global, log: &'a [Placed]) -> Mem<Self>
+    /// Walks over the log once, with room for the records of what stands behind it.
+    pub(crate) fn of(alloc: Global, state: &PublicState, log: &'a [Placed]) -> Mem<Self>
         requires { All IsStanding log.now }
         ensures { IfOk result (λ indexed. indexed ≡ log.now) }
     {
-        let mut index = Index::new(alloc);
+        let mut links = HashMap::with_capacity_and_hasher(
+            alloc,
+            most_links(state),
+            ByNumber::new(),
+        )?;
+        let mut contents = HashMap::with_capacity_and_hasher(
+            alloc,
+            most_contents(state),
+            ByNumber::new(),
+        )?;
         for (position, placed) in log.iter().enumerate() {
-            index.note(position, None, placed)?;
+            note_links_at(&mut links, position, placed)?;
+            note_contents_at(&mut contents, position, placed)?;
         }
-        Ok(IndexedLog { log, index })
+        Ok(IndexedLog {
+            log,
+            links,
+            contents,
+        })
     }
 }
 
@@ -61,7 +83,11 @@ impl<'a> Records<()> for IndexedLog<'a> {
     ghost faults = { λ _. 0 };
 
     fn link_for(&self, state: &PublicState, edge: &Edge) -> Option<FoundLink> {
-        self.index.link_for(state, edge)
+        let found = link_at(self.log, self.links.get(&head_sought(edge))?);
+        if !is_present(state, edge, &found.link) {
+            return None;
+        }
+        Some(found)
     }
 
     fn content_for(
@@ -71,16 +97,10 @@ impl<'a> Records<()> for IndexedLog<'a> {
         kind: u8,
         object: u32,
     ) -> Result<Option<FoundContent>, ClientFault> {
-        let Some(spot) = self.index.spot_for(kind, object) else {
+        let Some(spot) = self.contents.get(&ContentHead { kind, object }) else {
             return Ok(None);
         };
-        let Some(placed) = self.log.get(spot.position) else {
-            return Err(ClientFault::Tampered {
-                batch: spot.batch,
-                at: spot.at,
-            });
-        };
-        Ok(Some(content_at(alloc, placed, &spot, kind, object)?))
+        Ok(Some(content_at(alloc, self.log, spot)?))
     }
 
     ghost same = { λ _. tt };

@@ -46,7 +46,7 @@ pub struct ContentSpot {
 /// The spot of the last content of each head.
 pub(crate) type LastContents = HashMap<ContentHead, ContentSpot, ByNumber>;
 
-fn head_of(content: &ContentRecord) -> ContentHead
+pub(crate) fn head_of(content: &ContentRecord) -> ContentHead
     ensures { result ≡ head_of_content content.now }
 {
     ContentHead {

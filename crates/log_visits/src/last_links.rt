@@ -119,7 +119,7 @@ pub(crate) fn is_present(state: &PublicState, edge: &Edge, link: &LinkRecord) ->
         && link.to_serial.0 == serial_of(state, edge.to).0
 }
 
-fn head_of(link: &LinkRecord) -> LinkHead
+pub(crate) fn head_of(link: &LinkRecord) -> LinkHead
     ensures { result ≡ head_of_link link.now }
 {
     LinkHead {

@@ -11,6 +11,7 @@ mod last_links;
 mod number_hasher;
 mod opening;
 pub mod opening_laws;
+mod record_spots;
 mod records;
 mod row_counts;
 mod sights;

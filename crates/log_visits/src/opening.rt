@@ -155,7 +155,7 @@ pub fn open_all(
     ensures sized { IfOk result (λ view. AreSized view.names) }
     ensures no_disk { result ≢ Err ClientFault.DiskFault }
 {
-    let indexed = IndexedLog::of(alloc, log)?;
+    let indexed = IndexedLog::of(alloc, state, log)?;
     let visits = owner_visits(alloc, state)?;
     let begun = OwnersView {
         ring: KeyRing::new(alloc, owner),

@@ -76,62 +76,6 @@ pub trait Records<S> {
     ghost counts: { (a b : S) → stays a b → faults a ≤ faults b };
 }
 
-fn copied(alloc: Global, content: &ContentRecord) -> Mem<ContentRecord>
-    ensures { IfOk result (λ c. plain_content c ≡ plain_content content.now) }
-{
-    let mut cipher = Text::new(alloc);
-    cipher.append(content.cipher.as_slice())?;
-    Ok(ContentRecord {
-        kind: content.kind,
-        object: content.object,
-        key_serial: content.key_serial,
-        nonce: content.nonce,
-        cipher,
-        tag: content.tag,
-    })
-}
-
-fn contents_of(placed: &Placed) -> &[ContentRecord]
-    ensures { map plain_content result.now ≡ contents_in (plain_body placed.now.body) }
-{
-    match &placed.body {
-        Body::Commands(payload) => payload.contents.as_slice(),
-        Body::NewEpoch => &[],
-    }
-}
-
-/// Takes a copy of the content at a spot out of its batch. `Tampered` comes where the batch has no such content there.
-pub(crate) fn content_at(
-    alloc: Global,
-    placed: &Placed,
-    spot: &ContentSpot,
-    kind: u8,
-    object: u32,
-) -> Result<FoundContent, ClientFault>
-    requires { IsStanding placed.now }
-    ensures found { FindsAt kind object placed.now spot.now result }
-    ensures form { IfOk result (IsContentFor kind object) }
-    ensures seen { result ≢ Err ClientFault.Unseen }
-    ensures no_disk { result ≢ Err ClientFault.DiskFault }
-{
-    let changed = ClientFault::Tampered {
-        batch: spot.batch,
-        at: spot.at,
-    };
-    let Some(content) = contents_of(placed).get(spot.index) else {
-        return Err(changed);
-    };
-    if content.kind != kind || content.object != object {
-        return Err(changed);
-    }
-    let content = copied(alloc, content)?;
-    Ok(FoundContent {
-        batch: spot.batch,
-        at: spot.at,
-        content,
-    })
-}
-
 /// Takes the content at a spot out of its batch, of which nothing else is kept. `Tampered` comes where the batch has no such
 /// content there.
 pub fn take_content(

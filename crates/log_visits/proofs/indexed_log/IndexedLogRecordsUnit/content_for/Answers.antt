@@ -1,30 +1,51 @@
-use Rattle.std.proofs.Common.{◌≡◌, List, Ok, Err, map, sym, ap, subst, ◌∙◌}
-use Rattle.std.proofs.lemmas.Result.{err_from_is_err_and}
+use Rattle.std.proofs.Common.{◌≡◌, Bool, List, None, Some, ap, map, sym, ◌∙◌}
+use Rattle.std.proofs.lemmas.Bool.{and_parts, eqb-true}
 use Rattle.commit_journal.specs.Placed.{plain_placed}
 use Rattle.commit_journal.specs.declared.placed.Placed.{Placed}
-use Rattle.log_visits.specs.Folding.{folded}
-use Rattle.log_visits.specs.Indexed.{IsLastAt}
-use Rattle.log_visits.specs.Placing.{content_for}
-use Rattle.public_fold.specs.Journal.{nothing}
-use Rattle.log_visits.proofs.Lasts.{at_item, at_mapped, finds_at}
+use Rattle.log_visits.specs.declared.last_contents.ContentHead.{ContentHead}
+use Rattle.log_visits.specs.Found.{is_of, plain_content_found}
+use Rattle.log_visits.specs.Indexed.{same_content_heads}
+use Rattle.log_visits.specs.Placing.{PlacedContent, content_for, log_contents}
+use Rattle.log_visits.specs.Spotted.{placed_contents}
+use Rattle.log_visits.proofs.Following.{last_passes}
+use Rattle.log_visits.proofs.Spotted.{spot_found}
 use Rattle.log_visits.proofs.indexed_log.IndexedLogRecordsUnit.content_for.Goals as goal
 
-pub returns-in_err-content_at-clause-found : goal.returns-in_err-content_at-clause-found
-returns-in_err-content_at-clause-found c = λ shown at folds object.
-    let p = err_from_is_err_and c.from_residual.result c.from_residual.ensures.1 in
-    let log = c.self.inside.log.now in
-    let placed = c.in-Some-get.placed.now in
-    let i = c.in-Some.spot.position in
-    let here = at_mapped plain_placed log i placed (at_item log i placed c.in-Some-get.ensures.lookup.3.0 c.in-Some-get.ensures.lookup.1) in
-    let last = subst (λ o. IsLastAt (map plain_placed log) o (content_for (map plain_placed log) c.args.kind c.args.object)) c.in-Some.is (c.spot_for.ensures.found (map plain_placed log) at c.self.invariant.0 (subst (λ (l : List Placed). folded nothing (map plain_placed l) ≡ Ok at) (sym c.self.view_is) folds) object) in
-    rw (p.1, p.2) (finds_at (map plain_placed log) c.args.kind c.args.object c.in-Some.spot placed (Err c.in_err-content_at.field-0.0) last here c.in_err-content_at.ensures.found)
+pub returns-in_default-clause-found : goal.returns-in_default-clause-found
+unfolding content_for
+returns-in_default-clause-found c = λ shown at folds object.
+    let log = map plain_placed c.self.inside.log.now in
+    let contents = c.self.inside.contents in
+    let head : ContentHead = record { kind = c.args.kind; object = c.args.object } in
+    let test : ContentHead → PlacedContent → Bool = λ h. is_of h.kind h.object in
+    let last = spot_found same_content_heads test placed_contents log contents head (log_contents log) None (c.self.invariant.0.last_content head) (sym c.in_default.ensures.value) in
+    sym last ∙ ap (λ (l : List Placed). content_for (map plain_placed l) c.args.kind c.args.object) c.self.view_is
 
 pub returns-clause-found : goal.returns-clause-found
+unfolding content_for
 returns-clause-found c = λ shown at folds object.
-    let log = c.self.inside.log.now in
-    let placed = c.in-Some-get.placed.now in
-    let i = c.in-Some.spot.position in
-    let here = at_mapped plain_placed log i placed (at_item log i placed c.in-Some-get.ensures.lookup.3.0 c.in-Some-get.ensures.lookup.1) in
-    let last = subst (λ o. IsLastAt (map plain_placed log) o (content_for (map plain_placed log) c.args.kind c.args.object)) c.in-Some.is (c.spot_for.ensures.found (map plain_placed log) at c.self.invariant.0 (subst (λ (l : List Placed). folded nothing (map plain_placed l) ≡ Ok at) (sym c.self.view_is) folds) object) in
-    finds_at (map plain_placed log) c.args.kind c.args.object c.in-Some.spot placed (Ok c.in_ok-content_at.field-0) last here c.in_ok-content_at.ensures.found
-    ∙ ap (λ (l : List Placed). content_for (map plain_placed l) c.args.kind c.args.object) c.self.view_is
+    let log = map plain_placed c.self.inside.log.now in
+    let contents = c.self.inside.contents in
+    let head : ContentHead = record { kind = c.args.kind; object = c.args.object } in
+    let test : ContentHead → PlacedContent → Bool = λ h. is_of h.kind h.object in
+    let spot = c.in-Some.spot.now in
+    let last = spot_found same_content_heads test placed_contents log contents head (log_contents log) (Some spot) (c.self.invariant.0.last_content head) (sym c.in-Some.ensures.value) in
+    let is : plain_content_found c.in_ok-content_at.field-0 ≡ last.0 = c.in_ok-content_at.ensures.content last.0 last.1 in
+    ap Some is ∙ sym last.2 ∙ ap (λ (l : List Placed). content_for (map plain_placed l) c.args.kind c.args.object) c.self.view_is
+
+pub returns-clause-form : goal.returns-clause-form
+returns-clause-form c =
+    let log = map plain_placed c.self.inside.log.now in
+    let contents = c.self.inside.contents in
+    let head : ContentHead = record { kind = c.args.kind; object = c.args.object } in
+    let test : ContentHead → PlacedContent → Bool = λ h. is_of h.kind h.object in
+    let spot = c.in-Some.spot.now in
+    let last = spot_found same_content_heads test placed_contents log contents head (log_contents log) (Some spot) (c.self.invariant.0.last_content head) (sym c.in-Some.ensures.value) in
+    let is : plain_content_found c.in_ok-content_at.field-0 ≡ last.0 = c.in_ok-content_at.ensures.content last.0 last.1 in
+    let x = last.0 in
+    let both = and_parts _ _ (last_passes (test head) (log_contents log) x last.2) in
+    record {
+      form = c.in_ok-content_at.ensures.form;
+      kind_is = ap (λ (y : PlacedContent). y.content.kind) is ∙ eqb-true x.content.kind c.args.kind both.0;
+      object_is = ap (λ (y : PlacedContent). y.content.object) is ∙ eqb-true x.content.object c.args.object both.1;
+    }

@@ -1,16 +1,66 @@
-use Rattle.std.proofs.Common.{◌≡◌, List, Ok, map, sym, subst}
+use Rattle.std.proofs.Common.{◌≡◌, List, None, Some, ap, false, map, sym, true, ◌∙◌}
+use Rattle.std.specs.HashMap.{get}
 use Rattle.commit_journal.specs.Placed.{plain_placed}
 use Rattle.commit_journal.specs.declared.placed.Placed.{Placed}
-use Rattle.log_visits.specs.Folding.{folded}
-use Rattle.log_visits.specs.Found.{newest_for, plain_link}
-use Rattle.public_fold.specs.Journal.{nothing}
+use Rattle.log_visits.specs.Found.{head_of_edge, is_sought, link_here, newest_for, plain_link}
+use Rattle.log_visits.specs.Indexed.{same_link_heads}
+use Rattle.log_visits.specs.Placing.{last_one, log_links}
+use Rattle.log_visits.specs.Spotted.{placed_links}
+use Rattle.log_visits.proofs.Following.{last_passes}
+use Rattle.log_visits.proofs.IndexKept.{last_present, last_wanting}
+use Rattle.log_visits.proofs.NewestLinks.{for_present}
+use Rattle.log_visits.proofs.Spotted.{spot_found}
 use Rattle.log_visits.proofs.indexed_log.IndexedLogRecordsUnit.link_for.Goals as goal
+
+pub returns-in_err-get-clause-found : goal.returns-in_err-get-clause-found
+returns-in_err-get-clause-found c = λ at folds stands.
+    let log = map plain_placed c.self.inside.log.now in
+    let links = c.self.inside.links in
+    let e = c.args.edge.now in
+    let head = head_of_edge e in
+    let got : get same_link_heads links head ≡ None = ap (get same_link_heads links) (sym c.head_sought.ensures) ∙ sym c.in_err-get.ensures.value in
+    let last = spot_found same_link_heads is_sought placed_links log links head (log_links log) None (c.self.invariant.0.last_link head) got in
+    ap plain_link c.from_residual.ensures
+    ∙ sym (last_wanting c.args.state.now.keys log e last)
+    ∙ ap (λ (l : List Placed). newest_for c.args.state.now.keys (map plain_placed l) e) c.self.view_is
+
+pub returns-then-not-is_present-clause-found : goal.returns-then-not-is_present-clause-found
+returns-then-not-is_present-clause-found c = λ at folds stands.
+    let log = map plain_placed c.self.inside.log.now in
+    let links = c.self.inside.links in
+    let e = c.args.edge.now in
+    let head = head_of_edge e in
+    let spot = c.in_ok-get.field-0.now in
+    let got : get same_link_heads links head ≡ Some spot = ap (get same_link_heads links) (sym c.head_sought.ensures) ∙ sym c.in_ok-get.ensures.value in
+    let last = spot_found same_link_heads is_sought placed_links log links head (log_links log) (Some spot) (c.self.invariant.0.last_link head) got in
+    let here = link_here c.link_at-found.result.batch c.link_at-found.result.at c.link_at-found.result.link in
+    let is : last_one (is_sought head) (log_links log) ≡ Some here = last.2 ∙ ap Some (sym (c.link_at-found.ensures last.0 last.1)) in
+    sym (last_present c.args.state.now.keys log e here false is c.if-not-is_present.ensures)
+    ∙ ap (λ (l : List Placed). newest_for c.args.state.now.keys (map plain_placed l) e) c.self.view_is
 
 pub returns-clause-found : goal.returns-clause-found
 returns-clause-found c = λ at folds stands.
-    let log = c.self.inside.log.now in
-    subst (λ (l : List Placed). plain_link c.link_for.result ≡ newest_for c.args.state.now.keys (map plain_placed l) c.args.edge.now) c.self.view_is
-    (c.link_for.ensures.found (map plain_placed log) at c.self.invariant.0 (subst (λ (l : List Placed). folded nothing (map plain_placed l) ≡ Ok at) (sym c.self.view_is) folds) stands)
+    let log = map plain_placed c.self.inside.log.now in
+    let links = c.self.inside.links in
+    let e = c.args.edge.now in
+    let head = head_of_edge e in
+    let spot = c.in_ok-get.field-0.now in
+    let got : get same_link_heads links head ≡ Some spot = ap (get same_link_heads links) (sym c.head_sought.ensures) ∙ sym c.in_ok-get.ensures.value in
+    let last = spot_found same_link_heads is_sought placed_links log links head (log_links log) (Some spot) (c.self.invariant.0.last_link head) got in
+    let here = link_here c.link_at-found.result.batch c.link_at-found.result.at c.link_at-found.result.link in
+    let is : last_one (is_sought head) (log_links log) ≡ Some here = last.2 ∙ ap Some (sym (c.link_at-found.ensures last.0 last.1)) in
+    sym (last_present c.args.state.now.keys log e here true is c.if-not-is_present.ensures)
+    ∙ ap (λ (l : List Placed). newest_for c.args.state.now.keys (map plain_placed l) e) c.self.view_is
 
 pub returns-clause-form : goal.returns-clause-form
-returns-clause-form c = c.link_for.ensures.form _ c.self.invariant.0
+returns-clause-form c =
+    let log = map plain_placed c.self.inside.log.now in
+    let links = c.self.inside.links in
+    let e = c.args.edge.now in
+    let head = head_of_edge e in
+    let spot = c.in_ok-get.field-0.now in
+    let got : get same_link_heads links head ≡ Some spot = ap (get same_link_heads links) (sym c.head_sought.ensures) ∙ sym c.in_ok-get.ensures.value in
+    let last = spot_found same_link_heads is_sought placed_links log links head (log_links log) (Some spot) (c.self.invariant.0.last_link head) got in
+    let here = link_here c.link_at-found.result.batch c.link_at-found.result.at c.link_at-found.result.link in
+    let is : last_one (is_sought head) (log_links log) ≡ Some here = last.2 ∙ ap Some (sym (c.link_at-found.ensures last.0 last.1)) in
+    for_present c.args.state.now.keys e here (last_passes (is_sought head) (log_links log) here is) ∙ sym c.if-not-is_present.ensures
