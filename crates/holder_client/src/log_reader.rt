@@ -86,14 +86,13 @@ impl Reader {
             IsIndexOf self.new.index (log ++ plain_placed placed.now ∷ [])
             × HasChecks self.new.checks (log ++ plain_placed placed.now ∷ [])) }
         ensures starts { OnOk result ((starts : List ThePast) → HaveStarts self.old.index.contents starts
-            → StartsAt starts (placed.now.batch - 1) (Some start.now) → HaveStarts self.new.index.contents starts) }
+            → StartsAt starts (placed.now.batch - 1) start.now → HaveStarts self.new.index.contents starts) }
         ensures state { self.new.state ≡ self.old.state }
         ensures misfit { self.new.misfit ≡ self.old.misfit }
         ensures tidy { OnOk result (IsTidy self.new.index self.new.state) }
     {
         note_check(&mut self.checks, placed)?;
-        self.index
-            .note(placed.batch as usize - 1, Some(*start), placed)?;
+        self.index.note(placed.batch as usize - 1, *start, placed)?;
         self.tidy();
         Ok(())
     }

@@ -54,10 +54,7 @@ impl<'a, D: Disk> Records<D> for StreamedLog<'a> {
         let Some(spot) = self.index.spot_for(kind, object) else {
             return Ok(None);
         };
-        let Some(start) = &spot.start else {
-            unreachable!()
-        };
-        let placed = self.log.again(alloc, source, start)?;
+        let placed = self.log.again(alloc, source, &spot.start)?;
         Ok(Some(take_content(placed, &spot, kind, object)?))
     }
 

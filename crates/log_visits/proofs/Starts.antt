@@ -1,5 +1,5 @@
 -- What was known before the batches of the contents that an index has.
-use Rattle.std.proofs.Common.{◌≡◌, ◌+◌, ◌-◌, ℕ, true, false, cond, List, [], ◌∷◌, ◌++◌, length, Option, None, Some, Ok, IfSome, refl, sym, subst, ◌∙◌, arith}
+use Rattle.std.proofs.Common.{◌≡◌, ◌+◌, ◌-◌, ℕ, true, false, cond, List, [], ◌∷◌, ◌++◌, length, Option, None, Some, Ok, IfSome, sym, subst, arith}
 use Rattle.std.specs.HashMap.{HashMap, get}
 use Rattle.std.specs.Map.{lookup}
 use Rattle.commit_journal.specs.declared.past.Past.{Past}
@@ -27,15 +27,15 @@ no_starts last none = record { found = λ q. subst (λ es. IfSome (lookup (same_
 
 spot_grows : (starts more : List Past) (o : Option ContentSpot) → IfSome o (λ s. StartsAt starts s.position s.start) → IfSome o (λ s. StartsAt (starts ++ more) s.position s.start)
 spot_grows starts more None is = tt
-spot_grows starts more (Some spot) is = (is.0, is.1, is.2, at_more starts more spot.position is.0 is.3)
+spot_grows starts more (Some spot) is = (is.0, at_more starts more spot.position spot.start is.1)
 
 pub starts_grow : {S : Type 0} (last : HashMap ContentHead ContentSpot S) (starts more : List Past) → HaveStarts last starts → HaveStarts last (starts ++ more)
 starts_grow last starts more have = record { found = λ q. spot_grows starts more (get same_content_heads last q) (have.found q) }
 
 -- a batch that comes next
-pub starts_next : (starts : List Past) (start : Past) (batch : ℕ) → start.number ≡ length starts → batch ≡ length starts + 1 → StartsAt (starts ++ start ∷ []) (batch - 1) (Some start)
+pub starts_next : (starts : List Past) (start : Past) (batch : ℕ) → start.number ≡ length starts → batch ≡ length starts + 1 → StartsAt (starts ++ start ∷ []) (batch - 1) start
 starts_next starts start batch number next =
-    (start, refl, omega (arith, number, next), at_end starts start (batch - 1) (omega (arith, next)))
+    (omega (arith, number, next), at_end starts start (batch - 1) (omega (arith, next)))
 
 -- a spot that was found has what was known before its batch
 pub start_found : {S : Type 0} (last : HashMap ContentHead ContentSpot S) (starts : List Past) (head : ContentHead) (found : Option ContentSpot) → HaveStarts last starts → get same_content_heads last head ≡ found →
@@ -46,16 +46,8 @@ abbrev IsAtNumber : List Past → Past → ℕ → Type 0
 IsAtNumber starts start n = IsAt starts n start
 
 -- it is what the log knew before a batch that it gave
-pub start_known : (log : LogState) (spot : ContentSpot) (start : Past) → StartsAt log.starts spot.position spot.start → spot.start ≡ Some start → IsStart log start × (start.number ≡ spot.position)
-start_known log spot start at is =
-    let both : Some at.0 ≡ Some start = sym at.1 ∙ is in
-    let same : at.0 ≡ start = cc in
-    let here : IsStart log at.0 = subst (IsAtNumber log.starts at.0) (sym at.2) at.3 in
-    (subst (IsStart log) same here, subst (λ (p : Past). p.number ≡ spot.position) same at.2)
-
--- a spot without it is none that the index has
-pub not_without : (starts : List Past) (spot : ContentSpot) → StartsAt starts spot.position spot.start → spot.start ≡ None → ⊥
-not_without starts spot at none = let both : Some at.0 ≡ None = sym at.1 ∙ none in absurd cc
+pub start_known : (log : LogState) (spot : ContentSpot) → StartsAt log.starts spot.position spot.start → IsStart log spot.start
+start_known log spot at = subst (IsAtNumber log.starts spot.start) (sym at.0) at.1
 
 -- the batch of a spot is read again by what was known before it
 pub reread_from : (log : LogState) (s : List ℕ) (start : Past) (position : ℕ) (p : PlainPlaced) → start.number ≡ position → again_in log (position + 1) s ≡ Ok p → again_in log (start.number + 1) s ≡ Ok p

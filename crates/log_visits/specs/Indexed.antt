@@ -75,8 +75,8 @@ ContentsAreNoted log old new more =
     (head : ContentHead) (so_far : List PlacedContent) → HasLastContent log old head so_far → HasLastContent log new head (so_far ++ more)
 
 -- this was known before the batch at a position of a log
-abbrev pub StartsAt : List Past → ℕ → Option Past → Type 0
-StartsAt starts position start = (past : Past) × (start ≡ Some past) × (past.number ≡ position) × IsAt starts position past
+abbrev pub StartsAt : List Past → ℕ → Past → Type 0
+StartsAt starts position start = (start.number ≡ position) × IsAt starts position start
 
 -- each spot of the map has what was known before its batch
 pub record HaveStarts {S : Type 0} (last : HashMap ContentHead ContentSpot S) (starts : List Past) : Type 0 where

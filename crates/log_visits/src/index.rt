@@ -24,8 +24,9 @@ use public_fold::PublicState;
 use std::alloc::Global;
 use std::collections::HashMap;
 
-/// The last link of each edge, and the spot of the last content of each head. Of a record that another one of its edge or head
-/// followed it keeps nothing, and of edges and objects that don't stand any more nothing that it was told to forget.
+/// The last link of each edge, and the spot of the last content of each head, for readers, who hold no payload. Of a record that
+/// another one of its edge or head followed it keeps nothing, and of edges and objects that don't stand any more nothing that it was
+/// told to forget.
 #[derive(Drop)]
 pub struct Index {
     links: LastLinks,
@@ -44,9 +45,8 @@ impl Index {
         }
     }
 
-    /// Notes the next batch, before which so many stand, with what was known before it, where it is read once more. After `Err` it is
-    /// the index of no log.
-    pub fn note(&mut self, position: usize, start: Option<Past>, placed: &Placed) -> Mem<()>
+    /// Notes the next batch, before which so many stand, with what was known before it. After `Err` it is the index of no log.
+    pub fn note(&mut self, position: usize, start: Past, placed: &Placed) -> Mem<()>
         requires { IsStanding placed.now }
         ensures noted { OnOk result ((log : List PlainPlaced) → length log ≡ position → IsIndexOf self.old log
             → IsIndexOf self.new (log ++ plain_placed placed.now ∷ [])) }

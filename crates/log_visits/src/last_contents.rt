@@ -39,8 +39,8 @@ pub struct ContentSpot {
     pub position: usize,
     /// How many contents of its batch stand before it.
     pub index: usize,
-    /// What was known before its batch, where the batch is read once more.
-    pub start: Option<Past>,
+    /// What was known before its batch, by which that is read once more.
+    pub start: Past,
 }
 
 /// The spot of the last content of each head.
@@ -72,7 +72,7 @@ fn note_contents(
     last: &mut LastContents,
     batch: u32,
     position: usize,
-    start: Option<Past>,
+    start: Past,
     first: u64,
     contents: &[ContentRecord],
 ) -> Mem<()>
@@ -104,7 +104,7 @@ fn note_contents(
 pub(crate) fn note_contents_of(
     last: &mut LastContents,
     position: usize,
-    start: Option<Past>,
+    start: Past,
     placed: &Placed,
 ) -> Mem<()>
     requires { IsStanding placed.now }
