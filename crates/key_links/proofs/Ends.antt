@@ -4,7 +4,7 @@ use Rattle.cry_base.specs.Sets.{In}
 use Rattle.cry_base.specs.declared.roles.Role.{Role}
 use Rattle.key_links.specs.Ended.{kind_from, kind_to, role_with, sealing_role, source_role, target_role}
 use Rattle.kind_table.specs.Kinds.{kind_of}
-use Rattle.kind_table.specs.Rows.{row}
+use Rattle.kind_table.specs.Rows.{kinds_row}
 use Rattle.kind_table.specs.declared.kinds.RoleKind.{RoleKind}
 use Rattle.kind_table.specs.declared.kinds.RoleKind.TheVariants.{Owner, Holder, Clear, Sub, Back, Files, Data, File}
 use Rattle.kind_table.specs.declared.nine.TheConstants.{NINE}
@@ -34,8 +34,8 @@ pub sealing_kind : (role : Role) (kind object number : ℕ) → role ≡ sealing
 sealing_kind role kind object number is at = ap kind_of is ∙ ap (λ n. kind_of (sealing_role n object)) at
 
 -- keys of the roles of a row are of its kinds
-pub row_of_keys : (number : ℕ) (a b from to : Role) → a ≡ from → b ≡ to → In (row number (kind_of from) (kind_of to)) NINE.rows → In (row number (kind_of a) (kind_of b)) NINE.rows
-row_of_keys number a b from to x y i = subst (λ r. In (row number (kind_of r) (kind_of b)) NINE.rows) (sym x) (subst (λ r. In (row number (kind_of from) (kind_of r)) NINE.rows) (sym y) i)
+pub row_of_keys : (number : ℕ) (a b from to : Role) → a ≡ from → b ≡ to → In (kinds_row number (kind_of from) (kind_of to)) NINE.rows → In (kinds_row number (kind_of a) (kind_of b)) NINE.rows
+row_of_keys number a b from to x y i = subst (λ r. In (kinds_row number (kind_of r) (kind_of b)) NINE.rows) (sym x) (subst (λ r. In (kinds_row number (kind_of from) (kind_of r)) NINE.rows) (sym y) i)
 
 -- what one place has is one
 pub one : {X : Type 0} (o : Option X) (x y : X) → o ≡ Some x → o ≡ Some y → x ≡ y

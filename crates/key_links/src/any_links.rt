@@ -6,7 +6,7 @@ ghost use Rattle.key_links.specs.Opened.{IsAuthenticContent, IsAuthenticLink, St
 ghost use Rattle.key_links.specs.Ringed.{parts_of, role_of};
 ghost use Rattle.key_links.specs.Sealed.{sealed_content, sealed_link};
 ghost use Rattle.kind_table.specs.Kinds.{kind_of};
-ghost use Rattle.kind_table.specs.Rows.{row};
+ghost use Rattle.kind_table.specs.Rows.{kinds_row};
 ghost use Rattle.kind_table.specs.declared.nine.TheConstants.{NINE};
 ghost use Rattle.record_format.specs.Plain.{plain_content};
 ghost use Rattle.record_format.specs.Spellable.{longest_text, shortest_text};
@@ -21,7 +21,7 @@ use record_format::{ContentRecord, LinkRecord};
 
 /// The key `to`, sealed under the key `from`.
 pub(crate) fn link_any(kind: u8, from: &AnyKey, to: &AnyKey, nonce: Nonce) -> LinkRecord
-    requires { In (row kind (kind_of (role_of from.now)) (kind_of (role_of to.now))) NINE.rows }
+    requires { In (kinds_row kind (kind_of (role_of from.now)) (kind_of (role_of to.now))) NINE.rows }
     ensures { result ≡ sealed_link kind (parts_of from.now) (parts_of to.now) nonce }
 {
     match kind {

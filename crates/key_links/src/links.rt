@@ -4,7 +4,7 @@ ghost use Rattle.chacha_seal.specs.Keys.{KeyParts};
 ghost use Rattle.cry_base.specs.Sets.{In};
 ghost use Rattle.key_links.specs.Opened.{IsAuthenticLink, StartsAt, target_of};
 ghost use Rattle.key_links.specs.Sealed.{sealed_link};
-ghost use Rattle.kind_table.specs.Rows.{row};
+ghost use Rattle.kind_table.specs.Rows.{kinds_row};
 ghost use Rattle.kind_table.specs.declared.nine.TheConstants.{NINE};
 
 use chacha_seal::{BadTag, Key, Nonce, open_key, seal_in_place};
@@ -15,7 +15,7 @@ use record_format::{LinkRecord, link_header};
 /// nonce.
 pub fn link<A: LinksTo<B>, B: KeyKind>(from: &Key<A>, to: &Key<B>, nonce: Nonce) -> LinkRecord
     ensures sealed { result ≡ sealed_link A.NUMBER from.now to.now nonce }
-    ensures row { In (row result.kind A.kind B.kind) NINE.rows }
+    ensures row { In (kinds_row result.kind A.kind B.kind) NINE.rows }
 {
     let mut link = LinkRecord {
         kind: A::NUMBER,

@@ -6,8 +6,8 @@ use Rattle.kind_table.specs.declared.kinds.RoleKind.{RoleKind}
 use Rattle.kind_table.specs.declared.table.Row.{Row}
 
 -- the row of this number, from a to b
-abbrev pub row : ℕ → RoleKind → RoleKind → Row
-row number a b = record { number = number; from = a; to = b }
+abbrev pub kinds_row : ℕ → RoleKind → RoleKind → Row
+kinds_row number a b = record { number = number; from = a; to = b }
 
 -- the pairs of kinds that the rows join
 unfoldable pub pairs_of : List Row → List (RoleKind × RoleKind)

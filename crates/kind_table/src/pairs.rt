@@ -4,7 +4,7 @@ ghost use Rattle.std.proofs.Common.{inl, inr};
 ghost use Rattle.cry_base.specs.Sets.{In};
 ghost use Rattle.kind_table.specs.declared.kinds.RoleKind.{RoleKind};
 ghost use Rattle.kind_table.specs.declared.nine.TheConstants.{NINE};
-ghost use Rattle.kind_table.specs.Rows.{row};
+ghost use Rattle.kind_table.specs.Rows.{kinds_row};
 ghost use Rattle.kind_table.specs.Sealing.{content_of};
 
 use crate::{BackK, ClearK, DataK, FileK, FilesK, HolderK, OwnerK, SubK};
@@ -22,7 +22,7 @@ pub trait LinksTo<B: KeyKind>: KeyKind {
 
     ghost NUMBER: { ℕ };
 
-    ghost is_row: { In (row NUMBER Self.kind B.kind) NINE.rows };
+    ghost is_row: { In (kinds_row NUMBER Self.kind B.kind) NINE.rows };
 }
 
 /// A key of this kind seals texts.

@@ -11,7 +11,7 @@ use Rattle.cry_base.specs.declared.roles.Edge.{Edge}
 use Rattle.key_links.specs.Ended.{kind_from, kind_to, row_numbered}
 use Rattle.key_links.proofs.Ends.{kind_of_with}
 use Rattle.kind_table.specs.Kinds.{kind_of, same_kind}
-use Rattle.kind_table.specs.Rows.{joins, row}
+use Rattle.kind_table.specs.Rows.{joins, kinds_row}
 use Rattle.kind_table.specs.declared.kinds.RoleKind.{RoleKind}
 use Rattle.kind_table.specs.declared.kinds.RoleKind.TheVariants.{Owner, Holder, Clear, Sub, Back, Files, Data, File}
 use Rattle.kind_table.specs.declared.nine.TheConstants.{NINE}
@@ -59,15 +59,15 @@ numbered_so r i =
     let is : (d : Row) → number_between d.from d.to ≡ d.number → r ≡ d → number_between r.from r.to ≡ r.number =
     λ d t e. subst (λ (x : Row). number_between x.from x.to ≡ x.number) (sym e) t
     in
-    ⊎_elim (is (row 1 Owner Clear) refl)
-    (λ a. ⊎_elim (is (row 2 Holder Clear) refl)
-    (λ b. ⊎_elim (is (row 3 Clear Sub) refl)
-    (λ c. ⊎_elim (is (row 4 Sub Back) refl)
-    (λ d. ⊎_elim (is (row 5 Sub Files) refl)
-    (λ e. ⊎_elim (is (row 6 Sub Sub) refl)
-    (λ f. ⊎_elim (is (row 7 Back Data) refl)
-    (λ g. ⊎_elim (is (row 8 Back Back) refl)
-    (λ h. ⊎_elim (is (row 9 Files File) refl) (λ n. absurd n) h) g) f) e) d) c) b) a) i
+    ⊎_elim (is (kinds_row 1 Owner Clear) refl)
+    (λ a. ⊎_elim (is (kinds_row 2 Holder Clear) refl)
+    (λ b. ⊎_elim (is (kinds_row 3 Clear Sub) refl)
+    (λ c. ⊎_elim (is (kinds_row 4 Sub Back) refl)
+    (λ d. ⊎_elim (is (kinds_row 5 Sub Files) refl)
+    (λ e. ⊎_elim (is (kinds_row 6 Sub Sub) refl)
+    (λ f. ⊎_elim (is (kinds_row 7 Back Data) refl)
+    (λ g. ⊎_elim (is (kinds_row 8 Back Back) refl)
+    (λ h. ⊎_elim (is (kinds_row 9 Files File) refl) (λ n. absurd n) h) g) f) e) d) c) b) a) i
 
 -- no edge leads from the owner's key to itself
 none_to_itself : number_between Owner Owner ≡ 0

@@ -6,7 +6,7 @@ use Rattle.cry_base.specs.declared.roles.Edge.{Edge}
 use Rattle.cry_base.specs.declared.roles.Role.{Role}
 use Rattle.cry_base.specs.declared.roles.Role.TheVariants.{Owner}
 use Rattle.kind_table.specs.Kinds.{kind_of}
-use Rattle.kind_table.specs.Rows.{row}
+use Rattle.kind_table.specs.Rows.{kinds_row}
 use Rattle.kind_table.specs.declared.kinds.RoleKind.TheVariants as kind
 use Rattle.kind_table.specs.declared.nine.TheConstants.{NINE}
 use Rattle.kind_table.specs.declared.table.Row.{Row}
@@ -80,19 +80,19 @@ has_edge e stands = (small, e, (edges_told small e).1 stands, refl)
 one_is_no_zero : ◌≡◌ {A = ℕ} 1 0 → ⊥
 one_is_no_zero e = cc
 
-own_edge : (number : ℕ) (a b : Role) → In (edge number a b) (folder_edges 1) → HasEdge (row number (kind_of a) (kind_of b))
+own_edge : (number : ℕ) (a b : Role) → In (edge number a b) (folder_edges 1) → HasEdge (kinds_row number (kind_of a) (kind_of b))
 unfolding small top row_of edge
 own_edge number a b place = has_edge (edge number a b) (inl (top, inl refl, place))
 
-parent_edge : (number : ℕ) (a b : Role) → In (edge number a b) (parent_edges 2 1) → HasEdge (row number (kind_of a) (kind_of b))
+parent_edge : (number : ℕ) (a b : Role) → In (edge number a b) (parent_edges 2 1) → HasEdge (kinds_row number (kind_of a) (kind_of b))
 unfolding small child row_of edge
 parent_edge number a b place = has_edge (edge number a b) (inr (inl (child, inr (inl refl), one_is_no_zero, place)))
 
-grants_edge : HasEdge (row 2 kind.Holder kind.Clear)
+grants_edge : HasEdge (kinds_row 2 kind.Holder kind.Clear)
 unfolding small given row_of grant_edge edge kind_of holder_role clear_of
 grants_edge = has_edge (grant_edge 1 2) (inr (inr (inl (given, inl refl, refl))))
 
-files_edge : HasEdge (row 9 kind.Files kind.File)
+files_edge : HasEdge (kinds_row 9 kind.Files kind.File)
 unfolding small leaf row_of file_edge edge kind_of files_of file_role
 files_edge = has_edge (file_edge 2 1) (inr (inr (inr (leaf, inl refl, refl))))
 

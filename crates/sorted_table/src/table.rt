@@ -3,7 +3,7 @@ ghost use Rattle.std.specs.Prelude.{◌≡◌, ◌+◌, ◌-◌, ◌<◌, ◌≤
 ghost use Rattle.std.specs.Prelude.{OnOk, IfOk, IfErr, IsTrue, MatchOption};
 ghost use Rattle.std.specs.Prelude.{◌↔◌, ◌≢◌, None, All, AllPairs};
 ghost use Rattle.std.specs.Fn.{CalledAt};
-ghost use Rattle.std.specs.List.{insert, remove};
+ghost use Rattle.std.specs.List.{remove};
 ghost use Rattle.std.specs.List.Retain.{IsFiltered};
 ghost use Rattle.std.specs.List.Sorted.{IsPermutation};
 ghost use Rattle.std.specs.Option.{option_copied};
@@ -152,8 +152,7 @@ impl<T: Ranked + Drop> Table<T> {
         let Err(at) = place_of(&self.rows, &SameRank(&row)) else {
             unreachable!();
         };
-        let _ = self.rows.push(row);
-        bring_last(&mut self.rows, at);
+        let _ = self.rows.insert(at, row);
     }
 
     /// Puts a row into the place of the one that has its rank.
@@ -320,12 +319,4 @@ fn place_of<T: Ranked, K: Key<T>>(rows: &[T], key: &K) -> Result<usize, usize>
         Ordering::Less if at == last => Err(rows.len()),
         _ => rows.binary_search_by(|row| key.compare_row(row)),
     }
-}
-
-// Moves the last row to before what is at the place.
-fn bring_last<T>(rows: &mut [T], to: usize)
-    requires { to < length rows.old }
-    ensures { (before : List T) (last : T) → rows.old ≡ before ++ last ∷ [] → rows.new ≡ insert before to last }
-{
-    rows[to..].rotate_right(1);
 }
