@@ -4,19 +4,20 @@ ghost use Rattle.std.specs.Prelude.{◌≡◌, length, IfSome};
 use crate::derived::Derived;
 use crate::{HolderK, Nonce, OwnerK};
 use cry_base::{HolderId, Serial};
+use std::alloc::Global;
 use std::cell::OnceCell;
 use std::fmt;
 use std::marker::{Model, PhantomData};
 
 /// 32 secret bytes of one kind, with the number of the folder, file or holder whose key they are (0
-/// for the owner's), and with the key's serial. What it seals and tags with is derived at its first use and kept: a folder's
-/// key seals many records, and many keys seal none.
+/// for the owner's), and with the key's serial. What it seals and tags with is derived for each use, unless the key was told to keep
+/// that: it is four times as large as the key, and most keys of a store open one record.
 #[derive(Drop)]
 pub struct Key<K> {
     id: u32,
     serial: Serial,
     bytes: [u8; 32],
-    derived: OnceCell<Derived>,
+    derived: OnceCell<Box<Derived>>,
     kind: PhantomData<K>,
 }
 
@@ -76,11 +77,22 @@ impl<K> Key<K> {
         self.serial
     }
 
-    /// What it seals with. No contract says what a cell keeps, so what was derived of other bytes wouldn't count: none ever is.
+    /// Derives what it seals with, and keeps that for all later uses. Where there is no memory, each use derives it anew.
+    pub fn keep_derived(&self, alloc: Global) {
+        if self.derived.get().is_some() {
+            return;
+        }
+        if let Ok(derived) = Box::new(alloc, Derived::of(&self.bytes)) {
+            let _ = self.derived.set(derived);
+        }
+    }
+
+    /// What it seals with, where that is kept. No contract says what a cell keeps, so what was derived of other bytes wouldn't count:
+    /// none ever is.
     pub(crate) fn derived(&self) -> Option<&Derived>
         ensures { IfSome result (λ derived. derived.now ≡ self.now.bytes) }
     {
-        let derived = self.derived.try_get_or_init(|| Derived::of(&self.bytes))?;
+        let derived = self.derived.get()?.as_ref();
         if *derived.bytes() == self.bytes {
             Some(derived)
         } else {

@@ -8,6 +8,7 @@ use crate::AnyFresh;
 use chacha_seal::{BackK, ClearK, DataK, FileK, FilesK, HolderK, Key, OwnerK, SubK};
 use cry_base::{FileId, FolderId, HolderId, Role, Serial};
 use sorted_table::Ranked;
+use std::alloc::Global;
 use std::cmp::Ordering;
 
 /// A key and its kind.
@@ -72,6 +73,20 @@ impl AnyKey {
             AnyKey::Files(key) => Role::Files(FolderId(key.id())),
             AnyKey::Data(key) => Role::Data(FolderId(key.id())),
             AnyKey::File(key) => Role::File(FileId(key.id())),
+        }
+    }
+
+    /// Keeps what it seals with for all later uses, where there is memory.
+    pub(crate) fn keep_derived(&self, alloc: Global) {
+        match self {
+            AnyKey::Owner(key) => key.keep_derived(alloc),
+            AnyKey::Holder(key) => key.keep_derived(alloc),
+            AnyKey::Clear(key) => key.keep_derived(alloc),
+            AnyKey::Sub(key) => key.keep_derived(alloc),
+            AnyKey::Back(key) => key.keep_derived(alloc),
+            AnyKey::Files(key) => key.keep_derived(alloc),
+            AnyKey::Data(key) => key.keep_derived(alloc),
+            AnyKey::File(key) => key.keep_derived(alloc),
         }
     }
 

@@ -62,8 +62,7 @@ pub(crate) fn follow_any(source: &AnyKey, link: &LinkRecord) -> Result<AnyKey, B
     }
 }
 
-/// The folder's key that grants hand out, to which the link leads. The kinds have a function each, since a key is large and a function
-/// pays at entry for all that it may hold.
+/// The folder's key that grants hand out, to which the link leads.
 #[tactic(auto, unfolding(crate::specs::Ringed::role_of, crate::specs::Ringed::parts_of, crate::specs::Ended::role_with))]
 fn clear_behind<A: LinksTo<ClearK>>(source: &Key<A>, link: &LinkRecord) -> Result<AnyKey, BadTag>
     requires { StartsAt A.NUMBER source.now link.now }

@@ -82,7 +82,6 @@ impl KeysByKind {
 
     /// Puts the key in the place of the one that has its place, or beside the others where none has, where there is room. One that
     /// is replaced moves no other. It takes no memory.
-    #[inline(always)]
     pub(crate) fn put(&mut self, key: AnyKey)
         requires { 1 ≤ self.old.spare }
         ensures rows { IsFoundBeside key self.old.rows self.new.rows }
@@ -111,7 +110,6 @@ impl KeysByKind {
 }
 
 /// Puts the key in the place of the one that has its place, or beside the others where none has.
-#[inline(always)]
 fn put_row(rows: &mut Table<AnyKey>, key: AnyKey)
     requires { 1 ≤ rows.old.spare }
     ensures rows { IsFoundBeside key rows.old.rows rows.new.rows }

@@ -14,9 +14,11 @@ use std::alloc::Global;
 use std::marker::Model;
 
 /// The keys that an owner or a reader has, found by their roles. `spare` is how many more fit without memory; it may
-/// be more than was asked for.
+/// be more than was asked for. What its keys seal with is kept from one use to the next, where there is memory; want of it changes
+/// nothing but how much is derived anew.
 #[derive(Drop)]
 pub struct KeyRing {
+    pub(crate) alloc: Global,
     // The key that the ring began with, which needs no room in the table.
     root: Option<AnyKey>,
     held: KeysByKind,
@@ -37,6 +39,7 @@ impl KeyRing {
         ensures { IsAlone result Owner owner }
     {
         KeyRing {
+            alloc,
             root: Some(AnyKey::Owner(owner)),
             held: KeysByKind::new(alloc),
         }
@@ -47,6 +50,7 @@ impl KeyRing {
         ensures { IsAlone result (Holder (record { 0 = key.id })) key }
     {
         KeyRing {
+            alloc,
             root: Some(AnyKey::Holder(key)),
             held: KeysByKind::new(alloc),
         }
@@ -121,9 +125,7 @@ impl KeyRing {
         }
     }
 
-    /// Puts the key into its place, where there is room. A key is large, so this and what it calls are inlined, which copies it
-    /// less often.
-    #[inline(always)]
+    /// Puts the key into its place, where there is room.
     pub(crate) fn keep(&mut self, key: AnyKey)
         requires { 1 ≤ self.old.spare }
         ensures key { IsWithKey self.new self.old (role_of key) (parts_of key) }

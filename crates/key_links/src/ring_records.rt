@@ -30,12 +30,13 @@ impl KeyRing {
         ensures { (from to : KeyParts) → key_of self.now edge.now.from ≡ Some from → key_of self.now edge.now.to ≡ Some to
             → result ≡ sealed_link edge.now.kind from to nonce }
     {
-        link_any(edge.kind, self.key(edge.from), self.key(edge.to), nonce)
+        let from = self.sealing_key(edge.from);
+        link_any(edge.kind, from, self.key(edge.to), nonce)
     }
 
     /// Opens the link with the key of its source, and keeps its target's key in the place of the one that the ring had.
     /// `BadTag` comes exactly where the link's tag isn't the one that its source's key makes; the ring is then as it
-    /// was. It takes no memory.
+    /// was. Want of memory doesn't end it.
     pub fn open_link(&mut self, link: &LinkRecord) -> Result<(), BadTag>
         requires from_one { 1 ≤ link.now.kind }
         requires to_nine { link.now.kind ≤ 9 }
@@ -51,13 +52,13 @@ impl KeyRing {
         ensures spare { self.old.spare ≤ self.new.spare + 1 }
         ensures bad_tag { OnErr result (self.new ≡ self.old) }
     {
-        let key = follow_any(self.key(source_role(link)), link)?;
+        let key = follow_any(self.opening_key(source_role(link)), link)?;
         self.keep(key);
         Ok(())
     }
 
     /// The text of a folder, file or holder, sealed under the ring's key of the role that seals contents of this kind for
-    /// it: 1 a folder's name, 2 a file, 3 a holder's key. It spends the nonce, and takes no memory.
+    /// it: 1 a folder's name, 2 a file, 3 a holder's key. It spends the nonce. Want of memory doesn't end it.
     pub fn seal(&self, kind: u8, object: u32, nonce: Nonce, text: Text) -> ContentRecord
         requires from_one { 1 ≤ kind }
         requires to_three { kind ≤ 3 }
@@ -67,12 +68,12 @@ impl KeyRing {
         ensures { (key : KeyParts) → key_of self.now (spec.sealing_role kind object) ≡ Some key
             → plain_content result ≡ sealed_content kind key object nonce text.items }
     {
-        let key = self.key(sealing_role(kind, object));
+        let key = self.sealing_key(sealing_role(kind, object));
         seal_any(kind, key, object, nonce, text)
     }
 
     /// Makes the content's cipher bytes its text. `BadTag` comes exactly where its tag isn't the one that the ring's key of
-    /// its role makes; the content is then as it was. It takes no memory.
+    /// its role makes; the content is then as it was. Want of memory doesn't end it.
     pub fn open_text(&self, content: &mut ContentRecord) -> Result<(), BadTag>
         requires from_one { 1 ≤ content.old.kind }
         requires to_three { content.old.kind ≤ 3 }
@@ -88,8 +89,32 @@ impl KeyRing {
             → IsOk result × (content.new ≡ with_text content.old text) }
         ensures bad_tag { OnErr result (content.new ≡ content.old) }
     {
-        let key = self.key(sealing_role(content.kind, content.object));
+        let key = self.opening_key(sealing_role(content.kind, content.object));
         open_any(key, content)
+    }
+
+    // The role's key to seal with, which often seals again.
+    fn sealing_key(&self, role: Role) -> &AnyKey
+        requires { IsSome (key_of self.now role) }
+        ensures role { role_of result.now ≡ role }
+        ensures parts { key_of self.now role ≡ Some (parts_of result.now) }
+    {
+        let key = self.key(role);
+        key.keep_derived(self.alloc);
+        key
+    }
+
+    // The role's key to open with.
+    fn opening_key(&self, role: Role) -> &AnyKey
+        requires { IsSome (key_of self.now role) }
+        ensures role { role_of result.now ≡ role }
+        ensures parts { key_of self.now role ≡ Some (parts_of result.now) }
+    {
+        let key = self.key(role);
+        if opens_many(role) {
+            key.keep_derived(self.alloc);
+        }
+        key
     }
 
     // The role's key, where the ring has one.
@@ -103,4 +128,13 @@ impl KeyRing {
             None => unreachable!(),
         }
     }
+}
+
+// Whether the owner opens more than one record with the role's key. The other keys are most of a store's, and what is derived of one
+// is four times as large as the key. Of them a holder's back key opens two, where the way up is shown.
+fn opens_many(role: Role) -> bool {
+    matches!(
+        role,
+        Role::Owner | Role::Holder(_) | Role::Sub(_) | Role::Files(_)
+    )
 }

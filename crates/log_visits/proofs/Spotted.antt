@@ -24,13 +24,13 @@ use Rattle.log_visits.specs.declared.last_contents.ContentHead.{ContentHead}
 use Rattle.log_visits.specs.declared.last_links.LinkHead.{LinkHead}
 use Rattle.log_visits.specs.Placing.{PlacedContent, PlacedLink, body_contents, body_links, contents_at, last_one, links_at}
 use Rattle.log_visits.specs.Spots.{IsAt, contents_in, links_in}
-use Rattle.log_visits.specs.Spotted.{HasContentSpot, HasLinkSpot, HasSpot, IsSpotOf, StandsAt, placed_contents, placed_links}
+use Rattle.log_visits.specs.Spotted.{HasContentSpot, HasLinkSpot, HasRecordAt, HasSpot, IsSpotOf, placed_contents, placed_links}
 use Rattle.log_visits.proofs.IndexKept.{log_with_next}
 use Rattle.log_visits.proofs.Lasts.{at_item, at_mapped, last_with_next, same_item}
 
 -- a record that is noted is the last one that has its head
 pub spot_noted : {H X S : Type 0} (same : H → H → Bool) (test : H → X → Bool) (records : PlainPlaced → List X) (log : List PlainPlaced) (old new : HashMap H RecordSpot S) (head : H) (spot : RecordSpot) (x : X) →
-    ((q : H) → test q x ≡ same head q) → ((q : H) → get same new q ≡ cond (same head q) (Some spot) (get same old q)) → StandsAt records log spot x → (q : H) (so_far : List X) →
+    ((q : H) → test q x ≡ same head q) → ((q : H) → get same new q ≡ cond (same head q) (Some spot) (get same old q)) → HasRecordAt records log spot x → (q : H) (so_far : List X) →
     HasSpot same test records log old q so_far → HasSpot same test records log new q (so_far ++ x ∷ [])
 spot_noted same test records log old new head spot x tests updates at q so_far has = record {
   found =
@@ -205,14 +205,14 @@ content_within placed i c stands here = of_body placed.body stands.payload here
         absurd (let within = slice_get_within none i c here in omega (arith, within))
 
 -- what stands at a spot of a log stands in the batch that it names
-pub in_batch : {X : Type 0} (records : PlainPlaced → List X) (log : List Placed) (spot : RecordSpot) (placed : Placed) (x : X) → StandsAt records (map plain_placed log) spot x → placed ≡ get_or log spot.position placed →
+pub in_batch : {X : Type 0} (records : PlainPlaced → List X) (log : List Placed) (spot : RecordSpot) (placed : Placed) (x : X) → HasRecordAt records (map plain_placed log) spot x → placed ≡ get_or log spot.position placed →
     IsAt (records (plain_placed placed)) spot.index x
 in_batch records log spot placed x there is =
     let within : spot.position < length log = subst (λ n. spot.position < n) (length-map log plain_placed) (slice_get_within (map plain_placed log) spot.position there.0 there.1) in
     let here = at_mapped plain_placed log spot.position placed (at_item log spot.position placed within is) in
     subst (λ (p : PlainPlaced). IsAt (records p) spot.index x) (same_item (map plain_placed log) spot.position there.0 (plain_placed placed) there.1 here) there.2
 
-pub batch_within : {X : Type 0} (records : PlainPlaced → List X) (log : List Placed) (spot : RecordSpot) (x : X) → StandsAt records (map plain_placed log) spot x → spot.position < length log
+pub batch_within : {X : Type 0} (records : PlainPlaced → List X) (log : List Placed) (spot : RecordSpot) (x : X) → HasRecordAt records (map plain_placed log) spot x → spot.position < length log
 batch_within records log spot x there = subst (λ n. spot.position < n) (length-map log plain_placed) (slice_get_within (map plain_placed log) spot.position there.0 there.1)
 
 pub standing_batch : (log : List Placed) (i : ℕ) (placed : Placed) → All IsStanding log → i < length log → placed ≡ get_or log i placed → IsStanding placed

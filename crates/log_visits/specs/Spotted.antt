@@ -18,13 +18,13 @@ abbrev pub placed_contents : PlainPlaced → List PlacedContent
 placed_contents p = body_contents p.batch p.place p.body
 
 -- this record stands at the spot of a log
-abbrev pub StandsAt : {X : Type 0} → (PlainPlaced → List X) → List PlainPlaced → RecordSpot → X → Type 0
-StandsAt records log spot x = (p : PlainPlaced) × IsAt log spot.position p × IsAt (records p) spot.index x
+abbrev pub HasRecordAt : {X : Type 0} → (PlainPlaced → List X) → List PlainPlaced → RecordSpot → X → Type 0
+HasRecordAt records log spot x = (p : PlainPlaced) × IsAt log spot.position p × IsAt (records p) spot.index x
 
 -- the spot is that of the record that is wanted, and there is none where none is
 abbrev pub IsSpotOf : {X : Type 0} → (PlainPlaced → List X) → List PlainPlaced → Option RecordSpot → Option X → Type 0
 IsSpotOf records log None wanted = wanted ≡ None
-IsSpotOf {X} records log (Some spot) wanted = (x : X) × StandsAt records log spot x × (wanted ≡ Some x)
+IsSpotOf {X} records log (Some spot) wanted = (x : X) × HasRecordAt records log spot x × (wanted ≡ Some x)
 
 -- the map has the spot of the last record of a head
 pub record HasSpot {H X S : Type 0} (same : H → H → Bool) (test : H → X → Bool) (records : PlainPlaced → List X) (log : List PlainPlaced)

@@ -8,7 +8,7 @@ ghost use Rattle.log_visits.specs.Spots.{IsAt};
 ghost use Rattle.log_visits.specs.Spots as spec;
 ghost use Rattle.record_format.specs.Plain.{plain_content};
 ghost use Rattle.record_format.specs.Spellable.{IsContent};
-ghost use Rattle.log_visits.specs.Spotted.{ContentsAreSpotted, LinksAreSpotted, StandsAt, placed_contents, placed_links};
+ghost use Rattle.log_visits.specs.Spotted.{ContentsAreSpotted, HasRecordAt, LinksAreSpotted, placed_contents, placed_links};
 
 use crate::last_contents::{self, ContentHead};
 use crate::last_links::{self, FoundLink, LinkHead};
@@ -87,8 +87,9 @@ pub(crate) fn note_contents_at(
 /// The link at a spot of a log.
 pub(crate) fn link_at(log: &[Placed], spot: &RecordSpot) -> FoundLink
     requires stands { All IsStanding log.now }
-    requires there { (l : PlacedLink) × StandsAt placed_links (map plain_placed log.now) spot.now l }
-    ensures { (l : PlacedLink) → StandsAt placed_links (map plain_placed log.now) spot.now l → link_here result.batch result.at result.link ≡ l }
+    requires there { (l : PlacedLink) × HasRecordAt placed_links (map plain_placed log.now) spot.now l }
+    ensures { (l : PlacedLink) → HasRecordAt placed_links (map plain_placed log.now) spot.now l
+        → link_here result.batch result.at result.link ≡ l }
 {
     let placed = &log[spot.position];
     let Some(link) = links_of(placed).get(spot.index) else {
@@ -119,8 +120,8 @@ fn copied(alloc: Global, content: &ContentRecord) -> Mem<ContentRecord>
 /// Takes a copy of the content at a spot of a log.
 pub(crate) fn content_at(alloc: Global, log: &[Placed], spot: &RecordSpot) -> Mem<FoundContent>
     requires stands { All IsStanding log.now }
-    requires there { (c : PlacedContent) × StandsAt placed_contents (map plain_placed log.now) spot.now c }
-    ensures content { (c : PlacedContent) → StandsAt placed_contents (map plain_placed log.now) spot.now c
+    requires there { (c : PlacedContent) × HasRecordAt placed_contents (map plain_placed log.now) spot.now c }
+    ensures content { (c : PlacedContent) → HasRecordAt placed_contents (map plain_placed log.now) spot.now c
         → IfOk result (λ found. plain_content_found found ≡ c) }
     ensures form { IfOk result (λ found. IsContent (plain_content found.content)) }
 {

@@ -108,7 +108,7 @@ impl Blank {
         StepRoom::reserve(alloc, &mut self.ring, ready.skeleton())
     }
 
-    /// Seals the root under these keys, writes the store onto an empty disk, and keeps what it is then. It takes no memory.
+    /// Seals the root under these keys, writes the store onto an empty disk, and keeps what it is then. Want of memory doesn't end it.
     ///
     /// Only `DiskFault` comes, where the disk's faults rose in this call.
     fn write<D: Disk>(
@@ -213,7 +213,7 @@ fn with_room(alloc: Global, mut blank: Blank, ready: Prepared) -> Mem<Making>
     Ok(Making { blank, ready, room })
 }
 
-/// Writes the store of six keys that were drawn, the owner's first, and answers its owner. It takes no memory.
+/// Writes the store of six keys that were drawn, the owner's first, and answers its owner. Want of memory doesn't end it.
 ///
 /// Only `DiskFault` comes, where the disk's faults rose in this call.
 fn made<D: Disk>(
@@ -350,7 +350,7 @@ fn seal_root(
     payload
 }
 
-/// Writes the store file of the root's payload onto an empty disk, and ends the session. It takes no memory.
+/// Writes the store file of the root's payload onto an empty disk, and ends the session. Want of memory doesn't end it.
 ///
 /// `DiskFault` comes only where the disk's faults rose in this call; the disk is then to be thrown away. Another fault never comes.
 fn write_store<D: Disk>(

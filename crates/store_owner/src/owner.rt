@@ -353,7 +353,7 @@ impl Owner {
         StepRoom::reserve(alloc, &mut self.ring, change.ready.skeleton())
     }
 
-    /// Seals a planned command under the keys that were drawn for it, commits it, and makes its change. It takes no memory.
+    /// Seals a planned command under the keys that were drawn for it, commits it, and makes its change. Want of memory doesn't end it.
     ///
     /// Only `DiskFault` comes, where the disk's faults rose in this call, and closes the journal.
     fn carry_out<D: Disk>(

@@ -25,7 +25,7 @@ use record_format::{Note, Payload};
 
 /// The payload of a note with this skeleton. It gives each role of the skeleton a key of the bytes that were drawn for it, in
 /// order, and then seals each link, and the text where there is a content: the one text of a step, a folder's name, a
-/// file with its name, or a holder's key. Each key and each record takes the counter's next serial. It takes no memory.
+/// file with its name, or a holder's key. Each key and each record takes the counter's next serial. Want of memory doesn't end it.
 pub(crate) fn seal_step(
     ring: &mut KeyRing,
     counter: &mut Counter,

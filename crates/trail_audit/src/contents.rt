@@ -53,6 +53,7 @@ fn open_content(
     let header = content_header(content);
     let mut text = Text::new(alloc);
     text.append(content.cipher.as_slice())?;
+    key.keep_derived(alloc);
     match open_in_place(
         key,
         content.nonce,

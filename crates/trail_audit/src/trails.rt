@@ -116,6 +116,7 @@ fn follow_link(
     if !begins_at(&found.link, key) {
         return Ok(());
     }
+    key.keep_derived(alloc);
     let target = open_link(found, key)?;
     keep_key(alloc, known, target)?;
     Ok(())
