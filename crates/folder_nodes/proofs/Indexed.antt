@@ -1,10 +1,6 @@
 -- The index by groups follows the rows.
 use Rattle.std.proofs.Common.{cond, not, false, ◌==◌, ◌⊎◌, ◌↔◌, ◌≡◌, ◌≢◌, ℕ, suc, ◌<◌, ◌≤◌, Bool, true, ◌&&◌, List, [], ◌∷◌, length, map, filter, Some, None, refl, sym, ap, ◌∙◌, subst, inl, inr, ⊎_elim, arith, nat_le}
 use Rattle.std.specs.Prelude.{IsSome}
-use Rattle.std.specs.Ordering.{nat_cmp}
-use Rattle.std.specs.declared.cmp.Ordering.{Ordering}
-use Rattle.std.specs.declared.cmp.Ordering.TheVariants.{Equal}
-use Rattle.std.proofs.lemmas.Bool.Decides.{nat_tests}
 use Rattle.std.specs.List.{All, AllPairs, list_any}
 use Rattle.std.specs.List.Sorted.{IsPermutation}
 use Rattle.std.proofs.lemmas.Bool.{and_parts, and_from, eq-eqb, eqb-false, eqb-true, le-leb, leb-true, ne_eqb}
@@ -27,10 +23,6 @@ by_spot q = spot_rank q.group q.id
 -- places in one group or two
 pub same_place : (d e i j : ℕ) → i < 4294967296 → j < 4294967296 → spot_rank d i ≡ spot_rank e j → (d ≡ e) × (i ≡ j)
 same_place d e i j a b same = (omega (arith, a, b, same), omega (arith, a, b, same))
-
--- in two groups the numbers don't matter
-pub compared_apart : (d e i j : ℕ) (o : Ordering) → i < 4294967296 → j < 4294967296 → o ≡ nat_cmp d e → o ≢ Equal → o ≡ nat_cmp (spot_rank d i) (spot_rank e j)
-compared_apart d e i j o a b is apart = grind (arith, nat_tests)
 
 -- the places in one group
 abbrev pub is_under : ℕ → Spot → Bool

@@ -184,12 +184,12 @@ pub same_rows : (rows other : List FolderRow) (files others : List FileRow) (m n
 same_rows rows other files others m n e f = ap (λ l. bare_store l files m n) e ∙ ap (λ l. bare_store other l m n) f
 
 -- all in a folder are among the rows of its group
-pub folder_rows_inside : (rows : List FolderRow) (f g : ℕ) (ids : List ℕ) → g ≡ f → ((r : FolderRow) → In r rows → r.parent ≡ g → In r.id.0 ids) → (e : FolderEntry) → In e (map folder_of_row rows) → e.parent ≡ f → In e.id ids
-folder_rows_inside rows f g ids same all e i p =
+pub folder_rows_inside : (rows : List FolderRow) (f : ℕ) (ids : List ℕ) → ((r : FolderRow) → In r rows → r.parent ≡ f → In r.id.0 ids) → (e : FolderEntry) → In e (map folder_of_row rows) → e.parent ≡ f → In e.id ids
+folder_rows_inside rows f ids all e i p =
     let w = (In-map FolderRow FolderEntry folder_of_row e rows).0 i in
-    subst (λ (z : FolderEntry). In z.id ids) (sym w.2) (all w.0 w.1 (ap (λ (z : FolderEntry). z.parent) (sym w.2) ∙ p ∙ sym same))
+    subst (λ (z : FolderEntry). In z.id ids) (sym w.2) (all w.0 w.1 (ap (λ (z : FolderEntry). z.parent) (sym w.2) ∙ p))
 
-pub file_rows_inside : (rows : List FileRow) (f g : ℕ) (ids : List ℕ) → g ≡ f → ((r : FileRow) → In r rows → r.folder.0 ≡ g → In r.id.0 ids) → (e : FileEntry) → In e (map file_of_row rows) → e.folder ≡ f → In e.id ids
-file_rows_inside rows f g ids same all e i p =
+pub file_rows_inside : (rows : List FileRow) (f : ℕ) (ids : List ℕ) → ((r : FileRow) → In r rows → r.folder.0 ≡ f → In r.id.0 ids) → (e : FileEntry) → In e (map file_of_row rows) → e.folder ≡ f → In e.id ids
+file_rows_inside rows f ids all e i p =
     let w = (In-map FileRow FileEntry file_of_row e rows).0 i in
-    subst (λ (z : FileEntry). In z.id ids) (sym w.2) (all w.0 w.1 (ap (λ (z : FileEntry). z.folder) (sym w.2) ∙ p ∙ sym same))
+    subst (λ (z : FileEntry). In z.id ids) (sym w.2) (all w.0 w.1 (ap (λ (z : FileEntry). z.folder) (sym w.2) ∙ p))

@@ -1,5 +1,5 @@
 //! Names by the numbers of folders or files, and the numbers by name.
-ghost use Rattle.std.specs.Prelude.{◌≡◌, ◌≤◌, ◌+◌, ◌==◌, ℕ, [], cond, map, Some, None, IsOk, OnOk};
+ghost use Rattle.std.specs.Prelude.{◌≡◌, ◌≤◌, ◌+◌, ◌==◌, ℕ, [], cond, map, Some, None, IsOk, IfOk, OnOk};
 ghost use Rattle.std.specs.Option.{option_copied, option_map};
 ghost use Rattle.cry_base.specs.Sets.{In};
 ghost use Rattle.folder_nodes.specs.Digests.{name_digest};
@@ -8,6 +8,7 @@ ghost use Rattle.folder_nodes.specs.declared.spots.Spot.{Spot as TheSpot};
 ghost use Rattle.sorted_table.specs.Rows.{IsRising};
 
 use crate::grouped::Grouped;
+use crate::name_rows::NameRows;
 use crate::spots::Spots;
 use crate::titles::{NameKey, NameRow, digest_of};
 use cry_base::{Mem, Text};
@@ -40,6 +41,15 @@ impl Book {
         Book {
             rows: Grouped::new(alloc),
         }
+    }
+
+    /// The names of these rows, with their index.
+    pub(crate) fn of_rows(alloc: Global, names: NameRows) -> Mem<Self>
+        ensures { IfOk result (λ book. book.titles ≡ names.titles) }
+    {
+        Ok(Book {
+            rows: Grouped::of_blocks(alloc, names.rows)?,
+        })
     }
 
     /// Takes the memory of one change.
@@ -75,7 +85,7 @@ impl Book {
     }
 
     /// The digest of a name that the number gets. Most of those that are put keep their name, and its digest is known.
-    fn digest_for(&self, id: u32, name: &[u8]) -> u64
+    fn digest_for(&self, id: u32, name: &[u8]) -> u32
         ensures { result ≡ name_digest name.now }
     {
         let Some(row) = self.rows.find(&NameKey(id)) else {

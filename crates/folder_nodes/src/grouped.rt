@@ -24,7 +24,7 @@ pub(crate) trait Member: Ranked {
         ensures { result ≡ Self.rank self.now };
 
     /// The number of its group.
-    fn group_number(&self) -> u64
+    fn group_number(&self) -> u32
         ensures { result ≡ group self.now };
 }
 
@@ -99,7 +99,7 @@ impl<T: Member> Grouped<T> {
     }
 
     /// The numbers of all rows of the group, in ascending order.
-    pub(crate) fn in_group(&self, group: u64) -> Spots<'_>
+    pub(crate) fn in_group(&self, group: u32) -> Spots<'_>
         ensures rising { IsRising (λ (q : TheSpot). q.id) result }
         ensures all { (r : T) → In r self.now.rows → T.group r ≡ group → In (T.rank r) (map (λ (q : TheSpot). q.id) result) }
     {
@@ -107,7 +107,7 @@ impl<T: Member> Grouped<T> {
     }
 
     /// Whether a row is of the group.
-    pub(crate) fn has_group(&self, group: u64) -> bool
+    pub(crate) fn has_group(&self, group: u32) -> bool
         ensures { result ≡ list_any (λ r. T.group r == group) self.now.rows }
     {
         !are_none(&spots_under(&self.spots, group))
@@ -119,8 +119,15 @@ impl<T: Member + Drop> Grouped<T> {
     pub(crate) fn of_table(alloc: Global, rows: Table<T>) -> Mem<Self>
         ensures { IfOk result (λ made. made.rows ≡ rows.rows) }
     {
-        let spots = spots_of(alloc, rows.as_slice())?;
         let rows = Blocks::of_table(alloc, rows)?;
+        Self::of_blocks(alloc, rows)
+    }
+
+    /// The rows with their index, which is put in order once.
+    pub(crate) fn of_blocks(alloc: Global, rows: Blocks<T>) -> Mem<Self>
+        ensures { IfOk result (λ made. made.rows ≡ rows.rows) }
+    {
+        let spots = spots_of(alloc, &rows)?;
         Ok(Grouped { rows, spots })
     }
 
@@ -193,7 +200,7 @@ impl<T: Member + Copy> Grouped<T> {
 }
 
 /// The places in the group, in ascending order.
-fn spots_under(spots: &Blocks<Spot>, group: u64) -> Spots<'_>
+fn spots_under(spots: &Blocks<Spot>, group: u32) -> Spots<'_>
     ensures places { result ≡ filter (λ q. nat_le (spot_rank group 0) (spot_rank q.group q.id)
         && nat_le (spot_rank q.group q.id) (spot_rank group 4294967295)) spots.now.rows }
     ensures rising { IsRising (λ (q : TheSpot). spot_rank q.group q.id) result }
@@ -218,20 +225,19 @@ fn spot_in<T: Member>(row: &T) -> Spot
 }
 
 /// The index of the rows by their groups.
-fn spots_of<T: Member>(alloc: Global, rows: &[T]) -> Mem<Blocks<Spot>>
-    requires { IsRising T.rank rows.now }
-    ensures { IfOk result (λ spots. index.IsIndexed T.rank T.group rows.now spots.rows) }
+fn spots_of<T: Member>(alloc: Global, rows: &Blocks<T>) -> Mem<Blocks<Spot>>
+    ensures { IfOk result (λ spots. index.IsIndexed T.rank T.group rows.now.rows spots.rows) }
 {
-    let spots = spots_by_number(alloc, rows)?;
+    let spots = spots_by_number(alloc, rows.len(), rows.rows())?;
     Blocks::of_unordered(alloc, spots)
 }
 
-/// Where the rows stand in their groups, in the order of the rows.
-fn spots_by_number<T: Member>(alloc: Global, rows: &[T]) -> Mem<Vec<Spot>>
-    ensures spots { IfOk result (λ spots. spots.items ≡ map (index.place_of T.rank T.group) rows.now) }
-    ensures small { OnOk result (All (λ r. T.rank r < 4294967296) rows.now) }
+/// Where the rows, so many, stand in their groups, in the order of the rows.
+fn spots_by_number<T: Member>(alloc: Global, count: usize, rows: Walk<'_, T>) -> Mem<Vec<Spot>>
+    ensures spots { IfOk result (λ spots. spots.items ≡ map (index.place_of T.rank T.group) rows.entry) }
+    ensures small { OnOk result (All (λ r. T.rank r < 4294967296) rows.entry) }
 {
-    let mut spots = Vec::new(alloc);
+    let mut spots = Vec::with_capacity(alloc, count)?;
     for row in rows {
         spots.push(spot_in(row))?;
     }

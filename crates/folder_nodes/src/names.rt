@@ -1,5 +1,5 @@
 //! The names of folders and files, and the bytes of files.
-ghost use Rattle.std.specs.Prelude.{◌≡◌, ◌+◌, ◌≤◌, [], cond, map, Some, None, IsOk, OnOk, option_map};
+ghost use Rattle.std.specs.Prelude.{◌≡◌, ◌+◌, ◌≤◌, [], cond, map, Some, None, IsOk, IfOk, OnOk, option_map};
 ghost use Rattle.std.specs.Option.{option_copied};
 ghost use Rattle.cry_base.specs.Sets.{In};
 ghost use Rattle.cry_base.specs.declared.roles.Node.{Node as TheNode};
@@ -8,6 +8,7 @@ ghost use Rattle.folder_nodes.specs.declared.spots.Spot.{Spot as TheSpot};
 ghost use Rattle.sorted_table.specs.Rows.{IsRising};
 
 use crate::book::Book;
+use crate::opened_names::OpenedNames;
 use crate::spots::Spots;
 use cry_base::{FileId, Mem, Node, Text};
 use std::alloc::Global;
@@ -43,6 +44,18 @@ impl Names {
             folders: Book::new(alloc),
             files: Book::new(alloc),
         }
+    }
+
+    /// The names that were opened, to be looked up. Their index is put in order once.
+    pub fn of(alloc: Global, opened: OpenedNames) -> Mem<Self>
+        ensures folders { IfOk result (λ names. names.folders ≡ opened.folders) }
+        ensures files { IfOk result (λ names. names.files ≡ opened.files) }
+    {
+        let OpenedNames { folders, files } = opened;
+        Ok(Names {
+            folders: Book::of_rows(alloc, folders)?,
+            files: Book::of_rows(alloc, files)?,
+        })
     }
 
     /// Takes the memory of one change.

@@ -45,8 +45,8 @@ impl Member for FolderRow {
         self.id.0
     }
 
-    fn group_number(&self) -> u64 {
-        u64::from(self.parent)
+    fn group_number(&self) -> u32 {
+        self.parent
     }
 }
 
@@ -57,8 +57,8 @@ impl Member for FileRow {
         self.id.0
     }
 
-    fn group_number(&self) -> u64 {
-        u64::from(self.folder.0)
+    fn group_number(&self) -> u32 {
+        self.folder.0
     }
 }
 

@@ -120,7 +120,7 @@ impl Shape {
         ensures rising { IsRising (λ (q : TheSpot). q.id) result }
         ensures all { (e : FolderEntry) → In e self.now.tree.folders → e.parent ≡ f → In e.id (map (λ (q : TheSpot). q.id) result) }
     {
-        self.folders.in_group(u64::from(f))
+        self.folders.in_group(f)
     }
 
     /// The numbers of all files in the folder, in ascending order.
@@ -128,21 +128,21 @@ impl Shape {
         ensures rising { IsRising (λ (q : TheSpot). q.id) result }
         ensures all { (e : FileEntry) → In e self.now.tree.files → e.folder ≡ f → In e.id (map (λ (q : TheSpot). q.id) result) }
     {
-        self.files.in_group(u64::from(f))
+        self.files.in_group(f)
     }
 
     /// Whether a folder is in the folder.
     pub(crate) fn has_folder_inside(&self, f: u32) -> bool
         ensures { result ≡ list_any (λ e. e.parent == f) self.now.tree.folders }
     {
-        self.folders.has_group(u64::from(f))
+        self.folders.has_group(f)
     }
 
     /// Whether a file is in the folder.
     pub(crate) fn has_file_inside(&self, f: u32) -> bool
         ensures { result ≡ list_any (λ e. e.folder == f) self.now.tree.files }
     {
-        self.files.has_group(u64::from(f))
+        self.files.has_group(f)
     }
 
     /// Whether the folder has no child.

@@ -1,5 +1,6 @@
 //! Where a row stands in an index: under the number of its group, beside the rows of that group.
 ghost use Rattle.std.specs.Prelude.{◌≡◌, ◌==◌, length, nat_le, nat_lt};
+ghost use Rattle.folder_nodes.specs.Ranking.{spot_rank};
 
 use sorted_table::{Key, Ranked, Span};
 use std::cmp::Ordering;
@@ -7,8 +8,17 @@ use std::cmp::Ordering;
 /// The number of a folder or file, under that of its group.
 #[derive(Clone, Copy, Debug)]
 pub(crate) struct Spot {
-    pub(crate) group: u64,
+    pub(crate) group: u32,
     pub(crate) id: u32,
+}
+
+impl Spot {
+    /// Its place among all spots: by group, and in one group by number.
+    fn place(&self) -> u64
+        ensures { result ≡ spot_rank self.now.group self.now.id }
+    {
+        u64::from(self.group) * (1 << 32) + u64::from(self.id)
+    }
 }
 
 impl Ranked for Spot {
@@ -17,11 +27,7 @@ impl Ranked for Spot {
     ghost rank = { λ spot. spot_rank spot.group spot.id };
 
     fn compare(&self, other: &Self) -> Ordering {
-        let (own, others) = (self.id, other.id);
-        match self.group.cmp(&other.group) {
-            Ordering::Equal => own.cmp(&others),
-            apart => apart,
-        }
+        self.place().cmp(&other.place())
     }
 }
 

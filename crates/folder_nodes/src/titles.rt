@@ -12,7 +12,7 @@ use std::hash::{DefaultHasher, Hasher};
 #[derive(Drop)]
 pub(crate) struct NameRow {
     pub(crate) id: u32,
-    pub(crate) digest: u64,
+    pub(crate) digest: u32,
     pub(crate) name: Text,
     pub(crate) bytes: Text,
 }
@@ -32,7 +32,7 @@ impl Member for NameRow {
         self.id
     }
 
-    fn group_number(&self) -> u64 {
+    fn group_number(&self) -> u32 {
         self.digest
     }
 }
@@ -53,12 +53,12 @@ impl Key<NameRow> for NameKey {
     }
 }
 
-/// The name's SipHash-1-3, which spreads names over all numbers whoever chose them.
+/// The lower half of the name's SipHash-1-3, which spreads names over all numbers whoever chose them.
 #[tactic(auto, unfolding(crate::specs::Digests::name_digest))]
-pub(crate) fn digest_of(name: &[u8]) -> u64
+pub(crate) fn digest_of(name: &[u8]) -> u32
     ensures { result ≡ name_digest name.now }
 {
     let mut hasher = DefaultHasher::new();
     hasher.write(name);
-    hasher.finish()
+    (hasher.finish() % (1 << 32)) as u32
 }

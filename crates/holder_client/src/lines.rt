@@ -10,7 +10,7 @@ ghost use Rattle.role_graph.specs.Edges.{in_order};
 
 use crate::reading::ReadFile;
 use cry_base::{Line, List, Mem};
-use folder_nodes::{Names, Shape};
+use folder_nodes::{OpenedNames, Shape};
 use log_visits::{Sight, file_path, folder_path};
 use std::alloc::Global;
 use std::cmp::Ordering;
@@ -27,7 +27,7 @@ pub(crate) fn path_of(line: &Line) -> &[u8]
 }
 
 /// The line of a folder that is named.
-pub(crate) fn folder_line(alloc: Global, shape: &Shape, names: &Names, sight: &Sight) -> Mem<Line>
+pub(crate) fn folder_line(alloc: Global, shape: &Shape, names: &OpenedNames, sight: &Sight) -> Mem<Line>
     ensures { IfOk result (λ line. plain_line line ≡ spec.sight_line (tree_store shape.now.tree names.now) sight.now) }
 {
     let path = folder_path(alloc, shape, names, sight.folder)?;
@@ -39,7 +39,7 @@ pub(crate) fn folder_line(alloc: Global, shape: &Shape, names: &Names, sight: &S
 }
 
 /// The line of a file.
-pub(crate) fn file_line(alloc: Global, shape: &Shape, names: &Names, file: ReadFile) -> Mem<Line>
+pub(crate) fn file_line(alloc: Global, shape: &Shape, names: &OpenedNames, file: ReadFile) -> Mem<Line>
     ensures { IfOk result (λ line. plain_line line ≡ spec.read_line (tree_store shape.now.tree names.now) file) }
 {
     let ReadFile { row, name, bytes } = file;
@@ -52,7 +52,7 @@ fn push_folder(
     lines: &mut Vec<Line>,
     alloc: Global,
     shape: &Shape,
-    names: &Names,
+    names: &OpenedNames,
     sight: &Sight,
 ) -> Mem<()>
     ensures { OnOk result (map plain_line lines.new.items ≡ map plain_line lines.old.items
@@ -68,7 +68,7 @@ fn push_folder(
 pub(crate) fn folder_lines(
     alloc: Global,
     shape: &Shape,
-    names: &Names,
+    names: &OpenedNames,
     sights: &[Sight],
 ) -> Mem<Vec<Line>>
     ensures { IfOk result (λ lines. map plain_line lines.items
@@ -86,7 +86,7 @@ pub(crate) fn push_files(
     lines: &mut Vec<Line>,
     alloc: Global,
     shape: &Shape,
-    names: &Names,
+    names: &OpenedNames,
     files: Vec<ReadFile>,
 ) -> Mem<()>
     ensures { OnOk result (map plain_line lines.new.items ≡ map plain_line lines.old.items
@@ -128,7 +128,7 @@ fn to_list(alloc: Global, lines: Vec<Line>) -> Mem<List<Line>>
 pub(crate) fn view_lines(
     alloc: Global,
     shape: &Shape,
-    names: &Names,
+    names: &OpenedNames,
     sights: &[Sight],
     files: Vec<ReadFile>,
 ) -> Mem<List<Line>>

@@ -31,7 +31,7 @@ use crate::streamed_log::StreamedLog;
 use commit_journal::PublicLog;
 use cry_base::{Bundle, Line, Mem};
 use cry_io::Disk;
-use folder_nodes::{FileRow, Names, Shape, front_of, path_ok};
+use folder_nodes::{FileRow, OpenedNames, Shape, front_of, path_ok};
 use log_visits::{ClientFault, OwnersView, Records, Sight, all_sights, folder_path, is_nameless};
 use public_fold::PublicState;
 use sorted_table::Walk;
@@ -55,7 +55,7 @@ fn line_at(lines: Vec<Line>, path: &[u8]) -> Option<Line>
 fn folder_at(
     alloc: Global,
     shape: &Shape,
-    names: &Names,
+    names: &OpenedNames,
     sights: &[Sight],
     path: &[u8],
 ) -> Mem<Option<Line>>
@@ -70,7 +70,7 @@ fn folder_at(
 fn file_at(
     alloc: Global,
     shape: &Shape,
-    names: &Names,
+    names: &OpenedNames,
     files: Vec<ReadFile>,
     path: &[u8],
 ) -> Mem<Option<Line>>
@@ -94,7 +94,7 @@ fn parent_of(path: &[u8]) -> &[u8]
 }
 
 /// Whether all in the folder may be read, and it has the path.
-fn is_open_at(alloc: Global, shape: &Shape, names: &Names, sight: &Sight, path: &[u8]) -> Mem<bool>
+fn is_open_at(alloc: Global, shape: &Shape, names: &OpenedNames, sight: &Sight, path: &[u8]) -> Mem<bool>
     ensures { IfOk result (λ is. is ≡ spec.is_open_at (tree_store shape.now.tree names.now) path.now sight.now) }
 {
     if !sight.allowed {
@@ -109,7 +109,7 @@ fn note_open(
     folders: &mut HashSet<u32>,
     alloc: Global,
     shape: &Shape,
-    names: &Names,
+    names: &OpenedNames,
     sight: &Sight,
     path: &[u8],
 ) -> Mem<()>
@@ -126,7 +126,7 @@ fn note_open(
 fn folders_open_at(
     alloc: Global,
     shape: &Shape,
-    names: &Names,
+    names: &OpenedNames,
     sights: &[Sight],
     path: &[u8],
 ) -> Mem<HashSet<u32>>
@@ -144,7 +144,7 @@ fn folders_open_at(
 fn files_beside(
     alloc: Global,
     shape: &Shape,
-    names: &Names,
+    names: &OpenedNames,
     sights: &[Sight],
     files: Walk<'_, FileRow>,
     path: &[u8],

@@ -20,7 +20,7 @@ ghost use Rattle.role_graph.specs.Edges.{file_edge};
 
 use chacha_seal::Key;
 use cry_base::{Bundle, Edge, Mem, Role, Text};
-use folder_nodes::{FileRow, Names};
+use folder_nodes::{FileRow, OpenedNames};
 use key_links::KeyRing;
 use log_visits::{
     ClientFault, NamedBytes, OwnersView, Records, Sight, Viewer, open_file, present_serial,
@@ -80,7 +80,7 @@ pub(crate) fn open_names<S, R: Records<S>>(
     let visits = visits_to_names(alloc, viewer_of(bundle), sights)?;
     let before = OwnersView {
         ring: first_ring(alloc, bundle, state),
-        names: Names::new(alloc),
+        names: OpenedNames::new(alloc),
     };
     visit_each(alloc, state, records, source, visits.as_slice(), before)
 }

@@ -26,7 +26,7 @@ use crate::visiting::visit_edge;
 use chacha_seal::{Key, OwnerK};
 use commit_journal::Placed;
 use cry_base::Edge;
-use folder_nodes::Names;
+use folder_nodes::OpenedNames;
 use key_links::KeyRing;
 use public_fold::PublicState;
 use record_format::{FILE_TEXT, FOLDER_NAME, HOLDER_KEY};
@@ -38,7 +38,7 @@ pub struct OwnersView {
     /// The key of each role that stands, and of each holder.
     pub ring: KeyRing,
     /// The name of each folder and file, and the bytes of each file.
-    pub names: Names,
+    pub names: OpenedNames,
 }
 
 /// Makes room for the edge's key, and visits it.
@@ -159,7 +159,7 @@ pub fn open_all(
     let visits = owner_visits(alloc, state)?;
     let begun = OwnersView {
         ring: KeyRing::new(alloc, owner),
-        names: Names::new(alloc),
+        names: OpenedNames::new(alloc),
     };
     visit_each(alloc, state, &indexed, &mut (), visits.as_slice(), begun)
 }

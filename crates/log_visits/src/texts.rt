@@ -21,7 +21,7 @@ use crate::text_forms::{file_parts, is_folder_text, text_of};
 use crate::visiting::{OpenedText, open_text};
 use chacha_seal::Key;
 use cry_base::{FileId, FolderId, HolderId, Node, Role, Serial, Text};
-use folder_nodes::Names;
+use folder_nodes::OpenedNames;
 use key_links::KeyRing;
 use public_fold::PublicState;
 use record_format::{FILE_TEXT, FOLDER_NAME, HOLDER_KEY};
@@ -34,7 +34,7 @@ pub(crate) fn visit_name(
     alloc: Global,
     found: Option<FoundContent>,
     ring: &KeyRing,
-    names: &mut Names,
+    names: &mut OpenedNames,
     folder: FolderId,
 ) -> Result<(), ClientFault>
     requires { IfSome found (IsContentFor 1 folder.0) }
@@ -93,7 +93,7 @@ pub(crate) fn visit_file(
     alloc: Global,
     found: Option<FoundContent>,
     ring: &KeyRing,
-    names: &mut Names,
+    names: &mut OpenedNames,
     file: FileId,
 ) -> Result<(), ClientFault>
     requires { IfSome found (IsContentFor 2 file.0) }

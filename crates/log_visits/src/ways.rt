@@ -7,8 +7,8 @@ ghost use Rattle.cry_base.specs.declared.ids.FolderId.{FolderId as TheFolder};
 ghost use Rattle.folder_nodes.specs.Spelling.{joined};
 ghost use Rattle.folder_nodes.specs.Titles.{name_in, title_at, tree_store};
 
-use cry_base::{FolderId, Mem, Node, Text};
-use folder_nodes::{Names, Shape};
+use cry_base::{FolderId, Mem, Text};
+use folder_nodes::{OpenedNames, Shape};
 use std::alloc::Global;
 
 fn put_first(way: &mut Vec<FolderId>, folder: FolderId) -> Mem<()>
@@ -40,17 +40,17 @@ pub(crate) fn way_to(alloc: Global, shape: &Shape, f: FolderId) -> Mem<Vec<Folde
 }
 
 /// The name of a folder, and none where it isn't named.
-fn name_of(names: &Names, folder: FolderId) -> &[u8]
+fn name_of(names: &OpenedNames, folder: FolderId) -> &[u8]
     ensures { result.now ≡ name_in (title_at names.now.folders folder.0) }
 {
-    match names.name(Node::Folder(folder)) {
+    match names.folder_name(folder) {
         Some(name) => name,
         None => b"".as_slice(),
     }
 }
 
 /// Adds the folders' names, with a slash before each.
-fn add_each(text: &mut Text, names: &Names, folders: &[FolderId]) -> Mem<()>
+fn add_each(text: &mut Text, names: &OpenedNames, folders: &[FolderId]) -> Mem<()>
     ensures { OnOk result (text.new.items ≡ text.old.items
         ++ flat_map (λ (x : TheFolder). 47 ∷ name_in (title_at names.now.folders x.0)) folders.now) }
 {
@@ -62,7 +62,7 @@ fn add_each(text: &mut Text, names: &Names, folders: &[FolderId]) -> Mem<()>
 }
 
 /// Adds the names from the root down to the folder, with a slash before each; the root has none.
-fn add_names(alloc: Global, text: &mut Text, shape: &Shape, names: &Names, f: FolderId) -> Mem<()>
+fn add_names(alloc: Global, text: &mut Text, shape: &Shape, names: &OpenedNames, f: FolderId) -> Mem<()>
     ensures { OnOk result (text.new.items ≡ text.old.items ++ joined (folder_names (tree_store shape.now.tree names.now) f.0)) }
 {
     let way = way_to(alloc, shape, f)?;
@@ -73,7 +73,7 @@ fn add_names(alloc: Global, text: &mut Text, shape: &Shape, names: &Names, f: Fo
 }
 
 /// The path of a folder.
-pub fn folder_path(alloc: Global, shape: &Shape, names: &Names, f: FolderId) -> Mem<Text>
+pub fn folder_path(alloc: Global, shape: &Shape, names: &OpenedNames, f: FolderId) -> Mem<Text>
     ensures { IfOk result (λ path. path.items ≡ spell_path (folder_names (tree_store shape.now.tree names.now) f.0)) }
 {
     let mut path = Text::new(alloc);
@@ -89,7 +89,7 @@ pub fn folder_path(alloc: Global, shape: &Shape, names: &Names, f: FolderId) -> 
 pub fn file_path(
     alloc: Global,
     shape: &Shape,
-    names: &Names,
+    names: &OpenedNames,
     folder: FolderId,
     name: &[u8],
 ) -> Mem<Text>

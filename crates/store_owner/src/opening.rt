@@ -28,6 +28,7 @@ use chacha_seal::{Key, OwnerK};
 use commit_journal::{Journal, OpenFault, Opened, Placed};
 use cry_base::{Limits, ROOT};
 use cry_io::Disk;
+use folder_nodes::Names;
 use log_visits::{BEHIND_HEADER, ClientFault, OwnersView, fold, open_all};
 use public_fold::PublicState;
 use std::alloc::Global;
@@ -103,6 +104,7 @@ fn owner_behind(
     match open_contents(alloc, placed.as_slice(), Key::owner(key)) {
         Ok(contents) => {
             let OwnersView { ring, names } = contents.view;
+            let names = Names::of(alloc, names)?;
             Ok(Owner::at(key, journal, contents.state, names, ring, limits, NONE))
         }
         Err(fault) => Err(open_fault(fault)),

@@ -5,4 +5,4 @@ use Rattle.folder_nodes.proofs.shape.Shape.folders_inside.Goals as goal
 
 pub returns-clause-all : goal.returns-clause-all
 returns-clause-all c =
-    rw (← c.self.view_is) (folder_rows_inside c.self.inside.folders.rows c.args.f c.from.result (map (λ (q : Spot). q.id) c.in_group.result) c.from.ensures c.in_group.ensures.all)
+    rw (← c.self.view_is) (folder_rows_inside c.self.inside.folders.rows c.args.f (map (λ (q : Spot). q.id) c.in_group.result) c.in_group.ensures.all)
