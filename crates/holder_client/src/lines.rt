@@ -27,7 +27,12 @@ pub(crate) fn path_of(line: &Line) -> &[u8]
 }
 
 /// The line of a folder that is named.
-pub(crate) fn folder_line(alloc: Global, shape: &Shape, names: &OpenedNames, sight: &Sight) -> Mem<Line>
+pub(crate) fn folder_line(
+    alloc: Global,
+    shape: &Shape,
+    names: &OpenedNames,
+    sight: &Sight,
+) -> Mem<Line>
     ensures { IfOk result (λ line. plain_line line ≡ spec.sight_line (tree_store shape.now.tree names.now) sight.now) }
 {
     let path = folder_path(alloc, shape, names, sight.folder)?;
@@ -39,7 +44,12 @@ pub(crate) fn folder_line(alloc: Global, shape: &Shape, names: &OpenedNames, sig
 }
 
 /// The line of a file.
-pub(crate) fn file_line(alloc: Global, shape: &Shape, names: &OpenedNames, file: ReadFile) -> Mem<Line>
+pub(crate) fn file_line(
+    alloc: Global,
+    shape: &Shape,
+    names: &OpenedNames,
+    file: ReadFile,
+) -> Mem<Line>
     ensures { IfOk result (λ line. plain_line line ≡ spec.read_line (tree_store shape.now.tree names.now) file) }
 {
     let ReadFile { row, name, bytes } = file;

@@ -94,7 +94,13 @@ fn parent_of(path: &[u8]) -> &[u8]
 }
 
 /// Whether all in the folder may be read, and it has the path.
-fn is_open_at(alloc: Global, shape: &Shape, names: &OpenedNames, sight: &Sight, path: &[u8]) -> Mem<bool>
+fn is_open_at(
+    alloc: Global,
+    shape: &Shape,
+    names: &OpenedNames,
+    sight: &Sight,
+    path: &[u8],
+) -> Mem<bool>
     ensures { IfOk result (λ is. is ≡ spec.is_open_at (tree_store shape.now.tree names.now) path.now sight.now) }
 {
     if !sight.allowed {

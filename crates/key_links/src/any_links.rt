@@ -62,6 +62,8 @@ pub(crate) fn follow_any(source: &AnyKey, link: &LinkRecord) -> Result<AnyKey, B
     }
 }
 
+// The keys that links lead to have a function for each kind: one for all would make room at its entry for the keys of every kind.
+
 /// The folder's key that grants hand out, to which the link leads.
 #[tactic(auto, unfolding(crate::specs::Ringed::role_of, crate::specs::Ringed::parts_of, crate::specs::Ended::role_with))]
 fn clear_behind<A: LinksTo<ClearK>>(source: &Key<A>, link: &LinkRecord) -> Result<AnyKey, BadTag>

@@ -62,7 +62,13 @@ fn add_each(text: &mut Text, names: &OpenedNames, folders: &[FolderId]) -> Mem<(
 }
 
 /// Adds the names from the root down to the folder, with a slash before each; the root has none.
-fn add_names(alloc: Global, text: &mut Text, shape: &Shape, names: &OpenedNames, f: FolderId) -> Mem<()>
+fn add_names(
+    alloc: Global,
+    text: &mut Text,
+    shape: &Shape,
+    names: &OpenedNames,
+    f: FolderId,
+) -> Mem<()>
     ensures { OnOk result (text.new.items ≡ text.old.items ++ joined (folder_names (tree_store shape.now.tree names.now) f.0)) }
 {
     let way = way_to(alloc, shape, f)?;

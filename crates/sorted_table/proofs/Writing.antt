@@ -1,11 +1,6 @@
--- Rows that were written back, or over another.
-use Rattle.std.proofs.Common.{◌≡◌, ℕ, zero, suc, ◌<◌, List, [], ◌∷◌, ◌++◌, length, set, take, refl, ap, arith}
+-- A row that was written over another.
+use Rattle.std.proofs.Common.{◌≡◌, ℕ, zero, suc, ◌<◌, List, [], ◌∷◌, length, set, refl, ap, arith}
 use Rattle.std.specs.List.{remove}
-use Rattle.std.proofs.Math.Seq.{take-append_seam}
-
--- what stands in a buffer once all rows are written back
-pub written : (T : Type 0) (after more : List T) (n : ℕ) → n ≡ length after → take n (after ++ more) ≡ after
-written T after more n same = rw same (take-append_seam after more)
 
 -- a row that was put into the place of another stands in the place of that one
 pub removed_set : (T : Type 0) (rows : List T) (i : ℕ) (row : T) → i < length rows → remove (set rows i row) i ≡ remove rows i

@@ -61,9 +61,9 @@ use Rattle.store_owner.proofs.SoundOpened.{opened_sound}
 
 -- ---- what was opened is kept
 
-contents_kept : (contents : Contents) (s : OpenStore) → AreContents contents s → ArePresent contents.state.keys.keys contents.view.ring → IsKept s.reading.stand s.opened contents.view.ring contents.view.names
+contents_kept : (contents : Contents) (s : OpenStore) → AreContents contents s → ArePresent contents.state.keys.keys contents.ring → IsKept s.reading.stand s.opened contents.ring contents.names
 contents_kept contents s are present = record {
-  present = subst (λ (k : KeyState). ArePresent k.keys contents.view.ring) (sym are.0.keys) present;
+  present = subst (λ (k : KeyState). ArePresent k.keys contents.ring) (sym are.0.keys) present;
   opened = are.1.keys;
   titled = are.1.names;
   holders = are.1.holders;
@@ -79,35 +79,35 @@ tree_sized t names sized x i =
 
 pub behind_sound : (key : List ℕ) (o : OpenedLog) (contents : Contents) (store_bytes file_bytes : ℕ) (s : OpenStore) → IsOpened key store_bytes o.journal → AreInEpochs 0 (plain_log o.placed)
     → o.journal.batches ≡ length o.placed.items → o.journal.epoch ≡ epoch_behind 0 (plain_log o.placed) → file_bytes ≤ most_file_bytes
-    → opened_of key (plain_log o.placed) ≡ Ok s → AreContents contents s → ArePresent contents.state.keys.keys contents.view.ring → AreSized contents.view.names
-    → IsSound (owner_at key o.journal contents.state contents.view.names contents.view.ring file_bytes none_counted)
+    → opened_of key (plain_log o.placed) ≡ Ok s → AreContents contents s → ArePresent contents.state.keys.keys contents.ring → AreSized contents.names
+    → IsSound (owner_at key o.journal contents.state contents.names contents.ring file_bytes none_counted)
 behind_sound key o contents store_bytes file_bytes s opened epochs count last low is are present sized =
     let log = plain_log o.placed in
     let at = s.reading.stand in
     let were = contents_told key log s is in
-    opened_sound log at (owner_at key o.journal contents.state contents.view.names contents.view.ring file_bytes none_counted) (record {
+    opened_sound log at (owner_at key o.journal contents.state contents.names contents.ring file_bytes none_counted) (record {
       epochs = epochs;
       folds = were.folds;
       has_root = were.stands;
       seen = are.0;
       batches = count ∙ sym (length-map o.placed.items plain_placed);
       epoch = last;
-      keyed = ring_keyed log at key s.opened contents.view.ring contents.view.names were.folds were.stands were.done (contents_kept contents s are present);
+      keyed = ring_keyed log at key s.opened contents.ring contents.names were.folds were.stands were.done (contents_kept contents s are present);
       not_begun = opened.not_begun;
       not_counted = refl;
-      sized = tree_sized (public_store_of contents.state) contents.view.names sized;
+      sized = tree_sized (public_store_of contents.state) contents.names sized;
       bounded = low;
     })
 
 pub behind_opens : (key : List ℕ) (log : List PlainPlaced) (contents : Contents) (o : OwnerView) (s : OpenStore) → opened_of key log ≡ Ok s → AreContents contents s
-    → ArePresent contents.state.keys.keys contents.view.ring → o.state ≡ contents.state → o.names ≡ contents.view.names → o.ring ≡ contents.view.ring
+    → ArePresent contents.state.keys.keys contents.ring → o.state ≡ contents.state → o.names ≡ contents.names → o.ring ≡ contents.ring
     → (x : OpenStore) × (open_with key (Ok log) ≡ Ok x) × Keeps o x
 unfolding of_bytes
 behind_opens key log contents o s is are present state names ring =
     let kept = contents_kept contents s are present in (
       s,
       opens_with key log ∙ ap of_bytes is,
-      (subst (λ v. IsSeenAs v s.reading.stand) (sym state) are.0, subst (λ r. IsKept s.reading.stand s.opened r o.names) (sym ring) (subst (IsKept s.reading.stand s.opened contents.view.ring) (sym names) kept)),
+      (subst (λ v. IsSeenAs v s.reading.stand) (sym state) are.0, subst (λ r. IsKept s.reading.stand s.opened r o.names) (sym ring) (subst (IsKept s.reading.stand s.opened contents.ring) (sym names) kept)),
     )
 
 pub behind_fails : (key : List ℕ) (log : List PlainPlaced) (fault : OpenFault) (client : ClientFault) → client ≡ client_fault fault → IsFault client (opened_of key log) → IsOpenFault fault (open_with key (Ok log))

@@ -24,7 +24,7 @@ use Rattle.public_fold.specs.Journal.{Stand, nothing}
 use Rattle.public_fold.specs.Standing.{IsSeenAs, PublicView}
 use Rattle.role_graph.specs.Rights.Who.{TheOwner}
 use Rattle.journal_bytes.proofs.OpenedKeys.{same_ok, then_told}
-use Rattle.store_owner.specs.Opened.{AreContents, IsOpenFault, opened_at, opened_of, placed_in, reading_with, rooted, starts_with, visits_of}
+use Rattle.store_owner.specs.Opened.{AreContents, IsOpenFault, opened_at, opened_of, placed_in, reading_with, rooted, starts_with, view_of, visits_of}
 use Rattle.store_owner.specs.declared.opening.Contents.{Contents}
 
 -- ---- the root
@@ -72,7 +72,7 @@ visits_fail fault owner log at folds stands is =
 
 -- all of it was opened
 pub contents_are : (owner : List ℕ) (log : List PlainPlaced) (at : Stand) (contents : Contents) → folded nothing log ≡ Ok at → folder_stands at.store 1 ≡ true → IsSeenAs contents.state at
-    → (after : Opened) × (visit_all (reading_with log at) (visits_of at) (starts_with owner at) ≡ Ok after) × IsOpenedBy at.store contents.view after
+    → (after : Opened) × (visit_all (reading_with log at) (visits_of at) (starts_with owner at) ≡ Ok after) × IsOpenedBy at.store (view_of contents) after
     → (s : OpenStore) × (opened_of owner log ≡ Ok s) × AreContents contents s
 unfolding opened_at and_then
 contents_are owner log at contents folds stands seen done =

@@ -20,6 +20,7 @@ use Rattle.log_visits.specs.Holding.{HasNames, HoldsKeys}
 use Rattle.log_visits.specs.Judging.{Failure, OfBytes}
 use Rattle.log_visits.specs.Opening.{HasHolder, IsOpenedBy, is_no_holders}
 use Rattle.log_visits.specs.Visiting.{Opened, Reading, visit_all}
+use Rattle.log_visits.specs.declared.opening.OwnersView.{OwnersView}
 use Rattle.log_visits.specs.Visits.{Visit, all_visits, holder_visits}
 use Rattle.key_links.specs.Ringed.{Ringed}
 use Rattle.move_plan.specs.Fitting.{folder_stands}
@@ -63,9 +64,13 @@ opened_at owner log at =
 unfoldable pub opened_of : List ℕ → List PlainPlaced → Result OpenStore Fault
 opened_of owner log = and_then (folded nothing log) (λ at. and_then (rooted at) (opened_at owner log))
 
+-- the keys and names of all that was opened
+abbrev pub view_of : Contents → OwnersView
+view_of contents = record { ring = contents.ring; names = contents.names }
+
 -- these are what was opened
 abbrev pub AreContents : Contents → OpenStore → Type 0
-AreContents contents s = IsSeenAs contents.state s.reading.stand × IsOpenedBy s.reading.stand.store contents.view s.opened
+AreContents contents s = IsSeenAs contents.state s.reading.stand × IsOpenedBy s.reading.stand.store (view_of contents) s.opened
 
 -- ---- what opening answers
 

@@ -29,6 +29,7 @@ use commit_journal::{Journal, OpenFault, Opened, Placed};
 use cry_base::{Limits, ROOT};
 use cry_io::Disk;
 use folder_nodes::Names;
+use key_links::KeyRing;
 use log_visits::{BEHIND_HEADER, ClientFault, OwnersView, fold, open_all};
 use public_fold::PublicState;
 use std::alloc::Global;
@@ -37,7 +38,8 @@ use std::alloc::Global;
 #[derive(Drop)]
 struct Contents {
     state: PublicState,
-    view: OwnersView,
+    ring: KeyRing,
+    names: Names,
 }
 
 fn has_root(state: &PublicState) -> bool
@@ -54,16 +56,17 @@ fn open_contents(alloc: Global, log: &[Placed], owner: Key<OwnerK>) -> Result<Co
     requires number { owner.id ≡ 0 }
     requires serial { owner.serial ≡ 0 }
     ensures answer { AnswersBy AreContents result (opened_of owner.bytes (map plain_placed log.now)) }
-    ensures present { IfOk result (λ contents. ArePresent contents.state.keys.keys contents.view.ring) }
-    ensures sized { IfOk result (λ contents. AreSized contents.view.names) }
+    ensures present { IfOk result (λ contents. ArePresent contents.state.keys.keys contents.ring) }
+    ensures sized { IfOk result (λ contents. AreSized contents.names) }
     ensures no_disk { result ≢ Err ClientFault.DiskFault }
 {
     let state = fold(alloc, log)?;
     if !has_root(&state) {
         return Err(ClientFault::Damaged { at: BEHIND_HEADER });
     }
-    let view = open_all(alloc, &state, log, owner)?;
-    Ok(Contents { state, view })
+    let OwnersView { ring, names } = open_all(alloc, &state, log, owner)?;
+    let names = Names::of(alloc, names)?;
+    Ok(Contents { state, ring, names })
 }
 
 /// The fault of a log or of an owner's visits. Neither is that of a holder or a path.
@@ -103,9 +106,8 @@ fn owner_behind(
     let Opened { journal, placed } = opened;
     match open_contents(alloc, placed.as_slice(), Key::owner(key)) {
         Ok(contents) => {
-            let OwnersView { ring, names } = contents.view;
-            let names = Names::of(alloc, names)?;
-            Ok(Owner::at(key, journal, contents.state, names, ring, limits, NONE))
+            let Contents { state, ring, names } = contents;
+            Ok(Owner::at(key, journal, state, names, ring, limits, NONE))
         }
         Err(fault) => Err(open_fault(fault)),
     }

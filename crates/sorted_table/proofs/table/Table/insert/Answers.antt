@@ -1,10 +1,8 @@
-use Rattle.std.proofs.Common.{◌≡◌, [], ◌∷◌, ◌++◌, length, vec_len, ◌∙◌, sym, subst, refl, arith}
+use Rattle.std.proofs.Common.{◌∙◌, sym, subst, refl, arith}
 use Rattle.sorted_table.specs.Places.{IsGapFor}
-use Rattle.sorted_table.specs.Rows.{IsRising, with_row}
+use Rattle.sorted_table.specs.Rows.{IsRising}
 use Rattle.sorted_table.proofs.Placed.{row_at-here, with_row-gap}
 use Rattle.sorted_table.proofs.Rising.{rising-with_row}
-use Rattle.sorted_table.proofs.Writing.{written}
-use Rattle.sorted_table.proofs.table.Table.insert.Given.{Over}
 use Rattle.sorted_table.proofs.table.Table.insert.Goals as goal
 
 pub unreachable-requires : goal.unreachable-requires
