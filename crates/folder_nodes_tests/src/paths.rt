@@ -1,7 +1,7 @@
 //! What a path finds, and how long a name is told.
-use crate::trees::{Given, Tree, name_node, tree_of};
+use crate::trees::{Given, Tree, name_node, open_name, tree_of};
 use cry_base::{FileId, FolderId, Mem, Node};
-use folder_nodes::{Names, find};
+use folder_nodes::{Names, OpenedNames, find};
 
 /// `/`, `/a`, `/a/b`, `/b`, `/b/a`, and a second `/a/b` with a folder `/a/b/c`.
 const FOLDERS: [Given; 7] = [
@@ -57,5 +57,20 @@ fn a_name_is_told_until_it_is_forgotten(rt: HostRuntime) -> Mem<()> {
     assert!(rt; names.bytes(file) == Some([7, 9].as_slice()));
     names.forget(Node::File(file));
     assert!(rt; names.name(Node::File(file)).is_none());
+    Ok(())
+}
+
+#[test]
+fn an_opened_name_is_told_before_and_once_it_is_looked_up(rt: HostRuntime) -> Mem<()> {
+    let mut opened = OpenedNames::new(rt.alloc());
+    let (folder, file) = (FolderId(2), FileId(1));
+    open_name(rt.alloc(), &mut opened, Node::Folder(folder), b"a")?;
+    open_name(rt.alloc(), &mut opened, Node::File(file), b"y")?;
+    assert!(rt; opened.folder_name(folder) == Some(b"a".as_slice()));
+    assert!(rt; opened.folder_name(FolderId(1)).is_none());
+    let names = Names::of(rt.alloc(), opened)?;
+    assert!(rt; names.name(Node::Folder(folder)) == Some(b"a".as_slice()));
+    assert!(rt; names.name(Node::File(file)) == Some(b"y".as_slice()));
+    assert!(rt; names.bytes(file) == Some([8].as_slice()));
     Ok(())
 }

@@ -1,6 +1,6 @@
 //! A tree with its names, from tables.
 use cry_base::{FileId, FolderId, List, Mem, Node, Text};
-use folder_nodes::{FileRow, FolderRow, Names, Shape, name_ok};
+use folder_nodes::{FileRow, FolderRow, Names, OpenedNames, Shape, name_ok};
 use std::alloc::Global;
 
 /// The number of a folder or file, that of the folder that it is in, and its name.
@@ -18,6 +18,22 @@ fn text(alloc: Global, bytes: &[u8]) -> Mem<Text> {
     Ok(text)
 }
 
+/// Opens a node's name, where it is one, and a byte.
+pub(crate) fn open_name(
+    alloc: Global,
+    names: &mut OpenedNames,
+    node: Node,
+    name: &[u8],
+) -> Mem<()> {
+    let name = text(alloc, name)?;
+    let bytes = text(alloc, &[8])?;
+    names.reserve()?;
+    if name_ok(name.as_slice()) {
+        names.set(node, name, bytes);
+    }
+    Ok(())
+}
+
 /// Gives a node a name, where it is one, and two bytes.
 pub(crate) fn name_node(alloc: Global, names: &mut Names, node: Node, name: &[u8]) -> Mem<()> {
     let name = text(alloc, name)?;
@@ -29,7 +45,7 @@ pub(crate) fn name_node(alloc: Global, names: &mut Names, node: Node, name: &[u8
     Ok(())
 }
 
-fn folder_rows(alloc: Global, names: &mut Names, folders: &[Given]) -> Mem<List<FolderRow>> {
+fn folder_rows(alloc: Global, names: &mut OpenedNames, folders: &[Given]) -> Mem<List<FolderRow>> {
     let mut rows = List::new(alloc);
     for (id, parent, name) in folders {
         let id = FolderId(*id);
@@ -37,12 +53,12 @@ fn folder_rows(alloc: Global, names: &mut Names, folders: &[Given]) -> Mem<List<
             id,
             parent: *parent,
         })?;
-        name_node(alloc, names, Node::Folder(id), name)?;
+        open_name(alloc, names, Node::Folder(id), name)?;
     }
     Ok(rows)
 }
 
-fn file_rows(alloc: Global, names: &mut Names, files: &[Given]) -> Mem<List<FileRow>> {
+fn file_rows(alloc: Global, names: &mut OpenedNames, files: &[Given]) -> Mem<List<FileRow>> {
     let mut rows = List::new(alloc);
     for (id, folder, name) in files {
         let id = FileId(*id);
@@ -50,16 +66,17 @@ fn file_rows(alloc: Global, names: &mut Names, files: &[Given]) -> Mem<List<File
             id,
             folder: FolderId(*folder),
         })?;
-        name_node(alloc, names, Node::File(id), name)?;
+        open_name(alloc, names, Node::File(id), name)?;
     }
     Ok(rows)
 }
 
 /// The tree with these folders and files, where nine of each were ever made.
 pub(crate) fn tree_of(alloc: Global, folders: &[Given], files: &[Given]) -> Mem<Option<Tree>> {
-    let mut names = Names::new(alloc);
-    let folders = folder_rows(alloc, &mut names, folders)?;
-    let files = file_rows(alloc, &mut names, files)?;
+    let mut opened = OpenedNames::new(alloc);
+    let folders = folder_rows(alloc, &mut opened, folders)?;
+    let files = file_rows(alloc, &mut opened, files)?;
+    let names = Names::of(alloc, opened)?;
     let Some(shape) = Shape::restore(alloc, 9, 9, folders, files)? else {
         return Ok(None);
     };
