@@ -26,7 +26,7 @@ use crate::counted::NONE;
 use crate::owner::Owner;
 use chacha_seal::{Key, OwnerK};
 use commit_journal::{Journal, OpenFault, Opened, Placed};
-use cry_base::{Limits, ROOT};
+use cry_base::{Limits, Mem, ROOT};
 use cry_io::Disk;
 use folder_nodes::Names;
 use key_links::KeyRing;
@@ -48,6 +48,18 @@ fn has_root(state: &PublicState) -> bool
     state.shape().has_folder(ROOT)
 }
 
+/// What was opened, with the names put in order to be looked up.
+fn contents_of(alloc: Global, state: PublicState, view: OwnersView) -> Mem<Contents>
+    ensures state { IfOk result (λ contents. contents.state ≡ state) }
+    ensures ring { IfOk result (λ contents. contents.ring ≡ view.ring) }
+    ensures folders { IfOk result (λ contents. contents.names.folders ≡ view.names.folders) }
+    ensures files { IfOk result (λ contents. contents.names.files ≡ view.names.files) }
+{
+    let OwnersView { ring, names } = view;
+    let names = Names::of(alloc, names)?;
+    Ok(Contents { state, ring, names })
+}
+
 /// Follows the payloads of a log, looks for the root, and then opens all that the owner's key opens. The first of these that
 /// fails ends it.
 fn open_contents(alloc: Global, log: &[Placed], owner: Key<OwnerK>) -> Result<Contents, ClientFault>
@@ -64,9 +76,9 @@ fn open_contents(alloc: Global, log: &[Placed], owner: Key<OwnerK>) -> Result<Co
     if !has_root(&state) {
         return Err(ClientFault::Damaged { at: BEHIND_HEADER });
     }
-    let OwnersView { ring, names } = open_all(alloc, &state, log, owner)?;
-    let names = Names::of(alloc, names)?;
-    Ok(Contents { state, ring, names })
+    let view = open_all(alloc, &state, log, owner)?;
+    let contents = contents_of(alloc, state, view)?;
+    Ok(contents)
 }
 
 /// The fault of a log or of an owner's visits. Neither is that of a holder or a path.
