@@ -53,7 +53,7 @@ impl Key<NameRow> for NameKey {
     }
 }
 
-/// The lower half of the name's SipHash-1-3, which spreads names over all numbers whoever chose them.
+/// The lower half of the name's SipHash-1-3, which spreads names over all numbers unless they are sought out to meet.
 #[tactic(auto, unfolding(crate::specs::Digests::name_digest))]
 pub(crate) fn digest_of(name: &[u8]) -> u32
     ensures { result ≡ name_digest name.now }
