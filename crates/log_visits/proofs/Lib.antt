@@ -19,6 +19,7 @@ pub mod ReaderVisits
 pub mod Rights
 pub mod Sighted
 pub mod Sized
+pub mod SpotRows
 pub mod Spotted
 pub mod Starts
 pub mod Steps

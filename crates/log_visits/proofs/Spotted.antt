@@ -1,8 +1,6 @@
 -- The spots of the last records of a log.
 use Rattle.std.proofs.Common.{◌≡◌, ◌+◌, ◌*◌, ◌<◌, ◌≤◌, ℕ, zero, suc, Bool, true, false, cond, List, [], ◌∷◌, ◌++◌, get_or, length, take, map, Option, None, Some, refl, sym, ap, subst, ◌∙◌, append_assoc, arith}
-use Rattle.std.specs.HashMap.{HashMap, get}
 use Rattle.std.specs.List.{flat_map, sum_by}
-use Rattle.std.specs.Map.{lookup}
 use Rattle.std.proofs.lemmas.List.{length-map, take_all, take_more}
 use Rattle.std.specs.Prelude.{All}
 use Rattle.std.proofs.lemmas.List.Elements.{All-get_or}
@@ -17,58 +15,59 @@ use Rattle.record_format.specs.Plain.{PlainContent, plain_content, plain_payload
 use Rattle.record_format.specs.Sizes.{content_size}
 use Rattle.record_format.specs.declared.content.ContentRecord.{ContentRecord}
 use Rattle.record_format.specs.declared.link.LinkRecord.{LinkRecord}
-use Rattle.log_visits.specs.declared.record_spots.RecordSpot.{RecordSpot}
+use Rattle.log_visits.specs.declared.spot_table.RecordSpot.{RecordSpot}
+use Rattle.log_visits.specs.declared.spot_table.SpotTable.{SpotTable}
 use Rattle.log_visits.specs.Found.{content_here, is_of, is_sought, link_here}
 use Rattle.log_visits.specs.Indexed.{head_of_content, head_of_link, same_content_heads, same_link_heads}
 use Rattle.log_visits.specs.declared.last_contents.ContentHead.{ContentHead}
 use Rattle.log_visits.specs.declared.last_links.LinkHead.{LinkHead}
 use Rattle.log_visits.specs.Placing.{PlacedContent, PlacedLink, body_contents, body_links, contents_at, last_one, links_at}
 use Rattle.log_visits.specs.Spots.{IsAt, contents_in, links_in}
-use Rattle.log_visits.specs.Spotted.{HasContentSpot, HasLinkSpot, HasRecordAt, HasSpot, IsSpotOf, placed_contents, placed_links}
+use Rattle.log_visits.specs.Spotted.{HasContentSpot, HasLinkSpot, HasRecordAt, HasSpot, IsSpotOf, content_spot, link_spot, placed_contents, placed_links}
 use Rattle.log_visits.proofs.IndexKept.{log_with_next}
 use Rattle.log_visits.proofs.Lasts.{at_item, at_mapped, last_with_next, same_item}
 
 -- a record that is noted is the last one that has its head
-pub spot_noted : {H X S : Type 0} (same : H → H → Bool) (test : H → X → Bool) (records : PlainPlaced → List X) (log : List PlainPlaced) (old new : HashMap H RecordSpot S) (head : H) (spot : RecordSpot) (x : X) →
-    ((q : H) → test q x ≡ same head q) → ((q : H) → get same new q ≡ cond (same head q) (Some spot) (get same old q)) → HasRecordAt records log spot x → (q : H) (so_far : List X) →
-    HasSpot same test records log old q so_far → HasSpot same test records log new q (so_far ++ x ∷ [])
+pub spot_noted : {H X : Type 0} (same : H → H → Bool) (test : H → X → Bool) (records : PlainPlaced → List X) (log : List PlainPlaced) (old new : H → Option RecordSpot) (head : H) (spot : RecordSpot) (x : X) →
+    ((q : H) → test q x ≡ same head q) → ((q : H) → new q ≡ cond (same head q) (Some spot) (old q)) → HasRecordAt records log spot x → (q : H) (so_far : List X) →
+    HasSpot old test records log q so_far → HasSpot new test records log q (so_far ++ x ∷ [])
 spot_noted same test records log old new head spot x tests updates at q so_far has = record {
   found =
       let before = last_one (test q) so_far in
       subst (λ o. IsSpotOf records log o (last_one (test q) (so_far ++ x ∷ []))) (sym (updates q))
-      (subst (λ w. IsSpotOf records log (cond (same head q) (Some spot) (get same old q)) w) (sym (last_with_next (test q) so_far x ∙ ap (λ b. cond b (Some x) before) (tests q)))
-      (elim (same head q) as (λ b. IsSpotOf records log (cond b (Some spot) (get same old q)) (cond b (Some x) before)) [ true ↦ (x, at, refl) | false ↦ has.found ]));
+      (subst (λ w. IsSpotOf records log (cond (same head q) (Some spot) (old q)) w) (sym (last_with_next (test q) so_far x ∙ ap (λ b. cond b (Some x) before) (tests q)))
+      (elim (same head q) as (λ b. IsSpotOf records log (cond b (Some spot) (old q)) (cond b (Some x) before)) [ true ↦ (x, at, refl) | false ↦ has.found ]));
 }
 
 -- the records so far of a batch, and the next one
-pub more_spots : {H X S : Type 0} (same : H → H → Bool) (test : H → X → Bool) (records : PlainPlaced → List X) (log : List PlainPlaced) (spots : HashMap H RecordSpot S) (q : H) (so_far xs : List X) (i : ℕ) (x : X) →
-    IsAt xs i x → HasSpot same test records log spots q ((so_far ++ take i xs) ++ x ∷ []) → HasSpot same test records log spots q (so_far ++ take (i + 1) xs)
-more_spots same test records log spots q so_far xs i x at has =
+pub more_spots : {H X : Type 0} (test : H → X → Bool) (records : PlainPlaced → List X) (log : List PlainPlaced) (spots : H → Option RecordSpot) (q : H) (so_far xs : List X) (i : ℕ) (x : X) →
+    IsAt xs i x → HasSpot spots test records log q ((so_far ++ take i xs) ++ x ∷ []) → HasSpot spots test records log q (so_far ++ take (i + 1) xs)
+more_spots test records log spots q so_far xs i x at has =
     let within = slice_get_within xs i x at in
     let is : get_or xs i x ≡ x = get_or_from_slice_get xs i x x at in
-    subst (HasSpot same test records log spots q)
+    subst (HasSpot spots test records log q)
     (append_assoc so_far (take i xs) (x ∷ []) ∙ ap (λ ys. so_far ++ ys) (ap (λ z. take i xs ++ z ∷ []) (sym is) ∙ sym (take_more xs i x within)))
     has
 
 -- the records of the batches so far, and of the next one
-pub spots_more : {H X S : Type 0} (same : H → H → Bool) (test : H → X → Bool) (records : PlainPlaced → List X) (log : List PlainPlaced) (old new : HashMap H RecordSpot S) (i : ℕ) (p : PlainPlaced) → IsAt log i p →
-    ((q : H) (so_far : List X) → HasSpot same test records log old q so_far → HasSpot same test records log new q (so_far ++ records p)) →
-    ((q : H) → HasSpot same test records log old q (flat_map records (take i log))) → (q : H) → HasSpot same test records log new q (flat_map records (take (i + 1) log))
-spots_more same test records log old new i p at noted has q =
+pub spots_more : {H X : Type 0} (test : H → X → Bool) (records : PlainPlaced → List X) (log : List PlainPlaced) (old new : H → Option RecordSpot) (i : ℕ) (p : PlainPlaced) → IsAt log i p →
+    ((q : H) (so_far : List X) → HasSpot old test records log q so_far → HasSpot new test records log q (so_far ++ records p)) →
+    ((q : H) → HasSpot old test records log q (flat_map records (take i log))) → (q : H) → HasSpot new test records log q (flat_map records (take (i + 1) log))
+spots_more test records log old new i p at noted has q =
     let within = slice_get_within log i p at in
     let is : get_or log i p ≡ p = get_or_from_slice_get log i p p at in
-    subst (HasSpot same test records log new q)
+    subst (HasSpot new test records log q)
     (log_with_next records (take i log) p ∙ ap (flat_map records) (ap (λ z. take i log ++ z ∷ []) (sym is) ∙ sym (take_more log i p within)))
     (noted q (flat_map records (take i log)) (has q))
 
--- a map without entries has those of no records
-pub no_spots : {H X S : Type 0} (same : H → H → Bool) (test : H → X → Bool) (records : PlainPlaced → List X) (log : List PlainPlaced) (spots : HashMap H RecordSpot S) → spots.entries ≡ [] → (q : H) → HasSpot same test records log spots q []
+-- a table without spots has those of no records
+pub no_spots : {H X : Type 0} (test : H → X → Bool) (records : PlainPlaced → List X) (log : List PlainPlaced) (spots : H → Option RecordSpot) → ((q : H) → spots q ≡ None) → (q : H) → HasSpot spots test records log q []
 unfolding last_one
-no_spots same test records log spots none q = record { found = subst (λ es. IsSpotOf records log (lookup (same q) es) None) (sym none) refl }
+no_spots test records log spots none q = record { found = subst (λ o. IsSpotOf records log o None) (sym (none q)) refl }
 
-pub spot_found : {H X S : Type 0} (same : H → H → Bool) (test : H → X → Bool) (records : PlainPlaced → List X) (log : List PlainPlaced) (spots : HashMap H RecordSpot S) (head : H) (xs : List X) (o : Option RecordSpot) →
-    HasSpot same test records log spots head xs → get same spots head ≡ o → IsSpotOf records log o (last_one (test head) xs)
-spot_found same test records log spots head xs o has is = subst (λ o. IsSpotOf records log o (last_one (test head) xs)) is has.found
+pub spot_found : {H X : Type 0} (test : H → X → Bool) (records : PlainPlaced → List X) (log : List PlainPlaced) (spots : H → Option RecordSpot) (head : H) (xs : List X) (o : Option RecordSpot) →
+    HasSpot spots test records log head xs → spots head ≡ o → IsSpotOf records log o (last_one (test head) xs)
+spot_found test records log spots head xs o has is = subst (λ o. IsSpotOf records log o (last_one (test head) xs)) is has.found
 
 -- ---- the records of a batch
 
@@ -235,9 +234,9 @@ all_links placed items i is past =
     take_all i (placed_links (plain_placed placed)) (omega (arith, past, long))
 
 -- the spot of the next link of a batch is noted
-pub link_spotted : {S : Type 0} (placed : Placed) (items : List LinkRecord) (log : List PlainPlaced) (old new : HashMap LinkHead RecordSpot S) (head : LinkHead) (spot : RecordSpot) (i : ℕ) (d : LinkRecord) → items ≡ links_in (plain_body placed.body) →
+pub link_spotted : (placed : Placed) (items : List LinkRecord) (log : List PlainPlaced) (old new : SpotTable LinkHead) (head : LinkHead) (spot : RecordSpot) (i : ℕ) (d : LinkRecord) → items ≡ links_in (plain_body placed.body) →
     IsAt log spot.position (plain_placed placed) → spot.index ≡ i → i < length items → head ≡ head_of_link (get_or items i d) →
-    ((q : LinkHead) → get same_link_heads new q ≡ cond (same_link_heads head q) (Some spot) (get same_link_heads old q)) → (q : LinkHead) (so_far : List PlacedLink) →
+    ((q : LinkHead) → link_spot new q ≡ cond (same_link_heads head q) (Some spot) (link_spot old q)) → (q : LinkHead) (so_far : List PlacedLink) →
     HasLinkSpot log old q (so_far ++ take i (placed_links (plain_placed placed))) → HasLinkSpot log new q (so_far ++ take (i + 1) (placed_links (plain_placed placed)))
 link_spotted placed items log old new head spot i d is at index within head_is updates q so_far has =
     let xs = placed_links (plain_placed placed) in
@@ -245,8 +244,8 @@ link_spotted placed items log old new head spot i d is at index within head_is u
     let here : IsAt (links_in (plain_body placed.body)) i l = subst (λ (ls : List LinkRecord). IsAt ls i l) is (slice_get-get_or items i d within) in
     let found = link_placed placed i l here in
     let x = link_here placed.batch found.0 l in
-    more_spots same_link_heads is_sought placed_links log new q so_far xs i x found.1
-    (spot_noted same_link_heads is_sought placed_links log old new head spot x (λ h. ap (λ k. same_link_heads k h) (sym head_is)) updates
+    more_spots is_sought placed_links log (link_spot new) q so_far xs i x found.1
+    (spot_noted same_link_heads is_sought placed_links log (link_spot old) (link_spot new) head spot x (λ h. ap (λ k. same_link_heads k h) (sym head_is)) updates
     (plain_placed placed, at, subst (λ n. IsAt xs n x) (sym index) found.1) q (so_far ++ take i xs) has)
 
 contents_of_batch : (placed : Placed) → length (placed_contents (plain_placed placed)) ≡ length (contents_in (plain_body placed.body))
@@ -266,9 +265,9 @@ all_contents placed items i is past =
     take_all i (placed_contents (plain_placed placed)) (omega (arith, past, long, plain))
 
 -- the spot of the next content of a batch is noted
-pub content_spotted : {S : Type 0} (placed : Placed) (items : List ContentRecord) (log : List PlainPlaced) (old new : HashMap ContentHead RecordSpot S) (head : ContentHead) (spot : RecordSpot) (i : ℕ) (c : ContentRecord) →
+pub content_spotted : (placed : Placed) (items : List ContentRecord) (log : List PlainPlaced) (old new : SpotTable ContentHead) (head : ContentHead) (spot : RecordSpot) (i : ℕ) (c : ContentRecord) →
     map plain_content items ≡ contents_in (plain_body placed.body) → IsAt log spot.position (plain_placed placed) → spot.index ≡ i → i < length items → c ≡ get_or items i c → head ≡ head_of_content c →
-    ((q : ContentHead) → get same_content_heads new q ≡ cond (same_content_heads head q) (Some spot) (get same_content_heads old q)) → (q : ContentHead) (so_far : List PlacedContent) →
+    ((q : ContentHead) → content_spot new q ≡ cond (same_content_heads head q) (Some spot) (content_spot old q)) → (q : ContentHead) (so_far : List PlacedContent) →
     HasContentSpot log old q (so_far ++ take i (placed_contents (plain_placed placed))) → HasContentSpot log new q (so_far ++ take (i + 1) (placed_contents (plain_placed placed)))
 content_spotted placed items log old new head spot i c is at index within item head_is updates q so_far has =
     let xs = placed_contents (plain_placed placed) in
@@ -276,6 +275,6 @@ content_spotted placed items log old new head spot i c is at index within item h
     let here : IsAt (contents_in (plain_body placed.body)) i (plain_content c) = subst (λ (cs : List PlainContent). IsAt cs i (plain_content c)) is (at_mapped plain_content items i c (at_item items i c within item)) in
     let found = content_placed placed i (plain_content c) here in
     let x = content_here placed.batch found.0 (plain_content c) in
-    more_spots same_content_heads test placed_contents log new q so_far xs i x found.1
-    (spot_noted same_content_heads test placed_contents log old new head spot x (λ h. ap (λ k. same_content_heads k h) (sym head_is)) updates
+    more_spots test placed_contents log (content_spot new) q so_far xs i x found.1
+    (spot_noted same_content_heads test placed_contents log (content_spot old) (content_spot new) head spot x (λ h. ap (λ k. same_content_heads k h) (sym head_is)) updates
     (plain_placed placed, at, subst (λ n. IsAt xs n x) (sym index) found.1) q (so_far ++ take i xs) has)

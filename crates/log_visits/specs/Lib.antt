@@ -11,6 +11,7 @@ pub mod Opening
 pub mod OwnPaths
 pub mod Placing
 pub mod Sights
+pub mod SpotRows
 pub mod Spots
 pub mod Spotted
 pub mod Verdict

@@ -4,18 +4,16 @@ ghost use Rattle.commit_journal.specs.Places.{IsStanding};
 
 use crate::ClientFault;
 use crate::last_contents::ContentHead;
-use crate::last_links::{FoundLink, head_sought, is_present};
-use crate::number_hasher::ByNumber;
+use crate::last_links::{FoundLink, LINKS_OF_FOLDER, head_sought, is_present};
 use crate::record_spots::{
     ContentSpots, LinkSpots, content_at, link_at, note_contents_at, note_links_at,
 };
 use crate::records::{FoundContent, Records};
-use crate::row_counts::{most_contents, most_links};
+use crate::spot_table::Rows;
 use commit_journal::Placed;
 use cry_base::{Edge, Mem};
 use public_fold::PublicState;
 use std::alloc::Global;
-use std::collections::HashMap;
 use std::marker::Model;
 
 /// A log whose last link and last content of each head are found without a walk over it. It names their spots, since the log holds
@@ -47,16 +45,8 @@ impl<'a> IndexedLog<'a> {
         requires { All IsStanding log.now }
         ensures { IfOk result (λ indexed. indexed ≡ log.now) }
     {
-        let mut links = HashMap::with_capacity_and_hasher(
-            alloc,
-            most_links(state),
-            ByNumber::new(),
-        )?;
-        let mut contents = HashMap::with_capacity_and_hasher(
-            alloc,
-            most_contents(state),
-            ByNumber::new(),
-        )?;
+        let mut links = LinkSpots::new(alloc, Rows::of(state, LINKS_OF_FOLDER))?;
+        let mut contents = ContentSpots::new(alloc, Rows::of(state, 1))?;
         for (position, placed) in log.iter().enumerate() {
             note_links_at(&mut links, position, placed)?;
             note_contents_at(&mut contents, position, placed)?;
@@ -83,7 +73,7 @@ impl<'a> Records<()> for IndexedLog<'a> {
     ghost faults = { λ _. 0 };
 
     fn link_for(&self, state: &PublicState, edge: &Edge) -> Option<FoundLink> {
-        let found = link_at(self.log, self.links.get(&head_sought(edge))?);
+        let found = link_at(self.log, &self.links.get(&head_sought(edge))?);
         if !is_present(state, edge, &found.link) {
             return None;
         }
@@ -100,7 +90,7 @@ impl<'a> Records<()> for IndexedLog<'a> {
         let Some(spot) = self.contents.get(&ContentHead { kind, object }) else {
             return Ok(None);
         };
-        Ok(Some(content_at(alloc, self.log, spot)?))
+        Ok(Some(content_at(alloc, self.log, &spot)?))
     }
 
     ghost same = { λ _. tt };

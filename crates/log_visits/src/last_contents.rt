@@ -14,11 +14,12 @@ ghost use Rattle.record_format.specs.Plain.{plain_content};
 ghost use Rattle.record_format.specs.Sizes.{content_size};
 
 use crate::number_hasher::ByNumber;
+use crate::spot_table::Numbered;
 use crate::visiting::sealing_role;
 use commit_journal::{Body, Past, Placed, content_place};
 use cry_base::Mem;
 use public_fold::PublicState;
-use record_format::{CONTENT_FRAME_LEN, ContentRecord};
+use record_format::{CONTENT_FRAME_LEN, ContentRecord, FILE_TEXT, FOLDER_NAME};
 use std::collections::HashMap;
 
 /// What a content is looked for by.
@@ -26,6 +27,24 @@ use std::collections::HashMap;
 pub(crate) struct ContentHead {
     pub(crate) kind: u8,
     pub(crate) object: u32,
+}
+
+impl Numbered for ContentHead {
+    ghost use Rattle.log_visits.specs.Hashing.{content_row};
+    ghost use Rattle.std.proofs.Common.{rules};
+
+    ghost row_of = { content_row };
+
+    fn row(&self, files_from: usize) -> usize {
+        match self.kind {
+            FOLDER_NAME => self.object as usize,
+            FILE_TEXT => files_from.saturating_add(self.object as usize),
+            // A holder's key has no row.
+            _ => usize::MAX,
+        }
+    }
+
+    ghost is_same = { Prim.search rules };
 }
 
 /// Where a content stands, without its bytes.

@@ -12,6 +12,7 @@ ghost use Rattle.role_graph.specs.PublicStore.{public_store};
 ghost use Rattle.role_graph.specs.Roles.{role_id};
 
 use crate::number_hasher::ByNumber;
+use crate::spot_table::Numbered;
 use commit_journal::{Body, Placed, link_place};
 use cry_base::{Edge, Mem, Role, Serial};
 use key_links::{source_with, target_with};
@@ -47,6 +48,28 @@ impl Hash for LinkHead {
         self.kind.hash(state);
         id.hash(state);
     }
+}
+
+/// How many rows of a table a folder has: one for each of seven kinds of links, and one that a grant may have.
+pub(crate) const LINKS_OF_FOLDER: usize = 8;
+
+impl Numbered for LinkHead {
+    ghost use Rattle.log_visits.specs.Hashing.{link_row};
+    ghost use Rattle.std.proofs.Common.{rules};
+
+    ghost row_of = { link_row };
+
+    fn row(&self, files_from: usize) -> usize {
+        let (_, id) = ids_of(self);
+        // A file has one link.
+        if self.kind == 9 {
+            files_from.saturating_add(id as usize)
+        } else {
+            LINKS_OF_FOLDER * id as usize + self.kind as usize % LINKS_OF_FOLDER
+        }
+    }
+
+    ghost is_same = { Prim.search rules };
 }
 
 /// The ids of a head's ends, that by which it is looked for behind the other: of a folder's link to its parent the folder's, of

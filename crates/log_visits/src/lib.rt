@@ -15,6 +15,7 @@ mod record_spots;
 mod records;
 mod row_counts;
 mod sights;
+mod spot_table;
 mod text_forms;
 mod texts;
 mod visit_list;

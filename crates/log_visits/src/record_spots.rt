@@ -12,26 +12,18 @@ ghost use Rattle.log_visits.specs.Spotted.{ContentsAreSpotted, HasRecordAt, Link
 
 use crate::last_contents::{self, ContentHead};
 use crate::last_links::{self, FoundLink, LinkHead};
-use crate::number_hasher::ByNumber;
 use crate::records::FoundContent;
+use crate::spot_table::{RecordSpot, SpotTable};
 use commit_journal::{Body, Placed, content_place, link_place};
 use cry_base::{Mem, Text};
 use record_format::{ContentRecord, LinkRecord};
 use std::alloc::Global;
-use std::collections::HashMap;
-
-/// Where a record stands: the position of its batch in the log, and how many of its kind stand before it in the batch.
-#[derive(Clone, Copy)]
-pub(crate) struct RecordSpot {
-    pub(crate) position: usize,
-    pub(crate) index: usize,
-}
 
 /// The spot of the last link of each edge.
-pub(crate) type LinkSpots = HashMap<LinkHead, RecordSpot, ByNumber>;
+pub(crate) type LinkSpots = SpotTable<LinkHead>;
 
 /// The spot of the last content of each head.
-pub(crate) type ContentSpots = HashMap<ContentHead, RecordSpot, ByNumber>;
+pub(crate) type ContentSpots = SpotTable<ContentHead>;
 
 fn links_of(placed: &Placed) -> &[LinkRecord]
     ensures { result.now ≡ spec.links_in (plain_body placed.now.body) }
@@ -58,7 +50,7 @@ pub(crate) fn note_links_at(spots: &mut LinkSpots, position: usize, placed: &Pla
 {
     let mut index = 0;
     for link in links_of(placed) {
-        spots.insert(last_links::head_of(link), RecordSpot { position, index })?;
+        spots.insert(last_links::head_of(link), RecordSpot::of(position, index)?)?;
         index += 1;
     }
     Ok(())
@@ -77,7 +69,7 @@ pub(crate) fn note_contents_at(
     for content in contents_of(placed) {
         spots.insert(
             last_contents::head_of(content),
-            RecordSpot { position, index },
+            RecordSpot::of(position, index)?,
         )?;
         index += 1;
     }
@@ -91,13 +83,13 @@ pub(crate) fn link_at(log: &[Placed], spot: &RecordSpot) -> FoundLink
     ensures { (l : PlacedLink) → HasRecordAt placed_links (map plain_placed log.now) spot.now l
         → link_here result.batch result.at result.link ≡ l }
 {
-    let placed = &log[spot.position];
-    let Some(link) = links_of(placed).get(spot.index) else {
+    let placed = &log[spot.position as usize];
+    let Some(link) = links_of(placed).get(spot.index as usize) else {
         unreachable!();
     };
     FoundLink {
         batch: placed.batch,
-        at: link_place(placed, spot.index),
+        at: link_place(placed, spot.index as usize),
         link: *link,
     }
 }
@@ -125,13 +117,13 @@ pub(crate) fn content_at(alloc: Global, log: &[Placed], spot: &RecordSpot) -> Me
         → IfOk result (λ found. plain_content_found found ≡ c) }
     ensures form { IfOk result (λ found. IsContent (plain_content found.content)) }
 {
-    let placed = &log[spot.position];
-    let Some(content) = contents_of(placed).get(spot.index) else {
+    let placed = &log[spot.position as usize];
+    let Some(content) = contents_of(placed).get(spot.index as usize) else {
         unreachable!();
     };
     Ok(FoundContent {
         batch: placed.batch,
-        at: content_place(placed, spot.index),
+        at: content_place(placed, spot.index as usize),
         content: copied(alloc, content)?,
     })
 }

@@ -1,4 +1,4 @@
-//! How many links and contents an index has room for, and how many it may keep.
+//! How many links and contents an index may keep.
 ghost use Rattle.std.specs.Prelude.{◌≡◌, ◌-◌, ◌^◌, min};
 ghost use Rattle.log_visits.specs.Indexed as spec;
 
@@ -9,7 +9,7 @@ const FEW: usize = 64;
 
 /// At least as many links as the edges that stand have: of a folder five within it and two with its parent, of a file and of a grant
 /// one each.
-pub(crate) fn most_links(state: &PublicState) -> usize
+fn most_links(state: &PublicState) -> usize
     ensures { result ≡ min (spec.most_links state.now) (2 ^ 64 - 1) }
 {
     let folders = state.shape().folder_count();
@@ -22,7 +22,7 @@ pub(crate) fn most_links(state: &PublicState) -> usize
 }
 
 /// As many contents as what stands has: the name of each folder, the text of each file, the key of each holder.
-pub(crate) fn most_contents(state: &PublicState) -> usize
+fn most_contents(state: &PublicState) -> usize
     ensures { result ≡ min (spec.most_contents state.now) (2 ^ 64 - 1) }
 {
     let folders = state.shape().folder_count();

@@ -3,9 +3,8 @@ use Rattle.std.specs.List.{flat_map}
 use Rattle.std.proofs.lemmas.List.{length-map, take_all}
 use Rattle.commit_journal.specs.Placed.{PlainPlaced, plain_placed}
 use Rattle.log_visits.specs.Found.{is_of, is_sought}
-use Rattle.log_visits.specs.Indexed.{same_content_heads, same_link_heads}
 use Rattle.log_visits.specs.Placing.{log_contents, log_links}
-use Rattle.log_visits.specs.Spotted.{HasContentSpot, HasLinkSpot, placed_contents, placed_links}
+use Rattle.log_visits.specs.Spotted.{HasContentSpot, HasLinkSpot, content_spot, link_spot, placed_contents, placed_links}
 use Rattle.log_visits.proofs.Lasts.{at_item, at_mapped}
 use Rattle.log_visits.proofs.Spotted.{no_spots, spots_more}
 use Rattle.log_visits.proofs.indexed_log.IndexedLog.of.Goals as goal
@@ -14,8 +13,8 @@ pub loop-position-init : goal.loop-position-init
 loop-position-init c =
     let log = map plain_placed c.args.log.now in
     record {
-      links = no_spots same_link_heads is_sought placed_links log c.in_ok-links.links c.in_ok-links.ensures.empty;
-      contents = no_spots same_content_heads (λ h. is_of h.kind h.object) placed_contents log c.in_ok-contents.contents c.in_ok-contents.ensures.empty;
+      links = no_spots is_sought placed_links log (link_spot c.in_ok-links.links) c.in_ok-links.ensures;
+      contents = no_spots (λ h. is_of h.kind h.object) placed_contents log (content_spot c.in_ok-contents.contents) c.in_ok-contents.ensures;
     }
 
 pub loop-position-preserved : goal.loop-position-preserved
@@ -25,8 +24,8 @@ loop-position-preserved c =
     let placed = c.index-log-position.result in
     let at = at_mapped plain_placed c.args.log.now i placed (at_item c.args.log.now i placed c.loop-position-test.true c.index-log-position.is) in
     record {
-      links = spots_more same_link_heads is_sought placed_links log c.loop-position.links c.note_links_at.new.spots i (plain_placed placed) at (c.in_ok-note_links_at.ensures log at) c.loop-position.invariant.links;
-      contents = spots_more same_content_heads (λ h. is_of h.kind h.object) placed_contents log c.loop-position.contents c.note_contents_at.new.spots i (plain_placed placed) at (c.in_ok-note_contents_at.ensures log at)
+      links = spots_more is_sought placed_links log (link_spot c.loop-position.links) (link_spot c.note_links_at.new.spots) i (plain_placed placed) at (c.in_ok-note_links_at.ensures log at) c.loop-position.invariant.links;
+      contents = spots_more (λ h. is_of h.kind h.object) placed_contents log (content_spot c.loop-position.contents) (content_spot c.note_contents_at.new.spots) i (plain_placed placed) at (c.in_ok-note_contents_at.ensures log at)
           c.loop-position.invariant.contents;
     }
 
