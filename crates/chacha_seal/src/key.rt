@@ -4,6 +4,7 @@ ghost use Rattle.std.specs.Prelude.{◌≡◌, length, IfSome};
 use crate::derived::Derived;
 use crate::{HolderK, Nonce, OwnerK};
 use cry_base::{HolderId, Serial};
+use hmac_seal::tags_equal;
 use std::alloc::Global;
 use std::cell::OnceCell;
 use std::fmt;
@@ -11,7 +12,7 @@ use std::marker::{Model, PhantomData};
 
 /// 32 secret bytes of one kind, with the number of the folder, file or holder whose key they are (0
 /// for the owner's), and with the key's serial. What it seals and tags with is derived for each use, unless the key was told to keep
-/// that: it is four times as large as the key, and most keys of a store open one record.
+/// that, which is eight times as large as the secret bytes.
 #[derive(Drop)]
 pub struct Key<K> {
     id: u32,
@@ -93,7 +94,7 @@ impl<K> Key<K> {
         ensures { IfSome result (λ derived. derived.now ≡ self.now.bytes) }
     {
         let derived = self.derived.get()?.as_ref();
-        if *derived.bytes() == self.bytes {
+        if tags_equal(derived.bytes(), &self.bytes) {
             Some(derived)
         } else {
             None

@@ -1,4 +1,4 @@
--- Where the maps of an index look for a head. What they answer doesn't hang on it.
+-- Where the maps and the tables of an index look for a head. What they answer doesn't hang on it.
 use Rattle.std.specs.Prelude.{ℕ, ◌+◌, ◌-◌, ◌*◌, ◌/◌, ◌%◌, ◌^◌, ◌==◌, if◌then◌else◌, min}
 use Rattle.log_visits.specs.declared.last_contents.ContentHead.{ContentHead}
 use Rattle.log_visits.specs.declared.last_links.LinkHead.{LinkHead}

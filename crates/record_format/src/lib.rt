@@ -19,6 +19,6 @@ pub use fault::PayloadFault;
 pub use laws::{spelling_has_its_size, spelling_is_prefix_free, spelling_reads_back};
 pub use link::{LINK_LEN, LinkRecord, link_header};
 pub use note::Note;
-pub use payload::{Payload, payload_len};
+pub use payload::{Payload, contents_len, links_offset, payload_len};
 pub use reading::read_payload;
 pub use writing::{put_payload, write_payload};

@@ -35,7 +35,8 @@ fn note_len(note: &Note) -> u64
     }
 }
 
-fn contents_len(contents: &[ContentRecord]) -> u64
+/// The number of bytes of these contents' spelling: of each a head, the text and a tag.
+pub fn contents_len(contents: &[ContentRecord]) -> u64
     requires { sum_by (λ c. 58 + length c.cipher.items) contents.now < 2 ^ 64 }
     ensures { result ≡ sum_by (λ c. 58 + length c.cipher.items) contents.now }
 {
@@ -45,6 +46,13 @@ fn contents_len(contents: &[ContentRecord]) -> u64
         .sum()
 }
 
+/// How many bytes of a payload's spelling stand before its links: the note and two counts.
+pub fn links_offset(note: &Note) -> u64
+    ensures { result ≡ note_size note.now + 8 }
+{
+    note_len(note) + 8
+}
+
 /// The number of bytes of the payload's spelling.
 pub fn payload_len(payload: &Payload) -> u64
     requires { IsSpellable (plain_payload payload.now) }
@@ -52,5 +60,5 @@ pub fn payload_len(payload: &Payload) -> u64
     ensures spelled { result ≡ length (spell_payload (plain_payload payload.now)) }
 {
     let links = LINK_LEN * payload.links.as_slice().len() as u64;
-    note_len(&payload.note) + 8 + links + contents_len(payload.contents.as_slice())
+    links_offset(&payload.note) + links + contents_len(payload.contents.as_slice())
 }

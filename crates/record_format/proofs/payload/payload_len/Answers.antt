@@ -10,8 +10,8 @@ contents_len-requires c =
     let small = contents_small (map plain_content contents) c.requires.contents in
     rw c.as_slice-2.ensures (omega (arith, small, contents_plain contents, length-map contents plain_content, c.requires.content_count))
 
-pub overflow_add-result-3 : goal.overflow_add-result-3
-overflow_add-result-3 c =
+pub overflow_add-result-2 : goal.overflow_add-result-2
+overflow_add-result-2 c =
     let contents = c.args.payload.now.contents.items in
     let small = contents_small (map plain_content contents) c.requires.contents in
     let len = rw c.as_slice-2.ensures at c.contents_len.ensures in
