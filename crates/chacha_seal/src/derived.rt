@@ -14,6 +14,58 @@ const FOR_CHECK: u8 = 4;
 
 const FOR_OWNER_TAG: u8 = 5;
 
+/// The two keys that a key's bytes derive, one for the stream and one for tags. Contracts see the bytes.
+#[derive(Drop)]
+pub(crate) struct SealKeys {
+    bytes: [u8; 32],
+    cipher: [u8; 32],
+    tag: [u8; 32],
+}
+
+impl Model for SealKeys {
+    ghost use Rattle.std.specs.Prelude.{◌≡◌, ℕ, List};
+    ghost use Rattle.chacha_seal.specs.Sealing.{cipher_key, tag_key};
+
+    ghost Value = { List ℕ };
+
+    ghost view = { λ keys. keys.bytes };
+
+    ghost invariant = { λ keys. (keys.cipher ≡ cipher_key keys.bytes) × (keys.tag ≡ tag_key keys.bytes) };
+}
+
+impl SealKeys {
+    /// Derives both keys from one start, since HMAC takes the key in first.
+    #[tactic(auto, unfolding(crate::specs::Sealing::cipher_key, crate::specs::Sealing::tag_key))]
+    pub(crate) fn of(bytes: &[u8; 32]) -> SealKeys
+        ensures { result ≡ bytes.now }
+    {
+        let key = Hmac::start(bytes);
+        SealKeys {
+            bytes: *bytes,
+            cipher: key.end_with(&[FOR_CIPHER], &[]),
+            tag: key.end_with(&[FOR_TAG], &[]),
+        }
+    }
+
+    /// The bytes that they were derived of.
+    pub(crate) fn bytes(&self) -> &[u8; 32]
+        ensures { result.now ≡ self.now }
+    {
+        &self.bytes
+    }
+
+    /// What the key seals with, its tags begun.
+    pub(crate) fn begun(&self) -> Derived
+        ensures { result ≡ self.now }
+    {
+        Derived {
+            bytes: self.bytes,
+            cipher: self.cipher,
+            tag: Hmac::start(&self.tag),
+        }
+    }
+}
+
 /// What the bytes of a key are sealed with. Contracts see the bytes.
 #[derive(Drop)]
 pub(crate) struct Derived {
@@ -35,19 +87,6 @@ impl Model for Derived {
 }
 
 impl Derived {
-    /// Derives both keys from one start, since HMAC takes the key in first.
-    #[tactic(auto, unfolding(crate::specs::Sealing::cipher_key, crate::specs::Sealing::tag_key))]
-    pub(crate) fn of(bytes: &[u8; 32]) -> Derived
-        ensures { result ≡ bytes.now }
-    {
-        let key = Hmac::start(bytes);
-        Derived {
-            bytes: *bytes,
-            cipher: key.end_with(&[FOR_CIPHER], &[]),
-            tag: Hmac::start(&key.end_with(&[FOR_TAG], &[])),
-        }
-    }
-
     /// The bytes that it was derived of.
     pub(crate) fn bytes(&self) -> &[u8; 32]
         ensures { result.now ≡ self.now }

@@ -1,24 +1,22 @@
 //! Keys, and keys whose serial isn't settled yet.
-ghost use Rattle.std.specs.Prelude.{◌≡◌, length, IfSome};
+ghost use Rattle.std.specs.Prelude.{◌≡◌, length};
 
-use crate::derived::Derived;
+use crate::kept::Kept;
 use crate::{HolderK, Nonce, OwnerK};
 use cry_base::{HolderId, Serial};
-use hmac_seal::tags_equal;
 use std::alloc::Global;
-use std::cell::OnceCell;
+use std::cell::Cell;
 use std::fmt;
 use std::marker::{Model, PhantomData};
 
 /// 32 secret bytes of one kind, with the number of the folder, file or holder whose key they are (0
 /// for the owner's), and with the key's serial. What it seals and tags with is derived for each use, unless the key was told to keep
-/// that, which is eight times as large as the secret bytes.
-#[derive(Drop)]
+/// that.
 pub struct Key<K> {
     id: u32,
     serial: Serial,
     bytes: [u8; 32],
-    derived: OnceCell<Box<Derived>>,
+    kept: Cell<Kept>,
     kind: PhantomData<K>,
 }
 
@@ -59,7 +57,7 @@ impl<K> Key<K> {
             id,
             serial,
             bytes,
-            derived: OnceCell::new(),
+            kept: Cell::new(Kept::Nothing),
             kind: PhantomData,
         }
     }
@@ -80,25 +78,24 @@ impl<K> Key<K> {
 
     /// Derives what it seals with, and keeps that for all later uses. Where there is no memory, each use derives it anew.
     pub fn keep_derived(&self, alloc: Global) {
-        if self.derived.get().is_some() {
-            return;
-        }
-        if let Ok(derived) = Box::new(alloc, Derived::of(&self.bytes)) {
-            let _ = self.derived.set(derived);
-        }
+        let kept = self.take_kept().with_derived(alloc, &self.bytes);
+        self.put_back(kept);
     }
 
-    /// What it seals with, where that is kept. No contract says what a cell keeps, so what was derived of other bytes wouldn't count:
-    /// none ever is.
-    pub(crate) fn derived(&self) -> Option<&Derived>
-        ensures { IfSome result (λ derived. derived.now ≡ self.now.bytes) }
-    {
-        let derived = self.derived.get()?.as_ref();
-        if tags_equal(derived.bytes(), &self.bytes) {
-            Some(derived)
-        } else {
-            None
-        }
+    /// The same, but keeps what tags begin with, which is two thirds of it, from the second call on.
+    pub fn keep_seal_keys(&self, alloc: Global) {
+        let kept = self.take_kept().with_use(alloc, &self.bytes);
+        self.put_back(kept);
+    }
+
+    /// Takes out what is kept, to be put back behind its use.
+    pub(crate) fn take_kept(&self) -> Kept {
+        self.kept.replace(Kept::Nothing)
+    }
+
+    /// Keeps it.
+    pub(crate) fn put_back(&self, kept: Kept) {
+        self.kept.set(kept);
     }
 
     /// The secret bytes.
@@ -107,6 +104,20 @@ impl<K> Key<K> {
         ensures long { length self.now.bytes ≡ 32 }
     {
         &self.bytes
+    }
+}
+
+// By hand, so that a drop of whatever has keys in it tells nothing of what they keep.
+impl<K> Drop for Key<K> {
+    fn drop(self) {
+        let Key {
+            id: _,
+            serial: _,
+            bytes: _,
+            kept,
+            kind: _,
+        } = self;
+        drop(kept);
     }
 }
 

@@ -3,6 +3,7 @@
 
 mod counter;
 mod derived;
+mod kept;
 mod key;
 mod log_key;
 mod nonce;

@@ -29,10 +29,13 @@ pub fn open_in_place<K>(
         → OnOk result (text.new ≡ plain) }
     ensures bad_tag { OnErr result (text.new ≡ text.old) }
 {
-    match key.derived() {
+    let kept = key.take_kept();
+    let opened = match kept.derived(key.bytes()) {
         Some(derived) => open_with(derived, nonce, header, text, tag),
-        None => open_with(&Derived::of(key.bytes()), nonce, header, text, tag),
-    }
+        None => open_with(&kept.derive(key.bytes()), nonce, header, text, tag),
+    };
+    key.put_back(kept);
+    opened
 }
 
 /// The same, by what was derived from the key.

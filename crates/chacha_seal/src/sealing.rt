@@ -13,10 +13,13 @@ pub fn seal_in_place<K>(key: &Key<K>, nonce: Nonce, header: &[u8], text: &mut [u
     ensures tag { result ≡ seal_tag key.now.bytes header.now text.new }
 {
     let nonce = nonce.spend();
-    match key.derived() {
+    let kept = key.take_kept();
+    let tag = match kept.derived(key.bytes()) {
         Some(derived) => seal_with(derived, nonce, header, text),
-        None => seal_with(&Derived::of(key.bytes()), nonce, header, text),
-    }
+        None => seal_with(&kept.derive(key.bytes()), nonce, header, text),
+    };
+    key.put_back(kept);
+    tag
 }
 
 /// The same, by what was derived from the key.

@@ -2,6 +2,7 @@
 ghost use Rattle.std.specs.Prelude.{◌≡◌, ℕ, List, [], ◌++◌};
 ghost use Rattle.hmac_seal.specs.Hmac.{hmac};
 ghost use Rattle.hmac_seal.specs.Holding.{Holds};
+ghost use Rattle.sha2.specs.Hashers.{Holds256};
 
 use crate::block::{key_block, padded};
 use sha2::{Digest, Sha256};
@@ -64,7 +65,7 @@ impl Hmac {
     {
         let mut inner = same(&self.inner);
         inner.update(a);
-        inner.update(b);
+        extend(&mut inner, b);
         let mut outer = same(&self.outer);
         outer.update(inner.finalize());
         outer.finalize()
@@ -78,5 +79,14 @@ fn same(hash: &Sha256) -> Sha256
     match hash.clone() {
         Ok(copy) => copy,
         Err(_) => unreachable!(),
+    }
+}
+
+/// Adds the part to what is hashed. An update costs as much where there is nothing to add.
+fn extend(hash: &mut Sha256, part: &[u8])
+    ensures { (message : List ℕ) → Holds256 hash.old message → Holds256 hash.new (message ++ part.now) }
+{
+    if !part.is_empty() {
+        hash.update(part);
     }
 }

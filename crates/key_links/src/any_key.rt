@@ -90,6 +90,18 @@ impl AnyKey {
         }
     }
 
+    /// Keeps what it opens with for all later uses, where there is memory: of a kind whose keys mostly open one record all of it from
+    /// the second on, since that is three times as large.
+    pub(crate) fn keep_for_opening(&self, alloc: Global) {
+        match self {
+            AnyKey::Clear(key) => key.keep_seal_keys(alloc),
+            AnyKey::Back(key) => key.keep_seal_keys(alloc),
+            AnyKey::Data(key) => key.keep_seal_keys(alloc),
+            AnyKey::File(key) => key.keep_seal_keys(alloc),
+            _ => self.keep_derived(alloc),
+        }
+    }
+
     /// Its place among others, by which it is looked up.
     #[tactic(auto, unfolding(crate::specs::Ringed::key_rank))]
     pub(crate) fn place(&self) -> Place

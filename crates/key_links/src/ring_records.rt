@@ -30,7 +30,7 @@ impl KeyRing {
         ensures { (from to : KeyParts) → key_of self.now edge.now.from ≡ Some from → key_of self.now edge.now.to ≡ Some to
             → result ≡ sealed_link edge.now.kind from to nonce }
     {
-        let from = self.used_key(edge.from);
+        let from = self.sealing_key(edge.from);
         link_any(edge.kind, from, self.key(edge.to), nonce)
     }
 
@@ -52,7 +52,7 @@ impl KeyRing {
         ensures spare { self.old.spare ≤ self.new.spare + 1 }
         ensures bad_tag { OnErr result (self.new ≡ self.old) }
     {
-        let key = follow_any(self.used_key(source_role(link)), link)?;
+        let key = follow_any(self.opening_key(source_role(link)), link)?;
         self.keep(key);
         Ok(())
     }
@@ -68,7 +68,7 @@ impl KeyRing {
         ensures { (key : KeyParts) → key_of self.now (spec.sealing_role kind object) ≡ Some key
             → plain_content result ≡ sealed_content kind key object nonce text.items }
     {
-        let key = self.used_key(sealing_role(kind, object));
+        let key = self.sealing_key(sealing_role(kind, object));
         seal_any(kind, key, object, nonce, text)
     }
 
@@ -89,18 +89,29 @@ impl KeyRing {
             → IsOk result × (content.new ≡ with_text content.old text) }
         ensures bad_tag { OnErr result (content.new ≡ content.old) }
     {
-        let key = self.used_key(sealing_role(content.kind, content.object));
+        let key = self.opening_key(sealing_role(content.kind, content.object));
         open_any(key, content)
     }
 
-    // The role's key, to seal or to open with. What it does that with is kept from this use on.
-    fn used_key(&self, role: Role) -> &AnyKey
+    // The role's key, to seal with. What it does that with is kept from this use on.
+    fn sealing_key(&self, role: Role) -> &AnyKey
         requires { IsSome (key_of self.now role) }
         ensures role { role_of result.now ≡ role }
         ensures parts { key_of self.now role ≡ Some (parts_of result.now) }
     {
         let key = self.key(role);
         key.keep_derived(self.alloc);
+        key
+    }
+
+    // The role's key, to open with. What it does that with is kept from this use on.
+    fn opening_key(&self, role: Role) -> &AnyKey
+        requires { IsSome (key_of self.now role) }
+        ensures role { role_of result.now ≡ role }
+        ensures parts { key_of self.now role ≡ Some (parts_of result.now) }
+    {
+        let key = self.key(role);
+        key.keep_for_opening(self.alloc);
         key
     }
 

@@ -8,20 +8,20 @@ use Rattle.store_owner.proofs.making.write_store.Goals as goal
 
 pub returns-clause-state : goal.returns-clause-state
 returns-clause-state g c =
-    made_state c.args.owner.now (plain_payload c.args.payload.now) c.args.journal.now c.found-2.new.self c.begin_epoch.new.self c.commit.new.self c.end_session.new.self
+    made_state c.args.owner.now (plain_payload c.args.payload.now) c.args.journal.now c.found.new.self c.begin_epoch.new.self c.commit.new.self c.end_session.new.self
     c.requires.spellable c.requires.size (c.in_ok-found.ensures.state ∙ ap (λ (o : List ℕ). empty_journal o c.args.journal.now.limit c.args.journal.now) (ap (λ (key : KeyParts). key.bytes) c.owner.ensures)) c.in_ok-begin_epoch.ensures.behind c.in_ok-commit.ensures.behind c.end_session.ensures
 
 pub returns-clause-shows : goal.returns-clause-shows
 returns-clause-shows g c =
     let shown = g.D.Disk.shown in
-    made_shows c.args.owner.now (plain_payload c.args.payload.now) c.args.journal.now c.found-2.new.self c.begin_epoch.new.self c.commit.new.self c.end_session.new.self
+    made_shows c.args.owner.now (plain_payload c.args.payload.now) c.args.journal.now c.found.new.self c.begin_epoch.new.self c.commit.new.self c.end_session.new.self
     c.requires.spellable c.requires.size (c.in_ok-found.ensures.state ∙ ap (λ (o : List ℕ). empty_journal o c.args.journal.now.limit c.args.journal.now) (ap (λ (key : KeyParts). key.bytes) c.owner.ensures)) c.in_ok-begin_epoch.ensures.behind c.in_ok-commit.ensures.behind
-    (shown c.found-2.new.disk) (shown c.begin_epoch.new.disk) (shown c.commit.new.disk) c.in_ok-found.ensures.stands (λ s is. c.in_ok-found.ensures.shows s is ∙ ap (λ (o : List ℕ). image o [] ++ 0 ∷ []) (ap (λ (key : KeyParts). key.bytes) c.owner.ensures))
+    (shown c.found.new.disk) (shown c.begin_epoch.new.disk) (shown c.commit.new.disk) c.in_ok-found.ensures.stands (λ s is. c.in_ok-found.ensures.shows s is ∙ ap (λ (o : List ℕ). image o [] ++ 0 ∷ []) (ap (λ (key : KeyParts). key.bytes) c.owner.ensures))
     c.in_ok-begin_epoch.ensures.told c.in_ok-commit.ensures.told c.in_ok-begin_epoch.ensures.joined c.in_ok-commit.ensures.joined
 
 pub returns-clause-size : goal.returns-clause-size
 returns-clause-size g c =
     let size = g.D.Disk.size_of in
-    made_size c.args.owner.now (plain_payload c.args.payload.now) c.args.journal.now c.found-2.new.self c.begin_epoch.new.self c.commit.new.self c.end_session.new.self
+    made_size c.args.owner.now (plain_payload c.args.payload.now) c.args.journal.now c.found.new.self c.begin_epoch.new.self c.commit.new.self c.end_session.new.self
     c.requires.spellable c.requires.size (c.in_ok-found.ensures.state ∙ ap (λ (o : List ℕ). empty_journal o c.args.journal.now.limit c.args.journal.now) (ap (λ (key : KeyParts). key.bytes) c.owner.ensures)) c.in_ok-begin_epoch.ensures.behind c.in_ok-commit.ensures.behind
-    (size c.found-2.new.disk) (size c.begin_epoch.new.disk) (size c.commit.new.disk) c.in_ok-found.ensures.size c.in_ok-begin_epoch.ensures.size c.in_ok-commit.ensures.size
+    (size c.found.new.disk) (size c.begin_epoch.new.disk) (size c.commit.new.disk) c.in_ok-found.ensures.size c.in_ok-begin_epoch.ensures.size c.in_ok-commit.ensures.size
