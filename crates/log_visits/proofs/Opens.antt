@@ -1,6 +1,6 @@
 -- What an owner's view has once a visit is made, and once all are.
-use Rattle.std.proofs.Common.{◌≡◌, ◌≢◌, ◌⊎◌, ℕ, ◌+◌, ◌<◌, ◌≤◌, length, drop, get_or, Bool, true, false, ◌==◌, cond, List, [], ◌∷◌, map, None, Some, option_map, Result, Ok, Err, inl, inr, ⊎_elim, refl, sym, ap, subst, ◌∙◌}
-use Rattle.std.specs.Prelude.{OnOk}
+use Rattle.std.proofs.Common.{◌≡◌, ◌≢◌, ◌⊎◌, ℕ, ◌+◌, ◌<◌, ◌≤◌, length, drop, get_or, Bool, true, false, ◌==◌, cond, List, [], ◌∷◌, ◌++◌, map, None, Some, option_map, Result, Ok, Err, inl, inr, ⊎_elim, refl, sym, ap, subst, ◌∙◌, append-nil, append_assoc}
+use Rattle.std.specs.Prelude.{IfErr, OnOk}
 use Rattle.std.specs.List.{AllByRecursion}
 use Rattle.std.proofs.lemmas.Bool.{eqb-true, eqb-false, false≢true}
 use Rattle.std.proofs.Math.ListN.{drop_of_length-le}
@@ -19,7 +19,7 @@ use Rattle.log_visits.specs.declared.opening.OwnersView.{OwnersView}
 use Rattle.log_visits.specs.declared.visit_list.Visit.{Visit as Listed}
 use Rattle.log_visits.specs.Answering.{IsFault, AnswersBy}
 use Rattle.log_visits.specs.Holding.{ArePresent, HasNames, HoldsKeys, IsHeldBy, IsPresent, IsReadingIn, IsTitledBy}
-use Rattle.log_visits.specs.Opening.{HasHolder, HasItsKind, IsFor, IsNameless, IsOpenedBy, IsOpenedTo, IsToStanding, is_no_holders, plain_visit}
+use Rattle.log_visits.specs.Opening.{FailsBy, HasHolder, HasItsKind, IsFor, IsNameless, IsOpenedBy, IsOpenedTo, IsToStanding, IsVisitedTo, LeadsOn, is_no_holders, plain_visit}
 use Rattle.log_visits.specs.Visiting.{Reading, Opened, visit, visit_all}
 use Rattle.log_visits.specs.Visiting as opened
 use Rattle.log_visits.specs.Visits.{Visit}
@@ -166,12 +166,6 @@ holder_opened told bare h left old new o behind never before held names =
 
 -- ---- all of them
 
--- what was to be visited, was, up to the rest
-abbrev pub IsVisitedTo : PublicView → List PlainPlaced → List Visit → OwnersView → List Visit → OwnersView → Type 0
-IsVisitedTo state log all before left view =
-    (told : Role → Bool) (r : Reading) (o : Opened) → AllByRecursion (IsFor told) all → IsReadingIn state log r → IsOpenedTo told r.stand.store all before o →
-    (p : Opened) × AllByRecursion (IsFor told) left × IsOpenedTo told r.stand.store left view p × (visit_all r all o ≡ visit_all r left p)
-
 pub visits_begin : (state : PublicView) (log : List PlainPlaced) (all : List Visit) (before : OwnersView) → IsVisitedTo state log all before all before
 visits_begin state log all before = λ told r o fit of_log begun. (o, fit, begun, refl)
 
@@ -192,11 +186,72 @@ visits_fail state log all left v before old new fault so_far failed told r o fit
     let so = so_far told r o fit of_log begun in
     subst (IsFault fault) (sym so.3) (fault_first fault (visit r v so.0) (visit_all r left) (failed told r so.0 left so.1.0 of_log so.2))
 
+-- of some visits of more the rest is left
+abbrev pub ArePassed : PublicView → List PlainPlaced → List Visit → OwnersView → List Visit → OwnersView → Type 0
+ArePassed state log visits old rest new =
+    (all left : List Visit) (first : OwnersView) → IsVisitedTo state log all first (visits ++ left) old → IsVisitedTo state log all first (rest ++ left) new
+
+pub pass_on : (state : PublicView) (log : List PlainPlaced) (visits rest : List Visit) (v : Visit) (before old new : OwnersView) → ArePassed state log visits before (v ∷ rest) old →
+    ((told : Role → Bool) (r : Reading) (o : Opened) (left : List Visit) → IsFor told v → IsReadingIn state log r → IsOpenedTo told r.stand.store (v ∷ left) old o →
+    AnswersBy (λ (u : Unit {0}) behind. IsOpenedTo told r.stand.store left new behind) (Ok tt) (visit r v o)) → ArePassed state log visits before rest new
+pass_on state log visits rest v before old new so_far made = λ all left first is. visits_go_on state log all (rest ++ left) v first old new (so_far all left first is) made
+
+pub pass_fails : (state : PublicView) (log : List PlainPlaced) (visits rest : List Visit) (v : Visit) (before old new : OwnersView) (fault : ClientFault) → ArePassed state log visits before (v ∷ rest) old →
+    ((told : Role → Bool) (r : Reading) (o : Opened) (left : List Visit) → IsFor told v → IsReadingIn state log r → IsOpenedTo told r.stand.store (v ∷ left) old o → IsFault fault (visit r v o)) →
+    FailsBy state log visits before fault
+pass_fails state log visits rest v before old new fault so_far failed =
+    λ all left first is told r o fit of_log begun. visits_fail state log all (rest ++ left) v first old new fault (so_far all left first is) failed told r o fit of_log begun
+
 pub visits_end : (state : PublicView) (log : List PlainPlaced) (all : List Visit) (before view : OwnersView) → IsVisitedTo state log all before [] view →
     (told : Role → Bool) (r : Reading) (o : Opened) → AllByRecursion (IsFor told) all → IsReadingIn state log r → IsOpenedTo told r.stand.store all before o →
     AnswersBy (λ (x : OwnersView) behind. IsOpenedTo told r.stand.store [] x behind) (Ok view) (visit_all r all o)
 unfolding visit_all
 visits_end state log all before view so_far told r o fit of_log begun = let so = so_far told r o fit of_log begun in (so.0, so.3, so.2)
+
+-- two parts of them, one behind the other
+pub leads_both : (state : PublicView) (log : List PlainPlaced) (one two : List Visit) (old mid new : OwnersView) → LeadsOn state log one old mid → LeadsOn state log two mid new → LeadsOn state log (one ++ two) old new
+leads_both state log one two old mid new made made_too = λ all left first is.
+    made_too all left first (made all (two ++ left) first (subst (λ l. IsVisitedTo state log all first l old) (append_assoc one two left) is))
+
+pub first_fails : (state : PublicView) (log : List PlainPlaced) (one two : List Visit) (old : OwnersView) (fault : ClientFault) → FailsBy state log one old fault → FailsBy state log (one ++ two) old fault
+first_fails state log one two old fault failed = λ all left first is. failed all (two ++ left) first (subst (λ l. IsVisitedTo state log all first l old) (append_assoc one two left) is)
+
+pub second_fails : (state : PublicView) (log : List PlainPlaced) (one two : List Visit) (old mid : OwnersView) (fault : ClientFault) → LeadsOn state log one old mid → FailsBy state log two mid fault →
+    FailsBy state log (one ++ two) old fault
+second_fails state log one two old mid fault made failed = λ all left first is.
+    failed all left first (made all (two ++ left) first (subst (λ l. IsVisitedTo state log all first l old) (append_assoc one two left) is))
+
+pub on_ok_so : {X E : Type 0} (P Q : Type 0) (r : Result X E) → (P → Q) → OnOk r P → OnOk r Q
+on_ok_so P Q (Ok x) so p = so p
+on_ok_so P Q (Err e) so p = tt
+
+pub if_err_so : {X E : Type 0} (P Q : E → Type 0) (r : Result X E) → ((e : E) → P e → Q e) → IfErr r P → IfErr r Q
+if_err_so P Q (Ok x) so p = tt
+if_err_so P Q (Err e) so p = so e p
+
+-- a part of them was made, or failed
+pub part_passed : (state : PublicView) (log : List PlainPlaced) (visits part rest : List Visit) (before old new : OwnersView) → ArePassed state log visits before (part ++ rest) old →
+    LeadsOn state log part old new → ArePassed state log visits before rest new
+part_passed state log visits part rest before old new so_far made = λ all left first is.
+    made all (rest ++ left) first (subst (λ l. IsVisitedTo state log all first l old) (append_assoc part rest left) (so_far all left first is))
+
+pub part_fails : (state : PublicView) (log : List PlainPlaced) (visits part rest : List Visit) (before old : OwnersView) (fault : ClientFault) → ArePassed state log visits before (part ++ rest) old →
+    FailsBy state log part old fault → FailsBy state log visits before fault
+part_fails state log visits part rest before old fault so_far failed = λ all left first is.
+    failed all (rest ++ left) first (subst (λ l. IsVisitedTo state log all first l old) (append_assoc part rest left) (so_far all left first is))
+
+-- where these visits are all
+pub alone_visited : (state : PublicView) (log : List PlainPlaced) (visits : List Visit) (before view : OwnersView) → LeadsOn state log visits before view →
+    (told : Role → Bool) (r : Reading) (o : Opened) → AllByRecursion (IsFor told) visits → IsReadingIn state log r → IsOpenedTo told r.stand.store visits before o →
+    AnswersBy (λ (x : OwnersView) behind. IsOpenedTo told r.stand.store [] x behind) (Ok view) (visit_all r visits o)
+alone_visited state log visits before view made =
+    visits_end state log visits before view
+    (made visits [] before (subst (λ l. IsVisitedTo state log visits before l before) (sym (append-nil visits)) (visits_begin state log visits before)))
+
+pub alone_fails : (state : PublicView) (log : List PlainPlaced) (visits : List Visit) (before : OwnersView) (fault : ClientFault) → FailsBy state log visits before fault →
+    (told : Role → Bool) (r : Reading) (o : Opened) → AllByRecursion (IsFor told) visits → IsReadingIn state log r → IsOpenedTo told r.stand.store visits before o → IsFault fault (visit_all r visits o)
+alone_fails state log visits before fault failed =
+    failed visits [] before (subst (λ l. IsVisitedTo state log visits before l before) (sym (append-nil visits)) (visits_begin state log visits before))
 
 -- no visit is left
 all_opened : (bare : Store) (view : OwnersView) (o : Opened) → IsOpenedTo is_no_holders bare [] view o → IsOpenedBy bare view o

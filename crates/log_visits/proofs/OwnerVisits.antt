@@ -19,7 +19,7 @@ use Rattle.folder_nodes.specs.Trees.{IsTree}
 use Rattle.folder_nodes.proofs.Ascending.{head_below, rest_rising, same_ranked}
 use Rattle.log_visits.specs.declared.visit_list.Visit.{Visit as Listed}
 use Rattle.log_visits.specs.declared.visit_list.Visit.TheVariants as listed
-use Rattle.log_visits.specs.Opening.{IsFor, IsNameless, is_no_holders, plain_visit}
+use Rattle.log_visits.specs.Opening.{IsFor, IsNameless, file_row_visits, is_no_holders, plain_visit}
 use Rattle.log_visits.specs.Listing.{file_part}
 use Rattle.log_visits.specs.Visits.{Visit, files_that, file_visits, visits_to_names, all_visits, holder_visits}
 use Rattle.log_visits.specs.Visits.Visit.{ToKey, ToFile, ToHolder}
@@ -96,9 +96,6 @@ pub flat_alike : (X Y : Type 0) (g h : X → List Y) (xs : List X) → ((x : X) 
 flat_alike X Y g h [] same = refl
 flat_alike X Y g h (x ∷ xs) same = ap (λ l. l ++ flat_map g xs) (same x (inl refl)) ∙ ap (λ l. h x ++ l) (flat_alike X Y g h xs (λ y i. same y (inr i)))
 
-abbrev pub file_row_visits : List FileRow → List Visit
-file_row_visits rows = map plain_visit (flat_map (λ (r : FileRow). file_part r.folder r.id) rows)
-
 pub files_told : (s : Store) (rows : List FileRow) → s.files ≡ map file_of_row rows → IsRising (λ (e : FileEntry). e.id) s.files →
     file_row_visits rows ≡ file_visits s (files_that (λ (e : FileEntry). allowed_to s TheOwner e.folder) s)
 unfolding file_visits file_edge files_of file_role allowed_to
@@ -133,35 +130,26 @@ holders_told s n is =
 
 -- ---- all of them
 
--- what was listed: the visits to names, then those of files, then those of holders
-pub record AreListed (names : List Listed) (files : List FileRow) (n : ℕ) (all : List Listed) : Type 0 where
-  pub listed : map plain_visit all ≡ map plain_visit names ++ (file_row_visits files ++ holder_row_visits n)
+-- the visits to names, then those of files, then those of holders
+abbrev pub all_listed : List Listed → List FileRow → ℕ → List Visit
+all_listed names files n = map plain_visit names ++ (file_row_visits files ++ holder_row_visits n)
 
-pub are_listed : (names one two : List Listed) (files : List FileRow) (n : ℕ) → one ≡ names ++ flat_map (λ (r : FileRow). file_part r.folder r.id) files →
-    two ≡ one ++ map (λ h. listed.Key (record { 0 = h })) (range_with_len 1 n) → AreListed names files n two
-are_listed names one two files n e1 e2 =
-    let d = flat_map (λ (r : FileRow). file_part r.folder r.id) files in
-    let k = map (λ h. listed.Key (record { 0 = h })) (range_with_len 1 n) in
-    let both : two ≡ (names ++ d) ++ k = e2 ∙ ap (λ l. l ++ k) e1 in
-    record {
-      listed = ap (map plain_visit) both
-          ∙ map-append plain_visit (names ++ d) k
-          ∙ ap (λ l. l ++ map plain_visit k) (map-append plain_visit names d)
-          ∙ append_assoc (map plain_visit names) (map plain_visit d) (map plain_visit k);
-    }
+pub keys_listed : (names keys : List Listed) (files : List FileRow) (n m : ℕ) → keys ≡ map (λ h. listed.Key (record { 0 = h })) (range_with_len 1 n) → n ≡ m →
+    map plain_visit names ++ (file_row_visits files ++ map plain_visit keys) ≡ all_listed names files m
+keys_listed names keys files n m is count =
+    ap (λ (l : List Listed). map plain_visit names ++ (file_row_visits files ++ map plain_visit l)) (is ∙ ap (λ k. map (λ h. listed.Key (record { 0 = h })) (range_with_len 1 k)) count)
 
-pub visits_told : (v : PublicView) (at : Stand) (names all : List Listed) (files : List FileRow) → v.tree.files ≡ map file_of_row files → IsTree v.tree → IsSeenAs v at →
-    map plain_visit names ≡ visits_to_names at.store TheOwner → AreListed names files (length v.checks) all → map plain_visit all ≡ all_visits at.store TheOwner ++ holder_visits at.store
+pub visits_told : (v : PublicView) (at : Stand) (names : List Listed) (files : List FileRow) → v.tree.files ≡ map file_of_row files → IsTree v.tree → IsSeenAs v at →
+    map plain_visit names ≡ visits_to_names at.store TheOwner → all_listed names files (length v.checks) ≡ all_visits at.store TheOwner ++ holder_visits at.store
 unfolding all_visits
-visits_told v at names all files rows tree seen named is =
+visits_told v at names files rows tree seen named =
     let s = at.store in
     let xs : s.files ≡ v.tree.files = ap (λ (x : Store). x.files) seen.store in
     let hs : s.holders ≡ map keyless (range_with_len 1 (length v.checks)) = ap (λ (x : Store). x.holders) seen.store in
     let up = subst (λ es. IsRising (λ (e : FileEntry). e.id) es) (sym xs) tree.files_ascend in
     let first = visits_to_names s TheOwner in
     let texts = file_visits s (files_that (λ (e : FileEntry). allowed_to s TheOwner e.folder) s) in
-    is.listed
-    ∙ ap (λ l. l ++ (file_row_visits files ++ holder_row_visits (length v.checks))) named
+    ap (λ l. l ++ (file_row_visits files ++ holder_row_visits (length v.checks))) named
     ∙ ap (λ l. first ++ (l ++ holder_row_visits (length v.checks))) (files_told s files (xs ∙ rows) up)
     ∙ ap (λ l. first ++ (texts ++ l)) (holders_told s (length v.checks) hs)
     ∙ sym (append_assoc first texts (holder_visits s))
@@ -171,6 +159,10 @@ visits_told v at names all files rows tree seen named is =
 pub both_all : (P : Visit → Type 0) (xs ys : List Visit) → AllByRecursion P xs → AllByRecursion P ys → AllByRecursion P (xs ++ ys)
 both_all P [] ys a b = b
 both_all P (x ∷ xs) ys a b = (a.0, both_all P xs ys a.1 b)
+
+pub all_parts : (P : Visit → Type 0) (xs ys : List Visit) → AllByRecursion P (xs ++ ys) → AllByRecursion P xs × AllByRecursion P ys
+all_parts P [] ys a = (tt, a)
+all_parts P (x ∷ xs) ys a = let rest = all_parts P xs ys a.1 in ((a.0, rest.0), rest.1)
 
 pub each_all : (P : Visit → Type 0) (X : Type 0) (g : X → List Visit) (xs : List X) → ((x : X) → AllByRecursion P (g x)) → AllByRecursion P (flat_map g xs)
 each_all P X g [] all = tt
@@ -184,14 +176,17 @@ pub file_fit : (told : Role → Bool) (r : FileRow) → IsTrue (told (Files r.fo
 unfolding edge role_with kind_from kind_to row_numbered role_id file_role
 file_fit told r from to = ((record { from_one = omega arith; to_nine = omega arith; source = refl; target = refl }, from, to), (to, tt))
 
-pub all_fit : (names all : List Listed) (files : List FileRow) (n : ℕ) → AllByRecursion (IsFor is_no_holders) (map plain_visit names) → AreListed names files n all → AllByRecursion (IsFor is_no_holders) (map plain_visit all)
-all_fit names all files n first is =
-    let texts = subst (AllByRecursion (IsFor is_no_holders)) (sym (listed_plainly FileRow (λ (r : FileRow). file_part r.folder r.id) files))
-    (each_all (IsFor is_no_holders) FileRow (λ (r : FileRow). map plain_visit (file_part r.folder r.id)) files (λ r. file_fit is_no_holders r refl refl))
-    in
+-- those of files
+pub files_fit : (told : Role → Bool) → ((r : FileRow) → IsTrue (told (Files r.folder)) × IsTrue (told (File r.id))) → (files : List FileRow) → AllByRecursion (IsFor told) (file_row_visits files)
+files_fit told fit files =
+    subst (AllByRecursion (IsFor told)) (sym (listed_plainly FileRow (λ (r : FileRow). file_part r.folder r.id) files))
+    (each_all (IsFor told) FileRow (λ (r : FileRow). map plain_visit (file_part r.folder r.id)) files (λ r. file_fit told r (fit r).0 (fit r).1))
+
+pub all_fit : (names : List Listed) (files : List FileRow) (n : ℕ) → AllByRecursion (IsFor is_no_holders) (map plain_visit names) → AllByRecursion (IsFor is_no_holders) (all_listed names files n)
+all_fit names files n first =
+    let texts = files_fit is_no_holders (λ r. (refl, refl)) files in
     let keys = subst (AllByRecursion (IsFor is_no_holders)) (sym (plain_holders (range_with_len 1 n))) (holders_all (range_with_len 1 n)) in
-    subst (AllByRecursion (IsFor is_no_holders)) (sym is.listed)
-    (both_all (IsFor is_no_holders) (map plain_visit names) (file_row_visits files ++ holder_row_visits n) first (both_all (IsFor is_no_holders) (file_row_visits files) (holder_row_visits n) texts keys))
+    both_all (IsFor is_no_holders) (map plain_visit names) (file_row_visits files ++ holder_row_visits n) first (both_all (IsFor is_no_holders) (file_row_visits files) (holder_row_visits n) texts keys)
 
 -- each holder has a visit
 holder_listed : (ns : List ℕ) (e : HolderEntry) → In e (map keyless ns) → In (ToHolder e.number) (map ToHolder ns)
@@ -201,14 +196,14 @@ holder_listed (n ∷ ns) e i = ⊎_elim (λ (q : e ≡ keyless n). inl (ap (λ (
 behind_it : (v : Visit) (a b : List Visit) → In v b → In v (a ++ b)
 behind_it v a b i = (In-append Visit v a b).1 (inr i)
 
-pub holders_visited : (v : PublicView) (at : Stand) (names all : List Listed) (files : List FileRow) (e : HolderEntry) → IsSeenAs v at →
-    AreListed names files (length v.checks) all → In e at.store.holders → In (ToHolder e.number) (map plain_visit all)
-holders_visited v at names all files e seen is i =
+pub holders_visited : (v : PublicView) (at : Stand) (names : List Listed) (files : List FileRow) (e : HolderEntry) → IsSeenAs v at → In e at.store.holders →
+    In (ToHolder e.number) (all_listed names files (length v.checks))
+holders_visited v at names files e seen i =
     let n = length v.checks in
     let visit = ToHolder e.number in
     let hs : at.store.holders ≡ map keyless (range_with_len 1 n) = ap (λ (x : Store). x.holders) seen.store in
     let here : In visit (holder_row_visits n) = subst (In visit) (sym (plain_holders (range_with_len 1 n))) (holder_listed (range_with_len 1 n) e (subst (In e) hs i)) in
-    subst (In visit) (sym is.listed) (behind_it visit (map plain_visit names) (file_row_visits files ++ holder_row_visits n) (behind_it visit (file_row_visits files) (holder_row_visits n) here))
+    behind_it visit (map plain_visit names) (file_row_visits files ++ holder_row_visits n) (behind_it visit (file_row_visits files) (holder_row_visits n) here)
 
 -- rows have no names
 bare_folders : (rows : List FolderRow) (e : FolderEntry) → In e (map folder_of_row rows) → e.name ≡ []
@@ -226,8 +221,8 @@ rows_nameless t folders files fs xs = record {
 }
 
 -- one holder more
-pub one_more : (f : ℕ → Listed) (old : List Listed) (n : ℕ) → (old ++ map f (range_with_len 1 n)) ++ f (n + 1) ∷ [] ≡ old ++ map f (range_with_len 1 (n + 1))
-one_more f old n = append_assoc old (map f (range_with_len 1 n)) (f (n + 1) ∷ []) ∙ ap (λ l. old ++ l) (sym (map-range_with_len_more f 1 n (n + 1) (omega arith)))
+pub one_more : (f : ℕ → Listed) (n : ℕ) → map f (range_with_len 1 n) ++ f (n + 1) ∷ [] ≡ map f (range_with_len 1 (n + 1))
+one_more f n = sym (map-range_with_len_more f 1 n (n + 1) (omega arith))
 
 -- nor has what the state is seen as
 pub seen_nameless : (v : PublicView) (at : Stand) → IsSeenAs v at → IsNameless v.tree → IsNameless at.store

@@ -1,22 +1,30 @@
 -- What an owner opens of a store, as code lists and keeps it. This project's own, docs/FORMAT.md, "Opening for writing".
-use Rattle.std.specs.Prelude.{◌≡◌, ◌⊎◌, Bool, true, false, IsTrue, List, [], Some, Result, Ok, Err, option_map}
+use Rattle.std.specs.Prelude.{◌≡◌, ◌⊎◌, Bool, true, false, IsTrue, List, [], ◌++◌, Some, Result, Ok, Err, map, option_map}
+use Rattle.std.specs.List.{AllByRecursion, flat_map}
 use Rattle.commit_journal.specs.Answering.{Fault}
+use Rattle.commit_journal.specs.Placed.{PlainPlaced}
 use Rattle.cry_base.specs.Sets.{In}
 use Rattle.cry_base.specs.Store.{Store, FolderEntry, FileEntry, HolderEntry}
 use Rattle.cry_base.specs.declared.roles.Role.{Role}
 use Rattle.cry_base.specs.declared.roles.Role.TheVariants.{Owner, Holder, Clear, Sub, Back, Files, Data, File}
+use Rattle.folder_nodes.specs.declared.rows.FileRow.{FileRow}
+use Rattle.log_visits.specs.declared.fault.ClientFault.{ClientFault}
 use Rattle.log_visits.specs.declared.opening.OwnersView.{OwnersView}
 use Rattle.log_visits.specs.declared.sights.Viewer.{Viewer}
 use Rattle.log_visits.specs.declared.sights.Viewer.TheVariants as viewers
+use Rattle.log_visits.specs.declared.visit_list.OwnerVisits.{OwnerVisits}
 use Rattle.log_visits.specs.declared.visit_list.Visit.{Visit as Listed}
 use Rattle.log_visits.specs.declared.visit_list.Visit.TheVariants as listed
+use Rattle.log_visits.specs.Answering.{IsFault}
 use Rattle.log_visits.specs.Asking.{OpenStore}
-use Rattle.log_visits.specs.Holding.{HasKind, HasNames, HoldsKeys}
+use Rattle.log_visits.specs.Holding.{HasKind, HasNames, HoldsKeys, IsReadingIn}
 use Rattle.log_visits.specs.Judging.{Failure, OfBytes}
-use Rattle.log_visits.specs.Visiting.{Reading, Opened}
+use Rattle.log_visits.specs.Listing.{file_part}
+use Rattle.log_visits.specs.Visiting.{Reading, Opened, visit_all}
 use Rattle.log_visits.specs.Visits.{Visit}
 use Rattle.log_visits.specs.Visits.Visit.{ToKey, ToName, ToFile, ToHolder}
 use Rattle.key_links.specs.Ringed.{Ringed, key_of}
+use Rattle.public_fold.specs.Standing.{PublicView}
 use Rattle.role_graph.specs.Edges.{IsEdge}
 use Rattle.role_graph.specs.RightsByReach.{HasFolder}
 use Rattle.role_graph.specs.Roles.{data_of, file_role}
@@ -38,6 +46,14 @@ is_no_holders (Back f) = true
 is_no_holders (Files f) = true
 is_no_holders (Data f) = true
 is_no_holders (File x) = true
+
+-- the visits to files, by their rows
+abbrev pub file_row_visits : List FileRow → List Visit
+file_row_visits rows = map plain_visit (flat_map (λ (r : FileRow). file_part r.folder r.id) rows)
+
+-- all that an owner visits: up to the names of folders, the files, the holders' keys
+abbrev pub owner_list : OwnerVisits → List FileRow → List Visit
+owner_list l rows = map plain_visit l.names.items ++ (file_row_visits rows ++ map plain_visit l.keys.items)
 
 -- every role is told that isn't a holder's, and that of a holder who reads
 abbrev pub Tells : (Role → Bool) → Viewer → Type 0
@@ -84,6 +100,23 @@ pub record IsOpenedBy (bare : Store) (view : OwnersView) (o : Opened) : Type 0 w
   pub keys : HoldsKeys is_no_holders view.ring o.keys
   pub names : HasNames bare view.names o.store
   pub holders : (e : HolderEntry) → In e o.store.holders → HasHolder view.ring e
+
+-- of what was to be visited the rest is left
+abbrev pub IsVisitedTo : PublicView → List PlainPlaced → List Visit → OwnersView → List Visit → OwnersView → Type 0
+IsVisitedTo state log all before left view =
+    (told : Role → Bool) (r : Reading) (o : Opened) → AllByRecursion (IsFor told) all → IsReadingIn state log r → IsOpenedTo told r.stand.store all before o →
+    (p : Opened) × AllByRecursion (IsFor told) left × IsOpenedTo told r.stand.store left view p × (visit_all r all o ≡ visit_all r left p)
+
+-- these visits were made, whatever was to be visited before and behind them
+abbrev pub LeadsOn : PublicView → List PlainPlaced → List Visit → OwnersView → OwnersView → Type 0
+LeadsOn state log visits old new =
+    (all left : List Visit) (first : OwnersView) → IsVisitedTo state log all first (visits ++ left) old → IsVisitedTo state log all first left new
+
+-- one of these visits fails so, whatever was to be visited before and behind them
+abbrev pub FailsBy : PublicView → List PlainPlaced → List Visit → OwnersView → ClientFault → Type 0
+FailsBy state log visits old fault =
+    (all left : List Visit) (first : OwnersView) → IsVisitedTo state log all first (visits ++ left) old → (told : Role → Bool) (r : Reading) (o : Opened) →
+    AllByRecursion (IsFor told) all → IsReadingIn state log r → IsOpenedTo told r.stand.store all first o → IsFault fault (visit_all r all o)
 
 -- a tree without names and bytes
 pub record IsNameless (s : Store) : Type 0 where

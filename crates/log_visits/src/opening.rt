@@ -1,6 +1,7 @@
 //! Opens all that an owner's key opens (docs/FORMAT.md, "Opening for writing").
-ghost use Rattle.std.specs.Prelude.{◌≡◌, ◌≢◌, ◌<◌, ◌++◌, ◌∷◌, [], All, Bool, Err, IfOk, IfSome, IsTrue, List, OnOk, map};
+ghost use Rattle.std.specs.Prelude.{◌≡◌, ◌≢◌, ◌<◌, ◌++◌, ◌∷◌, [], All, Bool, Err, IfErr, IfOk, IfSome, IsTrue, List, OnOk, map};
 ghost use Rattle.std.specs.List.{AllByRecursion};
+ghost use Rattle.commit_journal.specs.Placed.{plain_placed};
 ghost use Rattle.commit_journal.specs.Places.{IsStanding};
 ghost use Rattle.cry_base.specs.declared.roles.Role.{Role as TheRole};
 ghost use Rattle.cry_base.specs.declared.roles.Role.TheVariants.{Owner};
@@ -8,7 +9,7 @@ ghost use Rattle.log_visits.specs.Answering.{AnswersBy};
 ghost use Rattle.log_visits.specs.Found.{IsLinkFor, plain_link};
 ghost use Rattle.log_visits.specs.Holding.{ArePresent, AreSized, HasKind, HoldsKeys, IsPresent, IsReadingIn, IsReadingOf};
 ghost use Rattle.log_visits.specs.Placing.{link_for};
-ghost use Rattle.log_visits.specs.Opening.{HasItsKind, IsFor, IsOpenedBy, IsOpenedTo, plain_visit};
+ghost use Rattle.log_visits.specs.Opening.{FailsBy, HasItsKind, IsFor, IsOpenedBy, IsOpenedTo, LeadsOn, file_row_visits, owner_list, plain_visit};
 ghost use Rattle.log_visits.specs.Visiting.{Opened, Reading};
 ghost use Rattle.log_visits.specs.Visiting as spec;
 ghost use Rattle.log_visits.specs.Visits.{Visit as PlainVisit, all_visits, holder_visits};
@@ -21,15 +22,16 @@ use crate::indexed_log::IndexedLog;
 use crate::last_links::FoundLink;
 use crate::records::Records;
 use crate::texts::{visit_file, visit_holder, visit_name};
-use crate::visit_list::{Visit, owner_visits};
+use crate::visit_list::{OwnerVisits, Visit, of_file, owner_visits};
 use crate::visiting::visit_edge;
 use chacha_seal::{Key, OwnerK};
 use commit_journal::Placed;
 use cry_base::Edge;
-use folder_nodes::OpenedNames;
+use folder_nodes::{FileRow, OpenedNames};
 use key_links::KeyRing;
 use public_fold::PublicState;
 use record_format::{FILE_TEXT, FOLDER_NAME, HOLDER_KEY};
+use sorted_table::Walk;
 use std::alloc::Global;
 
 /// What an owner's key opens of a store: the present keys, and the names and bytes.
@@ -106,6 +108,32 @@ fn visit_one<S, R: Records<S>>(
     }
 }
 
+/// Makes some visits of more, one after another, up to the first that fails.
+fn visit_part<S, R: Records<S>>(
+    alloc: Global,
+    state: &PublicState,
+    records: &R,
+    source: &mut S,
+    visits: &[Visit],
+    view: &mut OwnersView,
+) -> Result<(), ClientFault>
+    requires kinds { AllByRecursion HasItsKind (map plain_visit visits.now) }
+    requires keys { ArePresent state.now.keys.keys view.old.ring }
+    requires sized { AreSized view.old.names }
+    ensures visited { R.shows records.now source.old → OnOk result (LeadsOn state.now (R.log records.now) (map plain_visit visits.now) view.old view.new) }
+    ensures failed { R.shows records.now source.old → IfErr result (FailsBy state.now (R.log records.now) (map plain_visit visits.now) view.old) }
+    ensures keys { OnOk result (ArePresent state.now.keys.keys view.new.ring) }
+    ensures sized { OnOk result (AreSized view.new.names) }
+    ensures seen { result ≢ Err ClientFault.Unseen }
+    ensures stays { R.stays source.old source.new }
+    ensures disk_fault { result ≡ Err ClientFault.DiskFault → R.faults source.old < R.faults source.new }
+{
+    for visit in visits {
+        visit_one(alloc, state, records, source, view, visit)?;
+    }
+    Ok(())
+}
+
 /// Makes the visits one after another, up to the first that fails.
 pub fn visit_each<S, R: Records<S>>(
     alloc: Global,
@@ -129,10 +157,57 @@ pub fn visit_each<S, R: Records<S>>(
     ensures disk_fault { result ≡ Err ClientFault.DiskFault → R.faults source.old < R.faults source.new }
 {
     let mut view = before;
-    for visit in visits {
-        visit_one(alloc, state, records, source, &mut view, visit)?;
-    }
+    visit_part(alloc, state, records, source, visits, &mut view)?;
     Ok(view)
+}
+
+/// Makes the two visits to each file, without a list of them.
+fn visit_files(
+    alloc: Global,
+    state: &PublicState,
+    indexed: &IndexedLog,
+    files: Walk<'_, FileRow>,
+    view: &mut OwnersView,
+) -> Result<(), ClientFault>
+    requires keys { ArePresent state.now.keys.keys view.old.ring }
+    requires sized { AreSized view.old.names }
+    ensures visited { OnOk result (LeadsOn state.now (map plain_placed indexed.now) (file_row_visits files.entry) view.old view.new) }
+    ensures failed { IfErr result (FailsBy state.now (map plain_placed indexed.now) (file_row_visits files.entry) view.old) }
+    ensures keys { OnOk result (ArePresent state.now.keys.keys view.new.ring) }
+    ensures sized { OnOk result (AreSized view.new.names) }
+    ensures seen { result ≢ Err ClientFault.Unseen }
+    ensures no_disk { result ≢ Err ClientFault.DiskFault }
+{
+    for file in files {
+        visit_part(alloc, state, indexed, &mut (), &of_file(file), view)?;
+    }
+    Ok(())
+}
+
+/// Makes all visits of an owner.
+fn visit_owned(
+    alloc: Global,
+    state: &PublicState,
+    indexed: &IndexedLog,
+    visits: &OwnerVisits,
+    files: Walk<'_, FileRow>,
+    view: &mut OwnersView,
+) -> Result<(), ClientFault>
+    requires kinds { AllByRecursion HasItsKind (owner_list visits.now files) }
+    requires keys { ArePresent state.now.keys.keys view.old.ring }
+    requires sized { AreSized view.old.names }
+    ensures visited { OnOk result (LeadsOn state.now (map plain_placed indexed.now) (owner_list visits.now files.entry) view.old view.new) }
+    ensures failed { IfErr result (FailsBy state.now (map plain_placed indexed.now) (owner_list visits.now files.entry) view.old) }
+    ensures keys { OnOk result (ArePresent state.now.keys.keys view.new.ring) }
+    ensures sized { OnOk result (AreSized view.new.names) }
+    ensures seen { result ≢ Err ClientFault.Unseen }
+    ensures no_disk { result ≢ Err ClientFault.DiskFault }
+{
+    let names = visits.names.as_slice();
+    visit_part(alloc, state, indexed, &mut (), names, view)?;
+    visit_files(alloc, state, indexed, files, view)?;
+    let keys = visits.keys.as_slice();
+    visit_part(alloc, state, indexed, &mut (), keys, view)
 }
 
 /// Opens all of a store that the owner's key opens: every key, every name, all bytes, and the holders' keys. Its answer is
@@ -157,9 +232,11 @@ pub fn open_all(
 {
     let indexed = IndexedLog::of(alloc, state, log)?;
     let visits = owner_visits(alloc, state)?;
-    let begun = OwnersView {
+    let mut view = OwnersView {
         ring: KeyRing::new(alloc, owner),
         names: OpenedNames::new(alloc),
     };
-    visit_each(alloc, state, &indexed, &mut (), visits.as_slice(), begun)
+    let files = state.shape().files();
+    visit_owned(alloc, state, &indexed, &visits, files, &mut view)?;
+    Ok(view)
 }

@@ -4,9 +4,11 @@ ghost use Rattle.std.specs.List.{AllByRecursion, flat_map, range_with_len};
 ghost use Rattle.cry_base.specs.Sets.{In};
 ghost use Rattle.cry_base.specs.Store.{HolderEntry, Store};
 ghost use Rattle.cry_base.specs.declared.roles.Role.{Role as TheRole};
+ghost use Rattle.folder_nodes.specs.Bare.{file_of_row};
 ghost use Rattle.folder_nodes.specs.Trees.{IsTree};
+ghost use Rattle.folder_nodes.specs.declared.rows.FileRow.{FileRow as TheFileRow};
 ghost use Rattle.log_visits.specs.Listing as list;
-ghost use Rattle.log_visits.specs.Opening.{IsFor, IsNameless, Tells, plain_visit, is_no_holders};
+ghost use Rattle.log_visits.specs.Opening.{IsFor, IsNameless, Tells, plain_visit, is_no_holders, owner_list};
 ghost use Rattle.log_visits.specs.Sights as sight;
 ghost use Rattle.log_visits.specs.Visits as spec;
 ghost use Rattle.log_visits.specs.Visits.Visit.{ToHolder};
@@ -22,7 +24,6 @@ use cry_base::{Edge, FileId, FolderId, HolderId, Mem};
 use folder_nodes::FileRow;
 use public_fold::PublicState;
 use role_graph::kinds;
-use sorted_table::Walk;
 use std::alloc::Global;
 use std::collections::HashMap;
 
@@ -37,6 +38,15 @@ pub enum Visit {
     Bytes { file: FileId },
     /// Opens the holder's key.
     Key { holder: HolderId },
+}
+
+/// The visits of an owner, but for those to files, which are made from the rows of files (`of_file`): most are.
+#[derive(Drop)]
+pub(crate) struct OwnerVisits {
+    /// Those up to the names of folders.
+    pub(crate) names: Vec<Visit>,
+    /// Those to the holders' keys, which come last.
+    pub(crate) keys: Vec<Visit>,
 }
 
 /// What two visits to a folder are for.
@@ -81,8 +91,9 @@ fn in_folder(viewer: Viewer, part: Part, f: FolderId) -> [Visit; 2]
     }
 }
 
+/// The two visits to a file: its key, and its name and bytes.
 #[tactic(auto, unfolding(role_graph::specs::Roles::files_of, role_graph::specs::Roles::file_role))]
-fn of_file(row: &FileRow) -> [Visit; 2]
+pub(crate) fn of_file(row: &FileRow) -> [Visit; 2]
     ensures { result ≡ list.file_part row.now.folder row.now.id }
 {
     [
@@ -244,41 +255,31 @@ pub fn visits_to_names(alloc: Global, viewer: Viewer, sights: &[Sight]) -> Mem<V
     Ok(visits)
 }
 
-/// Adds two visits for each file.
-fn push_files(visits: &mut Vec<Visit>, files: Walk<'_, FileRow>) -> Mem<()>
-    ensures { OnOk result (visits.new.items ≡ visits.old.items ++ flat_map (λ r. list.file_part r.folder r.id) files.entry) }
+/// A visit for each holder up to the last.
+fn key_visits(alloc: Global, last: u32) -> Mem<Vec<Visit>>
+    ensures { IfOk result (λ l. l.items ≡ map (λ h. Key (record { 0 = h })) (range_with_len 1 last)) }
 {
-    for file in files {
-        visits.extend_from_slice(&of_file(file))?;
-    }
-    Ok(())
-}
-
-/// Adds a visit for each holder up to the last.
-fn push_holders(visits: &mut Vec<Visit>, last: u32) -> Mem<()>
-    ensures { OnOk result (visits.new.items ≡ visits.old.items ++ map (λ h. Key (record { 0 = h })) (range_with_len 1 last)) }
-{
+    let mut visits = Vec::new(alloc);
     for before in 0..last {
         visits.push(Visit::Key {
             holder: HolderId(before + 1),
         })?;
     }
-    Ok(())
+    Ok(visits)
 }
 
-/// All visits of the owner, and then the holders' keys.
-pub(crate) fn owner_visits(alloc: Global, state: &PublicState) -> Mem<Vec<Visit>>
-    ensures visits { IfOk result (λ l. (at : Stand) → IsSeenAs state.now at
-        → map plain_visit l.items ≡ spec.all_visits at.store TheOwner ++ spec.holder_visits at.store) }
+/// All visits of the owner but for those to files, and then the holders' keys.
+pub(crate) fn owner_visits(alloc: Global, state: &PublicState) -> Mem<OwnerVisits>
+    ensures visits { IfOk result (λ l. (at : Stand) (rows : List TheFileRow) → state.now.tree.files ≡ map file_of_row rows → IsSeenAs state.now at
+        → owner_list l rows ≡ spec.all_visits at.store TheOwner ++ spec.holder_visits at.store) }
     ensures nameless { IfOk result (λ _. IsNameless state.now.tree) }
-    ensures owners { IfOk result (λ l. AllByRecursion (IsFor is_no_holders) (map plain_visit l.items)) }
-    ensures holders { IfOk result (λ l. (at : Stand) (e : HolderEntry) → IsSeenAs state.now at → In e at.store.holders
-        → In (ToHolder e.number) (map plain_visit l.items)) }
+    ensures owners { IfOk result (λ l. (rows : List TheFileRow) → AllByRecursion (IsFor is_no_holders) (owner_list l rows)) }
+    ensures holders { IfOk result (λ l. (at : Stand) (rows : List TheFileRow) (e : HolderEntry) → IsSeenAs state.now at → In e at.store.holders
+        → In (ToHolder e.number) (owner_list l rows)) }
 {
     is_nameless(state);
     let seen = all_sights(alloc, state, Viewer::Owner)?;
-    let mut visits = visits_to_names(alloc, Viewer::Owner, seen.as_slice())?;
-    push_files(&mut visits, state.shape().files())?;
-    push_holders(&mut visits, state.grants().holders())?;
-    Ok(visits)
+    let names = visits_to_names(alloc, Viewer::Owner, seen.as_slice())?;
+    let keys = key_visits(alloc, state.grants().holders())?;
+    Ok(OwnerVisits { names, keys })
 }
