@@ -1,0 +1,167 @@
+"""Writes a store as docs/FORMAT.md says it, from given random bytes: a second program beside the one that is proved, for the values of
+docs/vectors.json. It takes accepted commands alone, and shares the key step and the sealing with store_reader.py.
+"""
+from collections import namedtuple
+
+from key_step import (BYTES_OF_FILE, DROP_FILE, DROP_FOLDER, GIVE, HOLDER, KEY_OF_HOLDER, NAME_FILE, NAME_FOLDER, NEW_FILE, NEW_FOLDER,
+                      NEW_HOLDER, OWNER, REWRITE, ROOT, SHIFT_FILE, SHIFT_FOLDER, TAKE, State, sealing_role, source, target)
+from store_reader import be32, mac, owner_tag, xored
+
+COMMAND, EPOCH = 1, 2  # the types of batches
+Node = namedtuple("Node", "is_folder number")
+Written = namedtuple("Written", "line place code keys links contents payload")  # a command's batch, its payload without a mask
+
+
+class Writer:
+    """A store that was made of these random bytes, whose next session is still to begin."""
+
+    def __init__(self, random):
+        self.random = bytes(random)
+        self.state, self.epoch, self.number, self.begun = State(), 0, 0, False
+        self.owner = self.drawn(1)[0]
+        self.keys = {(OWNER, 0): self.owner}
+        self.names, self.texts = {}, {}  # of folders and files; what each file holds
+        self.tag = mac(self.owner, b"\4")
+        self.image = b"CRYPTREE\1" + self.tag + b"\0"
+        self.batches = []
+        self.begin_epoch()
+        self.names[Node(True, 1)] = b""
+        self.publish("make", ROOT, [])
+
+    def drawn(self, count):
+        """So many keys, the next 32 bytes each."""
+        pieces = [self.random[at:at + 32] for at in range(0, 32 * count, 32)]
+        assert all(len(piece) == 32 for piece in pieces)
+        self.random = self.random[32 * count:]
+        return pieces
+
+    def session(self, random, lines):
+        """Applies these lines in a session of their own, and gives the replies. The random bytes are those of this session."""
+        self.random, self.begun = bytes(random), False
+        return [self.apply(line) for line in lines]
+
+    def apply(self, line):
+        if not self.begun:
+            self.begin_epoch()
+        word, *fields = line.split(" ")
+        fields = [field.encode() for field in fields]
+        return getattr(self, word)(line, *fields)
+
+    # one method for each word of a command
+
+    def holder(self, line):
+        number = len(self.state.checks) + 1
+        self.publish(line, NEW_HOLDER, [number, mac(self.random[:32], b"\4")])
+        return f"holder {number} {self.keys[HOLDER, number].hex()}"
+
+    def mkdir(self, line, path):
+        node, above = Node(True, self.state.folders_made + 1), self.above(path)
+        self.names[node] = last(path)
+        return self.publish(line, NEW_FOLDER, [node.number, above.number])
+
+    def write(self, line, path, text=b""):
+        node = self.find(path)
+        is_new = node is None
+        if is_new:
+            node = Node(False, self.state.files_made + 1)
+            self.names[node] = last(path)
+        self.texts[node] = bytes.fromhex(text.decode())
+        return self.publish(line, NEW_FILE, [node.number, self.above(path).number]) if is_new else self.publish(line, REWRITE, [node.number])
+
+    def rm(self, line, path):
+        node = self.find(path)
+        return self.publish(line, DROP_FOLDER if node.is_folder else DROP_FILE, [node.number])
+
+    def rename(self, line, path, name):
+        node = self.find(path)
+        self.names[node] = name
+        return self.publish(line, NAME_FOLDER if node.is_folder else NAME_FILE, [node.number])
+
+    def move(self, line, path, into):
+        node = self.find(path)
+        return self.publish(line, SHIFT_FOLDER if node.is_folder else SHIFT_FILE, [node.number, self.find(into).number])
+
+    def grant(self, line, number, path):
+        return self.publish(line, GIVE, [int(number), self.find(path).number])
+
+    def revoke(self, line, number, path):
+        return self.publish(line, TAKE, [int(number), self.find(path).number])
+
+    # paths
+
+    def find(self, path):
+        """The folder or file that a path finds."""
+        node = Node(True, 1)
+        for name in path.split(b"/")[1:] if path != b"/" else ():
+            node = next((one for one in self.inside(node) if self.names[one] == name), None)
+            if node is None:
+                return None
+        return node
+
+    def inside(self, folder):
+        folders = [Node(True, number) for number, parent in self.state.parents.items() if parent == folder.number]
+        return folders + [Node(False, number) for number, home in self.state.homes.items() if home == folder.number]
+
+    def above(self, path):
+        return self.find(path[:path.rindex(b"/")] or b"/")
+
+    # batches
+
+    def begin_epoch(self):
+        self.epoch += 1
+        self.begun = True
+        self.state.begin_epoch(self.epoch)
+        self.append(EPOCH, b"")
+
+    def publish(self, line, code, fields):
+        """The command's step, with its keys drawn, and its batch."""
+        given, heads = self.state.take(code, fields)
+        keys = self.drawn(len(given))
+        self.keys.update(zip(given, keys))
+        records = [self.link(head) if len(head.ids) == 2 else self.content(head) for head in heads]
+        links = sum(len(head.ids) == 2 for head in heads)
+        payload = bytes([code]) + b"".join(field if isinstance(field, bytes) else be32(field) for field in fields)
+        payload += be32(links) + be32(len(heads) - links) + b"".join(records)
+        self.batches.append(Written(line, len(self.image), code, len(given), links, len(heads) - links, payload))
+        self.append(COMMAND, payload)
+        return "ok"
+
+    def link(self, head):
+        edge = head.kind, *head.ids
+        header = bytes([1, head.kind]) + b"".join(map(be32, head.ids)) + b"".join(map(be64, (*head.serials, head.nonce)))
+        return sealed(self.keys[source(edge)], header, head.nonce, self.keys[target(edge)])
+
+    def content(self, head):
+        (number,), text = head.ids, self.text(head)
+        header = bytes([2, head.kind]) + be32(number) + be64(head.serials[0]) + be64(head.nonce) + be32(len(text))
+        return sealed(self.keys[sealing_role(head.kind, number)], header, head.nonce, text)
+
+    def text(self, head):
+        if head.kind == KEY_OF_HOLDER:
+            return self.keys[HOLDER, head.ids[0]]
+        node = Node(head.kind != BYTES_OF_FILE, head.ids[0])
+        name = self.names[node]
+        return name if node.is_folder else bytes([len(name)]) + name + self.texts[node]
+
+    def append(self, kind, payload):
+        """A batch behind the last gate, as it stands once it is published."""
+        self.number += 1
+        key = mac(self.owner, b"\3", be32(self.epoch), be32(self.number))
+        head, masked = bytes([kind]) + be32(self.number) + be32(self.epoch) + be32(len(payload)), xored(key, 0, payload)
+        check = mac(key, masked)
+        self.tag = owner_tag(self.owner, self.tag, head, masked, check)
+        self.image = self.image[:-1] + b"\1" + head + key + masked + check + self.tag + b"\0"
+
+
+def be64(number):
+    return number.to_bytes(8, "big")
+
+
+def last(path):
+    return path[path.rindex(b"/") + 1:]
+
+
+def sealed(key, header, nonce, text):
+    """The record of a text that is sealed under a key with this header."""
+    cipher = xored(mac(key, b"\1"), nonce, text)
+    return header + cipher + mac(mac(key, b"\2"), header, cipher)
