@@ -1,5 +1,5 @@
 #!/usr/bin/env python3
-"""Reads a store as docs/FORMAT.md says it, and as no other page does: it shares nothing with the program but that page.
+"""Reads a store as docs/FORMAT.md says it, and answers as docs/PROGRAM.md says: it shares nothing with the program but these pages.
 
     checks/store_reader.py STORE list         what the program prints for the bundle's line on standard input, and its status
     checks/store_reader.py STORE open PATH

@@ -1,4 +1,4 @@
-"""Writes a store as docs/FORMAT.md says it, from given random bytes: a second program beside the one that is proved, for the values of
+"""Writes a store as docs/FORMAT.md says it, from given random bytes: a second writer beside the one that is proved, for the values of
 docs/vectors.json. It takes accepted commands alone, and shares the key step and the sealing with store_reader.py.
 """
 from collections import namedtuple
@@ -66,7 +66,9 @@ class Writer:
             node = Node(False, self.state.files_made + 1)
             self.names[node] = last(path)
         self.texts[node] = bytes.fromhex(text.decode())
-        return self.publish(line, NEW_FILE, [node.number, self.above(path).number]) if is_new else self.publish(line, REWRITE, [node.number])
+        if is_new:
+            return self.publish(line, NEW_FILE, [node.number, self.above(path).number])
+        return self.publish(line, REWRITE, [node.number])
 
     def rm(self, line, path):
         node = self.find(path)
