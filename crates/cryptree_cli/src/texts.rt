@@ -17,8 +17,12 @@ cryptree keeps shared folders in one store file, on a disk that nobody has to tr
   cryptree --help                   print this text
   cryptree --version                print the version
 
-RANDOM is a file of random bytes, such as /dev/urandom; - stands for none
+RANDOM is the system's source, /dev/urandom: an ordinary file is read from its beginning at each start, so the first holder would get
+the owner's key; - stands for none
 the owner's key opens the whole store: keep it secret, for nothing can bring it back
+one writer at a time: two at once destroy the store for good; flock keeps others out
+never write on an older copy of a store: the same numbers would seal other texts, and whoever has both copies can read these
+a holder can't check the owner's tags: whoever writes the disk can hide things from holders, though never show what wasn't written
 
 exit status: 0 done, 2 usage, 3 bad line of input, 4 read fault, 5 write fault, 6 disk fault, 7 random fault,
              8 random too short, 9 not a store, 10 damaged, 11 wrong key, 12 tampered, 13 out of memory,
