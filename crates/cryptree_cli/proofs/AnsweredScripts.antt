@@ -108,6 +108,12 @@ module _ (X : Type 0) (scene : X → Scene) (leaves : X → List ℕ → Type 0)
       let one = is x r reply y step in
       (one.left_told ∙ so_far.0, one.shown_told ∙ so_far.1)
 
+  -- the owner's key stays
+  pub key_stays : (asked : List Request) (given : List Reply) (end : X) → Answered Step start asked given end → (scene end).owner.key ≡ (scene start).owner.key
+  key_stays asked given end Begun = refl
+  key_stays asked given end (Then {asked = rs} {replies = told} {x = x} {y = y} {request = r} {reply = reply} before step) =
+      (is x r reply y step).same_key ∙ key_stays rs told x before
+
   -- and whole keys are taken of the random source
   pub keys_taken : (asked : List Request) (given : List Reply) (end : X) → Answered Step start asked given end → TakesKeys (scene start).left (scene end).left
   keys_taken asked given end Begun = takes_none (scene start).left

@@ -1,13 +1,16 @@
 -- How `gen` ends, where its script does or the making of its store.
-use Rattle.std.proofs.Common.{◌≡◌, ◌≢◌, ◌<◌, ◌+◌, ◌⊎◌, ℕ, List, [], ◌++◌, length, Option, Some, None, Result, Ok, Err, inl, inr, refl, sym, ap, subst, ◌∙◌}
+use Rattle.std.proofs.Common.{◌≡◌, ◌≢◌, ◌<◌, ◌≤◌, ◌+◌, ◌⊎◌, ℕ, List, [], ◌++◌, length, Option, Some, None, Result, Ok, Err, inl, inr, refl, sym, ap, subst, ◌∙◌}
 use Rattle.std.specs.Prelude.{is_some, IsTrue}
 use Rattle.std.proofs.lemmas.Bool.{false≢true}
+use Rattle.batch_log.specs.Moments.{FromThenOn}
+use Rattle.commit_journal.specs.Holding.{GoesOn}
 use Rattle.cry_base.specs.declared.limits.Limits.{Limits}
 use Rattle.cry_io.specs.Told.{WhereTold, WhereBothTold}
+use Rattle.cry_io.specs.declared.disk.Disk as disk
 use Rattle.cry_io.proofs.ToldLemmas.{told_again}
 use Rattle.journal_bytes.specs.Bytes.{batches_of}
 use Rattle.journal_bytes.specs.Script.{opened}
-use Rattle.key_links.specs.Fresh.{fresh_draw_len, piece}
+use Rattle.key_links.specs.Fresh.{fresh_draw_len, fresh_image, piece}
 use Rattle.commit_journal.specs.Standing.{StandsWhole}
 use Rattle.public_fold.specs.Journal.{Journal}
 use Rattle.script_text.specs.Printing.{owner_line}
@@ -21,7 +24,8 @@ use Rattle.store_owner.specs.declared.apply_fault.ApplyFault.{ApplyFault}
 use Rattle.store_owner.specs.declared.apply_fault.ApplyFault.TheVariants as faults
 use Rattle.store_owner.specs.declared.tally.Tally.{Tally}
 use Rattle.cryptree_cli.specs.Figures.{spell_figures}
-use Rattle.cryptree_cli.specs.Generating.{Begins, EndsDry, Fills, Generates, HasApplied, HasFilled, IsStop, IsUnmade, StopsApplying, Tells, script_lines, unheard}
+use Rattle.cryptree_cli.specs.Generating.{Announces, Begins, EndsDry, Fills, Generates, HasApplied, HasFilled, IsStop, IsUnmade, StopsApplying, Tells, script_lines, unheard}
+use Rattle.cryptree_cli.specs.Making.{StandsMade}
 use Rattle.cryptree_cli.specs.Published.{LinesPublish}
 use Rattle.cryptree_cli.specs.Running.{RanCut, RanDry, Seen, apply_status, version_limits}
 use Rattle.cryptree_cli.specs.Status.{is_before_print, is_make_answer}
@@ -122,6 +126,24 @@ stop_answers _ stop = absurd stop
 pub never_stop : {P : Type 0} (status other : Status) → IsStop status → status ≡ other → (IsStop other → ⊥) → P
 never_stop status other stop is none = absurd (none (subst IsStop is stop))
 
+-- ---- the announcement, whether or not the disk tells
+
+pub announces : (status : Status) (key : List ℕ) (o : OwnerView) (before after : Option (List ℕ)) → o.key ≡ key
+    → Tells status (owner_line o.key ++ spell_figures (tally_in o)) before after → Announces status key before after
+announces Done key o before after same tells =
+    (tally_in o, subst (λ (k : List ℕ). WhereBothTold before after (PrintsAll (owner_line k ++ spell_figures (tally_in o)))) same tells)
+announces WriteFault key o before after same tells =
+    (tally_in o, subst (λ (k : List ℕ). WhereBothTold before after (PrintsFront (owner_line k ++ spell_figures (tally_in o)))) same tells)
+announces OutOfMemory key o before after same tells = tt
+announces _ key o before after same tells = absurd tells
+
+pub stop_announces : (status : Status) (key : List ℕ) (before after : Option (List ℕ)) → IsStop status → Announces status key before after
+stop_announces (RandomShort left need) key before after stop = tt
+stop_announces RandomFault key before after stop = tt
+stop_announces DiskFault key before after stop = tt
+stop_announces OutOfMemory key before after stop = tt
+stop_announces _ key before after stop = absurd stop
+
 -- ---- a store that was made
 
 -- the root is all that the journal of a fresh store has
@@ -144,26 +166,45 @@ begins root drawn o shown s made told whole = record {
   counted = made.counted ∙ sym (root (making.root_keys drawn));
 }
 
-pub generated : RootCounted → (status : Status) (seed count : ℕ) (o : OwnerView) (left_before left_between left_after shown_between shown_after : Option (List ℕ)) (may_leave : List ℕ → Type 0)
-    (since : ℕ → List ℕ → List ℕ → Type 0) (from_moment_on : ℕ → (List ℕ → List ℕ → Type 0) → Type 0) (moment : ℕ) (before after : Option (List ℕ)) → is_some left_between ≡ is_some left_before → is_some shown_after ≡ is_some shown_between
-    → making.Makes version_limits left_before left_between shown_between o
-    → ((key : List ℕ) (m : Journal) → Begins key m o shown_between
-    → Fills status seed count key m (unheard left_between left_after shown_after) may_leave (LinesKeepUpTo key m (since moment)) before after)
-    → ((key : List ℕ) (m : Journal) → StandsAt version_limits key (opened m []) o shown_between → LinesPublish key m (since moment) (from_moment_on moment))
-    → WhereTold shown_after (λ s. Generates status seed count left_before left_after shown_after may_leave since from_moment_on before after)
-generated root status seed count o left_before left_between left_after shown_between shown_after may_leave since from_moment_on moment before after left_told shown_told store fills publish = λ x now.
+-- so it is where the disk shows what was made
+begins_there : RootCounted → (drawn : List ℕ) (o : OwnerView) (shown : Option (List ℕ)) (s : List ℕ) → making.IsMade drawn version_limits o
+    → WhereTold shown (λ s. s ≡ fresh_image drawn) → shown ≡ Some s → Begins (piece drawn 0) (making.made_with (making.root_keys drawn)) o shown
+begins_there root drawn o shown s made shows told =
+    let whole = fresh_stands drawn o made.owner made.same_key s (shows s told) in
+    begins root drawn o shown s made told whole.stands
+
+-- `start` is the disk as the making left it
+pub generated : {D : Type 0} (disks : disk.Ghosts D) → RootCounted → (status : Status) (seed count : ℕ) (o : OwnerView) (left_before left_between left_after : Option (List ℕ))
+    (disk_old start disk_new : D) (before after : Option (List ℕ)) → is_some left_between ≡ is_some left_before → is_some (disks.shown disk_new) ≡ is_some (disks.shown start)
+    → (store : making.Makes version_limits left_before left_between (disks.shown start) o)
+    → StandsMade disks store.0 disk_old start
+    → disks.moment start ≤ disks.moment disk_new → GoesOn (disks.moment start) (disks.since start) (disks.since disk_new)
+    → ((key : List ℕ) (m : Journal) → Begins key m o (disks.shown start)
+    → Fills status seed count key m (unheard left_between left_after (disks.shown disk_new)) (disks.may_leave disk_new) (LinesKeepUpTo key m (disks.since disk_new (disks.moment start))) before after)
+    → ((key : List ℕ) (m : Journal) → StandsAt version_limits key (opened m []) o (disks.shown start)
+    → LinesPublish key m (disks.since disk_new (disks.moment start)) (FromThenOn disks.moment disks.since start disk_new))
+    → Announces status o.key before after
+    → Generates disks status seed count left_before left_after disk_old disk_new before after
+generated disks root status seed count o left_before left_between left_after disk_old start disk_new before after left_told shown_told store stands later time fills publish announced =
     let drawn : List ℕ = store.0 in
-    let s = told_again shown_after shown_between x (sym shown_told) now in
-    let whole = fresh_stands drawn o store.1.owner store.1.same_key s.0 (store.3 s.0 s.1) in
     record {
       drawn = drawn;
       drawn_length = store.1.all_drawn;
       behind = left_between;
       next = store.2;
       behind_told = left_told;
-      moment = moment;
-      fills = fills (piece drawn 0) (making.made_with (making.root_keys drawn)) (begins root drawn o shown_between s.0 store.1 s.1 whole.stands);
-      published = publish (piece drawn 0) (making.made_with (making.root_keys drawn)) (begins root drawn o shown_between s.0 store.1 s.1 whole.stands).stands;
+      start = start;
+      stands = stands;
+      later = later;
+      time = time;
+      fills = λ x now.
+          let s = told_again (disks.shown disk_new) (disks.shown start) x (sym shown_told) now in
+          fills (piece drawn 0) (making.made_with (making.root_keys drawn)) (begins_there root drawn o (disks.shown start) s.0 store.1 store.3 s.1);
+      published = λ x now.
+          let s = told_again (disks.shown disk_new) (disks.shown start) x (sym shown_told) now in
+          let begun = begins_there root drawn o (disks.shown start) s.0 store.1 store.3 s.1 in
+          publish (piece drawn 0) (making.made_with (making.root_keys drawn)) begun.stands;
+      announced = subst (λ (key : List ℕ). Announces status key before after) store.1.same_key announced;
     }
 
 -- behind the making the random source ended in a command's draw

@@ -41,18 +41,19 @@ pub step_answers : {R D : Type 0} (left : R → Option (List ℕ)) (random_fault
     → is_some (shown e) ≡ is_some (shown d) → is_some (left y) ≡ is_some (left x)
     → DiskCounts result (disk_faults d) (disk_faults e) → FillsByCount result (random_faults x) (random_faults y)
     → OnOk result (TakesKeys (left x) (left y))
-    → ((had need : ℕ) → result ≡ Err (faults.RandomShort had need) → FallsShort o r had need (left x) (left y))
+    → ((had need : ℕ) → result ≡ Err (faults.RandomShort had need) → FallsShort o r had need (left x) (left y)) → n.key ≡ o.key
     → MatchResult result
     (λ reply. AnswersIn (scene left random_faults shown moment disk_faults o x d) r reply (scene left random_faults shown moment disk_faults n y e)
     (may_leave d) (may_leave e) (since d) (since e) × PublishesOn o (shown d) (may_leave d) (FromThenOn moment since d e))
     (λ fault. FailsIn (scene left random_faults shown moment disk_faults o x d) r fault (scene left random_faults shown moment disk_faults n y e)
     (may_leave d) (may_leave e) (since d) (since e) × (fault ≢ faults.DiskFault → IsDurable (may_leave e) (shown e))
     × PublishesOn o (shown d) (may_leave d) (FromThenOn moment since d e))
-step_answers left rf shown moment df may_leave since (Ok (replies.Refused why)) r o n x y d e answers published later time closed unclosed kept calm counted st lt dc rc draws short = (
+step_answers left rf shown moment df may_leave since (Ok (replies.Refused why)) r o n x y d e answers published later time closed unclosed kept calm counted st lt dc rc draws short same = (
   record {
     answers = answers;
     later = later;
     time = time;
+    same_key = same;
     left_told = lt;
     shown_told = st;
     draws = draws;
@@ -63,11 +64,12 @@ step_answers left rf shown moment df may_leave since (Ok (replies.Refused why)) 
   },
   published,
 )
-step_answers left rf shown moment df may_leave since (Ok replies.Done) r o n x y d e answers published later time closed unclosed kept calm counted st lt dc rc draws short = (
+step_answers left rf shown moment df may_leave since (Ok replies.Done) r o n x y d e answers published later time closed unclosed kept calm counted st lt dc rc draws short same = (
   record {
     answers = answers;
     later = later;
     time = time;
+    same_key = same;
     left_told = lt;
     shown_told = st;
     draws = draws;
@@ -78,11 +80,12 @@ step_answers left rf shown moment df may_leave since (Ok replies.Done) r o n x y
   },
   published,
 )
-step_answers left rf shown moment df may_leave since (Ok (replies.Made holder key)) r o n x y d e answers published later time closed unclosed kept calm counted st lt dc rc draws short = (
+step_answers left rf shown moment df may_leave since (Ok (replies.Made holder key)) r o n x y d e answers published later time closed unclosed kept calm counted st lt dc rc draws short same = (
   record {
     answers = answers;
     later = later;
     time = time;
+    same_key = same;
     left_told = lt;
     shown_told = st;
     draws = draws;
@@ -93,7 +96,7 @@ step_answers left rf shown moment df may_leave since (Ok (replies.Made holder ke
   },
   published,
 )
-step_answers left rf shown moment df may_leave since (Err faults.RandomFault) r o n x y d e answers published later time closed unclosed kept calm counted st lt dc rc draws short = (
+step_answers left rf shown moment df may_leave since (Err faults.RandomFault) r o n x y d e answers published later time closed unclosed kept calm counted st lt dc rc draws short same = (
   record {
     answers = answers;
     later = later;
@@ -112,7 +115,7 @@ step_answers left rf shown moment df may_leave since (Err faults.RandomFault) r 
   λ no. calm,
   published,
 )
-step_answers left rf shown moment df may_leave since (Err (faults.RandomShort had need)) r o n x y d e answers published later time closed unclosed kept calm counted st lt dc rc draws short = (
+step_answers left rf shown moment df may_leave since (Err (faults.RandomShort had need)) r o n x y d e answers published later time closed unclosed kept calm counted st lt dc rc draws short same = (
   record {
     answers = answers;
     later = later;
@@ -131,7 +134,7 @@ step_answers left rf shown moment df may_leave since (Err (faults.RandomShort ha
   λ no. calm,
   published,
 )
-step_answers left rf shown moment df may_leave since (Err faults.DiskFault) r o n x y d e answers published later time closed unclosed kept calm counted st lt dc rc draws short = (
+step_answers left rf shown moment df may_leave since (Err faults.DiskFault) r o n x y d e answers published later time closed unclosed kept calm counted st lt dc rc draws short same = (
   record {
     answers = answers;
     later = later;
@@ -153,7 +156,7 @@ step_answers left rf shown moment df may_leave since (Err faults.DiskFault) r o 
 step_answers left rf shown moment df may_leave since (Err faults.Closed) r o n x y d e answers published later time closed unclosed kept calm counted st lt dc rc draws short =
     let shut : IsTrue o.journal.is_closed = closed.0 refl in
     absurd cc
-step_answers left rf shown moment df may_leave since (Err faults.OutOfMemory) r o n x y d e answers published later time closed unclosed kept calm counted st lt dc rc draws short = (
+step_answers left rf shown moment df may_leave since (Err faults.OutOfMemory) r o n x y d e answers published later time closed unclosed kept calm counted st lt dc rc draws short same = (
   record {
     answers = answers;
     later = later;

@@ -20,7 +20,7 @@ use Rattle.cryptree_cli.specs.Stopping.{LinesKeepUpTo}
 use Rattle.cryptree_cli.specs.declared.script.ScriptFault.{ScriptFault}
 use Rattle.cryptree_cli.specs.declared.script.ScriptFault.TheVariants.{BadLine, ReadFault, WriteFault, OutOfMemory, Applying}
 use Rattle.cryptree_cli.specs.declared.status.Status.TheVariants as statuses
-use Rattle.cryptree_cli.proofs.AnsweredScripts.{counts_rise, keys_taken, time_goes, told_stays}
+use Rattle.cryptree_cli.proofs.AnsweredScripts.{counts_rise, key_stays, keys_taken, time_goes, told_stays}
 use Rattle.cryptree_cli.proofs.RunEnds.{IsCalm, ends_as, still_told}
 use Rattle.public_fold.specs.Journal.{Journal}
 use Rattle.store_owner.specs.Owned.{OwnerView}
@@ -90,6 +90,10 @@ module _ (R D : Type 0) (left : R → Option (List ℕ)) (random_faults : R → 
         let told = told_stays (OwnerView × R × D) scene leaves moments Step (λ x r reply y step. step.0) start asked given end answers in
         let counts = counts_rise (OwnerView × R × D) scene leaves moments Step (λ x r reply y step. step.0) start asked given end answers in
         (told.0, told.1, counts.0, counts.1)
+
+    -- where all lines were answered the owner has the key that it had
+    pub same_key : HasRan (Ok tt) → end.0.key ≡ start.0.key
+    same_key ran = key_stays (OwnerView × R × D) scene leaves moments Step (λ x r reply y step. step.0) start ran.asked ran.replies end ran.stands
 
     -- the last command met a fault
     pub record Stops (fault : ApplyFault) : Type 0 where

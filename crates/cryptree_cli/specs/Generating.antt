@@ -1,8 +1,11 @@
 -- What `gen` leaves and prints. This project's own, docs/FORMAT.md, "Generated scripts" and "The program".
 use Rattle.std.specs.Prelude.{◌≡◌, ◌≤◌, ◌⊎◌, ℕ, ◌+◌, List, [], ◌++◌, length, map, Option, None, Result, Ok, Err, is_some}
+use Rattle.batch_log.specs.Moments.{FromThenOn}
+use Rattle.commit_journal.specs.Holding.{GoesOn}
 use Rattle.cry_base.specs.Requests.{Request}
 use Rattle.cry_base.specs.declared.limits.Limits.{Limits}
-use Rattle.cry_io.specs.Told.{WhereBothTold}
+use Rattle.cry_io.specs.Told.{WhereBothTold, WhereTold}
+use Rattle.cry_io.specs.declared.disk.Disk as disk
 use Rattle.journal_bytes.specs.Script.{opened}
 use Rattle.key_links.specs.Fresh.{fresh_draw_len, piece}
 use Rattle.public_fold.specs.Journal.{Journal}
@@ -13,12 +16,13 @@ use Rattle.store_owner.specs.Making.{made_with, root_keys}
 use Rattle.store_owner.specs.Owned.{OwnerView}
 use Rattle.store_owner.specs.Sessions.{StandsAt}
 use Rattle.store_owner.specs.Tallied.{counted_in, tally_in, tally_of}
+use Rattle.store_owner.specs.declared.tally.Tally.{Tally}
 use Rattle.cryptree_cli.specs.Figures.{spell_figures}
 use Rattle.cryptree_cli.specs.Lines.{InputLine}
 use Rattle.cryptree_cli.specs.Lines.InputLine.{Whole}
 use Rattle.cryptree_cli.specs.Running.{DrawsNext, LeavesAt, RanCut, RanDry, RanShort, RanUndrawn, RanUnwritten, Seen, SessionOver}
 use Rattle.cryptree_cli.specs.Running.{seen_from, version_limits}
-use Rattle.cryptree_cli.specs.Making.{IsShort}
+use Rattle.cryptree_cli.specs.Making.{IsShort, StandsMade}
 use Rattle.cryptree_cli.specs.Outside.{PrintsAll, PrintsFront}
 use Rattle.cryptree_cli.specs.Published.{LinesPublish}
 use Rattle.cryptree_cli.specs.Stopping.{LinesKeepUpTo}
@@ -104,21 +108,35 @@ Fills statuses.WriteFault seed count key m seen may_leave KeepsTo before after =
 Fills status seed count key m seen may_leave KeepsTo before after =
     StopsApplying status version_limits key m (script_lines seed count) seen may_leave KeepsTo
 
--- The next 192 bytes of the random source were drawn, and made a store as `make` does; from the moment where it stood the lines of
--- the script were applied, as one session over its journal, with the bytes behind these. No stop since then takes back what was published
--- when it comes, or at an earlier one of these moments.
-pub record Generates (status : Status) (seed count : ℕ) (left_before left_after shown : Option (List ℕ)) (may_leave : List ℕ → Type 0)
-    (since : ℕ → List ℕ → List ℕ → Type 0) (from_moment_on : ℕ → (List ℕ → List ℕ → Type 0) → Type 0)
-    (written_before written_after : Option (List ℕ)) : Type 0 where
+-- The owner's line and some five figures were printed, or a front of them. So it is whether or not the disk tells; which figures, says
+-- `Fills`.
+abbrev pub Announces : Status → List ℕ → Option (List ℕ) → Option (List ℕ) → Type 0
+Announces statuses.Done key before after =
+    (figures : Tally) × WhereBothTold before after (PrintsAll (owner_line key ++ spell_figures figures))
+Announces statuses.WriteFault key before after =
+    (figures : Tally) × WhereBothTold before after (PrintsFront (owner_line key ++ spell_figures figures))
+Announces _ key before after = Unit {0}
+
+-- The next 192 bytes of the random source were drawn, and at the moment of `start` the store stood that `make` makes of them. From that
+-- moment on the lines of the script were applied, as one session over its journal, with the random bytes behind these. No stop since then
+-- takes back what was published when it comes, or at an earlier one of these moments.
+pub record Generates {D : Type 0} (disks : disk.Ghosts D) (status : Status) (seed count : ℕ) (left_before left_after : Option (List ℕ))
+    (disk_old disk_new : D) (written_before written_after : Option (List ℕ)) : Type 0 where
   pub drawn : List ℕ
   pub drawn_length : length drawn ≡ fresh_draw_len
   pub behind : Option (List ℕ)
   pub next : WhereBothTold left_before behind (λ before after. before ≡ drawn ++ after)
   pub behind_told : is_some behind ≡ is_some left_before
-  pub moment : ℕ
-  pub fills : Fills status seed count (piece drawn 0) (made_with (root_keys drawn)) (unheard behind left_after shown) may_leave
-      (LinesKeepUpTo (piece drawn 0) (made_with (root_keys drawn)) (since moment)) written_before written_after
-  pub published : LinesPublish (piece drawn 0) (made_with (root_keys drawn)) (since moment) (from_moment_on moment)
+  pub start : D
+  pub stands : StandsMade disks drawn disk_old start
+  pub later : disks.moment start ≤ disks.moment disk_new
+  pub time : GoesOn (disks.moment start) (disks.since start) (disks.since disk_new)
+  pub fills : WhereTold (disks.shown disk_new) (λ s. Fills status seed count (piece drawn 0) (made_with (root_keys drawn))
+      (unheard behind left_after (disks.shown disk_new)) (disks.may_leave disk_new)
+      (LinesKeepUpTo (piece drawn 0) (made_with (root_keys drawn)) (disks.since disk_new (disks.moment start))) written_before written_after)
+  pub published : WhereTold (disks.shown disk_new) (λ s. LinesPublish (piece drawn 0) (made_with (root_keys drawn))
+      (disks.since disk_new (disks.moment start)) (FromThenOn disks.moment disks.since start disk_new))
+  pub announced : Announces status (piece drawn 0) written_before written_after
 
 -- no store was made: for want of memory, before anything was drawn; or the random source failed or ended in the draw for it, and
 -- nothing was written; or the disk failed behind that draw

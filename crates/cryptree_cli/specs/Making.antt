@@ -1,8 +1,11 @@
 -- What `make` leaves. This project's own, docs/FORMAT.md, "The program".
-use Rattle.std.specs.Prelude.{◌≡◌, ◌<◌, ◌⊎◌, ℕ, List, [], ◌++◌, length, Option}
+use Rattle.std.specs.Prelude.{◌≡◌, ◌<◌, ◌≤◌, ◌⊎◌, ℕ, List, [], ◌++◌, length, Option, is_some}
+use Rattle.commit_journal.specs.Holding.{GoesOn}
+use Rattle.cry_io.specs.Stops.{IsDurable}
 use Rattle.cry_io.specs.Told.{WhereTold, WhereBothTold}
+use Rattle.cry_io.specs.declared.disk.Disk as disk
 use Rattle.journal_bytes.specs.Journals.{IsSettled}
-use Rattle.key_links.specs.Fresh.{fresh_draw_len, fresh_image, piece}
+use Rattle.key_links.specs.Fresh.{fresh_draw_len, fresh_image, fresh_store_len, piece}
 use Rattle.script_text.specs.Printing.{owner_line}
 use Rattle.store_owner.specs.Making.{made_with, root_keys}
 use Rattle.cryptree_cli.specs.declared.status.Status.{Status}
@@ -22,6 +25,16 @@ pub record Makes (Prints : List ℕ → List ℕ → List ℕ → Type 0) (left_
   pub shows : WhereTold shown (λ s. s ≡ fresh_image drawn)
   pub settled : WhereTold shown (λ s. IsSettled (piece drawn 0) (made_with (root_keys drawn)) shown may_leave)
   pub printed : WhereBothTold written_before written_after (Prints (line_drawn drawn))
+
+-- The store of these bytes stands at a moment of a call: the disk shows exactly its image, all of it is synced, and a stop then leaves that
+-- and nothing else.
+pub record StandsMade {D : Type 0} (disks : disk.Ghosts D) (drawn : List ℕ) (before start : D) : Type 0 where
+  pub told : is_some (disks.shown start) ≡ is_some (disks.shown before)
+  pub shows : WhereTold (disks.shown start) (λ s. s ≡ fresh_image drawn)
+  pub durable : IsDurable (disks.may_leave start) (disks.shown start)
+  pub size : disks.size_of start ≡ fresh_store_len
+  pub later : disks.moment before ≤ disks.moment start
+  pub time : GoesOn (disks.moment before) (disks.since before) (disks.since start)
 
 -- the source ended after so many bytes of the 192 that `make` draws, and they are gone
 pub record IsShort (left need : ℕ) (left_before left_after : Option (List ℕ)) : Type 0 where

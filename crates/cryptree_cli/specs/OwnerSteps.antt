@@ -23,7 +23,8 @@ pub record Scene : Type 0 where
   pub disk_faults : ℕ
 
 -- a command that is answered: as the journal says for which the owner stands, with what a stop might leave before, at each moment since,
--- and after; it takes whole keys, and a refused one draws and writes nothing; and one that is accepted is counted
+-- and after; the owner's key stays; it takes whole keys, and a refused
+-- one draws and writes nothing; and one that is accepted is counted
 pub record AnswersIn (before : Scene) (request : Request) (reply : Reply) (after : Scene) (might may : List ℕ → Type 0)
     (past since : ℕ → List ℕ → List ℕ → Type 0) : Type 0 where
   pub answers : (m : Journal) → IsOwnerOf m before.owner
@@ -31,6 +32,7 @@ pub record AnswersIn (before : Scene) (request : Request) (reply : Reply) (after
       might may (since before.moment)
   pub later : before.moment ≤ after.moment
   pub time : GoesOn before.moment past since
+  pub same_key : after.owner.key ≡ before.owner.key
   pub left_told : is_some after.left ≡ is_some before.left
   pub shown_told : is_some after.shown ≡ is_some before.shown
   pub draws : TakesKeys before.left after.left

@@ -4,7 +4,6 @@
 -- Whoever reads the store while a run goes on reads what the disk shows then. A stop at that moment, or at any later one of the run, leaves
 -- all batches that this publishes; and so does what a stop may leave behind the run.
 use Rattle.std.specs.Prelude.{◌≡◌, ℕ, List, Option, Some}
-use Rattle.batch_log.specs.Moments.{FromThenOn}
 use Rattle.commit_journal.specs.Gates.{recovered}
 use Rattle.commit_journal.specs.Holding.{IsPrefix}
 use Rattle.cryptree_cli.specs.Running.{key_in_lines, lines_in}
@@ -23,10 +22,6 @@ pub record LinesPublish (key : List ℕ) (m : Journal) (since : List ℕ → Lis
     : Type 0 where
   pub kept : from_then_on (HasPublished key)
   pub has : KeepsBatches key m since
-
--- so it is from some state of the disk at this moment on, to the end
-abbrev pub FromMomentOn : {D : Type 0} → (D → ℕ) → (D → ℕ → List ℕ → List ℕ → Type 0) → D → ℕ → (List ℕ → List ℕ → Type 0) → Type 0
-FromMomentOn {D} moment since now t R = (start : D) × (moment start ≡ t) × FromThenOn moment since start now R
 
 -- A whole run, whatever it ends with: no stop at a moment of it takes back what was published then, or at an earlier one. So it is for each
 -- journal with the key that the first line hands in, where the disk showed it and no stop then took back what was published.

@@ -1,9 +1,9 @@
 //! The command `gen`: a store is made as `make` makes it, a generated script is applied to it in one session by the loop of `run`, and then
 //! its owner's line and its figures are printed in one piece.
-ghost use Rattle.std.specs.Prelude.{◌≡◌, ◌≢◌, ◌<◌, ◌≤◌, ◌⊎◌, ◌↔◌, ◌++◌, ℕ, [], List, Err, IfErr, false, is_some, IsTrue};
+ghost use Rattle.std.specs.Prelude.{◌≡◌, ◌≢◌, ◌<◌, ◌≤◌, ◌⊎◌, ◌↔◌, ◌++◌, ℕ, [], List, Err, IfErr, OnOk, false, is_some, IsTrue};
 ghost use Rattle.batch_log.specs.Moments.{FromThenOn};
+ghost use Rattle.commit_journal.specs.Holding.{GoesOn};
 ghost use Rattle.cry_io.specs.Stops.{IsDurable};
-ghost use Rattle.cry_io.specs.Told.{WhereTold};
 ghost use Rattle.public_fold.specs.Journal.{Journal};
 ghost use Rattle.journal_bytes.specs.Script.{opened};
 ghost use Rattle.script_text.specs.Printing.{owner_line};
@@ -11,9 +11,9 @@ ghost use Rattle.store_gen.specs.Rule.{script_of};
 ghost use Rattle.store_owner.specs.Sessions.{StandsAt};
 ghost use Rattle.store_owner.specs.Tallied.{tally_in};
 ghost use Rattle.cryptree_cli.specs.Figures.{spell_figures};
-ghost use Rattle.cryptree_cli.specs.Generating.{Applies, Begins, EndsDry, Fills, Generates, IsScript, IsStop, IsUnmade, Tells};
+ghost use Rattle.cryptree_cli.specs.Generating.{Announces, Applies, Begins, EndsDry, Fills, Generates, IsScript, IsStop, IsUnmade, Tells};
 ghost use Rattle.cryptree_cli.specs.Generating.{unheard};
-ghost use Rattle.cryptree_cli.specs.Published.{FromMomentOn, LinesPublish};
+ghost use Rattle.cryptree_cli.specs.Published.{LinesPublish};
 ghost use Rattle.cryptree_cli.specs.Running.{RanDry, version_limits};
 ghost use Rattle.cryptree_cli.specs.Status.{is_make_answer, is_before_print};
 ghost use Rattle.cryptree_cli.specs.Stopping.{LinesKeepUpTo};
@@ -46,8 +46,10 @@ pub(crate) fn generate_store<R: Source, D: Disk, W: Sink>(
     ensures not_blank { (result ≡ Status.NotBlank) ↔ (D.size_of disk.old ≢ 0) }
     ensures blank_kept { result ≡ Status.NotBlank → (random.new ≡ random.old) × (disk.new ≡ disk.old) }
     ensures generates { D.size_of disk.old ≡ 0 → IsUnmade R.left result random.old random.new disk.old disk.new
-        ⊎ WhereTold (D.shown disk.new) (λ s. Generates result seed count (R.left random.old) (R.left random.new) (D.shown disk.new)
-        (D.may_leave disk.new) (D.since disk.new) (FromMomentOn D.moment D.since disk.new) (W.written out.old) (W.written out.new)) }
+        ⊎ Generates D.Disk result seed count (R.left random.old) (R.left random.new) disk.old disk.new (W.written out.old)
+        (W.written out.new) }
+    ensures later { D.moment disk.old ≤ D.moment disk.new }
+    ensures time { GoesOn (D.moment disk.old) (D.since disk.old) (D.since disk.new) }
     ensures calm { result ≢ Status.DiskFault → (disk.new ≡ disk.old) ⊎ IsDurable (D.may_leave disk.new) (D.shown disk.new) }
     ensures short { (left need : ℕ) → result ≡ Status.RandomShort left need → EndsDry left need (R.left random.old) (R.left random.new) }
     ensures random_fault { result ≡ Status.RandomFault → R.faults random.old < R.faults random.new }
@@ -97,6 +99,9 @@ fn fill<R: Source, D: Disk, W: Sink>(
         (LinesKeepUpTo key m (D.since disk.new (D.moment disk.old))) (W.written out.old) (W.written out.new) }
     ensures published { (key : List ℕ) (m : Journal) → StandsAt version_limits key (opened m []) owner (D.shown disk.old)
         → LinesPublish key m (D.since disk.new (D.moment disk.old)) (FromThenOn D.moment D.since disk.old disk.new) }
+    ensures announced { Announces result owner.key (W.written out.old) (W.written out.new) }
+    ensures later { D.moment disk.old ≤ D.moment disk.new }
+    ensures time { GoesOn (D.moment disk.old) (D.since disk.old) (D.since disk.new) }
     ensures calm { result ≢ Status.DiskFault → IsDurable (D.may_leave disk.new) (D.shown disk.new) }
     ensures short { (left need : ℕ) → result ≡ Status.RandomShort left need → RanDry left need (R.left random.old) (R.left random.new) }
     ensures random_fault { result ≡ Status.RandomFault → R.faults random.old < R.faults random.new }
@@ -135,6 +140,9 @@ fn apply_script<R: Source, D: Disk>(
         (LinesKeepUpTo key m (D.since disk.new (D.moment disk.old))) }
     ensures published { (key : List ℕ) (m : Journal) → StandsAt version_limits key (opened m []) owner.old (D.shown disk.old)
         → LinesPublish key m (D.since disk.new (D.moment disk.old)) (FromThenOn D.moment D.since disk.old disk.new) }
+    ensures same_key { OnOk result (owner.new.key ≡ owner.old.key) }
+    ensures later { D.moment disk.old ≤ D.moment disk.new }
+    ensures time { GoesOn (D.moment disk.old) (D.since disk.old) (D.since disk.new) }
     ensures calm { result ≢ Err Status.DiskFault → IsDurable (D.may_leave disk.new) (D.shown disk.new) }
     ensures short { (left need : ℕ) → result ≡ Err (Status.RandomShort left need)
         → RanDry left need (R.left random.old) (R.left random.new) }

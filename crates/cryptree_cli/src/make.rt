@@ -1,5 +1,6 @@
 //! The command `make`: the disk's size, all memory, one draw, the store, the owner's line, in this order.
 ghost use Rattle.std.specs.Prelude.{◌≡◌, ◌≢◌, ◌<◌, ◌≤◌, ◌⊎◌, ◌↔◌, ℕ, [], is_some, IfOk, IsTrue};
+ghost use Rattle.commit_journal.specs.Holding.{GoesOn};
 ghost use Rattle.cry_io.specs.Stops.{IsDurable};
 ghost use Rattle.cry_io.specs.Told.{WhereTold, WhereBothTold};
 ghost use Rattle.key_links.specs.Fresh.{fresh_store_len};
@@ -40,6 +41,8 @@ pub(crate) fn make<R: Source, D: Disk, W: Sink>(
     ensures stays { (result ≡ Status.Done) ⊎ (result ≡ Status.WriteFault) →
         IsDurable (D.may_leave disk.new) (D.shown disk.new) × (D.size_of disk.new ≡ fresh_store_len) }
 
+    ensures later { D.moment disk.old ≤ D.moment disk.new }
+    ensures time { GoesOn (D.moment disk.old) (D.since disk.old) (D.since disk.new) }
     ensures random_kept { IsTrue (is_before_draw result) → random.new ≡ random.old }
     ensures disk_kept { IsTrue (is_before_write result) → disk.new ≡ disk.old }
     ensures out_kept { IsTrue (is_before_print result) → out.new ≡ out.old }

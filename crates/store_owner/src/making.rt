@@ -1,5 +1,6 @@
 //! Makes a store: all memory, one draw, the root sealed, the store file written, in this order.
 ghost use Rattle.std.specs.Prelude.{◌≡◌, ◌≢◌, ◌<◌, ◌≤◌, ◌+◌, ℕ, Err, IfErr, IfOk, None, OnOk, Some, [], ◌∷◌, ◌++◌, is_some, length};
+ghost use Rattle.commit_journal.specs.Holding.{GoesOn};
 ghost use Rattle.commit_journal.specs.Image.{image};
 ghost use Rattle.commit_journal.specs.Journals.{IsJournalOf};
 ghost use Rattle.cry_base.specs.Limits.{most_file_bytes, most_store_bytes};
@@ -143,6 +144,8 @@ impl Blank {
         ensures durable { OnOk result (IsDurable (D.may_leave disk.new) (D.shown disk.new)) }
         ensures size { OnOk result (D.size_of disk.new ≡ fresh_store_len) }
         ensures told { is_some (D.shown disk.new) ≡ is_some (D.shown disk.old) }
+        ensures later { D.moment disk.old ≤ D.moment disk.new }
+        ensures time { GoesOn (D.moment disk.old) (D.since disk.old) (D.since disk.new) }
         ensures fault { IfErr result (λ fault. fault ≡ ApplyFault.DiskFault) }
         ensures counts { CountsFault result (D.faults disk.old) (D.faults disk.new) }
     {
@@ -243,6 +246,8 @@ fn made<D: Disk>(
     ensures durable { OnOk result (IsDurable (D.may_leave disk.new) (D.shown disk.new)) }
     ensures size { OnOk result (D.size_of disk.new ≡ fresh_store_len) }
     ensures told { is_some (D.shown disk.new) ≡ is_some (D.shown disk.old) }
+    ensures later { D.moment disk.old ≤ D.moment disk.new }
+    ensures time { GoesOn (D.moment disk.old) (D.since disk.old) (D.since disk.new) }
     ensures fault { IfErr result (λ fault. fault ≡ ApplyFault.DiskFault) }
     ensures counts { CountsFault result (D.faults disk.old) (D.faults disk.new) }
 {
@@ -289,6 +294,8 @@ impl Owner {
         ensures not_closed { result ≢ Err ApplyFault.Closed }
         ensures no_memory { result ≡ Err ApplyFault.OutOfMemory → (random.new ≡ random.old) × (disk.new ≡ disk.old) }
         ensures untouched { IfErr result (λ fault. fault ≢ ApplyFault.DiskFault → disk.new ≡ disk.old) }
+        ensures later { D.moment disk.old ≤ D.moment disk.new }
+        ensures time { GoesOn (D.moment disk.old) (D.since disk.old) (D.since disk.new) }
         ensures disk_told { is_some (D.shown disk.new) ≡ is_some (D.shown disk.old) }
         ensures source_told { is_some (R.left random.new) ≡ is_some (R.left random.old) }
         ensures disk_counts { D.faults disk.old ≤ D.faults disk.new }
@@ -371,6 +378,8 @@ fn write_store<D: Disk>(
     ensures durable { OnOk result (IsDurable (D.may_leave disk.new) (D.shown disk.new)) }
     ensures size { OnOk result (D.size_of disk.new ≡ fresh_store_len) }
     ensures told { is_some (D.shown disk.new) ≡ is_some (D.shown disk.old) }
+    ensures later { D.moment disk.old ≤ D.moment disk.new }
+    ensures time { GoesOn (D.moment disk.old) (D.since disk.old) (D.since disk.new) }
     ensures fault { IfErr result (λ fault. fault ≡ CommitFault.DiskFault) }
     ensures counts { CountsFault result (D.faults disk.old) (D.faults disk.new) }
 {

@@ -4,6 +4,7 @@
 -- front of that line was printed. Before the draw the random source is as it was; before the writing the disk; before the printing the
 -- output. The input is never touched.
 use Rattle.std.specs.Prelude.{◌≡◌, ◌≢◌, ◌≤◌, ◌⊎◌, ◌↔◌, ℕ, length, IsTrue}
+use Rattle.commit_journal.specs.Holding.{GoesOn}
 use Rattle.cry_io.specs.Stops.{IsDurable}
 use Rattle.cry_io.specs.Told.{WhereTold}
 use Rattle.cry_io.specs.declared.disk.Disk as disk
@@ -37,6 +38,8 @@ pub record MakeEnds {S R D W : Type 0} (inputs : source.Ghosts S) (randoms : sou
       (disks.shown disk_new) (disks.may_leave disk_new) (outs.written out_old) (outs.written out_new)
   pub stays : (status ≡ statuses.Done) ⊎ (status ≡ statuses.WriteFault)
       → IsDurable (disks.may_leave disk_new) (disks.shown disk_new) × (disks.size_of disk_new ≡ fresh_store_len)
+  pub later : disks.moment disk_old ≤ disks.moment disk_new
+  pub time : GoesOn (disks.moment disk_old) (disks.since disk_old) (disks.since disk_new)
   pub input_kept : input_new ≡ input_old
   pub random_kept : IsTrue (is_before_draw status) → random_new ≡ random_old
   pub disk_kept : IsTrue (is_before_write status) → disk_new ≡ disk_old

@@ -5,7 +5,7 @@ use Rattle.cryptree_cli.specs.Stopping.{LinesKeepUpTo}
 use Rattle.cryptree_cli.specs.declared.status.Status.TheVariants as statuses
 use Rattle.cryptree_cli.proofs.GeneratedRuns.{applies_to_end, applies_to_stop, stops}
 use Rattle.cryptree_cli.proofs.PublishedLines.{publish_lines}
-use Rattle.cryptree_cli.proofs.RunLemmas.{calm_but, calm_is, disk_fault, goes_on, random_fault, random_short}
+use Rattle.cryptree_cli.proofs.RunLemmas.{calm_but, calm_is, disk_fault, goes_on, random_fault, random_short, same_key, time_goes_on}
 use Rattle.cryptree_cli.proofs.generating.apply_script.Goals as goal
 
 pub returns-in-Ok-clause-applies : goal.returns-in-Ok-clause-applies
@@ -151,3 +151,42 @@ returns-clause-published g c = λ key m stands.
     c.new-reader.result c.run_lines.new.reader (Some c.args.script) (Some c.run_lines.new.input) None None
     (λ d s left at. g.met.D.Disk.only_now d s left at) (λ d t s left early is leaves. g.met.D.Disk.counts_now d t s left early is leaves)
     (λ d s is. g.met.D.Disk.shown_may_be_left d s is) key m stands c.requires.durable (Err c.in-Err.fault) c.in-Err.ensures.ran
+
+pub returns-in-Ok-clause-later : goal.returns-in-Ok-clause-later
+returns-in-Ok-clause-later g c =
+    (time_goes_on g.row.R.Denot g.row.D.Denot g.R.Source.left g.R.Source.faults g.D.Disk.shown g.D.Disk.faults g.D.Disk.may_leave g.D.Disk.moment g.D.Disk.since
+    (c.args.owner.now, c.args.random.now, c.args.disk.now) (c.run_lines.new.owner, c.run_lines.new.random, c.run_lines.new.disk)
+    c.new-reader.result c.run_lines.new.reader (Some c.args.script) (Some c.run_lines.new.input) None None
+    (λ d s left at. g.met.D.Disk.only_now d s left at) (λ d t s left early is leaves. g.met.D.Disk.counts_now d t s left early is leaves)
+    (Ok tt) c.in-Ok.ensures.ran).0
+
+pub returns-in-Ok-clause-time : goal.returns-in-Ok-clause-time
+returns-in-Ok-clause-time g c =
+    (time_goes_on g.row.R.Denot g.row.D.Denot g.R.Source.left g.R.Source.faults g.D.Disk.shown g.D.Disk.faults g.D.Disk.may_leave g.D.Disk.moment g.D.Disk.since
+    (c.args.owner.now, c.args.random.now, c.args.disk.now) (c.run_lines.new.owner, c.run_lines.new.random, c.run_lines.new.disk)
+    c.new-reader.result c.run_lines.new.reader (Some c.args.script) (Some c.run_lines.new.input) None None
+    (λ d s left at. g.met.D.Disk.only_now d s left at) (λ d t s left early is leaves. g.met.D.Disk.counts_now d t s left early is leaves)
+    (Ok tt) c.in-Ok.ensures.ran).1
+
+pub returns-clause-later : goal.returns-clause-later
+returns-clause-later g c =
+    (time_goes_on g.row.R.Denot g.row.D.Denot g.R.Source.left g.R.Source.faults g.D.Disk.shown g.D.Disk.faults g.D.Disk.may_leave g.D.Disk.moment g.D.Disk.since
+    (c.args.owner.now, c.args.random.now, c.args.disk.now) (c.run_lines.new.owner, c.run_lines.new.random, c.run_lines.new.disk)
+    c.new-reader.result c.run_lines.new.reader (Some c.args.script) (Some c.run_lines.new.input) None None
+    (λ d s left at. g.met.D.Disk.only_now d s left at) (λ d t s left early is leaves. g.met.D.Disk.counts_now d t s left early is leaves)
+    (Err c.in-Err.fault) c.in-Err.ensures.ran).0
+
+pub returns-clause-time : goal.returns-clause-time
+returns-clause-time g c =
+    (time_goes_on g.row.R.Denot g.row.D.Denot g.R.Source.left g.R.Source.faults g.D.Disk.shown g.D.Disk.faults g.D.Disk.may_leave g.D.Disk.moment g.D.Disk.since
+    (c.args.owner.now, c.args.random.now, c.args.disk.now) (c.run_lines.new.owner, c.run_lines.new.random, c.run_lines.new.disk)
+    c.new-reader.result c.run_lines.new.reader (Some c.args.script) (Some c.run_lines.new.input) None None
+    (λ d s left at. g.met.D.Disk.only_now d s left at) (λ d t s left early is leaves. g.met.D.Disk.counts_now d t s left early is leaves)
+    (Err c.in-Err.fault) c.in-Err.ensures.ran).1
+
+pub returns-in-Ok-clause-same_key : goal.returns-in-Ok-clause-same_key
+returns-in-Ok-clause-same_key g c =
+    same_key g.row.R.Denot g.row.D.Denot g.R.Source.left g.R.Source.faults g.D.Disk.shown g.D.Disk.faults g.D.Disk.may_leave g.D.Disk.moment g.D.Disk.since
+    (c.args.owner.now, c.args.random.now, c.args.disk.now) (c.run_lines.new.owner, c.run_lines.new.random, c.run_lines.new.disk)
+    c.new-reader.result c.run_lines.new.reader (Some c.args.script) (Some c.run_lines.new.input) None None
+    c.in-Ok.ensures.ran

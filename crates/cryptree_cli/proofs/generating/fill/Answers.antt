@@ -4,7 +4,7 @@ use Rattle.store_owner.specs.Tallied.{tally_in}
 use Rattle.cryptree_cli.specs.Figures.{spell_figures}
 use Rattle.cryptree_cli.specs.Stopping.{LinesKeepUpTo}
 use Rattle.cryptree_cli.specs.declared.status.Status.TheVariants as statuses
-use Rattle.cryptree_cli.proofs.GenerateLemmas.{never_stop, never_told, not_stopped, same_stop, stop_answers, stop_fills, told_answers, told_before, told_fills}
+use Rattle.cryptree_cli.proofs.GenerateLemmas.{announces, never_stop, never_told, not_stopped, same_stop, stop_announces, stop_answers, stop_fills, told_answers, told_before, told_fills}
 use Rattle.cryptree_cli.proofs.generating.fill.Goals as goal
 
 pub returns-in-Ok-clause-answers : goal.returns-in-Ok-clause-answers
@@ -71,3 +71,12 @@ returns-in-Ok-clause-published g c = λ key m stands. c.in-Ok.ensures.published 
 
 pub returns-clause-published : goal.returns-clause-published
 returns-clause-published g c = λ key m stands. c.in-Err.ensures.published key m stands
+
+pub returns-in-Ok-clause-announced : goal.returns-in-Ok-clause-announced
+returns-in-Ok-clause-announced g c =
+    announces c.tell_outcome.result c.args.owner.key c.apply_script.new.owner (g.W.Sink.written c.args.out.now) (g.W.Sink.written c.tell_outcome.new.out)
+    c.in-Ok.ensures.same_key c.tell_outcome.ensures.tells
+
+pub returns-clause-announced : goal.returns-clause-announced
+returns-clause-announced g c =
+    stop_announces c.in-Err.status c.args.owner.key (g.W.Sink.written c.args.out.now) (g.W.Sink.written c.args.out.now) c.in-Err.ensures.stops

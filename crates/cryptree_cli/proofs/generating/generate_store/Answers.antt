@@ -1,10 +1,11 @@
 use Rattle.std.proofs.Common.{Err, inl, inr, ap, refl, sym, ◌∙◌, subst}
+use Rattle.batch_log.proofs.Moments.{goes_on_then}
 use Rattle.cryptree_cli.specs.Generating.{IsUnmade}
-use Rattle.cryptree_cli.specs.Published.{FromMomentOn}
 use Rattle.cryptree_cli.specs.Running.{version_limits}
 use Rattle.cryptree_cli.specs.declared.status.Status.{Status}
 use Rattle.cryptree_cli.proofs.GenerateLemmas.{dry_behind, generated, other_fault, unmade}
 use Rattle.cryptree_cli.proofs.MakeLemmas.{is_short, short_of}
+use Rattle.cryptree_cli.proofs.StopLemmas.{time_still}
 use Rattle.cryptree_cli.proofs.generating.generate_store.Goals as goal
 
 pub fill-requires-clause-is_script : goal.fill-requires-clause-is_script
@@ -15,12 +16,41 @@ fill-requires-clause-open g c = c.in-Ok-make.ensures.made.1.journal.is_open
 
 pub returns-in-Ok-make-clause-generates : goal.returns-in-Ok-make-clause-generates
 returns-in-Ok-make-clause-generates g c = λ blank.
-    inr (generated c.tallies_are_those_of_journals.ensures.made c.fill.result c.args.seed c.args.count c.in-Ok-make.owner (g.R.Source.left c.args.random.now) (g.R.Source.left c.make.new.random) (g.R.Source.left c.fill.new.random)
-    (g.D.Disk.shown c.make.new.disk) (g.D.Disk.shown c.fill.new.disk) (g.D.Disk.may_leave c.fill.new.disk) (g.D.Disk.since c.fill.new.disk)
-    (FromMomentOn g.D.Disk.moment g.D.Disk.since c.fill.new.disk) (g.D.Disk.moment c.make.new.disk)
-    (g.W.Sink.written c.args.out.now) (g.W.Sink.written c.fill.new.out) c.in-Ok-make.ensures.source_told c.fill.ensures.disk_told c.in-Ok-make.ensures.made
-    (λ key m begins. c.fill.ensures.fills c.args.seed c.args.count key m c.requires c.in-Ok.ensures begins)
-    (λ key m stands. let lines = c.fill.ensures.published key m stands in record { kept = (c.make.new.disk, refl, lines.kept); has = lines.has }))
+    let store = c.in-Ok-make.ensures.made in
+    inr (generated g.D.Disk c.tallies_are_those_of_journals.ensures.made c.fill.result c.args.seed c.args.count c.in-Ok-make.owner
+    (g.R.Source.left c.args.random.now) (g.R.Source.left c.make.new.random) (g.R.Source.left c.fill.new.random)
+    c.args.disk.now c.make.new.disk c.fill.new.disk (g.W.Sink.written c.args.out.now) (g.W.Sink.written c.fill.new.out)
+    c.in-Ok-make.ensures.source_told c.fill.ensures.disk_told store
+    (record {
+      told = c.in-Ok-make.ensures.disk_told;
+      shows = store.3;
+      durable = c.in-Ok-make.ensures.durable;
+      size = c.in-Ok-make.ensures.size;
+      later = c.in-Ok-make.ensures.later;
+      time = c.in-Ok-make.ensures.time;
+    })
+    c.fill.ensures.later c.fill.ensures.time
+    (λ key m begins. c.fill.ensures.fills c.args.seed c.args.count key m c.requires c.in-Ok.ensures begins) c.fill.ensures.published c.fill.ensures.announced)
+
+pub returns-in-Ok-make-clause-time : goal.returns-in-Ok-make-clause-time
+returns-in-Ok-make-clause-time g c =
+    let D = g.D.Disk in
+    goes_on_then (D.moment c.args.disk.now) (D.moment c.make.new.disk) (D.since c.args.disk.now) (D.since c.make.new.disk) (D.since c.fill.new.disk)
+    c.in-Ok-make.ensures.later c.in-Ok-make.ensures.time c.fill.ensures.time
+
+pub returns-then-size-clause-time : goal.returns-then-size-clause-time
+returns-then-size-clause-time g c =
+    let D = g.D.Disk in
+    let a = c.args.disk.now in
+    time_still (D.moment a) (D.since a) (D.shown a) (D.may_leave a) (λ s left at. g.met.D.Disk.only_now a s left at)
+    (λ t s left early is leaves. g.met.D.Disk.counts_now a t s left early is leaves)
+
+pub returns-in_default-clause-time : goal.returns-in_default-clause-time
+returns-in_default-clause-time g c =
+    let D = g.D.Disk in
+    let a = c.args.disk.now in
+    time_still (D.moment a) (D.since a) (D.shown a) (D.may_leave a) (λ s left at. g.met.D.Disk.only_now a s left at)
+    (λ t s left early is leaves. g.met.D.Disk.counts_now a t s left early is leaves)
 
 pub returns-in-Ok-make-clause-calm : goal.returns-in-Ok-make-clause-calm
 returns-in-Ok-make-clause-calm g c = λ other. inr (c.fill.ensures.calm other)

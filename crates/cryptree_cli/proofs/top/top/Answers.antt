@@ -30,6 +30,8 @@ returns-in-Some-Make-clause-makes g c = λ is.
       made = search rules;
       cut_short = search rules;
       stays = search rules;
+      later = make.later;
+      time = make.time;
       input_kept = refl;
       random_kept = search rules;
       disk_kept = search rules;
@@ -62,6 +64,8 @@ returns-in-Some-Gen-clause-generates g c = λ seed count asked.
           (λ e. omega (arith, gen.write_fault e, out))
           enough;
       generates = search rules;
+      later = gen.later;
+      time = gen.time;
       calm = search rules;
       input_kept = refl;
       blank_kept = search rules;

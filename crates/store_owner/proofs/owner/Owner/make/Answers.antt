@@ -1,6 +1,7 @@
 use Rattle.std.proofs.Common.{◌≡◌, ℕ, List, Err, ◌++◌, ap, length, refl, subst, sym, ◌∙◌}
 use Rattle.std.proofs.lemmas.Result.{IfErr-at_err}
 use Rattle.cry_io.specs.Told.{WhereBothTold}
+use Rattle.commit_journal.proofs.StoppedCommits.{stays}
 use Rattle.cry_base.specs.Listed.{Listed}
 use Rattle.store_owner.specs.declared.apply_fault.ApplyFault.{ApplyFault}
 use Rattle.store_owner.specs.Drawing.{AreKeys, DrawsKeys, IsFillFault, joined}
@@ -27,3 +28,24 @@ returns-in-Err-clause-short g c = λ short need is.
     (subst (λ (n : ℕ). IsFillFault {T = Listed (List ℕ)} n (Err c.in-Err.fault)) c.in-Ok-reserve.ensures c.in-Err.ensures.faults)
     (subst (λ (n : ℕ). WhereBothTold (left c.args.random.now) (left c.fill.new.random) (DrawsKeys n (Err c.in-Err.fault))) c.in-Ok-reserve.ensures c.in-Err.ensures.bytes)
     (IfErr-at_err (λ (f : ApplyFault). c.in-Err.fault ≡ f) is refl)
+
+pub returns-in_default-clause-time : goal.returns-in_default-clause-time
+returns-in_default-clause-time g c =
+    let D = g.D.Disk in
+    let a = c.args.disk.now in
+    stays (D.moment a) (D.since a) (D.shown a) (D.may_leave a) (λ s left at. g.met.D.Disk.only_now a s left at)
+    (λ t s left early is leaves. g.met.D.Disk.counts_now a t s left early is leaves)
+
+pub returns-in_default-reserve-clause-time : goal.returns-in_default-reserve-clause-time
+returns-in_default-reserve-clause-time g c =
+    let D = g.D.Disk in
+    let a = c.args.disk.now in
+    stays (D.moment a) (D.since a) (D.shown a) (D.may_leave a) (λ s left at. g.met.D.Disk.only_now a s left at)
+    (λ t s left early is leaves. g.met.D.Disk.counts_now a t s left early is leaves)
+
+pub returns-in-Err-clause-time : goal.returns-in-Err-clause-time
+returns-in-Err-clause-time g c =
+    let D = g.D.Disk in
+    let a = c.args.disk.now in
+    stays (D.moment a) (D.since a) (D.shown a) (D.may_leave a) (λ s left at. g.met.D.Disk.only_now a s left at)
+    (λ t s left early is leaves. g.met.D.Disk.counts_now a t s left early is leaves)
