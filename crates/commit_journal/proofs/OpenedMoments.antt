@@ -1,8 +1,10 @@
 -- The moments of calls that read a store, and of opening it for writing.
 use Rattle.std.proofs.Common.{◌≡◌, ◌≤◌, ◌⊎◌, ⊎_elim, inl, inr, ℕ, List, Option, Some, Ok, arith, sym, ◌∙◌}
 use Rattle.cry_base.specs.Limits.{most_store_bytes}
+use Rattle.cry_io.specs.Reading.{IsOnlyRead}
 use Rattle.cry_io.specs.Stops.{Elapses, IsDurable}
 use Rattle.cry_io.specs.Told.{WhereTold}
+use Rattle.cry_io.specs.declared.disk.Disk as disk
 use Rattle.batch_log.specs.Moments.{FromThenOn, GoesOn, Throughout}
 use Rattle.batch_log.specs.Moments.InSteps.{Then}
 use Rattle.batch_log.proofs.InOrder.{on_in_one}
@@ -19,19 +21,18 @@ use Rattle.commit_journal.proofs.SlotsLeft.{still_left, still_same}
 
 -- ---- calls that only read
 
--- two such calls
-pub same_twice : {D : Type 0} (shown : D → Option (List ℕ)) (may_leave : D → List ℕ → Type 0) (moment : D → ℕ) (since : D → ℕ → List ℕ → List ℕ → Type 0)
-    (a b e : D) → shown b ≡ shown a → ((c : List ℕ) → may_leave b c → may_leave a c) →
-    IsSameThroughout shown may_leave moment since a b → IsSameThroughout shown may_leave moment since b e → IsSameThroughout shown may_leave moment since a e
-same_twice shown may_leave moment since a b e same no_more first second =
-    let one = first.later in
-    let two = second.later in
-    record {
-      later = omega (arith, one, two);
-      time = goes_on_then (moment a) (moment b) (since a) (since b) (since e) one first.time second.time;
-      same = in_both (moment a) (moment b) (since b) (since e) (λ s c. (shown a ≡ Some s) × may_leave a c) one second.time first.same
-          (λ s c at. let is = second.same s c at in (sym same ∙ is.0, no_more c is.1));
-    }
+-- such calls leave everything the same at each moment
+pub read_throughout : {D : Type 0} (disks : disk.Ghosts D) → ((d : D) (s c : List ℕ) → disks.since d (disks.moment d) s c → (disks.shown d ≡ Some s) × disks.may_leave d c) →
+    ((d : D) (t : ℕ) (s c : List ℕ) → t ≤ disks.moment d → disks.shown d ≡ Some s → disks.may_leave d c → disks.since d t s c) →
+    (a b : D) → IsOnlyRead disks a b → IsSameThroughout disks a b
+read_throughout disks only counts a b read = record {
+  later = read.time.later;
+  time = goes_on_elapsed (disks.moment a) (disks.moment b) (disks.since a) (disks.since b) (disks.shown a) (disks.shown b) (disks.may_leave a) (disks.may_leave b)
+      (only a) (counts a) (counts b) read.time;
+  same = in_one_call (disks.moment a) (disks.moment b) (disks.since a) (disks.since b) (disks.shown a) (disks.shown b) (disks.may_leave a) (disks.may_leave b)
+      (λ s c. (disks.shown a ≡ Some s) × disks.may_leave a c) (only a) read.time (λ s c is leaves. (is, leaves))
+      (λ s c is leaves. (sym read.same_bytes ∙ is, (read.same_stops c).0 leaves));
+}
 
 -- a call that only read, where nothing was pending
 pub same_bytes : (was : Option (List ℕ)) (left : List ℕ → Type 0) (x : List ℕ) (since : List ℕ → List ℕ → Type 0) → IsDurable left was → was ≡ Some x →
@@ -96,29 +97,29 @@ opens_both limit owner was left first start past since order goes before after x
     in_both first start past since (λ s c. ((s ≡ x) × left c) ⊎ (LeavesGated limit owner x s × LeavesGated limit owner x c)) order goes (before x x_is) (after x x_is)
 
 -- while the disk was only synced and read
-pub opens_read : {D : Type 0} (shown : D → Option (List ℕ)) (may_leave : D → List ℕ → Type 0) (moment : D → ℕ) (since : D → ℕ → List ℕ → List ℕ → Type 0)
-    (a b e : D) (limit : ℕ) (owner : List ℕ) → ((s c : List ℕ) → since a (moment a) s c → (shown a ≡ Some s) × may_leave a c) → shown b ≡ shown a →
-    ((c : List ℕ) → may_leave b c → may_leave a c) → Elapses (moment a) (moment b) (since a) (since b) (shown b) (may_leave b) →
-    IsSameThroughout shown may_leave moment since b e → OpensThroughout limit owner (shown a) (may_leave a) (since e (moment a))
-opens_read shown may_leave moment since a b e limit owner only same no_more time moments =
-    opens_same limit owner (shown a) (may_leave a) (since e (moment a))
-    (in_both (moment a) (moment b) (since b) (since e) (λ s c. (shown a ≡ Some s) × may_leave a c) time.later moments.time
-    (same_in_call shown may_leave moment since a b only same no_more time)
+pub opens_read : {D : Type 0} (disks : disk.Ghosts D)
+    (a b e : D) (limit : ℕ) (owner : List ℕ) → ((s c : List ℕ) → disks.since a (disks.moment a) s c → (disks.shown a ≡ Some s) × disks.may_leave a c) → disks.shown b ≡ disks.shown a →
+    ((c : List ℕ) → disks.may_leave b c → disks.may_leave a c) → Elapses (disks.moment a) (disks.moment b) (disks.since a) (disks.since b) (disks.shown b) (disks.may_leave b) →
+    IsSameThroughout disks b e → OpensThroughout limit owner (disks.shown a) (disks.may_leave a) (disks.since e (disks.moment a))
+opens_read disks a b e limit owner only same no_more time moments =
+    opens_same limit owner (disks.shown a) (disks.may_leave a) (disks.since e (disks.moment a))
+    (in_both (disks.moment a) (disks.moment b) (disks.since b) (disks.since e) (λ s c. (disks.shown a ≡ Some s) × disks.may_leave a c) time.later moments.time
+    (same_in_call disks.shown disks.may_leave disks.moment disks.since a b only same no_more time)
     (λ s c at. let is = moments.same s c at in (sym same ∙ is.0, no_more c is.1)))
 
 -- and then slots were filled
-pub opens_all : {D : Type 0} (shown : D → Option (List ℕ)) (may_leave : D → List ℕ → Type 0) (moment : D → ℕ) (since : D → ℕ → List ℕ → List ℕ → Type 0)
-    (a b e f : D) (limit : ℕ) (owner : List ℕ) (log : OwnedLog) → ((s c : List ℕ) → since a (moment a) s c → (shown a ≡ Some s) × may_leave a c) → shown b ≡ shown a →
-    ((c : List ℕ) → may_leave b c → may_leave a c) → Elapses (moment a) (moment b) (since a) (since b) (shown b) (may_leave b) →
-    IsSameThroughout shown may_leave moment since b e → shown e ≡ shown b → GoesOn (moment e) (since e) (since f) →
-    WhereTold (shown b) (λ x. opening_verdict limit owner x ≡ Ok log) → LeavesThroughout owner log.placed (shown e) (since f (moment e)) →
-    OpensThroughout limit owner (shown a) (may_leave a) (since f (moment a))
-opens_all shown may_leave moment since a b e f limit owner log only same no_more time moments read goes verdict fills =
+pub opens_all : {D : Type 0} (disks : disk.Ghosts D)
+    (a b e f : D) (limit : ℕ) (owner : List ℕ) (log : OwnedLog) → ((s c : List ℕ) → disks.since a (disks.moment a) s c → (disks.shown a ≡ Some s) × disks.may_leave a c) → disks.shown b ≡ disks.shown a →
+    ((c : List ℕ) → disks.may_leave b c → disks.may_leave a c) → Elapses (disks.moment a) (disks.moment b) (disks.since a) (disks.since b) (disks.shown b) (disks.may_leave b) →
+    IsSameThroughout disks b e → disks.shown e ≡ disks.shown b → GoesOn (disks.moment e) (disks.since e) (disks.since f) →
+    WhereTold (disks.shown b) (λ x. opening_verdict limit owner x ≡ Ok log) → LeavesThroughout owner log.placed (disks.shown e) (disks.since f (disks.moment e)) →
+    OpensThroughout limit owner (disks.shown a) (disks.may_leave a) (disks.since f (disks.moment a))
+opens_all disks a b e f limit owner log only same no_more time moments read goes verdict fills =
     let first = time.later in
     let second = moments.later in
-    opens_both limit owner (shown a) (may_leave a) (moment a) (moment e) (since e) (since f) (omega (arith, first, second)) goes
-    (opens_read shown may_leave moment since a b e limit owner only same no_more time moments)
-    (opens_filled limit owner log (shown a) (may_leave a) (since f (moment e)) (λ x is. verdict x (same ∙ is)) (λ x is. fills x (read ∙ (same ∙ is))))
+    opens_both limit owner (disks.shown a) (disks.may_leave a) (disks.moment a) (disks.moment e) (disks.since e) (disks.since f) (omega (arith, first, second)) goes
+    (opens_read disks a b e limit owner only same no_more time moments)
+    (opens_filled limit owner log (disks.shown a) (disks.may_leave a) (disks.since f (disks.moment e)) (λ x is. verdict x (same ∙ is)) (λ x is. fills x (read ∙ (same ∙ is))))
 
 -- Of what is shown at a moment, and of what a stop leaves then or later: while nothing is written, the disk shows what it showed
 pub ordered_same : {D : Type 0} (shown : D → Option (List ℕ)) (may_leave : D → List ℕ → Type 0) (moment : D → ℕ) (since : D → ℕ → List ℕ → List ℕ → Type 0)
@@ -128,44 +129,44 @@ ordered_same {D} shown may_leave moment since a e limit owner order goes same x 
     on_in_one D moment since (λ s c. (s ≡ x) ⊎ LeavesGated limit owner x c) a e order goes (λ s c t l at later. inl (told_one (shown a) s x (same s c at).0 x_is))
 
 -- while it was only synced and read
-pub ordered_read : {D : Type 0} (shown : D → Option (List ℕ)) (may_leave : D → List ℕ → Type 0) (moment : D → ℕ) (since : D → ℕ → List ℕ → List ℕ → Type 0)
-    (a b e : D) (limit : ℕ) (owner : List ℕ) → ((s c : List ℕ) → since a (moment a) s c → (shown a ≡ Some s) × may_leave a c) →
-    GoesOn (moment a) (since a) (since b) → shown b ≡ shown a → ((c : List ℕ) → may_leave b c → may_leave a c) →
-    Elapses (moment a) (moment b) (since a) (since b) (shown b) (may_leave b) → IsSameThroughout shown may_leave moment since b e →
-    OpensInOrder limit owner (shown a) (FromThenOn moment since a e)
-ordered_read shown may_leave moment since a b e limit owner only goes same no_more time moments =
+pub ordered_read : {D : Type 0} (disks : disk.Ghosts D)
+    (a b e : D) (limit : ℕ) (owner : List ℕ) → ((s c : List ℕ) → disks.since a (disks.moment a) s c → (disks.shown a ≡ Some s) × disks.may_leave a c) →
+    GoesOn (disks.moment a) (disks.since a) (disks.since b) → disks.shown b ≡ disks.shown a → ((c : List ℕ) → disks.may_leave b c → disks.may_leave a c) →
+    Elapses (disks.moment a) (disks.moment b) (disks.since a) (disks.since b) (disks.shown b) (disks.may_leave b) → IsSameThroughout disks b e →
+    OpensInOrder limit owner (disks.shown a) (FromThenOn disks.moment disks.since a e)
+ordered_read disks a b e limit owner only goes same no_more time moments =
     let first = time.later in
     let second = moments.later in
-    ordered_same shown may_leave moment since a e limit owner (omega (arith, first, second))
-    (goes_on_then (moment a) (moment b) (since a) (since b) (since e) first goes moments.time)
-    (in_both (moment a) (moment b) (since b) (since e) (λ s c. (shown a ≡ Some s) × may_leave a c) first moments.time
-    (same_in_call shown may_leave moment since a b only same no_more time)
+    ordered_same disks.shown disks.may_leave disks.moment disks.since a e limit owner (omega (arith, first, second))
+    (goes_on_then (disks.moment a) (disks.moment b) (disks.since a) (disks.since b) (disks.since e) first goes moments.time)
+    (in_both (disks.moment a) (disks.moment b) (disks.since b) (disks.since e) (λ s c. (disks.shown a ≡ Some s) × disks.may_leave a c) first moments.time
+    (same_in_call disks.shown disks.may_leave disks.moment disks.since a b only same no_more time)
     (λ s c at. let is = moments.same s c at in (sym same ∙ is.0, no_more c is.1)))
 
 -- and then slots were filled: what a stop leaves is that with some of them filled
-pub ordered_all : {D : Type 0} (shown : D → Option (List ℕ)) (may_leave : D → List ℕ → Type 0) (moment : D → ℕ) (since : D → ℕ → List ℕ → List ℕ → Type 0)
-    (a b e f : D) (limit : ℕ) (owner : List ℕ) (log : OwnedLog) → ((s c : List ℕ) → since a (moment a) s c → (shown a ≡ Some s) × may_leave a c) →
-    GoesOn (moment a) (since a) (since b) → shown b ≡ shown a → ((c : List ℕ) → may_leave b c → may_leave a c) →
-    Elapses (moment a) (moment b) (since a) (since b) (shown b) (may_leave b) → IsSameThroughout shown may_leave moment since b e →
-    shown e ≡ shown b → moment e ≤ moment f → GoesOn (moment e) (since e) (since f) → WhereTold (shown b) (λ x. opening_verdict limit owner x ≡ Ok log) →
-    LeavesThroughout owner log.placed (shown e) (since f (moment e)) → OpensInOrder limit owner (shown a) (FromThenOn moment since a f)
-ordered_all shown may_leave moment since a b e f limit owner log only first same no_more time moments read order goes verdict fills x x_is =
+pub ordered_all : {D : Type 0} (disks : disk.Ghosts D)
+    (a b e f : D) (limit : ℕ) (owner : List ℕ) (log : OwnedLog) → ((s c : List ℕ) → disks.since a (disks.moment a) s c → (disks.shown a ≡ Some s) × disks.may_leave a c) →
+    GoesOn (disks.moment a) (disks.since a) (disks.since b) → disks.shown b ≡ disks.shown a → ((c : List ℕ) → disks.may_leave b c → disks.may_leave a c) →
+    Elapses (disks.moment a) (disks.moment b) (disks.since a) (disks.since b) (disks.shown b) (disks.may_leave b) → IsSameThroughout disks b e →
+    disks.shown e ≡ disks.shown b → disks.moment e ≤ disks.moment f → GoesOn (disks.moment e) (disks.since e) (disks.since f) → WhereTold (disks.shown b) (λ x. opening_verdict limit owner x ≡ Ok log) →
+    LeavesThroughout owner log.placed (disks.shown e) (disks.since f (disks.moment e)) → OpensInOrder limit owner (disks.shown a) (FromThenOn disks.moment disks.since a f)
+ordered_all disks a b e f limit owner log only first same no_more time moments read order goes verdict fills x x_is =
     Then
-    (ordered_read shown may_leave moment since a b e limit owner only first same no_more time moments x x_is)
+    (ordered_read disks a b e limit owner only first same no_more time moments x x_is)
     order
     goes
     (λ s c t l at later. inr (inr (log, verdict x (same ∙ x_is), (fills x (read ∙ (same ∙ x_is)) t l later).1)))
 
 -- time in all of it
-pub time_in_all : {D : Type 0} (shown : D → Option (List ℕ)) (may_leave : D → List ℕ → Type 0) (moment : D → ℕ) (since : D → ℕ → List ℕ → List ℕ → Type 0)
-    (a b e f : D) → ((d : D) (s c : List ℕ) → since d (moment d) s c → (shown d ≡ Some s) × may_leave d c) →
-    ((d : D) (t : ℕ) (s c : List ℕ) → t ≤ moment d → shown d ≡ Some s → may_leave d c → since d t s c) →
-    Elapses (moment a) (moment b) (since a) (since b) (shown b) (may_leave b) → IsSameThroughout shown may_leave moment since b e →
-    GoesOn (moment e) (since e) (since f) → GoesOn (moment a) (since a) (since f)
-time_in_all shown may_leave moment since a b e f only counts time moments goes =
+pub time_in_all : {D : Type 0} (disks : disk.Ghosts D)
+    (a b e f : D) → ((d : D) (s c : List ℕ) → disks.since d (disks.moment d) s c → (disks.shown d ≡ Some s) × disks.may_leave d c) →
+    ((d : D) (t : ℕ) (s c : List ℕ) → t ≤ disks.moment d → disks.shown d ≡ Some s → disks.may_leave d c → disks.since d t s c) →
+    Elapses (disks.moment a) (disks.moment b) (disks.since a) (disks.since b) (disks.shown b) (disks.may_leave b) → IsSameThroughout disks b e →
+    GoesOn (disks.moment e) (disks.since e) (disks.since f) → GoesOn (disks.moment a) (disks.since a) (disks.since f)
+time_in_all disks a b e f only counts time moments goes =
     let first = time.later in
     let second = moments.later in
-    goes_on_then (moment a) (moment e) (since a) (since e) (since f) (omega (arith, first, second))
-    (goes_on_then (moment a) (moment b) (since a) (since b) (since e) first
-    (goes_on_elapsed (moment a) (moment b) (since a) (since b) (shown a) (shown b) (may_leave a) (may_leave b) (only a) (counts a) (counts b) time) moments.time)
+    goes_on_then (disks.moment a) (disks.moment e) (disks.since a) (disks.since e) (disks.since f) (omega (arith, first, second))
+    (goes_on_then (disks.moment a) (disks.moment b) (disks.since a) (disks.since b) (disks.since e) first
+    (goes_on_elapsed (disks.moment a) (disks.moment b) (disks.since a) (disks.since b) (disks.shown a) (disks.shown b) (disks.may_leave a) (disks.may_leave b) (only a) (counts a) (counts b) time) moments.time)
     goes

@@ -7,7 +7,6 @@ use Rattle.commit_journal.specs.declared.past.Past.{Past}
 use Rattle.commit_journal.specs.Answering.{Fault, Damaged, and_then, IsFault}
 use Rattle.commit_journal.specs.Log.{PlainTurn, turn_at, before, goes_on, log_at}
 use Rattle.commit_journal.specs.Placed.{PlainPlaced}
-use Rattle.commit_journal.specs.Reading.{IsOnlyRead}
 use Rattle.commit_journal.proofs.Judged.{head_short}
 
 -- ---- batches read before others
@@ -78,13 +77,3 @@ pub walk_closed : (owner : List ℕ) (past : Past) (rest : List ℕ) → eqb pas
 unfolding log_at
 walk_closed owner past [] gate = rw gate refl
 walk_closed owner past (byte ∷ rest) gate = rw gate refl
-
--- ---- the disk
-
-pub only_read_twice : {D : Type 0} (shown : D → Option (List ℕ)) (size_of : D → ℕ) (may_leave : D → List ℕ → Type 0) (a b c : D) →
-    IsOnlyRead shown size_of may_leave a b → IsOnlyRead shown size_of may_leave b c → IsOnlyRead shown size_of may_leave a c
-only_read_twice shown size_of may_leave a b c first second = record {
-  same_bytes = second.same_bytes ∙ first.same_bytes;
-  same_size = second.same_size ∙ first.same_size;
-  same_stops = λ left. (λ h. (first.same_stops left).0 ((second.same_stops left).0 h), λ h. (second.same_stops left).1 ((first.same_stops left).1 h));
-}

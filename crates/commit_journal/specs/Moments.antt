@@ -2,6 +2,7 @@
 -- "Opening for writing".
 use Rattle.std.specs.Prelude.{◌≡◌, ◌≤◌, ◌⊎◌, ℕ, List, Option, Some}
 use Rattle.cry_io.specs.Told.{WhereTold}
+use Rattle.cry_io.specs.declared.disk.Disk as disk
 use Rattle.batch_log.specs.Moments.{GoesOn, Throughout}
 use Rattle.commit_journal.specs.declared.filling.Unfilled.{Unfilled}
 use Rattle.commit_journal.specs.Filling.{LeavesUnfilled}
@@ -14,11 +15,10 @@ use Rattle.commit_journal.specs.Standing.{StandsFor}
 use Rattle.commit_journal.specs.WholeLogs.{StandsWithin}
 
 -- time goes on, and at each moment of the call the disk shows what it showed, and a stop leaves what it left
-pub record IsSameThroughout {D : Type 0} (shown : D → Option (List ℕ)) (may_leave : D → List ℕ → Type 0) (moment : D → ℕ) (since : D → ℕ
-    → List ℕ → List ℕ → Type 0) (old new : D) : Type 0 where
-  pub later : moment old ≤ moment new
-  pub time : GoesOn (moment old) (since old) (since new)
-  pub same : Throughout (λ s c. (shown old ≡ Some s) × may_leave old c) (since new (moment old))
+pub record IsSameThroughout {D : Type 0} (disks : disk.Ghosts D) (old new : D) : Type 0 where
+  pub later : disks.moment old ≤ disks.moment new
+  pub time : GoesOn (disks.moment old) (disks.since old) (disks.since new)
+  pub same : Throughout (λ s c. (disks.shown old ≡ Some s) × disks.may_leave old c) (disks.since new (disks.moment old))
 
 -- a slot is filled: what is shown, and what a stop leaves, has it as before, or with any bytes where it didn't hold its veil key
 abbrev pub FillsSlot : Unfilled → List ℕ → List ℕ → List ℕ → Type 0

@@ -10,11 +10,12 @@ ghost use Rattle.batch_log.specs.Moments.{FromThenOn, GoesOn};
 ghost use Rattle.commit_journal.specs.Answering.{Answers};
 ghost use Rattle.commit_journal.specs.Filling as filling;
 ghost use Rattle.commit_journal.specs.Logs.{AreInEpochs, epoch_behind};
-ghost use Rattle.commit_journal.specs.Moments.{IsSameThroughout, KeepsHeld, OpensInOrder, OpensThroughout};
+ghost use Rattle.commit_journal.specs.Moments.{KeepsHeld, OpensInOrder, OpensThroughout};
 ghost use Rattle.commit_journal.specs.Opening as opening;
 ghost use Rattle.commit_journal.specs.Placed.{plain_log};
 ghost use Rattle.commit_journal.specs.Places.{IsStanding};
-ghost use Rattle.commit_journal.specs.Reading.{IsOnlyRead, IsUntouched};
+ghost use Rattle.commit_journal.specs.Reading.{IsUntouched};
+ghost use Rattle.cry_io.specs.Reading.{IsOnlyRead};
 ghost use Rattle.commit_journal.specs.Turns.{plain_turn};
 ghost use Rattle.commit_journal.specs.WholeLogs.{StillStand};
 
@@ -57,8 +58,7 @@ fn read_owned_head<D: Disk>(disk: &mut D, limit: u64, past: &Past) -> Result<Hea
     ensures inside { IfOk result (λ head. past.now.at + (batch_len + head.size) ≤ D.size_of disk.old) }
     ensures small { IfOk result (λ head. past.now.at + (batch_len + head.size) ≤ most_store_bytes) }
     ensures next { IfOk result (opening.IsNext past.now) }
-    ensures read_only { IsOnlyRead D.shown D.size_of D.may_leave disk.old disk.new }
-    ensures moments { IsSameThroughout D.shown D.may_leave D.moment D.since disk.old disk.new }
+    ensures read_only { IsOnlyRead D.Disk disk.old disk.new }
     ensures counts { D.faults disk.old ≤ D.faults disk.new }
     ensures disk_fault { result ≡ Err OpenFault.DiskFault → D.faults disk.old < D.faults disk.new }
 {
@@ -101,8 +101,7 @@ fn read_owned<D: Disk>(
     ensures next { IfOk result (λ o. opening.IsNextTurn past.now (D.size_of disk.old) o.turn) }
     ensures in_epoch { IfOk result (λ o. opening.IsTurnIn past.now (plain_turn o.turn)) }
     ensures stands { IfOk result (λ o. IsStanding o.turn.placed) }
-    ensures read_only { IsOnlyRead D.shown D.size_of D.may_leave disk.old disk.new }
-    ensures moments { IsSameThroughout D.shown D.may_leave D.moment D.since disk.old disk.new }
+    ensures read_only { IsOnlyRead D.Disk disk.old disk.new }
     ensures counts { D.faults disk.old ≤ D.faults disk.new }
     ensures disk_fault { result ≡ Err OpenFault.DiskFault → D.faults disk.old < D.faults disk.new }
 {
@@ -133,8 +132,7 @@ fn walk<D: Disk>(
     ensures epochs { IfOk result (λ w. AreInEpochs 0 (plain_log w.placed)) }
     ensures count { IfOk result (λ w. w.past.number ≡ length w.placed.items) }
     ensures last { IfOk result (λ w. w.past.epoch.0 ≡ epoch_behind 0 (plain_log w.placed)) }
-    ensures read_only { IsOnlyRead D.shown D.size_of D.may_leave disk.old disk.new }
-    ensures moments { IsSameThroughout D.shown D.may_leave D.moment D.since disk.old disk.new }
+    ensures read_only { IsOnlyRead D.Disk disk.old disk.new }
     ensures counts { D.faults disk.old ≤ D.faults disk.new }
     ensures disk_fault { result ≡ Err OpenFault.DiskFault → D.faults disk.old < D.faults disk.new }
 {

@@ -11,7 +11,7 @@ ghost use Rattle.commit_journal.specs.Opening as opening;
 ghost use Rattle.commit_journal.specs.Placed.{PlainPlaced, plain_log, plain_placed};
 ghost use Rattle.commit_journal.specs.Places.{IsStanding, TurnStands};
 ghost use Rattle.commit_journal.specs.Readers as readers;
-ghost use Rattle.commit_journal.specs.Reading.{IsOnlyRead};
+ghost use Rattle.cry_io.specs.Reading.{IsOnlyRead};
 ghost use Rattle.commit_journal.specs.Streaming as streaming;
 ghost use Rattle.commit_journal.specs.Turns.{plain_option, plain_turn};
 
@@ -69,7 +69,7 @@ fn read_header<D: Disk>(disk: &mut D, owner: Option<&Key<OwnerK>>) -> Result<Pas
     ensures place { IfOk result (λ past. past.at ≡ header_len) }
     ensures fresh { IfOk result (λ past. (past.number ≡ 0) × (past.epoch.0 ≡ 0)) }
     ensures inside { OnOk result (header_len ≤ D.size_of disk.old) }
-    ensures read_only { IsOnlyRead D.shown D.size_of D.may_leave disk.old disk.new }
+    ensures read_only { IsOnlyRead D.Disk disk.old disk.new }
     ensures counts { D.faults disk.old ≤ D.faults disk.new }
     ensures disk_fault { result ≡ Err OpenFault.DiskFault → D.faults disk.old < D.faults disk.new }
     ensures no_key { option_copied owner.entry ≡ None → result ≢ Err OpenFault.WrongKey }
@@ -97,7 +97,7 @@ fn read_turn<D: Disk>(
     ensures next { IfOk result (opening.GoesOnTo past.now (D.size_of disk.old)) }
     ensures in_epoch { IfOk result (opening.GoesOnIn past.now) }
     ensures stands { IfOk result TurnStands }
-    ensures read_only { IsOnlyRead D.shown D.size_of D.may_leave disk.old disk.new }
+    ensures read_only { IsOnlyRead D.Disk disk.old disk.new }
     ensures counts { D.faults disk.old ≤ D.faults disk.new }
     ensures disk_fault { result ≡ Err OpenFault.DiskFault → D.faults disk.old < D.faults disk.new }
     ensures no_key { result ≢ Err OpenFault.WrongKey }
@@ -121,7 +121,7 @@ fn read_again<D: Disk>(
         (λ s. Answers plain_turn result (streaming.again_at (readers.key_bytes (option_copied owner.entry)) past.now s)) }
     ensures next { IfOk result (opening.IsNextTurn past.now (D.size_of disk.old)) }
     ensures stands { IfOk result (λ turn. IsStanding turn.placed) }
-    ensures read_only { IsOnlyRead D.shown D.size_of D.may_leave disk.old disk.new }
+    ensures read_only { IsOnlyRead D.Disk disk.old disk.new }
     ensures counts { D.faults disk.old ≤ D.faults disk.new }
     ensures disk_fault { result ≡ Err OpenFault.DiskFault → D.faults disk.old < D.faults disk.new }
     ensures no_key { result ≢ Err OpenFault.WrongKey }
@@ -185,7 +185,7 @@ impl PublicLog {
             × (log.starts ≡ [])) }
         ensures inside { IfOk result (λ log. log.past.at ≤ D.size_of disk.old) }
         ensures no_key { option_copied owner.entry ≡ None → result ≢ Err OpenFault.WrongKey }
-        ensures read_only { IsOnlyRead D.shown D.size_of D.may_leave disk.old disk.new }
+        ensures read_only { IsOnlyRead D.Disk disk.old disk.new }
         ensures counts { D.faults disk.old ≤ D.faults disk.new }
         ensures disk_fault { result ≡ Err OpenFault.DiskFault → D.faults disk.old < D.faults disk.new }
     {
@@ -228,7 +228,7 @@ impl PublicLog {
         ensures stands { IfOk result TurnStands }
         ensures reading { streaming.IsReading self.now.given self.now.starts self.now.past }
         ensures no_key { result ≢ Err OpenFault.WrongKey }
-        ensures read_only { IsOnlyRead D.shown D.size_of D.may_leave disk.old disk.new }
+        ensures read_only { IsOnlyRead D.Disk disk.old disk.new }
         ensures counts { D.faults disk.old ≤ D.faults disk.new }
         ensures disk_fault { result ≡ Err OpenFault.DiskFault → D.faults disk.old < D.faults disk.new }
     {
@@ -273,7 +273,7 @@ impl PublicLog {
         ensures shows { WhereTold (D.shown disk.old) (λ s. streaming.ShowsGiven self.old s → streaming.ShowsGiven self.new s) }
         ensures epochs { AreInEpochs 0 self.new.given }
         ensures no_key { result ≢ Err OpenFault.WrongKey }
-        ensures read_only { IsOnlyRead D.shown D.size_of D.may_leave disk.old disk.new }
+        ensures read_only { IsOnlyRead D.Disk disk.old disk.new }
         ensures counts { D.faults disk.old ≤ D.faults disk.new }
         ensures disk_fault { result ≡ Err OpenFault.DiskFault → D.faults disk.old < D.faults disk.new }
     {
@@ -306,7 +306,7 @@ impl PublicLog {
         ensures batch { IfOk result (λ placed. placed.batch ≡ start.now.number + 1) }
         ensures place { IfOk result (λ placed. placed.place ≡ start.now.at + payload_offset) }
         ensures stands { IfOk result IsStanding }
-        ensures read_only { IsOnlyRead D.shown D.size_of D.may_leave disk.old disk.new }
+        ensures read_only { IsOnlyRead D.Disk disk.old disk.new }
         ensures counts { D.faults disk.old ≤ D.faults disk.new }
         ensures disk_fault { result ≡ Err OpenFault.DiskFault → D.faults disk.old < D.faults disk.new }
     {
@@ -325,7 +325,7 @@ fn read_log<D: Disk>(
     ensures stands { IfOk result (λ log. All IsStanding log.items) }
     ensures epochs { IfOk result (λ log. AreInEpochs 0 (plain_log log)) }
     ensures no_key { option_copied owner.entry ≡ None → result ≢ Err OpenFault.WrongKey }
-    ensures read_only { IsOnlyRead D.shown D.size_of D.may_leave disk.old disk.new }
+    ensures read_only { IsOnlyRead D.Disk disk.old disk.new }
     ensures counts { D.faults disk.old ≤ D.faults disk.new }
     ensures disk_fault { result ≡ Err OpenFault.DiskFault → D.faults disk.old < D.faults disk.new }
 {
@@ -353,7 +353,7 @@ pub fn read_owner<D: Disk>(
         (λ s. Answers plain_log result (log_verdict owner.now.bytes s)) }
     ensures stands { IfOk result (λ log. All IsStanding log.items) }
     ensures epochs { IfOk result (λ log. AreInEpochs 0 (plain_log log)) }
-    ensures read_only { IsOnlyRead D.shown D.size_of D.may_leave disk.old disk.new }
+    ensures read_only { IsOnlyRead D.Disk disk.old disk.new }
     ensures counts { D.faults disk.old ≤ D.faults disk.new }
     ensures disk_fault { result ≡ Err OpenFault.DiskFault → D.faults disk.old < D.faults disk.new }
 {
@@ -372,7 +372,7 @@ pub fn read_public<D: Disk>(alloc: Global, disk: &mut D) -> Result<List<Placed>,
     ensures never_wrong_key { result ≢ Err OpenFault.WrongKey }
     ensures stands { IfOk result (λ log. All IsStanding log.items) }
     ensures epochs { IfOk result (λ log. AreInEpochs 0 (plain_log log)) }
-    ensures read_only { IsOnlyRead D.shown D.size_of D.may_leave disk.old disk.new }
+    ensures read_only { IsOnlyRead D.Disk disk.old disk.new }
     ensures counts { D.faults disk.old ≤ D.faults disk.new }
     ensures disk_fault { result ≡ Err OpenFault.DiskFault → D.faults disk.old < D.faults disk.new }
 {

@@ -5,9 +5,8 @@ ghost use Rattle.cry_base.specs.Limits.{most_store_bytes};
 ghost use Rattle.cry_io.specs.Told.{WhereTold};
 ghost use Rattle.commit_journal.specs.Answering.{Answers};
 ghost use Rattle.commit_journal.specs.Log as log;
-ghost use Rattle.commit_journal.specs.Moments.{IsSameThroughout};
 ghost use Rattle.commit_journal.specs.Opening as opening;
-ghost use Rattle.commit_journal.specs.Reading.{IsOnlyRead};
+ghost use Rattle.cry_io.specs.Reading.{IsOnlyRead};
 
 use crate::OpenFault;
 use crate::head::{Head, head_of, is_batch};
@@ -57,8 +56,7 @@ pub(crate) fn read_start<D: Disk>(disk: &mut D, owner: &LogKey) -> Result<Past, 
     ensures fresh { IfOk result (λ past. (past.number ≡ 0) × (past.epoch.0 ≡ 0)) }
     ensures inside { OnOk result (header_len ≤ D.size_of disk.old) }
     ensures gate { IfOk result (λ past. WhereTold (D.shown disk.old) (λ s. slice_index s first_gate_offset ≡ past.gate)) }
-    ensures read_only { IsOnlyRead D.shown D.size_of D.may_leave disk.old disk.new }
-    ensures moments { IsSameThroughout D.shown D.may_leave D.moment D.since disk.old disk.new }
+    ensures read_only { IsOnlyRead D.Disk disk.old disk.new }
     ensures counts { D.faults disk.old ≤ D.faults disk.new }
     ensures disk_fault { result ≡ Err OpenFault.DiskFault → D.faults disk.old < D.faults disk.new }
 {
@@ -77,8 +75,7 @@ pub(crate) fn read_head<D: Disk>(disk: &mut D, past: &Past) -> Result<Head, Open
     ensures inside { IfOk result (λ head. past.now.at + (batch_len + head.size) ≤ D.size_of disk.old) }
     ensures small { IfOk result (λ head. past.now.at + (batch_len + head.size) ≤ most_store_bytes) }
     ensures next { IfOk result (opening.IsNext past.now) }
-    ensures read_only { IsOnlyRead D.shown D.size_of D.may_leave disk.old disk.new }
-    ensures moments { IsSameThroughout D.shown D.may_leave D.moment D.since disk.old disk.new }
+    ensures read_only { IsOnlyRead D.Disk disk.old disk.new }
     ensures counts { D.faults disk.old ≤ D.faults disk.new }
     ensures disk_fault { result ≡ Err OpenFault.DiskFault → D.faults disk.old < D.faults disk.new }
     ensures no_key { result ≢ Err OpenFault.WrongKey }

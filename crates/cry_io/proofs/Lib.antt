@@ -1,3 +1,4 @@
+pub mod OnlyRead
 pub mod ToldLemmas
 pub mod Happened
 pub mod Ties

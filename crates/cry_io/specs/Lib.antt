@@ -4,6 +4,7 @@ pub mod Fakes
 pub mod Leaving
 pub mod LeavingLaws
 pub mod Platters
+pub mod Reading
 pub mod Schedules
 pub mod Stops
 pub mod Streams

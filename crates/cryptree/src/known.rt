@@ -1,7 +1,8 @@
 //! Bytes that were read from a disk last.
 ghost use Rattle.std.specs.Prelude.{◌≡◌, ◌+◌, ◌≤◌, ℕ, List, IfSome, IsTrue, length, slice_range, vec_len};
-ghost use Rattle.cryptree.specs.Ahead.{IsOf, IsOnlyRead};
+ghost use Rattle.cryptree.specs.Ahead.{IsOf};
 ghost use Rattle.cry_io.specs.Counts.{CountsFault};
+ghost use Rattle.cry_io.specs.Reading.{IsOnlyRead};
 ghost use Rattle.cry_io.specs.Told.{WhereTold};
 
 use cry_io::{Disk, Failed};
@@ -73,7 +74,7 @@ impl Known {
     /// fails, none is known.
     pub(crate) fn fill<D: Disk>(&mut self, disk: &mut D, place: u64) -> Result<(), Failed>
         ensures known { WhereTold (D.shown disk.old) (IsOf self.new) }
-        ensures read_only { IsOnlyRead D.shown D.size_of D.may_leave D.moment D.since disk.old disk.new }
+        ensures read_only { IsOnlyRead D.Disk disk.old disk.new }
         ensures counts { CountsFault result (D.faults disk.old) (D.faults disk.new) }
     {
         self.len = 0;

@@ -1,6 +1,6 @@
 //! A disk that is read some way ahead, so that short reads one behind another ask the system seldom.
 ghost use Rattle.std.specs.Prelude.{◌≡◌, ◌≤◌};
-ghost use Rattle.cryptree.specs.Ahead.{IsOnlyRead};
+ghost use Rattle.cry_io.specs.Reading.{IsOnlyRead};
 
 use crate::known::Known;
 use cry_io::{Disk, Failed};
@@ -39,7 +39,7 @@ impl<D: Disk> ReadAhead<D> {
     /// Reads some way ahead, where the bytes of the range are few and not known. A fault is not told, since it may be of bytes
     /// that nobody asked for: those of the range are then read by themselves.
     fn look_ahead(&mut self, place: u64, len: usize)
-        ensures read_only { IsOnlyRead D.shown D.size_of D.may_leave D.moment D.since self.old self.new }
+        ensures read_only { IsOnlyRead D.Disk self.old self.new }
         ensures counts { D.faults self.old ≤ D.faults self.new }
     {
         if len > self.known.room() || self.known.find(place, len).is_some() {

@@ -10,7 +10,9 @@ use Rattle.cry_base.specs.declared.client.Line.TheVariants as lines
 use Rattle.cry_io.proofs.ToldLemmas.{told_again}
 use Rattle.cry_io.specs.Told.{WhereTold, WhereBothTold}
 use Rattle.commit_journal.specs.Answering.{NotAStore, WrongKey, Damaged, Tampered}
-use Rattle.commit_journal.specs.Reading.{IsOnlyRead}
+use Rattle.cry_io.specs.Reading.{IsOnlyRead}
+use Rattle.cry_io.specs.declared.disk.Disk as disk
+use Rattle.cry_io.proofs.OnlyRead.{only_read_still}
 use Rattle.script_text.specs.Printing.{path_line, file_line}
 use Rattle.script_text.specs.Printing as printing
 use Rattle.script_text.specs.SeenLines.{spell_seen}
@@ -91,17 +93,17 @@ ShowsOf = List ℕ → Shows
 abbrev AnswersBy : ShowsOf → List ℕ → List ℕ → Result (List ℕ) Status → Type 0
 AnswersBy Gives typed image = AnswersFor (Gives image) (input_answer typed)
 
-pub reads_no_bundle : {D : Type 0} (Gives : ShowsOf) (shown : D → Option (List ℕ)) (size_of : D → ℕ) (may_leave : D → List ℕ → Type 0) (fault : InputFault) (status : Status)
-    (typed left : Option (List ℕ)) (disk : D) (before : Option (List ℕ)) → status ≡ input_status fault → is_some left ≡ is_some typed
-    → WhereBothTold typed left (ReadsInput (Err fault)) → Reads (AnswersBy Gives) shown size_of may_leave status typed left disk disk before before
-reads_no_bundle {D} Gives shown size_of may_leave fault status typed left disk before is told reads =
-    subst (λ s. Reads (AnswersBy Gives) shown size_of may_leave s typed left disk disk before before) (sym is) (record {
+pub reads_no_bundle : {D : Type 0} (Gives : ShowsOf) (disks : disk.Ghosts D) (fault : InputFault) (status : Status)
+    (typed left : Option (List ℕ)) (still : D) (before : Option (List ℕ)) → status ≡ input_status fault → is_some left ≡ is_some typed
+    → WhereBothTold typed left (ReadsInput (Err fault)) → Reads (AnswersBy Gives) disks status typed left still still before before
+reads_no_bundle {D} Gives disks fault status typed left still before is told reads =
+    subst (λ s. Reads (AnswersBy Gives) disks s typed left still still before before) (sym is) (record {
       decided = λ x was. let again = told_again typed left x told was in decided_first fault x again.0 (reads x again.0 was again.1);
       answered = λ x was image now.
           let again = told_again typed left x told was in
           answered_first (Gives image) fault x again.0 before before (reads x again.0 was again.1);
       takes = λ x y was now. taken_first fault x y (reads x y was now);
-      reads_only = record { same_bytes = refl; same_size = refl; same_stops = λ c. (λ x. x, λ x. x) };
+      reads_only = only_read_still disks still;
     })
 
 -- ---- where the store shows nothing
@@ -174,11 +176,11 @@ taken_then statuses.RandomFault bundle typed left store reads = absurd (false≢
 taken_then (statuses.RandomShort drawn need) bundle typed left store reads = absurd (false≢true store)
 taken_then statuses.NotBlank bundle typed left store reads = absurd (false≢true store)
 
-pub reads_nothing : {D : Type 0} (Gives : ShowsOf) (shown : D → Option (List ℕ)) (size_of : D → ℕ) (may_leave : D → List ℕ → Type 0) (bundle : Bundle) (status : Status)
+pub reads_nothing : {D : Type 0} (Gives : ShowsOf) (disks : disk.Ghosts D) (bundle : Bundle) (status : Status)
     (typed left : Option (List ℕ)) (old new : D) (before : Option (List ℕ)) → IsTrue (is_store_answer status) → is_some left ≡ is_some typed
-    → WhereBothTold typed left (ReadsInput (Ok bundle)) → WhereTold (shown old) (λ image. GivesText (Err status) (Gives image bundle))
-    → IsOnlyRead shown size_of may_leave old new → Reads (AnswersBy Gives) shown size_of may_leave status typed left old new before before
-reads_nothing {D} Gives shown size_of may_leave bundle status typed left old new before store told reads gives only = record {
+    → WhereBothTold typed left (ReadsInput (Ok bundle)) → WhereTold (disks.shown old) (λ image. GivesText (Err status) (Gives image bundle))
+    → IsOnlyRead disks old new → Reads (AnswersBy Gives) disks status typed left old new before before
+reads_nothing {D} Gives disks bundle status typed left old new before store told reads gives only = record {
   decided = λ x was.
       let again = told_again typed left x told was in
       decided_then status bundle (input_answer x) store (reads x again.0 was again.1).0;
@@ -196,13 +198,13 @@ abbrev Tells : Status → Option (List ℕ) → Option (List ℕ) → List ℕ �
 Tells status before after text =
     (status ≡ statuses.Done) × WhereBothTold before after (PrintsAll text) ⊎ (status ≡ statuses.WriteFault) × WhereBothTold before after (PrintsFront text)
 
-pub reads_text : {D : Type 0} (Gives : ShowsOf) (shown : D → Option (List ℕ)) (size_of : D → ℕ) (may_leave : D → List ℕ → Type 0) (bundle : Bundle) (text : List ℕ) (status : Status)
+pub reads_text : {D : Type 0} (Gives : ShowsOf) (disks : disk.Ghosts D) (bundle : Bundle) (text : List ℕ) (status : Status)
     (typed left : Option (List ℕ)) (old new : D) (before after : Option (List ℕ)) → Tells status before after text → is_some left ≡ is_some typed
-    → WhereBothTold typed left (ReadsInput (Ok bundle)) → WhereTold (shown old) (λ image. Gives image bundle (Ok text))
-    → IsOnlyRead shown size_of may_leave old new → Reads (AnswersBy Gives) shown size_of may_leave status typed left old new before after
-reads_text {D} Gives shown size_of may_leave bundle text status typed left old new before after tells told reads gives only =
+    → WhereBothTold typed left (ReadsInput (Ok bundle)) → WhereTold (disks.shown old) (λ image. Gives image bundle (Ok text))
+    → IsOnlyRead disks old new → Reads (AnswersBy Gives) disks status typed left old new before after
+reads_text {D} Gives disks bundle text status typed left old new before after tells told reads gives only =
     elim tells [
-      | inl done ↦ subst (λ s. Reads (AnswersBy Gives) shown size_of may_leave s typed left old new before after) (sym done.0) (record {
+      | inl done ↦ subst (λ s. Reads (AnswersBy Gives) disks s typed left old new before after) (sym done.0) (record {
         decided = λ x was. let again = told_again typed left x told was in ap is_ok (reads x again.0 was again.1).0;
         answered = λ x was image now.
             let again = told_again typed left x told was in
@@ -210,7 +212,7 @@ reads_text {D} Gives shown size_of may_leave bundle text status typed left old n
         takes = λ x y was now. (reads x y was now).1;
         reads_only = only;
       })
-      | inr cut ↦ subst (λ s. Reads (AnswersBy Gives) shown size_of may_leave s typed left old new before after) (sym cut.0) (record {
+      | inr cut ↦ subst (λ s. Reads (AnswersBy Gives) disks s typed left old new before after) (sym cut.0) (record {
         decided = λ x was. let again = told_again typed left x told was in ap is_ok (reads x again.0 was again.1).0;
         answered = λ x was image now.
             let again = told_again typed left x told was in

@@ -3,9 +3,10 @@ use Rattle.std.specs.Prelude.{◌≡◌, ℕ, Bool, true, false, List, [], ◌�
 use Rattle.std.specs.List.{flat_map}
 use Rattle.cry_base.specs.Listed.{Listed}
 use Rattle.cry_base.specs.declared.client.Bundle.{Bundle}
+use Rattle.cry_io.specs.Reading.{IsOnlyRead}
 use Rattle.cry_io.specs.Told.{WhereTold, WhereBothTold}
+use Rattle.cry_io.specs.declared.disk.Disk as disk
 use Rattle.commit_journal.specs.Answering.{NotAStore, WrongKey, Damaged, Tampered}
-use Rattle.commit_journal.specs.Reading.{IsOnlyRead}
 use Rattle.log_visits.specs.declared.fault.ClientFault.{ClientFault}
 use Rattle.log_visits.specs.declared.fault.ClientFault.TheVariants as clients
 use Rattle.log_visits.specs.Asking.{audited, line_shown}
@@ -159,10 +160,9 @@ TakesInput (statuses.BadScript line) typed left = TakesLines line typed left
 TakesInput _ typed left = TakesLines 1 typed left
 
 -- What a reader's command does: it answers and prints what is said of its input and of what the disk shows, and only reads the disk.
-pub record Reads {D : Type 0} (May : List ℕ → List ℕ → Result (List ℕ) Status → Type 0) (shown : D → Option (List ℕ)) (size_of : D
-    → ℕ) (may_leave : D → List ℕ → Type 0)
-    (status : Status) (typed left : Option (List ℕ)) (disk_old disk_new : D) (before after : Option (List ℕ)) : Type 0 where
+pub record Reads {D : Type 0} (May : List ℕ → List ℕ → Result (List ℕ) Status → Type 0) (disks : disk.Ghosts D) (status : Status)
+    (typed left : Option (List ℕ)) (disk_old disk_new : D) (before after : Option (List ℕ)) : Type 0 where
   pub decided : WhereTold typed (λ bytes. InputDecides status (input_answer bytes))
-  pub answered : WhereTold typed (λ bytes. WhereTold (shown disk_old) (λ image. AnswersAs status (May bytes image) before after))
+  pub answered : WhereTold typed (λ bytes. WhereTold (disks.shown disk_old) (λ image. AnswersAs status (May bytes image) before after))
   pub takes : WhereBothTold typed left (TakesInput status)
-  pub reads_only : IsOnlyRead shown size_of may_leave disk_old disk_new
+  pub reads_only : IsOnlyRead disks disk_old disk_new

@@ -1,7 +1,7 @@
 //! The command `audit`: the whole input, then all that its key leads to, then the lines in one piece, in this order.
 ghost use Rattle.std.specs.Prelude.{◌≡◌, ◌≢◌, ◌<◌, ◌≤◌, Err, IfErr, IfOk, IsTrue, is_some, map};
 ghost use Rattle.cry_io.specs.Told.{WhereTold};
-ghost use Rattle.commit_journal.specs.Reading.{IsOnlyRead};
+ghost use Rattle.cry_io.specs.Reading.{IsOnlyRead};
 ghost use Rattle.cryptree_cli.specs.Listing.{AuditAnswers, AuditGives, GivesText, Reads, is_before_read, is_list_answer, is_store_answer};
 ghost use Rattle.cryptree_cli.specs.Listing.{seen_text as the_seen_text};
 ghost use Rattle.cryptree_cli.specs.Status.{is_before_print};
@@ -23,7 +23,7 @@ pub(crate) fn audit<S: Source, D: Disk, W: Sink>(
     disk: &mut D,
     out: &mut W,
 ) -> Status
-    ensures reads { Reads AuditAnswers D.shown D.size_of D.may_leave result (S.left input.old) (S.left input.new) disk.old disk.new
+    ensures reads { Reads AuditAnswers D.Disk result (S.left input.old) (S.left input.new) disk.old disk.new
         (W.written out.old) (W.written out.new) }
     ensures answers { IsTrue (is_list_answer result) }
     ensures read_fault { result ≡ Status.ReadFault → S.faults input.old < S.faults input.new }
@@ -52,7 +52,7 @@ fn seen_text<D: Disk>(alloc: Global, disk: &mut D, bundle: &Bundle) -> Result<Te
     ensures gives { WhereTold (D.shown disk.old) (λ image. GivesText result (AuditGives bundle.now image)) }
     ensures ends { IfErr result (λ status. IsTrue (is_store_answer status)) }
     ensures seen { result ≢ Err Status.Unseen }
-    ensures reads_only { IsOnlyRead D.shown D.size_of D.may_leave disk.old disk.new }
+    ensures reads_only { IsOnlyRead D.Disk disk.old disk.new }
     ensures counts { D.faults disk.old ≤ D.faults disk.new }
     ensures disk_fault { result ≡ Err Status.DiskFault → D.faults disk.old < D.faults disk.new }
 {

@@ -1,7 +1,7 @@
 //! The command `list`: the whole input, then all that its key opens, then the lines in one piece, in this order.
 ghost use Rattle.std.specs.Prelude.{◌≡◌, ◌≢◌, ◌<◌, ◌≤◌, Err, IfOk, IfErr, is_some, IsTrue};
 ghost use Rattle.cry_io.specs.Told.{WhereTold};
-ghost use Rattle.commit_journal.specs.Reading.{IsOnlyRead};
+ghost use Rattle.cry_io.specs.Reading.{IsOnlyRead};
 ghost use Rattle.cryptree_cli.specs.Listing.{GivesText, IsExactly, ListAnswers, Reads, is_before_read, is_list_answer, is_store_answer};
 ghost use Rattle.cryptree_cli.specs.Listing.{view_answer};
 ghost use Rattle.cryptree_cli.specs.Status.{is_before_print};
@@ -26,7 +26,7 @@ pub(crate) fn list<S: Source, D: Disk, W: Sink>(
     disk: &mut D,
     out: &mut W,
 ) -> Status
-    ensures reads { Reads ListAnswers D.shown D.size_of D.may_leave result (S.left input.old) (S.left input.new) disk.old disk.new
+    ensures reads { Reads ListAnswers D.Disk result (S.left input.old) (S.left input.new) disk.old disk.new
         (W.written out.old) (W.written out.new) }
     ensures answers { IsTrue (is_list_answer result) }
     ensures read_fault { result ≡ Status.ReadFault → S.faults input.old < S.faults input.new }
@@ -55,7 +55,7 @@ fn view_text<D: Disk>(alloc: Global, disk: &mut D, bundle: &Bundle) -> Result<Te
     ensures gives { WhereTold (D.shown disk.old) (λ image. GivesText result (IsExactly (view_answer (shown_with bundle.now image)))) }
     ensures ends { IfErr result (λ status. IsTrue (is_store_answer status)) }
     ensures seen { result ≢ Err Status.Unseen }
-    ensures reads_only { IsOnlyRead D.shown D.size_of D.may_leave disk.old disk.new }
+    ensures reads_only { IsOnlyRead D.Disk disk.old disk.new }
     ensures counts { D.faults disk.old ≤ D.faults disk.new }
     ensures disk_fault { result ≡ Err Status.DiskFault → D.faults disk.old < D.faults disk.new }
 {

@@ -1,7 +1,7 @@
 //! The command `open`: the whole input, then what its key opens beside the path, then the path's line, in this order.
 ghost use Rattle.std.specs.Prelude.{◌≡◌, ◌<◌, ◌≤◌, Err, IfErr, is_some, IsTrue};
 ghost use Rattle.cry_io.specs.Told.{WhereTold};
-ghost use Rattle.commit_journal.specs.Reading.{IsOnlyRead};
+ghost use Rattle.cry_io.specs.Reading.{IsOnlyRead};
 ghost use Rattle.cryptree_cli.specs.Listing.{GivesText, IsExactly, OpenAnswers, Reads, is_before_read, is_open_answer, is_store_answer};
 ghost use Rattle.cryptree_cli.specs.Listing.{line_answer};
 ghost use Rattle.cryptree_cli.specs.Status.{is_before_print};
@@ -25,7 +25,7 @@ pub(crate) fn open<S: Source, D: Disk, W: Sink>(
     disk: &mut D,
     out: &mut W,
 ) -> Status
-    ensures reads { Reads (OpenAnswers path.now) D.shown D.size_of D.may_leave result (S.left input.old) (S.left input.new) disk.old
+    ensures reads { Reads (OpenAnswers path.now) D.Disk result (S.left input.old) (S.left input.new) disk.old
         disk.new (W.written out.old) (W.written out.new) }
     ensures answers { IsTrue (is_open_answer result) }
     ensures read_fault { result ≡ Status.ReadFault → S.faults input.old < S.faults input.new }
@@ -59,7 +59,7 @@ fn line_text<D: Disk>(
     ensures gives { WhereTold (D.shown disk.old)
         (λ image. GivesText result (IsExactly (line_answer (line_shown bundle.now path.now image)))) }
     ensures ends { IfErr result (λ status. IsTrue (is_store_answer status)) }
-    ensures reads_only { IsOnlyRead D.shown D.size_of D.may_leave disk.old disk.new }
+    ensures reads_only { IsOnlyRead D.Disk disk.old disk.new }
     ensures counts { D.faults disk.old ≤ D.faults disk.new }
     ensures disk_fault { result ≡ Err Status.DiskFault → D.faults disk.old < D.faults disk.new }
 {

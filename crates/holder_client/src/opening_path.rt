@@ -3,7 +3,7 @@ ghost use Rattle.std.specs.Prelude.{◌≡◌, ◌<◌, ◌≤◌, ◌||◌, ℕ
 ghost use Rattle.std.specs.HashSet.{contains};
 ghost use Rattle.std.specs.List.{flat_map, list_any};
 ghost use Rattle.std.specs.Str.{bytes_eq};
-ghost use Rattle.commit_journal.specs.Reading.{IsOnlyRead};
+ghost use Rattle.cry_io.specs.Reading.{IsOnlyRead};
 ghost use Rattle.commit_journal.specs.Streaming.{ShowsGiven};
 ghost use Rattle.cry_base.specs.Naming.{is_path, parent_path};
 ghost use Rattle.cry_base.specs.declared.roles.Role.TheVariants.{Owner};
@@ -218,7 +218,7 @@ impl Reader {
         requires shows { WhereTold (D.shown disk.old) (λ s. ShowsGiven log.now s) }
         ensures answer { WhereTold (D.shown disk.old)
             (λ _. AnswersAs plain_line result (line_with bundle.now path.now (Ok log.now.given))) }
-        ensures read_only { IsOnlyRead D.shown D.size_of D.may_leave disk.old disk.new }
+        ensures read_only { IsOnlyRead D.Disk disk.old disk.new }
         ensures counts { D.faults disk.old ≤ D.faults disk.new }
         ensures disk_fault { result ≡ Err ClientFault.DiskFault → D.faults disk.old < D.faults disk.new }
     {
@@ -244,7 +244,7 @@ pub fn open_path<D: Disk>(
     path: &[u8],
 ) -> Result<Line, ClientFault>
     ensures verdict { WhereTold (D.shown disk.old) (λ s. AnswersAs plain_line result (line_shown bundle.now path.now s)) }
-    ensures read_only { IsOnlyRead D.shown D.size_of D.may_leave disk.old disk.new }
+    ensures read_only { IsOnlyRead D.Disk disk.old disk.new }
     ensures counts { D.faults disk.old ≤ D.faults disk.new }
     ensures disk_fault { result ≡ Err ClientFault.DiskFault → D.faults disk.old < D.faults disk.new }
 {

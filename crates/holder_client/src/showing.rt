@@ -2,7 +2,7 @@
 ghost use Rattle.std.specs.Prelude.{◌≡◌, ◌≢◌, ◌<◌, ◌≤◌, Err, IfOk, Ok, option_copied};
 ghost use Rattle.cry_io.specs.Told.{WhereTold};
 ghost use Rattle.commit_journal.specs.Readers as readers;
-ghost use Rattle.commit_journal.specs.Reading.{IsOnlyRead};
+ghost use Rattle.cry_io.specs.Reading.{IsOnlyRead};
 ghost use Rattle.commit_journal.specs.Streaming.{ShowsGiven};
 ghost use Rattle.cry_base.specs.declared.roles.Role.TheVariants.{Owner};
 ghost use Rattle.log_visits.specs.Answering.{Answers, AnswersAs};
@@ -48,7 +48,7 @@ fn read_batches<D: Disk>(
     ensures starts { IfOk result (λ read. HasStarts read.reader read.log.starts) }
     ensures shows { WhereTold (D.shown disk.old) (λ s. IfOk result (λ read. ShowsGiven read.log s)) }
     ensures seen { result ≢ Err ClientFault.Unseen }
-    ensures read_only { IsOnlyRead D.shown D.size_of D.may_leave disk.old disk.new }
+    ensures read_only { IsOnlyRead D.Disk disk.old disk.new }
     ensures counts { D.faults disk.old ≤ D.faults disk.new }
     ensures disk_fault { result ≡ Err ClientFault.DiskFault → D.faults disk.old < D.faults disk.new }
 {
@@ -73,7 +73,7 @@ pub(crate) fn read_log<D: Disk>(
     ensures starts { IfOk result (λ read. HasStarts read.reader read.log.starts) }
     ensures shows { WhereTold (D.shown disk.old) (λ s. IfOk result (λ read. ShowsGiven read.log s)) }
     ensures seen { result ≢ Err ClientFault.Unseen }
-    ensures read_only { IsOnlyRead D.shown D.size_of D.may_leave disk.old disk.new }
+    ensures read_only { IsOnlyRead D.Disk disk.old disk.new }
     ensures counts { D.faults disk.old ≤ D.faults disk.new }
     ensures disk_fault { result ≡ Err ClientFault.DiskFault → D.faults disk.old < D.faults disk.new }
 {
@@ -135,7 +135,7 @@ impl Reader {
         requires shows { WhereTold (D.shown disk.old) (λ s. ShowsGiven log.now s) }
         ensures answer { WhereTold (D.shown disk.old) (λ _. AnswersAs plain_view result (view_with bundle.now (Ok log.now.given))) }
         ensures seen { result ≢ Err ClientFault.Unseen }
-        ensures read_only { IsOnlyRead D.shown D.size_of D.may_leave disk.old disk.new }
+        ensures read_only { IsOnlyRead D.Disk disk.old disk.new }
         ensures counts { D.faults disk.old ≤ D.faults disk.new }
         ensures disk_fault { result ≡ Err ClientFault.DiskFault → D.faults disk.old < D.faults disk.new }
     {
@@ -164,7 +164,7 @@ pub fn view<D: Disk>(
 ) -> Result<List<Line>, ClientFault>
     ensures verdict { WhereTold (D.shown disk.old) (λ s. AnswersAs plain_view result (shown_with bundle.now s)) }
     ensures seen { result ≢ Err ClientFault.Unseen }
-    ensures read_only { IsOnlyRead D.shown D.size_of D.may_leave disk.old disk.new }
+    ensures read_only { IsOnlyRead D.Disk disk.old disk.new }
     ensures counts { D.faults disk.old ≤ D.faults disk.new }
     ensures disk_fault { result ≡ Err ClientFault.DiskFault → D.faults disk.old < D.faults disk.new }
 {

@@ -28,15 +28,15 @@ impl<'a> Model for StreamedLog<'a> {
 
 impl<'a, D: Disk> Records<D> for StreamedLog<'a> {
     ghost use Rattle.std.specs.Prelude.{◌≡◌, ◌≤◌, ℕ, List, Some};
-    ghost use Rattle.commit_journal.specs.Reading.{IsOnlyRead};
+    ghost use Rattle.cry_io.specs.Reading.{IsOnlyRead};
     ghost use Rattle.commit_journal.specs.Streaming.{ShowsGiven};
-    ghost use Rattle.holder_client.specs.Rereading.{only_read_on, only_read_still, still_shown};
+    ghost use Rattle.holder_client.specs.Rereading.{reread_on, reread_still, still_shown};
 
     ghost log = { λ l. l.given };
 
     ghost shows = { λ l disk. (s : List ℕ) × (D.shown disk ≡ Some s) × ShowsGiven l s };
 
-    ghost stays = { λ a b. IsOnlyRead D.shown D.size_of D.may_leave a b × (D.faults a ≤ D.faults b) };
+    ghost stays = { λ a b. IsOnlyRead D.Disk a b × (D.faults a ≤ D.faults b) };
 
     ghost faults = { D.faults };
 
@@ -58,11 +58,11 @@ impl<'a, D: Disk> Records<D> for StreamedLog<'a> {
         Ok(Some(take_content(placed, &spot, kind, object)?))
     }
 
-    ghost same = { λ a. only_read_still D.shown D.size_of D.may_leave D.faults a };
+    ghost same = { λ a. reread_still D.Disk a };
 
-    ghost twice = { λ a b c. only_read_on D.shown D.size_of D.may_leave D.faults a b c };
+    ghost twice = { λ a b c. reread_on D.Disk a b c };
 
-    ghost still_shows = { λ l a b. still_shown D.shown D.size_of D.may_leave D.faults l a b };
+    ghost still_shows = { λ l a b. still_shown D.Disk l a b };
 
     ghost counts = { λ _ _ kept. kept.1 };
 }

@@ -2,7 +2,7 @@
 ghost use Rattle.std.specs.Prelude.{◌≡◌, ◌≢◌, ◌<◌, ◌≤◌, Err, IfOk, List as TheList, Ok};
 ghost use Rattle.cry_io.specs.Told.{WhereTold};
 ghost use Rattle.commit_journal.specs.Placed.{PlainPlaced};
-ghost use Rattle.commit_journal.specs.Reading.{IsOnlyRead};
+ghost use Rattle.cry_io.specs.Reading.{IsOnlyRead};
 ghost use Rattle.log_visits.specs.Judging.{read_with};
 ghost use Rattle.log_visits.specs.Placing.{log_links};
 ghost use Rattle.holder_client.specs.Reads.{HasRead};
@@ -92,7 +92,7 @@ pub fn audit<D: Disk>(
 ) -> Result<List<Seen>, ClientFault>
     ensures verdict { WhereTold (D.shown disk.old) (λ s. MayAnswer bundle.now s result) }
     ensures seen { result ≢ Err ClientFault.Unseen }
-    ensures read_only { IsOnlyRead D.shown D.size_of D.may_leave disk.old disk.new }
+    ensures read_only { IsOnlyRead D.Disk disk.old disk.new }
     ensures counts { D.faults disk.old ≤ D.faults disk.new }
     ensures disk_fault { result ≡ Err ClientFault.DiskFault → D.faults disk.old < D.faults disk.new }
 {

@@ -2,7 +2,7 @@
 ghost use Rattle.std.specs.Prelude.{◌≡◌, ◌≢◌, ◌<◌, ◌≤◌, Err, IfOk, option_copied};
 ghost use Rattle.cry_io.specs.Told.{WhereTold};
 ghost use Rattle.commit_journal.specs.Readers as readers;
-ghost use Rattle.commit_journal.specs.Reading.{IsOnlyRead};
+ghost use Rattle.cry_io.specs.Reading.{IsOnlyRead};
 ghost use Rattle.commit_journal.specs.Streaming.{ShowsGiven};
 ghost use Rattle.log_visits.specs.Answering.{Answers};
 ghost use Rattle.log_visits.specs.Judging as spec;
@@ -35,7 +35,7 @@ fn read_batches<D: Disk>(
     ensures starts { IfOk result (λ read. KeepsStarts read.kept.starts.items read.log) }
     ensures shows { WhereTold (D.shown disk.old) (λ s. IfOk result (λ read. ShowsGiven read.log s)) }
     ensures seen { result ≢ Err ClientFault.Unseen }
-    ensures read_only { IsOnlyRead D.shown D.size_of D.may_leave disk.old disk.new }
+    ensures read_only { IsOnlyRead D.Disk disk.old disk.new }
     ensures counts { D.faults disk.old ≤ D.faults disk.new }
     ensures disk_fault { result ≡ Err ClientFault.DiskFault → D.faults disk.old < D.faults disk.new }
 {
@@ -60,7 +60,7 @@ pub(crate) fn read_log<D: Disk>(
     ensures starts { IfOk result (λ read. KeepsStarts read.kept.starts.items read.log) }
     ensures shows { WhereTold (D.shown disk.old) (λ s. IfOk result (λ read. ShowsGiven read.log s)) }
     ensures seen { result ≢ Err ClientFault.Unseen }
-    ensures read_only { IsOnlyRead D.shown D.size_of D.may_leave disk.old disk.new }
+    ensures read_only { IsOnlyRead D.Disk disk.old disk.new }
     ensures counts { D.faults disk.old ≤ D.faults disk.new }
     ensures disk_fault { result ≡ Err ClientFault.DiskFault → D.faults disk.old < D.faults disk.new }
 {

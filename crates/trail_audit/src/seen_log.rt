@@ -3,7 +3,7 @@ ghost use Rattle.std.specs.Prelude.{◌≡◌, ◌≢◌, ◌+◌, ◌<◌, ◌�
 ghost use Rattle.std.specs.List.{slice_get};
 ghost use Rattle.cry_io.specs.Told.{WhereTold};
 ghost use Rattle.commit_journal.specs.Placed.{PlainPlaced};
-ghost use Rattle.commit_journal.specs.Reading.{IsOnlyRead};
+ghost use Rattle.cry_io.specs.Reading.{IsOnlyRead};
 ghost use Rattle.commit_journal.specs.Streaming.{IsStart, ShowsGiven, again_in};
 ghost use Rattle.log_visits.specs.Placing.{body_contents, log_contents};
 ghost use Rattle.trail_audit.specs.Derived.{AreSeen, RereadFault, plain_seen};
@@ -41,7 +41,7 @@ fn see_batch<D: Disk>(
         (map plain_seen seen.new.items))
         (RereadFault (body_contents p.batch p.place p.body) known.now.keys.items)) }
     ensures unseen { result ≢ Err ClientFault.Unseen }
-    ensures read_only { IsOnlyRead D.shown D.size_of D.may_leave disk.old disk.new }
+    ensures read_only { IsOnlyRead D.Disk disk.old disk.new }
     ensures counts { D.faults disk.old ≤ D.faults disk.new }
     ensures disk_fault { result ≡ Err ClientFault.DiskFault → D.faults disk.old < D.faults disk.new }
 {
@@ -82,7 +82,7 @@ pub(crate) fn see_log<D: Disk>(
         MatchResult result (λ seen. AreSeen known.now.keys.items (log_contents log.now.given) [] (map plain_seen seen.items))
         (RereadFault (log_contents log.now.given) known.now.keys.items)) }
     ensures unseen { result ≢ Err ClientFault.Unseen }
-    ensures read_only { IsOnlyRead D.shown D.size_of D.may_leave disk.old disk.new }
+    ensures read_only { IsOnlyRead D.Disk disk.old disk.new }
     ensures counts { D.faults disk.old ≤ D.faults disk.new }
     ensures disk_fault { result ≡ Err ClientFault.DiskFault → D.faults disk.old < D.faults disk.new }
 {

@@ -2,8 +2,9 @@
 -- the store's history, and then prints it in one piece. The first line that is bad is told, also where the input failed behind it; of the
 -- store any bad record's failure. On a disk that shows a journal it answers what its history derives, to a reader whose key is right;
 -- another key is told so. Whatever the disk shows, whoever has a key of a journal is shown what the journal once wrote, or a forged record
--- stands there. The disk is only read, and nothing is drawn.
+-- stands there. At each moment of the call the disk shows what it showed, and a stop leaves what it left; nothing is drawn.
 use Rattle.std.specs.Prelude.{◌≡◌, IsTrue}
+use Rattle.commit_journal.specs.Moments.{IsSameThroughout}
 use Rattle.cry_io.specs.Told.{WhereTold}
 use Rattle.cry_io.specs.declared.disk.Disk as disk
 use Rattle.cry_io.specs.declared.streams.Sink as sink
@@ -20,13 +21,14 @@ pub record AuditEnds {S R D W : Type 0} (inputs : source.Ghosts S) (randoms : so
     (out_old out_new : W) : Type 0 where
   -- when each answer comes
   pub answers : IsTrue (is_list_answer status)
-  pub reads : Reads AuditAnswers disks.shown disks.size_of disks.may_leave status (inputs.left input_old)
+  pub reads : Reads AuditAnswers disks status (inputs.left input_old)
       (inputs.left input_new) disk_old disk_new (outs.written out_old) (outs.written out_new)
   pub journal : WhereTold (inputs.left input_old) (λ typed. WhereTold (disks.shown disk_old) (λ image.
       AuditsJournal status typed image (outs.written out_old) (outs.written out_new)))
   pub written : WhereTold (inputs.left input_old) (λ typed. WhereTold (disks.shown disk_old) (λ image.
       PrintsWritten AreSightsOf status typed image (outs.written out_old) (outs.written out_new)))
   -- what it leaves
+  pub moments : IsSameThroughout disks disk_old disk_new
   pub random_kept : random_new ≡ random_old
   pub disk_unread : IsTrue (is_before_read status) → disk_new ≡ disk_old
   pub out_kept : IsTrue (is_before_print status) → out_new ≡ out_old

@@ -3,8 +3,9 @@
 -- store exactly where the image has it. On a disk that shows a journal it answers what its store shows, to a reader whose key is right;
 -- another key is told so. Whatever the disk shows, whoever has a key of a journal is shown what the journal once wrote, each name and each
 -- file for the very folder or file, or a forged record stands there: one with a right tag under a key of the journal that it did not
--- publish. The disk is only read, and nothing is drawn.
+-- publish. At each moment of the call the disk shows what it showed, and a stop leaves what it left; nothing is drawn.
 use Rattle.std.specs.Prelude.{◌≡◌, IsTrue}
+use Rattle.commit_journal.specs.Moments.{IsSameThroughout}
 use Rattle.cry_io.specs.Told.{WhereTold}
 use Rattle.cry_io.specs.declared.disk.Disk as disk
 use Rattle.cry_io.specs.declared.streams.Sink as sink
@@ -21,13 +22,14 @@ pub record ListEnds {S R D W : Type 0} (inputs : source.Ghosts S) (randoms : sou
     (out_old out_new : W) : Type 0 where
   -- when each answer comes
   pub answers : IsTrue (is_list_answer status)
-  pub reads : Reads ListAnswers disks.shown disks.size_of disks.may_leave status (inputs.left input_old)
+  pub reads : Reads ListAnswers disks status (inputs.left input_old)
       (inputs.left input_new) disk_old disk_new (outs.written out_old) (outs.written out_new)
   pub journal : WhereTold (inputs.left input_old) (λ typed. WhereTold (disks.shown disk_old) (λ image.
       AnswersJournal view_of status typed image (outs.written out_old) (outs.written out_new)))
   pub written : WhereTold (inputs.left input_old) (λ typed. WhereTold (disks.shown disk_old) (λ image.
       PrintsWritten AreLinesOf status typed image (outs.written out_old) (outs.written out_new)))
   -- what it leaves
+  pub moments : IsSameThroughout disks disk_old disk_new
   pub random_kept : random_new ≡ random_old
   pub disk_unread : IsTrue (is_before_read status) → disk_new ≡ disk_old
   pub out_kept : IsTrue (is_before_print status) → out_new ≡ out_old

@@ -14,10 +14,9 @@ use Rattle.commit_journal.specs.Turns.{plain_turn}
 use Rattle.commit_journal.proofs.Counted.{as_many, counts_all, counts_more, counts_start, ends_more, ends_start}
 use Rattle.commit_journal.proofs.Judged.{fault_first}
 use Rattle.commit_journal.proofs.OwnedLemmas.{owned_before-fault, owned_before-end, owned_closed, owned_fails, owned_starts, owned_more}
-use Rattle.commit_journal.proofs.OpenedMoments.{same_twice}
 use Rattle.commit_journal.proofs.SlotsGated.{gated_all, gated_start, gated_turn}
 use Rattle.commit_journal.proofs.SlotsUnfilled.{unfilled_more, unfilled_start}
-use Rattle.commit_journal.proofs.Walked.{only_read_twice}
+use Rattle.cry_io.proofs.OnlyRead.{only_read_twice}
 use Rattle.commit_journal.proofs.opening.walk.Goals as goal
 
 pub returns-in_err-past-clause-verdict : goal.returns-in_err-past-clause-verdict
@@ -42,7 +41,6 @@ loop-past-init g c =
       unfilled = λ s is. rw (c.new-log.ensures, c.new-slots.ensures) (unfilled_start c.args.owner.now.bytes s);
       gated = λ s is. rw c.new-log.ensures (gated_start c.in_ok-past.past s c.in_ok-past.ensures.place (c.in_ok-past.ensures.gate s is));
       read_only = c.in_ok-past.ensures.read_only;
-      moments = c.in_ok-past.ensures.moments;
       counted = rw c.new-log.ensures (counts_start c.in_ok-past.past c.in_ok-past.ensures.fresh.1);
       ends = rw c.new-log.ensures (ends_start c.in_ok-past.past c.in_ok-past.ensures.fresh.0 c.in_ok-past.ensures.fresh.1);
       counts = c.in_ok-past.ensures.counts;
@@ -94,14 +92,12 @@ loop-past-preserved g c =
           ∙ ap (λ us. us ++ option_to_list (unfilled_of owner (plain_placed turn.placed) s)) (c.loop-past.invariant.unfilled s is)
           ∙ sym (unfilled_more owner front (plain_placed turn.placed) s)
           ∙ ap (λ ps. unfilled_in owner ps s) (sym pushed);
-      read_only = only_read_twice g.D.Disk.shown g.D.Disk.size_of g.D.Disk.may_leave c.args.disk.now c.loop-past.disk c.read_owned.new.disk c.loop-past.invariant.read_only read;
+      read_only = only_read_twice g.D.Disk c.args.disk.now c.loop-past.disk c.read_owned.new.disk c.loop-past.invariant.read_only read;
       gated = λ s is.
           let judged = c.in_ok-placed.ensures.answer s (c.loop-past.invariant.read_only.same_bytes ∙ is) in
           let sized = g.met.D.Disk.size_is_shown c.args.disk.now s is in
           let fits : turn.past.at ≤ length s = omega (arith, next.inside, c.loop-past.invariant.read_only.same_size, sized) in
           rw pushed (gated_turn c.args.limit owner s front past (plain_turn turn) gate judged next.place next.ahead fits room.behind (c.loop-past.invariant.gated s is));
-      moments = same_twice D.shown D.may_leave D.moment D.since c.args.disk.now c.loop-past.disk c.read_owned.new.disk c.loop-past.invariant.read_only.same_bytes
-          (λ left. (c.loop-past.invariant.read_only.same_stops left).0) c.loop-past.invariant.moments c.in_ok-placed.ensures.moments;
       counted = rw pushed (counts_more front past (plain_turn turn) c.in_ok-placed.ensures.in_epoch c.loop-past.invariant.counted);
       ends = rw pushed (ends_more front past (plain_turn turn) c.in_ok-placed.ensures.in_epoch next.number c.loop-past.invariant.ends);
       counts = omega (arith, c.loop-past.invariant.counts, c.in_ok-placed.ensures.counts);

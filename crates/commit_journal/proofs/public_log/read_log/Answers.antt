@@ -7,7 +7,7 @@ use Rattle.commit_journal.specs.Logs.{AreInEpochs}
 use Rattle.commit_journal.specs.Placed.{plain_placed}
 use Rattle.commit_journal.specs.Places.{IsStanding}
 use Rattle.commit_journal.specs.Streaming.{Gives, GivesOne}
-use Rattle.commit_journal.proofs.Walked.{only_read_twice}
+use Rattle.cry_io.proofs.OnlyRead.{only_read_twice}
 use Rattle.commit_journal.proofs.public_log.read_log.Goals as goal
 
 pub loop-batches-init : goal.loop-batches-init
@@ -31,7 +31,7 @@ returns-in_err-placed-clause-verdict g c = λ s is.
 
 pub returns-in_err-placed-clause-read_only : goal.returns-in_err-placed-clause-read_only
 returns-in_err-placed-clause-read_only g c =
-    only_read_twice g.D.Disk.shown g.D.Disk.size_of g.D.Disk.may_leave c.args.disk.now c.loop-batches.disk c.next.new.disk c.loop-batches.invariant.read_only c.in_err-placed.ensures.read_only
+    only_read_twice g.D.Disk c.args.disk.now c.loop-batches.disk c.next.new.disk c.loop-batches.invariant.read_only c.in_err-placed.ensures.read_only
 
 pub returns-in_err-placed-clause-counts : goal.returns-in_err-placed-clause-counts
 returns-in_err-placed-clause-counts g c = omega (arith, c.loop-batches.invariant.counts, c.in_err-placed.ensures.counts)
@@ -64,14 +64,14 @@ loop-batches-preserved g c =
       stands = rw c.in_ok-push.ensures.items (All-append IsStanding c.loop-batches.batches.items (placed ∷ []) kept.stands (All-cons IsStanding placed [] gives.stands (All-nil IsStanding)));
       given = rw c.in_ok-push.ensures.items (map_push plain_placed c.loop-batches.batches.items placed ∙ ap (λ front. front ++ plain_placed placed ∷ []) kept.given ∙ sym gives.given);
       epochs = next.epochs;
-      read_only = only_read_twice g.D.Disk.shown g.D.Disk.size_of g.D.Disk.may_leave c.args.disk.now c.loop-batches.disk c.next.new.disk kept.read_only next.read_only;
+      read_only = only_read_twice g.D.Disk c.args.disk.now c.loop-batches.disk c.next.new.disk kept.read_only next.read_only;
       counts = omega (arith, kept.counts, next.counts);
       so_far = λ s is. next.log s (kept.read_only.same_bytes ∙ is) ∙ kept.so_far s is;
     }
 
 pub returns-in_err-push-clause-read_only : goal.returns-in_err-push-clause-read_only
 returns-in_err-push-clause-read_only g c =
-    only_read_twice g.D.Disk.shown g.D.Disk.size_of g.D.Disk.may_leave c.args.disk.now c.loop-batches.disk c.next.new.disk c.loop-batches.invariant.read_only c.in_ok-placed.ensures.read_only
+    only_read_twice g.D.Disk c.args.disk.now c.loop-batches.disk c.next.new.disk c.loop-batches.invariant.read_only c.in_ok-placed.ensures.read_only
 
 pub returns-in_err-push-clause-counts : goal.returns-in_err-push-clause-counts
 returns-in_err-push-clause-counts g c = omega (arith, c.loop-batches.invariant.counts, c.in_ok-placed.ensures.counts)
@@ -89,7 +89,7 @@ returns-clause-epochs g c = subst (AreInEpochs 0) (sym c.loop-batches.invariant.
 
 pub returns-clause-read_only : goal.returns-clause-read_only
 returns-clause-read_only g c =
-    only_read_twice g.D.Disk.shown g.D.Disk.size_of g.D.Disk.may_leave c.args.disk.now c.loop-batches.disk c.next.new.disk c.loop-batches.invariant.read_only c.in_ok-placed.ensures.read_only
+    only_read_twice g.D.Disk c.args.disk.now c.loop-batches.disk c.next.new.disk c.loop-batches.invariant.read_only c.in_ok-placed.ensures.read_only
 
 pub returns-clause-counts : goal.returns-clause-counts
 returns-clause-counts g c = omega (arith, c.loop-batches.invariant.counts, c.in_ok-placed.ensures.counts)

@@ -4,7 +4,7 @@ use Rattle.commit_journal.specs.Logs.{AreInEpochs}
 use Rattle.commit_journal.specs.Placed.{plain_placed}
 use Rattle.commit_journal.specs.Places.{IsStanding}
 use Rattle.commit_journal.specs.Readers as readers
-use Rattle.commit_journal.specs.Reading.{IsOnlyRead}
+use Rattle.cry_io.specs.Reading.{IsOnlyRead}
 use Rattle.commit_journal.specs.Streaming.{log_in}
 use Rattle.commit_journal.proofs.public_log.read_log.Given as goal
 
@@ -14,7 +14,7 @@ invariant-loop-batches g l = record {
   stands : All IsStanding l.batches.items;
   given : map plain_placed l.batches.items ≡ l.log.given;
   epochs : AreInEpochs 0 l.log.given;
-  read_only : IsOnlyRead g.D.Disk.shown g.D.Disk.size_of g.D.Disk.may_leave l.fn.disk l.disk;
+  read_only : IsOnlyRead g.D.Disk l.fn.disk l.disk;
   counts : g.D.Disk.faults l.fn.disk ≤ g.D.Disk.faults l.disk;
   so_far : (s : List ℕ) → g.D.Disk.shown l.fn.disk ≡ Some s → log_in l.log s ≡ readers.read_log (readers.key_bytes (option_copied l.owner)) s;
 }

@@ -6,19 +6,19 @@ use Rattle.cryptree_cli.proofs.list.list.Goals as goal
 
 pub returns-in-Err-clause-reads : goal.returns-in-Err-clause-reads
 returns-in-Err-clause-reads g c =
-    reads_no_bundle (λ image bundle. IsExactly (view_answer (shown_with bundle image))) g.D.Disk.shown g.D.Disk.size_of g.D.Disk.may_leave c.in-Err.fault c.input_status.result
+    reads_no_bundle (λ image bundle. IsExactly (view_answer (shown_with bundle image))) g.D.Disk c.in-Err.fault c.input_status.result
     (g.S.Source.left c.args.input.now) (g.S.Source.left c.read_bundle_line.new.input) c.args.disk.now (g.W.Sink.written c.args.out.now)
     c.input_status.ensures c.read_bundle_line.ensures.told c.in-Err.ensures.bytes
 
 pub returns-in-Err-view_text-clause-reads : goal.returns-in-Err-view_text-clause-reads
 returns-in-Err-view_text-clause-reads g c =
-    reads_nothing (λ image bundle. IsExactly (view_answer (shown_with bundle image))) g.D.Disk.shown g.D.Disk.size_of g.D.Disk.may_leave c.in-Ok.bundle c.in-Err-view_text.status
+    reads_nothing (λ image bundle. IsExactly (view_answer (shown_with bundle image))) g.D.Disk c.in-Ok.bundle c.in-Err-view_text.status
     (g.S.Source.left c.args.input.now) (g.S.Source.left c.read_bundle_line.new.input) c.args.disk.now c.view_text.new.disk (g.W.Sink.written c.args.out.now)
     c.in-Err-view_text.ensures.ends c.read_bundle_line.ensures.told c.in-Ok.ensures.bytes c.in-Err-view_text.ensures.gives c.in-Err-view_text.ensures.reads_only
 
 pub returns-in-Ok-view_text-clause-reads : goal.returns-in-Ok-view_text-clause-reads
 returns-in-Ok-view_text-clause-reads g c =
-    reads_text (λ image bundle. IsExactly (view_answer (shown_with bundle image))) g.D.Disk.shown g.D.Disk.size_of g.D.Disk.may_leave c.in-Ok.bundle c.as_slice.result.now c.tell.result
+    reads_text (λ image bundle. IsExactly (view_answer (shown_with bundle image))) g.D.Disk c.in-Ok.bundle c.as_slice.result.now c.tell.result
     (g.S.Source.left c.args.input.now) (g.S.Source.left c.read_bundle_line.new.input) c.args.disk.now c.view_text.new.disk (g.W.Sink.written c.args.out.now) (g.W.Sink.written c.tell.new.out)
     c.tell.ensures.done c.read_bundle_line.ensures.told c.in-Ok.ensures.bytes
     (λ image now. c.in-Ok-view_text.ensures.gives image now ∙ ap (λ text. Ok text) (sym c.as_slice.ensures)) c.in-Ok-view_text.ensures.reads_only

@@ -1,5 +1,6 @@
 use Rattle.std.proofs.Common.{◌≡◌, List, ℕ, Option, Some, arith, refl, rules, sym, ap, ◌∙◌, subst}
 use Rattle.std.specs.Prelude.{IfSome}
+use Rattle.commit_journal.proofs.OpenedMoments.{read_throughout}
 use Rattle.cryptree_cli.specs.declared.texts.TheConstants.{HELP, VERSION}
 use Rattle.cryptree_cli.specs.declared.words.Form.TheVariants.{Help, Version}
 use Rattle.cryptree_cli.specs.declared.words.Form.{Form}
@@ -75,16 +76,27 @@ returns-in-Some-Gen-clause-generates g c = λ seed count asked.
 -- ---- `list`, `open` and `audit`
 
 pub returns-in-Some-List-clause-lists : goal.returns-in-Some-List-clause-lists
-returns-in-Some-List-clause-lists g c = λ is. search (rules, list_ends)
+returns-in-Some-List-clause-lists g c = λ is.
+    let moments = read_throughout g.D.Disk (λ d s left at. g.met.D.Disk.only_now d s left at)
+    (λ d t s left early shows leaves. g.met.D.Disk.counts_now d t s left early shows leaves)
+    c.args.disk.now c.list.new.disk c.list.ensures.reads.reads_only in
+    search (rules, list_ends, moments)
 
 pub returns-in-Some-Open-clause-opens : goal.returns-in-Some-Open-clause-opens
 returns-in-Some-Open-clause-opens g c = λ is.
+    let moments = read_throughout g.D.Disk (λ d s left at. g.met.D.Disk.only_now d s left at)
+    (λ d t s left early shows leaves. g.met.D.Disk.counts_now d t s left early shows leaves)
+    c.args.disk.now c.open.new.disk c.open.ensures.reads.reads_only in
     subst (λ named. OpenEnds g.S.Source g.R.Source g.D.Disk g.W.Sink c.open.result c.args.input.now c.open.new.input
     c.args.random.now c.args.random.now c.args.disk.now c.open.new.disk c.args.out.now c.open.new.out named) c.path_in.ensures
-    (search (rules, open_ends))
+    (search (rules, open_ends, moments))
 
 pub returns-in-Some-Audit-clause-audits : goal.returns-in-Some-Audit-clause-audits
-returns-in-Some-Audit-clause-audits g c = λ is. search (rules, audit_ends)
+returns-in-Some-Audit-clause-audits g c = λ is.
+    let moments = read_throughout g.D.Disk (λ d s left at. g.met.D.Disk.only_now d s left at)
+    (λ d t s left early shows leaves. g.met.D.Disk.counts_now d t s left early shows leaves)
+    c.args.disk.now c.audit.new.disk c.audit.ensures.reads.reads_only in
+    search (rules, audit_ends, moments)
 
 -- ---- the texts
 

@@ -8,7 +8,7 @@ use Rattle.commit_journal.specs.declared.past.Past.{Past}
 use Rattle.commit_journal.specs.declared.placed.Placed.{Placed}
 use Rattle.commit_journal.specs.Readers as readers
 use Rattle.commit_journal.specs.Streaming.{Gives, GivesOne, LogState}
-use Rattle.commit_journal.proofs.Walked.{only_read_twice}
+use Rattle.cry_io.proofs.OnlyRead.{only_read_twice}
 use Rattle.commit_journal.specs.Answering as journal
 use Rattle.commit_journal.specs.Answering.{Fault}
 use Rattle.holder_client.specs.Reads.{HasRead, HasStarts}
@@ -65,7 +65,7 @@ loop-reader-preserved g c =
       count = c.past-start-in-Some.ensures.reading.count;
       starts = subst (HasStarts c.add.new.self) (ap (λ (p : Past). c.loop-reader.log.starts ++ p ∷ []) kept.past ∙ sym gives.starts)
           (c.in_ok-add.ensures.starts c.loop-reader.log.starts kept.starts kept.number (gives.batch ∙ ap (λ n. n + 1) (sym kept.count)));
-      read_only = only_read_twice g.D.Disk.shown g.D.Disk.size_of g.D.Disk.may_leave c.args.disk.now c.loop-reader.disk c.next.new.disk kept.read_only next.read_only;
+      read_only = only_read_twice g.D.Disk c.args.disk.now c.loop-reader.disk c.next.new.disk kept.read_only next.read_only;
       counts = omega (arith, kept.counts, next.counts);
       so_far = λ s is. next.log s (kept.read_only.same_bytes ∙ is) ∙ kept.so_far s is;
       shows = λ s is. next.shows s (kept.read_only.same_bytes ∙ is) (kept.shows s is);
@@ -86,7 +86,7 @@ loop-reader-preserved-in_ok-add g c =
       count = c.past-start-in-Some.ensures.reading.count;
       starts = subst (HasStarts c.add.new.self) (ap (λ (p : Past). c.loop-reader.log.starts ++ p ∷ []) kept.past ∙ sym gives.starts)
           (c.in_ok-add.ensures.starts c.loop-reader.log.starts kept.starts kept.number (gives.batch ∙ ap (λ n. n + 1) (sym kept.count)));
-      read_only = only_read_twice g.D.Disk.shown g.D.Disk.size_of g.D.Disk.may_leave c.args.disk.now c.loop-reader.disk c.next.new.disk kept.read_only next.read_only;
+      read_only = only_read_twice g.D.Disk c.args.disk.now c.loop-reader.disk c.next.new.disk kept.read_only next.read_only;
       counts = omega (arith, kept.counts, next.counts);
       so_far = λ s is. next.log s (kept.read_only.same_bytes ∙ is) ∙ kept.so_far s is;
       shows = λ s is. next.shows s (kept.read_only.same_bytes ∙ is) (kept.shows s is);
@@ -114,14 +114,14 @@ returns-in_err-placed-clause-seen g c =
 
 pub returns-in_err-placed-clause-read_only : goal.returns-in_err-placed-clause-read_only
 returns-in_err-placed-clause-read_only g c =
-    only_read_twice g.D.Disk.shown g.D.Disk.size_of g.D.Disk.may_leave c.args.disk.now c.loop-reader.disk c.next.new.disk c.loop-reader.invariant.read_only c.in_err-placed.ensures.read_only
+    only_read_twice g.D.Disk c.args.disk.now c.loop-reader.disk c.next.new.disk c.loop-reader.invariant.read_only c.in_err-placed.ensures.read_only
 
 pub returns-in_err-placed-clause-counts : goal.returns-in_err-placed-clause-counts
 returns-in_err-placed-clause-counts g c = omega (arith, c.loop-reader.invariant.counts, c.in_err-placed.ensures.counts)
 
 pub returns-in_err-add-clause-read_only : goal.returns-in_err-add-clause-read_only
 returns-in_err-add-clause-read_only g c =
-    only_read_twice g.D.Disk.shown g.D.Disk.size_of g.D.Disk.may_leave c.args.disk.now c.loop-reader.disk c.next.new.disk c.loop-reader.invariant.read_only c.in_ok-placed.ensures.read_only
+    only_read_twice g.D.Disk c.args.disk.now c.loop-reader.disk c.next.new.disk c.loop-reader.invariant.read_only c.in_ok-placed.ensures.read_only
 
 pub returns-in_err-add-clause-counts : goal.returns-in_err-add-clause-counts
 returns-in_err-add-clause-counts g c = omega (arith, c.loop-reader.invariant.counts, c.in_ok-placed.ensures.counts)
@@ -149,7 +149,7 @@ returns-in_err-add-clause-verdict g c = λ s is.
 
 pub returns-clause-read_only : goal.returns-clause-read_only
 returns-clause-read_only g c =
-    only_read_twice g.D.Disk.shown g.D.Disk.size_of g.D.Disk.may_leave c.args.disk.now c.loop-reader.disk c.next.new.disk c.loop-reader.invariant.read_only c.in_ok-placed.ensures.read_only
+    only_read_twice g.D.Disk c.args.disk.now c.loop-reader.disk c.next.new.disk c.loop-reader.invariant.read_only c.in_ok-placed.ensures.read_only
 
 pub returns-clause-counts : goal.returns-clause-counts
 returns-clause-counts g c = omega (arith, c.loop-reader.invariant.counts, c.in_ok-placed.ensures.counts)

@@ -1,6 +1,6 @@
 use Rattle.std.proofs.Common.{sym, ◌∙◌}
 use Rattle.std.proofs.lemmas.Result.{err_from_is_err_and}
-use Rattle.commit_journal.proofs.Walked.{only_read_twice}
+use Rattle.cry_io.proofs.OnlyRead.{only_read_twice}
 use Rattle.holder_client.proofs.Listings.{log_fails_view, log_read_view}
 use Rattle.holder_client.proofs.showing.view.Goals as goal
 
@@ -18,4 +18,4 @@ returns-clause-verdict g c = λ s is.
 
 pub returns-clause-read_only : goal.returns-clause-read_only
 returns-clause-read_only g c =
-    only_read_twice g.D.Disk.shown g.D.Disk.size_of g.D.Disk.may_leave c.args.disk.now c.read_log.new.disk c.view.new.disk c.in_ok-log.ensures.read_only c.view.ensures.read_only
+    only_read_twice g.D.Disk c.args.disk.now c.read_log.new.disk c.view.new.disk c.in_ok-log.ensures.read_only c.view.ensures.read_only

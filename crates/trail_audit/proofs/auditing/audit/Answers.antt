@@ -1,6 +1,6 @@
 use Rattle.std.proofs.Common.{◌∙◌, Err, Ok, arith}
 use Rattle.std.proofs.lemmas.Result.{err_from_is_err_and}
-use Rattle.commit_journal.proofs.Walked.{only_read_twice}
+use Rattle.cry_io.proofs.OnlyRead.{only_read_twice}
 use Rattle.log_visits.specs.Judging.{read_with}
 use Rattle.trail_audit.proofs.Answered.{log_fails, log_read, records_opened}
 use Rattle.trail_audit.proofs.auditing.audit.Goals as goal
@@ -28,7 +28,7 @@ returns-clause-verdict g c = λ s is.
 
 pub returns-clause-read_only : goal.returns-clause-read_only
 returns-clause-read_only g c =
-    only_read_twice g.D.Disk.shown g.D.Disk.size_of g.D.Disk.may_leave c.args.disk.now c.read_log.new.disk c.see_log.new.disk c.in_ok-log.ensures.read_only c.see_log.ensures.read_only
+    only_read_twice g.D.Disk c.args.disk.now c.read_log.new.disk c.see_log.new.disk c.in_ok-log.ensures.read_only c.see_log.ensures.read_only
 
 pub returns-clause-counts : goal.returns-clause-counts
 returns-clause-counts g c = omega (arith, c.in_ok-log.ensures.counts, c.see_log.ensures.counts)

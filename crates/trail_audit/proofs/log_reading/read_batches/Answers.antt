@@ -8,7 +8,7 @@ use Rattle.commit_journal.specs.declared.past.Past.{Past}
 use Rattle.commit_journal.specs.declared.placed.Placed.{Placed}
 use Rattle.commit_journal.specs.Readers as readers
 use Rattle.commit_journal.specs.Streaming.{Gives, GivesOne, LogState}
-use Rattle.commit_journal.proofs.Walked.{only_read_twice}
+use Rattle.cry_io.proofs.OnlyRead.{only_read_twice}
 use Rattle.commit_journal.specs.Answering as journal
 use Rattle.commit_journal.specs.Answering.{Fault}
 use Rattle.trail_audit.specs.Kept.{HasKept, KeepsStarts}
@@ -63,7 +63,7 @@ loop-kept-preserved g c =
         same = c.in_ok-add.ensures.starts ∙ ap (λ (ps : List Past). ps ++ c.loop-kept.start ∷ []) so.starts.same ∙ ap (λ (p : Past). c.loop-kept.log.starts ++ p ∷ []) so.past ∙ sym gives.starts;
         reading = c.past-start-in-Some.ensures.reading;
       };
-      read_only = only_read_twice g.D.Disk.shown g.D.Disk.size_of g.D.Disk.may_leave c.args.disk.now c.loop-kept.disk c.next.new.disk so.read_only next.read_only;
+      read_only = only_read_twice g.D.Disk c.args.disk.now c.loop-kept.disk c.next.new.disk so.read_only next.read_only;
       counts = omega (arith, so.counts, next.counts);
       so_far = λ s is. next.log s (so.read_only.same_bytes ∙ is) ∙ so.so_far s is;
       shows = λ s is. next.shows s (so.read_only.same_bytes ∙ is) (so.shows s is);
@@ -84,7 +84,7 @@ loop-kept-preserved-in_ok-add g c =
         same = c.in_ok-add.ensures.starts ∙ ap (λ (ps : List Past). ps ++ c.loop-kept.start ∷ []) so.starts.same ∙ ap (λ (p : Past). c.loop-kept.log.starts ++ p ∷ []) so.past ∙ sym gives.starts;
         reading = c.past-start-in-Some.ensures.reading;
       };
-      read_only = only_read_twice g.D.Disk.shown g.D.Disk.size_of g.D.Disk.may_leave c.args.disk.now c.loop-kept.disk c.next.new.disk so.read_only next.read_only;
+      read_only = only_read_twice g.D.Disk c.args.disk.now c.loop-kept.disk c.next.new.disk so.read_only next.read_only;
       counts = omega (arith, so.counts, next.counts);
       so_far = λ s is. next.log s (so.read_only.same_bytes ∙ is) ∙ so.so_far s is;
       shows = λ s is. next.shows s (so.read_only.same_bytes ∙ is) (so.shows s is);
@@ -112,14 +112,14 @@ returns-in_err-placed-clause-seen g c =
 
 pub returns-in_err-placed-clause-read_only : goal.returns-in_err-placed-clause-read_only
 returns-in_err-placed-clause-read_only g c =
-    only_read_twice g.D.Disk.shown g.D.Disk.size_of g.D.Disk.may_leave c.args.disk.now c.loop-kept.disk c.next.new.disk c.loop-kept.invariant.read_only c.in_err-placed.ensures.read_only
+    only_read_twice g.D.Disk c.args.disk.now c.loop-kept.disk c.next.new.disk c.loop-kept.invariant.read_only c.in_err-placed.ensures.read_only
 
 pub returns-in_err-placed-clause-counts : goal.returns-in_err-placed-clause-counts
 returns-in_err-placed-clause-counts g c = omega (arith, c.loop-kept.invariant.counts, c.in_err-placed.ensures.counts)
 
 pub returns-in_err-add-clause-read_only : goal.returns-in_err-add-clause-read_only
 returns-in_err-add-clause-read_only g c =
-    only_read_twice g.D.Disk.shown g.D.Disk.size_of g.D.Disk.may_leave c.args.disk.now c.loop-kept.disk c.next.new.disk c.loop-kept.invariant.read_only c.in_ok-placed.ensures.read_only
+    only_read_twice g.D.Disk c.args.disk.now c.loop-kept.disk c.next.new.disk c.loop-kept.invariant.read_only c.in_ok-placed.ensures.read_only
 
 pub returns-in_err-add-clause-counts : goal.returns-in_err-add-clause-counts
 returns-in_err-add-clause-counts g c = omega (arith, c.loop-kept.invariant.counts, c.in_ok-placed.ensures.counts)
@@ -147,7 +147,7 @@ returns-in_err-add-clause-verdict g c = λ s is.
 
 pub returns-clause-read_only : goal.returns-clause-read_only
 returns-clause-read_only g c =
-    only_read_twice g.D.Disk.shown g.D.Disk.size_of g.D.Disk.may_leave c.args.disk.now c.loop-kept.disk c.next.new.disk c.loop-kept.invariant.read_only c.in_ok-placed.ensures.read_only
+    only_read_twice g.D.Disk c.args.disk.now c.loop-kept.disk c.next.new.disk c.loop-kept.invariant.read_only c.in_ok-placed.ensures.read_only
 
 pub returns-clause-counts : goal.returns-clause-counts
 returns-clause-counts g c = omega (arith, c.loop-kept.invariant.counts, c.in_ok-placed.ensures.counts)

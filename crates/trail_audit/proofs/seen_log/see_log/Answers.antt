@@ -1,7 +1,7 @@
 use Rattle.std.proofs.Common.{◌<◌, ◌≤◌, List, [], length, map, refl, sym, ap, subst, ◌∙◌, arith}
 use Rattle.std.proofs.lemmas.List.{take_all}
 use Rattle.std.proofs.lemmas.Result.{err_from_is_err_and}
-use Rattle.commit_journal.proofs.Walked.{only_read_twice}
+use Rattle.cry_io.proofs.OnlyRead.{only_read_still, only_read_twice}
 use Rattle.commit_journal.specs.Placed.{PlainPlaced}
 use Rattle.log_visits.specs.Placing.{log_contents}
 use Rattle.trail_audit.specs.Derived.{AreSeen, PlainSeen, plain_seen}
@@ -16,7 +16,7 @@ unfolding log_contents
 loop-done-init g c = record {
   within = omega arith;
   shown = λ s is shows. subst (λ (seen : List PlainSeen). AreSeen c.args.known.now.keys.items [] [] seen) (sym (ap (map plain_seen) c.new-seen.ensures)) (none_seen c.args.known.now.keys.items []);
-  read_only = record { same_bytes = refl; same_size = refl; same_stops = λ left. (λ h. h, λ h. h) };
+  read_only = only_read_still g.D.Disk c.args.disk.now;
   counts = omega arith;
 }
 
@@ -34,7 +34,7 @@ loop-done-preserved g c =
       shown = λ s is shows.
           seen_next given c.loop-done.done keys [] (map plain_seen c.loop-done.seen.items) (map plain_seen c.see_batch.new.seen.items) within (so.shown s is shows)
           (c.in_ok-see_batch.ensures.answer s (so.read_only.same_bytes ∙ is) (batch_at given c.loop-done.done) (shown_from c.args.log.now s c.loop-done.done c.start_at-start.result.now (known_before c.args.starts.now c.args.log.now c.loop-done.done c.start_at-start.result.now c.requires.starts c.start_at-start.ensures).1 within shows) (sealed_here c.args.seals.now given c.loop-done.done c.seals_at-sealed.result.now Nothing c.requires.seals within c.seals_at-sealed.ensures));
-      read_only = only_read_twice g.D.Disk.shown g.D.Disk.size_of g.D.Disk.may_leave c.args.disk.now c.loop-done.disk c.see_batch.new.disk so.read_only c.in_ok-see_batch.ensures.read_only;
+      read_only = only_read_twice g.D.Disk c.args.disk.now c.loop-done.disk c.see_batch.new.disk so.read_only c.in_ok-see_batch.ensures.read_only;
       counts = omega (arith, so.counts, c.in_ok-see_batch.ensures.counts);
     }
 
@@ -50,7 +50,7 @@ returns-in_err-see_batch-clause-answer g c = λ s is shows.
 
 pub returns-in_err-see_batch-clause-read_only : goal.returns-in_err-see_batch-clause-read_only
 returns-in_err-see_batch-clause-read_only g c =
-    only_read_twice g.D.Disk.shown g.D.Disk.size_of g.D.Disk.may_leave c.args.disk.now c.loop-done.disk c.see_batch.new.disk c.loop-done.invariant.read_only c.in_err-see_batch.ensures.read_only
+    only_read_twice g.D.Disk c.args.disk.now c.loop-done.disk c.see_batch.new.disk c.loop-done.invariant.read_only c.in_err-see_batch.ensures.read_only
 
 pub returns-in_err-see_batch-clause-counts : goal.returns-in_err-see_batch-clause-counts
 returns-in_err-see_batch-clause-counts g c = omega (arith, c.loop-done.invariant.counts, c.in_err-see_batch.ensures.counts)

@@ -10,7 +10,7 @@ use Rattle.batch_log.specs.Moments.{FromThenOn}
 use Rattle.batch_log.proofs.Moments.{goes_on_elapsed}
 use Rattle.commit_journal.proofs.CommitLemmas.{on_err}
 use Rattle.commit_journal.specs.Moments.{OpensInOrder, OpensThroughout}
-use Rattle.commit_journal.proofs.OpenedMoments.{keeps_held, opens_all, opens_read, opens_same, ordered_all, ordered_read, ordered_same, same_in_call, time_in_all}
+use Rattle.commit_journal.proofs.OpenedMoments.{keeps_held, opens_all, opens_read, opens_same, ordered_all, ordered_read, ordered_same, read_throughout, same_in_call, time_in_all}
 use Rattle.commit_journal.proofs.SlotsLeft.{still_left, still_same}
 use Rattle.commit_journal.proofs.SlotsUnfilled.{filled_is_filled, left_is_left, unfilled_are}
 use Rattle.commit_journal.proofs.SlotsWritten.{fills_log}
@@ -128,8 +128,10 @@ returns-in_err-placed-clause-stops g c =
     let a = c.args.disk.now in
     let b = c.sync.new.self in
     let e = c.walk.new.disk in
-    opens_read D.shown D.may_leave D.moment D.since a b e c.args.limits.store_bytes c.args.owner.now.bytes (λ s left at. g.met.D.Disk.only_now a s left at)
-    c.sync.ensures.shown c.sync.ensures.stops c.sync.ensures.time c.walk.ensures.moments
+    opens_read D a b e c.args.limits.store_bytes c.args.owner.now.bytes (λ s left at. g.met.D.Disk.only_now a s left at)
+    c.sync.ensures.shown c.sync.ensures.stops c.sync.ensures.time
+    (read_throughout D (λ d s left at. g.met.D.Disk.only_now d s left at) (λ d t s left early is leaves. g.met.D.Disk.counts_now d t s left early is leaves)
+    c.sync.new.self c.walk.new.disk c.walk.ensures.read_only)
 
 pub returns-in_err-placed-clause-ordered : goal.returns-in_err-placed-clause-ordered
 returns-in_err-placed-clause-ordered g c =
@@ -139,8 +141,10 @@ returns-in_err-placed-clause-ordered g c =
     let goes = goes_on_elapsed (D.moment a) (D.moment b) (D.since a) (D.since b) (D.shown a) (D.shown b) (D.may_leave a) (D.may_leave b)
     (λ s left at. g.met.D.Disk.only_now a s left at) (λ t s left early is leaves. g.met.D.Disk.counts_now a t s left early is leaves)
     (λ t s left early is leaves. g.met.D.Disk.counts_now b t s left early is leaves) c.sync.ensures.time in
-    ordered_read D.shown D.may_leave D.moment D.since a b c.walk.new.disk c.args.limits.store_bytes c.args.owner.now.bytes (λ s left at. g.met.D.Disk.only_now a s left at)
-    goes c.sync.ensures.shown c.sync.ensures.stops c.sync.ensures.time c.walk.ensures.moments
+    ordered_read D a b c.walk.new.disk c.args.limits.store_bytes c.args.owner.now.bytes (λ s left at. g.met.D.Disk.only_now a s left at)
+    goes c.sync.ensures.shown c.sync.ensures.stops c.sync.ensures.time
+    (read_throughout D (λ d s left at. g.met.D.Disk.only_now d s left at) (λ d t s left early is leaves. g.met.D.Disk.counts_now d t s left early is leaves)
+    c.sync.new.self c.walk.new.disk c.walk.ensures.read_only)
 
 pub returns-in_err-placed-clause-kept : goal.returns-in_err-placed-clause-kept
 returns-in_err-placed-clause-kept g c =
@@ -152,9 +156,11 @@ returns-in_err-placed-clause-kept g c =
 pub returns-in_default-fill_slots-clause-time : goal.returns-in_default-fill_slots-clause-time
 returns-in_default-fill_slots-clause-time g c =
     let D = g.D.Disk in
-    time_in_all D.shown D.may_leave D.moment D.since c.args.disk.now c.sync.new.self c.walk.new.disk c.fill_slots.new.disk
+    time_in_all D c.args.disk.now c.sync.new.self c.walk.new.disk c.fill_slots.new.disk
     (λ d s left at. g.met.D.Disk.only_now d s left at) (λ d t s left early is leaves. g.met.D.Disk.counts_now d t s left early is leaves)
-    c.sync.ensures.time c.walk.ensures.moments c.fill_slots.ensures.time
+    c.sync.ensures.time
+    (read_throughout D (λ d s left at. g.met.D.Disk.only_now d s left at) (λ d t s left early is leaves. g.met.D.Disk.counts_now d t s left early is leaves)
+    c.sync.new.self c.walk.new.disk c.walk.ensures.read_only) c.fill_slots.ensures.time
 
 pub returns-in_default-fill_slots-clause-stops : goal.returns-in_default-fill_slots-clause-stops
 returns-in_default-fill_slots-clause-stops g c =
@@ -169,8 +175,10 @@ returns-in_default-fill_slots-clause-stops g c =
     let listed : c.as_slice.result.now ≡ walked.unfilled.items = cc in
     let read = c.in_ok-placed.ensures.read_only.same_bytes in
     subst (λ (k : List ℕ). OpensThroughout c.args.limits.store_bytes k (D.shown a) (D.may_leave a) (D.since f (D.moment a))) key
-    (opens_all D.shown D.may_leave D.moment D.since a b e f c.args.limits.store_bytes owner (plain_walked walked) (λ s left at. g.met.D.Disk.only_now a s left at)
-    c.sync.ensures.shown c.sync.ensures.stops c.sync.ensures.time c.walk.ensures.moments read c.fill_slots.ensures.time
+    (opens_all D a b e f c.args.limits.store_bytes owner (plain_walked walked) (λ s left at. g.met.D.Disk.only_now a s left at)
+    c.sync.ensures.shown c.sync.ensures.stops c.sync.ensures.time
+    (read_throughout D (λ d s left at. g.met.D.Disk.only_now d s left at) (λ d t s left early is leaves. g.met.D.Disk.counts_now d t s left early is leaves)
+    c.sync.new.self c.walk.new.disk c.walk.ensures.read_only) read c.fill_slots.ensures.time
     c.in_ok-placed.ensures.verdict
     (fills_log owner (plain_log walked.placed) c.as_slice.result.now (D.shown e) (D.since f (D.moment e))
     (λ x x_is. listed ∙ c.in_ok-placed.ensures.unfilled x (sym read ∙ x_is)) (λ x x_is. c.in_ok-placed.ensures.gated x (sym read ∙ x_is)) c.fill_slots.ensures.stops))
@@ -191,8 +199,10 @@ returns-in_default-fill_slots-clause-ordered g c =
     (λ s left at. g.met.D.Disk.only_now a s left at) (λ t s left early is leaves. g.met.D.Disk.counts_now a t s left early is leaves)
     (λ t s left early is leaves. g.met.D.Disk.counts_now b t s left early is leaves) c.sync.ensures.time in
     subst (λ (k : List ℕ). OpensInOrder c.args.limits.store_bytes k (D.shown a) (FromThenOn D.moment D.since a f)) key
-    (ordered_all D.shown D.may_leave D.moment D.since a b e f c.args.limits.store_bytes owner (plain_walked walked) (λ s left at. g.met.D.Disk.only_now a s left at)
-    goes c.sync.ensures.shown c.sync.ensures.stops c.sync.ensures.time c.walk.ensures.moments read c.fill_slots.ensures.later c.fill_slots.ensures.time
+    (ordered_all D a b e f c.args.limits.store_bytes owner (plain_walked walked) (λ s left at. g.met.D.Disk.only_now a s left at)
+    goes c.sync.ensures.shown c.sync.ensures.stops c.sync.ensures.time
+    (read_throughout D (λ d s left at. g.met.D.Disk.only_now d s left at) (λ d t s left early is leaves. g.met.D.Disk.counts_now d t s left early is leaves)
+    c.sync.new.self c.walk.new.disk c.walk.ensures.read_only) read c.fill_slots.ensures.later c.fill_slots.ensures.time
     c.in_ok-placed.ensures.verdict
     (fills_log owner (plain_log walked.placed) c.as_slice.result.now (D.shown e) (D.since f (D.moment e))
     (λ x x_is. listed ∙ c.in_ok-placed.ensures.unfilled x (sym read ∙ x_is)) (λ x x_is. c.in_ok-placed.ensures.gated x (sym read ∙ x_is)) c.fill_slots.ensures.stops))
@@ -207,9 +217,11 @@ returns-in_default-fill_slots-clause-kept g c =
 pub returns-clause-time : goal.returns-clause-time
 returns-clause-time g c =
     let D = g.D.Disk in
-    time_in_all D.shown D.may_leave D.moment D.since c.args.disk.now c.sync.new.self c.walk.new.disk c.fill_slots.new.disk
+    time_in_all D c.args.disk.now c.sync.new.self c.walk.new.disk c.fill_slots.new.disk
     (λ d s left at. g.met.D.Disk.only_now d s left at) (λ d t s left early is leaves. g.met.D.Disk.counts_now d t s left early is leaves)
-    c.sync.ensures.time c.walk.ensures.moments c.fill_slots.ensures.time
+    c.sync.ensures.time
+    (read_throughout D (λ d s left at. g.met.D.Disk.only_now d s left at) (λ d t s left early is leaves. g.met.D.Disk.counts_now d t s left early is leaves)
+    c.sync.new.self c.walk.new.disk c.walk.ensures.read_only) c.fill_slots.ensures.time
 
 pub returns-clause-stops : goal.returns-clause-stops
 returns-clause-stops g c =
@@ -224,8 +236,10 @@ returns-clause-stops g c =
     let listed : c.as_slice.result.now ≡ walked.unfilled.items = cc in
     let read = c.in_ok-placed.ensures.read_only.same_bytes in
     subst (λ (k : List ℕ). OpensThroughout c.args.limits.store_bytes k (D.shown a) (D.may_leave a) (D.since f (D.moment a))) key
-    (opens_all D.shown D.may_leave D.moment D.since a b e f c.args.limits.store_bytes owner (plain_walked walked) (λ s left at. g.met.D.Disk.only_now a s left at)
-    c.sync.ensures.shown c.sync.ensures.stops c.sync.ensures.time c.walk.ensures.moments read c.fill_slots.ensures.time
+    (opens_all D a b e f c.args.limits.store_bytes owner (plain_walked walked) (λ s left at. g.met.D.Disk.only_now a s left at)
+    c.sync.ensures.shown c.sync.ensures.stops c.sync.ensures.time
+    (read_throughout D (λ d s left at. g.met.D.Disk.only_now d s left at) (λ d t s left early is leaves. g.met.D.Disk.counts_now d t s left early is leaves)
+    c.sync.new.self c.walk.new.disk c.walk.ensures.read_only) read c.fill_slots.ensures.time
     c.in_ok-placed.ensures.verdict
     (fills_log owner (plain_log walked.placed) c.as_slice.result.now (D.shown e) (D.since f (D.moment e))
     (λ x x_is. listed ∙ c.in_ok-placed.ensures.unfilled x (sym read ∙ x_is)) (λ x x_is. c.in_ok-placed.ensures.gated x (sym read ∙ x_is)) c.fill_slots.ensures.stops))
@@ -246,8 +260,10 @@ returns-clause-ordered g c =
     (λ s left at. g.met.D.Disk.only_now a s left at) (λ t s left early is leaves. g.met.D.Disk.counts_now a t s left early is leaves)
     (λ t s left early is leaves. g.met.D.Disk.counts_now b t s left early is leaves) c.sync.ensures.time in
     subst (λ (k : List ℕ). OpensInOrder c.args.limits.store_bytes k (D.shown a) (FromThenOn D.moment D.since a f)) key
-    (ordered_all D.shown D.may_leave D.moment D.since a b e f c.args.limits.store_bytes owner (plain_walked walked) (λ s left at. g.met.D.Disk.only_now a s left at)
-    goes c.sync.ensures.shown c.sync.ensures.stops c.sync.ensures.time c.walk.ensures.moments read c.fill_slots.ensures.later c.fill_slots.ensures.time
+    (ordered_all D a b e f c.args.limits.store_bytes owner (plain_walked walked) (λ s left at. g.met.D.Disk.only_now a s left at)
+    goes c.sync.ensures.shown c.sync.ensures.stops c.sync.ensures.time
+    (read_throughout D (λ d s left at. g.met.D.Disk.only_now d s left at) (λ d t s left early is leaves. g.met.D.Disk.counts_now d t s left early is leaves)
+    c.sync.new.self c.walk.new.disk c.walk.ensures.read_only) read c.fill_slots.ensures.later c.fill_slots.ensures.time
     c.in_ok-placed.ensures.verdict
     (fills_log owner (plain_log walked.placed) c.as_slice.result.now (D.shown e) (D.since f (D.moment e))
     (λ x x_is. listed ∙ c.in_ok-placed.ensures.unfilled x (sym read ∙ x_is)) (λ x x_is. c.in_ok-placed.ensures.gated x (sym read ∙ x_is)) c.fill_slots.ensures.stops))
