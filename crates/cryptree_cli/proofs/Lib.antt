@@ -18,7 +18,6 @@ pub mod PublishedLines
 pub mod PublishedRuns
 pub mod ReaderPromises
 pub mod ReadFaults
-pub mod RefusedRuns
 pub mod RunEnds
 pub mod RunLemmas
 pub mod RunOpening

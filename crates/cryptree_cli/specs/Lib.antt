@@ -11,10 +11,10 @@ pub mod Outside
 pub mod OwnerSteps
 pub mod Promises
 pub mod Published
-pub mod Refusing
 pub mod Running
 pub mod Script
 pub mod Status
 pub mod Stopping
 pub mod Taking
+pub mod Unopened
 pub mod Words

@@ -13,7 +13,6 @@ ghost use Rattle.journal_bytes.specs.Script.{opened};
 ghost use Rattle.store_owner.specs.Sessions.{StandsAt};
 ghost use Rattle.cryptree_cli.specs.Lines.{IsUnended, bytes_ahead, lines_ahead};
 ghost use Rattle.cryptree_cli.specs.Published.{LinesPublish, PublishesTyped};
-ghost use Rattle.cryptree_cli.specs.Refusing.{Refuses, is_refusal};
 ghost use Rattle.cryptree_cli.specs.Running as running;
 ghost use Rattle.cryptree_cli.specs.Running.{CountsOwner, Ends, EndsTyped, KeepsFrom, FirstIsBad, GivesOwner, HasBadLine, Judges};
 ghost use Rattle.cryptree_cli.specs.Running.{JudgesTyped, RanDry, RanLines, RanTaking, ReadsWhole, ReadsWholeTyped, TakesBehindFirst};
@@ -22,6 +21,7 @@ ghost use Rattle.cryptree_cli.specs.Running.{lines_typed, seen_from, version_lim
 ghost use Rattle.cryptree_cli.specs.Script.{IsReading, ReadsByCount};
 ghost use Rattle.cryptree_cli.specs.Stopping.{LinesKeepUpTo};
 ghost use Rattle.cryptree_cli.specs.Taking.{TakesOne};
+ghost use Rattle.cryptree_cli.specs.Unopened.{HasOpened, LeavesUnopened};
 
 use crate::key_line::read_owner;
 use crate::lines::{LineReader, Next, NextFault};
@@ -66,11 +66,8 @@ pub(crate) fn run<S: Source, R: Source, D: Disk, W: Sink>(
     ensures read_to_end { result ≡ Status.Done → WhereTold (S.left input.new) (λ rest. rest ≡ []) }
     ensures read_whole_lines { result ≡ Status.ReadFault → WhereBothTold (S.left input.old) (S.left input.new) ReadsWholeTyped }
     ensures stays { IsTrue (is_after_opening result) → IsDurable (D.may_leave disk.new) (D.shown disk.new) }
-    ensures settled { result ≢ Status.DiskFault →
-        Refuses D.shown D.size_of D.may_leave (S.left input.old) random.old random.new disk.old disk.new out.old out.new
-        ⊎ IsDurable (D.may_leave disk.new) (D.shown disk.new) }
-    ensures refused { IsTrue (is_refusal result)
-        → Refuses D.shown D.size_of D.may_leave (S.left input.old) random.old random.new disk.old disk.new out.old out.new }
+    ensures opening { LeavesUnopened D.Disk result (S.left input.old) random.old random.new disk.old disk.new out.old out.new
+        ⊎ HasOpened D.Disk result (S.left input.old) disk.old disk.new }
     ensures unopened { IsTrue (is_before_opening result) → (random.new ≡ random.old) × (disk.new ≡ disk.old) × (out.new ≡ out.old) }
     ensures read_fault { result ≡ Status.ReadFault → S.faults input.old < S.faults input.new }
     ensures random_fault { result ≡ Status.RandomFault → R.faults random.old < R.faults random.new }

@@ -6,6 +6,7 @@ ghost use Rattle.cry_io.specs.Told.{WhereTold, WhereBothTold};
 ghost use Rattle.batch_log.specs.Moments.{FromThenOn};
 ghost use Rattle.commit_journal.specs.Holding.{GoesOn};
 ghost use Rattle.commit_journal.specs.Logs.{AreInEpochs, epoch_behind};
+ghost use Rattle.commit_journal.specs.Moments.{OpensThroughout};
 ghost use Rattle.commit_journal.specs.Opening.{IsOpened, LeavesGated, opening_verdict};
 ghost use Rattle.commit_journal.specs.Placed.{plain_log, plain_placed};
 ghost use Rattle.commit_journal.specs.Places.{IsStanding};
@@ -140,6 +141,9 @@ impl Owner {
     /// records has its slots filled, and nothing else written. After any fault a journal for which the disk's bytes stood stands
     /// still, and after none is anything else written than slots of batches that passed their tests.
     ///
+    /// At each moment of the call the disk shows what it showed, and a stop leaves what it could leave then; or both are the bytes that were
+    /// shown at the start with some slots filled, of a log that passes every test.
+    ///
     /// A stop at any moment of the call leaves a journal between two, where the disk held between these at its start and showed one
     /// whose log ends within the store limit. It takes back no batch that was published then or at an
     /// earlier moment of the call, where so it was at the start.
@@ -177,6 +181,8 @@ impl Owner {
             (λ x y. StandsForJournal key m x → end_of m ≤ limits.store_bytes → StandsForJournal key m y)) }
         ensures later { D.moment disk.old ≤ D.moment disk.new }
         ensures time { GoesOn (D.moment disk.old) (D.since disk.old) (D.since disk.new) }
+        ensures stops { OpensThroughout limits.store_bytes key (D.shown disk.old) (D.may_leave disk.old)
+            (D.since disk.new (D.moment disk.old)) }
         ensures kept { (m m1 m2 : AnyJournal) → HoldsBetween key m1 m2 (D.shown disk.old) (D.may_leave disk.old) →
             WhereTold (D.shown disk.old) (StandsForJournal key m) → end_of m ≤ limits.store_bytes →
             Kept key m1 m2 m2 (D.since disk.new (D.moment disk.old)) }

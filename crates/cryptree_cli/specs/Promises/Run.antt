@@ -3,8 +3,9 @@
 -- Whatever the disk shows: line 1 is bad where it hands in no key, and there alone. The bytes of the store are judged exactly. The lines
 -- behind the first are answered in their order, up to a bad one or a fault, and these answers are what is printed. The random source is
 -- said to end only where it did, in a command's draw. Of the input no more is taken than to the end of the line at which the call ends,
--- and at most 65,536 bytes past it. A store that is refused for its bytes is as it was, but for slots that a stop had left without their
--- keys.
+-- and at most 65,536 bytes past it. Either the store was opened with that key, which its bytes pass all tests of; or, whatever the answer,
+-- nothing was drawn or printed, and at each moment of the call the file is as it was, but for slots that a stop had left without their keys
+-- (specs/Unopened).
 --
 -- On a disk that shows a journal it ends as that journal's session does, whatever it ends with, and whether or not the random source tells
 -- what it has: there are keys for the accepted commands with which the session goes so. With the same keys it is said what a stop may
@@ -19,10 +20,10 @@ use Rattle.cry_io.specs.declared.disk.Disk as disk
 use Rattle.cry_io.specs.declared.streams.Sink as sink
 use Rattle.cry_io.specs.declared.streams.Source as source
 use Rattle.cryptree_cli.specs.Published.{PublishesTyped}
-use Rattle.cryptree_cli.specs.Refusing.{Refuses, is_refusal}
 use Rattle.cryptree_cli.specs.Running.{EndsTyped, FirstIsBad, HasBadLine, JudgesTyped, RanDry, RanLines, RanTaking, ReadsWholeTyped}
 use Rattle.cryptree_cli.specs.Running.{TakesTo, is_after_opening, is_before_opening, is_run_answer, key_in_lines, lines_in, lines_typed}
 use Rattle.cryptree_cli.specs.Running.{seen_from}
+use Rattle.cryptree_cli.specs.Unopened.{HasOpened, LeavesUnopened}
 use Rattle.cryptree_cli.specs.declared.status.Status.{Status}
 use Rattle.cryptree_cli.specs.declared.status.Status.TheVariants as statuses
 
@@ -53,9 +54,6 @@ pub record RunEnds {S R D W : Type 0} (inputs : source.Ghosts S) (randoms : sour
   pub later : disks.moment disk_old ≤ disks.moment disk_new
   pub time : GoesOn (disks.moment disk_old) (disks.since disk_old) (disks.since disk_new)
   pub stays : IsTrue (is_after_opening status) → IsDurable (disks.may_leave disk_new) (disks.shown disk_new)
-  pub settled : status ≢ statuses.DiskFault
-      → Refuses disks.shown disks.size_of disks.may_leave (inputs.left input_old) random_old random_new disk_old disk_new out_old out_new
-      ⊎ IsDurable (disks.may_leave disk_new) (disks.shown disk_new)
-  pub refused : IsTrue (is_refusal status)
-      → Refuses disks.shown disks.size_of disks.may_leave (inputs.left input_old) random_old random_new disk_old disk_new out_old out_new
+  pub opening : LeavesUnopened disks status (inputs.left input_old) random_old random_new disk_old disk_new out_old out_new
+      ⊎ HasOpened disks status (inputs.left input_old) disk_old disk_new
   pub unopened : IsTrue (is_before_opening status) → (random_new ≡ random_old) × (disk_new ≡ disk_old) × (out_new ≡ out_old)

@@ -1,16 +1,13 @@
-use Rattle.std.proofs.Common.{◌≡◌, inl, inr, ℕ, List, length, None, Err, Ok, arith, refl, sym, ap, subst, ◌∙◌}
-use Rattle.std.specs.Prelude.{IsTrue}
+use Rattle.std.proofs.Common.{◌≡◌, ⊎_elim, inl, inr, ℕ, List, length, None, Err, Ok, arith, refl, sym, ap, subst, ◌∙◌}
 use Rattle.batch_log.specs.Moments.{FromThenOn}
 use Rattle.batch_log.proofs.Moments.{goes_on_then}
 use Rattle.journal_bytes.specs.Bytes.{image_of}
 use Rattle.journal_bytes.specs.Journals.{StandsForJournal}
 use Rattle.cryptree_cli.specs.Lines.{lines_ahead}
-use Rattle.cryptree_cli.specs.Refusing.{is_refusal}
 use Rattle.cryptree_cli.specs.Running.{Ends, FirstIsBad, Judges, KeepsFrom, RanLines, RanTaking, ReadsWhole, Seen, TakesTo, lines_behind, lines_in, lines_typed, open_status, version_limits}
 use Rattle.cryptree_cli.proofs.LinesRun.{bad_is_never_done, key_taken, lines_as_typed, unopened_lines, unopened_taking, unread_lines, unread_taking}
 use Rattle.cryptree_cli.proofs.PublishedRuns.{opened_publishes, unread_publishes}
 use Rattle.cryptree_cli.proofs.ReadFaults.{cut_first, unopened_reads_none}
-use Rattle.cryptree_cli.proofs.RefusedRuns.{leaves_unopened, opened_refuses_none, reading_refuses_none, refusal_is_other, untouched}
 use Rattle.cryptree_cli.proofs.RunEnds.{still_told}
 use Rattle.cryptree_cli.specs.Stopping.{KeepsUpTo, LinesKeepUpTo}
 use Rattle.cryptree_cli.proofs.EndsMapped.{ends_more}
@@ -249,48 +246,43 @@ returns-in-Err-clause-short g c = λ left need is. reading_draws_none c.in-Err.f
 pub returns-in-Err-open_store-clause-short : goal.returns-in-Err-open_store-clause-short
 returns-in-Err-open_store-clause-short g c = λ left need is. unopened_draws_none c.in-Err-open_store.fault left need (sym c.open_status.ensures ∙ is)
 
--- ---- a store that is refused
+-- ---- a store that isn't opened, or is
 
-pub returns-in-Err-clause-refused : goal.returns-in-Err-clause-refused
-returns-in-Err-clause-refused g c = λ is.
-    reading_refuses_none c.in-Err.fault c.in-Err.ensures.faults (subst (λ status. IsTrue (is_refusal status)) c.script_status.ensures is)
+pub returns-in-Err-clause-opening : goal.returns-in-Err-clause-opening
+returns-in-Err-clause-opening g c = inl (record { undrawn = refl; unprinted = refl; store = inl refl })
 
-pub returns-in-Ok-open_store-clause-refused : goal.returns-in-Ok-open_store-clause-refused
-returns-in-Ok-open_store-clause-refused g c = λ is. opened_refuses_none c.apply_lines.result (c.apply_lines.ensures.none_of_bytes None refl) is
-
-pub returns-in-Err-open_store-clause-refused : goal.returns-in-Err-open_store-clause-refused
-returns-in-Err-open_store-clause-refused g c = λ is. record {
-  undrawn = refl;
-  unprinted = refl;
-  leaves = leaves_unopened g.D.Disk.shown g.D.Disk.size_of g.D.Disk.may_leave (g.S.Source.left c.args.input.now) c.in-Ok.key c.args.disk.now c.open_store.new.disk
-      c.in-Err-open_store.fault (λ disk. refusal_is_other c.open_status.result is (c.open_status.ensures ∙ disk))
-      (λ x was.
-      let after = still_told (g.S.Source.left c.first_owner.new.input) (g.S.Source.left c.args.input.now) x c.in-Ok.ensures.told was in
-      (gives_first (Ok c.in-Ok.key) c.new-reader.result x (lines_ahead c.first_owner.new.reader after.0) c.new-reader.ensures (c.in-Ok.ensures.gives x after.0 was after.1)).0)
-      c.in-Err-open_store.ensures.refused;
-}
-
--- ---- nothing pending
-
-pub returns-in-Err-clause-settled : goal.returns-in-Err-clause-settled
-returns-in-Err-clause-settled g c = λ other.
-    inl (record { undrawn = refl; unprinted = refl; leaves = inl (untouched g.D.Disk.shown g.D.Disk.size_of g.D.Disk.may_leave c.args.disk.now) })
-
-pub returns-in-Err-open_store-clause-settled : goal.returns-in-Err-open_store-clause-settled
-returns-in-Err-open_store-clause-settled g c = λ other.
+pub returns-in-Err-open_store-clause-opening : goal.returns-in-Err-open_store-clause-opening
+returns-in-Err-open_store-clause-opening g c =
+    let tried = c.in-Err-open_store.ensures in
     inl (record {
       undrawn = refl;
       unprinted = refl;
-      leaves = leaves_unopened g.D.Disk.shown g.D.Disk.size_of g.D.Disk.may_leave (g.S.Source.left c.args.input.now) c.in-Ok.key c.args.disk.now c.open_store.new.disk
-          c.in-Err-open_store.fault (λ disk. other (c.open_status.ensures ∙ disk))
-          (λ x was.
-          let after = still_told (g.S.Source.left c.first_owner.new.input) (g.S.Source.left c.args.input.now) x c.in-Ok.ensures.told was in
-          (gives_first (Ok c.in-Ok.key) c.new-reader.result x (lines_ahead c.first_owner.new.reader after.0) c.new-reader.ensures (c.in-Ok.ensures.gives x after.0 was after.1)).0)
-          c.in-Err-open_store.ensures.refused;
+      store = inr (
+        c.in-Ok.key,
+        (λ x was.
+        let after = still_told (g.S.Source.left c.first_owner.new.input) (g.S.Source.left c.args.input.now) x c.in-Ok.ensures.told was in
+        (gives_first (Ok c.in-Ok.key) c.new-reader.result x (lines_ahead c.first_owner.new.reader after.0) c.new-reader.ensures (c.in-Ok.ensures.gives x after.0 was after.1)).0),
+        record {
+          size = tried.size;
+          throughout = tried.stops;
+          left = ⊎_elim (λ disk. inl (c.open_status.ensures ∙ ap open_status disk)) (λ leaves. inr leaves) tried.refused;
+        },
+      );
     })
 
-pub returns-in-Ok-open_store-clause-settled : goal.returns-in-Ok-open_store-clause-settled
-returns-in-Ok-open_store-clause-settled g c = λ other. inr (c.apply_lines.ensures.calm other)
+pub returns-in-Ok-open_store-clause-opening : goal.returns-in-Ok-open_store-clause-opening
+returns-in-Ok-open_store-clause-opening g c =
+    inr (record {
+      passes = λ x image was shown.
+          let after = still_told (g.S.Source.left c.first_owner.new.input) (g.S.Source.left c.args.input.now) x c.in-Ok.ensures.told was in
+          let opens = c.in-Ok-open_store.ensures.largest refl image shown in (
+            c.in-Ok.key,
+            (gives_first (Ok c.in-Ok.key) c.new-reader.result x (lines_ahead c.first_owner.new.reader after.0) c.new-reader.ensures (c.in-Ok.ensures.gives x after.0 was after.1)).0,
+            opened_has_no_verdict c.in-Ok.key image opens.0 opens.1,
+          );
+      unrefused = c.apply_lines.ensures.none_of_bytes None refl;
+      settled = c.apply_lines.ensures.calm;
+    })
 
 -- ---- an input that failed
 

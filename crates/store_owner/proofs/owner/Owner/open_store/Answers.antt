@@ -160,6 +160,22 @@ returns-clause-behind g c =
     (subst (λ b. WhereTold was (λ s. opening_verdict limit b s ≡ Ok (plain_opened o))) bytes c.in_ok-opened.ensures.verdict)
     (subst (λ b. WhereBothTold was shows (λ x y. y ≡ slots_filled b (plain_log o.placed) x)) bytes c.in_ok-opened.ensures.filled) c.requires.known)
 
+pub returns-in_err-opened-clause-stops : goal.returns-in_err-opened-clause-stops
+returns-in_err-opened-clause-stops g c =
+    let D = g.D.Disk in
+    let a = c.args.disk.now in
+    let since = D.since c.open_owner.new.disk (D.moment a) in
+    let bytes = ap (λ (k : KeyParts). k.bytes) c.owner-owner.ensures in
+    subst (λ b. OpensThroughout c.args.limits.store_bytes b (D.shown a) (D.may_leave a) since) bytes c.open_owner.ensures.stops
+
+pub returns-clause-stops : goal.returns-clause-stops
+returns-clause-stops g c =
+    let D = g.D.Disk in
+    let a = c.args.disk.now in
+    let since = D.since c.open_owner.new.disk (D.moment a) in
+    let bytes = ap (λ (k : KeyParts). k.bytes) c.owner-owner.ensures in
+    subst (λ b. OpensThroughout c.args.limits.store_bytes b (D.shown a) (D.may_leave a) since) bytes c.open_owner.ensures.stops
+
 pub returns-in_err-opened-clause-kept : goal.returns-in_err-opened-clause-kept
 returns-in_err-opened-clause-kept g c =
     let D = g.D.Disk in
