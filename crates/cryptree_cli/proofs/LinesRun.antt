@@ -13,7 +13,7 @@ use Rattle.cryptree_cli.specs.Input.{TakesLines}
 use Rattle.cryptree_cli.specs.Lines.{InputLine, LineState, bytes_ahead, lines_ahead}
 use Rattle.cryptree_cli.specs.Taking.{AreTaken, TakesOne}
 use Rattle.cryptree_cli.specs.Lines.InputLine.{Whole, TooLong}
-use Rattle.cryptree_cli.specs.Running.{AnswersLines, CountsOwner, HasBadLine, PrintsAnswers, RanLines, RanTaking, TakesBehindFirst, TakesTo, ended_status, open_status, script_status}
+use Rattle.cryptree_cli.specs.Running.{AnswersLines, CountsOwner, HasBadLine, PrintsAnswers, RanLines, TakesBehindFirst, TakesTo, ended_status, line_ended, open_status, script_status}
 use Rattle.cryptree_cli.specs.Script.{Answered, Asks, IsBadFirst, IsReading, Ran}
 use Rattle.cryptree_cli.specs.Script.Answered.{Begun, Then}
 use Rattle.cryptree_cli.specs.declared.script.ScriptFault.{ScriptFault}
@@ -23,7 +23,7 @@ use Rattle.cryptree_cli.specs.declared.status.Status.TheVariants as statuses
 use Rattle.cryptree_cli.proofs.RunEnds.{asks_fewer}
 use Rattle.cryptree_cli.proofs.RunOpening.{fresh_reader}
 use Rattle.cryptree_cli.proofs.Takings.{takes_front, takes_more}
-use Rattle.cryptree_cli.proofs.ScriptLemmas.{asks_none, same_told, whole_is_cut}
+use Rattle.cryptree_cli.proofs.ScriptLemmas.{answered_of, asks_none, same_told, whole_is_cut}
 use Rattle.store_owner.specs.declared.apply_fault.ApplyFault.{ApplyFault}
 use Rattle.store_owner.specs.declared.apply_fault.ApplyFault.TheVariants as faults
 
@@ -44,8 +44,11 @@ module _ (X : Type 0) (Step : X → Request → Reply → X → Type 0) (Fails :
   abbrev HasRan : Result (Unit {0}) ScriptFault → Type 0
   HasRan result = Ran Step Fails result start end old new left_before left_after out_before out_after
 
-  abbrev RunsLines : Status → Type 0
-  RunsLines status = RanLines status (lines_ahead old) left_before out_before out_after
+  abbrev answered_by : (result : Result (Unit {0}) ScriptFault) → HasRan result → List Request
+  answered_by result ran = answered_of Step Fails result start end old new left_before left_after out_before out_after ran
+
+  abbrev RunsLines : Status → List Request → Type 0
+  RunsLines status asked = RanLines status asked (lines_ahead old) left_before out_before out_after
 
   again : (b : List ℕ) → left_before ≡ Some b → (a : List ℕ) × (left_after ≡ Some a)
   again b was = told_again left_before left_after b told was
@@ -75,9 +78,8 @@ module _ (X : Type 0) (Step : X → Request → Reply → X → Type 0) (Fails :
         printed = ran.printed;
       }
 
-  abbrev lines_all : HasRan (Ok tt) → RunsLines statuses.Done
+  lines_all : (ran : HasRan (Ok tt)) → RunsLines statuses.Done ran.asked
   lines_all ran = record {
-    asked = ran.asked;
     replies = ran.replies;
     one_each = one_reply_each Step start ran.asked ran.replies end ran.stands;
     counted = tt;
@@ -85,9 +87,8 @@ module _ (X : Type 0) (Step : X → Request → Reply → X → Type 0) (Fails :
     printed = ran.printed;
   }
 
-  abbrev lines_to_bad : (line : ℕ) → old.given ≡ 1 → HasRan (Err (BadLine line)) → RunsLines (statuses.BadScript line)
+  lines_to_bad : (line : ℕ) → old.given ≡ 1 → (ran : HasRan (Err (BadLine line))) → RunsLines (statuses.BadScript line) ran.asked
   lines_to_bad line first ran = record {
-    asked = ran.asked;
     replies = ran.replies;
     one_each = one_reply_each Step start ran.asked ran.replies end ran.stands;
     counted = inr (omega (arith, ran.number, first));
@@ -95,9 +96,8 @@ module _ (X : Type 0) (Step : X → Request → Reply → X → Type 0) (Fails :
     printed = ran.printed;
   }
 
-  lines_to_fault : HasRan (Err ReadFault) → RunsLines statuses.ReadFault
+  lines_to_fault : (ran : HasRan (Err ReadFault)) → RunsLines statuses.ReadFault ran.asked
   lines_to_fault ran = record {
-    asked = ran.asked;
     replies = ran.replies;
     one_each = one_reply_each Step start ran.asked ran.replies end ran.stands;
     counted = tt;
@@ -105,9 +105,8 @@ module _ (X : Type 0) (Step : X → Request → Reply → X → Type 0) (Fails :
     printed = ran.printed;
   }
 
-  abbrev lines_cut : HasRan (Err WriteFault) → RunsLines statuses.WriteFault
+  lines_cut : (ran : HasRan (Err WriteFault)) → RunsLines statuses.WriteFault ran.asked
   lines_cut ran = record {
-    asked = ran.asked;
     replies = ran.replies;
     one_each = one_reply_each Step start ran.asked ran.replies end ran.stands;
     counted = tt;
@@ -115,9 +114,8 @@ module _ (X : Type 0) (Step : X → Request → Reply → X → Type 0) (Fails :
     printed = ran.printed;
   }
 
-  lines_out : HasRan (Err OutOfMemory) → RunsLines statuses.OutOfMemory
+  lines_out : (ran : HasRan (Err OutOfMemory)) → RunsLines statuses.OutOfMemory ran.asked
   lines_out ran = record {
-    asked = ran.asked;
     replies = ran.replies;
     one_each = one_reply_each Step start ran.asked ran.replies end ran.stands;
     counted = tt;
@@ -125,9 +123,8 @@ module _ (X : Type 0) (Step : X → Request → Reply → X → Type 0) (Fails :
     printed = ran.printed;
   }
 
-  abbrev lines_undrawn : Stopped → RunsLines statuses.RandomFault
+  lines_undrawn : (s : Stopped) → RunsLines statuses.RandomFault s.asked
   lines_undrawn s = record {
-    asked = s.asked;
     replies = s.replies;
     one_each = s.one_each;
     counted = tt;
@@ -135,9 +132,8 @@ module _ (X : Type 0) (Step : X → Request → Reply → X → Type 0) (Fails :
     printed = s.printed;
   }
 
-  abbrev lines_short : (left need : ℕ) → Stopped → RunsLines (statuses.RandomShort left need)
+  lines_short : (left need : ℕ) (s : Stopped) → RunsLines (statuses.RandomShort left need) s.asked
   lines_short left need s = record {
-    asked = s.asked;
     replies = s.replies;
     one_each = s.one_each;
     counted = tt;
@@ -145,9 +141,8 @@ module _ (X : Type 0) (Step : X → Request → Reply → X → Type 0) (Fails :
     printed = s.printed;
   }
 
-  abbrev lines_unwritten : Stopped → RunsLines statuses.DiskFault
+  lines_unwritten : (s : Stopped) → RunsLines statuses.DiskFault s.asked
   lines_unwritten s = record {
-    asked = s.asked;
     replies = s.replies;
     one_each = s.one_each;
     counted = tt;
@@ -155,9 +150,8 @@ module _ (X : Type 0) (Step : X → Request → Reply → X → Type 0) (Fails :
     printed = s.printed;
   }
 
-  lines_without : Stopped → RunsLines statuses.OutOfMemory
+  lines_without : (s : Stopped) → RunsLines statuses.OutOfMemory s.asked
   lines_without s = record {
-    asked = s.asked;
     replies = s.replies;
     one_each = s.one_each;
     counted = tt;
@@ -169,7 +163,7 @@ module _ (X : Type 0) (Step : X → Request → Reply → X → Type 0) (Fails :
   }
 
   -- all of it by the status
-  pub ran_lines : (result : Result (Unit {0}) ScriptFault) → HasRan result → old.given ≡ 1 → RunsLines (ended_status result)
+  pub ran_lines : (result : Result (Unit {0}) ScriptFault) (ran : HasRan result) → old.given ≡ 1 → RunsLines (ended_status result) (answered_by result ran)
   ran_lines (Ok tt) ran first = lines_all ran
   ran_lines (Err (BadLine line)) ran first = lines_to_bad line first ran
   ran_lines (Err ReadFault) ran first = lines_to_fault ran
@@ -182,8 +176,8 @@ module _ (X : Type 0) (Step : X → Request → Reply → X → Type 0) (Fails :
   ran_lines (Err (Applying faults.OutOfMemory)) ran first = lines_without (stopped faults.OutOfMemory ran)
 
   -- and how much was taken
-  abbrev TakingLines : Status → Type 0
-  TakingLines status = RanTaking status (lines_ahead old) (TakesBehindFirst (bytes_ahead old)) left_before left_after out_before out_after
+  abbrev Taken : Status → List Request → Type 0
+  Taken status asked = WhereBothTold left_before left_after (TakesBehindFirst (bytes_ahead old) (line_ended status (length asked)))
 
   stopped_taken : (fault : ApplyFault) → (ran : HasRan (Err (Applying fault)))
       → WhereBothTold left_before left_after (TakesBehindFirst (bytes_ahead old) (Some (length ran.stands.1 + 2)))
@@ -191,30 +185,19 @@ module _ (X : Type 0) (Step : X → Request → Reply → X → Type 0) (Fails :
       let count : length ran.asked ≡ length ran.stands.1 + 1 = ap length ran.stands.3 ∙ length-append ran.stands.1 (ran.stands.2 ∷ []) in
       takes_front 1 (length ran.asked) (length ran.stands.1 + 2) front (bytes_ahead old b) typed a (omega (arith, count)) one are (ran.taken b a was now)
 
-  pub ran_taking : (result : Result (Unit {0}) ScriptFault) → HasRan result → old.given ≡ 1 → TakingLines (ended_status result)
-  ran_taking (Ok tt) ran first = record { ran = lines_all ran; takes = λ b a was now front typed one are. tt }
-  ran_taking (Err (BadLine line)) ran first = record {
-    ran = lines_to_bad line first ran;
-    takes = λ b a was now front typed one are.
-        takes_front 1 (length ran.asked + 1) line front (bytes_ahead old b) typed a (omega (arith, ran.number, first)) one are (ran.taken b a was now);
-  }
-  ran_taking (Err ReadFault) ran first = record { ran = lines_to_fault ran; takes = λ b a was now front typed one are. tt }
-  ran_taking (Err WriteFault) ran first = record {
-    ran = lines_cut ran;
-    takes = λ b a was now front typed one are.
-        takes_front 1 (length ran.asked) (length ran.asked + 1) front (bytes_ahead old b) typed a (omega arith) one are (ran.taken b a was now);
-  }
-  ran_taking (Err OutOfMemory) ran first = record { ran = lines_out ran; takes = λ b a was now front typed one are. tt }
-  ran_taking (Err (Applying faults.RandomFault)) ran first =
-      record { ran = lines_undrawn (stopped faults.RandomFault ran); takes = stopped_taken faults.RandomFault ran }
-  ran_taking (Err (Applying (faults.RandomShort left need))) ran first =
-      record { ran = lines_short left need (stopped (faults.RandomShort left need) ran); takes = stopped_taken (faults.RandomShort left need) ran }
-  ran_taking (Err (Applying faults.DiskFault)) ran first =
-      record { ran = lines_unwritten (stopped faults.DiskFault ran); takes = stopped_taken faults.DiskFault ran }
-  ran_taking (Err (Applying faults.Closed)) ran first =
-      record { ran = lines_unwritten (stopped faults.Closed ran); takes = stopped_taken faults.Closed ran }
-  ran_taking (Err (Applying faults.OutOfMemory)) ran first =
-      record { ran = lines_without (stopped faults.OutOfMemory ran); takes = λ b a was now front typed one are. tt }
+  pub ran_taken : (result : Result (Unit {0}) ScriptFault) (ran : HasRan result) → old.given ≡ 1 → Taken (ended_status result) (answered_by result ran)
+  ran_taken (Ok tt) ran first = λ b a was now front typed one are. tt
+  ran_taken (Err (BadLine line)) ran first = λ b a was now front typed one are.
+      takes_front 1 (length ran.asked + 1) line front (bytes_ahead old b) typed a (omega (arith, ran.number, first)) one are (ran.taken b a was now)
+  ran_taken (Err ReadFault) ran first = λ b a was now front typed one are. tt
+  ran_taken (Err WriteFault) ran first = λ b a was now front typed one are.
+      takes_front 1 (length ran.asked) (length ran.asked + 1) front (bytes_ahead old b) typed a (omega arith) one are (ran.taken b a was now)
+  ran_taken (Err OutOfMemory) ran first = λ b a was now front typed one are. tt
+  ran_taken (Err (Applying faults.RandomFault)) ran first = stopped_taken faults.RandomFault ran
+  ran_taken (Err (Applying (faults.RandomShort left need))) ran first = stopped_taken (faults.RandomShort left need) ran
+  ran_taken (Err (Applying faults.DiskFault)) ran first = stopped_taken faults.DiskFault ran
+  ran_taken (Err (Applying faults.Closed)) ran first = stopped_taken faults.Closed ran
+  ran_taken (Err (Applying faults.OutOfMemory)) ran first = λ b a was now front typed one are. tt
 
 -- ---- before the opening nothing is asked
 
@@ -223,17 +206,16 @@ nothing_printed written = λ x y was now. same_told written x y was now ∙ sym 
 
 module _ (lines : List ℕ → List InputLine) (typed written : Option (List ℕ)) where
   abbrev Unasked : Status → Type 0
-  Unasked status = RanLines status lines typed written written
+  Unasked status = RanLines status [] lines typed written written
 
   none_asked : (b : List ℕ) → (rest : List InputLine) × Asks [] (lines b) rest
   none_asked b = (lines b, asks_none (lines b))
 
   none_read : Unasked statuses.ReadFault
-  none_read = record { asked = []; replies = []; one_each = refl; counted = tt; answered = λ b was. none_asked b; printed = nothing_printed written }
+  none_read = record { replies = []; one_each = refl; counted = tt; answered = λ b was. none_asked b; printed = nothing_printed written }
 
   none_without : Unasked statuses.OutOfMemory
   none_without = record {
-    asked = [];
     replies = [];
     one_each = refl;
     counted = tt;
@@ -243,7 +225,7 @@ module _ (lines : List ℕ → List InputLine) (typed written : Option (List ℕ
 
   none_behind_bad : (line : ℕ) → line ≡ 1 → Unasked (statuses.BadScript line)
   none_behind_bad line first =
-      record { asked = []; replies = []; one_each = refl; counted = inl (first, refl); answered = λ b was. inl first; printed = nothing_printed written }
+      record { replies = []; one_each = refl; counted = inl (first, refl); answered = λ b was. inl first; printed = nothing_printed written }
 
   -- the first line isn't an owner's, or wasn't read
   pub unread_lines : (fault : ScriptFault) → IsReading fault → (old new : ℕ) → CountsOwner (Err fault) old new → Unasked (script_status fault)
@@ -255,38 +237,35 @@ module _ (lines : List ℕ → List InputLine) (typed written : Option (List ℕ
 
   -- the store isn't opened
   pub unopened_lines : (fault : OpenFault) → Unasked (open_status fault)
-  unopened_lines opening.NotAStore = record { asked = []; replies = []; one_each = refl; counted = refl; answered = λ b was. none_asked b; printed = nothing_printed written }
-  unopened_lines opening.WrongKey = record { asked = []; replies = []; one_each = refl; counted = refl; answered = λ b was. none_asked b; printed = nothing_printed written }
-  unopened_lines (opening.Damaged at) = record { asked = []; replies = []; one_each = refl; counted = refl; answered = λ b was. none_asked b; printed = nothing_printed written }
-  unopened_lines (opening.Tampered batch at) = record { asked = []; replies = []; one_each = refl; counted = refl; answered = λ b was. none_asked b; printed = nothing_printed written }
-  unopened_lines opening.DiskFault = record { asked = []; replies = []; one_each = refl; counted = tt; answered = λ b was. inl refl; printed = nothing_printed written }
+  unopened_lines opening.NotAStore = record { replies = []; one_each = refl; counted = refl; answered = λ b was. none_asked b; printed = nothing_printed written }
+  unopened_lines opening.WrongKey = record { replies = []; one_each = refl; counted = refl; answered = λ b was. none_asked b; printed = nothing_printed written }
+  unopened_lines (opening.Damaged at) = record { replies = []; one_each = refl; counted = refl; answered = λ b was. none_asked b; printed = nothing_printed written }
+  unopened_lines (opening.Tampered batch at) = record { replies = []; one_each = refl; counted = refl; answered = λ b was. none_asked b; printed = nothing_printed written }
+  unopened_lines opening.DiskFault = record { replies = []; one_each = refl; counted = tt; answered = λ b was. inl refl; printed = nothing_printed written }
   unopened_lines opening.OutOfMemory = none_without
 
   -- and little was taken behind the first line
-  pub unread_taking : (left : Option (List ℕ)) (fault : ScriptFault) → IsReading fault → (old new : ℕ) → CountsOwner (Err fault) old new
-      → (reader held : LineState) → reader ≡ fresh_reader → WhereBothTold typed left (TakesOne {U = List ℕ} (Err fault) reader held)
-      → RanTaking (script_status fault) lines TakesTo typed left written written
-  unread_taking left (BadLine line) reading old new count reader held fresh takes = record {
-    ran = none_behind_bad line count;
-    takes = λ x y was now.
-        let one : TakesLines 1 x y = subst (λ (r : LineState). TakesLines 1 (bytes_ahead r x) y) fresh (takes x y was now) in
-        takes_more 1 line x y (omega (arith, count)) one;
-  }
-  unread_taking left ReadFault reading old new count reader held fresh takes = record { ran = none_read; takes = λ x y was now. tt }
-  unread_taking left OutOfMemory reading old new count reader held fresh takes = record { ran = none_without; takes = λ x y was now. tt }
-  unread_taking left WriteFault reading old new count reader held fresh takes = absurd reading
-  unread_taking left (Applying fault) reading old new count reader held fresh takes = absurd reading
+  abbrev TakenUnasked : Option (List ℕ) → Status → Type 0
+  TakenUnasked left status = WhereBothTold typed left (TakesTo (line_ended status 0))
 
-  pub unopened_taking : (left : Option (List ℕ)) (fault : OpenFault) → WhereBothTold typed left (TakesLines 1)
-      → RanTaking (open_status fault) lines TakesTo typed left written written
-  unopened_taking left opening.NotAStore takes = record { ran = unopened_lines opening.NotAStore; takes = takes }
-  unopened_taking left opening.WrongKey takes = record { ran = unopened_lines opening.WrongKey; takes = takes }
-  unopened_taking left (opening.Damaged at) takes = record { ran = unopened_lines (opening.Damaged at); takes = takes }
-  unopened_taking left (opening.Tampered batch at) takes = record { ran = unopened_lines (opening.Tampered batch at); takes = takes }
-  unopened_taking left opening.DiskFault takes =
-      let ran = unopened_lines opening.DiskFault in
-      record { ran = ran; takes = λ x y was now. takes_more 1 (length ran.asked + 2) x y (omega arith) (takes x y was now) }
-  unopened_taking left opening.OutOfMemory takes = record { ran = unopened_lines opening.OutOfMemory; takes = λ x y was now. tt }
+  pub unread_taken : (left : Option (List ℕ)) (fault : ScriptFault) → IsReading fault → (old new : ℕ) → CountsOwner (Err fault) old new
+      → (reader held : LineState) → reader ≡ fresh_reader → WhereBothTold typed left (TakesOne {U = List ℕ} (Err fault) reader held)
+      → TakenUnasked left (script_status fault)
+  unread_taken left (BadLine line) reading old new count reader held fresh takes = λ x y was now.
+      let one : TakesLines 1 x y = subst (λ (r : LineState). TakesLines 1 (bytes_ahead r x) y) fresh (takes x y was now) in
+      takes_more 1 line x y (omega (arith, count)) one
+  unread_taken left ReadFault reading old new count reader held fresh takes = λ x y was now. tt
+  unread_taken left OutOfMemory reading old new count reader held fresh takes = λ x y was now. tt
+  unread_taken left WriteFault reading old new count reader held fresh takes = absurd reading
+  unread_taken left (Applying fault) reading old new count reader held fresh takes = absurd reading
+
+  pub unopened_taken : (left : Option (List ℕ)) (fault : OpenFault) → WhereBothTold typed left (TakesLines 1) → TakenUnasked left (open_status fault)
+  unopened_taken left opening.NotAStore takes = takes
+  unopened_taken left opening.WrongKey takes = takes
+  unopened_taken left (opening.Damaged at) takes = takes
+  unopened_taken left (opening.Tampered batch at) takes = takes
+  unopened_taken left opening.DiskFault takes = λ x y was now. takes_more 1 2 x y (omega arith) (takes x y was now)
+  unopened_taken left opening.OutOfMemory takes = λ x y was now. tt
 
 -- what the first line took of a whole input
 pub key_taken : (reader held : LineState) (typed left : List ℕ) → reader ≡ fresh_reader → AreTaken 1 reader held typed left → AreTaken 1 fresh_reader held typed left
@@ -294,14 +273,14 @@ key_taken reader held typed left fresh taken = subst (λ (r : LineState). AreTak
 
 -- ---- the lines as they were typed
 
-abbrev pub lines_as_typed : (status : Status) (lines behind : List ℕ → List InputLine) (first later before after : Option (List ℕ)) → is_some later ≡ is_some first
-    → ((x y : List ℕ) → first ≡ Some x → later ≡ Some y → lines y ≡ behind x) → RanLines status lines later before after → RanLines status behind first before after
-lines_as_typed status lines behind first later before after told same ran = record {
-  asked = ran.asked;
+pub lines_as_typed : (status : Status) (asked : List Request) (lines behind : List ℕ → List InputLine) (first later before after : Option (List ℕ)) → is_some later ≡ is_some first
+    → ((x y : List ℕ) → first ≡ Some x → later ≡ Some y → lines y ≡ behind x) → RanLines status asked lines later before after
+    → RanLines status asked behind first before after
+lines_as_typed status asked lines behind first later before after told same ran = record {
   replies = ran.replies;
   one_each = ran.one_each;
   counted = ran.counted;
-  answered = λ x was. let y = told_again first later x told was in subst (AnswersLines status ran.asked) (same x y.0 was y.1) (ran.answered y.0 y.1);
+  answered = λ x was. let y = told_again first later x told was in subst (AnswersLines status asked) (same x y.0 was y.1) (ran.answered y.0 y.1);
   printed = ran.printed;
 }
 
@@ -325,8 +304,8 @@ none_bad (line ∷ lines) (r ∷ asked) (one ∷ front) rest are same bad =
     let behind : map Whole lines ≡ front ++ rest = cc in
     none_bad lines asked front rest others behind bad
 
-pub bad_is_never_done : (status : Status) (lines : List ℕ → List InputLine) (typed before after : Option (List ℕ)) → RanLines status lines typed before after
+pub bad_is_never_done : (status : Status) (asked : List Request) (lines : List ℕ → List InputLine) (typed before after : Option (List ℕ)) → RanLines status asked lines typed before after
     → (b : List ℕ) → typed ≡ Some b → HasBadLine (lines b) → status ≢ statuses.Done
-bad_is_never_done status lines typed before after ran b was bad = λ done.
-    let all : Asks ran.asked (lines b) [] = subst (λ (s : Status). AnswersLines s ran.asked (lines b)) done (ran.answered b was) in
-    none_bad all.lines ran.asked bad.0 bad.1 all.asked_are (sym (append-nil (map Whole all.lines)) ∙ sym all.before_is ∙ bad.2) bad.3
+bad_is_never_done status asked lines typed before after ran b was bad = λ done.
+    let all : Asks asked (lines b) [] = subst (λ (s : Status). AnswersLines s asked (lines b)) done (ran.answered b was) in
+    none_bad all.lines asked bad.0 bad.1 all.asked_are (sym (append-nil (map Whole all.lines)) ∙ sym all.before_is ∙ bad.2) bad.3

@@ -26,7 +26,7 @@ use Rattle.cryptree_cli.specs.declared.script.ScriptFault.{ScriptFault}
 use Rattle.cryptree_cli.specs.declared.script.ScriptFault.TheVariants.{BadLine, ReadFault, WriteFault, OutOfMemory, Applying}
 use Rattle.cryptree_cli.proofs.AnsweredScripts.{IsNow, IsScene, answered_script, joined_more, told_stays}
 use Rattle.cryptree_cli.proofs.StopLemmas.{Stays, rests_settled, stays_on, stops_on}
-use Rattle.cryptree_cli.proofs.ScriptLemmas.{whole_is_cut}
+use Rattle.cryptree_cli.proofs.ScriptLemmas.{answered_of, whole_is_cut}
 use Rattle.public_fold.specs.Journal.{Journal}
 use Rattle.public_fold.specs.Journal.Entry.{Session, Did}
 use Rattle.store_owner.proofs.OwnerGoesOn.{drops_more}
@@ -421,19 +421,23 @@ module _ (X : Type 0) (scene : X → Scene) (leaves : X → List ℕ → Type 0)
   pub never_closed : HasRan (Err (Applying faults.Closed)) → ⊥
   never_closed ran = (stopped faults.Closed ran).failed.never_closed refl
 
+  abbrev answered_by : (result : Result (Unit {0}) ScriptFault) → HasRan result → List Request
+  answered_by result ran = answered_of Step Fails result start end old new left_before left_after out_before out_after ran
+
   -- all of it by the status
-  pub ends_as : (result : Result (Unit {0}) ScriptFault) → HasRan result → old.given ≡ 1 → IsCalm (leaves end) (scene end).shown result
-      → Ends (ended_status result) limits key m (lines_ahead old b) ended (leaves end) KeepsTo
-  ends_as (Ok tt) ran first calm = ran_all ran calm
-  ends_as (Err (BadLine line)) ran first calm = ran_to_bad line ran first calm
-  ends_as (Err ReadFault) ran first calm = inr (ran_to_fault ran calm)
-  ends_as (Err WriteFault) ran first calm = ran_cut ran calm
-  ends_as (Err OutOfMemory) ran first calm = inr (ran_out ran calm)
-  ends_as (Err (Applying faults.RandomFault)) ran first calm = ran_undrawn ran calm
-  ends_as (Err (Applying (faults.RandomShort given need))) ran first calm = ran_short given need ran calm
-  ends_as (Err (Applying faults.DiskFault)) ran first calm = inr (ran_unwritten ran)
+  pub ends_as : (result : Result (Unit {0}) ScriptFault) (ran : HasRan result) → old.given ≡ 1 → IsCalm (leaves end) (scene end).shown result
+      → Ends (ended_status result) limits key m (answered_by result ran) (lines_ahead old b) ended (leaves end) KeepsTo
+  unfolding ran_all ran_to_bad ran_to_fault ran_cut ran_out ran_short ran_undrawn ran_unwritten ran_without stopped
+  ends_as (Ok tt) ran first calm = (ran_all ran calm, refl)
+  ends_as (Err (BadLine line)) ran first calm = let bad = ran_to_bad line ran first calm in (bad.0, bad.1, bad.2, bad.3, refl)
+  ends_as (Err ReadFault) ran first calm = let cut = ran_to_fault ran calm in inr (cut.0, cut.1, refl)
+  ends_as (Err WriteFault) ran first calm = (ran_cut ran calm, refl)
+  ends_as (Err OutOfMemory) ran first calm = inr (ran_out ran calm, refl)
+  ends_as (Err (Applying faults.RandomFault)) ran first calm = (ran_undrawn ran calm, refl)
+  ends_as (Err (Applying (faults.RandomShort given need))) ran first calm = (ran_short given need ran calm, refl)
+  ends_as (Err (Applying faults.DiskFault)) ran first calm = inr (ran_unwritten ran, refl)
   ends_as (Err (Applying faults.Closed)) ran first calm = absurd (never_closed ran)
-  ends_as (Err (Applying faults.OutOfMemory)) ran first calm = inr (ran_without ran calm)
+  ends_as (Err (Applying faults.OutOfMemory)) ran first calm = inr (ran_without ran calm, refl)
 
   -- all lines were answered, and the owner's figures are those of the journal, if it had counted all of m
   pub applies_all : TallyTold → HasRan (Ok tt) → Calm → (scene start).owner.tally ≡ counted_in m

@@ -22,6 +22,7 @@ use Rattle.cryptree_cli.specs.declared.script.ScriptFault.TheVariants.{BadLine, 
 use Rattle.cryptree_cli.specs.declared.status.Status.TheVariants as statuses
 use Rattle.cryptree_cli.proofs.AnsweredScripts.{counts_rise, key_stays, keys_taken, time_goes, told_stays}
 use Rattle.cryptree_cli.proofs.RunEnds.{IsCalm, ends_as, still_told}
+use Rattle.cryptree_cli.proofs.ScriptLemmas.{answered_of}
 use Rattle.public_fold.specs.Journal.{Journal}
 use Rattle.store_owner.specs.Owned.{OwnerView}
 use Rattle.store_owner.specs.Published.{PublishesOn}
@@ -235,10 +236,10 @@ module _ (R D : Type 0) (left : R → Option (List ℕ)) (random_faults : R → 
     calm_but (Applying faults.OutOfMemory) calm other = calm
 
     -- on a disk that shows a journal, where the input tells
-    pub ends_so : IsPresent → (result : Result (Unit {0}) ScriptFault) → HasRan result → IsCalm (may_leave end.2) (shown end.2) result → old.given ≡ 1 → is_some left_after ≡ is_some left_before
+    pub ends_so : IsPresent → (result : Result (Unit {0}) ScriptFault) (ran : HasRan result) → IsCalm (may_leave end.2) (shown end.2) result → old.given ≡ 1 → is_some left_after ≡ is_some left_before
         → (b : List ℕ) → left_before ≡ Some b → (key : List ℕ) (m : Journal) (first_shown : Option (List ℕ)) → StandsAt version_limits key (opened m []) start.0 (shown start.2)
         → IsDurable (may_leave start.2) (shown start.2) → KeepsFrom (length (image_of key m)) first_shown (shown start.2)
-        → Ends (ended_status result) version_limits key m (lines_ahead old b)
+        → Ends (ended_status result) version_limits key m (answered_of Step Fails result start end old new left_before left_after out_before out_after ran) (lines_ahead old b)
         (record { left_before = left start.1; left_after = left end.1; was = first_shown; shown = shown end.2; written_before = out_before; written_after = out_after })
         (may_leave end.2) (LinesKeepUpTo key m (since end.2 (moment start.2)))
     ends_so present result ran calm first told b was key m first_shown stands durable kept =

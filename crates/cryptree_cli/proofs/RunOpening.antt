@@ -59,10 +59,10 @@ unopened key m left was shown written KeepsTo shows kept = record { undrawn = re
 
 pub first_ends : (fault : ScriptFault) → IsReading fault → (before after : List InputLine) → GivesOwner (Err fault) before after
     → (key : List ℕ) → key_in_lines before ≡ Some key → (limits : Limits) (m : Journal) (lines : List InputLine) (left was shown written : Option (List ℕ)) (may_leave : List ℕ → Type 0)
-    (KeepsTo : Journal → Type 0) → ShowsJournal key m shown → KeepsTo m → Ends (script_status fault) limits key m lines (seen_unopened left was shown written) may_leave KeepsTo
+    (KeepsTo : Journal → Type 0) → ShowsJournal key m shown → KeepsTo m → Ends (script_status fault) limits key m [] lines (seen_unopened left was shown written) may_leave KeepsTo
 first_ends (BadLine line) reading before after gives key hands limits m lines left was shown written may_leave KeepsTo shows kept = absurd (none_is_none key (key_in_lines before) gives.0 hands)
-first_ends ReadFault reading before after gives key hands limits m lines left was shown written may_leave KeepsTo shows kept = inl (unopened key m left was shown written KeepsTo shows kept)
-first_ends OutOfMemory reading before after gives key hands limits m lines left was shown written may_leave KeepsTo shows kept = inl (unopened key m left was shown written KeepsTo shows kept)
+first_ends ReadFault reading before after gives key hands limits m lines left was shown written may_leave KeepsTo shows kept = inl (refl, unopened key m left was shown written KeepsTo shows kept)
+first_ends OutOfMemory reading before after gives key hands limits m lines left was shown written may_leave KeepsTo shows kept = inl (refl, unopened key m left was shown written KeepsTo shows kept)
 first_ends WriteFault reading before after gives key hands limits m lines left was shown written may_leave KeepsTo shows kept = absurd reading
 first_ends (Applying fault) reading before after gives key hands limits m lines left was shown written may_leave KeepsTo shows kept = absurd reading
 
@@ -102,11 +102,11 @@ opened_has_no_verdict key image s is = ap failure_of is
 pub unopened_ends : (fault : OpenFault) → (fault ≡ opening.DiskFault) ⊎ (fault ≡ opening.OutOfMemory)
     → (limits : Limits) (key : List ℕ) (m : Journal) (lines : List InputLine) (left was shown written : Option (List ℕ)) (may_leave : List ℕ → Type 0)
     (KeepsTo : Journal → Type 0) → ShowsJournal key m shown → KeepsTo m
-    → Ends (open_status fault) limits key m lines (seen_unopened left was shown written) may_leave KeepsTo
+    → Ends (open_status fault) limits key m [] lines (seen_unopened left was shown written) may_leave KeepsTo
 unopened_ends fault why limits key m lines left was shown written may_leave KeepsTo shows kept =
     ⊎_elim
-    (λ (e : fault ≡ opening.DiskFault). subst (λ (f : OpenFault). Ends (open_status f) limits key m lines (seen_unopened left was shown written) may_leave KeepsTo) (sym e) (inl (unopened key m left was shown written KeepsTo shows kept)))
-    (λ (e : fault ≡ opening.OutOfMemory). subst (λ (f : OpenFault). Ends (open_status f) limits key m lines (seen_unopened left was shown written) may_leave KeepsTo) (sym e) (inl (unopened key m left was shown written KeepsTo shows kept)))
+    (λ (e : fault ≡ opening.DiskFault). subst (λ (f : OpenFault). Ends (open_status f) limits key m [] lines (seen_unopened left was shown written) may_leave KeepsTo) (sym e) (inl (refl, unopened key m left was shown written KeepsTo shows kept)))
+    (λ (e : fault ≡ opening.OutOfMemory). subst (λ (f : OpenFault). Ends (open_status f) limits key m [] lines (seen_unopened left was shown written) may_leave KeepsTo) (sym e) (inl (refl, unopened key m left was shown written KeepsTo shows kept)))
     why
 
 -- an owner who opened a journal's store stands where a session begins

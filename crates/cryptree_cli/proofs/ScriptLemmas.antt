@@ -1,5 +1,5 @@
 -- Lines that are answered one after another.
-use Rattle.std.proofs.Common.{◌≡◌, ℕ, ◌+◌, List, [], ◌∷◌, ◌++◌, length, take, map, Option, Some, Ok, Err, append_assoc, arith, refl, sym, ap, subst, ◌∙◌, length-append}
+use Rattle.std.proofs.Common.{◌≡◌, ℕ, ◌+◌, List, [], ◌∷◌, ◌++◌, length, take, map, Option, Some, Result, Ok, Err, append_assoc, arith, refl, sym, ap, subst, ◌∙◌, length-append}
 use Rattle.std.specs.Prelude.{is_some}
 use Rattle.std.proofs.lemmas.Grind.{flat_map-append}
 use Rattle.std.proofs.lemmas.List.{append-nil, map-append}
@@ -60,6 +60,12 @@ last_is_cut replies reply n before middle after is cut = (
       ∙ append_assoc before (spell_replies replies) (take n (spell_reply reply))
       ∙ ap (λ text. before ++ (spell_replies replies ++ take n text)) (sym (spell_one reply)),
 )
+
+-- what was asked and answered: all that was asked, but for the last command where that met a fault
+abbrev pub answered_of : {X : Type 0} (Step : X → Request → Reply → X → Type 0) (Fails : X → Request → ApplyFault → X → Type 0) (result : Result (Unit {0}) ScriptFault) (start end : X)
+    (old new : LineState) (left_before left_after out_before out_after : Option (List ℕ)) → Ran Step Fails result start end old new left_before left_after out_before out_after → List Request
+answered_of Step Fails (Err (Applying fault)) start end old new left_before left_after out_before out_after ran = ran.stands.1
+answered_of Step Fails _ start end old new left_before left_after out_before out_after ran = ran.asked
 
 -- where the lines stand between two of them
 pub record Going {X : Type 0} (Step : X → Request → Reply → X → Type 0) (start x : X) (old now : LineState)
@@ -131,7 +137,11 @@ stops_reading Step Fails ReadFault start x old now new first middle last out_fir
       let again = told_again first middle b told was in
       subst (λ rest. Asks going.asked (lines_ahead old b) rest) (sym (gives again.0 a again.1 is)) (going.lines b again.0 was again.1);
   number = tt;
-  taken = λ b a was is. tt;
+  taken = λ b a was is.
+      let again = told_again first middle b told was in
+      let so_far = going.taken b again.0 was again.1 in
+      let none = takes again.0 a again.1 is in
+      (so_far.0, so_far.1, so_far.2 ∙ ap (λ rest. so_far.0 ++ rest) (sym none.0));
   printed = going.printed;
 }
 stops_reading Step Fails OutOfMemory start x old now new first middle last out_first out going told gives takes count reading = record {

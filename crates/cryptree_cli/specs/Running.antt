@@ -177,24 +177,27 @@ pub record IsUnopened (key : List ℕ) (m : Journal) (seen : Seen) (KeepsTo : Jo
   pub unprinted : seen.written_after ≡ seen.written_before
   pub kept : KeepsTo m
 
--- How `run` ends on a disk that shows a journal, where the input tells: at Done all lines were asked, before a bad line those before it.
--- What the bytes of a store answer comes on no such disk.
-abbrev pub Ends : Status → Limits → List ℕ → Journal → List InputLine → Seen → (List ℕ → Type 0) → (Journal → Type 0) → Type 0
-Ends statuses.Done limits key m lines seen may_leave KeepsTo = HasRun limits key m lines [] seen may_leave KeepsTo
-Ends (statuses.BadScript line) limits key m lines seen may_leave KeepsTo =
+-- How `run` ends on a disk that shows a journal, where the input tells and these commands were asked: at Done all lines were, before a bad
+-- line those before it. What the bytes of a store answer comes on no such disk.
+abbrev pub Ends : Status → Limits → List ℕ → Journal → List Request → List InputLine → Seen → (List ℕ → Type 0) → (Journal → Type 0) → Type 0
+Ends statuses.Done limits key m asked lines seen may_leave KeepsTo =
+    (run : HasRun limits key m lines [] seen may_leave KeepsTo) × (run.asked ≡ asked)
+Ends (statuses.BadScript line) limits key m asked lines seen may_leave KeepsTo =
     (rest : List InputLine) × IsBadFirst rest × (run : HasRun limits key m lines rest seen may_leave KeepsTo)
-    × (line ≡ length run.asked + 2)
-Ends statuses.ReadFault limits key m lines seen may_leave KeepsTo = IsUnopened key m seen KeepsTo
-    ⊎ ((rest : List InputLine) × HasRun limits key m lines rest seen may_leave KeepsTo)
-Ends (statuses.RandomShort left need) limits key m lines seen may_leave KeepsTo = RanShort limits key m lines left need seen may_leave
-    KeepsTo
-Ends statuses.RandomFault limits key m lines seen may_leave KeepsTo = RanUndrawn limits key m lines seen may_leave KeepsTo
-Ends statuses.WriteFault limits key m lines seen may_leave KeepsTo = RanCut limits key m lines seen may_leave KeepsTo
-Ends statuses.DiskFault limits key m lines seen may_leave KeepsTo = IsUnopened key m seen KeepsTo
-    ⊎ RanUnwritten limits key m lines seen may_leave KeepsTo
-Ends statuses.OutOfMemory limits key m lines seen may_leave KeepsTo = IsUnopened key m seen KeepsTo
-    ⊎ RanCut limits key m lines seen may_leave KeepsTo
-Ends _ limits key m lines seen may_leave KeepsTo = ⊥
+    × (line ≡ length run.asked + 2) × (run.asked ≡ asked)
+Ends statuses.ReadFault limits key m asked lines seen may_leave KeepsTo = (asked ≡ []) × IsUnopened key m seen KeepsTo
+    ⊎ ((rest : List InputLine) × (run : HasRun limits key m lines rest seen may_leave KeepsTo) × (run.asked ≡ asked))
+Ends (statuses.RandomShort left need) limits key m asked lines seen may_leave KeepsTo =
+    (run : RanShort limits key m lines left need seen may_leave KeepsTo) × (run.ran.asked ≡ asked)
+Ends statuses.RandomFault limits key m asked lines seen may_leave KeepsTo =
+    (run : RanUndrawn limits key m lines seen may_leave KeepsTo) × (run.ran.asked ≡ asked)
+Ends statuses.WriteFault limits key m asked lines seen may_leave KeepsTo =
+    (run : RanCut limits key m lines seen may_leave KeepsTo) × (run.asked ≡ asked)
+Ends statuses.DiskFault limits key m asked lines seen may_leave KeepsTo = (asked ≡ []) × IsUnopened key m seen KeepsTo
+    ⊎ ((run : RanUnwritten limits key m lines seen may_leave KeepsTo) × (run.ran.asked ≡ asked))
+Ends statuses.OutOfMemory limits key m asked lines seen may_leave KeepsTo = (asked ≡ []) × IsUnopened key m seen KeepsTo
+    ⊎ ((run : RanCut limits key m lines seen may_leave KeepsTo) × (run.asked ≡ asked))
+Ends _ limits key m asked lines seen may_leave KeepsTo = ⊥
 
 -- how `run` may end
 abbrev pub is_run_answer : Status → Bool
@@ -288,10 +291,10 @@ abbrev pub JudgesTyped : Status → List ℕ → List ℕ → Type 0
 JudgesTyped status typed image = (key : List ℕ) → key_in_lines (lines_in typed) ≡ Some key → Judges status (verdict (ToWrite key) image)
 
 -- how it ends for each journal with that key that the disk showed, with what a stop might leave before, at each moment since, and after
-abbrev pub EndsTyped : Status → List ℕ → Seen → (List ℕ → Type 0) → (List ℕ → List ℕ → Type 0) → (List ℕ → Type 0) → Type 0
-EndsTyped status typed seen could_leave since may_leave = (key : List ℕ) (m : Journal) → key_in_lines (lines_in typed) ≡ Some key
+abbrev pub EndsTyped : Status → List Request → List ℕ → Seen → (List ℕ → Type 0) → (List ℕ → List ℕ → Type 0) → (List ℕ → Type 0) → Type 0
+EndsTyped status asked typed seen could_leave since may_leave = (key : List ℕ) (m : Journal) → key_in_lines (lines_in typed) ≡ Some key
     → ShowsJournal key m seen.was
-    → Ends status version_limits key m (lines_behind (lines_in typed)) seen may_leave (KeepsUpTo key m seen.was could_leave since)
+    → Ends status version_limits key m asked (lines_behind (lines_in typed)) seen may_leave (KeepsUpTo key m seen.was could_leave since)
 
 -- ---- on every disk
 
@@ -330,8 +333,8 @@ PrintsAnswers statuses.OutOfMemory replies before after = PrintsCut replies befo
 PrintsAnswers _ replies before after = after ≡ before ++ spell_replies replies
 
 -- The lines of a run: these were asked and answered, each with one reply, in their order; and the replies are what was printed.
-pub record RanLines (status : Status) (lines : List ℕ → List InputLine) (typed before after : Option (List ℕ)) : Type 0 where
-  pub asked : List Request
+pub record RanLines (status : Status) (asked : List Request) (lines : List ℕ → List InputLine) (typed before after : Option (List ℕ))
+    : Type 0 where
   pub replies : List Reply
   pub one_each : length replies ≡ length asked
   pub counted : CountsAnswered status asked
@@ -355,21 +358,23 @@ pub record RanDry (left need : ℕ) (left_before left_after : Option (List ℕ))
 
 -- ---- where the input failed
 
--- The first of these lines were asked, and of what was taken of the input behind them, before the bytes that are left, no line had ended: a
--- line that is bad was told before more was read.
-pub record ReadsWhole (lines : List InputLine) (left : List ℕ) : Type 0 where
-  pub asked : List Request
+-- The first of these lines were asked, and no other had ended in what was taken of the input: it is of no more lines than were asked, and
+-- of the front of the next one, within the limit. A bad line is told before more is read.
+pub record ReadsWhole (asked : List Request) (lines : List InputLine) (typed left : List ℕ) : Type 0 where
+  pub given : List ℕ
   pub front : List ℕ
   pub room : ℕ
+  pub taken : typed ≡ given ++ (front ++ left)
+  pub of_lines : AreOfLines (length asked) given
   pub one : IsOneLine front
   pub within : length front ≤ room
   pub asks : Asks asked lines (lines_of room (front ++ left))
 
--- so it is with the lines behind the first, or the first itself had not ended
-abbrev pub ReadsWholeTyped : List ℕ → List ℕ → Type 0
-ReadsWholeTyped typed left =
-    ((front : List ℕ) × (room : ℕ) × IsOneLine front × (lines_in typed ≡ lines_of room (front ++ left)))
-    ⊎ ReadsWhole (lines_typed typed) left
+-- so it is with the lines behind the first; or that one had not ended, and none was asked
+abbrev pub ReadsWholeTyped : List Request → List ℕ → List ℕ → Type 0
+ReadsWholeTyped asked typed left =
+    ((asked ≡ []) × (front : List ℕ) × IsOneLine front × (length front ≤ input_limit) × (typed ≡ front ++ left))
+    ⊎ ((first behind : List ℕ) × AreOfLines 1 first × (typed ≡ first ++ behind) × ReadsWhole asked (lines_typed typed) behind left)
 
 -- ---- how much of the input was taken
 
@@ -395,9 +400,3 @@ TakesTo (Some line) typed left = TakesLines line typed left
 abbrev pub TakesBehindFirst : (List ℕ → List ℕ) → Option ℕ → List ℕ → List ℕ → Type 0
 TakesBehindFirst ahead end before left = (front typed : List ℕ) → AreOfLines 1 front → typed ≡ front ++ ahead before
     → TakesTo end typed left
-
--- The lines of a run, and how much was taken: it follows from those that were answered, which the printed replies tell.
-pub record RanTaking (status : Status) (lines : List ℕ → List InputLine) (Takes : Option ℕ → List ℕ → List ℕ
-    → Type 0) (typed left before after : Option (List ℕ)) : Type 0 where
-  pub ran : RanLines status lines typed before after
-  pub takes : WhereBothTold typed left (Takes (line_ended status (length ran.asked)))

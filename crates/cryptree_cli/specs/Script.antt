@@ -127,5 +127,5 @@ pub record Ran {X : Type 0} (Step : X → Request → Reply → X → Type 0) (F
   pub lines : WhereBothTold left_before left_after
       (λ before after. TakesLines result asked (lines_ahead old before) (lines_ahead new after))
   pub number : NumbersBad result (old.given + length asked + 1)
-  pub taken : WhereBothTold left_before left_after (TakenBy result (length asked) old)
+  pub taken : WhereBothTold left_before left_after (TakenBy result (length asked) old new)
   pub printed : WhereBothTold written_before written_after (PrintsReplies result replies)

@@ -4,6 +4,7 @@ ghost use Rattle.std.specs.Prelude.{◌≡◌, ◌≢◌, ◌⊎◌, ◌<◌, �
 ghost use Rattle.std.specs.Prelude.{length, IsTrue};
 ghost use Rattle.batch_log.specs.Moments.{FromThenOn};
 ghost use Rattle.commit_journal.specs.Holding.{GoesOn};
+ghost use Rattle.cry_base.specs.Requests.{Request};
 ghost use Rattle.cry_io.specs.Stops.{IsDurable};
 ghost use Rattle.cry_io.specs.Told.{WhereTold, WhereBothTold};
 ghost use Rattle.log_visits.specs.Judging.{Failure};
@@ -15,8 +16,8 @@ ghost use Rattle.cryptree_cli.specs.Lines.{IsUnended, bytes_ahead, lines_ahead};
 ghost use Rattle.cryptree_cli.specs.Published.{LinesPublish, PublishesTyped};
 ghost use Rattle.cryptree_cli.specs.Running as running;
 ghost use Rattle.cryptree_cli.specs.Running.{CountsOwner, Ends, EndsTyped, KeepsFrom, FirstIsBad, GivesOwner, HasBadLine, Judges};
-ghost use Rattle.cryptree_cli.specs.Running.{JudgesTyped, RanDry, RanLines, RanTaking, ReadsWhole, ReadsWholeTyped, TakesBehindFirst};
-ghost use Rattle.cryptree_cli.specs.Running.{TakesTo, is_after_opening, is_before_opening, is_run_answer, key_in_lines, lines_in};
+ghost use Rattle.cryptree_cli.specs.Running.{JudgesTyped, RanDry, RanLines, ReadsWhole, ReadsWholeTyped, TakesBehindFirst};
+ghost use Rattle.cryptree_cli.specs.Running.{TakesTo, is_after_opening, is_before_opening, is_run_answer, key_in_lines, line_ended, lines_in};
 ghost use Rattle.cryptree_cli.specs.Running.{lines_typed, seen_from, version_limits};
 ghost use Rattle.cryptree_cli.specs.Script.{IsReading, ReadsByCount};
 ghost use Rattle.cryptree_cli.specs.Stopping.{LinesKeepUpTo};
@@ -51,20 +52,20 @@ pub(crate) fn run<S: Source, R: Source, D: Disk, W: Sink>(
     ensures answers { IsTrue (is_run_answer result) }
     ensures first_line { WhereTold (S.left input.old) (λ typed. key_in_lines (lines_in typed) ≡ None → FirstIsBad result) }
     ensures judged { WhereTold (S.left input.old) (λ typed. WhereTold (D.shown disk.old) (λ image. JudgesTyped result typed image)) }
-    ensures ran { WhereTold (S.left input.old) (λ typed. EndsTyped result typed
-        (seen_from (R.left random.old) (R.left random.new) (D.shown disk.old) (D.shown disk.new) (W.written out.old) (W.written out.new))
-        (D.may_leave disk.old) (D.since disk.new (D.moment disk.old)) (D.may_leave disk.new)) }
     ensures published { WhereTold (S.left input.old) (λ typed. PublishesTyped typed (D.shown disk.old) (D.may_leave disk.old)
         (FromThenOn D.moment D.since disk.old disk.new)) }
     ensures later { D.moment disk.old ≤ D.moment disk.new }
     ensures time { GoesOn (D.moment disk.old) (D.since disk.old) (D.since disk.new) }
-    ensures lines { RanLines result lines_typed (S.left input.old) (W.written out.old) (W.written out.new) }
-    ensures takes { RanTaking result lines_typed TakesTo (S.left input.old) (S.left input.new) (W.written out.old) (W.written out.new) }
+    ensures lines { (asked : List Request) × RanLines result asked lines_typed (S.left input.old) (W.written out.old) (W.written out.new)
+        × WhereBothTold (S.left input.old) (S.left input.new) (TakesTo (line_ended result (length asked)))
+        × (result ≡ Status.ReadFault → WhereBothTold (S.left input.old) (S.left input.new) (ReadsWholeTyped asked))
+        × WhereTold (S.left input.old) (λ typed. EndsTyped result asked typed
+        (seen_from (R.left random.old) (R.left random.new) (D.shown disk.old) (D.shown disk.new) (W.written out.old) (W.written out.new))
+        (D.may_leave disk.old) (D.since disk.new (D.moment disk.old)) (D.may_leave disk.new)) }
     ensures bad_line { WhereTold (S.left input.old) (λ typed. HasBadLine (lines_typed typed) → result ≢ Status.Done) }
     ensures key_line { result ≡ Status.BadScript 1 → WhereTold (S.left input.old) (λ typed. key_in_lines (lines_in typed) ≡ None) }
     ensures short { (left need : ℕ) → result ≡ Status.RandomShort left need → RanDry left need (R.left random.old) (R.left random.new) }
     ensures read_to_end { result ≡ Status.Done → WhereTold (S.left input.new) (λ rest. rest ≡ []) }
-    ensures read_whole_lines { result ≡ Status.ReadFault → WhereBothTold (S.left input.old) (S.left input.new) ReadsWholeTyped }
     ensures stays { IsTrue (is_after_opening result) → IsDurable (D.may_leave disk.new) (D.shown disk.new) }
     ensures opening { LeavesUnopened D.Disk result (S.left input.old) random.old random.new disk.old disk.new out.old out.new
         ⊎ HasOpened D.Disk result (S.left input.old) disk.old disk.new }
@@ -135,23 +136,22 @@ fn apply_lines<S: Source, R: Source, D: Disk, W: Sink>(
     requires durable { IsDurable (D.may_leave disk.old) (D.shown disk.old) }
     requires second { reader.given ≡ 1 }
     ensures answers { IsTrue (is_run_answer result) }
-    ensures ran { WhereTold (S.left input.old) (λ left. (key : List ℕ) (m : Journal) (was : Option (List ℕ)) →
-        StandsAt version_limits key (opened m []) owner (D.shown disk.old) → KeepsFrom (length (image_of key m)) was (D.shown disk.old) →
-        Ends result version_limits key m (lines_ahead reader left)
-        (seen_from (R.left random.old) (R.left random.new) was (D.shown disk.new) (W.written out.old) (W.written out.new))
-        (D.may_leave disk.new) (LinesKeepUpTo key m (D.since disk.new (D.moment disk.old)))) }
     ensures published { (key : List ℕ) (m : Journal) → StandsAt version_limits key (opened m []) owner (D.shown disk.old)
         → LinesPublish key m (D.since disk.new (D.moment disk.old)) (FromThenOn D.moment D.since disk.old disk.new) }
     ensures later { D.moment disk.old ≤ D.moment disk.new }
     ensures time { GoesOn (D.moment disk.old) (D.since disk.old) (D.since disk.new) }
-    ensures lines { RanLines result (lines_ahead reader) (S.left input.old) (W.written out.old) (W.written out.new) }
-    ensures takes { RanTaking result (lines_ahead reader) (TakesBehindFirst (bytes_ahead reader)) (S.left input.old) (S.left input.new)
-        (W.written out.old) (W.written out.new) }
+    ensures lines { (asked : List Request) × RanLines result asked (lines_ahead reader) (S.left input.old) (W.written out.old) (W.written out.new)
+        × WhereBothTold (S.left input.old) (S.left input.new) (TakesBehindFirst (bytes_ahead reader) (line_ended result (length asked)))
+        × (result ≡ Status.ReadFault → WhereBothTold (S.left input.old) (S.left input.new)
+        (λ before after. ReadsWhole asked (lines_ahead reader before) (bytes_ahead reader before) after))
+        × WhereTold (S.left input.old) (λ left. (key : List ℕ) (m : Journal) (was : Option (List ℕ)) →
+        StandsAt version_limits key (opened m []) owner (D.shown disk.old) → KeepsFrom (length (image_of key m)) was (D.shown disk.old) →
+        Ends result version_limits key m asked (lines_ahead reader left)
+        (seen_from (R.left random.old) (R.left random.new) was (D.shown disk.new) (W.written out.old) (W.written out.new))
+        (D.may_leave disk.new) (LinesKeepUpTo key m (D.since disk.new (D.moment disk.old)))) }
     ensures short { (left need : ℕ) → result ≡ Status.RandomShort left need → RanDry left need (R.left random.old) (R.left random.new) }
     ensures none_of_bytes { (verdict : Option Failure) → verdict ≡ None → Judges result verdict }
     ensures read_to_end { result ≡ Status.Done → WhereTold (S.left input.new) (λ rest. rest ≡ []) }
-    ensures read_whole_lines { result ≡ Status.ReadFault
-        → WhereBothTold (S.left input.old) (S.left input.new) (λ before after. ReadsWhole (lines_ahead reader before) after) }
     ensures stays { IsTrue (is_after_opening result) → IsDurable (D.may_leave disk.new) (D.shown disk.new) }
     ensures calm { result ≢ Status.DiskFault → IsDurable (D.may_leave disk.new) (D.shown disk.new) }
     ensures not_first { is_before_opening result ≡ false }

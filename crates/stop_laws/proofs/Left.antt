@@ -146,23 +146,23 @@ module _ (key : List ℕ) (l h m : Journal) (left_before left_after was shown wr
         acknowledged = inl is.unprinted;
       }
 
-  left_by : (status : Status) → Ends status version_limits key m lines seen may_leave KeepsTo → Left
-  left_by statuses.Done run = ran_on [] run
-  left_by (statuses.BadScript line) run = ran_on run.0 run.2
-  left_by statuses.ReadFault run = ⊎_elim (λ is. unopened is) (λ all. ran_on all.0 all.1) run
-  left_by (statuses.RandomShort left need) run = to_next run.ran run.leaves run.kept
-  left_by statuses.RandomFault run = to_next run.ran run.leaves run.kept
-  left_by statuses.WriteFault run = cut run
-  left_by statuses.DiskFault run = ⊎_elim (λ is. unopened is) (λ all. unwritten all) run
-  left_by statuses.OutOfMemory run = ⊎_elim (λ is. unopened is) (λ all. cut all) run
-  left_by statuses.Usage run = absurd run
-  left_by statuses.NotAStore run = absurd run
-  left_by (statuses.Damaged at) run = absurd run
-  left_by statuses.WrongKey run = absurd run
-  left_by (statuses.Tampered batch at) run = absurd run
-  left_by statuses.NotBlank run = absurd run
-  left_by (statuses.NoHolder known) run = absurd run
-  left_by statuses.Unseen run = absurd run
+  left_by : (status : Status) (asked : List Request) → Ends status version_limits key m asked lines seen may_leave KeepsTo → Left
+  left_by statuses.Done asked run = ran_on [] run.0
+  left_by (statuses.BadScript line) asked run = ran_on run.0 run.2
+  left_by statuses.ReadFault asked run = ⊎_elim (λ is. unopened is.1) (λ all. ran_on all.0 all.1) run
+  left_by (statuses.RandomShort left need) asked run = to_next run.0.ran run.0.leaves run.0.kept
+  left_by statuses.RandomFault asked run = to_next run.0.ran run.0.leaves run.0.kept
+  left_by statuses.WriteFault asked run = cut run.0
+  left_by statuses.DiskFault asked run = ⊎_elim (λ is. unopened is.1) (λ all. unwritten all.0) run
+  left_by statuses.OutOfMemory asked run = ⊎_elim (λ is. unopened is.1) (λ all. cut all.0) run
+  left_by statuses.Usage asked run = absurd run
+  left_by statuses.NotAStore asked run = absurd run
+  left_by (statuses.Damaged at) asked run = absurd run
+  left_by statuses.WrongKey asked run = absurd run
+  left_by (statuses.Tampered batch at) asked run = absurd run
+  left_by statuses.NotBlank asked run = absurd run
+  left_by (statuses.NoHolder known) asked run = absurd run
+  left_by statuses.Unseen asked run = absurd run
 
 -- ---- all runs
 
@@ -208,7 +208,7 @@ module _ (D : Type 0) (shown : D → Option (List ℕ)) (may_leave : D → List 
       let at = held.shows.2 in
       let shows : ShowsJournal key at.held (shown before) = (held.shows.0, held.shows.1, at.stands_for) in
       left_by key l h at.held run.left_before run.left_after (shown before) (shown after) run.written_before run.written_after run.typed (may_leave before) (since after (moment before)) (may_leave after)
-      held at.from at.to shows (λ s c is left. counted after (moment before) s c run.later is left) run.status (run.ran key at.held run.hands_in shows)
+      held at.from at.to shows (λ s c is left. counted after (moment before) s c run.later is left) run.status run.asked (run.ran key at.held run.hands_in shows)
 
   -- a disk that shows what a stop left, which lay between the two
   pub left_between : (l h : Journal) (bytes : List ℕ) (d : D) → IsBetween (StandsForJournal key) l h bytes → IsLeft shown may_leave bytes d → HoldsBetween key l h (shown d) (may_leave d)

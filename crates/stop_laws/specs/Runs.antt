@@ -24,13 +24,14 @@ pub record RunOver {D : Type 0} (shown : D → Option (List ℕ)) (may_leave : D
     (key : List ℕ) (before after : D) : Type 0 where
   pub status : Status
   pub typed : List ℕ
+  pub asked : List Request
   pub left_before : Option (List ℕ)
   pub left_after : Option (List ℕ)
   pub written_before : Option (List ℕ)
   pub written_after : Option (List ℕ)
   pub hands_in : key_in_lines (lines_in typed) ≡ Some key
   pub later : moment before ≤ moment after
-  pub ran : EndsTyped status typed (seen_from left_before left_after (shown before) (shown after) written_before written_after)
+  pub ran : EndsTyped status asked typed (seen_from left_before left_after (shown before) (shown after) written_before written_after)
       (may_leave before) (since after (moment before)) (may_leave after)
   pub published : PublishesTyped typed (shown before) (may_leave before) (FromThenOn moment since before after)
 

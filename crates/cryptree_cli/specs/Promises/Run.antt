@@ -11,17 +11,18 @@
 -- what it has: there are keys for the accepted commands with which the session goes so. With the same keys it is said what a stop may
 -- leave at each moment of the call, and behind it (specs/Stopping). Whatever it ends with, no stop at a moment of it takes back what was
 -- published then, or at an earlier moment of it (specs/Published).
-use Rattle.std.specs.Prelude.{◌≡◌, ◌≢◌, ◌≤◌, ◌⊎◌, ℕ, [], None, IsTrue}
+use Rattle.std.specs.Prelude.{◌≡◌, ◌≢◌, ◌≤◌, ◌⊎◌, ℕ, List, [], length, None, IsTrue}
 use Rattle.batch_log.specs.Moments.{FromThenOn}
 use Rattle.commit_journal.specs.Holding.{GoesOn}
+use Rattle.cry_base.specs.Requests.{Request}
 use Rattle.cry_io.specs.Stops.{IsDurable}
 use Rattle.cry_io.specs.Told.{WhereTold, WhereBothTold}
 use Rattle.cry_io.specs.declared.disk.Disk as disk
 use Rattle.cry_io.specs.declared.streams.Sink as sink
 use Rattle.cry_io.specs.declared.streams.Source as source
 use Rattle.cryptree_cli.specs.Published.{PublishesTyped}
-use Rattle.cryptree_cli.specs.Running.{EndsTyped, FirstIsBad, HasBadLine, JudgesTyped, RanDry, RanLines, RanTaking, ReadsWholeTyped}
-use Rattle.cryptree_cli.specs.Running.{TakesTo, is_after_opening, is_before_opening, is_run_answer, key_in_lines, lines_in, lines_typed}
+use Rattle.cryptree_cli.specs.Running.{EndsTyped, FirstIsBad, HasBadLine, JudgesTyped, RanDry, RanLines, ReadsWholeTyped}
+use Rattle.cryptree_cli.specs.Running.{TakesTo, is_after_opening, is_before_opening, is_run_answer, key_in_lines, line_ended, lines_in, lines_typed}
 use Rattle.cryptree_cli.specs.Running.{seen_from}
 use Rattle.cryptree_cli.specs.Unopened.{HasOpened, LeavesUnopened}
 use Rattle.cryptree_cli.specs.declared.status.Status.{Status}
@@ -39,14 +40,14 @@ pub record RunEnds {S R D W : Type 0} (inputs : source.Ghosts S) (randoms : sour
   pub bad_line : WhereTold (inputs.left input_old) (λ typed. HasBadLine (lines_typed typed) → status ≢ statuses.Done)
   pub short : (left need : ℕ) → status ≡ statuses.RandomShort left need
       → RanDry left need (randoms.left random_old) (randoms.left random_new)
-  -- what it answers, and takes of the input
-  pub lines : RanLines status lines_typed (inputs.left input_old) (outs.written out_old) (outs.written out_new)
-  pub takes : RanTaking status lines_typed TakesTo (inputs.left input_old) (inputs.left input_new) (outs.written out_old)
-      (outs.written out_new)
+  -- what it is asked and answers, and takes of the input: of the same commands in all that is said
+  pub asked : List Request
+  pub lines : RanLines status asked lines_typed (inputs.left input_old) (outs.written out_old) (outs.written out_new)
+  pub takes : WhereBothTold (inputs.left input_old) (inputs.left input_new) (TakesTo (line_ended status (length asked)))
   pub read_to_end : status ≡ statuses.Done → WhereTold (inputs.left input_new) (λ rest. rest ≡ [])
-  pub read_whole_lines : status ≡ statuses.ReadFault → WhereBothTold (inputs.left input_old) (inputs.left input_new) ReadsWholeTyped
+  pub read_whole_lines : status ≡ statuses.ReadFault → WhereBothTold (inputs.left input_old) (inputs.left input_new) (ReadsWholeTyped asked)
   -- what it leaves
-  pub ran : WhereTold (inputs.left input_old) (λ typed. EndsTyped status typed
+  pub ran : WhereTold (inputs.left input_old) (λ typed. EndsTyped status asked typed
       (seen_from (randoms.left random_old) (randoms.left random_new) (disks.shown disk_old) (disks.shown disk_new) (outs.written out_old)
       (outs.written out_new)) (disks.may_leave disk_old) (disks.since disk_new (disks.moment disk_old)) (disks.may_leave disk_new))
   pub published : WhereTold (inputs.left input_old) (λ typed. PublishesTyped typed (disks.shown disk_old)

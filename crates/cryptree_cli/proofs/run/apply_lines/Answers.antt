@@ -1,27 +1,17 @@
-use Rattle.std.proofs.Common.{◌≡◌, ◌≤◌, IsTrue, false, length, Ok, Err, sym, ap, subst, ◌∙◌}
+use Rattle.std.proofs.Common.{◌≡◌, ◌≤◌, IsTrue, false, List, length, Ok, Err, sym, ap, subst, ◌∙◌}
+use Rattle.cry_base.specs.Requests.{Request}
+use Rattle.cry_io.specs.Told.{WhereBothTold}
 use Rattle.cryptree_cli.specs.Lines.{bytes_ahead, lines_ahead}
-use Rattle.cryptree_cli.specs.Running.{Ends, Judges, RanLines, RanTaking, TakesBehindFirst, is_before_opening, is_run_answer, version_limits}
+use Rattle.cryptree_cli.specs.Running.{Ends, Judges, RanLines, TakesBehindFirst, is_before_opening, is_run_answer, line_ended, version_limits}
 use Rattle.cryptree_cli.specs.Stopping.{LinesKeepUpTo}
 use Rattle.cryptree_cli.proofs.FaultedRuns.{after_no_disk_fault, faulted_answers, faulted_behind, faulted_judges, faulted_reads, faulted_undone, faulted_writes}
-use Rattle.cryptree_cli.proofs.LinesRun.{ran_lines, ran_taking}
+use Rattle.cryptree_cli.proofs.LinesRun.{ran_lines, ran_taken}
 use Rattle.cryptree_cli.proofs.PublishedLines.{publish_lines}
 use Rattle.cryptree_cli.proofs.ReadFaults.{cut_lines}
 use Rattle.cryptree_cli.proofs.RunLemmas.{Fails, Step, calm_but, calm_is, disk_fault, ends_so, goes_on, random_fault, random_short, time_goes_on}
+use Rattle.cryptree_cli.proofs.ScriptLemmas.{answered_of}
 use Rattle.store_owner.specs.Owned.{OwnerView}
 use Rattle.cryptree_cli.proofs.run.apply_lines.Goals as goal
-
-pub returns-in-Ok-clause-ran : goal.returns-in-Ok-clause-ran
-returns-in-Ok-clause-ran g c = λ x was key m first_shown stands kept.
-    let calm = calm_is g.row.R.Denot g.row.D.Denot g.R.Source.left g.R.Source.faults g.D.Disk.shown g.D.Disk.faults g.D.Disk.may_leave g.D.Disk.moment g.D.Disk.since
-    (c.args.owner, c.args.random.now, c.args.disk.now) (c.run_lines-ran.new.owner, c.run_lines-ran.new.random, c.run_lines-ran.new.disk)
-    c.args.reader c.run_lines-ran.new.reader (g.S.Source.left c.args.input.now) (g.S.Source.left c.run_lines-ran.new.input)
-    (g.W.Sink.written c.args.out.now) (g.W.Sink.written c.run_lines-ran.new.out)
-    (c.run_lines-ran.new.owner.journal.is_closed ≡ false) (c.run_lines-ran.new.owner.journal.end ≤ g.D.Disk.size_of c.run_lines-ran.new.disk) (Ok tt) c.in-Ok.ensures.ran c.in-Ok.ensures.ready in
-    ends_so g.row.R.Denot g.row.D.Denot g.R.Source.left g.R.Source.faults g.D.Disk.shown g.D.Disk.faults g.D.Disk.may_leave g.D.Disk.moment g.D.Disk.since
-    (c.args.owner, c.args.random.now, c.args.disk.now) (c.run_lines-ran.new.owner, c.run_lines-ran.new.random, c.run_lines-ran.new.disk)
-    c.args.reader c.run_lines-ran.new.reader (g.S.Source.left c.args.input.now) (g.S.Source.left c.run_lines-ran.new.input)
-    (g.W.Sink.written c.args.out.now) (g.W.Sink.written c.run_lines-ran.new.out)
-    (λ d s left at. g.met.D.Disk.only_now d s left at) (Ok tt) c.in-Ok.ensures.ran calm c.requires.second c.in-Ok.ensures.input_told x was key m first_shown stands c.requires.durable kept
 
 pub returns-in-Ok-clause-later : goal.returns-in-Ok-clause-later
 returns-in-Ok-clause-later g c =
@@ -91,28 +81,6 @@ returns-in-Ok-clause-disk_counts g c =
     (g.W.Sink.written c.args.out.now) (g.W.Sink.written c.run_lines-ran.new.out)
     (Ok tt) c.in-Ok.ensures.ran).3
 
-pub returns-clause-ran : goal.returns-clause-ran
-returns-clause-ran g c = λ x was key m first_shown stands kept.
-    let calm = calm_is g.row.R.Denot g.row.D.Denot g.R.Source.left g.R.Source.faults g.D.Disk.shown g.D.Disk.faults g.D.Disk.may_leave g.D.Disk.moment g.D.Disk.since
-    (c.args.owner, c.args.random.now, c.args.disk.now) (c.run_lines-ran.new.owner, c.run_lines-ran.new.random, c.run_lines-ran.new.disk)
-    c.args.reader c.run_lines-ran.new.reader (g.S.Source.left c.args.input.now) (g.S.Source.left c.run_lines-ran.new.input)
-    (g.W.Sink.written c.args.out.now) (g.W.Sink.written c.run_lines-ran.new.out)
-    (c.run_lines-ran.new.owner.journal.is_closed ≡ false) (c.run_lines-ran.new.owner.journal.end ≤ g.D.Disk.size_of c.run_lines-ran.new.disk) (Err c.in-Err.fault) c.in-Err.ensures.ran c.in-Err.ensures.ready in
-    subst (λ status. Ends status version_limits key m (lines_ahead c.args.reader x)
-    (record {
-      left_before = g.R.Source.left c.args.random.now;
-      left_after = g.R.Source.left c.run_lines-ran.new.random;
-      was = first_shown;
-      shown = g.D.Disk.shown c.run_lines-ran.new.disk;
-      written_before = g.W.Sink.written c.args.out.now;
-      written_after = g.W.Sink.written c.run_lines-ran.new.out;
-    }) (g.D.Disk.may_leave c.run_lines-ran.new.disk) (LinesKeepUpTo key m (g.D.Disk.since c.run_lines-ran.new.disk (g.D.Disk.moment c.args.disk.now)))) (sym c.script_status.ensures)
-    (ends_so g.row.R.Denot g.row.D.Denot g.R.Source.left g.R.Source.faults g.D.Disk.shown g.D.Disk.faults g.D.Disk.may_leave g.D.Disk.moment g.D.Disk.since
-    (c.args.owner, c.args.random.now, c.args.disk.now) (c.run_lines-ran.new.owner, c.run_lines-ran.new.random, c.run_lines-ran.new.disk)
-    c.args.reader c.run_lines-ran.new.reader (g.S.Source.left c.args.input.now) (g.S.Source.left c.run_lines-ran.new.input)
-    (g.W.Sink.written c.args.out.now) (g.W.Sink.written c.run_lines-ran.new.out)
-    (λ d s left at. g.met.D.Disk.only_now d s left at) (Err c.in-Err.fault) c.in-Err.ensures.ran calm c.requires.second c.in-Err.ensures.input_told x was key m first_shown stands c.requires.durable kept)
-
 pub returns-in-Ok-clause-calm : goal.returns-in-Ok-clause-calm
 returns-in-Ok-clause-calm g c = λ other. c.in-Ok.ensures.ready.2
 
@@ -179,45 +147,91 @@ returns-clause-disk_fault g c = λ is.
 
 pub returns-in-Ok-clause-lines : goal.returns-in-Ok-clause-lines
 returns-in-Ok-clause-lines g c =
-    ran_lines (OwnerView × g.row.R.Denot × g.row.D.Denot)
-    (Step g.row.R.Denot g.row.D.Denot g.R.Source.left g.R.Source.faults g.D.Disk.shown g.D.Disk.faults g.D.Disk.may_leave g.D.Disk.moment g.D.Disk.since)
+    let asked : List Request = answered_of (Step g.row.R.Denot g.row.D.Denot g.R.Source.left g.R.Source.faults g.D.Disk.shown g.D.Disk.faults g.D.Disk.may_leave g.D.Disk.moment g.D.Disk.since)
     (Fails g.row.R.Denot g.row.D.Denot g.R.Source.left g.R.Source.faults g.D.Disk.shown g.D.Disk.faults g.D.Disk.may_leave g.D.Disk.moment g.D.Disk.since)
-    (c.args.owner, c.args.random.now, c.args.disk.now) (c.run_lines-ran.new.owner, c.run_lines-ran.new.random, c.run_lines-ran.new.disk)
+    (Ok tt) (c.args.owner, c.args.random.now, c.args.disk.now) (c.run_lines-ran.new.owner, c.run_lines-ran.new.random, c.run_lines-ran.new.disk)
     c.args.reader c.run_lines-ran.new.reader (g.S.Source.left c.args.input.now) (g.S.Source.left c.run_lines-ran.new.input)
-    (g.W.Sink.written c.args.out.now) (g.W.Sink.written c.run_lines-ran.new.out)
-    c.in-Ok.ensures.input_told (Ok tt) c.in-Ok.ensures.ran c.requires.second
+    (g.W.Sink.written c.args.out.now) (g.W.Sink.written c.run_lines-ran.new.out) c.in-Ok.ensures.ran in (
+      asked,
+      ran_lines (OwnerView × g.row.R.Denot × g.row.D.Denot)
+          (Step g.row.R.Denot g.row.D.Denot g.R.Source.left g.R.Source.faults g.D.Disk.shown g.D.Disk.faults g.D.Disk.may_leave g.D.Disk.moment g.D.Disk.since)
+          (Fails g.row.R.Denot g.row.D.Denot g.R.Source.left g.R.Source.faults g.D.Disk.shown g.D.Disk.faults g.D.Disk.may_leave g.D.Disk.moment g.D.Disk.since)
+          (c.args.owner, c.args.random.now, c.args.disk.now) (c.run_lines-ran.new.owner, c.run_lines-ran.new.random, c.run_lines-ran.new.disk)
+          c.args.reader c.run_lines-ran.new.reader (g.S.Source.left c.args.input.now) (g.S.Source.left c.run_lines-ran.new.input)
+          (g.W.Sink.written c.args.out.now) (g.W.Sink.written c.run_lines-ran.new.out)
+          c.in-Ok.ensures.input_told (Ok tt) c.in-Ok.ensures.ran c.requires.second,
+      ran_taken (OwnerView × g.row.R.Denot × g.row.D.Denot)
+          (Step g.row.R.Denot g.row.D.Denot g.R.Source.left g.R.Source.faults g.D.Disk.shown g.D.Disk.faults g.D.Disk.may_leave g.D.Disk.moment g.D.Disk.since)
+          (Fails g.row.R.Denot g.row.D.Denot g.R.Source.left g.R.Source.faults g.D.Disk.shown g.D.Disk.faults g.D.Disk.may_leave g.D.Disk.moment g.D.Disk.since)
+          (c.args.owner, c.args.random.now, c.args.disk.now) (c.run_lines-ran.new.owner, c.run_lines-ran.new.random, c.run_lines-ran.new.disk)
+          c.args.reader c.run_lines-ran.new.reader (g.S.Source.left c.args.input.now) (g.S.Source.left c.run_lines-ran.new.input)
+          (g.W.Sink.written c.args.out.now) (g.W.Sink.written c.run_lines-ran.new.out)
+          c.in-Ok.ensures.input_told (Ok tt) c.in-Ok.ensures.ran c.requires.second,
+      (λ is. absurd cc),
+      (λ x was key m first_shown stands kept.
+          let calm = calm_is g.row.R.Denot g.row.D.Denot g.R.Source.left g.R.Source.faults g.D.Disk.shown g.D.Disk.faults g.D.Disk.may_leave g.D.Disk.moment g.D.Disk.since
+          (c.args.owner, c.args.random.now, c.args.disk.now) (c.run_lines-ran.new.owner, c.run_lines-ran.new.random, c.run_lines-ran.new.disk)
+          c.args.reader c.run_lines-ran.new.reader (g.S.Source.left c.args.input.now) (g.S.Source.left c.run_lines-ran.new.input)
+          (g.W.Sink.written c.args.out.now) (g.W.Sink.written c.run_lines-ran.new.out)
+          (c.run_lines-ran.new.owner.journal.is_closed ≡ false) (c.run_lines-ran.new.owner.journal.end ≤ g.D.Disk.size_of c.run_lines-ran.new.disk) (Ok tt) c.in-Ok.ensures.ran c.in-Ok.ensures.ready in
+          ends_so g.row.R.Denot g.row.D.Denot g.R.Source.left g.R.Source.faults g.D.Disk.shown g.D.Disk.faults g.D.Disk.may_leave g.D.Disk.moment g.D.Disk.since
+          (c.args.owner, c.args.random.now, c.args.disk.now) (c.run_lines-ran.new.owner, c.run_lines-ran.new.random, c.run_lines-ran.new.disk)
+          c.args.reader c.run_lines-ran.new.reader (g.S.Source.left c.args.input.now) (g.S.Source.left c.run_lines-ran.new.input)
+          (g.W.Sink.written c.args.out.now) (g.W.Sink.written c.run_lines-ran.new.out)
+          (λ d s left at. g.met.D.Disk.only_now d s left at) (Ok tt) c.in-Ok.ensures.ran calm c.requires.second c.in-Ok.ensures.input_told x was key m first_shown stands c.requires.durable kept),
+    )
 
 pub returns-clause-lines : goal.returns-clause-lines
 returns-clause-lines g c =
-    subst (λ status. RanLines status (lines_ahead c.args.reader) (g.S.Source.left c.args.input.now) (g.W.Sink.written c.args.out.now) (g.W.Sink.written c.run_lines-ran.new.out)) (sym c.script_status.ensures)
-    (ran_lines (OwnerView × g.row.R.Denot × g.row.D.Denot)
-    (Step g.row.R.Denot g.row.D.Denot g.R.Source.left g.R.Source.faults g.D.Disk.shown g.D.Disk.faults g.D.Disk.may_leave g.D.Disk.moment g.D.Disk.since)
+    let asked : List Request = answered_of (Step g.row.R.Denot g.row.D.Denot g.R.Source.left g.R.Source.faults g.D.Disk.shown g.D.Disk.faults g.D.Disk.may_leave g.D.Disk.moment g.D.Disk.since)
     (Fails g.row.R.Denot g.row.D.Denot g.R.Source.left g.R.Source.faults g.D.Disk.shown g.D.Disk.faults g.D.Disk.may_leave g.D.Disk.moment g.D.Disk.since)
-    (c.args.owner, c.args.random.now, c.args.disk.now) (c.run_lines-ran.new.owner, c.run_lines-ran.new.random, c.run_lines-ran.new.disk)
+    (Err c.in-Err.fault) (c.args.owner, c.args.random.now, c.args.disk.now) (c.run_lines-ran.new.owner, c.run_lines-ran.new.random, c.run_lines-ran.new.disk)
     c.args.reader c.run_lines-ran.new.reader (g.S.Source.left c.args.input.now) (g.S.Source.left c.run_lines-ran.new.input)
-    (g.W.Sink.written c.args.out.now) (g.W.Sink.written c.run_lines-ran.new.out)
-    c.in-Err.ensures.input_told (Err c.in-Err.fault) c.in-Err.ensures.ran c.requires.second)
-
-pub returns-in-Ok-clause-takes : goal.returns-in-Ok-clause-takes
-returns-in-Ok-clause-takes g c =
-    ran_taking (OwnerView × g.row.R.Denot × g.row.D.Denot)
-    (Step g.row.R.Denot g.row.D.Denot g.R.Source.left g.R.Source.faults g.D.Disk.shown g.D.Disk.faults g.D.Disk.may_leave g.D.Disk.moment g.D.Disk.since)
-    (Fails g.row.R.Denot g.row.D.Denot g.R.Source.left g.R.Source.faults g.D.Disk.shown g.D.Disk.faults g.D.Disk.may_leave g.D.Disk.moment g.D.Disk.since)
-    (c.args.owner, c.args.random.now, c.args.disk.now) (c.run_lines-ran.new.owner, c.run_lines-ran.new.random, c.run_lines-ran.new.disk)
-    c.args.reader c.run_lines-ran.new.reader (g.S.Source.left c.args.input.now) (g.S.Source.left c.run_lines-ran.new.input)
-    (g.W.Sink.written c.args.out.now) (g.W.Sink.written c.run_lines-ran.new.out)
-    c.in-Ok.ensures.input_told (Ok tt) c.in-Ok.ensures.ran c.requires.second
-
-pub returns-clause-takes : goal.returns-clause-takes
-returns-clause-takes g c =
-    subst (λ status. RanTaking status (lines_ahead c.args.reader) (TakesBehindFirst (bytes_ahead c.args.reader)) (g.S.Source.left c.args.input.now) (g.S.Source.left c.run_lines-ran.new.input) (g.W.Sink.written c.args.out.now) (g.W.Sink.written c.run_lines-ran.new.out)) (sym c.script_status.ensures)
-    (ran_taking (OwnerView × g.row.R.Denot × g.row.D.Denot)
-    (Step g.row.R.Denot g.row.D.Denot g.R.Source.left g.R.Source.faults g.D.Disk.shown g.D.Disk.faults g.D.Disk.may_leave g.D.Disk.moment g.D.Disk.since)
-    (Fails g.row.R.Denot g.row.D.Denot g.R.Source.left g.R.Source.faults g.D.Disk.shown g.D.Disk.faults g.D.Disk.may_leave g.D.Disk.moment g.D.Disk.since)
-    (c.args.owner, c.args.random.now, c.args.disk.now) (c.run_lines-ran.new.owner, c.run_lines-ran.new.random, c.run_lines-ran.new.disk)
-    c.args.reader c.run_lines-ran.new.reader (g.S.Source.left c.args.input.now) (g.S.Source.left c.run_lines-ran.new.input)
-    (g.W.Sink.written c.args.out.now) (g.W.Sink.written c.run_lines-ran.new.out)
-    c.in-Err.ensures.input_told (Err c.in-Err.fault) c.in-Err.ensures.ran c.requires.second)
+    (g.W.Sink.written c.args.out.now) (g.W.Sink.written c.run_lines-ran.new.out) c.in-Err.ensures.ran in (
+      asked,
+      subst (λ status. RanLines status asked (lines_ahead c.args.reader) (g.S.Source.left c.args.input.now) (g.W.Sink.written c.args.out.now) (g.W.Sink.written c.run_lines-ran.new.out)) (sym c.script_status.ensures)
+          (ran_lines (OwnerView × g.row.R.Denot × g.row.D.Denot)
+          (Step g.row.R.Denot g.row.D.Denot g.R.Source.left g.R.Source.faults g.D.Disk.shown g.D.Disk.faults g.D.Disk.may_leave g.D.Disk.moment g.D.Disk.since)
+          (Fails g.row.R.Denot g.row.D.Denot g.R.Source.left g.R.Source.faults g.D.Disk.shown g.D.Disk.faults g.D.Disk.may_leave g.D.Disk.moment g.D.Disk.since)
+          (c.args.owner, c.args.random.now, c.args.disk.now) (c.run_lines-ran.new.owner, c.run_lines-ran.new.random, c.run_lines-ran.new.disk)
+          c.args.reader c.run_lines-ran.new.reader (g.S.Source.left c.args.input.now) (g.S.Source.left c.run_lines-ran.new.input)
+          (g.W.Sink.written c.args.out.now) (g.W.Sink.written c.run_lines-ran.new.out)
+          c.in-Err.ensures.input_told (Err c.in-Err.fault) c.in-Err.ensures.ran c.requires.second),
+      subst (λ status. WhereBothTold (g.S.Source.left c.args.input.now) (g.S.Source.left c.run_lines-ran.new.input) (TakesBehindFirst (bytes_ahead c.args.reader) (line_ended status (length asked)))) (sym c.script_status.ensures)
+          (ran_taken (OwnerView × g.row.R.Denot × g.row.D.Denot)
+          (Step g.row.R.Denot g.row.D.Denot g.R.Source.left g.R.Source.faults g.D.Disk.shown g.D.Disk.faults g.D.Disk.may_leave g.D.Disk.moment g.D.Disk.since)
+          (Fails g.row.R.Denot g.row.D.Denot g.R.Source.left g.R.Source.faults g.D.Disk.shown g.D.Disk.faults g.D.Disk.may_leave g.D.Disk.moment g.D.Disk.since)
+          (c.args.owner, c.args.random.now, c.args.disk.now) (c.run_lines-ran.new.owner, c.run_lines-ran.new.random, c.run_lines-ran.new.disk)
+          c.args.reader c.run_lines-ran.new.reader (g.S.Source.left c.args.input.now) (g.S.Source.left c.run_lines-ran.new.input)
+          (g.W.Sink.written c.args.out.now) (g.W.Sink.written c.run_lines-ran.new.out)
+          c.in-Err.ensures.input_told (Err c.in-Err.fault) c.in-Err.ensures.ran c.requires.second),
+      (λ is.
+          cut_lines (Step g.row.R.Denot g.row.D.Denot g.R.Source.left g.R.Source.faults g.D.Disk.shown g.D.Disk.faults g.D.Disk.may_leave g.D.Disk.moment g.D.Disk.since) (Fails g.row.R.Denot g.row.D.Denot g.R.Source.left g.R.Source.faults g.D.Disk.shown g.D.Disk.faults g.D.Disk.may_leave g.D.Disk.moment g.D.Disk.since)
+          (c.args.owner, c.args.random.now, c.args.disk.now) (c.run_lines-ran.new.owner, c.run_lines-ran.new.random, c.run_lines-ran.new.disk)
+          c.args.reader c.run_lines-ran.new.reader (g.S.Source.left c.args.input.now) (g.S.Source.left c.run_lines-ran.new.input)
+          (g.W.Sink.written c.args.out.now) (g.W.Sink.written c.run_lines-ran.new.out)
+          c.in-Err.fault c.in-Err.ensures.ran (λ e. c.in-Err.ensures.unended (ap Err e)) (sym c.script_status.ensures ∙ is)),
+      (λ x was key m first_shown stands kept.
+          let calm = calm_is g.row.R.Denot g.row.D.Denot g.R.Source.left g.R.Source.faults g.D.Disk.shown g.D.Disk.faults g.D.Disk.may_leave g.D.Disk.moment g.D.Disk.since
+          (c.args.owner, c.args.random.now, c.args.disk.now) (c.run_lines-ran.new.owner, c.run_lines-ran.new.random, c.run_lines-ran.new.disk)
+          c.args.reader c.run_lines-ran.new.reader (g.S.Source.left c.args.input.now) (g.S.Source.left c.run_lines-ran.new.input)
+          (g.W.Sink.written c.args.out.now) (g.W.Sink.written c.run_lines-ran.new.out)
+          (c.run_lines-ran.new.owner.journal.is_closed ≡ false) (c.run_lines-ran.new.owner.journal.end ≤ g.D.Disk.size_of c.run_lines-ran.new.disk) (Err c.in-Err.fault) c.in-Err.ensures.ran c.in-Err.ensures.ready in
+          subst (λ status. Ends status version_limits key m asked (lines_ahead c.args.reader x)
+          (record {
+            left_before = g.R.Source.left c.args.random.now;
+            left_after = g.R.Source.left c.run_lines-ran.new.random;
+            was = first_shown;
+            shown = g.D.Disk.shown c.run_lines-ran.new.disk;
+            written_before = g.W.Sink.written c.args.out.now;
+            written_after = g.W.Sink.written c.run_lines-ran.new.out;
+          }) (g.D.Disk.may_leave c.run_lines-ran.new.disk) (LinesKeepUpTo key m (g.D.Disk.since c.run_lines-ran.new.disk (g.D.Disk.moment c.args.disk.now)))) (sym c.script_status.ensures)
+          (ends_so g.row.R.Denot g.row.D.Denot g.R.Source.left g.R.Source.faults g.D.Disk.shown g.D.Disk.faults g.D.Disk.may_leave g.D.Disk.moment g.D.Disk.since
+          (c.args.owner, c.args.random.now, c.args.disk.now) (c.run_lines-ran.new.owner, c.run_lines-ran.new.random, c.run_lines-ran.new.disk)
+          c.args.reader c.run_lines-ran.new.reader (g.S.Source.left c.args.input.now) (g.S.Source.left c.run_lines-ran.new.input)
+          (g.W.Sink.written c.args.out.now) (g.W.Sink.written c.run_lines-ran.new.out)
+          (λ d s left at. g.met.D.Disk.only_now d s left at) (Err c.in-Err.fault) c.in-Err.ensures.ran calm c.requires.second c.in-Err.ensures.input_told x was key m first_shown stands c.requires.durable kept)),
+    )
 
 pub returns-clause-short : goal.returns-clause-short
 returns-clause-short g c = λ given wanted is.
@@ -226,15 +240,6 @@ returns-clause-short g c = λ given wanted is.
     c.args.reader c.run_lines-ran.new.reader (g.S.Source.left c.args.input.now) (g.S.Source.left c.run_lines-ran.new.input)
     (g.W.Sink.written c.args.out.now) (g.W.Sink.written c.run_lines-ran.new.out)
     c.in-Err.fault c.in-Err.ensures.ran given wanted (sym c.script_status.ensures ∙ is)
-
-pub returns-clause-read_whole_lines : goal.returns-clause-read_whole_lines
-returns-clause-read_whole_lines g c = λ is.
-    cut_lines (Step g.row.R.Denot g.row.D.Denot g.R.Source.left g.R.Source.faults g.D.Disk.shown g.D.Disk.faults g.D.Disk.may_leave g.D.Disk.moment g.D.Disk.since)
-    (Fails g.row.R.Denot g.row.D.Denot g.R.Source.left g.R.Source.faults g.D.Disk.shown g.D.Disk.faults g.D.Disk.may_leave g.D.Disk.moment g.D.Disk.since) c.in-Err.fault
-    (c.args.owner, c.args.random.now, c.args.disk.now) (c.run_lines-ran.new.owner, c.run_lines-ran.new.random, c.run_lines-ran.new.disk)
-    c.args.reader c.run_lines-ran.new.reader (g.S.Source.left c.args.input.now) (g.S.Source.left c.run_lines-ran.new.input)
-    (g.W.Sink.written c.args.out.now) (g.W.Sink.written c.run_lines-ran.new.out) c.in-Err.ensures.ran
-    (λ e. c.in-Err.ensures.unended (ap Err e)) (sym c.script_status.ensures ∙ is)
 
 pub returns-clause-answers : goal.returns-clause-answers
 returns-clause-answers g c = subst (λ status. IsTrue (is_run_answer status)) (sym c.script_status.ensures) (faulted_answers c.in-Err.fault)

@@ -1,13 +1,14 @@
-use Rattle.std.proofs.Common.{◌≡◌, ⊎_elim, inl, inr, ℕ, List, length, None, Err, Ok, arith, refl, sym, ap, subst, ◌∙◌}
+use Rattle.std.proofs.Common.{◌≡◌, ⊎_elim, inl, inr, ℕ, List, [], length, None, Err, Ok, arith, refl, sym, ap, subst, ◌∙◌}
 use Rattle.batch_log.specs.Moments.{FromThenOn}
 use Rattle.batch_log.proofs.Moments.{goes_on_then}
+use Rattle.cry_io.specs.Told.{WhereBothTold}
 use Rattle.journal_bytes.specs.Bytes.{image_of}
 use Rattle.journal_bytes.specs.Journals.{StandsForJournal}
 use Rattle.cryptree_cli.specs.Lines.{lines_ahead}
-use Rattle.cryptree_cli.specs.Running.{Ends, FirstIsBad, Judges, KeepsFrom, RanLines, RanTaking, ReadsWhole, Seen, TakesTo, lines_behind, lines_in, lines_typed, open_status, version_limits}
-use Rattle.cryptree_cli.proofs.LinesRun.{bad_is_never_done, key_taken, lines_as_typed, unopened_lines, unopened_taking, unread_lines, unread_taking}
+use Rattle.cryptree_cli.specs.Running.{Ends, FirstIsBad, Judges, KeepsFrom, RanLines, Seen, TakesTo, line_ended, lines_behind, lines_in, lines_typed, open_status, version_limits}
+use Rattle.cryptree_cli.proofs.LinesRun.{bad_is_never_done, key_taken, lines_as_typed, unopened_lines, unopened_taken, unread_lines, unread_taken}
 use Rattle.cryptree_cli.proofs.PublishedRuns.{opened_publishes, unread_publishes}
-use Rattle.cryptree_cli.proofs.ReadFaults.{cut_first, unopened_reads_none}
+use Rattle.cryptree_cli.proofs.ReadFaults.{cut_behind, cut_first, unopened_reads_none}
 use Rattle.cryptree_cli.proofs.RunEnds.{still_told}
 use Rattle.cryptree_cli.specs.Stopping.{KeepsUpTo, LinesKeepUpTo}
 use Rattle.cryptree_cli.proofs.EndsMapped.{ends_more}
@@ -34,20 +35,6 @@ returns-in-Err-clause-judged g c = λ x was image shown key hands.
     (bad_first_is_unjudged c.in-Err.fault c.in-Err.ensures.faults (lines_in x) (lines_ahead c.first_owner.new.reader after.0)
     (gives_first (Err c.in-Err.fault) c.new-reader.result x (lines_ahead c.first_owner.new.reader after.0) c.new-reader.ensures (c.in-Err.ensures.gives x after.0 was after.1))
     key hands (verdict (ToWrite key) image))
-
-pub returns-in-Err-clause-ran : goal.returns-in-Err-clause-ran
-returns-in-Err-clause-ran g c = λ x was key m hands shows.
-    let after = still_told (g.S.Source.left c.first_owner.new.input) (g.S.Source.left c.args.input.now) x c.in-Err.ensures.told was in
-    let left = g.R.Source.left c.args.random.now in
-    let shown = g.D.Disk.shown c.args.disk.now in
-    let written = g.W.Sink.written c.args.out.now in
-    let Kept : Journal → Type 0 = KeepsUpTo key m shown (g.D.Disk.may_leave c.args.disk.now) (g.D.Disk.since c.args.disk.now (g.D.Disk.moment c.args.disk.now)) in
-    let kept : Kept m = kept_unread key m shown (g.D.Disk.may_leave c.args.disk.now) (g.D.Disk.since c.args.disk.now (g.D.Disk.moment c.args.disk.now))
-    (λ s left at. g.met.D.Disk.only_now c.args.disk.now s left at) in
-    subst (λ status. Ends status version_limits key m (lines_behind (lines_in x)) (seen_unopened left shown shown written) (g.D.Disk.may_leave c.args.disk.now) Kept) (sym c.script_status.ensures)
-    (first_ends c.in-Err.fault c.in-Err.ensures.faults (lines_in x) (lines_ahead c.first_owner.new.reader after.0)
-    (gives_first (Err c.in-Err.fault) c.new-reader.result x (lines_ahead c.first_owner.new.reader after.0) c.new-reader.ensures (c.in-Err.ensures.gives x after.0 was after.1))
-    key hands version_limits m (lines_behind (lines_in x)) left shown shown written (g.D.Disk.may_leave c.args.disk.now) Kept shows kept)
 
 pub returns-in-Ok-open_store-clause-first_line : goal.returns-in-Ok-open_store-clause-first_line
 returns-in-Ok-open_store-clause-first_line g c = λ x was none.
@@ -78,60 +65,6 @@ returns-in-Err-open_store-clause-judged g c = λ x was image shown key hands.
     subst (λ status. Judges status (verdict (ToWrite key) image)) (sym c.open_status.ensures)
     (subst (λ k. Judges (open_status c.in-Err-open_store.fault) (verdict (ToWrite k) image)) same
     (unopened_is_judged c.in-Err-open_store.fault c.in-Ok.key image (c.in-Err-open_store.ensures.largest refl image shown)))
-
-pub returns-in-Err-open_store-clause-ran : goal.returns-in-Err-open_store-clause-ran
-returns-in-Err-open_store-clause-ran g c = λ x was key m hands shows.
-    let after = still_told (g.S.Source.left c.first_owner.new.input) (g.S.Source.left c.args.input.now) x c.in-Ok.ensures.told was in
-    let same = same_key c.in-Ok.key key (lines_in x) (lines_ahead c.first_owner.new.reader after.0)
-    (gives_first (Ok c.in-Ok.key) c.new-reader.result x (lines_ahead c.first_owner.new.reader after.0) c.new-reader.ensures (c.in-Ok.ensures.gives x after.0 was after.1)) hands in
-    let stands = subst (λ k. StandsForJournal k m shows.0) (sym same) shows.2 in
-    let now = still_told (g.D.Disk.shown c.open_store.new.disk) (g.D.Disk.shown c.args.disk.now) shows.0 c.in-Err-open_store.ensures.told shows.1 in
-    let left = g.R.Source.left c.args.random.now in
-    let first = g.D.Disk.shown c.args.disk.now in
-    let shown = g.D.Disk.shown c.open_store.new.disk in
-    let written = g.W.Sink.written c.args.out.now in
-    let could = g.D.Disk.may_leave c.args.disk.now in
-    let since = g.D.Disk.since c.open_store.new.disk (g.D.Disk.moment c.args.disk.now) in
-    let Kept : Journal → Type 0 = KeepsUpTo key m first could since in
-    let kept : Kept m = kept_unopened c.in-Ok.key key m first could since same (c.in-Err-open_store.ensures.kept m) (told_stands c.in-Ok.key m first shows.0 shows.1 stands) stands.valid.1 in
-    subst (λ status. Ends status version_limits key m (lines_behind (lines_in x)) (seen_unopened left first shown written) (g.D.Disk.may_leave c.open_store.new.disk) Kept) (sym c.open_status.ensures)
-    (unopened_ends c.in-Err-open_store.fault (c.in-Err-open_store.ensures.never m shows.0 shows.1 stands stands.valid.1)
-    version_limits key m (lines_behind (lines_in x)) left first shown written (g.D.Disk.may_leave c.open_store.new.disk) Kept
-    (now.0, now.1, subst (λ k. StandsForJournal k m now.0) same (c.in-Err-open_store.ensures.left m shows.0 now.0 shows.1 now.1 stands stands.valid.1)) kept)
-
-pub returns-in-Ok-open_store-clause-ran : goal.returns-in-Ok-open_store-clause-ran
-returns-in-Ok-open_store-clause-ran g c = λ x was key m hands shows.
-    let after = still_told (g.S.Source.left c.first_owner.new.input) (g.S.Source.left c.args.input.now) x c.in-Ok.ensures.told was in
-    let gives = gives_first (Ok c.in-Ok.key) c.new-reader.result x (lines_ahead c.first_owner.new.reader after.0) c.new-reader.ensures (c.in-Ok.ensures.gives x after.0 was after.1) in
-    let same = same_key c.in-Ok.key key (lines_in x) (lines_ahead c.first_owner.new.reader after.0) gives hands in
-    let stands = subst (λ k. StandsForJournal k m shows.0) (sym same) shows.2 in
-    let begins = opened_stands c.in-Ok.key m c.in-Ok-open_store.owner (g.D.Disk.shown c.open_store.new.disk) (g.D.Disk.may_leave c.open_store.new.disk)
-    (c.in-Ok-open_store.ensures.stands m shows.0 shows.1 stands stands.valid.1) c.in-Ok-open_store.ensures.fresh
-    (c.in-Ok-open_store.ensures.settled m shows.0 shows.1 stands stands.valid.1) in
-    let keeps : KeepsFrom (length (image_of c.in-Ok.key m)) (g.D.Disk.shown c.args.disk.now) (g.D.Disk.shown c.open_store.new.disk) = λ a y e f.
-    let one : shows.0 ≡ a = let both = sym shows.1 ∙ e in cc in
-    c.in-Ok-open_store.ensures.behind m a y e f (subst (λ b. StandsForJournal c.in-Ok.key m b) one stands) stands.valid.1 in
-    let ended : Seen = record {
-      left_before = g.R.Source.left c.args.random.now;
-      left_after = g.R.Source.left c.apply_lines.new.random;
-      was = g.D.Disk.shown c.args.disk.now;
-      shown = g.D.Disk.shown c.apply_lines.new.disk;
-      written_before = g.W.Sink.written c.args.out.now;
-      written_after = g.W.Sink.written c.apply_lines.new.out;
-    } in
-    let could = g.D.Disk.may_leave c.args.disk.now in
-    let first = g.D.Disk.moment c.args.disk.now in
-    let middle = g.D.Disk.moment c.open_store.new.disk in
-    let past = g.D.Disk.since c.open_store.new.disk in
-    let since = g.D.Disk.since c.apply_lines.new.disk in
-    let Lines : List ℕ → Journal → Type 0 = λ k. LinesKeepUpTo k m (since middle) in
-    let Kept : Journal → Type 0 = KeepsUpTo key m (g.D.Disk.shown c.args.disk.now) could (since first) in
-    let more : (reached : Journal) → Lines key reached → Kept reached = kept_opened c.in-Ok.key key m (g.D.Disk.shown c.args.disk.now) could first middle past since same
-    (c.in-Ok-open_store.ensures.kept m) (told_stands c.in-Ok.key m (g.D.Disk.shown c.args.disk.now) shows.0 shows.1 stands) stands.valid.1 c.in-Ok-open_store.ensures.later c.apply_lines.ensures.time in
-    subst (λ lines. Ends c.apply_lines.result version_limits key m lines ended (g.D.Disk.may_leave c.apply_lines.new.disk) Kept) gives.1
-    (ends_more version_limits key m (lines_ahead c.first_owner.new.reader after.0) ended (g.D.Disk.may_leave c.apply_lines.new.disk) (Lines key) Kept more c.apply_lines.result
-    (subst (λ k. Ends c.apply_lines.result version_limits k m (lines_ahead c.first_owner.new.reader after.0) ended (g.D.Disk.may_leave c.apply_lines.new.disk) (Lines k)) same
-    (c.apply_lines.ensures.ran after.0 after.1 c.in-Ok.key m (g.D.Disk.shown c.args.disk.now) begins keeps)))
 
 -- ---- what is published
 
@@ -175,57 +108,121 @@ returns-in-Ok-open_store-clause-published g c = λ x was key m hands shows stays
 -- ---- the lines, whatever the disk shows
 
 pub returns-in-Err-clause-lines : goal.returns-in-Err-clause-lines
-returns-in-Err-clause-lines g c =
-    subst (λ status. RanLines status lines_typed (g.S.Source.left c.args.input.now) (g.W.Sink.written c.args.out.now) (g.W.Sink.written c.args.out.now)) (sym c.script_status.ensures)
-    (unread_lines lines_typed (g.S.Source.left c.args.input.now) (g.W.Sink.written c.args.out.now) c.in-Err.fault c.in-Err.ensures.faults _ _ c.in-Err.ensures.count)
+returns-in-Err-clause-lines g c = (
+  [],
+  subst (λ status. RanLines status [] lines_typed (g.S.Source.left c.args.input.now) (g.W.Sink.written c.args.out.now) (g.W.Sink.written c.args.out.now)) (sym c.script_status.ensures)
+      (unread_lines lines_typed (g.S.Source.left c.args.input.now) (g.W.Sink.written c.args.out.now) c.in-Err.fault c.in-Err.ensures.faults _ _ c.in-Err.ensures.count),
+  subst (λ status. WhereBothTold (g.S.Source.left c.args.input.now) (g.S.Source.left c.first_owner.new.input) (TakesTo (line_ended status 0))) (sym c.script_status.ensures)
+      (unread_taken lines_typed (g.S.Source.left c.args.input.now) (g.W.Sink.written c.args.out.now) (g.S.Source.left c.first_owner.new.input) c.in-Err.fault c.in-Err.ensures.faults _ _ c.in-Err.ensures.count
+      c.new-reader.result c.first_owner.new.reader c.new-reader.ensures c.in-Err.ensures.takes),
+  (λ is x y was now.
+      cut_first c.in-Err.fault c.new-reader.result c.first_owner.new.reader x y c.new-reader.ensures (c.in-Err.ensures.takes x y was now)
+      (λ e. c.in-Err.ensures.unended (ap Err e)) (sym c.script_status.ensures ∙ is)),
+  (λ x was key m hands shows.
+      let after = still_told (g.S.Source.left c.first_owner.new.input) (g.S.Source.left c.args.input.now) x c.in-Err.ensures.told was in
+      let left = g.R.Source.left c.args.random.now in
+      let shown = g.D.Disk.shown c.args.disk.now in
+      let written = g.W.Sink.written c.args.out.now in
+      let Kept : Journal → Type 0 = KeepsUpTo key m shown (g.D.Disk.may_leave c.args.disk.now) (g.D.Disk.since c.args.disk.now (g.D.Disk.moment c.args.disk.now)) in
+      let kept : Kept m = kept_unread key m shown (g.D.Disk.may_leave c.args.disk.now) (g.D.Disk.since c.args.disk.now (g.D.Disk.moment c.args.disk.now))
+      (λ s left at. g.met.D.Disk.only_now c.args.disk.now s left at) in
+      subst (λ status. Ends status version_limits key m [] (lines_behind (lines_in x)) (seen_unopened left shown shown written) (g.D.Disk.may_leave c.args.disk.now) Kept) (sym c.script_status.ensures)
+      (first_ends c.in-Err.fault c.in-Err.ensures.faults (lines_in x) (lines_ahead c.first_owner.new.reader after.0)
+      (gives_first (Err c.in-Err.fault) c.new-reader.result x (lines_ahead c.first_owner.new.reader after.0) c.new-reader.ensures (c.in-Err.ensures.gives x after.0 was after.1))
+      key hands version_limits m (lines_behind (lines_in x)) left shown shown written (g.D.Disk.may_leave c.args.disk.now) Kept shows kept)),
+)
 
 pub returns-in-Err-open_store-clause-lines : goal.returns-in-Err-open_store-clause-lines
-returns-in-Err-open_store-clause-lines g c =
-    subst (λ status. RanLines status lines_typed (g.S.Source.left c.args.input.now) (g.W.Sink.written c.args.out.now) (g.W.Sink.written c.args.out.now)) (sym c.open_status.ensures)
-    (unopened_lines lines_typed (g.S.Source.left c.args.input.now) (g.W.Sink.written c.args.out.now) c.in-Err-open_store.fault)
+returns-in-Err-open_store-clause-lines g c = (
+  [],
+  subst (λ status. RanLines status [] lines_typed (g.S.Source.left c.args.input.now) (g.W.Sink.written c.args.out.now) (g.W.Sink.written c.args.out.now)) (sym c.open_status.ensures)
+      (unopened_lines lines_typed (g.S.Source.left c.args.input.now) (g.W.Sink.written c.args.out.now) c.in-Err-open_store.fault),
+  subst (λ status. WhereBothTold (g.S.Source.left c.args.input.now) (g.S.Source.left c.first_owner.new.input) (TakesTo (line_ended status 0))) (sym c.open_status.ensures)
+      (unopened_taken lines_typed (g.S.Source.left c.args.input.now) (g.W.Sink.written c.args.out.now) (g.S.Source.left c.first_owner.new.input) c.in-Err-open_store.fault
+      (λ x y was now.
+      let one = c.in-Ok.ensures.takes x y was now in
+      taken_few 1 fresh_reader c.first_owner.new.reader x y (key_taken c.new-reader.result c.first_owner.new.reader x y c.new-reader.ensures one.0) one.1)),
+  (λ is. unopened_reads_none c.in-Err-open_store.fault (sym c.open_status.ensures ∙ is)),
+  (λ x was key m hands shows.
+      let after = still_told (g.S.Source.left c.first_owner.new.input) (g.S.Source.left c.args.input.now) x c.in-Ok.ensures.told was in
+      let same = same_key c.in-Ok.key key (lines_in x) (lines_ahead c.first_owner.new.reader after.0)
+      (gives_first (Ok c.in-Ok.key) c.new-reader.result x (lines_ahead c.first_owner.new.reader after.0) c.new-reader.ensures (c.in-Ok.ensures.gives x after.0 was after.1)) hands in
+      let stands = subst (λ k. StandsForJournal k m shows.0) (sym same) shows.2 in
+      let now = still_told (g.D.Disk.shown c.open_store.new.disk) (g.D.Disk.shown c.args.disk.now) shows.0 c.in-Err-open_store.ensures.told shows.1 in
+      let left = g.R.Source.left c.args.random.now in
+      let first = g.D.Disk.shown c.args.disk.now in
+      let shown = g.D.Disk.shown c.open_store.new.disk in
+      let written = g.W.Sink.written c.args.out.now in
+      let could = g.D.Disk.may_leave c.args.disk.now in
+      let since = g.D.Disk.since c.open_store.new.disk (g.D.Disk.moment c.args.disk.now) in
+      let Kept : Journal → Type 0 = KeepsUpTo key m first could since in
+      let kept : Kept m = kept_unopened c.in-Ok.key key m first could since same (c.in-Err-open_store.ensures.kept m) (told_stands c.in-Ok.key m first shows.0 shows.1 stands) stands.valid.1 in
+      subst (λ status. Ends status version_limits key m [] (lines_behind (lines_in x)) (seen_unopened left first shown written) (g.D.Disk.may_leave c.open_store.new.disk) Kept) (sym c.open_status.ensures)
+      (unopened_ends c.in-Err-open_store.fault (c.in-Err-open_store.ensures.never m shows.0 shows.1 stands stands.valid.1)
+      version_limits key m (lines_behind (lines_in x)) left first shown written (g.D.Disk.may_leave c.open_store.new.disk) Kept
+      (now.0, now.1, subst (λ k. StandsForJournal k m now.0) same (c.in-Err-open_store.ensures.left m shows.0 now.0 shows.1 now.1 stands stands.valid.1)) kept)),
+)
 
 pub returns-in-Ok-open_store-clause-lines : goal.returns-in-Ok-open_store-clause-lines
 returns-in-Ok-open_store-clause-lines g c =
-    lines_as_typed c.apply_lines.result (lines_ahead c.first_owner.new.reader) lines_typed (g.S.Source.left c.args.input.now) (g.S.Source.left c.first_owner.new.input)
-    (g.W.Sink.written c.args.out.now) (g.W.Sink.written c.apply_lines.new.out) c.in-Ok.ensures.told
-    (λ x y was now. (gives_first (Ok c.in-Ok.key) c.new-reader.result x (lines_ahead c.first_owner.new.reader y) c.new-reader.ensures (c.in-Ok.ensures.gives x y was now)).1)
-    c.apply_lines.ensures.lines
-
-pub returns-in-Err-clause-takes : goal.returns-in-Err-clause-takes
-returns-in-Err-clause-takes g c =
-    subst (λ status. RanTaking status lines_typed TakesTo (g.S.Source.left c.args.input.now) (g.S.Source.left c.first_owner.new.input) (g.W.Sink.written c.args.out.now) (g.W.Sink.written c.args.out.now)) (sym c.script_status.ensures)
-    (unread_taking lines_typed (g.S.Source.left c.args.input.now) (g.W.Sink.written c.args.out.now) (g.S.Source.left c.first_owner.new.input) c.in-Err.fault c.in-Err.ensures.faults _ _ c.in-Err.ensures.count
-    c.new-reader.result c.first_owner.new.reader c.new-reader.ensures c.in-Err.ensures.takes)
-
-pub returns-in-Err-open_store-clause-takes : goal.returns-in-Err-open_store-clause-takes
-returns-in-Err-open_store-clause-takes g c =
-    subst (λ status. RanTaking status lines_typed TakesTo (g.S.Source.left c.args.input.now) (g.S.Source.left c.first_owner.new.input) (g.W.Sink.written c.args.out.now) (g.W.Sink.written c.args.out.now)) (sym c.open_status.ensures)
-    (unopened_taking lines_typed (g.S.Source.left c.args.input.now) (g.W.Sink.written c.args.out.now) (g.S.Source.left c.first_owner.new.input) c.in-Err-open_store.fault
-    (λ x y was now.
-    let one = c.in-Ok.ensures.takes x y was now in
-    taken_few 1 fresh_reader c.first_owner.new.reader x y (key_taken c.new-reader.result c.first_owner.new.reader x y c.new-reader.ensures one.0) one.1))
-
-pub returns-in-Ok-open_store-clause-takes : goal.returns-in-Ok-open_store-clause-takes
-returns-in-Ok-open_store-clause-takes g c = record {
-  ran = lines_as_typed c.apply_lines.result (lines_ahead c.first_owner.new.reader) lines_typed (g.S.Source.left c.args.input.now) (g.S.Source.left c.first_owner.new.input)
-      (g.W.Sink.written c.args.out.now) (g.W.Sink.written c.apply_lines.new.out) c.in-Ok.ensures.told
-      (λ x y was now. (gives_first (Ok c.in-Ok.key) c.new-reader.result x (lines_ahead c.first_owner.new.reader y) c.new-reader.ensures (c.in-Ok.ensures.gives x y was now)).1)
-      c.apply_lines.ensures.takes.ran;
-  takes = λ x y was now.
-      let after = still_told (g.S.Source.left c.first_owner.new.input) (g.S.Source.left c.args.input.now) x c.in-Ok.ensures.told was in
-      let one = c.in-Ok.ensures.takes x after.0 was after.1 in
-      let first = key_taken c.new-reader.result c.first_owner.new.reader x after.0 c.new-reader.ensures one.0 in
-      c.apply_lines.ensures.takes.takes after.0 y after.1 now first.0 x first.1 first.2;
-}
+    let told = c.apply_lines.ensures.lines in (
+      told.0,
+      lines_as_typed c.apply_lines.result told.0 (lines_ahead c.first_owner.new.reader) lines_typed (g.S.Source.left c.args.input.now) (g.S.Source.left c.first_owner.new.input)
+          (g.W.Sink.written c.args.out.now) (g.W.Sink.written c.apply_lines.new.out) c.in-Ok.ensures.told
+          (λ x y was now. (gives_first (Ok c.in-Ok.key) c.new-reader.result x (lines_ahead c.first_owner.new.reader y) c.new-reader.ensures (c.in-Ok.ensures.gives x y was now)).1)
+          told.1,
+      (λ x y was now.
+          let after = still_told (g.S.Source.left c.first_owner.new.input) (g.S.Source.left c.args.input.now) x c.in-Ok.ensures.told was in
+          let one = c.in-Ok.ensures.takes x after.0 was after.1 in
+          let first = key_taken c.new-reader.result c.first_owner.new.reader x after.0 c.new-reader.ensures one.0 in
+          told.2 after.0 y after.1 now first.0 x first.1 first.2),
+      (λ is x y was now.
+          let after = still_told (g.S.Source.left c.first_owner.new.input) (g.S.Source.left c.args.input.now) x c.in-Ok.ensures.told was in
+          let behind = (gives_first (Ok c.in-Ok.key) c.new-reader.result x (lines_ahead c.first_owner.new.reader after.0) c.new-reader.ensures (c.in-Ok.ensures.gives x after.0 was after.1)).1 in
+          cut_behind told.0 c.first_owner.new.reader x after.0 y (key_taken c.new-reader.result c.first_owner.new.reader x after.0 c.new-reader.ensures (c.in-Ok.ensures.takes x after.0 was after.1).0)
+          behind (told.3 is after.0 y after.1 now)),
+      (λ x was key m hands shows.
+          let after = still_told (g.S.Source.left c.first_owner.new.input) (g.S.Source.left c.args.input.now) x c.in-Ok.ensures.told was in
+          let gives = gives_first (Ok c.in-Ok.key) c.new-reader.result x (lines_ahead c.first_owner.new.reader after.0) c.new-reader.ensures (c.in-Ok.ensures.gives x after.0 was after.1) in
+          let same = same_key c.in-Ok.key key (lines_in x) (lines_ahead c.first_owner.new.reader after.0) gives hands in
+          let stands = subst (λ k. StandsForJournal k m shows.0) (sym same) shows.2 in
+          let begins = opened_stands c.in-Ok.key m c.in-Ok-open_store.owner (g.D.Disk.shown c.open_store.new.disk) (g.D.Disk.may_leave c.open_store.new.disk)
+          (c.in-Ok-open_store.ensures.stands m shows.0 shows.1 stands stands.valid.1) c.in-Ok-open_store.ensures.fresh
+          (c.in-Ok-open_store.ensures.settled m shows.0 shows.1 stands stands.valid.1) in
+          let keeps : KeepsFrom (length (image_of c.in-Ok.key m)) (g.D.Disk.shown c.args.disk.now) (g.D.Disk.shown c.open_store.new.disk) = λ a y e f.
+          let one : shows.0 ≡ a = let both = sym shows.1 ∙ e in cc in
+          c.in-Ok-open_store.ensures.behind m a y e f (subst (λ b. StandsForJournal c.in-Ok.key m b) one stands) stands.valid.1 in
+          let ended : Seen = record {
+            left_before = g.R.Source.left c.args.random.now;
+            left_after = g.R.Source.left c.apply_lines.new.random;
+            was = g.D.Disk.shown c.args.disk.now;
+            shown = g.D.Disk.shown c.apply_lines.new.disk;
+            written_before = g.W.Sink.written c.args.out.now;
+            written_after = g.W.Sink.written c.apply_lines.new.out;
+          } in
+          let could = g.D.Disk.may_leave c.args.disk.now in
+          let first = g.D.Disk.moment c.args.disk.now in
+          let middle = g.D.Disk.moment c.open_store.new.disk in
+          let past = g.D.Disk.since c.open_store.new.disk in
+          let since = g.D.Disk.since c.apply_lines.new.disk in
+          let Lines : List ℕ → Journal → Type 0 = λ k. LinesKeepUpTo k m (since middle) in
+          let Kept : Journal → Type 0 = KeepsUpTo key m (g.D.Disk.shown c.args.disk.now) could (since first) in
+          let more : (reached : Journal) → Lines key reached → Kept reached = kept_opened c.in-Ok.key key m (g.D.Disk.shown c.args.disk.now) could first middle past since same
+          (c.in-Ok-open_store.ensures.kept m) (told_stands c.in-Ok.key m (g.D.Disk.shown c.args.disk.now) shows.0 shows.1 stands) stands.valid.1 c.in-Ok-open_store.ensures.later c.apply_lines.ensures.time in
+          subst (λ lines. Ends c.apply_lines.result version_limits key m told.0 lines ended (g.D.Disk.may_leave c.apply_lines.new.disk) Kept) gives.1
+          (ends_more version_limits key m (lines_ahead c.first_owner.new.reader after.0) ended (g.D.Disk.may_leave c.apply_lines.new.disk) (Lines key) Kept more c.apply_lines.result told.0
+          (subst (λ k. Ends c.apply_lines.result version_limits k m told.0 (lines_ahead c.first_owner.new.reader after.0) ended (g.D.Disk.may_leave c.apply_lines.new.disk) (Lines k)) same
+          (told.4 after.0 after.1 c.in-Ok.key m (g.D.Disk.shown c.args.disk.now) begins keeps)))),
+    )
 
 pub returns-in-Err-clause-bad_line : goal.returns-in-Err-clause-bad_line
-returns-in-Err-clause-bad_line g c = bad_is_never_done c.script_status.result lines_typed (g.S.Source.left c.args.input.now) _ _ (returns-in-Err-clause-lines g c)
+returns-in-Err-clause-bad_line g c = bad_is_never_done c.script_status.result (returns-in-Err-clause-lines g c).0 lines_typed (g.S.Source.left c.args.input.now) _ _ (returns-in-Err-clause-lines g c).1
 
 pub returns-in-Err-open_store-clause-bad_line : goal.returns-in-Err-open_store-clause-bad_line
-returns-in-Err-open_store-clause-bad_line g c = bad_is_never_done c.open_status.result lines_typed (g.S.Source.left c.args.input.now) _ _ (returns-in-Err-open_store-clause-lines g c)
+returns-in-Err-open_store-clause-bad_line g c = bad_is_never_done c.open_status.result (returns-in-Err-open_store-clause-lines g c).0 lines_typed (g.S.Source.left c.args.input.now) _ _ (returns-in-Err-open_store-clause-lines g c).1
 
 pub returns-in-Ok-open_store-clause-bad_line : goal.returns-in-Ok-open_store-clause-bad_line
-returns-in-Ok-open_store-clause-bad_line g c = bad_is_never_done c.apply_lines.result lines_typed (g.S.Source.left c.args.input.now) _ _ (returns-in-Ok-open_store-clause-lines g c)
+returns-in-Ok-open_store-clause-bad_line g c = bad_is_never_done c.apply_lines.result (returns-in-Ok-open_store-clause-lines g c).0 lines_typed (g.S.Source.left c.args.input.now) _ _ (returns-in-Ok-open_store-clause-lines g c).1
 
 pub returns-in-Err-clause-key_line : goal.returns-in-Err-clause-key_line
 returns-in-Err-clause-key_line g c = λ is x was.
@@ -260,8 +257,8 @@ returns-in-Err-open_store-clause-opening g c =
       store = inr (
         c.in-Ok.key,
         (λ x was.
-        let after = still_told (g.S.Source.left c.first_owner.new.input) (g.S.Source.left c.args.input.now) x c.in-Ok.ensures.told was in
-        (gives_first (Ok c.in-Ok.key) c.new-reader.result x (lines_ahead c.first_owner.new.reader after.0) c.new-reader.ensures (c.in-Ok.ensures.gives x after.0 was after.1)).0),
+            let after = still_told (g.S.Source.left c.first_owner.new.input) (g.S.Source.left c.args.input.now) x c.in-Ok.ensures.told was in
+            (gives_first (Ok c.in-Ok.key) c.new-reader.result x (lines_ahead c.first_owner.new.reader after.0) c.new-reader.ensures (c.in-Ok.ensures.gives x after.0 was after.1)).0),
         record {
           size = tried.size;
           throughout = tried.stops;
@@ -283,22 +280,6 @@ returns-in-Ok-open_store-clause-opening g c =
       unrefused = c.apply_lines.ensures.none_of_bytes None refl;
       settled = c.apply_lines.ensures.calm;
     })
-
--- ---- an input that failed
-
-pub returns-in-Err-clause-read_whole_lines : goal.returns-in-Err-clause-read_whole_lines
-returns-in-Err-clause-read_whole_lines g c = λ is x y was now.
-    cut_first c.in-Err.fault c.new-reader.result c.first_owner.new.reader x y c.new-reader.ensures (c.in-Err.ensures.gives x y was now)
-    (λ e. c.in-Err.ensures.unended (ap Err e)) (sym c.script_status.ensures ∙ is)
-
-pub returns-in-Err-open_store-clause-read_whole_lines : goal.returns-in-Err-open_store-clause-read_whole_lines
-returns-in-Err-open_store-clause-read_whole_lines g c = λ is. unopened_reads_none c.in-Err-open_store.fault (sym c.open_status.ensures ∙ is)
-
-pub returns-in-Ok-open_store-clause-read_whole_lines : goal.returns-in-Ok-open_store-clause-read_whole_lines
-returns-in-Ok-open_store-clause-read_whole_lines g c = λ is x y was now.
-    let after = still_told (g.S.Source.left c.first_owner.new.input) (g.S.Source.left c.args.input.now) x c.in-Ok.ensures.told was in
-    let behind = (gives_first (Ok c.in-Ok.key) c.new-reader.result x (lines_ahead c.first_owner.new.reader after.0) c.new-reader.ensures (c.in-Ok.ensures.gives x after.0 was after.1)).1 in
-    inr (subst (λ lines. ReadsWhole lines y) behind (c.apply_lines.ensures.read_whole_lines is after.0 y after.1 now))
 
 -- ---- time
 

@@ -39,6 +39,32 @@ returns-in-Some-Make-clause-makes g c = λ is.
       out_kept = search rules;
     }
 
+-- ---- `run`
+
+pub returns-in-Some-Run-clause-runs : goal.returns-in-Some-Run-clause-runs
+returns-in-Some-Run-clause-runs g c = λ is.
+    let run = c.run.ensures in
+    record {
+      answers = run.answers;
+      first_line = run.first_line;
+      key_line = run.key_line;
+      judged = run.judged;
+      bad_line = run.bad_line;
+      short = run.short;
+      asked = run.lines.0;
+      lines = run.lines.1;
+      takes = run.lines.2;
+      read_to_end = run.read_to_end;
+      read_whole_lines = run.lines.3;
+      ran = run.lines.4;
+      published = run.published;
+      later = run.later;
+      time = run.time;
+      stays = run.stays;
+      opening = run.opening;
+      unopened = run.unopened;
+    }
+
 -- ---- `gen`
 
 pub generate_store-requires : goal.generate_store-requires
