@@ -1,7 +1,7 @@
 -- What runs and stops leave of what was published.
-use Rattle.std.proofs.Common.{◌≡◌, ◌≤◌, ℕ, List, Option, Some, sym, subst, ◌∙◌}
+use Rattle.std.proofs.Common.{◌≡◌, ◌≤◌, ⊎_elim, ℕ, List, Option, Some, sym, subst, ◌∙◌}
 use Rattle.batch_log.specs.Moments.{FromThenOn}
-use Rattle.batch_log.proofs.InOrder.{on_ends, on_maps, on_throughout}
+use Rattle.batch_log.proofs.InOrder.{on_ends, on_in_one, on_maps, on_throughout}
 use Rattle.commit_journal.specs.Holding.{IsBetween, IsPrefix}
 use Rattle.commit_journal.proofs.KeptLemmas.{prefix_same, prefix_trans}
 use Rattle.cry_io.specs.Stops.{IsDurable}
@@ -11,9 +11,10 @@ use Rattle.journal_bytes.proofs.Grown.{batches_grow, journal_recovered}
 use Rattle.public_fold.specs.Journal.{Journal}
 use Rattle.store_owner.specs.Published.{HasPublished, StaysPublished, published_batches}
 use Rattle.store_owner.proofs.PublishedCommands.{published_front}
-use Rattle.stop_laws.specs.Runs.{IsLeft, RunOver, Runs}
+use Rattle.stop_laws.specs.Runs.{CallOver, IsLeft, Runs}
+use Rattle.stop_laws.specs.Runs.CallOver.{ByOther, ByOwner}
 use Rattle.stop_laws.specs.Runs.Runs.{Begun, Ran, StopsBehind, StopsIn}
-use Rattle.stop_laws.proofs.Left.{all_left, left_between, run_leaves}
+use Rattle.stop_laws.proofs.Left.{all_left, call_between, left_between, run_leaves}
 
 -- where nothing is pending, what is left is what is shown
 pub calm_stays : (key : List ℕ) (shown : Option (List ℕ)) (may_leave : List ℕ → Type 0) → IsDurable may_leave shown → StaysPublished key shown may_leave
@@ -26,37 +27,57 @@ module _ (D : Type 0) (shown : D → Option (List ℕ)) (may_leave : D → List 
   abbrev Came : D → D → Type 0
   Came start now = Runs shown may_leave moment since key start now
 
-  abbrev Run : D → D → Type 0
-  Run before after = RunOver shown may_leave moment since key before after
+  abbrev Call : D → D → Type 0
+  Call before after = CallOver shown may_leave moment since key before after
+
+  call_later : (before after : D) → Call before after → moment before ≤ moment after
+  call_later before after (ByOwner run) = run.later
+  call_later before after (ByOther call) = call.later
 
   abbrev On : D → D → (List ℕ → List ℕ → Type 0) → Type 0
   On before after = FromThenOn moment since before after
 
-  -- one run
-  run_keeps : (before after : D) (l h : Journal) → HoldsBetween key l h (shown before) (may_leave before) → StaysPublished key (shown before) (may_leave before)
-      → (run : Run before after) → On before after (HasPublished key)
-  run_keeps before after l h held stays run =
+  -- one call
+  call_keeps : (before after : D) (l h : Journal) → HoldsBetween key l h (shown before) (may_leave before) → StaysPublished key (shown before) (may_leave before)
+      → Call before after → On before after (HasPublished key)
+  call_keeps before after l h held stays (ByOwner run) =
       let at = held.shows.2 in
       let shows : ShowsJournal key at.held (shown before) = (held.shows.0, held.shows.1, at.stands_for) in
       run.published key at.held run.hands_in shows stays
+  call_keeps before after l h held stays (ByOther call) =
+      on_in_one D moment since (HasPublished key) before after call.later call.time
+      (λ s c t e at next.
+      let is = (call.same s c at).0 in
+      ⊎_elim
+      (λ left. stays s is e left)
+      (λ shows. let same : s ≡ e = let both = sym is ∙ shows in cc in subst (HasPublished key s) same (published_front key s))
+      (call.same t e next).1)
+
+  -- what a stop leaves at a moment of a call stands for a journal
+  call_stands : (start before after : D) (l h : Journal) → HoldsBetween key l h (shown before) (may_leave before) → Call before after
+      → (s c : List ℕ) → since after (moment before) s c → (held : Journal) × StandsForJournal key held c
+  call_stands start before after l h holds (ByOwner run) s c at =
+      let k = (run_leaves D shown may_leave moment since counted key start before after l h holds run).kept s c at in (k.held, k.stands_for)
+  call_stands start before after l h holds (ByOther call) s c at =
+      let k = call_between D shown may_leave moment since counted key start before after l h holds call c (call.same s c at).1 in (k.held, k.stands_for)
 
   module _ (start : D) (m1 m2 : Journal) (holds : HoldsBetween key m1 m2 (shown start) (may_leave start)) (stays : StaysPublished key (shown start) (may_leave start)) where
     pub all_stay : (now : D) → Came start now → StaysPublished key (shown now) (may_leave now)
     all_stay now Begun = stays
     all_stay now (Ran {before = before} {after = after} runs run) = λ s is c left.
         let so_far = all_left D shown may_leave moment since counted key start m1 m2 holds before runs in
-        on_throughout D moment since (HasPublished key) before now (run_keeps before now so_far.0 so_far.1 so_far.3 (all_stay before runs) run) s c
-        (counted now (moment before) s c run.later is left)
+        on_throughout D moment since (HasPublished key) before now (call_keeps before now so_far.0 so_far.1 so_far.3 (all_stay before runs) run) s c
+        (counted now (moment before) s c (call_later before now run) is left)
     all_stay now (StopsBehind {before = before} {after = after} {bytes = bytes} runs left is) = calm_stays key (shown now) (may_leave now) is.1
     all_stay now (StopsIn {before = before} {after = after} {next = next} {there = there} {bytes = bytes} runs run at is) = calm_stays key (shown now) (may_leave now) is.1
 
-    pub all_keep : (before after : D) → Came start before → Run before after → On before after (HasPublished key)
+    pub all_keep : (before after : D) → Came start before → Call before after → On before after (HasPublished key)
     all_keep before after runs run =
         let so_far = all_left D shown may_leave moment since counted key start m1 m2 holds before runs in
-        run_keeps before after so_far.0 so_far.1 so_far.3 (all_stay before runs) run
+        call_keeps before after so_far.0 so_far.1 so_far.3 (all_stay before runs) run
 
     -- behind the run
-    pub ends_keep : ((d : D) (s c : List ℕ) → since d (moment d) s c → (shown d ≡ Some s) × may_leave d c) → (before after : D) → Came start before → Run before after
+    pub ends_keep : ((d : D) (s c : List ℕ) → since d (moment d) s c → (shown d ≡ Some s) × may_leave d c) → (before after : D) → Came start before → Call before after
         → (s c bytes : List ℕ) → since after (moment before) s c → may_leave after bytes → HasPublished key s bytes
     ends_keep present before after runs run s c bytes at left =
         let behind = all_left D shown may_leave moment since counted key start m1 m2 holds after (Ran runs run) in
@@ -64,7 +85,7 @@ module _ (D : Type 0) (shown : D → Option (List ℕ)) (may_leave : D → List 
         (λ t x y early is leaves. counted after t x y early is leaves) s c behind.3.shows.0 bytes at behind.3.shows.1 left
 
     -- behind a stop, and whatever comes then
-    pub later_keep : (before after next last : D) → Came start before → Run before after
+    pub later_keep : (before after next last : D) → Came start before → Call before after
         → On before after (λ s c. (bytes : List ℕ) → IsLeft shown may_leave c next → Came next last → may_leave last bytes → HasPublished key s bytes)
     later_keep before after next last runs run =
         let so_far = all_left D shown may_leave moment since counted key start m1 m2 holds before runs in
@@ -81,4 +102,4 @@ module _ (D : Type 0) (shown : D → Option (List ℕ)) (may_leave : D → List 
         (prefix_trans (published_batches key s) (batches_of key held) (batches_of key end.held) of_l longer))
         (all_keep before after runs run)
         (λ s c at. tt)
-        (λ s c at. let k = (run_leaves D shown may_leave moment since counted key start before after so_far.0 so_far.1 so_far.3 run).kept s c at in (k.held, k.stands_for))
+        (call_stands start before after so_far.0 so_far.1 so_far.3 run)

@@ -19,7 +19,8 @@ use Rattle.journal_bytes.specs.Script.{Going, answer, line_going, opened, script
 use Rattle.public_fold.specs.Journal.{Journal}
 use Rattle.store_owner.specs.Drawing.{joined}
 use Rattle.stop_laws.specs.Coming.{ComesOf, IsMadeOf, IsOfRuns}
-use Rattle.stop_laws.specs.Runs.{HoldsAll, HoldsRun, IsLeft, RunOver, Runs}
+use Rattle.stop_laws.specs.Runs.{HoldsAll, HoldsRun, IsLeft, LeavesStore, RunOver, Runs}
+use Rattle.stop_laws.specs.Runs.CallOver.{ByOther, ByOwner}
 use Rattle.stop_laws.specs.Runs.Runs.{Begun, Ran, StopsBehind, StopsIn}
 use Rattle.stop_laws.proofs.Made.{made_front, next_made, session_made}
 
@@ -195,12 +196,13 @@ module _ (D : Type 0) (shown : D → Option (List ℕ)) (may_leave : D → List 
 
   all_more : (now : D) (runs : Came now) (j more : Journal) → IsPrefix j more → HoldsHere now runs j → HoldsHere now runs more
   all_more now Begun j more longer holds = tt
-  all_more now (Ran {before = before} {after = after} runs run) j more longer holds = (
+  all_more now (Ran {before = before} {after = after} runs (ByOwner run)) j more longer holds = (
     all_more before runs j more longer holds.0,
     run_more key (shown before) run.typed run.written_before run.written_after j more longer holds.1,
   )
+  all_more now (Ran {before = before} {after = after} runs (ByOther call)) j more longer holds = all_more before runs j more longer holds
   all_more now (StopsBehind {before = before} runs left is) j more longer holds = all_more before runs j more longer holds
-  all_more now (StopsIn {before = before} runs run left is) j more longer holds = all_more before runs j more longer holds
+  all_more now (StopsIn {before = before} runs call left is) j more longer holds = all_more before runs j more longer holds
 
   pub run_leaves : (before after : D) (l h : Journal) → HoldsBetween key l h (shown before) (may_leave before) → (run : RunOver shown may_leave moment since key before after)
       → Leaves key l h (shown before) (shown after) run.written_before run.written_after run.typed (since after (moment before)) (may_leave after)
@@ -209,6 +211,24 @@ module _ (D : Type 0) (shown : D → Option (List ℕ)) (may_leave : D → List 
       let shows : ShowsJournal key at.held (shown before) = (held.shows.0, held.shows.1, at.stands_for) in
       left_by key l h at.held run.left_before run.left_after (shown before) (shown after) run.written_before run.written_after run.typed (may_leave before) (since after (moment before)) (may_leave after)
       held at.from at.to shows (λ s c is left. counted after (moment before) s c run.later is left) run.status run.asked (run.ran key at.held run.hands_in shows)
+
+  -- a call that leaves the store as it is
+  pub call_between : (before after : D) (l h : Journal) → HoldsBetween key l h (shown before) (may_leave before) → LeavesStore shown may_leave moment since before after
+      → (c : List ℕ) → may_leave before c ⊎ (shown before ≡ Some c) → IsBetween (StandsForJournal key) l h c
+  call_between before after l h held call c either =
+      ⊎_elim
+      (λ left. held.leaves c left)
+      (λ is.
+      let same : held.shows.0 ≡ c = let both = sym held.shows.1 ∙ is in cc in
+      subst (IsBetween (StandsForJournal key) l h) same held.shows.2)
+      either
+
+  pub call_holds : (before after : D) (l h : Journal) → HoldsBetween key l h (shown before) (may_leave before) → LeavesStore shown may_leave moment since before after
+      → HoldsBetween key l h (shown after) (may_leave after)
+  call_holds before after l h held call = record {
+    shows = (held.shows.0, call.shows ∙ held.shows.1, held.shows.2);
+    leaves = λ c left. call_between before after l h held call c (call.leaves c left);
+  }
 
   -- a disk that shows what a stop left, which lay between the two
   pub left_between : (l h : Journal) (bytes : List ℕ) (d : D) → IsBetween (StandsForJournal key) l h bytes → IsLeft shown may_leave bytes d → HoldsBetween key l h (shown d) (may_leave d)
@@ -225,13 +245,15 @@ module _ (D : Type 0) (shown : D → Option (List ℕ)) (may_leave : D → List 
 
   comes_front : (m2 : Journal) (now : D) (runs : Came now) (j front : Journal) → IsPrefix front j → ComesHere m2 now runs j → ComesHere m2 now runs front
   comes_front m2 now Begun j front shorter comes = prefix_trans front j m2 shorter comes
-  comes_front m2 now (Ran {before = before} {after = after} runs run) j front shorter comes =
+  comes_front m2 now (Ran {before = before} {after = after} runs (ByOther call)) j front shorter comes = comes_front m2 before runs j front shorter comes
+  comes_front m2 now (Ran {before = before} {after = after} runs (ByOwner run)) j front shorter comes =
       ⊎_elim
       (λ old. inl (comes_front m2 before runs j front shorter old))
       (λ new. inr (new.0, new.1, new.2, made_front new.0 (lines_behind (lines_in run.typed)) j front shorter new.3))
       comes
   comes_front m2 now (StopsBehind {before = before} runs left is) j front shorter comes = comes_front m2 before runs j front shorter comes
-  comes_front m2 now (StopsIn {before = before} runs run left is) j front shorter comes =
+  comes_front m2 now (StopsIn {before = before} runs (ByOther call) left is) j front shorter comes = comes_front m2 before runs j front shorter comes
+  comes_front m2 now (StopsIn {before = before} runs (ByOwner run) left is) j front shorter comes =
       ⊎_elim
       (λ old. inl (comes_front m2 before runs j front shorter old))
       (λ new. inr (new.0, new.1, new.2, made_front new.0 (lines_behind (lines_in run.typed)) j front shorter new.3))
@@ -256,7 +278,10 @@ module _ (D : Type 0) (shown : D → Option (List ℕ)) (may_leave : D → List 
 
   pub all_left : (m1 m2 : Journal) → HoldsBetween key m1 m2 (shown start) (may_leave start) → (now : D) (runs : Came now) → LeftAt m1 m2 now runs
   all_left m1 m2 first now Begun = (m1, m2, prefix_same m1, first, tt, prefix_same m2)
-  all_left m1 m2 first now (Ran {before = before} {after = after} runs run) =
+  all_left m1 m2 first now (Ran {before = before} {after = after} runs (ByOther call)) =
+      let so_far = all_left m1 m2 first before runs in
+      (so_far.0, so_far.1, so_far.2, call_holds before now so_far.0 so_far.1 so_far.3 call, so_far.4, so_far.5)
+  all_left m1 m2 first now (Ran {before = before} {after = after} runs (ByOwner run)) =
       let so_far = all_left m1 m2 first before runs in
       let left = run_leaves before after so_far.0 so_far.1 so_far.3 run in (
         left.low,
@@ -269,11 +294,15 @@ module _ (D : Type 0) (shown : D → Option (List ℕ)) (may_leave : D → List 
   all_left m1 m2 first now (StopsBehind {before = before} {after = after} {bytes = bytes} runs left is) =
       let so_far = all_left m1 m2 first before runs in
       (so_far.0, so_far.1, so_far.2, left_between so_far.0 so_far.1 bytes now (so_far.3.leaves bytes left) is, so_far.4, so_far.5)
-  all_left m1 m2 first now (StopsIn {before = before} {after = after} {next = next} {there = there} {bytes = bytes} runs run at is) =
+  all_left m1 m2 first now (StopsIn {before = before} {after = after} {next = next} {there = there} {bytes = bytes} runs (ByOther call) at is) =
+      let so_far = all_left m1 m2 first before runs in
+      let lies = call_between before after so_far.0 so_far.1 so_far.3 call bytes (call.same there bytes at).1 in
+      (so_far.0, so_far.1, so_far.2, left_between so_far.0 so_far.1 bytes now lies is, so_far.4, so_far.5)
+  all_left m1 m2 first now (StopsIn {before = before} {after = after} {next = next} {there = there} {bytes = bytes} runs (ByOwner run) at is) =
       let so_far = all_left m1 m2 first before runs in
       let left = run_leaves before after so_far.0 so_far.1 so_far.3 run in
       let k = left.kept there bytes at in
-      let to : (high : Journal) → IsPrefix k.held high → ReachesBy m2 before runs run.typed high → LeftAt m1 m2 now (StopsIn runs run at is) = λ high p comes. (
+      let to : (high : Journal) → IsPrefix k.held high → ReachesBy m2 before runs run.typed high → LeftAt m1 m2 now (StopsIn runs (ByOwner run) at is) = λ high p comes. (
         so_far.0,
         high,
         so_far.2,

@@ -1,3 +1,5 @@
 pub mod Kept
+pub mod Lasting
 pub mod Left
 pub mod Made
+pub mod OtherCalls

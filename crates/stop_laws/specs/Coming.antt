@@ -14,6 +14,7 @@ use Rattle.journal_bytes.specs.Script.{opened, script_going}
 use Rattle.public_fold.specs.Journal.{Journal}
 use Rattle.store_owner.specs.Drawing.{AreKeys, joined}
 use Rattle.stop_laws.specs.Runs.{HoldsAll, Runs}
+use Rattle.stop_laws.specs.Runs.CallOver.{ByOther, ByOwner}
 use Rattle.stop_laws.specs.Runs.Runs.{Begun, Ran, StopsBehind, StopsIn}
 
 -- The journal is what the first of these lines made of m, or a front of it: a session over m was asked their commands, one after another,
@@ -36,13 +37,17 @@ abbrev pub ComesOf : {D : Type 0} (shown : D → Option (List ℕ)) (may_leave :
     → List ℕ → Type 0)
     (key : List ℕ) (first : Journal) (start now : D) → Runs shown may_leave moment since key start now → Journal → Type 0
 ComesOf shown may_leave moment since key first start now Begun j = IsPrefix j first
-ComesOf shown may_leave moment since key first start now (Ran {before = before} {after = after} runs run) j =
+ComesOf shown may_leave moment since key first start now (Ran {before = before} {after = after} runs (ByOwner run)) j =
     ComesOf shown may_leave moment since key first start before runs j
     ⊎ ((m : Journal) × ComesOf shown may_leave moment since key first start before runs m × ShowsJournal key m (shown before)
     × IsMadeOf m (lines_behind (lines_in run.typed)) j)
+ComesOf shown may_leave moment since key first start now (Ran {before = before} {after = after} runs (ByOther call)) j =
+    ComesOf shown may_leave moment since key first start before runs j
 ComesOf shown may_leave moment since key first start now (StopsBehind {before = before} runs left is) j =
     ComesOf shown may_leave moment since key first start before runs j
-ComesOf shown may_leave moment since key first start now (StopsIn {before = before} runs run left is) j =
+ComesOf shown may_leave moment since key first start now (StopsIn {before = before} runs (ByOther call) left is) j =
+    ComesOf shown may_leave moment since key first start before runs j
+ComesOf shown may_leave moment since key first start now (StopsIn {before = before} runs (ByOwner run) left is) j =
     ComesOf shown may_leave moment since key first start before runs j
     ⊎ ((m : Journal) × ComesOf shown may_leave moment since key first start before runs m × ShowsJournal key m (shown before)
     × IsMadeOf m (lines_behind (lines_in run.typed)) j)

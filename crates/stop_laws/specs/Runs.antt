@@ -1,12 +1,13 @@
--- Runs of the program over one store, one after another, with stops in and between them. This project's own, docs/MODEL.md.
+-- Calls of the program over one store, one after another, with stops in and between them. This project's own, docs/MODEL.md.
 --
--- A run is told by what `top` promises of it (`ran`, `published` and `later` of `RunEnds`). It is over a disk as the run before left it,
--- or as a stop left it. A stop comes behind a run, or at any moment in one. It leaves bytes that the disk might leave then; the disk shows
--- these, and nothing is pending. A command was acknowledged where its whole reply line was taken. A run that met a stop at a moment in it
--- is told like one that met a fault of the disk then: the clause of its exit says what it had acknowledged.
+-- A call is a run whose first line hands in the store's key, told by what `top` promises of it (`ran`, `published` and `later` of
+-- `RunEnds`); or it leaves the store as it is. Every other call of the program does: laws say so of each. A call is over a disk as the call
+-- before left it, or as a stop left it. A stop comes behind a call, or at any moment in one. It leaves bytes that the disk might leave then;
+-- the disk shows these, and nothing is pending. A command was acknowledged where its whole reply line was taken. A run that met a stop at a
+-- moment in it is told like one that met a fault of the disk then: the clause of its exit says what it had acknowledged.
 use Rattle.std.specs.Prelude.{◌≡◌, ◌≤◌, ◌⊎◌, ℕ, List, Option, Some}
 use Rattle.batch_log.specs.Moments.{FromThenOn}
-use Rattle.commit_journal.specs.Holding.{IsPrefix}
+use Rattle.commit_journal.specs.Holding.{GoesOn, IsPrefix}
 use Rattle.cry_base.specs.Requests.{Request}
 use Rattle.cry_io.specs.Stops.{IsDurable}
 use Rattle.cry_io.specs.Told.{WhereBothTold}
@@ -35,22 +36,40 @@ pub record RunOver {D : Type 0} (shown : D → Option (List ℕ)) (may_leave : D
       (may_leave before) (since after (moment before)) (may_leave after)
   pub published : PublishesTyped typed (shown before) (may_leave before) (FromThenOn moment since before after)
 
+-- a call that leaves the store as it is: behind it and at each moment of it the disk shows what it showed before, and a stop leaves what it
+-- could leave before, or what is shown
+pub record LeavesStore {D : Type 0} (shown : D → Option (List ℕ)) (may_leave : D → List ℕ → Type 0) (moment : D → ℕ) (since : D → ℕ → List ℕ
+    → List ℕ → Type 0)
+    (before after : D) : Type 0 where
+  pub later : moment before ≤ moment after
+  pub time : GoesOn (moment before) (since before) (since after)
+  pub shows : shown after ≡ shown before
+  pub leaves : (c : List ℕ) → may_leave after c → may_leave before c ⊎ (shown before ≡ Some c)
+  pub same : (s c : List ℕ) → since after (moment before) s c → (shown before ≡ Some s) × (may_leave before c ⊎ (shown before ≡ Some c))
+
+-- a call of the program over a disk
+pub data CallOver {D : Type 0} (shown : D → Option (List ℕ)) (may_leave : D → List ℕ → Type 0) (moment : D → ℕ) (since : D → ℕ → List ℕ
+    → List ℕ → Type 0)
+    (key : List ℕ) (before after : D) : Type 0 where
+  ByOwner : RunOver shown may_leave moment since key before after → CallOver shown may_leave moment since key before after
+  ByOther : LeavesStore shown may_leave moment since before after → CallOver shown may_leave moment since key before after
+
 -- behind a stop a disk shows what was left, and nothing is pending
 abbrev pub IsLeft : {D : Type 0} → (D → Option (List ℕ)) → (D → List ℕ → Type 0) → List ℕ → D → Type 0
 IsLeft shown may_leave bytes disk = (shown disk ≡ Some bytes) × IsDurable (may_leave disk) (shown disk)
 
--- from a first disk to one behind some runs and stops
+-- from a first disk to one behind some calls and stops
 pub data Runs {D : Type 0} (shown : D → Option (List ℕ)) (may_leave : D → List ℕ → Type 0) (moment : D → ℕ) (since : D → ℕ → List ℕ
     → List ℕ → Type 0)
     (key : List ℕ) (start : D) : D → Type 0 where
   Begun : Runs shown may_leave moment since key start start
-  Ran : {before after : D} → Runs shown may_leave moment since key start before → RunOver shown may_leave moment since key before after
+  Ran : {before after : D} → Runs shown may_leave moment since key start before → CallOver shown may_leave moment since key before after
       → Runs shown may_leave moment since key start after
   StopsBehind : {before after : D} {bytes : List ℕ} → Runs shown may_leave moment since key start before → may_leave before bytes
       → IsLeft shown may_leave bytes after
       → Runs shown may_leave moment since key start after
   StopsIn : {before after next : D} {there bytes : List ℕ} → Runs shown may_leave moment since key start before
-      → RunOver shown may_leave moment since key before after
+      → CallOver shown may_leave moment since key before after
       → since after (moment before) there bytes → IsLeft shown may_leave bytes next → Runs shown may_leave moment since key start next
 
 -- The lines that were asked over m, and the replies to them: all that was printed is these, but for some of the last; and the journal
@@ -69,15 +88,30 @@ HoldsRun key was typed written_before written_after j =
     (written_after ≡ written_before) ⊎ ((m : Journal) × ShowsJournal key m was
     × Answered m (lines_behind (lines_in typed)) written_before written_after j)
 
--- and so for all the runs that came to their end
+-- and so for all the owner's runs that came to their end
 abbrev pub HoldsAll : {D : Type 0} (shown : D → Option (List ℕ)) (may_leave : D → List ℕ → Type 0) (moment : D → ℕ) (since : D → ℕ → List ℕ
     → List ℕ → Type 0)
     (key : List ℕ) (start now : D) → Runs shown may_leave moment since key start now → Journal → Type 0
 HoldsAll shown may_leave moment since key start now Begun j = Unit {0}
-HoldsAll shown may_leave moment since key start now (Ran {before = before} {after = after} runs run) j =
+HoldsAll shown may_leave moment since key start now (Ran {before = before} {after = after} runs (ByOwner run)) j =
     HoldsAll shown may_leave moment since key start before runs j
     × HoldsRun key (shown before) run.typed run.written_before run.written_after j
+HoldsAll shown may_leave moment since key start now (Ran {before = before} {after = after} runs (ByOther call)) j =
+    HoldsAll shown may_leave moment since key start before runs j
 HoldsAll shown may_leave moment since key start now (StopsBehind {before = before} runs left is) j = HoldsAll shown may_leave moment since
     key start before runs j
-HoldsAll shown may_leave moment since key start now (StopsIn {before = before} runs run left is) j = HoldsAll shown may_leave moment since
+HoldsAll shown may_leave moment since key start now (StopsIn {before = before} runs call left is) j = HoldsAll shown may_leave moment since
     key start before runs j
+
+-- These bytes were shown at a moment of the calls that came to their end, or behind them or a stop. What was shown in a call before a stop
+-- in it is spoken of by the order of that call's moments.
+abbrev pub WasShown : {D : Type 0} (shown : D → Option (List ℕ)) (may_leave : D → List ℕ → Type 0) (moment : D → ℕ) (since : D → ℕ → List ℕ
+    → List ℕ → Type 0)
+    (key : List ℕ) (start now : D) → Runs shown may_leave moment since key start now → List ℕ → Type 0
+WasShown shown may_leave moment since key start now Begun s = shown start ≡ Some s
+WasShown shown may_leave moment since key start now (Ran {before = before} {after = after} runs call) s =
+    WasShown shown may_leave moment since key start before runs s ⊎ ((c : List ℕ) × since after (moment before) s c)
+WasShown shown may_leave moment since key start now (StopsBehind {before = before} runs left is) s =
+    WasShown shown may_leave moment since key start before runs s ⊎ (shown now ≡ Some s)
+WasShown shown may_leave moment since key start now (StopsIn {before = before} runs call left is) s =
+    WasShown shown may_leave moment since key start before runs s ⊎ (shown now ≡ Some s)

@@ -1,4 +1,4 @@
-//! Laws of runs of the program over one store, with stops in and between them.
+//! Laws of calls of the program over one store, with stops in and between them.
 ghost use Rattle.std.specs.Prelude.{ℕ, List, ◌++◌};
 ghost use Rattle.batch_log.specs.Moments.{FromThenOn};
 ghost use Rattle.commit_journal.specs.Holding.{IsPrefix};
@@ -10,7 +10,7 @@ ghost use Rattle.journal_bytes.specs.Journals.{HoldsBetween};
 ghost use Rattle.journal_bytes.specs.Script.{Going, script_going};
 ghost use Rattle.stop_laws.specs.Coming.{IsOfRuns};
 ghost use Rattle.store_owner.specs.Published.{HasPublished, StaysPublished};
-ghost use Rattle.stop_laws.specs.Runs.{HoldsAll, IsLeft, RunOver, Runs};
+ghost use Rattle.stop_laws.specs.Runs.{CallOver, HoldsAll, IsLeft, Runs, WasShown};
 
 use cry_io::Disk;
 
@@ -21,7 +21,7 @@ pub fn sessions_take_nothing_back()
         IsPrefix (script_going limits g first).journal (script_going limits g (first ++ more)).journal }
 {}
 
-/// Law: over every list of runs and stops, whatever is left stands for a journal that begins with the first one, and with each command that
+/// Law: over every list of calls and stops, whatever is left stands for a journal that begins with the first one, and with each command that
 /// any of the runs acknowledged.
 pub fn stops_leave_what_was_acknowledged<D: Disk>(start: &D, now: &D)
     ensures { (key : List ℕ) (m1 m2 : Journal) → HoldsBetween key m1 m2 (D.shown start.now) (D.may_leave start.now) →
@@ -30,7 +30,7 @@ pub fn stops_leave_what_was_acknowledged<D: Disk>(start: &D, now: &D)
         HoldsAll D.shown D.may_leave D.moment D.since key start.now now.now runs low }
 {}
 
-/// Law: over every list of runs and stops, whatever a stop leaves behind them stands for a journal of theirs: it begins with the first one
+/// Law: over every list of calls and stops, whatever a stop leaves behind them stands for a journal of theirs: it begins with the first one
 /// and has each command that any of the runs acknowledged; and it has nothing but commands that the runs accepted, in their order.
 pub fn stops_leave_nothing_but_accepted_commands<D: Disk>(start: &D, now: &D)
     ensures { (key : List ℕ) (m1 m2 : Journal) → HoldsBetween key m1 m2 (D.shown start.now) (D.may_leave start.now) →
@@ -38,8 +38,8 @@ pub fn stops_leave_nothing_but_accepted_commands<D: Disk>(start: &D, now: &D)
         IsOfRuns D.shown D.may_leave D.moment D.since key m1 m2 start.now now.now runs bytes }
 {}
 
-/// Law: over every list of runs and stops, a stop at any moment of a run, whatever that ended with, leaves all batches that were published
-/// then or at an earlier moment of that run, where so it was at the start; and so does a stop behind the run. Whatever further runs and
+/// Law: over every list of calls and stops, a stop at any moment of a call, whatever that ended with, leaves all batches that were published
+/// then or at an earlier moment of that call, where so it was at the start; and so does a stop behind the call. Whatever further calls and
 /// stops leave behind a stop in it has them too.
 pub fn nothing_published_is_taken_back<D: Disk>(
     start: &D,
@@ -51,24 +51,34 @@ pub fn nothing_published_is_taken_back<D: Disk>(
     ensures now { (key : List ℕ) (m1 m2 : Journal) → HoldsBetween key m1 m2 (D.shown start.now) (D.may_leave start.now) →
         StaysPublished key (D.shown start.now) (D.may_leave start.now) →
         Runs D.shown D.may_leave D.moment D.since key start.now before.now →
-        RunOver D.shown D.may_leave D.moment D.since key before.now after.now →
+        CallOver D.shown D.may_leave D.moment D.since key before.now after.now →
         FromThenOn D.moment D.since before.now after.now (HasPublished key) }
     ensures ends { (key : List ℕ) (m1 m2 : Journal) → HoldsBetween key m1 m2 (D.shown start.now) (D.may_leave start.now) →
         StaysPublished key (D.shown start.now) (D.may_leave start.now) →
         Runs D.shown D.may_leave D.moment D.since key start.now before.now →
-        RunOver D.shown D.may_leave D.moment D.since key before.now after.now →
+        CallOver D.shown D.may_leave D.moment D.since key before.now after.now →
         (shown left bytes : List ℕ) → D.since after.now (D.moment before.now) shown left → D.may_leave after.now bytes →
         HasPublished key shown bytes }
     ensures later { (key : List ℕ) (m1 m2 : Journal) → HoldsBetween key m1 m2 (D.shown start.now) (D.may_leave start.now) →
         StaysPublished key (D.shown start.now) (D.may_leave start.now) →
         Runs D.shown D.may_leave D.moment D.since key start.now before.now →
-        RunOver D.shown D.may_leave D.moment D.since key before.now after.now →
+        CallOver D.shown D.may_leave D.moment D.since key before.now after.now →
         FromThenOn D.moment D.since before.now after.now (λ shown left. (bytes : List ℕ) → IsLeft D.shown D.may_leave left next.now →
         Runs D.shown D.may_leave D.moment D.since key next.now last.now → D.may_leave last.now bytes →
         HasPublished key shown bytes) }
 {}
 
-/// Law: so it is with a disk on which nothing is pending; and over every list of runs and stops, behind them no stop takes back what is
+/// Law: over every list of calls and stops, whatever a stop leaves behind them has all batches that were published at any moment of the
+/// calls that came to their end, or behind them or a stop, where so it was at the start.
+pub fn what_was_published_is_never_lost<D: Disk>(start: &D, now: &D)
+    ensures { (key : List ℕ) (m1 m2 : Journal) → HoldsBetween key m1 m2 (D.shown start.now) (D.may_leave start.now) →
+        StaysPublished key (D.shown start.now) (D.may_leave start.now) →
+        (runs : Runs D.shown D.may_leave D.moment D.since key start.now now.now) (shown bytes : List ℕ) →
+        WasShown D.shown D.may_leave D.moment D.since key start.now now.now runs shown → D.may_leave now.now bytes →
+        HasPublished key shown bytes }
+{}
+
+/// Law: so it is with a disk on which nothing is pending; and over every list of calls and stops, behind them no stop takes back what is
 /// published then.
 pub fn what_is_published_stays<D: Disk>(start: &D, now: &D)
     ensures calm { (key : List ℕ) → IsDurable (D.may_leave start.now) (D.shown start.now)

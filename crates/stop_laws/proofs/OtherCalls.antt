@@ -1,0 +1,198 @@
+-- Calls that aren't a run by the owner leave the store as it is.
+use Rattle.std.proofs.Common.{◌≡◌, ◌≤◌, ◌<◌, ◌≢◌, ◌⊎◌, ⊎_elim, inl, inr, ℕ, Bool, true, false, List, [], length, take, drop, Option, Some, None, Result, Ok, Err, arith, refl, sym, ap, subst, ◌∙◌}
+use Rattle.std.specs.Prelude.{IsTrue, codes, if◌then◌else◌, is_some, nat_le, slice_range, ◌++◌, ◌∷◌}
+use Rattle.std.specs.Str.{bytes_eq}
+use Rattle.std.proofs.lemmas.Bool.{false_from_ne_true}
+use Rattle.std.proofs.lemmas.Slice.Eq.{bytes_eq-Decides}
+use Rattle.chacha_seal.specs.Sealing.{check_of}
+use Rattle.commit_journal.specs.Answering.{Fault, NotAStore, WrongKey, and_then}
+use Rattle.commit_journal.specs.Holding.{GoesOn}
+use Rattle.commit_journal.specs.Log.{behind_header, start_at, start_of}
+use Rattle.commit_journal.specs.Logs.{writer_log}
+use Rattle.commit_journal.specs.Opening.{LeavesGated, OwnedLog, opening_verdict, owned_log}
+use Rattle.commit_journal.specs.WholeLogs.{whole_log}
+use Rattle.commit_journal.specs.declared.past.Past.{Past}
+use Rattle.commit_journal.proofs.Followed.{and_then_ok}
+use Rattle.commit_journal.proofs.Judged.{start_short}
+use Rattle.commit_journal.proofs.Reopened.{opened_standing}
+use Rattle.commit_journal.proofs.Writers.{batches_alone, opened_as_read}
+use Rattle.cry_base.specs.Layout.{first_gate_offset, header_len, magic_len}
+use Rattle.cry_base.specs.Limits.{most_store_bytes}
+use Rattle.cry_io.specs.declared.disk.Disk as disk
+use Rattle.cry_io.specs.declared.streams.Sink as sink
+use Rattle.cry_io.specs.declared.streams.Source as source
+use Rattle.cryptree_cli.specs.Promises.Any.{AnyEnds}
+use Rattle.cryptree_cli.specs.Promises.Gen.{GenEnds}
+use Rattle.cryptree_cli.specs.Promises.Make.{MakeEnds}
+use Rattle.cryptree_cli.specs.Promises.Run.{RunEnds}
+use Rattle.cryptree_cli.specs.Running.{key_in_lines, lines_in}
+use Rattle.cryptree_cli.specs.Status.{is_before_write}
+use Rattle.cryptree_cli.specs.Unopened.{HasOpened, LeavesUnopened, WasTried}
+use Rattle.cryptree_cli.specs.declared.status.Status.{Status}
+use Rattle.cryptree_cli.proofs.RunEnds.{still_told}
+use Rattle.cryptree_cli.proofs.StopLemmas.{time_still}
+use Rattle.journal_bytes.specs.Bytes.{bodies_of}
+use Rattle.journal_bytes.specs.Journals.{ShowsJournal, StandsForJournal}
+use Rattle.log_visits.specs.Asking.{failure_of, open_with, opened_store, verdict}
+use Rattle.log_visits.specs.Asking.Asking.{ToWrite}
+use Rattle.log_visits.specs.Judging.{Failure, OfBytes, of_bytes, read_through, then_on}
+use Rattle.public_fold.specs.Journal.{Journal}
+use Rattle.stop_laws.specs.Others.{IsByOther}
+use Rattle.stop_laws.specs.Runs.{LeavesStore}
+use Rattle.store_owner.proofs.OpenedBehind.{within}
+
+-- ---- a key with another check
+
+other_bytes : (xs ys : List ℕ) → (xs ≡ ys → ⊥) → bytes_eq xs ys ≡ false
+other_bytes xs ys other = false_from_ne_true (bytes_eq xs ys) (λ t. other ((bytes_eq-Decides xs ys).0 t))
+
+module _ (owner key bytes : List ℕ) (other : check_of owner ≢ check_of key) where
+  abbrev header : List ℕ
+  header = take header_len bytes
+
+  abbrev check : List ℕ
+  check = slice_range header magic_len first_gate_offset
+
+  abbrev started : Bool → Bool → Bool → Result Past Fault
+  started a b d = if a then (if b then (if d then Ok (behind_header header) else Err WrongKey) else Err NotAStore) else Err NotAStore
+
+  known : (a b d : Bool) (past : Past) → bytes_eq check (check_of owner) ≡ d → started a b d ≡ Ok past → started a b (bytes_eq check (check_of key)) ≡ Err WrongKey
+  known true true true past is e =
+      let same : check ≡ check_of owner = (bytes_eq-Decides check (check_of owner)).0 is in
+      let no_match : bytes_eq check (check_of key) ≡ false = other_bytes check (check_of key) (λ q. other (sym same ∙ q)) in
+      ap (λ d. started true true d) no_match
+  known true true false past is e = absurd cc
+  known true false d past is e = absurd cc
+  known false b d past is e = absurd cc
+
+  other_start : (past : Past) → start_at owner bytes ≡ Ok past → start_at key bytes ≡ Err WrongKey
+  unfolding start_at start_of
+  other_start past e =
+      known (nat_le header_len (length bytes)) (bytes_eq (take magic_len header) (codes "CRYPTREE" ++ 1 ∷ [])) (bytes_eq check (check_of owner)) past refl e
+
+  other_opening : (limit : ℕ) (log : OwnedLog) → opening_verdict limit owner bytes ≡ Ok log → opening_verdict limit key bytes ≡ Err WrongKey
+  unfolding opening_verdict and_then
+  other_opening limit log e =
+      let start = and_then_ok (start_at owner bytes) (λ past. owned_log limit owner past 0 (drop header_len bytes)) log e in
+      ap (λ r. and_then r (λ past. owned_log limit key past 0 (drop header_len bytes))) (other_start start.0 start.1)
+
+opened_journal : (owner : List ℕ) (m : Journal) (bytes : List ℕ) → StandsForJournal owner m bytes → opening_verdict most_store_bytes owner bytes ≡ Ok (whole_log owner (bodies_of owner m))
+opened_journal owner m bytes stands =
+    opened_standing most_store_bytes owner (bodies_of owner m) bytes (omega arith) (within most_store_bytes owner m bytes stands stands.valid.1)
+
+refused_verdict : (key bytes : List ℕ) → opening_verdict most_store_bytes key bytes ≡ Err WrongKey → verdict (ToWrite key) bytes ≡ Some (OfBytes WrongKey)
+unfolding verdict failure_of opened_store open_with then_on of_bytes read_through and_then
+refused_verdict key bytes is =
+    let read : writer_log key bytes ≡ Err WrongKey = sym (opened_as_read key bytes) ∙ ap batches_alone is in
+    ap (λ log. failure_of (open_with key log)) read
+
+-- a store isn't empty
+pub store_has_bytes : (owner : List ℕ) (m : Journal) (bytes : List ℕ) → StandsForJournal owner m bytes → length bytes ≢ 0
+unfolding opening_verdict and_then
+store_has_bytes owner m bytes stands none =
+    let opened = opened_journal owner m bytes stands in
+    let start = and_then_ok (start_at owner bytes) (λ past. owned_log most_store_bytes owner past 0 (drop header_len bytes)) (whole_log owner (bodies_of owner m)) opened in
+    let short : start_at owner bytes ≡ Err NotAStore = start_short owner bytes (omega (arith, none)) in
+    let long : start_at owner bytes ≡ Ok start.0 = start.1 in
+    let both : Err NotAStore ≡ Ok start.0 = sym short ∙ long in
+    absurd cc
+
+-- ---- calls
+
+module _ {D : Type 0} (disks : disk.Ghosts D)
+    (counted : (d : D) (t : ℕ) (s c : List ℕ) → t ≤ disks.moment d → disks.shown d ≡ Some s → disks.may_leave d c → disks.since d t s c)
+    (present : (d : D) (s c : List ℕ) → disks.since d (disks.moment d) s c → (disks.shown d ≡ Some s) × disks.may_leave d c)
+    (may_be_left : (d : D) (s : List ℕ) → disks.shown d ≡ Some s → disks.may_leave d s) where
+  abbrev Leaves : D → D → Type 0
+  Leaves before after = LeavesStore disks.shown disks.may_leave disks.moment disks.since before after
+
+  abbrev Same : D → D → Type 0
+  Same before after = (s c : List ℕ) → disks.since after (disks.moment before) s c
+      → (disks.shown before ≡ Some s) × (disks.may_leave before c ⊎ (disks.shown before ≡ Some c))
+
+  -- one that touches nothing
+  pub untouched_leaves : (before after : D) → after ≡ before → Leaves before after
+  untouched_leaves before after is =
+      let here : Leaves before before = record {
+        later = omega arith;
+        time = time_still (disks.moment before) (disks.since before) (disks.shown before) (disks.may_leave before) (present before) (counted before);
+        shows = refl;
+        leaves = λ c left. inl left;
+        same = λ s c at. let now = present before s c at in (now.0, inl now.1);
+      } in
+      subst (Leaves before) (sym is) here
+
+  -- at the end it is as it was at each moment
+  pub same_leaves : (before after : D) (x : List ℕ) → disks.shown before ≡ Some x → disks.moment before ≤ disks.moment after
+      → GoesOn (disks.moment before) (disks.since before) (disks.since after) → is_some (disks.shown after) ≡ is_some (disks.shown before) → Same before after → Leaves before after
+  same_leaves before after x is later time told same =
+      let end = still_told (disks.shown after) (disks.shown before) x told is in
+      let shown = same end.0 end.0 (counted after (disks.moment before) end.0 end.0 later end.1 (may_be_left after end.0 end.1)) in
+      record {
+        later = later;
+        time = time;
+        shows = end.1 ∙ sym shown.0;
+        leaves = λ c left. (same end.0 c (counted after (disks.moment before) end.0 c later end.1 left)).1;
+        same = same;
+      }
+
+  -- one that only reads
+  pub reading_leaves : (before after : D) (owner : List ℕ) (m : Journal) → ShowsJournal owner m (disks.shown before) → disks.moment before ≤ disks.moment after
+      → GoesOn (disks.moment before) (disks.since before) (disks.since after) → is_some (disks.shown after) ≡ is_some (disks.shown before)
+      → ((s c : List ℕ) → disks.since after (disks.moment before) s c → (disks.shown before ≡ Some s) × disks.may_leave before c) → Leaves before after
+  reading_leaves before after owner m shows later time told same =
+      same_leaves before after shows.0 shows.1 later time told (λ s c at. let is = same s c at in (is.0, inl is.1))
+
+  -- what opening leaves under a key of another
+  tried_same : (before after : D) (status : Status) (owner key : List ℕ) (m : Journal) → ShowsJournal owner m (disks.shown before) → check_of owner ≢ check_of key
+      → WasTried disks status key before after → Same before after
+  tried_same before after status owner key m shows other tried s c at =
+      let x = shows.0 in
+      let wrong = other_opening owner key x other most_store_bytes (whole_log owner (bodies_of owner m)) (opened_journal owner m x shows.2) in
+      let gated : (y : List ℕ) → LeavesGated most_store_bytes key x y → y ≡ x = λ y leaves.
+      ⊎_elim (λ same. same) (λ log. let no : Err WrongKey ≡ Ok log.0 = sym wrong ∙ log.1 in absurd cc) leaves in
+      ⊎_elim
+      (λ first. (shows.1 ∙ ap (λ z. Some z) (sym first.0), inl first.1))
+      (λ filled. (shows.1 ∙ ap (λ z. Some z) (sym (gated s filled.0)), inr (shows.1 ∙ ap (λ z. Some z) (sym (gated c filled.1)))))
+      (tried.throughout x shows.1 s c at)
+
+  -- a run whose first line hands in no key, or one of another
+  module _ {S R W : Type 0} (inputs : source.Ghosts S) (randoms : source.Ghosts R) (outs : sink.Ghosts W) (status : Status) (input_old input_new : S) (random_old random_new : R)
+      (before after : D) (out_old out_new : W) (owner : List ℕ) (m : Journal) (typed : List ℕ) (told : inputs.left input_old ≡ Some typed)
+      (shows : ShowsJournal owner m (disks.shown before)) (other : IsByOther owner typed) where
+    unopened_same : LeavesUnopened disks status (inputs.left input_old) random_old random_new before after out_old out_new → Same before after
+    unopened_same left s c at =
+        ⊎_elim
+        (λ (is : after ≡ before). (untouched_leaves before after is).same s c at)
+        (λ tried. tried_same before after status owner tried.0 m shows (other tried.0 (tried.1 typed told)) tried.2 s c at)
+        left.store
+
+    never_opened : HasOpened disks status (inputs.left input_old) before after → Same before after
+    never_opened opened s c at =
+        let x = shows.0 in
+        let passes = opened.passes typed x told shows.1 in
+        let wrong = other_opening owner passes.0 x (other passes.0 passes.1) most_store_bytes (whole_log owner (bodies_of owner m)) (opened_journal owner m x shows.2) in
+        let no : None ≡ Some (OfBytes WrongKey) = sym passes.2 ∙ refused_verdict passes.0 x wrong in
+        absurd cc
+
+    pub run_leaves_store : RunEnds inputs randoms disks outs status input_old input_new random_old random_new before after out_old out_new
+        → AnyEnds inputs randoms disks outs status input_old input_new random_old random_new before after out_old out_new → Leaves before after
+    run_leaves_store run any =
+        same_leaves before after shows.0 shows.1 run.later run.time any.disk_told
+        (λ s c at. ⊎_elim (λ left. unopened_same left s c at) (λ opened. never_opened opened s c at) run.opening)
+
+  -- over a store that stands `make` and `gen` answer that the disk isn't blank
+  module _ (before after : D) (owner : List ℕ) (m : Journal) (sized : (s : List ℕ) → disks.shown before ≡ Some s → length s ≡ disks.size_of before)
+      (shows : ShowsJournal owner m (disks.shown before)) where
+    has_size : disks.size_of before ≢ 0
+    has_size none = store_has_bytes owner m shows.0 shows.2 (sized shows.0 shows.1 ∙ none)
+
+    pub make_leaves_store : {S R W : Type 0} (inputs : source.Ghosts S) (randoms : source.Ghosts R) (outs : sink.Ghosts W) (status : Status) (input_old input_new : S) (random_old random_new : R)
+        (out_old out_new : W) → MakeEnds inputs randoms disks outs status input_old input_new random_old random_new before after out_old out_new → Leaves before after
+    make_leaves_store inputs randoms outs status input_old input_new random_old random_new out_old out_new made =
+        untouched_leaves before after (made.disk_kept (subst (λ s. IsTrue (is_before_write s)) (sym (made.not_blank.1 has_size)) refl))
+
+    pub gen_leaves_store : {S R W : Type 0} (inputs : source.Ghosts S) (randoms : source.Ghosts R) (outs : sink.Ghosts W) (status : Status) (input_old input_new : S) (random_old random_new : R)
+        (out_old out_new : W) (seed count : ℕ) → GenEnds inputs randoms disks outs status input_old input_new random_old random_new before after out_old out_new seed count → Leaves before after
+    gen_leaves_store inputs randoms outs status input_old input_new random_old random_new out_old out_new seed count made =
+        untouched_leaves before after (made.blank_kept (made.not_blank.1 has_size)).1
