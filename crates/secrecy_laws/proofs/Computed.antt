@@ -114,12 +114,12 @@ from_told known h (x ∷ xs) at =
       λ w. let both = to_parts known h at x xs w in and_from a b (here.1 both.0) (rest.1 both.1),
     )
 
-pub known_told : (m : Journal) (h k : ℕ) (o : Option ℕ) → own_serial m (TheHolder h) ≡ o → In k (known_to m o) ↔ ((a : ℕ) × (own_serial m (TheHolder h) ≡ Some a) × Derives (history m) a k)
+pub known_told : (m : Journal) (k : ℕ) (o : Option ℕ) → In k (known_to m o) ↔ ((a : ℕ) × (o ≡ Some a) × Derives (history m) a k)
 unfolding known_to
-known_told m h k None e = (λ i. absurd i, λ w. let s : own_serial m (TheHolder h) ≡ Some w.0 = w.1 in absurd cc)
-known_told m h k (Some a) e = (
-  λ i. (a, e, (derived_told (history m) a k).0 i),
-  λ w. let s : own_serial m (TheHolder h) ≡ Some w.0 = w.1 in let same : w.0 ≡ a = cc in (derived_told (history m) a k).1 (subst (λ z. Derives (history m) z k) same w.2),
+known_told m k None = (λ i. absurd i, λ w. let none : None ≡ Some w.0 = w.1 in absurd cc)
+known_told m k (Some a) = (
+  λ i. (a, refl, (derived_told (history m) a k).0 i),
+  λ w. let some : Some a ≡ Some w.0 = w.1 in let same : w.0 ≡ a = cc in (derived_told (history m) a k).1 (subst (λ z. Derives (history m) z k) same w.2),
 )
 
 pub keeps_told : (m : Journal) (h : ℕ) → IsTrue (keeps_secret m h) ↔ KeepsSecret m h
@@ -127,6 +127,6 @@ unfolding keeps_secret
 keeps_told m h =
     let own = own_serial m (TheHolder h) in
     let told = from_told (known_to m own) h m nothing in (
-      λ t before entry later c e i hidden none d. told.0 t before entry later c e i hidden none ((known_told m h c.key_serial own refl).1 d),
-      λ w. told.1 (λ before entry later c e i hidden none k. w before entry later c e i hidden none ((known_told m h c.key_serial own refl).0 k)),
+      λ t before entry later c e i hidden none d. told.0 t before entry later c e i hidden none ((known_told m c.key_serial own).1 d),
+      λ w. told.1 (λ before entry later c e i hidden none k. w before entry later c e i hidden none ((known_told m c.key_serial own).0 k)),
     )

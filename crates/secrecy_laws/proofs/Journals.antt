@@ -1,5 +1,5 @@
 -- Whole journals: what holds after each entry, and how a holder comes to derive what was written unseen.
-use Rattle.std.proofs.Common.{◌≡◌, ℕ, ◌+◌, ◌*◌, ◌^◌, ◌-◌, ◌<◌, true, false, cond, ◌&&◌, List, [], ◌∷◌, map, Some, None, inl, inr, ⊎_elim, refl, sym, ap, ◌∙◌, subst, arith}
+use Rattle.std.proofs.Common.{◌≡◌, ℕ, ◌+◌, ◌*◌, ◌^◌, ◌-◌, ◌<◌, true, false, cond, ◌&&◌, List, [], ◌∷◌, map, Some, None, ◌⊎◌, inl, inr, ⊎_elim, refl, sym, ap, ◌∙◌, subst, arith}
 use Rattle.std.specs.Prelude.{nat_lt}
 use Rattle.std.proofs.lemmas.Bool.{and_parts, ltb-true}
 use Rattle.cry_base.specs.Limits.{most_file_bytes}
@@ -24,19 +24,17 @@ use Rattle.record_format.specs.Noted.Note.{Root}
 use Rattle.public_fold.specs.Journal.{Entry, Stand, nothing, first_key, note_step, entry_step, entry_store, stand_then, stand_after}
 use Rattle.public_fold.specs.Journal.Entry.{Session, Made, Did}
 use Rattle.public_fold.specs.Keyed.{KeysHold}
-use Rattle.public_fold.specs.KeyStep.{KeyState, Stepped, no_keys, next_epoch, newest, next_serial, published, key_step}
+use Rattle.public_fold.specs.KeyStep.{KeyState, Stepped, no_keys, next_epoch, newest, next_serial, key_step}
 use Rattle.public_fold.specs.Records.{Piece, pieces_of}
 use Rattle.public_fold.specs.StandFits.{has_count, note_fits, entry_fits, all_fit}
 use Rattle.public_fold.specs.Valid.{FollowOn}
 use Rattle.public_fold.proofs.KeepingKeys.{IsMove, keys_after}
 use Rattle.public_fold.proofs.KeyMoves.{IsSound, effect_sound, root_sound, command_moves, root_moves, nothing_holds, epoch_holds}
 use Rattle.closure_laws.specs.Gains.{IsGain}
-use Rattle.closure_laws.specs.History.{Published, trails}
-use Rattle.secrecy_laws.specs.States.{State, IsStep, Fits}
-use Rattle.secrecy_laws.specs.Holding.{Holds, Opens, Brings}
+use Rattle.secrecy_laws.specs.States.{IsStep, Fits}
+use Rattle.secrecy_laws.specs.Holding.{Holds, Opens, Brings, OpensAnew}
 use Rattle.secrecy_laws.specs.Runs.{state_after, AreSteps, IsOpened}
 use Rattle.secrecy_laws.specs.Pasts.{Past, no_past, past_then, past_entry, past_after, ends_of, state_of, move_of, turns_of}
-use Rattle.secrecy_laws.specs.Revocation.{GainOpens}
 use Rattle.secrecy_laws.proofs.Steps.{stays_held}
 use Rattle.secrecy_laws.proofs.Whole.{opens_by_gain}
 use Rattle.secrecy_laws.proofs.KeySteps.{is_step, fits_step, below_after}
@@ -216,10 +214,6 @@ states_are (Session ∷ entries) at p f =
 states_are (Made keys ∷ entries) at p f = absurd f.0
 states_are (Did request keys ∷ entries) at p f = states_are entries (stand_then at (Did request keys)) (past_entry at p (Did request keys)) f.1
 
-way_more : {X : Type 0} {some more : List (X × X)} {a c : X} → ((q : X × X) → In q some → In q more) → Path some a c → Path more a c
-way_more stay Path.Here = Path.Here
-way_more stay (Path.On {b = b} {c = c} way i) = Path.On (way_more stay way) (stay (b, c) i)
-
 -- an entry that brings a role into reach is a gain
 did_gains : (at : Stand) (p : Past) (request : Request) (keys : List (List ℕ)) (h : ℕ) (r : Role) → Kept at p → refusal_of at.store request most_file_bytes ≡ None
     → Brings (state_of at p) (state_of (stand_then at (Did request keys)) (past_entry at p (Did request keys))) (holder_role h) r → IsGain at (Did request keys) h
@@ -230,35 +224,38 @@ did_gains at p request keys h r ok e b =
     brings_gain s t h ok.sound.settled (effect_sound s request (first_key keys) most_file_bytes e ok.sound) (moves at request keys ok.sound e).ends_after request (first_key keys) refl r
     ((ok.keys.keyed r).1 b.0) b.1 b.2
 
-opened_later : (entries : List Entry) (at : Stand) (p : Past) (links : List (ℕ × ℕ)) (published : List Published) (h k : ℕ) → ((l : ℕ × ℕ) → In l links → In l (trails published))
-    → Kept at p → FollowOn at entries → all_fit at entries ≡ true → IsOpened links (holder_role h) k (state_of at p) (turns_of at p entries) → GainOpens published at entries h k
-unfolding turns_of
-opened_later [] at p links published h k leads ok f t g = g
-opened_later (Session ∷ entries) at p links published h k leads ok f t g =
-    inr (opened_later entries (stand_then at Session) p links published h k leads (unfold past_entry in session_kept at p ok) f.1 (session_fit at entries t)
-    (subst (λ s. IsOpened links (holder_role h) k s (turns_of (stand_then at Session) p entries)) (sym (session_state at p)) g))
-opened_later (Made keys ∷ entries) at p links published h k leads ok f t g = absurd f.0
-opened_later (Did request keys ∷ entries) at p links published h k leads ok f t g =
+-- the entry is a gain for the holder, and lets the holder open the key of the serial; and some entry of those that follow does
+abbrev pub OpensAt : Stand → Past → Entry → ℕ → ℕ → Type 0
+OpensAt at p entry h k = IsGain at entry h × OpensAnew (state_of at p) (state_of (stand_then at entry) (past_entry at p entry)) (holder_role h) k
+
+abbrev pub OpensFrom : Stand → Past → List Entry → ℕ → ℕ → Type 0
+OpensFrom at p [] h k = ⊥
+OpensFrom at p (entry ∷ entries) h k = OpensAt at p entry h k ⊎ OpensFrom (stand_then at entry) (past_entry at p entry) entries h k
+
+opened_later : (entries : List Entry) (at : Stand) (p : Past) (h k : ℕ) → Kept at p → FollowOn at entries → all_fit at entries ≡ true
+    → IsOpened (holder_role h) k (state_of at p) (turns_of at p entries) → OpensFrom at p entries h k
+unfolding turns_of past_entry
+opened_later [] at p h k ok f t g = g
+opened_later (Session ∷ entries) at p h k ok f t g =
+    inr (opened_later entries (stand_then at Session) p h k (session_kept at p ok) f.1 (session_fit at entries t)
+    (subst (λ s. IsOpened (holder_role h) k s (turns_of (stand_then at Session) p entries)) (sym (session_state at p)) g))
+opened_later (Made keys ∷ entries) at p h k ok f t g = absurd f.0
+opened_later (Did request keys ∷ entries) at p h k ok f t g =
     let w = did_count at request keys entries t in ⊎_elim
-    (λ u. inl (
-      did_gains at p request keys h u.0 ok f.0.0 u.1,
-      (u.0, record { stood = u.1.0; was_out = u.1.2; reached = u.1.1; leads = (u.2.0, u.2.1, way_more leads u.2.2) }),
-    ))
-    (λ u. inr (opened_later entries (stand_then at (Did request keys)) (past_entry at p (Did request keys)) links published h k leads (did_kept at p request keys ok f.0.0 w.0) f.1 w.1 u)) g
+    (λ u. inl (did_gains at p request keys h u.brought.0 ok f.0.0 u.brought.1, u))
+    (λ u. inr (opened_later entries (stand_then at (Did request keys)) (past_entry at p (Did request keys)) h k (did_kept at p request keys ok f.0.0 w.0) f.1 w.1 u)) g
 
 holder_is_root : (h : ℕ) → is_root_role (holder_role h) ≡ true
 unfolding is_root_role holder_role Rattle.role_graph.specs.Roles.variant_of
 holder_is_root h = refl
 
 -- what is sealed under the present key of a clean role out of reach
-pub later_opens : (later : List Entry) (at : Stand) (p : Past) (published : List Published) (h : ℕ) (r : Role) (k a : ℕ) → Kept at p → FollowOn at later → all_fit at later ≡ true
+pub later_opens : (later : List Entry) (at : Stand) (p : Past) (h : ℕ) (r : Role) (k a : ℕ) → Kept at p → FollowOn at later → all_fit at later ≡ true
     → newest at.keys.keys r ≡ Some k → (In r at.keys.dirty → ⊥) → (Reaches (edges at.store) (holder_role h) r → ⊥)
-    → ((l : ℕ × ℕ) → In l (map ends_of (past_after at p later).links) → In l (trails published))
-    → newest (stand_after at later).keys.keys (holder_role h) ≡ Some a → Path (map ends_of (past_after at p later).links) a k → GainOpens published at later h k
-later_opens later at p published h r k a ok f t e clean out leads own way =
+    → newest (stand_after at later).keys.keys (holder_role h) ≡ Some a → Path (map ends_of (past_after at p later).links) a k → OpensFrom at p later h k
+later_opens later at p h r k a ok f t e clean out own way =
     let turns = turns_of at p later in
     let ends : state_after (state_of at p) turns ≡ state_of (stand_after at later) (past_after at p later) = states_are later at p f in
     let d : Opens (state_after (state_of at p) turns) (holder_role h) k = subst (λ s. Opens s (holder_role h) k) (sym ends) (a, own, way) in
-    opened_later later at p (state_after (state_of at p) turns).links published h k
-    (λ l i. leads l (subst (λ (s : State Role). In l s.links) ends i)) ok f t
+    opened_later later at p h k ok f t
     (opens_by_gain same_role same_role_tells is_root_role (state_of at p) turns ok.holds (are_steps later at p ok f t) (holder_role h) r k (holder_is_root h) e clean out d)

@@ -8,5 +8,6 @@ pub mod Secrets
 pub mod Computed
 pub mod NoteSteps
 pub mod Unseen
+pub mod Opening
 pub mod Clean
 pub mod Seeing

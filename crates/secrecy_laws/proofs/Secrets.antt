@@ -1,5 +1,5 @@
 -- Revocation secrecy for every valid journal, both sentences.
-use Rattle.std.proofs.Common.{◌≡◌, ℕ, ◌+◌, ◌^◌, ◌<◌, true, List, [], ◌∷◌, ◌++◌, map, length, Some, None, inl, inr, ◌⊎◌, ⊎_elim, refl, sym, ap, ◌∙◌, subst, append_assoc, append-nil}
+use Rattle.std.proofs.Common.{◌≡◌, ℕ, ◌+◌, ◌^◌, ◌<◌, true, List, [], ◌∷◌, ◌++◌, map, length, Some, None, inl, inr, ◌⊎◌, ◌↔◌, ⊎_elim, refl, sym, ap, ◌∙◌, subst, append_assoc, append-nil}
 use Rattle.std.proofs.lemmas.Bool.{and_parts}
 use Rattle.std.proofs.lemmas.List.{map-append}
 use Rattle.cry_base.specs.Limits.{most_file_bytes}
@@ -16,7 +16,7 @@ use Rattle.move_plan.specs.Change.{Change, change_of}
 use Rattle.move_plan.specs.Noting.{note_of}
 use Rattle.record_format.specs.Noted.{Note}
 use Rattle.record_format.specs.Noted.Note.{Root}
-use Rattle.public_fold.specs.Journal.{Entry, Journal, Stand, nothing, first_key, note_step, entry_step, entry_store, stand_then, stand_after, steps_from, steps_of, keys_of}
+use Rattle.public_fold.specs.Journal.{Entry, Journal, Stand, nothing, first_key, note_step, entry_step, entry_store, stand_then, stand_after, steps_from, steps_of, store_of, keys_of}
 use Rattle.public_fold.specs.Journal.Entry.{Session, Made, Did}
 use Rattle.public_fold.specs.Keyed.{KeysHold, links_of}
 use Rattle.public_fold.specs.KeyStep.{KeyState, Stepped, no_keys, next_epoch, newest, next_serial, keys_then, renewed, given, published_edges, published, step_with, key_step}
@@ -25,16 +25,18 @@ use Rattle.public_fold.specs.StandFits.{note_fits, entry_fits, all_fit}
 use Rattle.public_fold.specs.Valid.{FollowOn, BeginsWell, IsValid}
 use Rattle.public_fold.proofs.AllFit.{journal_all_fit}
 use Rattle.public_fold.proofs.KeepingKeys.{IsMove}
+use Rattle.public_fold.proofs.Prefixes.{stand_after-append}
 use Rattle.public_fold.proofs.KeyMoves.{IsSound, effect_sound, root_sound, root_moves, nothing_holds}
-use Rattle.closure_laws.specs.Gains.{IsWritten}
-use Rattle.closure_laws.specs.History.{Published, published_from, history, trails, own_serial, DerivesFor}
+use Rattle.closure_laws.specs.Gains.{IsWritten, IsGain}
+use Rattle.closure_laws.specs.History.{published_from, history, trails, own_serial, Derives, DerivesFor}
 use Rattle.closure_laws.specs.Secrecy.{IsShownNode, node_of_piece, GainsLater, KeepsSecret}
-use Rattle.secrecy_laws.specs.Holding.{Holds}
+use Rattle.secrecy_laws.specs.States.{State}
+use Rattle.secrecy_laws.specs.Holding.{Holds, Opens, OpensAnew}
 use Rattle.secrecy_laws.specs.Pasts.{Past, no_past, past_then, past_entry, past_after, past_of, ends_of, state_of}
-use Rattle.secrecy_laws.specs.Revocation.{GainOpens, OpensByGain}
+use Rattle.secrecy_laws.specs.Revocation.{OpensContent, GainOpens, OpensByGain}
 use Rattle.secrecy_laws.proofs.KeySteps.{source_clean, keyed_present}
 use Rattle.secrecy_laws.proofs.Sealing.{IsDueRole, pieces_sealed, sealed_due, sealed_stands, reached_shown, content_told}
-use Rattle.secrecy_laws.proofs.Journals.{Kept, moves, made_stand, made_past, made_kept, session_kept, did_kept, did_count, session_fit, fits_count, later_opens, first_below}
+use Rattle.secrecy_laws.proofs.Journals.{Kept, moves, made_stand, made_past, made_kept, session_kept, did_kept, did_count, session_fit, fits_count, OpensFrom, later_opens, first_below}
 
 -- the serial is of the present key of a clean role out of the holder's reach
 record IsUnseen (at : Stand) (h : ℕ) (r : Role) (k : ℕ) : Type 0 where
@@ -78,26 +80,25 @@ made_unseen keys h c i hidden =
     written_unseen no_store root_store (next_epoch no_keys) Root no_past root_moves (unfold no_past in nothing_holds) first_below root_sound h c i hidden
 
 -- from a stand on
-from_stand : (before : List Entry) (at : Stand) (p : Past) (entry : Entry) (later : List Entry) (c : Content) (published : List Published) (h a : ℕ)
+from_stand : (before : List Entry) (at : Stand) (p : Past) (entry : Entry) (later : List Entry) (c : Content) (h a : ℕ)
     → Kept at p → FollowOn at (before ++ entry ∷ later) → all_fit at (before ++ entry ∷ later) ≡ true
     → In c (entry_step (stand_after at before) entry).contents → (IsShownNode (stand_after at (before ++ entry ∷ [])).store h (node_of_piece c.piece) → ⊥)
-    → ((l : ℕ × ℕ) → In l (map ends_of (past_after at p (before ++ entry ∷ later)).links) → In l (trails published))
     → newest (stand_after at (before ++ entry ∷ later)).keys.keys (holder_role h) ≡ Some a → Path (map ends_of (past_after at p (before ++ entry ∷ later)).links) a c.key_serial
-    → GainOpens published (stand_after at (before ++ entry ∷ [])) later h c.key_serial
+    → OpensFrom (stand_after at (before ++ entry ∷ [])) (past_after at p (before ++ entry ∷ [])) later h c.key_serial
 unfolding stand_after past_after
-from_stand [] at p Session later c published h a ok f t i hidden leads own way = absurd (unfold entry_step in i)
-from_stand [] at p (Made keys) later c published h a ok f t i hidden leads own way = absurd f.0
-from_stand [] at p (Did request keys) later c published h a ok f t i hidden leads own way =
+from_stand [] at p Session later c h a ok f t i hidden own way = absurd (unfold entry_step in i)
+from_stand [] at p (Made keys) later c h a ok f t i hidden own way = absurd f.0
+from_stand [] at p (Did request keys) later c h a ok f t i hidden own way =
     let w = did_count at request keys later t in
     let u = did_unseen at p request keys ok f.0.0 h c i hidden in
-    later_opens later (stand_then at (Did request keys)) (past_entry at p (Did request keys)) published h (sealing_role c.piece) c.key_serial a
-    (did_kept at p request keys ok f.0.0 w.0) f.1 w.1 u.key u.clean u.out leads own way
-from_stand (Session ∷ before) at p entry later c published h a ok f t i hidden leads own way =
-    from_stand before (stand_then at Session) (past_entry at p Session) entry later c published h a (session_kept at p ok) f.1 (session_fit at (before ++ entry ∷ later) t) i hidden leads own way
-from_stand (Made keys ∷ before) at p entry later c published h a ok f t i hidden leads own way = absurd f.0
-from_stand (Did request keys ∷ before) at p entry later c published h a ok f t i hidden leads own way =
+    later_opens later (stand_then at (Did request keys)) (past_entry at p (Did request keys)) h (sealing_role c.piece) c.key_serial a
+    (did_kept at p request keys ok f.0.0 w.0) f.1 w.1 u.key u.clean u.out own way
+from_stand (Session ∷ before) at p entry later c h a ok f t i hidden own way =
+    from_stand before (stand_then at Session) (past_entry at p Session) entry later c h a (session_kept at p ok) f.1 (session_fit at (before ++ entry ∷ later) t) i hidden own way
+from_stand (Made keys ∷ before) at p entry later c h a ok f t i hidden own way = absurd f.0
+from_stand (Did request keys ∷ before) at p entry later c h a ok f t i hidden own way =
     let w = did_count at request keys (before ++ entry ∷ later) t in
-    from_stand before (stand_then at (Did request keys)) (past_entry at p (Did request keys)) entry later c published h a (did_kept at p request keys ok f.0.0 w.0) f.1 w.1 i hidden leads own way
+    from_stand before (stand_then at (Did request keys)) (past_entry at p (Did request keys)) entry later c h a (did_kept at p request keys ok f.0.0 w.0) f.1 w.1 i hidden own way
 
 -- what the first two entries leave
 made_fit : (keys : List (List ℕ)) (entries : List Entry) → all_fit nothing (Session ∷ Made keys ∷ entries) ≡ true
@@ -109,29 +110,28 @@ made_fit keys entries t =
     let both = and_parts (note_fits at Root step) (all_fit (made_stand keys) entries) (and_parts (entry_fits nothing Session) (all_fit at (Made keys ∷ entries)) t).1 in
     (fits_count at Root step both.0, both.1)
 
-from_nothing : (before : List Entry) (entry : Entry) (later : List Entry) (c : Content) (published : List Published) (h a : ℕ)
+from_nothing : (before : List Entry) (entry : Entry) (later : List Entry) (c : Content) (h a : ℕ)
     → BeginsWell (before ++ entry ∷ later) → all_fit nothing (before ++ entry ∷ later) ≡ true
     → In c (entry_step (stand_after nothing before) entry).contents → (IsShownNode (stand_after nothing (before ++ entry ∷ [])).store h (node_of_piece c.piece) → ⊥)
-    → ((l : ℕ × ℕ) → In l (map ends_of (past_after nothing no_past (before ++ entry ∷ later)).links) → In l (trails published))
     → newest (stand_after nothing (before ++ entry ∷ later)).keys.keys (holder_role h) ≡ Some a → Path (map ends_of (past_after nothing no_past (before ++ entry ∷ later)).links) a c.key_serial
-    → GainOpens published (stand_after nothing (before ++ entry ∷ [])) later h c.key_serial
+    → OpensFrom (stand_after nothing (before ++ entry ∷ [])) (past_after nothing no_past (before ++ entry ∷ [])) later h c.key_serial
 unfolding stand_after past_after past_entry
-from_nothing [] Session later c published h a b t i hidden leads own way = absurd (unfold entry_step in i)
-from_nothing [] (Made keys) later c published h a b t i hidden leads own way = absurd b
-from_nothing [] (Did request keys) later c published h a b t i hidden leads own way = absurd b
-from_nothing (Session ∷ []) Session later c published h a b t i hidden leads own way = absurd b
-from_nothing (Session ∷ []) (Made keys) later c published h a b t i hidden leads own way =
+from_nothing [] Session later c h a b t i hidden own way = absurd (unfold entry_step in i)
+from_nothing [] (Made keys) later c h a b t i hidden own way = absurd b
+from_nothing [] (Did request keys) later c h a b t i hidden own way = absurd b
+from_nothing (Session ∷ []) Session later c h a b t i hidden own way = absurd b
+from_nothing (Session ∷ []) (Made keys) later c h a b t i hidden own way =
     let w = made_fit keys later t in
     let u = made_unseen keys h c i hidden in
-    later_opens later (made_stand keys) (made_past keys) published h (sealing_role c.piece) c.key_serial a (made_kept keys w.0) b.1 w.1 u.key u.clean u.out leads own way
-from_nothing (Session ∷ []) (Did request keys) later c published h a b t i hidden leads own way = absurd b
-from_nothing (Session ∷ Session ∷ before) entry later c published h a b t i hidden leads own way = absurd b
-from_nothing (Session ∷ Made keys ∷ before) entry later c published h a b t i hidden leads own way =
+    later_opens later (made_stand keys) (made_past keys) h (sealing_role c.piece) c.key_serial a (made_kept keys w.0) b.1 w.1 u.key u.clean u.out own way
+from_nothing (Session ∷ []) (Did request keys) later c h a b t i hidden own way = absurd b
+from_nothing (Session ∷ Session ∷ before) entry later c h a b t i hidden own way = absurd b
+from_nothing (Session ∷ Made keys ∷ before) entry later c h a b t i hidden own way =
     let w = made_fit keys (before ++ entry ∷ later) t in
-    from_stand before (made_stand keys) (made_past keys) entry later c published h a (made_kept keys w.0) b.1 w.1 i hidden leads own way
-from_nothing (Session ∷ Did request keys ∷ before) entry later c published h a b t i hidden leads own way = absurd b
-from_nothing (Made keys ∷ before) entry later c published h a b t i hidden leads own way = absurd b
-from_nothing (Did request keys ∷ before) entry later c published h a b t i hidden leads own way = absurd b
+    from_stand before (made_stand keys) (made_past keys) entry later c h a (made_kept keys w.0) b.1 w.1 i hidden own way
+from_nothing (Session ∷ Did request keys ∷ before) entry later c h a b t i hidden own way = absurd b
+from_nothing (Made keys ∷ before) entry later c h a b t i hidden own way = absurd b
+from_nothing (Did request keys ∷ before) entry later c h a b t i hidden own way = absurd b
 
 -- the links of the past are the trails of the history
 past_links : (entries : List Entry) (at : Stand) (p : Past) → (past_after at p entries).links ≡ p.links ++ links_of (steps_from at entries)
@@ -162,29 +162,82 @@ journal_trails m = trails_are 1 (steps_of m) ∙ ap (λ l. map ends_of l) (sym (
     first : no_past.links ++ links_of (steps_from nothing m) ≡ links_of (steps_from nothing m)
     first = unfold no_past in refl
 
+-- one entry more
+after_stand : (before : Journal) (entry : Entry) → stand_after nothing (before ++ entry ∷ []) ≡ stand_then (stand_after nothing before) entry
+unfolding stand_after
+after_stand before entry = stand_after-append nothing before (entry ∷ [])
+
+past_after-append : (at : Stand) (p : Past) (xs ys : List Entry) → past_after at p (xs ++ ys) ≡ past_after (stand_after at xs) (past_after at p xs) ys
+unfolding past_after stand_after
+past_after-append at p [] ys = refl
+past_after-append at p (x ∷ xs) ys = past_after-append (stand_then at x) (past_entry at p x) xs ys
+
+after_past : (before : Journal) (entry : Entry) → past_of (before ++ entry ∷ []) ≡ past_entry (stand_after nothing before) (past_of before) entry
+unfolding past_after past_of
+after_past before entry = past_after-append nothing no_past before (entry ∷ [])
+
+-- the keys of a journal with its past
+abbrev state_in : Journal → State Role
+state_in m = state_of (stand_after nothing m) (past_of m)
+
+state_more : (before : Journal) (entry : Entry) → state_of (stand_then (stand_after nothing before) entry) (past_entry (stand_after nothing before) (past_of before) entry) ≡ state_in (before ++ entry ∷ [])
+state_more before entry = sym (ap (λ at. state_of at (past_of (before ++ entry ∷ []))) (after_stand before entry) ∙ ap (state_of (stand_then (stand_after nothing before) entry)) (after_past before entry))
+
+-- what a key opens there, the history of the journal derives from it
+opens_derives : (m : Journal) (r : Role) (k : ℕ) → Opens (state_in m) r k ↔ ((j : ℕ) × (newest (keys_of m).keys r ≡ Some j) × Derives (history m) j k)
+unfolding keys_of
+opens_derives m r k = (
+  λ d. (d.0, d.1, subst (λ z. Path z d.0 k) (sym (journal_trails m)) d.2),
+  λ d. (d.0, d.1, subst (λ z. Path z d.0 k) (journal_trails m) d.2),
+)
+
+content_opened : (before : Journal) (entry : Entry) (h : ℕ) (c : Content) → IsGain (stand_after nothing before) entry h → OpensAnew (state_in before) (state_in (before ++ entry ∷ [])) (holder_role h) c.key_serial → OpensContent before entry h c
+unfolding own_serial store_of keys_of
+content_opened before entry h c gain w =
+    let after = before ++ entry ∷ [] in
+    let b = w.brought.1 in record {
+      gain = gain;
+      not_before = λ d. w.not_before ((opens_derives before (holder_role h) c.key_serial).1 d);
+      after = (opens_derives after (holder_role h) c.key_serial).0 w.after;
+      brought = (
+        w.brought.0,
+        record { stood = b.0; was_out = b.2; reached = b.1; leads = (opens_derives after w.brought.0 c.key_serial).0 w.brought.2 },
+      );
+    }
+
+opens_later : (later : List Entry) (before : Journal) (h : ℕ) (c : Content) → OpensFrom (stand_after nothing before) (past_of before) later h c.key_serial → GainOpens before later h c
+opens_later [] before h c g = g
+opens_later (entry ∷ later) before h c g =
+    let at = stand_after nothing before in
+    let after = before ++ entry ∷ [] in ⊎_elim
+    (λ w. inl (content_opened before entry h c w.0 (subst (λ z. OpensAnew (state_in before) z (holder_role h) c.key_serial) (state_more before entry) w.1)))
+    (λ u. inr (opens_later later after h c
+    (subst (λ z. OpensFrom z (past_of after) later h c.key_serial) (sym (after_stand before entry))
+    (subst (λ z. OpensFrom (stand_then at entry) z later h c.key_serial) (sym (after_past before entry)) u)))) g
+
 -- the second sentence, and then the first
 parts_open : (before : List Entry) (entry : Entry) (later : List Entry) (c : Content) (h : ℕ) → IsValid (before ++ entry ∷ later) → IsWritten before entry c
     → (IsShownNode (stand_after nothing (before ++ entry ∷ [])).store h (node_of_piece c.piece) → ⊥) → DerivesFor (before ++ entry ∷ later) (TheHolder h) c
-    → GainOpens (history (before ++ entry ∷ later)) (stand_after nothing (before ++ entry ∷ [])) later h c.key_serial
+    → GainOpens (before ++ entry ∷ []) later h c
 unfolding own_serial keys_of past_of
 parts_open before entry later c h v i hidden d =
     let m = before ++ entry ∷ later in
-    let same : trails (history m) ≡ map ends_of (past_after nothing no_past m).links = journal_trails m in
-    from_nothing before entry later c (history m) h d.0 v.0 (journal_all_fit m v) i hidden
-    (λ l j. subst (In l) (sym same) j) d.1 (subst (λ z. Path z d.0 c.key_serial) same d.2)
+    opens_later later (before ++ entry ∷ []) h c
+    (from_nothing before entry later c h d.0 v.0 (journal_all_fit m v) i hidden d.1 (subst (λ z. Path z d.0 c.key_serial) (journal_trails m) d.2))
 
 pub opens_by_gain : (m : Journal) → IsValid m → (h : ℕ) → OpensByGain m h
 opens_by_gain m v h before entry later c e i hidden d =
-    subst (λ z. GainOpens (history z) (stand_after nothing (before ++ entry ∷ [])) later h c.key_serial) (sym e)
-    (parts_open before entry later c h (subst IsValid e v) i hidden (subst (λ z. DerivesFor z (TheHolder h) c) e d))
+    parts_open before entry later c h (subst IsValid e v) i hidden (subst (λ z. DerivesFor z (TheHolder h) c) e d)
 
-gains_later : (published : List Published) (entries : List Entry) (at : Stand) (h k : ℕ) → GainOpens published at entries h k → GainsLater at entries h
-gains_later published [] at h k g = g
-gains_later published (entry ∷ entries) at h k g = ⊎_elim (λ w. inl w.0) (λ u. inr (gains_later published entries (stand_then at entry) h k u)) g
+gains_later : (entries : List Entry) (before : Journal) (h : ℕ) (c : Content) → GainOpens before entries h c → GainsLater (stand_after nothing before) entries h
+gains_later [] before h c g = g
+gains_later (entry ∷ entries) before h c g = ⊎_elim
+    (λ w. inl w.gain)
+    (λ u. inr (subst (λ z. GainsLater z entries h) (after_stand before entry) (gains_later entries (before ++ entry ∷ []) h c u))) g
 
 pub keeps_secret : (m : Journal) → IsValid m → (h : ℕ) → KeepsSecret m h
 keeps_secret m v h before entry later c e i hidden none d =
-    none (gains_later (history m) later (stand_after nothing (before ++ entry ∷ [])) h c.key_serial (opens_by_gain m v h before entry later c e i hidden d))
+    none (gains_later later (before ++ entry ∷ []) h c (opens_by_gain m v h before entry later c e i hidden d))
 
 -- what holds after each entry
 after_kept : (entries : List Entry) (at : Stand) (p : Past) → Kept at p → FollowOn at entries → all_fit at entries ≡ true → Kept (stand_after at entries) (past_after at p entries)

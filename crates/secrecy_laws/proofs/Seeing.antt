@@ -1,4 +1,4 @@
--- What a holder's audit shows was shown to the holder when it was written, or a later gain opens it.
+-- What a holder's audit shows was shown to the holder when it was written, or a later gain opened it.
 use Rattle.std.proofs.Common.{◌≡◌, ℕ, suc, ◌+◌, List, [], ◌∷◌, ◌++◌, length, inl, inr, ◌⊎◌, ⊎_elim, refl, sym, ap, ◌∙◌, subst, arith}
 use Rattle.std.proofs.lemmas.Bool.{false≢true, cases_Bool}
 use Rattle.cry_base.specs.Sets.{In}
@@ -19,7 +19,7 @@ use Rattle.secrecy_laws.proofs.Secrets.{opens_by_gain}
 -- the positive form of revocation secrecy
 pub shown_or_opened : (m : Journal) → IsValid m → (h : ℕ) (before : List Entry) (entry : Entry) (later : List Entry) (c : Content) → m ≡ before ++ entry ∷ later → IsWritten before entry c
     → DerivesFor m (TheHolder h) c
-    → IsShownNode (stand_after nothing (before ++ entry ∷ [])).store h (node_of_piece c.piece) ⊎ GainOpens (history m) (stand_after nothing (before ++ entry ∷ [])) later h c.key_serial
+    → IsShownNode (stand_after nothing (before ++ entry ∷ [])).store h (node_of_piece c.piece) ⊎ GainOpens (before ++ entry ∷ []) later h c
 shown_or_opened m v h before entry later c e i d =
     let s = (stand_after nothing (before ++ entry ∷ [])).store in
     let told = node_told s h (node_of_piece c.piece) in ⊎_elim

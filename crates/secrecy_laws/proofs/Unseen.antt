@@ -72,7 +72,7 @@ unfolding derived_unseen
 unseen_told m h c =
     let own = own_serial m (TheHolder h) in
     let told = from_told (known_to m own) h m nothing c in
-    let known = known_told m h c.key_serial own refl in (
+    let known = known_told m c.key_serial own in (
       λ i. let w = told.0 i in (w.0, (w.1.0, (w.1.1.0, w.1.1.1, w.1.1.2, w.1.1.3, known.0 w.1.1.4))),
       λ w. told.1 (w.0, (w.1.0, (w.1.1.0, w.1.1.1, w.1.1.2, w.1.1.3, known.1 w.1.1.4))),
     )

@@ -40,3 +40,9 @@ Opens s h k = (own : ℕ) × (s.key h ≡ Some own) × Path s.links own k
 -- a role that had a key before comes into reach of h
 abbrev pub Brings : {R : Type 0} → State R → State R → R → R → Type 0
 Brings old new h r = ((k : ℕ) × (old.key r ≡ Some k)) × Path new.edges h r × (Path old.edges h r → ⊥)
+
+-- h opens the key in the new state and didn't in the old one: a role is brought whose present key opens it in the new state
+pub record OpensAnew {R : Type 0} (old new : State R) (h : R) (k : ℕ) : Type 0 where
+  pub not_before : Opens old h k → ⊥
+  pub after : Opens new h k
+  pub brought : (r : R) × Brings old new h r × Opens new r k

@@ -3,12 +3,11 @@ use Rattle.std.specs.Prelude.{◌≡◌, ℕ, ◌+◌, ◌⊎◌, List, [], ◌�
 use Rattle.public_fold.specs.Journal.{Entry, Journal, nothing, stand_after}
 use Rattle.public_fold.specs.Records.{Content}
 use Rattle.closure_laws.specs.Gains.{IsWritten}
-use Rattle.closure_laws.specs.History.{history}
 use Rattle.closure_laws.specs.Secrecy.{IsShownNode, node_of_piece}
 use Rattle.closure_laws.specs.Seen.{Sight, sight_of}
 use Rattle.secrecy_laws.specs.Revocation.{GainOpens}
 
--- the entry of the sight's batch wrote it, and it was shown to the holder then, or a later gain opens it
+-- the entry of the sight's batch wrote it, and it was shown to the holder then, or a later gain opened it
 pub record IsFairlySeen (m : Journal) (h : ℕ) (x : Sight) : Type 0 where
   pub before : List Entry
   pub entry : Entry
@@ -18,4 +17,4 @@ pub record IsFairlySeen (m : Journal) (h : ℕ) (x : Sight) : Type 0 where
   pub written : IsWritten before entry content
   pub sight : x ≡ sight_of (1 + length before) content
   pub why : IsShownNode (stand_after nothing (before ++ entry ∷ [])).store h (node_of_piece content.piece)
-      ⊎ GainOpens (history m) (stand_after nothing (before ++ entry ∷ [])) later h content.key_serial
+      ⊎ GainOpens (before ++ entry ∷ []) later h content

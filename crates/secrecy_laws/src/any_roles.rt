@@ -29,7 +29,8 @@ pub fn any_steps_keep_what_holds<R>()
 {}
 
 /// What is sealed under the present key of a clean role out of the reach of a root, the root doesn't open after any later steps,
-/// unless one of them brings a role into its reach; and where it opens it, the present key of such a role led to it.
+/// unless one of them brings a role into its reach; and where it opens it, the present key of such a role led to it once that step
+/// was done, and the root didn't open it before.
 pub fn any_roles_keep_secrets<R>()
     ensures secret { (same : R → R → Bool) (root : R → Bool) (s : State R) (turns : List (Turn R)) (h r : R) (k : ℕ)
         → Tells same → Holds root s → AreSteps root s turns

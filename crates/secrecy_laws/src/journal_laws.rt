@@ -1,11 +1,11 @@
 //! Laws of journals: what holds of their keys, and what a holder derives of what was written while it wasn't shown.
-ghost use Rattle.std.specs.Prelude.{Some, ◌≡◌, ◌<◌, ◌↔◌, ℕ, IsTrue, map};
+ghost use Rattle.std.specs.Prelude.{Some, ◌≡◌, ◌<◌, ◌↔◌, ℕ, IsTrue, List, map};
 ghost use Rattle.cry_base.specs.Sets.{In};
 ghost use Rattle.cry_base.specs.declared.roles.Role.{Role};
 ghost use Rattle.role_graph.specs.Edges.{Reaches, edges};
 ghost use Rattle.role_graph.specs.RightsByReach.{IsRightful, IsStandingRole};
 ghost use Rattle.role_graph.specs.Roles.{is_root_role};
-ghost use Rattle.public_fold.specs.Journal.{Journal, keys_of, nothing, stand_after, store_of};
+ghost use Rattle.public_fold.specs.Journal.{Entry, Journal, keys_of, nothing, stand_after, store_of};
 ghost use Rattle.public_fold.specs.KeyStep.{newest, next_serial};
 ghost use Rattle.public_fold.specs.Records.{Content};
 ghost use Rattle.public_fold.specs.Valid.{IsValid};
@@ -16,7 +16,7 @@ ghost use Rattle.secrecy_laws.specs.Pasts.{ends_of, past_of, state_of};
 ghost use Rattle.closure_laws.specs.Seen.{Sight, seen};
 ghost use Rattle.role_graph.specs.Rights.Who.{TheHolder};
 ghost use Rattle.secrecy_laws.specs.Sights.{IsFairlySeen};
-ghost use Rattle.secrecy_laws.specs.Revocation.{IsDerivedUnseen, OpensByGain, derived_unseen};
+ghost use Rattle.secrecy_laws.specs.Revocation.{GainOpens, IsDerivedUnseen, OpensByGain, derived_unseen, gain_opens};
 
 /// Revocation secrecy: in no valid journal a holder derives what an entry wrote while its object wasn't shown to the holder, unless a
 /// later entry is a gain for the holder.
@@ -24,14 +24,16 @@ pub fn journals_keep_secrets()
     ensures { (m : Journal) → IsValid m → (h : ℕ) → KeepsSecret m h }
 {}
 
-/// And where a holder does derive it, some later entry is a gain for the holder that brings a role into the holder's reach that had a
-/// key and wasn't in reach, and that role's present key after the entry leads to the key of what was written.
+/// And where a holder does derive it, some later entry is a gain for the holder that brought it: before that entry the holder didn't
+/// derive it; the entry brings a role into the holder's reach that had a key and wasn't in reach; and by what was published up to and
+/// with that entry, nothing later, the role's present key leads to what was written. (So by the whole history too: `history_grows` of
+/// `closure_laws`.)
 pub fn secrets_open_by_gains()
     ensures { (m : Journal) → IsValid m → (h : ℕ) → OpensByGain m h }
 {}
 
 /// Each name and file that an audit shows a holder of a valid journal was shown to the holder when it was written, or a later gain for
-/// the holder opens it.
+/// the holder opened it, by what was published up to that gain.
 pub fn audits_show_what_was_shown_or_gained()
     ensures { (m : Journal) → IsValid m → (h : ℕ) (x : Sight) → In x (seen m (TheHolder h)) → IsFairlySeen m h x }
 {}
@@ -39,6 +41,12 @@ pub fn audits_show_what_was_shown_or_gained()
 /// What is computed of a journal's secrets is what is said of them, for every journal.
 pub fn secrets_are_told()
     ensures { (m : Journal) (h : ℕ) → IsTrue (keeps_secret m h) ↔ KeepsSecret m h }
+{}
+
+/// What is computed of the gains that open a content is what is said of them, for any entries.
+pub fn gains_that_open_are_told()
+    ensures { (before : Journal) (entries : List Entry) (h : ℕ) (c : Content)
+        → IsTrue (gain_opens before entries h c) ↔ GainOpens before entries h c }
 {}
 
 /// What holds of keys over any roles holds after each entry of a valid journal; no serial that was ever given is the next one or above

@@ -1,8 +1,13 @@
 //! Worked rows of secrets, each computed by the checker from the definitions.
-ghost use Rattle.std.specs.Prelude.{◌≡◌, [], ◌∷◌, ◌++◌, codes, map};
-ghost use Rattle.cry_base.specs.Requests.Request.{MakeFolder, Relocate};
+ghost use Rattle.std.specs.Prelude.{◌≡◌, [], ◌∷◌, ◌++◌, codes, false, map, true};
+ghost use Rattle.cry_base.specs.Requests.Request.{Grant, MakeFolder, Relocate};
+ghost use Rattle.closure_laws.specs.Gains.{gains_from};
+ghost use Rattle.closure_laws.specs.Secrecy.{keeps_secret};
+ghost use Rattle.public_fold.specs.Journal.{nothing, stand_after};
 ghost use Rattle.public_fold.specs.WorkedSteps.{does, granting, revoking, writing_again};
-ghost use Rattle.secrecy_laws.specs.Revocation.{derived_unseen};
+ghost use Rattle.role_graph.specs.Roles.{clear_of};
+ghost use Rattle.secrecy_laws.specs.Revocation.{brings_role, derived_unseen, gain_opens};
+ghost use Rattle.secrecy_laws.specs.WorkedSecrets.{file_leaked, file_written, other_granted, the_contents, the_grant, the_leak};
 
 /// A grant opens what was written in its folder before: the root's name, the folder's and the file. A revocation adds nothing to it,
 /// and what is written after it is opened to the next holder alone, by a grant on the root.
@@ -21,4 +26,25 @@ pub fn a_move_opens_what_was_written_before()
     ensures { map (λ c. c.piece.name)
         (derived_unseen (granting ++ (does 5 (MakeFolder (codes "/b")) ∷ does 0 (Relocate (codes "/b") (codes "/a")) ∷ [])) 1)
         ≡ [] ∷ codes "a" ∷ codes "x" ∷ codes "b" ∷ [] }
+{}
+
+/// A gain of another folder explains no leak. Behind a grant on the one folder a holder is led to what was written before in the other,
+/// by a link that no owner publishes. The grant is a gain for the holder, and the only one, so the first sentence says nothing. It brings
+/// the granted folder's role, which leads to what was written by the whole history; but not by that up to the grant. So no gain opens it.
+#[tactic(auto, unfolding(crate::specs::WorkedSecrets::secrets))]
+pub fn gain_of_another_folder_explains_no_leak()
+    ensures before { map (λ c. c.piece.name) (derived_unseen other_granted 1) ≡ [] ∷ codes "b" ∷ [] }
+    ensures after { map (λ c. c.piece.name) (derived_unseen file_leaked 1) ≡ [] ∷ codes "a" ∷ codes "b" ∷ [] ∷ codes "x" ∷ [] }
+    ensures gains { gains_from (stand_after nothing file_written) (the_grant ∷ the_leak ∷ []) 1 ≡ true ∷ false ∷ [] }
+    ensures first_sentence { keeps_secret file_leaked 1 ≡ true }
+    ensures by_the_whole { map (λ c. brings_role file_written file_leaked 1 c.key_serial (clear_of 3)) the_contents ≡ true ∷ [] }
+    ensures by_the_grant { map (λ c. brings_role file_written other_granted 1 c.key_serial (clear_of 3)) the_contents ≡ false ∷ [] }
+    ensures opened_by_none { map (gain_opens file_written (the_grant ∷ the_leak ∷ []) 1) the_contents ≡ false ∷ [] }
+{}
+
+/// A grant on the folder itself does open it, and so does one on the root.
+#[tactic(auto, unfolding(crate::specs::WorkedSecrets::secrets))]
+pub fn grants_open_by_what_was_published_by_then()
+    ensures own { map (gain_opens file_written (does 0 (Grant 1 (codes "/a")) ∷ []) 1) the_contents ≡ true ∷ [] }
+    ensures root { map (gain_opens file_written (does 0 (Grant 1 (codes "/")) ∷ []) 1) the_contents ≡ true ∷ [] }
 {}
