@@ -12,7 +12,8 @@ import signal
 import struct
 from functools import partial
 
-PWRITE, FSYNC = {"x86_64": (18, 74), "aarch64": (67, 82)}.get(platform.machine(), (None, None))  # the numbers of these calls
+# the numbers of these calls
+PREAD, PWRITE, FSYNC = {"x86_64": (17, 18, 74), "aarch64": (67, 68, 82)}.get(platform.machine(), (None, None, None))
 KILLED = -signal.SIGSYS  # the status of a program that a filter stopped
 NOBODY = 65534
 
@@ -50,6 +51,11 @@ def killed_at(place):
 def failing_at(place):
     """Each write to this place of a file fails."""
     return answered(FAIL, (NUMBER, PWRITE), (PLACE, place))
+
+
+def unread_at(place):
+    """Each read that names this place of a file fails."""
+    return answered(FAIL, (NUMBER, PREAD), (PLACE, place))
 
 
 def no_syncs():
