@@ -20,13 +20,15 @@ def seconds(words, typed, tries):
     return min(took)
 
 
-def instructions(words, typed):
-    """How many instructions a command takes, and None where no valgrind tells."""
+def instructions(words, typed, status=0):
+    """How many instructions a command takes that ends with this status, and None where no valgrind tells."""
     if not shutil.which("valgrind"):
         return None
     counting = ["valgrind", "--tool=cachegrind", "--cache-sim=no", "--cachegrind-out-file=/dev/null"]
-    said = subprocess.run(counting + words, input=typed, check=True, stdout=subprocess.DEVNULL, stderr=subprocess.PIPE).stderr
-    return int(re.search(rb"I\s+refs:\s+([0-9,]+)", said).group(1).replace(b",", b""))
+    done = subprocess.run(counting + words, input=typed, stdout=subprocess.DEVNULL, stderr=subprocess.PIPE)
+    if done.returncode != status:
+        raise subprocess.CalledProcessError(done.returncode, words, stderr=done.stderr)
+    return int(re.search(rb"I\s+refs:\s+([0-9,]+)", done.stderr).group(1).replace(b",", b""))
 
 
 def calls(words, typed, wanted):

@@ -1,6 +1,7 @@
 """What checks of the real program share: calls of it, many at a time, and what came otherwise than it was due."""
 import concurrent.futures
 import os
+import shutil
 import subprocess
 import sys
 import tempfile
@@ -71,6 +72,15 @@ def is_left(path, due):
 def read(path):
     with open(path, "rb") as file:
         return file.read()
+
+
+def have(tool):
+    """Sees to it that there is a tool of this name, installed by the system's packages where it is missing and may be, or ends the check."""
+    for words in (["update"], ["install", "-y", "--no-install-recommends", tool]):
+        if not shutil.which(tool) and shutil.which("apt-get"):
+            subprocess.run(["apt-get", "-qq", *words], stdin=subprocess.DEVNULL, stdout=subprocess.DEVNULL, stderr=subprocess.DEVNULL)
+    if not shutil.which(tool):
+        sys.exit(f"{os.path.basename(sys.argv[0])}: {tool} is needed, which isn't here and couldn't be installed by apt-get")
 
 
 def main(doc, part):

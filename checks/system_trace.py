@@ -1,13 +1,9 @@
 """What a program asks of the system, as strace tells it: the files that it opened, and then in their order what it drew, wrote, synced,
 printed and said. Whatever else it asked for is odd, but for memory and what every start asks for."""
 import re
-import shutil
-import subprocess
-import sys
 from collections import namedtuple
 
 STRACE = ["strace", "-f", "-xx", "-s", "1000000", "-o"]
-INSTALLS = (["apt-get", "update", "-qq"], ["apt-get", "install", "-qq", "-y", "--no-install-recommends", "strace"])
 LINE = re.compile(r"(?:\d+ +)?(\w+)\((.*)\) += (-?\d+|0x[0-9a-f]+|\?)(?: (E[A-Z0-9]+) .*| .*)?")
 ENDED = re.compile(r"(?:\d+ +)?(\+\+\+|---) .*")
 
@@ -22,15 +18,6 @@ STREAMS = {0: "input", 1: "output", 2: "errors"}
 Call = namedtuple("Call", "name words answer fault")
 Opened = namedtuple("Opened", "path flags mode fault", defaults=("", ""))
 Taken = namedtuple("Taken", "before count fault printed")  # of the input: bytes taken before, and in this read; bytes printed before it
-
-
-def have_strace():
-    """Sees to it that there is a strace, or ends the check."""
-    for words in INSTALLS:
-        if not shutil.which("strace") and shutil.which("apt-get"):
-            subprocess.run(words, stdin=subprocess.DEVNULL, stdout=subprocess.DEVNULL, stderr=subprocess.DEVNULL)
-    if not shutil.which("strace"):
-        sys.exit("this check needs strace, which isn't here and couldn't be installed by apt-get")
 
 
 def words_of(text):
