@@ -2,18 +2,16 @@
 #![tactic(auto)]
 
 mod files;
-mod known;
 mod progress;
-mod read_ahead;
 
 use crate::files::{Access, Random, open_store};
-use crate::progress::{Progress, Watched};
-use crate::read_ahead::ReadAhead;
+use crate::progress::{Progress, pace_of};
 use cry_base::{List, Mem, Text};
 use cry_io::{FileDisk, StdSink, StdSource};
 use cryptree_cli::status::{Status, fault_line};
 use cryptree_cli::top::top;
 use cryptree_cli::words::form_of;
+use file_disks::{ReadAhead, Watched};
 use std::process::ExitCode;
 use std::{env, io};
 
@@ -57,7 +55,7 @@ fn run(rt: &HostRuntime, words: &List<Text>) -> Status {
     };
     let progress = form.and_then(|form| Progress::of(rt, form));
     let file = ReadAhead::over(rt.alloc(), FileDisk::over(store));
-    let mut disk = Watched::over(file, progress);
+    let mut disk = Watched::over(file, pace_of(form), progress);
     let mut random = StdSource::new(random);
     let mut input = StdSource::new(rt.stdin());
     let mut out = StdSink::new(rt.stdout());

@@ -1,6 +1,6 @@
 //! Bytes that were read from a disk last.
 ghost use Rattle.std.specs.Prelude.{◌≡◌, ◌+◌, ◌≤◌, ℕ, List, IfSome, IsTrue, length, slice_range, vec_len};
-ghost use Rattle.cryptree.specs.Ahead.{IsOf};
+ghost use Rattle.file_disks.specs.Ahead.{IsOf};
 ghost use Rattle.cry_io.specs.Counts.{CountsFault};
 ghost use Rattle.cry_io.specs.Reading.{IsOnlyRead};
 ghost use Rattle.cry_io.specs.Told.{WhereTold};

@@ -1,5 +1,5 @@
 use Rattle.std.proofs.Common.{sym, ◌∙◌}
-use Rattle.cryptree.proofs.read_ahead.ReadAheadDisk.sync.Goals as goal
+use Rattle.file_disks.proofs.read_ahead.ReadAheadDisk.sync.Goals as goal
 
 pub invariant_of-self : goal.invariant_of-self
 invariant_of-self g c = λ x told. c.self.invariant x (sym c.sync.ensures.shown ∙ told)

@@ -3,7 +3,7 @@ use Rattle.std.specs.Prelude.{OnErr, OnOk}
 use Rattle.cry_io.specs.Stops.{Torn, Written}
 use Rattle.cry_io.specs.Told.{WhereBothTold}
 use Rattle.std.proofs.Common.{length}
-use Rattle.cryptree.proofs.read_ahead.ReadAheadDisk.write_at.Goals as goal
+use Rattle.file_disks.proofs.read_ahead.ReadAheadDisk.write_at.Goals as goal
 
 pub invariant_of-self : goal.invariant_of-self
 invariant_of-self g c = λ x told. c.forget.ensures x

@@ -9,13 +9,13 @@ use std::marker::Model;
 
 /// A disk, with bytes that were read from it: a read within them asks it nothing. Contracts see the disk.
 #[derive(Drop)]
-pub(crate) struct ReadAhead<D: Disk> {
+pub struct ReadAhead<D: Disk> {
     disk: D,
     known: Known,
 }
 
 impl<D: Disk> Model for ReadAhead<D> {
-    ghost use Rattle.cryptree.specs.Ahead.{IsOf};
+    ghost use Rattle.file_disks.specs.Ahead.{IsOf};
     ghost use Rattle.cry_io.specs.Told.{WhereTold};
 
     ghost Value = { D };
@@ -27,7 +27,7 @@ impl<D: Disk> Model for ReadAhead<D> {
 
 impl<D: Disk> ReadAhead<D> {
     /// The disk, of which nothing was read yet. Where there is no memory for it, nothing is read ahead.
-    pub(crate) fn over(alloc: Global, disk: D) -> ReadAhead<D>
+    pub fn over(alloc: Global, disk: D) -> ReadAhead<D>
         ensures { result ≡ disk }
     {
         ReadAhead {

@@ -1,5 +1,5 @@
-use Rattle.cryptree.proofs.Parts.{range_known}
-use Rattle.cryptree.proofs.known.Known.find.Goals as goal
+use Rattle.file_disks.proofs.Parts.{range_known}
+use Rattle.file_disks.proofs.known.Known.find.Goals as goal
 
 pub returns-clause-bytes : goal.returns-clause-bytes
 returns-clause-bytes c = λ s is.
