@@ -1,8 +1,7 @@
--- What an audit shows a holder was shown to the holder when it was written, or a later gain opens it.
-use Rattle.std.proofs.Common.{◌≡◌, ⊎_elim, ℕ, List, Option, None, Some, Result, Ok, Err, refl, sym, subst}
+-- What an audit shows a holder was shown to the holder when it was written, or a later gain opened it.
+use Rattle.std.proofs.Common.{◌≡◌, ⊎_elim, ℕ, List, Option, None, Some, Result, Ok, Err, refl, subst}
 use Rattle.closure_laws.specs.Seen.{Sight, seen}
 use Rattle.cry_base.specs.Listed.{Listed}
-use Rattle.cry_base.specs.Sets.{In}
 use Rattle.cry_base.specs.Store.{HolderEntry, holder_entry}
 use Rattle.cry_base.specs.declared.client.Bundle.TheVariants as bundles
 use Rattle.cry_base.specs.declared.ids.HolderId.{HolderId}
@@ -13,11 +12,10 @@ use Rattle.public_fold.specs.Journal.{Journal, store_of}
 use Rattle.journal_bytes.specs.Journals.{IsHonestFor, StandsForJournal, published_journal}
 use Rattle.reader_laws.specs.Reading.{IsRightFor, if_known}
 use Rattle.reader_laws.proofs.Published.{MayPublish, may_publish}
-use Rattle.secrecy_laws.specs.Sights.{IsFairlySeen}
 use Rattle.secrecy_laws.proofs.Seeing.{fairly_seen}
 use Rattle.trail_audit.specs.Derived.{MayAnswer, PlainSeen, seen_of_sight}
 use Rattle.cry_base.specs.declared.client.Seen.{Seen}
-use Rattle.audit_laws.specs.Audited.{audit_answer, audit_of_journal, seen_items}
+use Rattle.audit_laws.specs.Audited.{AreFairlySeen, audit_answer, audit_of_journal, seen_items}
 use Rattle.audit_laws.proofs.Answered.{audit_answered}
 use Rattle.audit_laws.proofs.Begun.{begun_holder}
 
@@ -36,7 +34,7 @@ known_items p h key items is =
       | Some d ↦ λ entry e. ((d, entry), same_items (audit_of_journal p (TheHolder h.0)) items e)
     ]) refl is
 
-sights_fair : (owner : List ℕ) (p : Journal) (h : ℕ) (e : HolderEntry) → MayPublish owner p → holder_entry (store_of p) h ≡ Some e → (s : PlainSeen) → In s (audit_of_journal p (TheHolder h)) → (x : Sight) × IsFairlySeen p h x × (s ≡ seen_of_sight x)
+sights_fair : (owner : List ℕ) (p : Journal) (h : ℕ) (e : HolderEntry) → MayPublish owner p → holder_entry (store_of p) h ≡ Some e → AreFairlySeen p h (audit_of_journal p (TheHolder h))
 unfolding audit_of_journal
 sights_fair owner p h e may entry s i =
     let w = (In-map Sight PlainSeen seen_of_sight s (seen p (TheHolder h))).0 i in ⊎_elim
@@ -44,9 +42,15 @@ sights_fair owner p h e may entry s i =
     (λ q. absurd (begun_holder h e (subst (λ z. holder_entry (store_of z) h ≡ Some e) q entry)))
     may
 
-pub audit_fair : (owner : List ℕ) (m : Journal) (bytes : List ℕ) (h : HolderId) (key : List ℕ) (answer : Listed Seen) → StandsForJournal owner m bytes → IsHonestFor owner bytes m → IsRightFor owner (published_journal owner bytes m) (bundles.Holder h key)
-    → MayAnswer (bundles.Holder h key) bytes (Ok answer) → (s : PlainSeen) → In s (seen_items answer) → (x : Sight) × IsFairlySeen (published_journal owner bytes m) h.0 x × (s ≡ seen_of_sight x)
-audit_fair owner m bytes h key answer stands honest right may s i =
+-- what the journal's history answers a holder is fairly seen, and so is what an audit of the bytes shows
+pub answer_fair : (owner : List ℕ) (m : Journal) (bytes : List ℕ) (h : HolderId) (key : List ℕ) (items : List PlainSeen) → StandsForJournal owner m bytes
+    → audit_answer (published_journal owner bytes m) (bundles.Holder h key) ≡ Ok items → AreFairlySeen (published_journal owner bytes m) h.0 items
+answer_fair owner m bytes h key items stands is =
     let p = published_journal owner bytes m in
-    let known = known_items p h key (seen_items answer) (audit_answered owner m bytes (bundles.Holder h key) (Ok answer) stands honest right may) in
-    sights_fair owner p h.0 known.0.0 (may_publish owner bytes m stands.valid stands.whole_keys) known.0.1 s (subst (λ (l : List PlainSeen). In s l) (sym known.1) i)
+    let known = known_items p h key items is in
+    subst (λ (l : List PlainSeen). AreFairlySeen p h.0 l) known.1 (sights_fair owner p h.0 known.0.0 (may_publish owner bytes m stands.valid stands.whole_keys) known.0.1)
+
+pub audit_fair : (owner : List ℕ) (m : Journal) (bytes : List ℕ) (h : HolderId) (key : List ℕ) (answer : Listed Seen) → StandsForJournal owner m bytes → IsHonestFor owner bytes m → IsRightFor owner (published_journal owner bytes m) (bundles.Holder h key)
+    → MayAnswer (bundles.Holder h key) bytes (Ok answer) → AreFairlySeen (published_journal owner bytes m) h.0 (seen_items answer)
+audit_fair owner m bytes h key answer stands honest right may =
+    answer_fair owner m bytes h key (seen_items answer) stands (audit_answered owner m bytes (bundles.Holder h key) (Ok answer) stands honest right may)

@@ -1,9 +1,7 @@
 //! Laws of what audits answer of bytes that stand for a journal.
-ghost use Rattle.std.specs.Prelude.{◌≡◌, List, Ok, Err, Result, ℕ};
-ghost use Rattle.closure_laws.specs.Seen.{Sight};
+ghost use Rattle.std.specs.Prelude.{List, Ok, Err, Result, ℕ};
 ghost use Rattle.commit_journal.specs.Answering.{WrongKey};
 ghost use Rattle.cry_base.specs.Listed.{Listed};
-ghost use Rattle.cry_base.specs.Sets.{In};
 ghost use Rattle.cry_base.specs.declared.client.Bundle.{Bundle};
 ghost use Rattle.cry_base.specs.declared.ids.HolderId.{HolderId};
 ghost use Rattle.log_visits.specs.Answering.{AnswersAs};
@@ -12,10 +10,9 @@ ghost use Rattle.log_visits.specs.declared.fault.ClientFault.{ClientFault};
 ghost use Rattle.public_fold.specs.Journal.{Journal};
 ghost use Rattle.journal_bytes.specs.Journals.{IsHonestFor, StandsForJournal, published_journal};
 ghost use Rattle.reader_laws.specs.Reading.{IsRightFor, IsWrongFor};
-ghost use Rattle.secrecy_laws.specs.Sights.{IsFairlySeen};
-ghost use Rattle.trail_audit.specs.Derived.{MayAnswer, PlainSeen, seen_of_sight};
+ghost use Rattle.trail_audit.specs.Derived.{MayAnswer, PlainSeen};
 ghost use Rattle.cry_base.specs.declared.client.Seen.{Seen};
-ghost use Rattle.audit_laws.specs.Audited.{audit_answer, seen_items};
+ghost use Rattle.audit_laws.specs.Audited.{AreFairlySeen, audit_answer, seen_items};
 
 /// Law: of bytes that stand for a journal, with an honest last slot, an audit with a right key answers exactly what the history of
 /// the journal that they publish derives from that key: each name and file, as it was written, in the order of their batches. It
@@ -33,11 +30,11 @@ pub fn audits_are_the_journals()
 {}
 
 /// Law: each name and file that an audit of such bytes shows a holder was shown to the holder when it was written, or a later gain
-/// for the holder opens it.
+/// for the holder opened it, by what was published up to that gain.
 pub fn audits_show_what_was_shown_or_gained()
     ensures { (owner : List ℕ) (m : Journal) (bytes : List ℕ) (h : HolderId) (key : List ℕ) (answer : Listed Seen)
         → StandsForJournal owner m bytes → IsHonestFor owner bytes m
         → IsRightFor owner (published_journal owner bytes m) (Bundle.Holder h key)
-        → MayAnswer (Bundle.Holder h key) bytes (Ok answer) → (s : PlainSeen) → In s (seen_items answer)
-        → (x : Sight) × IsFairlySeen (published_journal owner bytes m) h.0 x × (s ≡ seen_of_sight x) }
+        → MayAnswer (Bundle.Holder h key) bytes (Ok answer)
+        → AreFairlySeen (published_journal owner bytes m) h.0 (seen_items answer) }
 {}

@@ -2,6 +2,7 @@
 use Rattle.std.proofs.Common.{refl, ◌≡◌, ℕ, List, [], ◌∷◌, map, Option, Result, Ok, Err, ap, subst, sym, ◌∙◌}
 use Rattle.audit_laws.specs.Audited.{seen_items}
 use Rattle.audit_laws.proofs.Answered.{audit_answered, audit_refused}
+use Rattle.audit_laws.proofs.Fair.{answer_fair}
 use Rattle.commit_journal.specs.Answering.{NotAStore, WrongKey, Damaged, Tampered}
 use Rattle.cry_base.specs.Listed.{Listed}
 use Rattle.cry_base.specs.declared.client.Bundle.{Bundle}
@@ -89,6 +90,7 @@ audit_as_journal status typed image before after answered = record {
   right = λ owner m bundle hands stands honest right.
       answered_more (AuditGives bundle image) _ (given_so bundle image _ (λ result may. audit_answered owner m image bundle result stands honest right may)) status before after
       (subst (λ input. AnswersAs status (AnswersFor (λ b. AuditGives b image) input) before after) hands answered);
+  fair = λ owner m h key seen stands is. answer_fair owner m image h key seen stands is;
   wrong = λ owner m bundle hands stands honest wrong.
       answered_more (AuditGives bundle image) _ (given_so bundle image (Err (OfBytes WrongKey)) (λ result may. audit_refused owner m image bundle result stands honest wrong may)) status before after
       (subst (λ input. AnswersAs status (AnswersFor (λ b. AuditGives b image) input) before after) hands answered);

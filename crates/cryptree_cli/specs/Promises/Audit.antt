@@ -1,8 +1,9 @@
 -- What `audit` promises, whatever the input holds and the disk shows. It reads the input to its end, opens all that the key leads to in
 -- the store's history, and then prints it in one piece. The first line that is bad is told, also where the input failed behind it; of the
--- store any bad record's failure. On a disk that shows a journal it answers what its history derives, to a reader whose key is right;
--- another key is told so. Whatever the disk shows, whoever has a key of a journal is shown what the journal once wrote, or a forged record
--- stands there. At each moment of the call the disk shows what it showed, and a stop leaves what it left; nothing is drawn.
+-- store any bad record's failure. On a disk that shows a journal it answers what its history derives, to a reader whose key is right, and
+-- to a holder nothing but what was shown when it was written, or what a later gain opened; another key is told so. Whatever the disk shows,
+-- whoever has a key of a journal is shown what the journal once wrote, or a forged record stands there. At each moment of the call the disk
+-- shows what it showed, and a stop leaves what it left; nothing is drawn.
 use Rattle.std.specs.Prelude.{◌≡◌, IsTrue}
 use Rattle.commit_journal.specs.Moments.{IsSameThroughout}
 use Rattle.cry_io.specs.Told.{WhereTold}
