@@ -4,7 +4,7 @@ use Rattle.std.specs.Prelude.{slice_index, slice_range}
 use Rattle.std.proofs.Math.Seq.{take-append_seam, drop-append_seam}
 use Rattle.std.proofs.lemmas.List.{drop-drop, length-take-le, length-drop, places, take-append-drop}
 use Rattle.cry_io.specs.Stops.{Torn, Written}
-use Rattle.batch_log.specs.Steps.{AtEntry, BehindClosedGate, BehindOpenGate, Published, EndsAt, Interrupts, IsHeldWhereShown, IsOneOfFour, IsStageable, shown_at, with_slot, written_at, zero_slot}
+use Rattle.batch_log.specs.Steps.{EndsAt, Interrupts, IsHeldWhereShown, IsStageable, with_slot, zero_slot}
 use Rattle.batch_log.proofs.Lists.{torn_behind, torn_over, written_behind, written_over}
 
 -- ---- the three steps, done
@@ -70,7 +70,7 @@ torn_in_staging end batch x y torn = λ front behind gate ends is.
     inl (after, stays ∙ append_assoc front (gate ∷ []) after)
 
 -- the batch as it is written holds some bytes in its slot
-own_slot : (batch : List ℕ) → 45 ≤ length batch → (slot : List ℕ) × (length slot ≡ 32) × (batch ≡ with_slot slot batch)
+pub own_slot : (batch : List ℕ) → 45 ≤ length batch → (slot : List ℕ) × (length slot ≡ 32) × (batch ≡ with_slot slot batch)
 own_slot batch whole = (take 32 (drop 13 batch), length-take-le 32 (drop 13 batch) (omega (arith, whole, length-drop 13 batch)), parts batch)
 
 one_byte : (bytes : List ℕ) → length bytes ≡ 1 → (byte : ℕ) × (bytes ≡ byte ∷ [])
@@ -170,23 +170,3 @@ held_in_unveiling end batch x one two s c whole ends staged opened torn = λ ope
       slot_size = over.1;
       bytes_are = over.2;
     }
-
--- ---- the four lists
-
-pub four_in_staging : (end : ℕ) (batch veil x s c : List ℕ) → (s ≡ x) ⊎ (s ≡ written_at end batch x) → IsOneOfFour end batch veil x s c
-unfolding shown_at
-four_in_staging end batch veil x s c (inl is) = (AtEntry, is)
-four_in_staging end batch veil x s c (inr is) = (BehindClosedGate, is)
-
-pub four_in_opening : (end : ℕ) (batch veil x one s c : List ℕ) → Written end batch x one → (s ≡ one) ⊎ (s ≡ written_at (end - 1) (1 ∷ []) one)
-    → IsOneOfFour end batch veil x s c
-unfolding shown_at
-four_in_opening end batch veil x one s c staged (inl is) = (BehindClosedGate, is ∙ staged)
-four_in_opening end batch veil x one s c staged (inr is) = (BehindOpenGate, is ∙ ap (λ r. written_at (end - 1) (1 ∷ []) r) staged)
-
-pub four_in_unveiling : (end : ℕ) (batch veil x one two s c : List ℕ) → Written end batch x one → Written (end - 1) (1 ∷ []) one two
-    → (s ≡ two) ⊎ (s ≡ written_at (end + 13) veil two) → IsOneOfFour end batch veil x s c
-unfolding shown_at
-four_in_unveiling end batch veil x one two s c staged opened (inl is) = (BehindOpenGate, is ∙ opened ∙ ap (λ r. written_at (end - 1) (1 ∷ []) r) staged)
-four_in_unveiling end batch veil x one two s c staged opened (inr is) =
-    (Published, is ∙ ap (λ r. written_at (end + 13) veil r) (opened ∙ ap (λ r. written_at (end - 1) (1 ∷ []) r) staged))

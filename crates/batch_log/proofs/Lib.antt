@@ -1,4 +1,5 @@
 pub mod Committed
+pub mod Handed
 pub mod InOrder
 pub mod Lists
 pub mod Moments

@@ -2,9 +2,10 @@
 use Rattle.std.proofs.Common.{◌≡◌, ℕ, ◌+◌, ◌-◌, ◌≤◌, List, [], ◌∷◌, ◌++◌, length, take, drop, append_assoc, arith, refl, sym, ap, subst, ◌∙◌, length-append}
 use Rattle.std.specs.Prelude.{slice_index, slice_range}
 use Rattle.std.proofs.Math.Seq.{take-append_seam, drop-append_seam}
-use Rattle.std.proofs.lemmas.List.{length-take-le, length-drop, places}
+use Rattle.std.proofs.lemmas.List.{length-take-le, length-drop, places, take-append-drop}
 use Rattle.cry_io.specs.Stops.{Written}
-use Rattle.batch_log.specs.Steps.{EndsAt, IsGatedAt, IsStageable, IsStagedAt, StandsAt, zero_slot}
+use Rattle.batch_log.specs.Steps.{EndsAt, HoldsBatch, IsGatedAt, IsStageable, IsStagedAt, StandsAt, with_slot, zero_slot}
+use Rattle.batch_log.proofs.Committed.{own_slot}
 use Rattle.batch_log.proofs.Lists.{written_behind}
 
 -- what was written stands there
@@ -43,16 +44,42 @@ staged_written end body x y written ends =
     }
 
 -- the gate was opened
-pub gated_written : (end len : ℕ) (x y : List ℕ) → 1 ≤ end → end + len ≤ length x → Written (end - 1) (1 ∷ []) x y → IsGatedAt end len y
-gated_written end len x y from inside written =
+pub gated_written : (end : ℕ) (body x y : List ℕ) → 1 ≤ end → 45 ≤ length body → end + length body ≤ length x → StandsAt end body x
+    → Written (end - 1) (1 ∷ []) x y → HoldsBatch end body y
+gated_written end body x y from whole inside stands written =
     let place = end - 1 in
     let front = take place x in
-    let behind = drop (place + 1) x in
-    let long : length front ≡ place = length-take-le place x (omega (arith, inside)) in
-    let is : y ≡ front ++ 1 ∷ behind = written ∙ append_assoc front (1 ∷ []) behind in
+    let behind = drop (length body) (drop end x) in
+    let next : place + 1 ≡ end = omega (arith, from) in
+    let far : end + length body - end ≡ length body = omega arith in
+    let body_is : take (length body) (drop end x) ≡ body = ap (λ n. take n (drop end x)) (sym far) ∙ stands in
+    let rest : drop (place + 1) x ≡ body ++ behind =
+    ap (λ n. drop n x) next ∙ sym (take-append-drop (length body) (drop end x)) ∙ ap (λ r. r ++ behind) body_is in
+    let slot = own_slot body whole in
     record {
-      opened = ap (λ r. slice_index r place) is ∙ grind (arith, places);
-      inside = omega (arith, ap length is, length-append front (1 ∷ behind), long, length-drop (place + 1) x, inside, from);
+      front = front;
+      slot = slot.0;
+      behind = behind;
+      place = let long : length front ≡ place = length-take-le place x (omega (arith, inside)) in omega (arith, long, from);
+      slot_size = slot.1;
+      bytes_are = written ∙ append_assoc front (1 ∷ []) (drop (place + 1) x) ∙ ap (λ r. front ++ (1 ∷ r)) rest
+          ∙ ap (λ b. front ++ (1 ∷ (b ++ behind))) slot.2;
+    }
+
+-- a batch behind an open gate is as long as it is
+pub holds_gated : (end : ℕ) (body x : List ℕ) → 45 ≤ length body → HoldsBatch end body x → IsGatedAt end (length body) x
+holds_gated end body x whole holds =
+    let is = holds.bytes_are in
+    let place = holds.place in
+    let size = holds.slot_size in
+    let held = with_slot holds.slot body in
+    let last : end - 1 ≡ length holds.front = omega (arith, place) in
+    let one = length-append (take 13 body) (holds.slot ++ drop 45 body) in
+    let two = length-append holds.slot (drop 45 body) in
+    let long : length held ≡ length body = omega (arith, one, two, size, whole, length-take-le 13 body (omega (arith, whole)), length-drop 45 body) in
+    record {
+      opened = ap (λ r. slice_index r (end - 1)) is ∙ grind (arith, places);
+      inside = omega (arith, ap length is, length-append holds.front (1 ∷ (held ++ holds.behind)), length-append held holds.behind, long, place);
     }
 
 -- a batch that may be staged has its front, a payload of any size, and its back

@@ -1,3 +1,4 @@
+pub mod Handing
 pub mod Moments
 pub mod Steps
 pub mod Tokens

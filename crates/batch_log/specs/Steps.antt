@@ -41,24 +41,6 @@ pub record IsGatedAt (end len : ℕ) (bytes : List ℕ) : Type 0 where
   pub opened : slice_index bytes (end - 1) ≡ 1
   pub inside : end + len ≤ length bytes
 
--- the lists that a commit shows, one after another
-pub data Stage : Type 0 where
-  AtEntry : Stage
-  BehindClosedGate : Stage
-  BehindOpenGate : Stage
-  Published : Stage
-
--- as at entry; with the batch at the log's end, behind its closed gate; with that gate open; with the veil key in the slot
-unfoldable pub shown_at : ℕ → List ℕ → List ℕ → List ℕ → Stage → List ℕ
-shown_at end body veil old AtEntry = old
-shown_at end body veil old BehindClosedGate = written_at end body old
-shown_at end body veil old BehindOpenGate = written_at (end - 1) (1 ∷ []) (written_at end body old)
-shown_at end body veil old Published = written_at (end + slot_offset) veil (written_at (end - 1) (1 ∷ []) (written_at end body old))
-
--- one of these four lists is shown
-abbrev pub IsOneOfFour : ℕ → List ℕ → List ℕ → List ℕ → List ℕ → List ℕ → Type 0
-IsOneOfFour end body veil old s c = (stage : Stage) × (s ≡ shown_at end body veil old stage)
-
 -- a batch with these bytes in its slot
 abbrev pub with_slot : List ℕ → List ℕ → List ℕ
 with_slot slot batch = take head_len batch ++ (slot ++ drop payload_offset batch)

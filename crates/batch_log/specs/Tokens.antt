@@ -6,7 +6,7 @@ pub record StagedBatch : Type 0 where
   pub end : ℕ
   pub body : List ℕ
 
--- a batch of so many bytes, its next gate among them, stands behind the open gate before this place
+-- the batch, the gate behind it among its bytes, stands behind the open gate before this place
 pub record GatedBatch : Type 0 where
   pub end : ℕ
-  pub len : ℕ
+  pub body : List ℕ

@@ -7,5 +7,5 @@ mod steps;
 mod writing;
 
 pub use appending::append;
-pub use steps::{Gated, OPEN, Staged, gated_at, open_gate, stage, unveil};
+pub use steps::{Gated, OPEN, Staged, open_gate, stage, unveil, unveil_found};
 pub use writing::write_header;

@@ -1,12 +1,13 @@
 //! The steps of a commit. A batch that was staged is a `Staged`, of which `open_gate` makes a `Gated`, and `unveil` takes
-//! a `Gated` alone: no slot is written before its gate is open on the disk. When a store is opened, `gated_at` makes a `Gated` of a
-//! batch that stands behind an open gate.
-ghost use Rattle.std.specs.Prelude.{◌≡◌, ◌+◌, ◌-◌, ◌<◌, ◌≤◌, ◌^◌, [], ◌∷◌, length, max, is_some, IfOk, OnErr, OnOk};
+//! a `Gated` alone: no slot is written before its gate is open on the disk. When a store is opened, `unveil_found` writes
+//! the slot of a batch that stands behind an open gate.
+ghost use Rattle.std.specs.Prelude.{◌≡◌, ◌+◌, ◌-◌, ◌<◌, ◌≤◌, ◌^◌, [], ◌∷◌, length, max, is_some, IfOk, IsErr, OnErr, OnOk};
 ghost use Rattle.cry_base.specs.Layout.{payload_offset, slot_offset};
 ghost use Rattle.cry_io.specs.Counts.{CountsFault};
 ghost use Rattle.cry_io.specs.Told.{WhereTold, WhereBothTold};
 ghost use Rattle.cry_io.specs.Stops.{IsDurable, Torn, Written};
-ghost use Rattle.batch_log.specs.Moments.{GoesOn, OldOrNew, Throughout, TornInto};
+ghost use Rattle.batch_log.specs.Handing.{Hands};
+ghost use Rattle.batch_log.specs.Moments.{GoesOn, Throughout, TornInto};
 ghost use Rattle.batch_log.specs.Steps as steps;
 
 use crate::writing::write_and_sync;
@@ -38,22 +39,22 @@ impl<'a> Model for Staged<'a> {
 }
 
 /// A batch behind the open gate before the place `end`. It is not `Drop`: `unveil` spends it, and so does its fault. Contracts
-/// see the place and how many bytes the batch has.
-pub struct Gated {
+/// see the place and the batch.
+pub struct Gated<'a> {
     end: u64,
-    len: u64,
+    body: &'a [u8],
 }
 
-impl Model for Gated {
-    ghost use Rattle.std.specs.Prelude.{◌≤◌};
+impl<'a> Model for Gated<'a> {
+    ghost use Rattle.std.specs.Prelude.{◌≤◌, length};
     ghost use Rattle.cry_base.specs.Layout.{payload_offset};
     ghost use Rattle.batch_log.specs.Tokens.{GatedBatch};
 
     ghost Value = { GatedBatch };
 
-    ghost view = { λ g. record { end = g.end; len = g.len } };
+    ghost view = { λ g. record { end = g.end; body = g.body.now } };
 
-    ghost invariant = { λ g. (1 ≤ g.end) × (payload_offset ≤ g.len) };
+    ghost invariant = { λ g. (1 ≤ g.end) × (payload_offset ≤ length g.body.now) };
 }
 
 /// Writes a batch behind the closed gate that ends the log at `end`, and makes it stay. What stands there is written over.
@@ -76,8 +77,8 @@ pub fn stage<'a, D: Disk>(disk: &mut D, end: u64, body: &'a [u8]) -> Result<Stag
     ensures time { GoesOn (D.moment disk.old) (D.since disk.old) (D.since disk.new) }
     ensures stops { IsDurable (D.may_leave disk.old) (D.shown disk.old) → WhereTold (D.shown disk.old)
         (λ x. Throughout (TornInto end (length body.now) x) (D.since disk.new (D.moment disk.old))) }
-    ensures shows { OnOk result (WhereTold (D.shown disk.old)
-        (λ x. Throughout (OldOrNew end body.now x) (D.since disk.new (D.moment disk.old)))) }
+    ensures hands { Hands (record { place = end; bytes = body.now } ∷ []) (IsErr result) (D.shown disk.old) (D.shown disk.new)
+        (D.since disk.new (D.moment disk.old)) }
     ensures counts { CountsFault result (D.faults disk.old) (D.faults disk.new) }
 {
     write_and_sync(disk, end, body)?;
@@ -85,69 +86,81 @@ pub fn stage<'a, D: Disk>(disk: &mut D, end: u64, body: &'a [u8]) -> Result<Stag
 }
 
 /// Opens the gate before a batch, and makes that stay. All of the batch has to stay by then: behind a gate that is open it counts.
-pub fn open_gate<D: Disk>(disk: &mut D, staged: Staged<'_>) -> Result<Gated, Failed>
+pub fn open_gate<'a, D: Disk>(disk: &mut D, staged: Staged<'a>) -> Result<Gated<'a>, Failed>
     requires nothing_pending { IsDurable (D.may_leave disk.old) (D.shown disk.old) }
     requires stands { WhereTold (D.shown disk.old) (steps.StandsAt staged.end staged.body) }
     requires whole { payload_offset ≤ length staged.body }
     requires inside { staged.end + length staged.body ≤ D.size_of disk.old }
-    ensures gated { IfOk result (λ gated. gated ≡ record { end = staged.entry.end; len = length staged.entry.body }) }
+    ensures gated { IfOk result (λ gated. gated ≡ record { end = staged.entry.end; body = staged.entry.body }) }
     ensures told { is_some (D.shown disk.new) ≡ is_some (D.shown disk.old) }
     ensures written { OnOk result (WhereBothTold (D.shown disk.old) (D.shown disk.new) (Written (staged.entry.end - 1) (1 ∷ []))) }
     ensures torn { OnErr result (WhereBothTold (D.shown disk.old) (D.shown disk.new) (Torn (staged.entry.end - 1) 1)) }
     ensures durable { OnOk result (IsDurable (D.may_leave disk.new) (D.shown disk.new)) }
-    ensures opened { OnOk result (WhereTold (D.shown disk.new) (steps.IsGatedAt staged.entry.end (length staged.entry.body))) }
+    ensures opened { OnOk result (WhereTold (D.shown disk.new) (steps.HoldsBatch staged.entry.end staged.entry.body)) }
     ensures size { D.size_of disk.new ≡ D.size_of disk.old }
     ensures later { D.moment disk.old ≤ D.moment disk.new }
     ensures time { GoesOn (D.moment disk.old) (D.since disk.old) (D.since disk.new) }
     ensures stops { WhereTold (D.shown disk.old)
         (λ x. Throughout (TornInto (staged.entry.end - 1) 1 x) (D.since disk.new (D.moment disk.old))) }
-    ensures shows { OnOk result (WhereTold (D.shown disk.old)
-        (λ x. Throughout (OldOrNew (staged.entry.end - 1) (1 ∷ []) x) (D.since disk.new (D.moment disk.old)))) }
+    ensures hands { Hands (record { place = staged.entry.end - 1; bytes = 1 ∷ [] } ∷ []) (IsErr result)
+        (D.shown disk.old) (D.shown disk.new) (D.since disk.new (D.moment disk.old)) }
     ensures counts { CountsFault result (D.faults disk.old) (D.faults disk.new) }
 {
     let Staged { end, body } = staged;
     let _size = disk.size();
     write_and_sync(disk, end - 1, &[OPEN])?;
-    Ok(Gated {
-        end,
-        len: body.len() as u64,
-    })
+    Ok(Gated { end, body })
 }
 
-/// A batch that was found behind the open gate before the place `end`, where a store is opened: `unveil` may write its slot. Every list
-/// that a stop may leave has that gate and so many bytes behind it, since nothing is pending.
-pub fn gated_at<D: Disk>(disk: &D, end: u64, len: u64) -> Gated
-    requires gate { 1 ≤ end }
-    requires whole { payload_offset ≤ len }
-    requires nothing_pending { IsDurable (D.may_leave disk.now) (D.shown disk.now) }
-    requires opened { WhereTold (D.shown disk.now) (steps.IsGatedAt end len) }
-    requires inside { end + len ≤ D.size_of disk.now }
-    ensures gated { result ≡ record { end = end; len = len } }
-{
-    let _size = disk.size();
-    Gated { end, len }
-}
-
-/// Publishes a batch by its veil key, and makes that stay. Every list that a stop may leave has the open gate and the batch behind
-/// it by then: what was published is not taken back.
-pub fn unveil<D: Disk>(disk: &mut D, gated: Gated, veil: &[u8; 32]) -> Result<(), Failed>
+/// Publishes a batch by its veil key, and makes that stay. Every list that a stop may leave has the open gate and the whole batch
+/// behind it by then: what was published is not taken back.
+pub fn unveil<D: Disk>(disk: &mut D, gated: Gated<'_>, veil: &[u8; 32]) -> Result<(), Failed>
     requires nothing_pending { IsDurable (D.may_leave disk.old) (D.shown disk.old) }
-    requires opened { WhereTold (D.shown disk.old) (steps.IsGatedAt gated.end gated.len) }
-    requires inside { gated.end + gated.len ≤ D.size_of disk.old }
+    requires opened { WhereTold (D.shown disk.old) (steps.HoldsBatch gated.end gated.body) }
+    requires inside { gated.end + length gated.body ≤ D.size_of disk.old }
     ensures told { is_some (D.shown disk.new) ≡ is_some (D.shown disk.old) }
-    ensures written { OnOk result (WhereBothTold (D.shown disk.old) (D.shown disk.new) (Written (gated.end + slot_offset) veil.now)) }
-    ensures torn { OnErr result (WhereBothTold (D.shown disk.old) (D.shown disk.new) (Torn (gated.end + slot_offset) 32)) }
+    ensures written { OnOk result (WhereBothTold (D.shown disk.old) (D.shown disk.new) (Written (gated.entry.end + slot_offset) veil.now)) }
+    ensures torn { OnErr result (WhereBothTold (D.shown disk.old) (D.shown disk.new) (Torn (gated.entry.end + slot_offset) 32)) }
     ensures durable { OnOk result (IsDurable (D.may_leave disk.new) (D.shown disk.new)) }
     ensures size { D.size_of disk.new ≡ D.size_of disk.old }
     ensures later { D.moment disk.old ≤ D.moment disk.new }
     ensures time { GoesOn (D.moment disk.old) (D.since disk.old) (D.since disk.new) }
     ensures stops { WhereTold (D.shown disk.old)
-        (λ x. Throughout (TornInto (gated.end + slot_offset) 32 x) (D.since disk.new (D.moment disk.old))) }
-    ensures shows { OnOk result (WhereTold (D.shown disk.old)
-        (λ x. Throughout (OldOrNew (gated.end + slot_offset) veil.now x) (D.since disk.new (D.moment disk.old)))) }
+        (λ x. Throughout (TornInto (gated.entry.end + slot_offset) 32 x) (D.since disk.new (D.moment disk.old))) }
+    ensures hands { Hands (record { place = gated.entry.end + slot_offset; bytes = veil.now } ∷ []) (IsErr result)
+        (D.shown disk.old) (D.shown disk.new) (D.since disk.new (D.moment disk.old)) }
     ensures counts { CountsFault result (D.faults disk.old) (D.faults disk.new) }
 {
-    let Gated { end, len: _ } = gated;
+    let Gated { end, body } = gated;
+    unveil_found(disk, end, body.len() as u64, veil)
+}
+
+/// Publishes a batch of so many bytes that was found behind the open gate before the place `end`, where a store is opened. Its gate is
+/// seen and its slot is written in one call, so nothing comes in between.
+pub fn unveil_found<D: Disk>(
+    disk: &mut D,
+    end: u64,
+    len: u64,
+    veil: &[u8; 32],
+) -> Result<(), Failed>
+    requires gate { 1 ≤ end }
+    requires whole { payload_offset ≤ len }
+    requires nothing_pending { IsDurable (D.may_leave disk.old) (D.shown disk.old) }
+    requires opened { WhereTold (D.shown disk.old) (steps.IsGatedAt end len) }
+    requires inside { end + len ≤ D.size_of disk.old }
+    ensures told { is_some (D.shown disk.new) ≡ is_some (D.shown disk.old) }
+    ensures written { OnOk result (WhereBothTold (D.shown disk.old) (D.shown disk.new) (Written (end + slot_offset) veil.now)) }
+    ensures torn { OnErr result (WhereBothTold (D.shown disk.old) (D.shown disk.new) (Torn (end + slot_offset) 32)) }
+    ensures durable { OnOk result (IsDurable (D.may_leave disk.new) (D.shown disk.new)) }
+    ensures size { D.size_of disk.new ≡ D.size_of disk.old }
+    ensures later { D.moment disk.old ≤ D.moment disk.new }
+    ensures time { GoesOn (D.moment disk.old) (D.since disk.old) (D.since disk.new) }
+    ensures stops { WhereTold (D.shown disk.old)
+        (λ x. Throughout (TornInto (end + slot_offset) 32 x) (D.since disk.new (D.moment disk.old))) }
+    ensures hands { Hands (record { place = end + slot_offset; bytes = veil.now } ∷ []) (IsErr result) (D.shown disk.old) (D.shown disk.new)
+        (D.since disk.new (D.moment disk.old)) }
+    ensures counts { CountsFault result (D.faults disk.old) (D.faults disk.new) }
+{
     let _size = disk.size();
     write_and_sync(disk, end + SLOT, veil)
 }

@@ -1,9 +1,10 @@
 //! A write that stays.
-ghost use Rattle.std.specs.Prelude.{◌≡◌, ◌+◌, ◌<◌, ◌≤◌, ◌^◌, length, max, is_some, OnErr, OnOk};
+ghost use Rattle.std.specs.Prelude.{◌≡◌, ◌+◌, ◌<◌, ◌≤◌, ◌^◌, [], ◌∷◌, length, max, is_some, IsErr, OnErr, OnOk};
 ghost use Rattle.cry_io.specs.Counts.{CountsFault};
 ghost use Rattle.cry_io.specs.Told.{WhereTold, WhereBothTold};
 ghost use Rattle.cry_io.specs.Stops.{IsDurable, Torn, Written};
-ghost use Rattle.batch_log.specs.Moments.{GoesOn, OldOrNew, Throughout, TornInto};
+ghost use Rattle.batch_log.specs.Handing.{Hands};
+ghost use Rattle.batch_log.specs.Moments.{GoesOn, Throughout, TornInto};
 
 use cry_io::{Disk, Failed};
 
@@ -22,8 +23,8 @@ pub(crate) fn write_and_sync<D: Disk>(disk: &mut D, place: u64, bytes: &[u8]) ->
     ensures time { GoesOn (D.moment disk.old) (D.since disk.old) (D.since disk.new) }
     ensures stops { IsDurable (D.may_leave disk.old) (D.shown disk.old) → WhereTold (D.shown disk.old)
         (λ x. Throughout (TornInto place (length bytes.now) x) (D.since disk.new (D.moment disk.old))) }
-    ensures shows { OnOk result (WhereTold (D.shown disk.old)
-        (λ x. Throughout (OldOrNew place bytes.now x) (D.since disk.new (D.moment disk.old)))) }
+    ensures hands { Hands (record { place = place; bytes = bytes.now } ∷ []) (IsErr result) (D.shown disk.old) (D.shown disk.new)
+        (D.since disk.new (D.moment disk.old)) }
     ensures counts { CountsFault result (D.faults disk.old) (D.faults disk.new) }
 {
     disk.write_at(place, bytes)?;
@@ -41,6 +42,8 @@ pub fn write_header<D: Disk>(disk: &mut D, header: &[u8]) -> Result<(), Failed>
     ensures size { OnOk result (D.size_of disk.new ≡ length header.now) }
     ensures later { D.moment disk.old ≤ D.moment disk.new }
     ensures time { GoesOn (D.moment disk.old) (D.since disk.old) (D.since disk.new) }
+    ensures hands { Hands (record { place = 0; bytes = header.now } ∷ []) (IsErr result) (D.shown disk.old) (D.shown disk.new)
+        (D.since disk.new (D.moment disk.old)) }
     ensures counts { CountsFault result (D.faults disk.old) (D.faults disk.new) }
 {
     write_and_sync(disk, 0, header)

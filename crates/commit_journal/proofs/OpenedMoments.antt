@@ -48,6 +48,16 @@ same_in_call shown may_leave moment since a b only same no_more time =
     in_one_call (moment a) (moment b) (since a) (since b) (shown a) (shown b) (may_leave a) (may_leave b) (λ s c. (shown a ≡ Some s) × may_leave a c)
     only time (λ s c is leaves. (is, leaves)) (λ s c is leaves. (sym same ∙ is, no_more c leaves))
 
+-- the disk was synced and read: it shows what it showed
+pub shown_in_reading : {D : Type 0} (disks : disk.Ghosts D) (a b e : D) → ((s c : List ℕ) → disks.since a (disks.moment a) s c → (disks.shown a ≡ Some s) × disks.may_leave a c) →
+    disks.shown b ≡ disks.shown a → ((c : List ℕ) → disks.may_leave b c → disks.may_leave a c) →
+    Elapses (disks.moment a) (disks.moment b) (disks.since a) (disks.since b) (disks.shown b) (disks.may_leave b) → IsSameThroughout disks b e →
+    Throughout (λ s c. disks.shown a ≡ Some s) (disks.since e (disks.moment a))
+shown_in_reading disks a b e only same no_more time moments =
+    in_both (disks.moment a) (disks.moment b) (disks.since b) (disks.since e) (λ s c. disks.shown a ≡ Some s) time.later moments.time
+    (λ s c at. (same_in_call disks.shown disks.may_leave disks.moment disks.since a b only same no_more time s c at).0)
+    (λ s c at. sym same ∙ (moments.same s c at).0)
+
 -- ---- slots
 
 -- slots of these batches are filled one after another: at each moment some of them are, in what is shown and in what a stop leaves, and one

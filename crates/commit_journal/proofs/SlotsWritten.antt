@@ -1,26 +1,26 @@
 -- Slots that aren't their veil keys, as they are filled one after another.
-use Rattle.std.proofs.Common.{◌≡◌, inl, inr, ℕ, suc, ◌+◌, ◌-◌, ◌<◌, ◌≤◌, List, [], ◌∷◌, Option, Some, length, drop, get_or, drop-cons, refl, sym, ap, subst, ◌∙◌, arith}
+use Rattle.std.proofs.Common.{◌≡◌, inl, inr, ℕ, suc, ◌+◌, ◌-◌, ◌<◌, ◌≤◌, List, [], ◌∷◌, Option, Some, length, map, drop, get_or, Result, Ok, drop-cons, refl, sym, ap, subst, ◌∙◌, arith}
 use Rattle.std.specs.Prelude.{slice_index, slice_range}
 use Rattle.std.proofs.Math.ListN.{drop_of_length-le}
 use Rattle.std.proofs.lemmas.List.{places}
 use Rattle.cry_base.specs.Layout.{header_len}
-use Rattle.cry_io.specs.Stops.{IsDurable}
+use Rattle.cry_io.specs.Stops.{Elapses, IsDurable}
 use Rattle.cry_io.specs.Told.{WhereTold}
+use Rattle.cry_io.specs.declared.disk.Disk as disk
 use Rattle.batch_log.specs.Moments.{GoesOn, Throughout}
 use Rattle.batch_log.specs.Steps.{written_at}
-use Rattle.batch_log.specs.Tokens.{GatedBatch}
+use Rattle.batch_log.specs.Handing.{IsStage, IsTornStage, all_written}
+use Rattle.batch_log.proofs.Handed.{hands_failing, hands_nothing, hands_then, stage_before, torn_before}
 use Rattle.batch_log.proofs.Moments.{in_both}
 use Rattle.commit_journal.specs.declared.filling.Unfilled.{Unfilled}
 use Rattle.commit_journal.specs.Filling.{AreUnfilled, IsUnfilled, LeavesUnfilled, all_filled, unfilled_in}
-use Rattle.commit_journal.specs.Moments.{FillsSlot, FillsThroughout}
-use Rattle.commit_journal.specs.Opening.{AreGated, LeavesSlot}
+use Rattle.commit_journal.specs.Answering.{Fault}
+use Rattle.commit_journal.specs.Handing.{Hands, HandsOpening, Write, filling_writes, opening_writes, slot_write}
+use Rattle.commit_journal.specs.Moments.{FillsSlot, FillsThroughout, IsSameThroughout}
+use Rattle.commit_journal.specs.Opening.{AreGated, LeavesSlot, OwnedLog, opening_verdict}
 use Rattle.commit_journal.specs.Placed.{PlainPlaced}
-use Rattle.commit_journal.proofs.OpenedMoments.{LeavesThroughout, same_bytes}
+use Rattle.commit_journal.proofs.OpenedMoments.{LeavesThroughout, same_bytes, shown_in_reading}
 use Rattle.commit_journal.proofs.SlotsUnfilled.{left_is_left, same_slice, unfilled_from, written_behind}
-
--- where the slot of a batch stands behind its gate
-pub slot_place : (gated : GatedBatch) (place len : ℕ) → 55 ≤ place → gated ≡ record { end = place - 13; len = len } → gated.end + 13 ≡ place
-slot_place gated place len behind is = let end : gated.end ≡ place - 13 = ap (λ (g : GatedBatch). g.end) is in omega (arith, end, behind)
 
 -- ---- one slot after another
 
@@ -129,3 +129,74 @@ fills_log owner placed slots was since are gated fills x x_is s c at =
       left_is_left owner placed x s (gated x x_is) (subst (λ (us : List Unfilled). LeavesUnfilled us x s) (are x x_is) both.0),
       left_is_left owner placed x c (gated x x_is) (subst (λ (us : List Unfilled). LeavesUnfilled us x c) (are x x_is) both.1),
     )
+
+-- ---- the writes
+
+-- the next slot is written
+pub stage_here : (slots : List Unfilled) (i : ℕ) (d : Unfilled) (y z : List ℕ) → i < length slots → IsStage (slot_write (get_or slots i d) ∷ []) y z →
+    IsStage (map slot_write (drop i slots)) y z
+stage_here slots i d y z within is =
+    subst (λ (rest : List Unfilled). IsStage (map slot_write rest) y z) (sym (drop-cons slots i d within))
+    (stage_before (slot_write (get_or slots i d) ∷ []) (map slot_write (drop (suc i) slots)) y z is)
+
+pub torn_here : (slots : List Unfilled) (i : ℕ) (d : Unfilled) (y z : List ℕ) → i < length slots → IsTornStage (slot_write (get_or slots i d) ∷ []) y z →
+    IsTornStage (map slot_write (drop i slots)) y z
+torn_here slots i d y z within torn =
+    subst (λ (rest : List Unfilled). IsTornStage (map slot_write rest) y z) (sym (drop-cons slots i d within))
+    (torn_before (slot_write (get_or slots i d) ∷ []) (map slot_write (drop (suc i) slots)) y z torn)
+
+-- or one behind it
+pub stage_later : (slots : List Unfilled) (i : ℕ) (d : Unfilled) (x y z : List ℕ) → let slot = get_or slots i d in i < length slots →
+    y ≡ written_at slot.place slot.veil x → IsStage (map slot_write (drop (i + 1) slots)) y z → IsStage (map slot_write (drop i slots)) x z
+unfolding IsStage
+stage_later slots i d x y z within y_is is =
+    let next : i + 1 ≡ suc i = omega arith in
+    let rest = subst (λ n. IsStage (map slot_write (drop n slots)) y z) next is in
+    subst (λ (us : List Unfilled). IsStage (map slot_write us) x z) (sym (drop-cons slots i d within))
+    (inr (subst (λ r. IsStage (map slot_write (drop (suc i) slots)) r z) y_is rest))
+
+pub torn_later : (slots : List Unfilled) (i : ℕ) (d : Unfilled) (x y z : List ℕ) → let slot = get_or slots i d in i < length slots →
+    y ≡ written_at slot.place slot.veil x → IsTornStage (map slot_write (drop (i + 1) slots)) y z → IsTornStage (map slot_write (drop i slots)) x z
+unfolding IsTornStage
+torn_later slots i d x y z within y_is torn =
+    let next : i + 1 ≡ suc i = omega arith in
+    let rest = subst (λ n. IsTornStage (map slot_write (drop n slots)) y z) next torn in
+    subst (λ (us : List Unfilled). IsTornStage (map slot_write us) x z) (sym (drop-cons slots i d within))
+    (inr (subst (λ r. IsTornStage (map slot_write (drop (suc i) slots)) r z) y_is rest))
+
+-- the slots of the log are those of the writes
+pub fills_writes : (limit : ℕ) (owner x : List ℕ) (log : OwnedLog) (slots : List Unfilled) → opening_verdict limit owner x ≡ Ok log →
+    slots ≡ unfilled_in owner log.placed x → map slot_write slots ≡ opening_writes limit owner x
+unfolding opening_writes filling_writes
+fills_writes limit owner x log slots verdict are =
+    ap (λ (us : List Unfilled). map slot_write us) are ∙ ap (λ (r : Result OwnedLog Fault). filling_writes owner x r) (sym verdict)
+
+-- what a store's opening hands the disk, once it was synced and read
+pub hands_opening : {D : Type 0} (disks : disk.Ghosts D)
+    (a b e f : D) (limit : ℕ) (owner : List ℕ) (log : OwnedLog) (slots : List Unfilled) (fails failed : Type 0)
+    → ((s c : List ℕ) → disks.since a (disks.moment a) s c → (disks.shown a ≡ Some s) × disks.may_leave a c) → disks.shown b ≡ disks.shown a →
+    ((c : List ℕ) → disks.may_leave b c → disks.may_leave a c) →
+    Elapses (disks.moment a) (disks.moment b) (disks.since a) (disks.since b) (disks.shown b) (disks.may_leave b) →
+    IsSameThroughout disks b e → disks.shown e ≡ disks.shown b → GoesOn (disks.moment e) (disks.since e) (disks.since f) →
+    WhereTold (disks.shown b) (λ x. opening_verdict limit owner x ≡ Ok log) → WhereTold (disks.shown b) (λ x. slots ≡ unfilled_in owner log.placed x) → (fails → failed) →
+    Hands (map slot_write slots) fails (disks.shown e) (disks.shown f) (disks.since f (disks.moment e)) →
+    HandsOpening limit owner failed (disks.shown a) (disks.shown f) (disks.since f (disks.moment a))
+unfolding all_written
+hands_opening disks a b e f limit owner log slots fails failed only same no_more time moments read goes verdict are fault hands x x_is =
+    let first = time.later in
+    let second = moments.later in
+    let writes = map slot_write slots in
+    let still : disks.shown b ≡ Some x = same ∙ x_is in
+    let opened : Hands writes failed (disks.shown a) (disks.shown f) (disks.since f (disks.moment a)) =
+    hands_then [] writes ⊥ failed (disks.shown a) (disks.shown e) (disks.shown f) (disks.moment a) (disks.moment e) (disks.since e) (disks.since f) (λ never. never)
+    (omega (arith, first, second)) goes
+    (λ y y_is. read ∙ (same ∙ y_is))
+    (hands_nothing [] ⊥ (disks.shown a) (disks.shown e) (disks.since e (disks.moment a)) (shown_in_reading disks a b e only same no_more time moments))
+    (hands_failing writes fails failed (disks.shown e) (disks.shown f) (disks.since f (disks.moment e)) fault hands) in
+    subst (λ (ws : List Write). Hands ws failed (disks.shown a) (disks.shown f) (disks.since f (disks.moment a))) (fills_writes limit owner x log slots (verdict x still) (are x still)) opened
+
+-- an opening that fails where another does
+pub opening_failing : (limit : ℕ) (owner : List ℕ) (fails failed : Type 0) (was shown : Option (List ℕ)) (since : List ℕ → List ℕ → Type 0) → (fails → failed) →
+    HandsOpening limit owner fails was shown since → HandsOpening limit owner failed was shown since
+opening_failing limit owner fails failed was shown since fault hands x x_is =
+    hands_failing (opening_writes limit owner x) fails failed was shown since fault (hands x x_is)

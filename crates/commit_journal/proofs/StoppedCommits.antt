@@ -2,20 +2,22 @@
 use Rattle.std.proofs.Common.{◌≡◌, ◌≤◌, ⊎_elim, inl, ℕ, length-append, List, [], ◌∷◌, ◌++◌, Option, Some, length, append_assoc, arith, refl, ap, subst, ◌∙◌}
 use Rattle.std.specs.Prelude.{is_some}
 use Rattle.cry_io.specs.Stops.{IsDurable, Torn}
-use Rattle.cry_io.specs.Told.{WhereTold}
+use Rattle.cry_io.specs.Told.{WhereBothTold, WhereTold}
 use Rattle.cry_io.proofs.ToldLemmas.{told_again}
 use Rattle.batch_log.specs.Moments.{FromThenOn, GoesOn, Throughout}
-use Rattle.batch_log.specs.Steps.{EndsAt, Interrupts, IsHeldWhereShown, IsOneOfFour, IsStageable, zero_slot}
+use Rattle.batch_log.specs.Steps.{EndsAt, Interrupts, IsHeldWhereShown, IsStageable, zero_slot}
 use Rattle.batch_log.proofs.Committed.{held_in_staging}
+use Rattle.batch_log.proofs.Handed.{hands_before}
 use Rattle.batch_log.proofs.InOrder.{on_throughout}
 use Rattle.batch_log.proofs.Lists.{nothing_torn}
 use Rattle.batch_log.proofs.WrittenMoments.{told_one}
 use Rattle.hmac_seal.proofs.HmacLemmas.{length-hmac}
+use Rattle.commit_journal.specs.Handing.{Hands, all_written, batch_writes, header_writes, joining_writes}
 use Rattle.commit_journal.specs.Holding.{IsBetween, IsKept}
-use Rattle.commit_journal.specs.Image.{Batch, batch_check, batch_head, batch_veil, empty_slot, masked_payload, owner_tag, spell_batch}
+use Rattle.commit_journal.specs.Image.{Batch, batch_check, batch_head, batch_veil, empty_slot, image, masked_payload, owner_tag, spell_batch}
 use Rattle.commit_journal.specs.Journals.{JournalState}
 use Rattle.commit_journal.specs.Standing.{StandsFor, StandsWhole}
-use Rattle.commit_journal.specs.Stopping.{HoldsLog, HoldsPublished, KeepsLog, ShowsFour, staged_batch}
+use Rattle.commit_journal.specs.Stopping.{HoldsLog, HoldsPublished, KeepsLog, staged_batch}
 use Rattle.commit_journal.proofs.KeptLemmas.{prefix_same}
 use Rattle.commit_journal.proofs.MayHaveJoined.{may_stand}
 use Rattle.commit_journal.proofs.Pieces.{length-head_bytes}
@@ -88,11 +90,29 @@ pub commit_published : (D : Type 0) (moment : D → ℕ) (since : D → ℕ → 
 commit_published D moment since a e b old batch was left batch_is held durable x x_is ends s c at =
     subst (λ (r : List ℕ). IsHeldWhereShown old.end r s c) batch_is (on_throughout D moment since (IsHeldWhereShown old.end batch) a e (held durable x x_is ends) s c at)
 
-pub commit_shows : (b : Batch) (old : JournalState) (batch veil : List ℕ) (was : Option (List ℕ)) (since : List ℕ → List ℕ → Type 0) →
-    batch ≡ staged_batch old b → veil ≡ batch_veil old.owner b → WhereTold was (λ x. Throughout (IsOneOfFour old.end batch veil x) since) → ShowsFour b old was since
-commit_shows b old batch veil was since batch_is veil_is shows x x_is s c at =
-    subst (λ (v : List ℕ). IsOneOfFour old.end (staged_batch old b) v x s c) veil_is
-    (subst (λ (r : List ℕ). IsOneOfFour old.end r veil x s c) batch_is (shows x x_is s c at))
+pub commit_hands : (b : Batch) (old : JournalState) (batch veil : List ℕ) (fails failed : Type 0) (was shown : Option (List ℕ)) (since : List ℕ → List ℕ → Type 0) →
+    batch ≡ staged_batch old b → veil ≡ batch_veil old.owner b → (fails → failed) → Hands (batch_writes old.end batch veil) fails was shown since →
+    Hands (joining_writes b old) failed was shown since
+commit_hands b old batch veil fails failed was shown since batch_is veil_is fault hands =
+    hands_before (joining_writes b old) [] fails failed was shown since fault
+    (subst (λ (v : List ℕ). Hands (batch_writes old.end (staged_batch old b) v) fails was shown since) veil_is
+    (subst (λ (r : List ℕ). Hands (batch_writes old.end r veil) fails was shown since) batch_is hands))
+
+pub commit_written : (b : Batch) (old : JournalState) (batch veil : List ℕ) (was shown : Option (List ℕ)) →
+    batch ≡ staged_batch old b → veil ≡ batch_veil old.owner b → WhereBothTold was shown (λ x y. y ≡ all_written (batch_writes old.end batch veil) x) →
+    WhereBothTold was shown (λ x y. y ≡ all_written (joining_writes b old) x)
+commit_written b old batch veil was shown batch_is veil_is written x y x_is y_is =
+    written x y x_is y_is
+    ∙ ap (λ (r : List ℕ). all_written (batch_writes old.end r veil) x) batch_is
+    ∙ ap (λ (v : List ℕ). all_written (batch_writes old.end (staged_batch old b) v) x) veil_is
+
+-- a store without batches is made
+pub found_hands : (owner header : List ℕ) (fails failed : Type 0) (was shown : Option (List ℕ)) (since : List ℕ → List ℕ → Type 0) →
+    header ≡ image owner [] ++ 0 ∷ [] → (fails → failed) → Hands (record { place = 0; bytes = header } ∷ []) fails was shown since →
+    Hands (header_writes owner) failed was shown since
+found_hands owner header fails failed was shown since is fault hands =
+    hands_before (header_writes owner) [] fails failed was shown since fault
+    (subst (λ (r : List ℕ). Hands (record { place = 0; bytes = r } ∷ []) fails was shown since) is hands)
 
 -- ---- at the end of either
 

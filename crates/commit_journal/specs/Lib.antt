@@ -19,3 +19,4 @@ pub mod Journals
 pub mod Opening
 pub mod Filling
 pub mod WholeLogs
+pub mod Handing

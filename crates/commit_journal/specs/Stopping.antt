@@ -1,11 +1,11 @@
--- What a stop at any moment of a commit leaves, and what the disk shows at each. This project's own, docs/FORMAT.md, "Committing".
+-- What a stop at any moment of a commit leaves. This project's own, docs/FORMAT.md, "Committing".
 use Rattle.std.specs.Prelude.{◌⊎◌, ℕ, List, [], ◌∷◌, ◌++◌, Option}
 use Rattle.cry_io.specs.Stops.{IsDurable}
 use Rattle.cry_io.specs.Told.{WhereTold}
 use Rattle.batch_log.specs.Moments.{Throughout}
-use Rattle.batch_log.specs.Steps.{EndsAt, IsHeldWhereShown, IsOneOfFour}
+use Rattle.batch_log.specs.Steps.{EndsAt, IsHeldWhereShown}
 use Rattle.commit_journal.specs.Holding.{HoldsBetween, IsPrefix, Kept, Shows}
-use Rattle.commit_journal.specs.Image.{Batch, batch_veil, empty_slot, spell_batch}
+use Rattle.commit_journal.specs.Image.{Batch, empty_slot, spell_batch}
 use Rattle.commit_journal.specs.Journals.{JournalState, IsJournalOf}
 use Rattle.commit_journal.specs.Publishing.{without_last}
 use Rattle.commit_journal.specs.Standing.{StandsFor, StandsUnpublished, StandsWhole}
@@ -51,8 +51,3 @@ abbrev pub KeepsPublished : Batch → JournalState → Option (List ℕ) → (Li
 KeepsPublished b old was may_leave from_then_on =
     (bs : List Batch) → IsJournalOf bs old → IsDurable may_leave was → Shows (StandsWhole old.owner) bs was
     → from_then_on (TakesNothingBack (StandsFor old.owner) (StandsUnpublished old.owner) bs (bs ++ b ∷ []))
-
--- the list that is shown at each moment is as at entry; or with the batch behind the closed gate, its slot empty; or with that gate open;
--- or with the veil key in the slot
-abbrev pub ShowsFour : Batch → JournalState → Option (List ℕ) → (List ℕ → List ℕ → Type 0) → Type 0
-ShowsFour b old was since = WhereTold was (λ x. Throughout (IsOneOfFour old.end (staged_batch old b) (batch_veil old.owner b) x) since)

@@ -1,6 +1,6 @@
 //! The slots that aren't their veil keys: they are found as the log is read, and written once all of it was judged
 //! (docs/FORMAT.md, "Opening for writing").
-ghost use Rattle.std.specs.Prelude.{◌≡◌, ◌≤◌, ◌+◌, ◌++◌, length, is_some, OnErr, OnOk, All, option_to_list};
+ghost use Rattle.std.specs.Prelude.{◌≡◌, ◌≤◌, ◌+◌, [], ◌∷◌, ◌++◌, length, map, is_some, IsErr, OnErr, OnOk, All, option_to_list};
 ghost use Rattle.cry_base.specs.Layout.{header_len, payload_offset, slot_offset};
 ghost use Rattle.cry_base.specs.Limits.{most_store_bytes};
 ghost use Rattle.cry_io.specs.Counts.{CountsFault};
@@ -8,13 +8,14 @@ ghost use Rattle.cry_io.specs.Stops.{IsDurable};
 ghost use Rattle.cry_io.specs.Told.{WhereTold, WhereBothTold};
 ghost use Rattle.batch_log.specs.Moments.{GoesOn, Throughout};
 ghost use Rattle.commit_journal.specs.Filling as filling;
+ghost use Rattle.commit_journal.specs.Handing.{Hands, slot_write};
 ghost use Rattle.commit_journal.specs.Log as log;
 ghost use Rattle.commit_journal.specs.Moments.{FillsSlot, FillsThroughout};
 ghost use Rattle.commit_journal.specs.Opening as opening;
 
 use crate::judge::array_at;
 use crate::layout::{BATCH_LEN, SLOT};
-use batch_log::{gated_at, unveil};
+use batch_log::unveil_found;
 use cry_base::{List, Mem};
 use cry_io::{Disk, Failed};
 use hmac_seal::tags_equal;
@@ -68,12 +69,13 @@ fn fill_slot<D: Disk>(disk: &mut D, slot: &Unfilled) -> Result<(), Failed>
     ensures time { GoesOn (D.moment disk.old) (D.since disk.old) (D.since disk.new) }
     ensures stops { WhereTold (D.shown disk.old)
         (λ x. Throughout (FillsSlot slot.now x) (D.since disk.new (D.moment disk.old))) }
+    ensures hands { Hands (slot_write slot.now ∷ []) (IsErr result) (D.shown disk.old) (D.shown disk.new)
+        (D.since disk.new (D.moment disk.old)) }
     ensures told { is_some (D.shown disk.new) ≡ is_some (D.shown disk.old) }
     ensures size { D.size_of disk.new ≡ D.size_of disk.old }
     ensures counts { CountsFault result (D.faults disk.old) (D.faults disk.new) }
 {
-    let gated = gated_at(disk, slot.place - SLOT as u64, BATCH_LEN);
-    unveil(disk, gated, &slot.veil)
+    unveil_found(disk, slot.place - SLOT as u64, BATCH_LEN, &slot.veil)
 }
 
 /// Writes its veil key into each of these slots, one after another, with a sync. It takes no memory.
@@ -87,6 +89,8 @@ pub(crate) fn fill_slots<D: Disk>(disk: &mut D, slots: &[Unfilled]) -> Result<()
     ensures later { D.moment disk.old ≤ D.moment disk.new }
     ensures time { GoesOn (D.moment disk.old) (D.since disk.old) (D.since disk.new) }
     ensures stops { FillsThroughout slots.now (D.shown disk.old) (D.since disk.new (D.moment disk.old)) }
+    ensures hands { Hands (map slot_write slots.now) (IsErr result) (D.shown disk.old) (D.shown disk.new)
+        (D.since disk.new (D.moment disk.old)) }
     ensures told { is_some (D.shown disk.new) ≡ is_some (D.shown disk.old) }
     ensures size { D.size_of disk.new ≡ D.size_of disk.old }
     ensures counts { CountsFault result (D.faults disk.old) (D.faults disk.new) }

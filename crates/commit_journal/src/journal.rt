@@ -5,12 +5,13 @@ ghost use Rattle.cry_base.specs.Layout.{batch_len, header_len};
 ghost use Rattle.cry_base.specs.Limits.{most_store_bytes};
 ghost use Rattle.cry_io.specs.Counts.{CountsFault};
 ghost use Rattle.cry_io.specs.Stops.{IsDurable};
-ghost use Rattle.cry_io.specs.Told.{WhereTold};
+ghost use Rattle.cry_io.specs.Told.{WhereBothTold, WhereTold};
 ghost use Rattle.batch_log.specs.Moments.{FromThenOn, GoesOn};
 ghost use Rattle.record_format.specs.Plain.{plain_payload};
 ghost use Rattle.record_format.specs.Sizes.{payload_size};
 ghost use Rattle.record_format.specs.Spellable.{IsSpellable};
 ghost use Rattle.record_format.specs.Spelling.{spell_payload};
+ghost use Rattle.commit_journal.specs.Handing.{Hands, all_written, header_writes, joining_writes};
 ghost use Rattle.commit_journal.specs.Image.{image};
 ghost use Rattle.commit_journal.specs.Journals as journals;
 ghost use Rattle.commit_journal.specs.Opening as opening;
@@ -103,6 +104,8 @@ impl Journal {
         ensures told { is_some (D.shown disk.new) ≡ is_some (D.shown disk.old) }
         ensures later { D.moment disk.old ≤ D.moment disk.new }
         ensures time { GoesOn (D.moment disk.old) (D.since disk.old) (D.since disk.new) }
+        ensures hands { Hands (header_writes owner.now.bytes) (result ≡ Err CommitFault.DiskFault)
+            (D.shown disk.old) (D.shown disk.new) (D.since disk.new (D.moment disk.old)) }
         ensures fault { IfErr result (λ fault. fault ≡ CommitFault.DiskFault) }
         ensures counts { CountsFault result (D.faults disk.old) (D.faults disk.new) }
     {
@@ -152,6 +155,10 @@ impl Journal {
         ensures told { is_some (D.shown disk.new) ≡ is_some (D.shown disk.old) }
         ensures later { D.moment disk.old ≤ D.moment disk.new }
         ensures time { GoesOn (D.moment disk.old) (D.since disk.old) (D.since disk.new) }
+        ensures written { OnOk result (WhereBothTold (D.shown disk.old) (D.shown disk.new)
+            (λ x y. y ≡ all_written (header_writes owner.now.bytes) x)) }
+        ensures hands { Hands (header_writes owner.now.bytes) (result ≡ Err CommitFault.DiskFault)
+            (D.shown disk.old) (D.shown disk.new) (D.since disk.new (D.moment disk.old)) }
         ensures fault { IfErr result (λ fault. fault ≡ CommitFault.DiskFault) }
         ensures counts { CountsFault result (D.faults disk.old) (D.faults disk.new) }
     {
@@ -280,7 +287,7 @@ impl Journal {
     /// comes.
     ///
     /// Where nothing was pending, a stop at any moment of the call leaves the log with this batch or without, and none takes back what
-    /// was published at that moment or before.
+    /// was published at that moment or before. Whatever it answers, the disk is handed the three writes of this batch and nothing else.
     pub fn begin_epoch<D: Disk>(&mut self, disk: &mut D) -> Result<Epoch, CommitFault>
         requires inside { self.old.is_closed ≡ false → self.old.end ≤ D.size_of disk.old }
         ensures refused { (fault : CommitFault) → journals.refusal self.old 0 ≡ Some fault →
@@ -299,8 +306,10 @@ impl Journal {
             (D.shown disk.old) (D.may_leave disk.old) (D.since disk.new (D.moment disk.old)) }
         ensures published { stopping.KeepsPublished (journals.next_epoch self.old) self.old
             (D.shown disk.old) (D.may_leave disk.old) (FromThenOn D.moment D.since disk.old disk.new) }
-        ensures shows { OnOk result (stopping.ShowsFour (journals.next_epoch self.old) self.old
-            (D.shown disk.old) (D.since disk.new (D.moment disk.old))) }
+        ensures written { OnOk result (WhereBothTold (D.shown disk.old) (D.shown disk.new)
+            (λ x y. y ≡ all_written (joining_writes (journals.next_epoch self.old) self.old) x)) }
+        ensures hands { Hands (joining_writes (journals.next_epoch self.old) self.old) (result ≡ Err CommitFault.DiskFault)
+            (D.shown disk.old) (D.shown disk.new) (D.since disk.new (D.moment disk.old)) }
         ensures holds { stopping.HoldsLog (journals.next_epoch self.old) self.old
             (D.shown disk.old) (D.may_leave disk.old) (D.shown disk.new) (D.may_leave disk.new) }
         ensures epoch { IfOk result (λ epoch. epoch.0 ≡ self.old.epoch + 1) }
@@ -351,7 +360,7 @@ impl Journal {
     /// comes.
     ///
     /// Where nothing was pending, a stop at any moment of the call leaves the log with this batch or without, and none takes back what
-    /// was published at that moment or before.
+    /// was published at that moment or before. Whatever it answers, the disk is handed the three writes of this batch and nothing else.
     pub fn commit<D: Disk>(&mut self, disk: &mut D, payload: &Payload) -> Result<(), CommitFault>
         requires begun { IsTrue self.old.has_epoch }
         requires spellable { IsSpellable (plain_payload payload.now) }
@@ -376,9 +385,11 @@ impl Journal {
             (D.shown disk.old) (D.may_leave disk.old) (D.since disk.new (D.moment disk.old)) }
         ensures published { stopping.KeepsPublished (journals.next_command self.old (spell_payload (plain_payload payload.now))) self.old
             (D.shown disk.old) (D.may_leave disk.old) (FromThenOn D.moment D.since disk.old disk.new) }
-        ensures shows { OnOk result (stopping.ShowsFour (journals.next_command self.old (spell_payload (plain_payload payload.now)))
-            self.old
-            (D.shown disk.old) (D.since disk.new (D.moment disk.old))) }
+        ensures written { OnOk result (WhereBothTold (D.shown disk.old) (D.shown disk.new)
+            (λ x y. y ≡ all_written (joining_writes
+            (journals.next_command self.old (spell_payload (plain_payload payload.now))) self.old) x)) }
+        ensures hands { Hands (joining_writes (journals.next_command self.old (spell_payload (plain_payload payload.now))) self.old)
+            (result ≡ Err CommitFault.DiskFault) (D.shown disk.old) (D.shown disk.new) (D.since disk.new (D.moment disk.old)) }
         ensures holds { stopping.HoldsLog (journals.next_command self.old (spell_payload (plain_payload payload.now))) self.old
             (D.shown disk.old) (D.may_leave disk.old) (D.shown disk.new) (D.may_leave disk.new) }
         ensures begun { self.new.has_epoch ≡ self.old.has_epoch }

@@ -9,6 +9,7 @@ ghost use Rattle.cry_io.specs.Told.{WhereTold, WhereBothTold};
 ghost use Rattle.batch_log.specs.Moments.{FromThenOn, GoesOn};
 ghost use Rattle.commit_journal.specs.Answering.{Answers};
 ghost use Rattle.commit_journal.specs.Filling as filling;
+ghost use Rattle.commit_journal.specs.Handing.{HandsOpening};
 ghost use Rattle.commit_journal.specs.Logs.{AreInEpochs, epoch_behind};
 ghost use Rattle.commit_journal.specs.Moments.{KeepsHeld, OpensInOrder, OpensThroughout};
 ghost use Rattle.commit_journal.specs.Opening as opening;
@@ -168,7 +169,8 @@ impl Journal {
     /// for batches stand for them still.
     ///
     /// A stop at any moment of the call leaves what it could leave at the start, or the bytes that were shown then with some of these
-    /// slots filled. So what the disk held between two lists of batches, it holds between them throughout.
+    /// slots filled. So what the disk held between two lists of batches, it holds between them throughout. Whatever the call answers, the
+    /// disk is handed these slots' veil keys and nothing else.
     pub fn open_owner<D: Disk>(
         alloc: Global,
         disk: &mut D,
@@ -200,6 +202,8 @@ impl Journal {
             (D.since disk.new (D.moment disk.old)) }
         ensures ordered { OpensInOrder limits.store_bytes owner.now.bytes (D.shown disk.old)
             (FromThenOn D.moment D.since disk.old disk.new) }
+        ensures hands { HandsOpening limits.store_bytes owner.now.bytes (result ≡ Err OpenFault.DiskFault)
+            (D.shown disk.old) (D.shown disk.new) (D.since disk.new (D.moment disk.old)) }
         ensures kept { KeepsHeld limits.store_bytes owner.now.bytes (D.shown disk.old) (D.may_leave disk.old)
             (D.since disk.new (D.moment disk.old)) }
         ensures counts { D.faults disk.old ≤ D.faults disk.new }

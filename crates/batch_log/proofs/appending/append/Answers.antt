@@ -1,12 +1,16 @@
-use Rattle.std.proofs.Common.{◌≡◌, ◌-◌, ◌+◌, ◌≤◌, ℕ, List, [], ◌∷◌, length, arith, ap, subst, ◌∙◌}
+use Rattle.std.proofs.Common.{◌≡◌, ◌-◌, ◌+◌, ◌≤◌, ℕ, List, [], ◌∷◌, ◌++◌, length, arith, ap, subst, ◌∙◌}
+use Rattle.std.specs.Prelude.{IsErr}
 use Rattle.std.proofs.lemmas.Result.{on_err_weaker, on_ok_weaker}
 use Rattle.cry_io.proofs.ToldLemmas.{told_again}
 use Rattle.cry_io.specs.Stops.{Torn, Written}
-use Rattle.batch_log.specs.Moments.{OldOrNew, Throughout, TornInto}
+use Rattle.cry_io.specs.Told.{WhereBothTold}
+use Rattle.batch_log.specs.Moments.{Throughout, TornInto}
 use Rattle.batch_log.specs.Moments.InSteps.{Then}
-use Rattle.batch_log.specs.Steps.{Interrupts, IsHeldWhereShown, IsOneOfFour}
+use Rattle.batch_log.specs.Handing.{Hands, Write, all_written}
+use Rattle.batch_log.specs.Steps.{Interrupts, IsHeldWhereShown, written_at}
 use Rattle.batch_log.specs.Tokens.{GatedBatch, StagedBatch}
-use Rattle.batch_log.proofs.Committed.{committed, four_in_opening, four_in_staging, four_in_unveiling, held_in_opening, held_in_staging, held_in_unveiling, torn_in_opening, torn_in_staging, torn_in_unveiling}
+use Rattle.batch_log.proofs.Committed.{committed, held_in_opening, held_in_staging, held_in_unveiling, torn_in_opening, torn_in_staging, torn_in_unveiling}
+use Rattle.batch_log.proofs.Handed.{hands_before, hands_then, shows_all}
 use Rattle.batch_log.proofs.InOrder.{on_in_one}
 use Rattle.batch_log.proofs.Moments.{goes_on_then, in_both}
 use Rattle.batch_log.proofs.Staging.{stageable_long}
@@ -241,31 +245,77 @@ returns-clause-ordered g c durable x x_is ends =
     (λ s left t last at later. let torn = subst (λ n. TornInto (n + 13) 32 two.0 t last) gated_end (c.unveil.ensures.stops two.0 two.1 t last later) in
     held_in_unveiling end batch x one.0 two.0 s last whole ends first second torn.1)
 
-pub returns-clause-shows : goal.returns-clause-shows
-returns-clause-shows g c =
+pub returns-clause-written : goal.returns-clause-written
+unfolding all_written
+returns-clause-written g c =
     let D = g.D.Disk in
     let end = c.args.end in
     let batch = c.args.batch.now in
     let a = c.args.disk.now in
     let b = c.stage.new.disk in
+    let e = c.open_gate.new.disk in
     let staged_end : c.in_ok-staged.staged.end ≡ end = ap (λ (s : StagedBatch). s.end) c.in_ok-staged.ensures.staged in
     let gated_end : c.in_ok-gated.gated.end ≡ end = ap (λ (s : GatedBatch). s.end) c.in_ok-gated.ensures.gated ∙ staged_end in
-    let veil = c.args.veil.now in
     on_ok_weaker c.unveil.result
-    (λ third. λ x x_is.
+    (λ third. λ x y x_is y_is.
     let one = told_again (D.shown a) (D.shown b) x c.in_ok-staged.ensures.told x_is in
     let first = c.in_ok-staged.ensures.written x one.0 x_is one.1 in
-    let e = c.open_gate.new.disk in
     let two = told_again (D.shown b) (D.shown e) one.0 c.in_ok-gated.ensures.told one.1 in
     let second = subst (λ n. Written (n - 1) (1 ∷ []) one.0 two.0) staged_end (c.in_ok-gated.ensures.written one.0 two.0 one.1 two.1) in
+    subst (λ n. Written (n + 13) c.args.veil.now two.0 y) gated_end (third two.0 y two.1 y_is)
+    ∙ ap (λ r. written_at (end + 13) c.args.veil.now r) (second ∙ ap (λ r. written_at (end - 1) (1 ∷ []) r) first))
+    c.unveil.ensures.written
+
+pub returns-in_err-staged-clause-hands : goal.returns-in_err-staged-clause-hands
+returns-in_err-staged-clause-hands g c =
+    let D = g.D.Disk in
+    let a = c.args.disk.now in
+    let b = c.stage.new.disk in
+    let end = c.args.end in
+    hands_before (record { place = end; bytes = c.args.batch.now } ∷ [])
+    (record { place = end - 1; bytes = 1 ∷ [] } ∷ record { place = end + 13; bytes = c.args.veil.now } ∷ [])
+    (IsErr c.stage.result) (IsErr c.from_residual.result) (D.shown a) (D.shown b) (D.since b (D.moment a)) (λ _. c.from_residual.ensures.0) c.stage.ensures.hands
+
+pub returns-in_err-gated-clause-hands : goal.returns-in_err-gated-clause-hands
+unfolding all_written
+returns-in_err-gated-clause-hands g c =
+    let D = g.D.Disk in
+    let end = c.args.end in
+    let a = c.args.disk.now in
+    let b = c.stage.new.disk in
+    let e = c.open_gate.new.disk in
+    let staged_end : c.in_ok-staged.staged.end ≡ end = ap (λ (s : StagedBatch). s.end) c.in_ok-staged.ensures.staged in
+    let first : List Write = record { place = end; bytes = c.args.batch.now } ∷ [] in
+    let second : List Write = record { place = end - 1; bytes = 1 ∷ [] } ∷ [] in
+    hands_before (first ++ second) (record { place = end + 13; bytes = c.args.veil.now } ∷ [])
+    (IsErr c.open_gate.result) (IsErr c.from_residual-in_err-gated.result) (D.shown a) (D.shown e) (D.since e (D.moment a)) (λ _. c.from_residual-in_err-gated.ensures.0)
+    (hands_then first second _ (IsErr c.open_gate.result) (D.shown a) (D.shown b) (D.shown e) (D.moment a) (D.moment b) (D.since b) (D.since e)
+    (λ err. absurd (cc)) c.stage.ensures.later c.open_gate.ensures.time (shows_all first (D.shown a) (D.shown b) c.stage.ensures.told c.in_ok-staged.ensures.written)
+    c.in_ok-staged.ensures.hands
+    (subst (λ n. Hands (record { place = n - 1; bytes = 1 ∷ [] } ∷ []) (IsErr c.open_gate.result) (D.shown b) (D.shown e) (D.since e (D.moment b))) staged_end
+    c.open_gate.ensures.hands))
+
+pub returns-clause-hands : goal.returns-clause-hands
+unfolding all_written
+returns-clause-hands g c =
+    let D = g.D.Disk in
+    let end = c.args.end in
+    let a = c.args.disk.now in
+    let b = c.stage.new.disk in
+    let e = c.open_gate.new.disk in
     let f = c.unveil.new.disk in
-    let earlier : D.moment a ≤ D.moment e = let l = c.stage.ensures.later in let m = c.open_gate.ensures.later in omega (arith, l, m) in
-    let P : List ℕ → List ℕ → Type 0 = IsOneOfFour end batch veil x in
-    in_both (D.moment a) (D.moment e) (D.since e) (D.since f) P earlier c.unveil.ensures.time
-    (in_both (D.moment a) (D.moment b) (D.since b) (D.since e) P c.stage.ensures.later c.open_gate.ensures.time
-    (λ s left at. four_in_staging end batch veil x s left (c.in_ok-staged.ensures.shows x x_is s left at))
-    (λ s left at. four_in_opening end batch veil x one.0 s left first
-    (subst (λ n. OldOrNew (n - 1) (1 ∷ []) one.0 s left) staged_end (c.in_ok-gated.ensures.shows one.0 one.1 s left at))))
-    (λ s left at. four_in_unveiling end batch veil x one.0 two.0 s left first second
-    (subst (λ n. OldOrNew (n + 13) veil two.0 s left) gated_end (third two.0 two.1 s left at))))
-    c.unveil.ensures.shows
+    let staged_end : c.in_ok-staged.staged.end ≡ end = ap (λ (s : StagedBatch). s.end) c.in_ok-staged.ensures.staged in
+    let gated_end : c.in_ok-gated.gated.end ≡ end = ap (λ (s : GatedBatch). s.end) c.in_ok-gated.ensures.gated ∙ staged_end in
+    let first : List Write = record { place = end; bytes = c.args.batch.now } ∷ [] in
+    let second : List Write = record { place = end - 1; bytes = 1 ∷ [] } ∷ [] in
+    let third : List Write = record { place = end + 13; bytes = c.args.veil.now } ∷ [] in
+    hands_then first (second ++ third) _ (IsErr c.unveil.result) (D.shown a) (D.shown b) (D.shown f) (D.moment a) (D.moment b) (D.since b) (D.since f)
+    (λ err. absurd (cc)) c.stage.ensures.later (goes_on_then (D.moment b) (D.moment e) (D.since b) (D.since e) (D.since f) c.open_gate.ensures.later c.open_gate.ensures.time c.unveil.ensures.time)
+    (shows_all first (D.shown a) (D.shown b) c.stage.ensures.told c.in_ok-staged.ensures.written) c.in_ok-staged.ensures.hands
+    (hands_then second third _ (IsErr c.unveil.result) (D.shown b) (D.shown e) (D.shown f) (D.moment b) (D.moment e) (D.since e) (D.since f)
+    (λ err. absurd (cc)) c.open_gate.ensures.later c.unveil.ensures.time
+    (shows_all second (D.shown b) (D.shown e) c.open_gate.ensures.told
+    (subst (λ n. WhereBothTold (D.shown b) (D.shown e) (Written (n - 1) (1 ∷ []))) staged_end c.in_ok-gated.ensures.written))
+    (subst (λ n. Hands (record { place = n - 1; bytes = 1 ∷ [] } ∷ []) _ (D.shown b) (D.shown e) (D.since e (D.moment b))) staged_end c.in_ok-gated.ensures.hands)
+    (subst (λ n. Hands (record { place = n + 13; bytes = c.args.veil.now } ∷ []) (IsErr c.unveil.result) (D.shown e) (D.shown f) (D.since f (D.moment e))) gated_end
+    c.unveil.ensures.hands))

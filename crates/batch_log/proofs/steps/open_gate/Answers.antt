@@ -22,8 +22,10 @@ returns-clause-opened g c = λ y is.
     let size = g.met.D.Disk.size_is_shown c.args.disk.now old.0 old.1 in
     let end_is : c.staged.inside.end ≡ c.args.staged.end = ap (λ (s : StagedBatch). s.end) c.staged.view_is in
     let within = c.requires.inside in
+    let whole = c.requires.whole in
     let first = c.staged.invariant in
-    gated_written c.args.staged.end (length c.args.staged.body) old.0 y (omega (arith, first, end_is)) (omega (arith, size, within))
+    gated_written c.args.staged.end c.args.staged.body old.0 y (omega (arith, first, end_is)) whole (omega (arith, size, within))
+    (c.requires.stands old.0 old.1)
     (subst (λ n. Written (n - 1) (1 ∷ []) old.0 y) end_is (c.in_ok-write_and_sync.ensures.written old.0 y old.1 is))
 
 pub returns-clause-stops : goal.returns-clause-stops

@@ -1,5 +1,8 @@
-use Rattle.std.proofs.Common.{◌≡◌, ◌≤◌, ℕ, List, Some, inl, inr, length, arith, sym, subst, ◌∙◌}
-use Rattle.batch_log.specs.Moments.{OldOrNew, TornInto}
+use Rattle.std.proofs.Common.{◌≡◌, ◌≤◌, ◌⊎◌, ℕ, List, [], ◌∷◌, Some, inl, inr, length, arith, sym, subst, ◌∙◌}
+use Rattle.std.specs.Prelude.{IsErr}
+use Rattle.batch_log.specs.Handing.{IsStage, IsTornStage}
+use Rattle.batch_log.specs.Moments.{TornInto}
+use Rattle.batch_log.specs.Steps.{written_at}
 use Rattle.batch_log.proofs.Lists.{written_may_be_torn}
 use Rattle.batch_log.proofs.Moments.{goes_on_elapsed, goes_on_then, in_next_call, in_one_call}
 use Rattle.batch_log.proofs.WrittenMoments.{on_err, on_ok, told_one, torn_at_start, torn_behind_write}
@@ -81,18 +84,32 @@ returns-clause-stops g c durable x x_is =
     (λ s left is leaves. torn_at_start (D.shown a) (D.may_leave a) place (length bytes) x s left durable x_is is leaves) behind)
     (λ s left is leaves. behind s left (sym c.sync.ensures.shown ∙ is) (c.sync.ensures.stops left leaves))
 
-pub returns-clause-shows : goal.returns-clause-shows
-returns-clause-shows g c =
-    on_ok c.sync.result (λ x x_is.
+pub returns-in_err-write_at-clause-hands : goal.returns-in_err-write_at-clause-hands
+unfolding IsStage IsTornStage
+returns-in_err-write_at-clause-hands g c x x_is =
+    let D = g.D.Disk in
+    let met = g.met.D.Disk in
+    let a = c.args.disk.now in
+    let b = c.write_at.new.self in
+    in_one_call (D.moment a) (D.moment b) (D.since a) (D.since b) (D.shown a) (D.shown b) (D.may_leave a) (D.may_leave b)
+    (λ s left. IsStage (record { place = c.args.place; bytes = c.args.bytes.now } ∷ []) x s
+    ⊎ (IsErr c.from_residual.result × (D.shown b ≡ Some s) × IsTornStage (record { place = c.args.place; bytes = c.args.bytes.now } ∷ []) x s))
+    (λ s left at. met.only_now a s left at) c.write_at.ensures.time
+    (λ s left is leaves. inl (inl (told_one (D.shown a) s x is x_is)))
+    (λ s left is leaves. inr (c.from_residual.ensures.0, is, inl (c.in_err-write_at.ensures.torn x s x_is is)))
+
+pub returns-clause-hands : goal.returns-clause-hands
+unfolding IsStage
+returns-clause-hands g c x x_is =
     let D = g.D.Disk in
     let met = g.met.D.Disk in
     let a = c.args.disk.now in
     let b = c.write_at.new.self in
     let e = c.sync.new.self in
-    let P = OldOrNew c.args.place c.args.bytes.now x in
-    in_next_call (D.moment a) (D.moment b) (D.moment e) (D.since b) (D.since e) (D.shown e) (D.may_leave e) P c.write_at.ensures.time.later c.sync.ensures.time
+    let P = λ (s left : List ℕ). (s ≡ x) ⊎ (s ≡ written_at c.args.place c.args.bytes.now x) in
+    λ s left at. inl (in_next_call (D.moment a) (D.moment b) (D.moment e) (D.since b) (D.since e) (D.shown e) (D.may_leave e) P c.write_at.ensures.time.later c.sync.ensures.time
     (in_one_call (D.moment a) (D.moment b) (D.since a) (D.since b) (D.shown a) (D.shown b) (D.may_leave a) (D.may_leave b) P
     (λ s left at. met.only_now a s left at) c.write_at.ensures.time
     (λ s left is leaves. inl (told_one (D.shown a) s x is x_is))
     (λ s left is leaves. inr (c.in_ok-write_at.ensures.written x s x_is is)))
-    (λ s left is leaves. inr (c.in_ok-write_at.ensures.written x s x_is (sym c.sync.ensures.shown ∙ is))))
+    (λ s left is leaves. inr (c.in_ok-write_at.ensures.written x s x_is (sym c.sync.ensures.shown ∙ is))) s left at)

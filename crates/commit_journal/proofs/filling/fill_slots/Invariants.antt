@@ -1,9 +1,11 @@
-use Rattle.std.proofs.Common.{◌≡◌, ◌≤◌, ℕ, List, Some, drop}
+use Rattle.std.proofs.Common.{◌≡◌, ◌≤◌, ℕ, List, Some, drop, map}
 use Rattle.std.specs.Prelude.{is_some}
 use Rattle.cry_base.specs.Layout.{header_len}
 use Rattle.cry_io.specs.Stops.{IsDurable}
-use Rattle.batch_log.specs.Moments.{GoesOn}
+use Rattle.batch_log.specs.Handing.{IsStage, IsTornStage}
+use Rattle.batch_log.specs.Moments.{GoesOn, Throughout}
 use Rattle.commit_journal.specs.Filling.{AreUnfilled, LeavesUnfilled, all_filled}
+use Rattle.commit_journal.specs.Handing.{slot_write}
 use Rattle.commit_journal.specs.Moments.{FillsThroughout}
 use Rattle.commit_journal.proofs.filling.fill_slots.Given as goal
 
@@ -21,4 +23,10 @@ invariant-loop-slot g l = record {
       all_filled l.slots x ≡ all_filled (drop l.slot-index l.slots) y;
   left : (x y z : List ℕ) → g.D.Disk.shown l.fn.disk ≡ Some x → g.D.Disk.shown l.disk ≡ Some y
       → LeavesUnfilled (drop l.slot-index l.slots) y z → LeavesUnfilled l.slots x z;
+  hands : (x : List ℕ) → g.D.Disk.shown l.fn.disk ≡ Some x
+      → Throughout (λ s left. IsStage (map slot_write l.slots) x s) (g.D.Disk.since l.disk (g.D.Disk.moment l.fn.disk));
+  stage : (x y z : List ℕ) → g.D.Disk.shown l.fn.disk ≡ Some x → g.D.Disk.shown l.disk ≡ Some y
+      → IsStage (map slot_write (drop l.slot-index l.slots)) y z → IsStage (map slot_write l.slots) x z;
+  torn : (x y z : List ℕ) → g.D.Disk.shown l.fn.disk ≡ Some x → g.D.Disk.shown l.disk ≡ Some y
+      → IsTornStage (map slot_write (drop l.slot-index l.slots)) y z → IsTornStage (map slot_write l.slots) x z;
 }

@@ -1,13 +1,16 @@
-use Rattle.std.proofs.Common.{◌+◌, true, arith, refl, subst}
+use Rattle.std.proofs.Common.{◌≡◌, ◌+◌, true, arith, refl, subst}
 use Rattle.cry_base.specs.Layout.{batch_len}
+use Rattle.cry_io.specs.Told.{WhereBothTold}
 use Rattle.batch_log.specs.Moments.{FromThenOn}
+use Rattle.batch_log.proofs.Handed.{hands_failing, hands_nothing}
 use Rattle.commit_journal.specs.Journals.{JournalState, IsBehind, next_epoch}
+use Rattle.commit_journal.specs.Handing.{Hands, all_written, joining_writes}
 use Rattle.commit_journal.specs.contracts.journal.Journal.{the_view}
 use Rattle.commit_journal.proofs.JournalLemmas.{joins}
 use Rattle.commit_journal.proofs.MayHaveJoined.{may_join}
-use Rattle.commit_journal.specs.Stopping.{HoldsPublished, KeepsLog, KeepsPublished, ShowsFour}
+use Rattle.commit_journal.specs.Stopping.{HoldsPublished, KeepsLog, KeepsPublished}
 use Rattle.commit_journal.proofs.PublishedCommits.{commit_takes_nothing_back, refused_takes_nothing_back}
-use Rattle.commit_journal.proofs.StoppedCommits.{commit_keeps, commit_published, commit_shows, holds_at_the_end, refused_keeps, refused_published, spelled_stageable, stays}
+use Rattle.commit_journal.proofs.StoppedCommits.{commit_keeps, commit_published, commit_hands, commit_written, holds_at_the_end, refused_keeps, refused_published, spelled_stageable, stays}
 use Rattle.commit_journal.proofs.journal.Journal.begin_epoch.Goals as goal
 
 pub returns-clause-joined : goal.returns-clause-joined
@@ -168,11 +171,39 @@ returns-clause-holds g c =
     (λ s left is leaves. g.met.D.Disk.counts_now e (D.moment a) s left c.append.ensures.later is leaves)
     (returns-clause-kept g c)
 
-pub returns-clause-shows : goal.returns-clause-shows
-returns-clause-shows g c =
+pub returns-clause-written : goal.returns-clause-written
+returns-clause-written g c =
     let D = g.D.Disk in
     let a = c.args.disk.now in
-    let since = D.since c.append.new.disk (D.moment a) in
+    let e = c.append.new.disk in
     let old = the_view c.self.inside in
-    subst (λ (j : JournalState). ShowsFour (next_epoch j) j (D.shown a) since) c.self.view_is
-    (commit_shows (next_epoch old) old c.epoch_batch.result.bytes c.veil_key-veil.result (D.shown a) since (c.epoch_batch.ensures.spelled c.veil_key-veil.ensures) c.veil_key-veil.ensures c.in-Ok.ensures.shows)
+    subst (λ (j : JournalState). WhereBothTold (D.shown a) (D.shown e) (λ x y. y ≡ all_written (joining_writes (next_epoch j) j) x)) c.self.view_is
+    (commit_written (next_epoch old) old c.epoch_batch.result.bytes c.veil_key-veil.result (D.shown a) (D.shown e) (c.epoch_batch.ensures.spelled c.veil_key-veil.ensures) c.veil_key-veil.ensures c.in-Ok.ensures.written)
+
+pub returns-clause-hands : goal.returns-clause-hands
+returns-clause-hands g c =
+    let D = g.D.Disk in
+    let a = c.args.disk.now in
+    let e = c.append.new.disk in
+    let old = the_view c.self.inside in
+    hands_failing (joining_writes (next_epoch c.args.self.now) c.args.self.now) ⊥ _ (D.shown a) (D.shown e) (D.since e (D.moment a)) (λ never. absurd never)
+    (subst (λ (j : JournalState). Hands (joining_writes (next_epoch j) j) ⊥ (D.shown a) (D.shown e) (D.since e (D.moment a))) c.self.view_is
+    (commit_hands (next_epoch old) old c.epoch_batch.result.bytes c.veil_key-veil.result _ ⊥ (D.shown a) (D.shown e) (D.since e (D.moment a)) (c.epoch_batch.ensures.spelled c.veil_key-veil.ensures) c.veil_key-veil.ensures
+    (λ err. absurd (cc)) c.in-Ok.ensures.hands))
+
+pub returns-in_default-append-clause-hands : goal.returns-in_default-append-clause-hands
+returns-in_default-append-clause-hands g c =
+    let D = g.D.Disk in
+    let a = c.args.disk.now in
+    let e = c.append.new.disk in
+    let old = the_view c.self.inside in
+    subst (λ (j : JournalState). Hands (joining_writes (next_epoch j) j) _ (D.shown a) (D.shown e) (D.since e (D.moment a))) c.self.view_is
+    (commit_hands (next_epoch old) old c.epoch_batch.result.bytes c.veil_key-veil.result _ _ (D.shown a) (D.shown e) (D.since e (D.moment a)) (c.epoch_batch.ensures.spelled c.veil_key-veil.ensures) c.veil_key-veil.ensures
+    (λ err. refl) c.append.ensures.hands)
+
+pub returns-in-Some-clause-hands : goal.returns-in-Some-clause-hands
+returns-in-Some-clause-hands g c =
+    let D = g.D.Disk in
+    let a = c.args.disk.now in
+    let old = c.args.self.now in
+    hands_nothing (joining_writes (next_epoch old) old) _ (D.shown a) (D.shown a) (D.since a (D.moment a)) (λ s left at. (g.met.D.Disk.only_now a s left at).0)

@@ -1,10 +1,13 @@
-use Rattle.std.proofs.Common.{refl, sym, ap, ◌∙◌}
+use Rattle.std.proofs.Common.{ℕ, List, refl, sym, ap, ◌∙◌}
 use Rattle.chacha_seal.specs.Keys.{KeyParts}
 use Rattle.chacha_seal.specs.Sealing.{check_of}
 use Rattle.cry_io.proofs.ToldLemmas.{told_again}
 use Rattle.commit_journal.specs.Standing.{tag_behind}
+use Rattle.batch_log.specs.Handing.{all_written}
+use Rattle.batch_log.specs.Steps.{written_at}
 use Rattle.batch_log.proofs.Lists.{written_first}
 use Rattle.commit_journal.proofs.JournalLemmas.{length-nothing, image_of_nothing}
+use Rattle.commit_journal.proofs.StoppedCommits.{found_hands}
 use Rattle.commit_journal.proofs.journal.Journal.found.Goals as goal
 
 pub returns-clause-stands : goal.returns-clause-stands
@@ -26,3 +29,28 @@ returns-clause-shows g c = λ s is.
     (c.in-Ok.ensures.written zero.0 s zero.1 is)
     ∙ c.header.ensures
     ∙ image_of_nothing c.args.owner.now.bytes c.check_of-check.result (c.check_of-check.ensures ∙ ap check_of c.bytes.ensures.bytes)
+
+pub returns-clause-hands : goal.returns-clause-hands
+returns-clause-hands g c =
+    let D = g.D.Disk in
+    let a = c.args.disk.now in
+    let e = c.write_header.new.disk in
+    found_hands c.args.owner.now.bytes c.header.result _ _ (D.shown a) (D.shown e) (D.since e (D.moment a))
+    (c.header.ensures ∙ image_of_nothing c.args.owner.now.bytes c.check_of-check.result (c.check_of-check.ensures ∙ ap check_of c.bytes.ensures.bytes))
+    (λ err. absurd (cc)) c.in-Ok.ensures.hands
+
+pub returns-in_default-clause-hands : goal.returns-in_default-clause-hands
+returns-in_default-clause-hands g c =
+    let D = g.D.Disk in
+    let a = c.args.disk.now in
+    let e = c.write_header.new.disk in
+    found_hands c.args.owner.now.bytes c.header.result _ _ (D.shown a) (D.shown e) (D.since e (D.moment a))
+    (c.header.ensures ∙ image_of_nothing c.args.owner.now.bytes c.check_of-check.result (c.check_of-check.ensures ∙ ap check_of c.bytes.ensures.bytes))
+    (λ err. refl) c.write_header.ensures.hands
+
+pub returns-clause-written : goal.returns-clause-written
+unfolding all_written
+returns-clause-written g c = λ x y x_is y_is.
+    c.in-Ok.ensures.written x y x_is y_is
+    ∙ ap (λ (r : List ℕ). written_at 0 r x)
+    (c.header.ensures ∙ image_of_nothing c.args.owner.now.bytes c.check_of-check.result (c.check_of-check.ensures ∙ ap check_of c.bytes.ensures.bytes))

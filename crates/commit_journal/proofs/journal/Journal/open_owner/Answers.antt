@@ -1,4 +1,5 @@
-use Rattle.std.proofs.Common.{◌≡◌, ℕ, List, inl, inr, sym, ap, subst, ◌∙◌}
+use Rattle.std.proofs.Common.{◌≡◌, ℕ, List, inl, inr, refl, sym, ap, subst, ◌∙◌}
+use Rattle.std.specs.Prelude.{IsErr}
 use Rattle.cry_base.specs.Layout.{header_len}
 use Rattle.commit_journal.specs.declared.filling.Unfilled.{Unfilled}
 use Rattle.chacha_seal.specs.Keys.{KeyParts}
@@ -7,13 +8,15 @@ use Rattle.commit_journal.specs.Opening.{LeavesGated, plain_walked, slots_filled
 use Rattle.commit_journal.specs.WholeLogs.{StillStand}
 use Rattle.commit_journal.specs.Placed.{plain_log}
 use Rattle.batch_log.specs.Moments.{FromThenOn}
+use Rattle.batch_log.proofs.Handed.{hands_nothing}
 use Rattle.batch_log.proofs.Moments.{goes_on_elapsed}
 use Rattle.commit_journal.proofs.CommitLemmas.{on_err}
+use Rattle.commit_journal.specs.Handing.{HandsOpening, opening_writes}
 use Rattle.commit_journal.specs.Moments.{OpensInOrder, OpensThroughout}
-use Rattle.commit_journal.proofs.OpenedMoments.{keeps_held, opens_all, opens_read, opens_same, ordered_all, ordered_read, ordered_same, read_throughout, same_in_call, time_in_all}
+use Rattle.commit_journal.proofs.OpenedMoments.{keeps_held, opens_all, opens_read, opens_same, ordered_all, ordered_read, ordered_same, read_throughout, same_in_call, shown_in_reading, time_in_all}
 use Rattle.commit_journal.proofs.SlotsLeft.{still_left, still_same}
 use Rattle.commit_journal.proofs.SlotsUnfilled.{filled_is_filled, left_is_left, unfilled_are}
-use Rattle.commit_journal.proofs.SlotsWritten.{fills_log}
+use Rattle.commit_journal.proofs.SlotsWritten.{fills_log, hands_opening, opening_failing}
 use Rattle.commit_journal.proofs.journal.Journal.open_owner.Goals as goal
 
 pub fill_slots-requires-clause-unfilled : goal.fill_slots-requires-clause-unfilled
@@ -274,3 +277,53 @@ returns-clause-kept g c =
     let a = c.args.disk.now in
     keeps_held c.args.limits.store_bytes c.args.owner.now.bytes (D.shown a) (D.may_leave a) (D.since c.fill_slots.new.disk (D.moment a)) c.requires.known
     (returns-clause-stops g c)
+
+pub returns-in_default-clause-hands : goal.returns-in_default-clause-hands
+returns-in_default-clause-hands g c = λ x x_is.
+    let D = g.D.Disk in
+    let a = c.args.disk.now in
+    let b = c.sync.new.self in
+    hands_nothing (opening_writes c.args.limits.store_bytes c.args.owner.now.bytes x) _ (D.shown a) (D.shown b) (D.since b (D.moment a))
+    (λ s left at. (same_in_call D.shown D.may_leave D.moment D.since a b (λ s left at. g.met.D.Disk.only_now a s left at) c.sync.ensures.shown c.sync.ensures.stops c.sync.ensures.time s left at).0)
+
+pub returns-in_err-placed-clause-hands : goal.returns-in_err-placed-clause-hands
+returns-in_err-placed-clause-hands g c = λ x x_is.
+    let D = g.D.Disk in
+    let a = c.args.disk.now in
+    let b = c.sync.new.self in
+    let e = c.walk.new.disk in
+    hands_nothing (opening_writes c.args.limits.store_bytes c.args.owner.now.bytes x) _ (D.shown a) (D.shown e) (D.since e (D.moment a))
+    (shown_in_reading D a b e (λ s left at. g.met.D.Disk.only_now a s left at) c.sync.ensures.shown c.sync.ensures.stops c.sync.ensures.time (read_throughout D (λ d s left at. g.met.D.Disk.only_now d s left at) (λ d t s left early is leaves. g.met.D.Disk.counts_now d t s left early is leaves) b e c.walk.ensures.read_only))
+
+pub returns-in_default-fill_slots-clause-hands : goal.returns-in_default-fill_slots-clause-hands
+returns-in_default-fill_slots-clause-hands g c =
+    let D = g.D.Disk in
+    let a = c.args.disk.now in
+    let b = c.sync.new.self in
+    let e = c.walk.new.disk in
+    let f = c.fill_slots.new.disk in
+    let key : c.of-owner.result.bytes ≡ c.args.owner.now.bytes = ap (λ (k : KeyParts). k.bytes) c.of-owner.ensures in
+    let owner = c.of-owner.result.bytes in
+    let walked = c.in_ok-placed.field-0 in
+    let listed : c.as_slice.result.now ≡ walked.unfilled.items = cc in
+    subst (λ (k : List ℕ). HandsOpening c.args.limits.store_bytes k _ (D.shown a) (D.shown f) (D.since f (D.moment a))) key
+    (hands_opening D a b e f c.args.limits.store_bytes owner (plain_walked walked) c.as_slice.result.now (IsErr c.fill_slots.result) _
+    (λ s left at. g.met.D.Disk.only_now a s left at) c.sync.ensures.shown c.sync.ensures.stops c.sync.ensures.time (read_throughout D (λ d s left at. g.met.D.Disk.only_now d s left at) (λ d t s left early is leaves. g.met.D.Disk.counts_now d t s left early is leaves) b e c.walk.ensures.read_only) c.in_ok-placed.ensures.read_only.same_bytes
+    c.fill_slots.ensures.time c.in_ok-placed.ensures.verdict (λ x x_is. listed ∙ c.in_ok-placed.ensures.unfilled x x_is) (λ err. refl) c.fill_slots.ensures.hands)
+
+pub returns-clause-hands : goal.returns-clause-hands
+returns-clause-hands g c =
+    let D = g.D.Disk in
+    let a = c.args.disk.now in
+    let b = c.sync.new.self in
+    let e = c.walk.new.disk in
+    let f = c.fill_slots.new.disk in
+    let key : c.of-owner.result.bytes ≡ c.args.owner.now.bytes = ap (λ (k : KeyParts). k.bytes) c.of-owner.ensures in
+    let owner = c.of-owner.result.bytes in
+    let walked = c.in_ok-placed.field-0 in
+    let listed : c.as_slice.result.now ≡ walked.unfilled.items = cc in
+    opening_failing c.args.limits.store_bytes c.args.owner.now.bytes ⊥ _ (D.shown a) (D.shown f) (D.since f (D.moment a)) (λ never. absurd never)
+    (subst (λ (k : List ℕ). HandsOpening c.args.limits.store_bytes k ⊥ (D.shown a) (D.shown f) (D.since f (D.moment a))) key
+    (hands_opening D a b e f c.args.limits.store_bytes owner (plain_walked walked) c.as_slice.result.now _ ⊥
+    (λ s left at. g.met.D.Disk.only_now a s left at) c.sync.ensures.shown c.sync.ensures.stops c.sync.ensures.time (read_throughout D (λ d s left at. g.met.D.Disk.only_now d s left at) (λ d t s left early is leaves. g.met.D.Disk.counts_now d t s left early is leaves) b e c.walk.ensures.read_only) c.in_ok-placed.ensures.read_only.same_bytes
+    c.fill_slots.ensures.time c.in_ok-placed.ensures.verdict (λ x x_is. listed ∙ c.in_ok-placed.ensures.unfilled x x_is) (λ err. absurd (cc)) c.in-Ok-fill_slots.ensures.hands))
