@@ -2,8 +2,8 @@
 --
 -- It opens no store where the first line hands in no key, where the store's bytes are refused under that key, and where before that
 -- something outside failed or memory was wanting. Whatever it answers then, it drew and printed nothing. At each moment of the call the
--- file is as it was, but for slots that a stop had left without their keys: these may be filled, where under that key every test of the
--- log passes.
+-- file is as it was, but for slots that a stop had left without their keys: where under that key every test of the log passes, these may be
+-- filled, and the one that is being filled may hold any bytes.
 use Rattle.std.specs.Prelude.{◌≡◌, ◌≢◌, ◌⊎◌, ℕ, List, Option, Some, None}
 use Rattle.commit_journal.specs.Moments.{OpensThroughout}
 use Rattle.cry_base.specs.Limits.{most_store_bytes}

@@ -1,5 +1,5 @@
+pub mod CallLemmas
 pub mod Kept
 pub mod Lasting
 pub mod Left
 pub mod Made
-pub mod OtherCalls

@@ -1,5 +1,5 @@
 //! What a stop leaves of calls of the program, one after another: every command that was acknowledged, and none that wasn't accepted.
 #![tactic(auto)]
 
+pub mod calls;
 pub mod laws;
-pub mod others;

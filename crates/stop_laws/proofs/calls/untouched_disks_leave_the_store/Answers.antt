@@ -1,5 +1,5 @@
-use Rattle.stop_laws.proofs.OtherCalls.{untouched_leaves}
-use Rattle.stop_laws.proofs.others.untouched_disks_leave_the_store.Goals as goal
+use Rattle.stop_laws.proofs.CallLemmas.{untouched_leaves}
+use Rattle.stop_laws.proofs.calls.untouched_disks_leave_the_store.Goals as goal
 
 pub returns : goal.returns
 returns g c is =

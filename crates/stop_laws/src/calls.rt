@@ -1,16 +1,33 @@
-//! Laws: a call of the program that isn't a run by the store's owner leaves the store as it is.
+//! Laws: what each call of the program is in a list of calls: a run by the store's owner, or one that leaves the store as it is.
 ghost use Rattle.std.specs.Prelude.{◌≡◌, ℕ, List, Some};
 ghost use Rattle.cryptree_cli.specs.Promises.Any.{AnyEnds};
 ghost use Rattle.cryptree_cli.specs.Promises.Gen.{GenEnds};
 ghost use Rattle.cryptree_cli.specs.Promises.Make.{MakeEnds};
 ghost use Rattle.cryptree_cli.specs.Promises.Run.{RunEnds};
+ghost use Rattle.cryptree_cli.specs.Running.{key_in_lines, lines_in};
 ghost use Rattle.cryptree_cli.specs.declared.status.Status.{Status};
 ghost use Rattle.journal_bytes.specs.Journals.{ShowsJournal};
 ghost use Rattle.public_fold.specs.Journal.{Journal};
 ghost use Rattle.stop_laws.specs.Others.{IsByOther};
-ghost use Rattle.stop_laws.specs.Runs.{LeavesStore};
+ghost use Rattle.stop_laws.specs.Runs.{LeavesStore, RunOver};
 
 use cry_io::{Disk, Sink, Source};
+
+/// Law: a run whose first line hands in the owner's key.
+pub fn runs_of_the_owner_are_told<S: Source, R: Source, D: Disk, W: Sink>(
+    input_old: &S,
+    input_new: &S,
+    random_old: &R,
+    random_new: &R,
+    disk_old: &D,
+    disk_new: &D,
+    out_old: &W,
+    out_new: &W,
+)
+    ensures { (owner typed : List ℕ) (status : Status) → S.left input_old.now ≡ Some typed → key_in_lines (lines_in typed) ≡ Some owner →
+        RunEnds S.Source R.Source D.Disk W.Sink status input_old.now input_new.now random_old.now random_new.now disk_old.now disk_new.now
+        out_old.now out_new.now → RunOver D.shown D.may_leave D.moment D.since owner disk_old.now disk_new.now }
+{}
 
 /// Law: a run whose first line hands in no key, or one with another check than the owner's, over a disk that shows the owner's journal.
 pub fn runs_of_others_leave_the_store<S: Source, R: Source, D: Disk, W: Sink>(

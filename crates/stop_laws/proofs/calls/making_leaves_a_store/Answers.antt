@@ -1,5 +1,5 @@
-use Rattle.stop_laws.proofs.OtherCalls.{make_leaves_store}
-use Rattle.stop_laws.proofs.others.making_leaves_a_store.Goals as goal
+use Rattle.stop_laws.proofs.CallLemmas.{make_leaves_store}
+use Rattle.stop_laws.proofs.calls.making_leaves_a_store.Goals as goal
 
 pub returns : goal.returns
 returns g c owner m status shows made =

@@ -1,5 +1,5 @@
-use Rattle.stop_laws.proofs.OtherCalls.{gen_leaves_store}
-use Rattle.stop_laws.proofs.others.generating_leaves_a_store.Goals as goal
+use Rattle.stop_laws.proofs.CallLemmas.{gen_leaves_store}
+use Rattle.stop_laws.proofs.calls.generating_leaves_a_store.Goals as goal
 
 pub returns : goal.returns
 returns g c owner m status seed count shows made =

@@ -1,4 +1,4 @@
--- Calls that aren't a run by the owner leave the store as it is.
+-- Calls of the program in a list of calls: those that aren't a run by the owner leave the store as it is.
 use Rattle.std.proofs.Common.{◌≡◌, ◌≤◌, ◌<◌, ◌≢◌, ◌⊎◌, ⊎_elim, inl, inr, ℕ, Bool, true, false, List, [], length, take, drop, Option, Some, None, Result, Ok, Err, arith, refl, sym, ap, subst, ◌∙◌}
 use Rattle.std.specs.Prelude.{IsTrue, codes, if◌then◌else◌, is_some, nat_le, slice_range, ◌++◌, ◌∷◌}
 use Rattle.std.specs.Str.{bytes_eq}
@@ -38,7 +38,7 @@ use Rattle.log_visits.specs.Asking.Asking.{ToWrite}
 use Rattle.log_visits.specs.Judging.{Failure, OfBytes, of_bytes, read_through, then_on}
 use Rattle.public_fold.specs.Journal.{Journal}
 use Rattle.stop_laws.specs.Others.{IsByOther}
-use Rattle.stop_laws.specs.Runs.{LeavesStore}
+use Rattle.stop_laws.specs.Runs.{LeavesStore, RunOver}
 use Rattle.store_owner.proofs.OpenedBehind.{within}
 
 -- ---- a key with another check
@@ -155,6 +155,25 @@ module _ {D : Type 0} (disks : disk.Ghosts D)
       (λ first. (shows.1 ∙ ap (λ z. Some z) (sym first.0), inl first.1))
       (λ filled. (shows.1 ∙ ap (λ z. Some z) (sym (gated s filled.0)), inr (shows.1 ∙ ap (λ z. Some z) (sym (gated c filled.1)))))
       (tried.throughout x shows.1 s c at)
+
+  -- a run by the owner
+  pub owner_run : {S R W : Type 0} (inputs : source.Ghosts S) (randoms : source.Ghosts R) (outs : sink.Ghosts W) (status : Status) (input_old input_new : S) (random_old random_new : R)
+      (before after : D) (out_old out_new : W) (owner typed : List ℕ) → inputs.left input_old ≡ Some typed → key_in_lines (lines_in typed) ≡ Some owner
+      → RunEnds inputs randoms disks outs status input_old input_new random_old random_new before after out_old out_new
+      → RunOver disks.shown disks.may_leave disks.moment disks.since owner before after
+  owner_run inputs randoms outs status input_old input_new random_old random_new before after out_old out_new owner typed told hands run = record {
+    status = status;
+    typed = typed;
+    asked = run.asked;
+    left_before = randoms.left random_old;
+    left_after = randoms.left random_new;
+    written_before = outs.written out_old;
+    written_after = outs.written out_new;
+    hands_in = hands;
+    later = run.later;
+    ran = run.ran typed told;
+    published = run.published typed told;
+  }
 
   -- a run whose first line hands in no key, or one of another
   module _ {S R W : Type 0} (inputs : source.Ghosts S) (randoms : source.Ghosts R) (outs : sink.Ghosts W) (status : Status) (input_old input_new : S) (random_old random_new : R)

@@ -1,5 +1,5 @@
-use Rattle.stop_laws.proofs.OtherCalls.{run_leaves_store}
-use Rattle.stop_laws.proofs.others.runs_of_others_leave_the_store.Goals as goal
+use Rattle.stop_laws.proofs.CallLemmas.{run_leaves_store}
+use Rattle.stop_laws.proofs.calls.runs_of_others_leave_the_store.Goals as goal
 
 pub returns : goal.returns
 returns g c owner m typed status told shows other run any =
