@@ -75,7 +75,7 @@ def read(path):
 
 
 def have(tool):
-    """Sees to it that there is a tool of this name, installed by the system's packages where it is missing and may be, or ends the check."""
+    """Sees to it that there is a tool of this name, installed by apt-get where it is missing and may be, or ends the check."""
     for words in (["update"], ["install", "-y", "--no-install-recommends", tool]):
         if not shutil.which(tool) and shutil.which("apt-get"):
             subprocess.run(["apt-get", "-qq", *words], stdin=subprocess.DEVNULL, stdout=subprocess.DEVNULL, stderr=subprocess.DEVNULL)

@@ -48,9 +48,9 @@ def calls_of(log):
 
 
 def text_in(word):
-    """The bytes of a string."""
+    """The bytes of a string, and none where it isn't told."""
     told = re.fullmatch(r'"((?:\\x[0-9a-f]{2})*)"', word)
-    return bytes.fromhex(told[1].replace("\\x", "")) if told else None
+    return bytes.fromhex(told[1].replace("\\x", "")) if told else b""
 
 
 class Deeds:
@@ -80,7 +80,7 @@ class Deeds:
     def then(self, *deed):
         """Puts a deed behind the others, or together with the last one."""
         last = self.order[-1] if self.order else None
-        if last and last[0] == deed[0] == "drew" and deed[1] == last[1] - last[2]:
+        if last and last[0] == deed[0] == "drew" and [type(last[2]), type(deed[2])] == [int, int] and deed[1] == last[1] - last[2]:
             self.order[-1] = "drew", last[1], last[2] + deed[2]
         elif last and last[0] == deed[0] == "wrote" and deed[1] == last[1] + len(last[2]):
             self.order[-1] = "wrote", last[1], last[2] + deed[2]
@@ -104,7 +104,7 @@ class Deeds:
             self.files[int(file)] = STREAMS[int(file)]
         return known
 
-    def do_fcntl(self, call, file, what, least):
+    def do_fcntl(self, call, file, what, least="0"):
         self.files[call.answer] = self.file_of(file)
         return what == "F_DUPFD_CLOEXEC" and int(least) > max(STREAMS)
 
@@ -169,7 +169,7 @@ class Deeds:
         """The allocator of the C library draws a mark of its own."""
         return (count, flags) == ("8", "GRND_NONBLOCK")
 
-    def do_ioctl(self, call, file, what, told):
+    def do_ioctl(self, call, file, what, told=""):
         return self.file_of(file) in ("output", "errors") and what == "TCGETS"
 
     def do_clock_gettime(self, call, clock, told):
@@ -185,5 +185,5 @@ def is_of_start(call):
     """Whether every start of a program that is linked with the C library may ask for this."""
     words = words_of(call.words)
     if call.name == "openat":
-        return "O_RDONLY" in words[2].split("|") and LOADS.fullmatch(text_in(words[1]) or b"") is not None
+        return "O_RDONLY" in words[2].split("|") and LOADS.fullmatch(text_in(words[1])) is not None
     return call.name in STARTS
