@@ -7,6 +7,8 @@ mod drawn;
 #[cfg(test)]
 mod graph;
 #[cfg(test)]
+mod passes;
+#[cfg(test)]
 mod stores;
 #[cfg(test)]
 mod walks;

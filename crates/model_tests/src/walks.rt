@@ -2,10 +2,11 @@
 ghost use Rattle.std.specs.Prelude;
 
 use crate::drawn::{drawn, drawn_store};
+use crate::passes::{mark_from, plan};
 use crate::stores::Store;
 use cry_base::{Edge, FolderId, Role, Steps};
-use rekey_walk::{Dirty, mark_from, mark_in, plan, plan_in};
-use role_graph::{StoreRoles, reach_back};
+use rekey_walk::{Dirty, mark_in, plan_in};
+use role_graph::{CountedRoles, RoleSet, reach_back};
 use std::alloc::Global;
 use std::test::Fail;
 
@@ -34,7 +35,7 @@ struct Marked {
 fn by_passes(alloc: Global, store: &Store, marking: Marking) -> Result<Marked, Fail> {
     let edges = store.edges(alloc)?;
     let left = without_removed(alloc, edges.as_slice())?;
-    let mut dirty = Dirty::new(alloc);
+    let mut dirty = RoleSet::new(alloc);
     mark_from(alloc, &mut dirty, edges.as_slice(), marking.target)?;
     let renewed = plan(alloc, &dirty, &left, &[marking.wanted])?;
     listed(alloc, dirty.as_slice(), renewed.as_slice())
@@ -47,15 +48,10 @@ fn by_walks(
     removed: &[Edge],
     marking: Marking,
 ) -> Result<Marked, Fail> {
-    let roles = StoreRoles {
-        shape: &store.shape,
-        grants: &store.grants,
-    };
-    let mut steps = Steps::new();
+    let mut roles = CountedRoles::new(&store.shape, &store.grants, Steps::new());
     let mut dirty = Dirty::new(alloc);
-    mark_in(alloc, &mut dirty, &roles, marking.target, &mut steps)?;
-    let wanted = [marking.wanted];
-    let renewed = plan_in(alloc, &dirty, &roles, removed, &wanted, &mut steps)?;
+    mark_in(alloc, &mut dirty, &mut roles, marking.target)?;
+    let renewed = plan_in(alloc, &dirty, &mut roles, removed, &[marking.wanted])?;
     listed(alloc, dirty.as_slice(), renewed.as_slice())
 }
 

@@ -1,3 +1,4 @@
+pub mod LookUps
 pub mod Noting
 pub mod Change
 pub mod Fitting

@@ -9,7 +9,7 @@ use Rattle.role_graph.specs.Roles.{same_role}
 use Rattle.rekey_walk.specs.Dirty.{mark_all, plan}
 use Rattle.move_plan.specs.Change.{Change}
 use Rattle.public_fold.specs.KeyStep.{KeyState, dirty_left, edges_left, published_edges, renewed, without, keys_without}
-use Rattle.public_fold.specs.Stepping.{IsDue, keyed_of}
+use Rattle.public_fold.specs.Stepping.{IsDue, keyed_of, marks_alone}
 use Rattle.public_fold.specs.declared.step.Due.{Due}
 
 -- where marks and plan are those of the edges, and what was found for the plan is published
@@ -30,6 +30,18 @@ due_is k before c marked again d m a keyed gone edges dirty =
       dirty = dirty ∙ (λ i. without same_role (r i) (m i));
       edges = edges ∙ ap (λ (x : List Role). published_edges before c x) r;
     }
+
+-- the plan of these marks is what is renewed
+pub renewed_is : (k : KeyState) (before : List Edge) (c : Change) (marked : List Role)
+    → marked ≡ without same_role c.gone (mark_all k.dirty before (map (λ (e : Edge). e.to) c.removed))
+    → plan marked (edges_but c.removed before) c.wanted ≡ renewed k before c
+unfolding renewed dirty_left edges_left edges_but without
+renewed_is k before c marked m = ap (λ (x : List Role). plan x (edges_left before c) c.wanted) m
+
+-- what is due hangs on the marks, and on no more of the keys
+pub due_of_marks : (k : KeyState) (before : List Edge) (c : Change) (d : Due) → IsDue (marks_alone k.dirty) before c d → IsDue k before c d
+unfolding renewed dirty_left
+due_of_marks k before c d is = record { keyed = is.keyed; gone = is.gone; dirty = is.dirty; edges = is.edges }
 
 -- with no role gone all keys stay
 pub none_gone : (gone : List Role) (keys : List (Role × ℕ)) → (length gone == 0) ≡ true → keys_without gone keys ≡ keys

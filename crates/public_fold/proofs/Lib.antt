@@ -42,3 +42,4 @@ mod InKinds
 pub mod KeyTabled
 pub mod FoundEdges
 pub mod StaysRooted
+pub mod StepLooked

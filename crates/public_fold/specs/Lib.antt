@@ -21,3 +21,4 @@ pub mod Rooted
 pub mod Turns
 pub mod Texts
 pub mod WorkedSteps
+pub mod LookUps

@@ -3,6 +3,7 @@ use Rattle.std.specs.Prelude.{◌≡◌, ℕ, ◌+◌, ◌<◌, true, List, [], 
 use Rattle.cry_base.specs.Store.{Store}
 use Rattle.cry_base.specs.declared.roles.Edge.{Edge}
 use Rattle.cry_base.specs.declared.roles.Role.{Role}
+use Rattle.role_graph.specs.PublicStore.{public_store}
 use Rattle.role_graph.specs.Roles.{same_role}
 use Rattle.move_plan.specs.Change.{Change, change_of}
 use Rattle.move_plan.specs.Fitting.{fits}
@@ -10,6 +11,8 @@ use Rattle.record_format.specs.Noted.{Note}
 use Rattle.public_fold.specs.Heads.{IsSkeleton, content_head, due_of}
 use Rattle.public_fold.specs.KeyStep.{KeyState, Stepped, contents_from, dirty_left, keys_without, links_from, next_serial, numbered}
 use Rattle.public_fold.specs.KeyStep.{published_edges, renewed, without}
+use Rattle.public_fold.specs.Keyed.{IsKept}
+use Rattle.public_fold.specs.Standing.{PublicView, public_store_of}
 use Rattle.public_fold.specs.declared.counter.SerialCount.{SerialCount}
 use Rattle.public_fold.specs.declared.step.Due.{Due}
 use Rattle.public_fold.specs.declared.step.Step.{Step}
@@ -28,6 +31,19 @@ pub record IsDue (k : KeyState) (before : List Edge) (c : Change) (d : Due) : Ty
   pub gone : d.gone.items ≡ renewed k before c ++ c.gone
   pub dirty : d.dirty ≡ without same_role (renewed k before c) (dirty_left k before c)
   pub edges : d.edges.items ≡ published_edges before c (renewed k before c)
+
+-- what is asked of the roles that a step is looked up at: they are those of a public state, with these marks, and the change is that
+-- of a note that fits it
+pub record IsDueAt (s : Store) (dirty : List Role) (c : Change) : Type 0 where
+  pub state : PublicView
+  pub store : s ≡ public_store state.tree state.pairs
+  pub marks : dirty ≡ state.keys.dirty
+  pub kept : IsKept (public_store_of state) state.keys.keys state.keys.dirty
+  pub fits : IsOfFittingNote (public_store_of state) c
+
+-- no keys, with these marks: what is due hangs on no more of the keys
+abbrev pub marks_alone : List Role → KeyState
+marks_alone dirty = record { keys = []; dirty = dirty; epoch = 0; count = 0 }
 
 -- the keys that a step leaves
 abbrev pub keys_left : List (Role × ℕ) → Step → List (Role × ℕ)

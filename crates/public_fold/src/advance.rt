@@ -12,6 +12,7 @@ ghost use Rattle.public_fold.specs.Standing.{IsSeenAs, with_room_of};
 use crate::fitting::has_records;
 use crate::step::step_of;
 use crate::{FoldFault, PublicState, Skeleton};
+use cry_base::Steps;
 use record_format::{Note, Payload};
 use std::alloc::Global;
 
@@ -26,7 +27,7 @@ impl PublicState {
         ensures unfit { result ≡ Err FoldFault.Unfit → (at : Stand) → IsSeenAs self.now at
             → note_fits at (told_note note.now) (told_step at (told_note note.now)) ≡ false }
     {
-        let step = step_of(alloc, self, false, note)?;
+        let step = step_of(alloc, self, false, note, &mut Steps::new())?;
         Ok(step.skeleton)
     }
 

@@ -11,7 +11,7 @@ ghost use Rattle.public_fold.specs.Standing.{IsSeenAs, PublicView, with_room_of}
 use crate::changing::{change_store, root_shape};
 use crate::step::{Left, step_of};
 use crate::{FoldFault, PublicState, Skeleton};
-use cry_base::Mem;
+use cry_base::{Mem, Steps};
 use folder_nodes::Shape;
 use record_format::Note;
 use std::alloc::Global;
@@ -110,7 +110,7 @@ impl PublicState {
         ensures unfit { result ≡ Err FoldFault.Unfit → (at : Stand) → IsSeenAs self.now at
             → note_fits (begun new_epoch at) (told_note note.now) (told_step (begun new_epoch at) (told_note note.now)) ≡ false }
     {
-        let step = step_of(alloc, self, new_epoch, note)?;
+        let step = step_of(alloc, self, new_epoch, note, &mut Steps::new())?;
         let root = root_for(alloc, note)?;
         Ok(Prepared {
             note: *note,

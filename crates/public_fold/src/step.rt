@@ -1,14 +1,17 @@
 //! The key step of a note on a public state (docs/FORMAT.md, "The key step").
-ghost use Rattle.std.specs.Prelude.{◌≡◌, ◌<◌, ◌≤◌, true, false, Err, IfOk};
+ghost use Rattle.std.specs.Prelude.{◌≡◌, ◌<◌, ◌≤◌, ◌+◌, true, false, Err, IfOk};
+ghost use Rattle.move_plan.specs.Change.{change_of as change_of_note};
+ghost use Rattle.move_plan.specs.Fitting.{fits as fits_store};
 ghost use Rattle.move_plan.specs.Seen.{plain_change};
 ghost use Rattle.record_format.specs.Told.{told_note};
 ghost use Rattle.role_graph.specs.Edges.{edges as edges_of};
 ghost use Rattle.role_graph.specs.PublicStore.{public_store};
 ghost use Rattle.public_fold.specs.Fitted.{told_step};
+ghost use Rattle.public_fold.specs.LookUps.{note_look_ups, step_look_ups};
 ghost use Rattle.public_fold.specs.StandFits.{note_fits};
 ghost use Rattle.public_fold.specs.Preparing.{begun_view};
 ghost use Rattle.public_fold.specs.Standing.{public_store_of, stand_of};
-ghost use Rattle.public_fold.specs.Stepping.{IsDue, IsNumbered, IsOfFittingNote, IsStep, counted, keys_at};
+ghost use Rattle.public_fold.specs.Stepping.{IsDue, IsDueAt, IsNumbered, IsStep, counted, keys_at, marks_alone};
 
 use crate::counter::{SerialCount, count_after, next_serial};
 use crate::keys::{KeyTable, KeysThen};
@@ -22,8 +25,9 @@ use cry_base::{Edge, List, Mem, Role, Steps};
 use move_plan::{Change, FewRoles, change_of};
 use record_format::Note;
 use rekey_walk::{Dirty, plan_closed};
-use role_graph::StoreRoles;
+use role_graph::{Adjacent, CountedRoles};
 use std::alloc::Global;
+use std::mem;
 
 /// A step before its serials are counted.
 #[derive(Debug, Drop)]
@@ -57,12 +61,13 @@ pub(crate) struct Left {
     pub(crate) count: u32,
 }
 
-/// The step of a note that fits the state, once the next epoch is begun where one is wanted.
+/// The step of a note that fits the state, once the next epoch is begun where one is wanted. Its look-ups of edges are counted.
 pub(crate) fn step_of(
     alloc: Global,
     state: &PublicState,
     new_epoch: bool,
     note: &Note,
+    steps: &mut Steps,
 ) -> Result<Step, FoldFault>
     requires { new_epoch ≡ true → state.now.keys.epoch < 4294967295 }
     ensures fits { IfOk result (λ s. note_fits (stand_of (begun_view new_epoch state.now)) (told_note note.now)
@@ -71,28 +76,63 @@ pub(crate) fn step_of(
     ensures unfit { result ≡ Err FoldFault.Unfit
         → note_fits (stand_of (begun_view new_epoch state.now)) (told_note note.now)
         (told_step (stand_of (begun_view new_epoch state.now)) (told_note note.now)) ≡ false }
+    ensures look_ups { steps.new ≤ steps.old + note_look_ups state.now (told_note note.now) }
 {
     let from = state.counts_from(new_epoch);
     if from.epoch == 0 {
         return Err(FoldFault::Unfit);
     }
-    let change = change_of(alloc, &state.shape, &state.grants, note)?;
-    let due = due_step(alloc, state, change)?;
+    let due = due_counted(alloc, state, note, steps)?;
     numbered_step(alloc, &state.keys, from, note, due)
 }
 
-/// The step of a change, before its serials are counted. Marks, plan and what is published are looked up at the roles
-/// that they come to, and no list of all edges is made.
-fn due_step(alloc: Global, state: &PublicState, change: Change) -> Mem<Due>
-    requires { IsOfFittingNote (public_store_of state.now) (plain_change change) }
-    ensures { IfOk result (λ d. IsDue state.now.keys (edges_of (public_store state.now.tree state.now.pairs)) (plain_change change) d) }
+/// What is due of a note that fits the state, before its serials are counted. The look-ups are counted on.
+fn due_counted(
+    alloc: Global,
+    state: &PublicState,
+    note: &Note,
+    steps: &mut Steps,
+) -> Result<Due, FoldFault>
+    ensures fits { IfOk result (λ _. fits_store (public_store_of state.now) (told_note note.now) ≡ true) }
+    ensures due { IfOk result (λ d. IsDue state.now.keys (edges_of (public_store state.now.tree state.now.pairs))
+        (change_of_note (public_store_of state.now) (told_note note.now)) d) }
+    ensures unfit { result ≡ Err FoldFault.Unfit → fits_store (public_store_of state.now) (told_note note.now) ≡ false }
+    ensures look_ups { steps.new ≤ steps.old + note_look_ups state.now (told_note note.now) }
 {
-    let roles = StoreRoles {
-        shape: &state.shape,
-        grants: &state.grants,
-    };
-    let mut steps = Steps::new();
-    let mut dirty = dirty_left(alloc, &state.dirty, &roles, &change, &mut steps)?;
+    let taken = mem::replace(steps, Steps::new());
+    let mut roles = CountedRoles::new(&state.shape, &state.grants, taken);
+    let due = due_of(alloc, state, &mut roles, note);
+    *steps = roles.into_steps();
+    due
+}
+
+/// The same, by look-ups that these roles count.
+fn due_of<R: Adjacent>(
+    alloc: Global,
+    state: &PublicState,
+    roles: &mut R,
+    note: &Note,
+) -> Result<Due, FoldFault>
+    requires { R.store roles.old ≡ public_store state.now.tree state.now.pairs }
+    ensures fits { IfOk result (λ _. fits_store (public_store_of state.now) (told_note note.now) ≡ true) }
+    ensures due { IfOk result (λ d. IsDue state.now.keys (edges_of (public_store state.now.tree state.now.pairs))
+        (change_of_note (public_store_of state.now) (told_note note.now)) d) }
+    ensures unfit { result ≡ Err FoldFault.Unfit → fits_store (public_store_of state.now) (told_note note.now) ≡ false }
+    ensures look_ups { R.steps roles.new ≤ R.steps roles.old + note_look_ups state.now (told_note note.now) }
+{
+    let change = change_of(alloc, &state.shape, &state.grants, roles, note)?;
+    Ok(due_step(alloc, &state.dirty, roles, change)?)
+}
+
+/// The step of a change, before its serials are counted. Marks, plan and what is published are looked up at the roles
+/// that they come to: it has no other way to an edge, and makes no list of all.
+fn due_step<R: Adjacent>(alloc: Global, dirty: &Dirty, roles: &mut R, change: Change) -> Mem<Due>
+    requires { IsDueAt (R.store roles.old) dirty.now (plain_change change) }
+    ensures due { IfOk result (λ d. IsDue (marks_alone dirty.now) (edges_of (R.store roles.old)) (plain_change change) d) }
+    ensures look_ups { R.steps roles.new ≤ R.steps roles.old
+        + step_look_ups (marks_alone dirty.now) (edges_of (R.store roles.old)) (plain_change change) }
+{
+    let mut left = dirty_left(alloc, dirty, roles, &change)?;
     let Change {
         removed,
         gone,
@@ -102,16 +142,16 @@ fn due_step(alloc: Global, state: &PublicState, change: Change) -> Mem<Due>
     } = change;
     let removed = removed.as_slice();
     let wanted = wanted.as_slice();
-    let renewed = plan_closed(alloc, &dirty, &roles, removed, wanted, &mut steps)?;
+    let renewed = plan_closed(alloc, &left, roles, removed, wanted)?;
     let again = renewed.as_slice();
-    let edges = published(alloc, &roles, removed, added, again, &mut steps)?;
+    let edges = published(alloc, roles, removed, added, again)?;
     let gone = joined(alloc, again, gone)?;
-    clean(&mut dirty, again);
+    clean(&mut left, again);
     Ok(Due {
         renewed,
         fresh,
         gone,
-        dirty,
+        dirty: left,
         edges,
     })
 }

@@ -7,13 +7,14 @@ use Rattle.cry_base.proofs.Members.{In-filter, filter-In}
 use Rattle.role_graph.specs.Adjacent.{HaveSame, count_from, count_into, edges_but}
 use Rattle.role_graph.specs.Ascending.{IsAscending}
 use Rattle.role_graph.specs.Closing.{IsReached, IsLeading, turned}
-use Rattle.role_graph.specs.Edges.{Reaches, edge, edge_before, edges, in_order, put_in_order, reach_along, same_edge, unordered}
+use Rattle.role_graph.specs.Edges.{Reaches, edge, edge_before, edges, reach_along, same_edge, unordered}
 use Rattle.role_graph.specs.Roles.{same_role}
 use Rattle.cry_base.specs.Store.{Store}
+use Rattle.role_graph.proofs.AtEnds.{counted_alike}
 use Rattle.role_graph.proofs.Comparing.{reach_along_told, reach_one}
 use Rattle.role_graph.proofs.Edging.{In-order}
 use Rattle.role_graph.proofs.Growing.{one_reached, turned_told}
-use Rattle.role_graph.proofs.Sifting.{edges_ordered, kept_in_order}
+use Rattle.role_graph.proofs.Sifting.{edges_ordered}
 use Rattle.role_graph.proofs.Walked.{count_same, count_within}
 use Rattle.rekey_walk.specs.Dirty.{IsJoined, mark, plan}
 use Rattle.rekey_walk.proofs.Planning.{marked_is, planned_is}
@@ -25,24 +26,6 @@ in_edges s e i = subst (λ (l : List Edge). In e l) (sym (edges_ordered s)) ((In
 
 pub in_unordered : (s : Store) (e : Edge) → In e (edges s) → In e (unordered s)
 in_unordered s e i = (In-order Edge edge_before e (unordered s)).0 (subst (λ (l : List Edge). In e l) (edges_ordered s) i)
-
-length_put : (e : Edge) (es : List Edge) → length (put_in_order edge_before e es) ≡ suc (length es)
-unfolding put_in_order
-length_put e [] = refl
-length_put e (x ∷ xs) = elim (edge_before x e) as (λ b. length (cond b (x ∷ put_in_order edge_before e xs) (e ∷ x ∷ xs)) ≡ suc (suc (length xs))) [
-  | true ↦ ap suc (length_put e xs)
-  | false ↦ refl
-]
-
-length_ordered : (es : List Edge) → length (in_order edge_before es) ≡ length es
-unfolding in_order
-length_ordered [] = refl
-length_ordered (e ∷ es) = length_put e (in_order edge_before es) ∙ ap suc (length_ordered es)
-
-counted_alike : (s : Store) (p : Edge → Bool) → length (filter p (unordered s)) ≡ length (filter p (edges s))
-counted_alike s p =
-    sym (length_ordered (filter p (unordered s))) ∙ ap (λ (l : List Edge). length l) (sym (kept_in_order p (unordered s)))
-    ∙ ap (λ (l : List Edge). length (filter p l)) (sym (edges_ordered s))
 
 from_alike : (s : Store) (rs : List Role) → count_from (unordered s) rs ≡ count_from (edges s) rs
 unfolding count_from
@@ -97,11 +80,17 @@ module _ (s : Store) (target : Role) (set : List Role) (told : (r : Role) → In
   same_set : HaveSame set (reach_along (edges s) (target ∷ []))
   same_set r = (λ i. (reach_one (edges s) target r).1 ((reached r).0 i), λ j. (reached r).1 ((reach_one (edges s) target r).0 j))
 
-  pub mark_steps : (before now : ℕ) → now ≤ before + 2 * count_from (unordered s) set + 1 → now ≤ before + 2 * count_from (edges s) (reach_along (edges s) (target ∷ [])) + 1
+  mark_steps : (before now : ℕ) → now ≤ before + 2 * count_from (unordered s) set + 1 → now ≤ before + 2 * count_from (edges s) (reach_along (edges s) (target ∷ [])) + 1
   mark_steps before now few =
       let e : count_from (unordered s) set ≡ count_from (edges s) (reach_along (edges s) (target ∷ [])) =
       from_alike s set ∙ count_same (edges s) set (reach_along (edges s) (target ∷ [])) same_set in
       omega (arith, few, e)
+
+pub mark_walked : (s : Store) (target : Role) (before now : ℕ)
+    → now ≤ before + 2 * count_from (unordered s) (reach_along (edges_but [] (unordered s)) (target ∷ [])) + 1
+    → now ≤ before + 2 * count_from (edges s) (reach_along (edges s) (target ∷ [])) + 1
+mark_walked s target before now few =
+    mark_steps s target (reach_along (edges_but [] (unordered s)) (target ∷ [])) (reach_along_told (edges_but [] (unordered s)) (target ∷ [])) before now few
 
 pub marked_whole : (es : List Edge) (rs : List Role) (before now : ℕ) → now ≤ before + 2 * count_from es rs + 1 → now ≤ before + 2 * length es + 1
 marked_whole es rs before now few = let most = count_within es rs in omega (arith, few, most)
@@ -132,13 +121,20 @@ module _ (s : Store) (removed : List Edge) (wanted set : List Role) (told : (r :
             (w.0, w.1, reaches_kept es us (but_in removed (edges s) (unordered s) (in_unordered s)) r w.0 w.2)),
       )
 
-  pub plan_steps : (before now : ℕ) → now ≤ before + 2 * count_from (turned (unordered s)) set + length wanted
+  plan_steps : (before now : ℕ) → now ≤ before + 2 * count_from (turned (unordered s)) set + length wanted
       → now ≤ before + 2 * count_into (edges s) (reach_along (turned (edges_but removed (edges s))) wanted) + length wanted
   plan_steps before now few =
       let all = reach_along (turned (edges_but removed (edges s))) wanted in
       let e : count_from (turned (unordered s)) set ≡ count_into (edges s) all =
       count_same (turned (unordered s)) set all same_leading ∙ into_alike s all in
       omega (arith, few, e)
+
+pub plan_walked : (s : Store) (removed : List Edge) (wanted : List Role) (before now : ℕ)
+    → now ≤ before + 2 * count_from (turned (unordered s)) (reach_along (turned (edges_but removed (unordered s))) wanted) + length wanted
+    → now ≤ before + 2 * count_into (edges s) (reach_along (turned (edges_but removed (edges s))) wanted) + length wanted
+plan_walked s removed wanted before now few =
+    let back = turned (edges_but removed (unordered s)) in
+    plan_steps s removed wanted (reach_along back wanted) (reach_along_told back wanted) before now few
 
 pub planned_whole : (es : List Edge) (rs : List Role) (before now n : ℕ) → now ≤ before + 2 * count_into es rs + n → now ≤ before + 2 * length es + n
 planned_whole es rs before now n few = let most = into_within es rs in omega (arith, few, most)

@@ -3,10 +3,10 @@ ghost use Rattle.std.specs.Prelude.{◌≡◌, [], filter, IfOk, OnOk, OnErr};
 ghost use Rattle.cry_base.specs.Sets.{has};
 ghost use Rattle.role_graph.specs.Ascending.{IsAscending, without_role};
 ghost use Rattle.role_graph.specs.Roles.{same_role};
-ghost use Rattle.rekey_walk.specs.Dirty.{IsJoined, mark, plan as plan_of};
+ghost use Rattle.rekey_walk.specs.Dirty.{IsJoined};
 
-use cry_base::{Edge, List, Mem, Role};
-use role_graph::{RoleSet, leading_to, reach};
+use cry_base::{List, Mem, Role};
+use role_graph::RoleSet;
 use std::alloc::Global;
 use std::marker::Model;
 
@@ -81,19 +81,6 @@ impl Dirty {
     }
 }
 
-/// Makes dirty all that edges lead to from the target, the target included. At `Err` nothing has changed.
-pub fn mark_from(alloc: Global, dirty: &mut Dirty, edges: &[Edge], target: Role) -> Mem<()>
-    ensures ok { OnOk result (dirty.new ≡ mark dirty.old edges.now target) }
-    ensures err { OnErr result (dirty.new ≡ dirty.old) }
-{
-    let reached = reach(alloc, edges, target)?;
-    let reached = reached.as_slice();
-    let mut marked = dirty.roles.copy_with(reached.len())?;
-    marked.extend(reached)?;
-    dirty.roles = marked;
-    Ok(())
-}
-
 /// Makes all roles of the set dirty. At `Err` nothing has changed.
 pub(crate) fn add(dirty: &mut Dirty, roles: &RoleSet) -> Mem<()>
     ensures ok { OnOk result (IsJoined dirty.old roles.now dirty.new) }
@@ -104,17 +91,6 @@ pub(crate) fn add(dirty: &mut Dirty, roles: &RoleSet) -> Mem<()>
     marked.extend(roles)?;
     dirty.roles = marked;
     Ok(())
-}
-
-/// The dirty roles from which edges lead to a wanted one, the dirty wanted ones included, in their order.
-pub fn plan(alloc: Global, dirty: &Dirty, edges: &[Edge], wanted: &[Role]) -> Mem<List<Role>>
-    ensures { IfOk result (λ l. l.items ≡ plan_of dirty.now edges.now wanted.now) }
-{
-    if dirty.as_slice().is_empty() {
-        return Ok(List::new(alloc));
-    }
-    let leading = leading_to(alloc, edges, wanted)?;
-    common(alloc, dirty, &leading)
 }
 
 /// The dirty roles that are in the set, in their order. It looks at each of the fewer: where much is dirty, a step is to

@@ -6,5 +6,5 @@ pub mod laws;
 pub mod rows;
 mod walks;
 
-pub use dirty::{Dirty, mark_from, plan};
+pub use dirty::Dirty;
 pub use walks::{mark_in, plan_closed, plan_in};

@@ -1,7 +1,7 @@
 -- What is found at some roles, sorted and without repeats, is what the store's edges have at these.
-use Rattle.std.proofs.Common.{◌≡◌, Bool, true, false, cond, ◌==◌, ◌&&◌, ◌||◌, ◌⊎◌, List, [], ◌∷◌, ◌++◌, Option, None, Some, filter, inl, inr, ⊎_elim, refl, sym, ap, ◌∙◌, subst}
+use Rattle.std.proofs.Common.{◌≡◌, ℕ, zero, suc, ◌+◌, ◌<◌, ◌≤◌, Bool, true, false, cond, ◌==◌, ◌&&◌, ◌||◌, ◌⊎◌, List, [], ◌∷◌, ◌++◌, Option, None, Some, filter, get_or, length, take, arith, inl, inr, ⊎_elim, refl, sym, ap, ◌∙◌, subst}
 use Rattle.std.proofs.lemmas.Bool.{and_from, and_parts, eq-eqb, eqb-true, false≢true, or_cases, or_left, or_right, true_from_ne_false}
-use Rattle.std.proofs.lemmas.List.{append_assoc}
+use Rattle.std.proofs.lemmas.List.{append_assoc, length-append}
 use Rattle.cry_base.specs.Sets.{In, Tells, has}
 use Rattle.cry_base.specs.Store.{Store}
 use Rattle.cry_base.specs.declared.roles.Edge.{Edge}
@@ -11,7 +11,7 @@ use Rattle.cry_base.proofs.Reaching.{has-in, in-has}
 use Rattle.folder_nodes.specs.Trees.{IsTree}
 use Rattle.grant_book.specs.Granted.{AreOrdered}
 use Rattle.role_graph.specs.Adjacent.{at_role, at_roles, into, is_repeat, once_after, out_of}
-use Rattle.role_graph.specs.Edges.{edge_before, edges, in_order, same_edge, unordered}
+use Rattle.role_graph.specs.Edges.{edge_before, edges, in_order, put_in_order, same_edge, unordered}
 use Rattle.role_graph.specs.Roles.{same_role}
 use Rattle.role_graph.proofs.Comparing.{same_role_tells}
 use Rattle.role_graph.proofs.Edging.{In-order}
@@ -35,6 +35,53 @@ same_edge_tells a b = (
       (and_from (a.kind == b.kind) (same_role a.from b.from) (eq-eqb a.kind b.kind (ap (λ (x : Edge). x.kind) e)) ((same_role_tells a.from b.from).1 (ap (λ (x : Edge). x.from) e)))
       ((same_role_tells a.to b.to).1 (ap (λ (x : Edge). x.to) e)),
 )
+
+-- ---- as many in either order
+
+length_put : (e : Edge) (es : List Edge) → length (put_in_order edge_before e es) ≡ suc (length es)
+unfolding put_in_order
+length_put e [] = refl
+length_put e (x ∷ xs) = elim (edge_before x e) as (λ b. length (cond b (x ∷ put_in_order edge_before e xs) (e ∷ x ∷ xs)) ≡ suc (suc (length xs))) [
+  | true ↦ ap suc (length_put e xs)
+  | false ↦ refl
+]
+
+length_ordered : (es : List Edge) → length (in_order edge_before es) ≡ length es
+unfolding in_order
+length_ordered [] = refl
+length_ordered (e ∷ es) = length_put e (in_order edge_before es) ∙ ap suc (length_ordered es)
+
+pub counted_alike : (s : Store) (p : Edge → Bool) → length (filter p (unordered s)) ≡ length (filter p (edges s))
+counted_alike s p =
+    sym (length_ordered (filter p (unordered s))) ∙ ap (λ (l : List Edge). length l) (sym (kept_in_order p (unordered s)))
+    ∙ ap (λ (l : List Edge). length (filter p l)) (sym (edges_ordered s))
+
+-- as many edges at some roles, in either order
+pub at_alike : (s : Store) (rs : List Role) → length (at_roles (unordered s) rs) ≡ length (at_roles (edges s) rs)
+unfolding at_roles at_role out_of into
+at_alike s [] = refl
+at_alike s (r ∷ rs) =
+    length-append (at_role (unordered s) r) (at_roles (unordered s) rs)
+    ∙ (λ i. both i + at_alike s rs i)
+    ∙ sym (length-append (at_role (edges s) r) (at_roles (edges s) rs))
+  where
+    both : length (at_role (unordered s) r) ≡ length (at_role (edges s) r)
+    both =
+        length-append (out_of (unordered s) r) (into (unordered s) r)
+        ∙ (λ i. counted_alike s (λ e. same_role e.from r) i + counted_alike s (λ e. same_role e.to r) i)
+        ∙ sym (length-append (out_of (edges s) r) (into (edges s) r))
+
+-- those at some of the roles, and at the one behind these, are no more than those at all
+pub listed_within : (es : List Edge) (rs : List Role) (i : ℕ) (d : Role) → i < length rs
+    → length (at_roles es (take i rs)) + length (at_role es (get_or rs i d)) ≤ length (at_roles es rs)
+unfolding at_roles
+listed_within es [] i d less = omega (arith, less)
+listed_within es (r ∷ rs) zero d less = let all = length-append (at_role es r) (at_roles es rs) in omega (arith, all)
+listed_within es (r ∷ rs) (suc i) d less =
+    let rest = listed_within es rs i d (omega (arith, less)) in
+    let some = length-append (at_role es r) (at_roles es (take i rs)) in
+    let all = length-append (at_role es r) (at_roles es rs) in
+    omega (arith, rest, some, all)
 
 -- ---- without repeats
 

@@ -11,14 +11,14 @@ use Rattle.cry_base.proofs.Members.{In-append, In-map, In-filter, filter-In}
 use Rattle.cry_base.proofs.Reaching.{has-in, in-has}
 use Rattle.role_graph.specs.Adjacent.{HaveSame, as_walked, count_from, edges_but, ending_in, ends_from, grown_by, into, out_of, roles_in, with_new}
 use Rattle.role_graph.specs.Closing.{IsReached, IsClosed, turned}
-use Rattle.role_graph.specs.Edges.{Reaches, edge, same_edge}
+use Rattle.role_graph.specs.Edges.{Reaches, edge, reach_along, same_edge}
 use Rattle.role_graph.specs.Roles.{same_role}
 use Rattle.role_graph.specs.declared.way.Way.{Way}
 use Rattle.role_graph.specs.declared.way.Way.TheVariants.{Along, Against}
 use Rattle.folder_nodes.proofs.Lookups.{filter-map}
 use Rattle.role_graph.proofs.Adding.{map_map}
 use Rattle.role_graph.proofs.Sifting.{filters_turn}
-use Rattle.role_graph.proofs.Comparing.{same_role_tells}
+use Rattle.role_graph.proofs.Comparing.{reach_along_told, same_role_tells}
 use Rattle.role_graph.proofs.Growing.{closed_holds, edge_pair}
 use Rattle.role_graph.specs.Ascending.{with_role}
 use Rattle.role_graph.proofs.Rising.{get_or-In, with_role-in, in-with_role}
@@ -166,6 +166,23 @@ count_more (e ∷ es) ds r out =
     (λ a b. out (subst (λ z. In z ds) ((same_role_tells e.from r).0 b) (has-in Role same_role same_role_tells ds e.from a))) (count_more es ds r out)
     ∙ (λ i. sym (length_kept (has same_role ds e.from) e (filter (λ x. has same_role ds x.from) es)) i + sym (length_kept (same_role e.from r) e (filter (λ x. same_role x.from r) es)) i)
 
+-- of more roles, more edges lead out
+count_of_more : (es : List Edge) (fs rs : List Role) → ((r : Role) → In r fs → In r rs) → count_from es fs ≤ count_from es rs
+unfolding count_from
+count_of_more [] fs rs all = omega arith
+count_of_more (e ∷ es) fs rs all =
+    let some = filter (λ x. has same_role fs x.from) es in
+    let more = filter (λ x. has same_role rs x.from) es in
+    let rest = count_of_more es fs rs all in
+    (elim (has same_role fs e.from) as (λ b. has same_role fs e.from ≡ b → length (cond b (e ∷ some) some) ≤ length (cond (has same_role rs e.from) (e ∷ more) more)) [
+      | true ↦ λ t. subst (λ b. suc (length some) ≤ length (cond b (e ∷ more) more))
+          (sym (in-has Role same_role same_role_tells rs e.from (all e.from (has-in Role same_role same_role_tells fs e.from t)))) (omega (arith, rest))
+      | false ↦ λ t. elim (has same_role rs e.from) as (λ b. length some ≤ length (cond b (e ∷ more) more)) [
+        | true ↦ omega (arith, rest)
+        | false ↦ rest
+      ]
+    ]) refl
+
 pub count_within : (es : List Edge) (rs : List Role) → count_from es rs ≤ length es
 unfolding count_from
 count_within [] rs = omega arith
@@ -274,15 +291,15 @@ not_before fs d r once = apart (take d fs) once
     apart [] w i = i
     apart (x ∷ xs) w i = ⊎_elim (λ (e : r ≡ x). w.0 (subst (λ z. In z (xs ++ r ∷ [])) e ((In-append Role r xs (r ∷ [])).1 (inr (inl refl))))) (λ u. apart xs w.1 u) i
 
+taken_in : (n : ℕ) (xs : List Role) (x : Role) → In x (take n xs) → In x xs
+taken_in zero xs x i = absurd i
+taken_in (suc n) [] x i = absurd i
+taken_in (suc n) (y ∷ ys) x i = ⊎_elim (λ e. inl e) (λ u. inr (taken_in n ys x u)) i
+
 once_taken : (n : ℕ) (fs : List Role) → AreOnce fs → AreOnce (take n fs)
 once_taken zero fs once = tt
 once_taken (suc n) [] once = tt
-once_taken (suc n) (x ∷ xs) once = (λ i. once.0 (taken-in n xs x i), once_taken n xs once.1)
-  where
-    taken-in : (n : ℕ) (xs : List Role) (x : Role) → In x (take n xs) → In x xs
-    taken-in zero xs x i = absurd i
-    taken-in (suc n) [] x i = absurd i
-    taken-in (suc n) (y ∷ ys) x i = ⊎_elim (λ e. inl e) (λ u. inr (taken-in n ys x u)) i
+once_taken (suc n) (x ∷ xs) once = (λ i. once.0 (taken_in n xs x i), once_taken n xs once.1)
 
 -- where the role leads to is reached where the role is
 leads_on : (left : List Edge) (from : List Role) (r q : Role) → IsReached left from r → In q (ends_from left r) → IsReached left from q
@@ -338,14 +355,31 @@ walk_ends all left from found done before now w end r = (
         ((In-map Edge Role (λ (x : Edge). x.to) e.to (filter (λ x. same_role x.from e.from) left)).1
         (e, filter-In Edge (λ x. same_role x.from e.from) e left i ((same_role_tells e.from e.from).1 refl), refl))
 
-pub walk_costs : (all left : List Edge) (from found set : List Role) (done before now : ℕ) → Walking all left from found done before now → length found ≤ done
-    → HaveSame found set → now ≤ before + 2 * count_from all set + length from
-walk_costs all left from found set done before now w end same =
-    let whole : count_from all (take done found) ≡ count_from all set = ap (count_from all) (take_all done found end) ∙ count_same all found set same in
+-- what was counted so far is within the bound of the whole walk; and so is what asking one role more may count
+pub walk_costs : (all left : List Edge) (from found : List Role) (done before now : ℕ) → Walking all left from found done before now
+    → now ≤ before + 2 * count_from all (reach_along left from) + length from
+walk_costs all left from found done before now w =
+    let some = count_of_more all (take done found) (reach_along left from) (λ r i. (reach_along_told left from r).1 (w.sound r (taken_in done found r i))) in
     let size = w.size in
     let steps = w.steps in
     let within = w.within in
-    omega (arith, whole, size, steps, within, end)
+    omega (arith, some, size, steps, within)
+
+pub look_costs : (all left : List Edge) (from found : List Role) (done before now then' : ℕ) (d : Role) → Walking all left from found done before now
+    → done < length found → then' ≤ now + length (out_of all (get_or found done d)) + 1
+    → then' ≤ before + 2 * count_from all (reach_along left from) + length from
+look_costs all left from found done before now then' d w less few =
+    let r : Role = get_or found done d in
+    let here : In r found = get_or-In Role found done d less in
+    let fresh : In r (take done found) → ⊥ = not_before found done r (subst AreOnce (take_more found done d less) (once_taken (done + 1) found w.once)) in
+    let count = count_more all (take done found) r fresh in
+    let some = count_of_more all (take done found ++ r ∷ []) (reach_along left from) (λ q i. (reach_along_told left from q).1 (w.sound q (⊎_elim
+    (λ a. taken_in done found q a)
+    (λ b. ⊎_elim (λ (e : q ≡ r). subst (λ z. In z found) (sym e) here) (λ n. absurd n) b)
+    ((In-append Role q (take done found) (r ∷ [])).0 i)))) in
+    let size = w.size in
+    let steps = w.steps in
+    omega (arith, some, count, size, steps, few, less)
 
 -- the roles yet to be asked are no more than the edges and the roles at the beginning
 pub walk_bounded : (all left : List Edge) (from found : List Role) (done before now : ℕ) → Walking all left from found done before now → length found ≤ length from + length all

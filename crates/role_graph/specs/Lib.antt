@@ -3,6 +3,7 @@ pub mod Ascending
 pub mod Closing
 pub mod Edges
 pub mod Joined
+pub mod LookedUp
 pub mod PublicStore
 pub mod Rights
 pub mod RightsByReach

@@ -1,81 +1,21 @@
-//! The edges at one role, looked up without a look at any other. A walk sees edges through these counted calls alone.
-ghost use Rattle.std.specs.Prelude.{◌≡◌, ◌+◌, ◌++◌, length, map, IfOk, OnOk};
+//! The edges at one role, looked up without a look at any other.
+ghost use Rattle.std.specs.Prelude.{◌≡◌, ◌++◌, map, IfOk, OnOk};
 ghost use Rattle.cry_base.specs.declared.ids.FolderId.{FolderId as AnyFolder};
 ghost use Rattle.cry_base.specs.declared.roles.Role.TheVariants.{Owner, Holder, Clear, Sub, Back, Files, Data, File};
 ghost use Rattle.role_graph.specs.Adjacent.{AreChildren, into, out_of, where_stands};
 ghost use Rattle.role_graph.specs.Edges.{unordered};
 ghost use Rattle.role_graph.specs.PublicStore.{public_store};
 
-use crate::edge_list::to_list;
 use crate::role_edges::{
     push_child_starts, push_children, push_files, push_folders, push_granted, push_holders,
 };
 use crate::{StoreRoles, kinds};
-use cry_base::{Edge, FileId, FolderId, HolderId, List, Mem, Role, Steps};
+use cry_base::{Edge, FileId, FolderId, HolderId, List, Mem, Role};
 use std::alloc::Global;
 
 impl<'a> StoreRoles<'a> {
-    /// The edges out of the role: by kind, and then by the number of the role that each leads to. It counts a step for
-    /// each of them, and one more.
-    pub fn edges_from(&self, alloc: Global, role: Role, steps: &mut Steps) -> Mem<List<Edge>>
-        ensures edges { IfOk result (λ l. l.items
-            ≡ out_of (unordered (public_store self.now.shape.now.tree self.now.grants.now.pairs)) role) }
-        ensures steps { IfOk result (λ l. steps.new ≡ steps.old + length l.items + 1) }
-    {
-        let mut found = Vec::new(alloc);
-        self.push_from(alloc, &mut found, role, steps)?;
-        to_list(alloc, &found)
-    }
-
-    /// The edges into the role: by kind, and then by the number of the role that each leads from. It counts a step for
-    /// each of them, and one more.
-    pub fn edges_into(&self, alloc: Global, role: Role, steps: &mut Steps) -> Mem<List<Edge>>
-        ensures edges { IfOk result (λ l. l.items
-            ≡ into (unordered (public_store self.now.shape.now.tree self.now.grants.now.pairs)) role) }
-        ensures steps { IfOk result (λ l. steps.new ≡ steps.old + length l.items + 1) }
-    {
-        let mut found = Vec::new(alloc);
-        self.push_into(alloc, &mut found, role, steps)?;
-        to_list(alloc, &found)
-    }
-
-    /// Adds the edges out of the role, as `edges_from` lists and counts them.
-    pub(crate) fn push_from(
-        &self,
-        alloc: Global,
-        found: &mut Vec<Edge>,
-        role: Role,
-        steps: &mut Steps,
-    ) -> Mem<()>
-        ensures edges { OnOk result (found.new.items
-            ≡ found.old.items ++ out_of (unordered (public_store self.now.shape.now.tree self.now.grants.now.pairs)) role) }
-        ensures steps { OnOk result (steps.new + length found.old.items ≡ steps.old + length found.new.items + 1) }
-    {
-        let before = found.len();
-        self.add_from(alloc, found, role)?;
-        count(found.len() - before, steps);
-        Ok(())
-    }
-
-    /// Adds the edges into the role, as `edges_into` lists and counts them.
-    pub(crate) fn push_into(
-        &self,
-        alloc: Global,
-        found: &mut Vec<Edge>,
-        role: Role,
-        steps: &mut Steps,
-    ) -> Mem<()>
-        ensures edges { OnOk result (found.new.items
-            ≡ found.old.items ++ into (unordered (public_store self.now.shape.now.tree self.now.grants.now.pairs)) role) }
-        ensures steps { OnOk result (steps.new + length found.old.items ≡ steps.old + length found.new.items + 1) }
-    {
-        let before = found.len();
-        self.add_into(alloc, found, role)?;
-        count(found.len() - before, steps);
-        Ok(())
-    }
-
-    fn add_from(&self, alloc: Global, found: &mut Vec<Edge>, role: Role) -> Mem<()>
+    /// Adds the edges out of the role: by kind, and then by the number of the role that each leads to.
+    pub(crate) fn add_from(&self, alloc: Global, found: &mut Vec<Edge>, role: Role) -> Mem<()>
         ensures { OnOk result (found.new.items
             ≡ found.old.items ++ out_of (unordered (public_store self.now.shape.now.tree self.now.grants.now.pairs)) role) }
     {
@@ -92,7 +32,8 @@ impl<'a> StoreRoles<'a> {
         }
     }
 
-    fn add_into(&self, alloc: Global, found: &mut Vec<Edge>, role: Role) -> Mem<()>
+    /// Adds the edges into the role: by kind, and then by the number of the role that each leads from.
+    pub(crate) fn add_into(&self, alloc: Global, found: &mut Vec<Edge>, role: Role) -> Mem<()>
         ensures { OnOk result (found.new.items
             ≡ found.old.items ++ into (unordered (public_store self.now.shape.now.tree self.now.grants.now.pairs)) role) }
     {
@@ -259,14 +200,4 @@ impl<'a> StoreRoles<'a> {
         }
         self.shape.folders_in(alloc, f)
     }
-}
-
-/// Counts a step for each of so many edges, and one more.
-fn count(edges: usize, steps: &mut Steps)
-    ensures { steps.new ≡ steps.old + edges + 1 }
-{
-    for _edge in 0..edges {
-        steps.tick();
-    }
-    steps.tick();
 }

@@ -2,6 +2,8 @@
 #![tactic(auto)]
 
 mod adjacency;
+mod adjacent;
+mod counted_roles;
 mod edge_list;
 pub mod key_laws;
 pub mod kinds;
@@ -18,11 +20,14 @@ mod touching;
 mod walking;
 mod way;
 
+pub use adjacent::Adjacent;
+pub use counted_roles::CountedRoles;
 pub use edge_list::{edges, edges_between, edges_within, in_their_order, number_of};
 pub use reaching::{leading_to, reach, reach_back};
 pub use rights::{allowed, named};
 pub use role_set::RoleSet;
 pub use roles::Roles;
 pub use store_roles::StoreRoles;
+pub use touching::edges_touching;
 pub use walking::{has_edge, walk, walk_within};
 pub use way::Way;

@@ -4,11 +4,10 @@ ghost use Rattle.cry_base.specs.Sets.{In, has};
 ghost use Rattle.cry_base.specs.declared.roles.Role.{Role as AnyRole};
 ghost use Rattle.role_graph.specs.Adjacent.{HaveSame, as_walked, count_from, edges_but, ending_in, ends_from, grown_by, out_of, roles_in, with_new};
 ghost use Rattle.role_graph.specs.Closing.{IsReached};
-ghost use Rattle.role_graph.specs.Edges.{same_edge, unordered};
-ghost use Rattle.role_graph.specs.PublicStore.{public_store};
+ghost use Rattle.role_graph.specs.Edges.{reach_along, same_edge, unordered};
 
-use crate::{RoleSet, StoreRoles, Way};
-use cry_base::{Edge, List, Mem, Role, Steps};
+use crate::{Adjacent, RoleSet, Way};
+use cry_base::{Edge, List, Mem, Role};
 use std::alloc::Global;
 use std::collections::BTreeSet;
 
@@ -18,60 +17,57 @@ const USUAL_ROLES: usize = 16;
 /// The roles that a walk comes to from some of them, these included, along the edges or against them, but for the removed
 /// edges. It takes at most two steps for each edge at a role that it comes to, and one for each role that it begins at.
 #[tactic(auto, unfolding(crate::specs::Adjacent::ending_in))]
-pub fn walk(
+pub fn walk<R: Adjacent>(
     alloc: Global,
-    roles: &StoreRoles,
+    roles: &mut R,
     way: Way,
     removed: &[Edge],
     from: &[Role],
-    steps: &mut Steps,
 ) -> Mem<RoleSet>
     ensures reached { IfOk result (λ s. (r : AnyRole) → In r s
         ↔ IsReached (as_walked way
-        (edges_but removed.now (unordered (public_store roles.now.shape.now.tree roles.now.grants.now.pairs)))) from.now r) }
-    ensures steps { IfOk result (λ s. steps.new ≤ steps.old
-        + 2 * count_from (as_walked way (unordered (public_store roles.now.shape.now.tree roles.now.grants.now.pairs))) s
-        + length from.now) }
+        (edges_but removed.now (unordered (R.store roles.old)))) from.now r) }
+    ensures steps { let es = unordered (R.store roles.old) in R.steps roles.new ≤ R.steps roles.old
+        + 2 * count_from (as_walked way es) (reach_along (as_walked way (edges_but removed.now es)) from.now) + length from.now }
+    ensures same { R.store roles.new ≡ R.store roles.old }
 {
-    walk_on(alloc, roles, way, removed, None, from, steps)
+    walk_on(alloc, roles, way, removed, None, from)
 }
 
 /// What the walk comes to where it goes on to no role but those in a set. It takes as many steps for what it comes to.
-pub fn walk_within(
+pub fn walk_within<R: Adjacent>(
     alloc: Global,
-    roles: &StoreRoles,
+    roles: &mut R,
     way: Way,
     removed: &[Edge],
     within: &RoleSet,
     from: &[Role],
-    steps: &mut Steps,
 ) -> Mem<RoleSet>
     ensures reached { IfOk result (λ s. (r : AnyRole) → In r s
         ↔ IsReached (ending_in (Some within.now) (as_walked way
-        (edges_but removed.now (unordered (public_store roles.now.shape.now.tree roles.now.grants.now.pairs))))) from.now r) }
-    ensures steps { IfOk result (λ s. steps.new ≤ steps.old
-        + 2 * count_from (as_walked way (unordered (public_store roles.now.shape.now.tree roles.now.grants.now.pairs))) s
-        + length from.now) }
+        (edges_but removed.now (unordered (R.store roles.old))))) from.now r) }
+    ensures steps { let es = unordered (R.store roles.old) in R.steps roles.new ≤ R.steps roles.old
+        + 2 * count_from (as_walked way es) (reach_along (ending_in (Some within.now) (as_walked way (edges_but removed.now es))) from.now) + length from.now }
+    ensures same { R.store roles.new ≡ R.store roles.old }
 {
-    walk_on(alloc, roles, way, removed, Some(within), from, steps)
+    walk_on(alloc, roles, way, removed, Some(within), from)
 }
 
 /// Either walk.
-fn walk_on(
+fn walk_on<R: Adjacent>(
     alloc: Global,
-    roles: &StoreRoles,
+    roles: &mut R,
     way: Way,
     removed: &[Edge],
     within: Option<&RoleSet>,
     from: &[Role],
-    steps: &mut Steps,
 ) -> Mem<RoleSet>
     ensures reached { IfOk result (λ s. (r : AnyRole) → In r s
         ↔ IsReached (ending_in (option_copied within.entry) (as_walked way
-        (edges_but removed.now (unordered (public_store roles.now.shape.now.tree roles.now.grants.now.pairs))))) from.now r) }
-    ensures steps { IfOk result (λ s. steps.new ≤ steps.old
-        + 2 * count_from (as_walked way (unordered (public_store roles.now.shape.now.tree roles.now.grants.now.pairs))) s
-        + length from.now) }
+        (edges_but removed.now (unordered (R.store roles.old))))) from.now r) }
+    ensures steps { let es = unordered (R.store roles.old) in R.steps roles.new ≤ R.steps roles.old
+        + 2 * count_from (as_walked way es) (reach_along (ending_in (option_copied within.entry) (as_walked way (edges_but removed.now es))) from.now) + length from.now }
+    ensures same { R.store roles.new ≡ R.store roles.old }
 {
     let mut found = List::new(alloc);
     found.reserve(USUAL_ROLES)?;
@@ -82,7 +78,7 @@ fn walk_on(
     let mut done = 0;
     while done < found.as_slice().len() {
         let here = found.as_slice();
-        ahead.look(alloc, roles, way, removed, here[done], steps)?;
+        ahead.look(alloc, roles, way, removed, here[done])?;
         ahead.keep(within);
         add_all(&mut found, &mut seen, &ahead.ends)?;
         done += 1;
@@ -113,29 +109,31 @@ impl Ahead {
     }
 
     /// Looks up where the walk goes on from the role.
-    fn look(
+    fn look<R: Adjacent>(
         &mut self,
         alloc: Global,
-        roles: &StoreRoles,
+        roles: &mut R,
         way: Way,
         removed: &[Edge],
         role: Role,
-        steps: &mut Steps,
     ) -> Mem<()>
         ensures ends { OnOk result (self.new.ends.items
             ≡ ends_from (as_walked way
-            (edges_but removed.now (unordered (public_store roles.now.shape.now.tree roles.now.grants.now.pairs)))) role) }
-        ensures steps { OnOk result (steps.new ≡ steps.old
-            + length (out_of (as_walked way (unordered (public_store roles.now.shape.now.tree roles.now.grants.now.pairs))) role) + 1) }
+            (edges_but removed.now (unordered (R.store roles.old)))) role) }
+        ensures steps { OnOk result (R.steps roles.new ≡ R.steps roles.old
+            + length (out_of (as_walked way (unordered (R.store roles.old))) role) + 1) }
+        ensures most { R.steps roles.new ≤ R.steps roles.old
+            + length (out_of (as_walked way (unordered (R.store roles.old))) role) + 1 }
+        ensures same { R.store roles.new ≡ R.store roles.old }
     {
         self.edges.clear();
         match way {
             Way::Along => {
-                roles.push_from(alloc, &mut self.edges, role, steps)?;
+                roles.push_from(alloc, &mut self.edges, role)?;
                 put_ends(&mut self.ends, &self.edges, removed)?;
             }
             Way::Against => {
-                roles.push_into(alloc, &mut self.edges, role, steps)?;
+                roles.push_into(alloc, &mut self.edges, role)?;
                 put_starts(&mut self.ends, &self.edges, removed)?;
             }
         }

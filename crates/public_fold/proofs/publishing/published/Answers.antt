@@ -2,14 +2,13 @@ use Rattle.std.proofs.Common.{◌≡◌, ◌++◌, List, filter, ap, ◌∙◌}
 use Rattle.std.proofs.lemmas.Result.{IfOk-weaker}
 use Rattle.cry_base.specs.declared.roles.Edge.{Edge}
 use Rattle.role_graph.specs.Edges.{edge_before, edges, in_order, same_edge}
-use Rattle.role_graph.specs.PublicStore.{public_store}
 use Rattle.role_graph.proofs.AtEnds.{touches}
 use Rattle.public_fold.specs.KeyStep.{without}
 use Rattle.public_fold.proofs.publishing.published.Goals as goal
 
-pub returns : goal.returns
-returns c =
-    let es = edges (public_store c.args.roles.now.shape.now.tree c.args.roles.now.grants.now.pairs) in
+pub returns-clause-edges : goal.returns-clause-edges
+returns-clause-edges g c =
+    let es = edges (g.R.Adjacent.store c.args.roles.now) in
     let left : List Edge = without same_edge c.args.removed.now (filter (touches c.args.renewed.now) es) in
     let all : c.in_ok-with_added.field-0.items ≡ left ++ c.args.added.items =
     c.in_ok-with_added.ensures ∙ ap (λ (l : List Edge). l ++ c.args.added.items) (c.in_ok-left.ensures ∙ ap (without same_edge c.args.removed.now) (c.as_slice.ensures ∙ c.in_ok-touching.ensures.edges)) in
