@@ -9,6 +9,7 @@ use Rattle.commit_journal.specs.Answering.{Fault, NotAStore, WrongKey, and_then}
 use Rattle.commit_journal.specs.Holding.{GoesOn}
 use Rattle.commit_journal.specs.Log.{behind_header, start_at, start_of}
 use Rattle.commit_journal.specs.Logs.{writer_log}
+use Rattle.commit_journal.specs.Moments.{IsSameThroughout}
 use Rattle.commit_journal.specs.Opening.{LeavesGated, OwnedLog, opening_verdict, owned_log}
 use Rattle.commit_journal.specs.WholeLogs.{whole_log}
 use Rattle.commit_journal.specs.declared.past.Past.{Past}
@@ -18,6 +19,7 @@ use Rattle.commit_journal.proofs.Reopened.{opened_standing}
 use Rattle.commit_journal.proofs.Writers.{batches_alone, opened_as_read}
 use Rattle.cry_base.specs.Layout.{first_gate_offset, header_len, magic_len}
 use Rattle.cry_base.specs.Limits.{most_store_bytes}
+use Rattle.cry_io.specs.Reading.{IsOnlyRead}
 use Rattle.cry_io.specs.declared.disk.Disk as disk
 use Rattle.cry_io.specs.declared.streams.Sink as sink
 use Rattle.cry_io.specs.declared.streams.Source as source
@@ -121,6 +123,16 @@ module _ {D : Type 0} (disks : disk.Ghosts D)
         same = λ s c at. let now = present before s c at in (now.0, inl now.1);
       } in
       subst (Leaves before) (sym is) here
+
+  -- one that only reads
+  pub read_leaves : (before after : D) → IsOnlyRead disks before after → IsSameThroughout disks before after → Leaves before after
+  read_leaves before after read moments = record {
+    later = moments.later;
+    time = moments.time;
+    shows = read.same_bytes;
+    leaves = λ c left. inl ((read.same_stops c).0 left);
+    same = λ s c at. let now = moments.same s c at in (now.0, inl now.1);
+  }
 
   -- at the end it is as it was at each moment
   pub same_leaves : (before after : D) (x : List ℕ) → disks.shown before ≡ Some x → disks.moment before ≤ disks.moment after

@@ -1,8 +1,11 @@
 //! Laws: what each call of the program is in a list of calls: a run by the store's owner, or one that leaves the store as it is.
 ghost use Rattle.std.specs.Prelude.{◌≡◌, ℕ, List, Some};
 ghost use Rattle.cryptree_cli.specs.Promises.Any.{AnyEnds};
+ghost use Rattle.cryptree_cli.specs.Promises.Audit.{AuditEnds};
 ghost use Rattle.cryptree_cli.specs.Promises.Gen.{GenEnds};
+ghost use Rattle.cryptree_cli.specs.Promises.List.{ListEnds};
 ghost use Rattle.cryptree_cli.specs.Promises.Make.{MakeEnds};
+ghost use Rattle.cryptree_cli.specs.Promises.Open.{OpenEnds};
 ghost use Rattle.cryptree_cli.specs.Promises.Run.{RunEnds};
 ghost use Rattle.cryptree_cli.specs.Running.{key_in_lines, lines_in};
 ghost use Rattle.cryptree_cli.specs.declared.status.Status.{Status};
@@ -78,6 +81,28 @@ pub fn generating_leaves_a_store<S: Source, R: Source, D: Disk, W: Sink>(
     ensures { (owner : List ℕ) (m : Journal) (status : Status) (seed count : ℕ) → ShowsJournal owner m (D.shown disk_old.now) →
         GenEnds S.Source R.Source D.Disk W.Sink status input_old.now input_new.now random_old.now random_new.now disk_old.now disk_new.now
         out_old.now out_new.now seed count → LeavesStore D.shown D.may_leave D.moment D.since disk_old.now disk_new.now }
+{}
+
+/// Law: `list`, `open`, for any path, and `audit`, over any disk.
+pub fn reading_leaves_the_store<S: Source, R: Source, D: Disk, W: Sink>(
+    input_old: &S,
+    input_new: &S,
+    random_old: &R,
+    random_new: &R,
+    disk_old: &D,
+    disk_new: &D,
+    out_old: &W,
+    out_new: &W,
+)
+    ensures list { (status : Status) →
+        ListEnds S.Source R.Source D.Disk W.Sink status input_old.now input_new.now random_old.now random_new.now disk_old.now disk_new.now
+        out_old.now out_new.now → LeavesStore D.shown D.may_leave D.moment D.since disk_old.now disk_new.now }
+    ensures open { (status : Status) (path : List ℕ) →
+        OpenEnds S.Source R.Source D.Disk W.Sink status input_old.now input_new.now random_old.now random_new.now disk_old.now disk_new.now
+        out_old.now out_new.now path → LeavesStore D.shown D.may_leave D.moment D.since disk_old.now disk_new.now }
+    ensures audit { (status : Status) →
+        AuditEnds S.Source R.Source D.Disk W.Sink status input_old.now input_new.now random_old.now random_new.now disk_old.now disk_new.now
+        out_old.now out_new.now → LeavesStore D.shown D.may_leave D.moment D.since disk_old.now disk_new.now }
 {}
 
 /// Law: a call that touches nothing of the disk, as one whose words have no form, or ask for a text.
