@@ -58,11 +58,11 @@ impl<'a, D: Disk> Records<D> for StreamedLog<'a> {
         Ok(Some(take_content(placed, &spot, kind, object)?))
     }
 
-    ghost same = { λ a. reread_still D.Disk a };
+    ghost same = { λ a. reread_still a };
 
-    ghost twice = { λ a b c. reread_on D.Disk a b c };
+    ghost twice = { λ a b c. reread_on a b c };
 
-    ghost still_shows = { λ l a b. still_shown D.Disk l a b };
+    ghost still_shows = { λ l a b. still_shown l a b };
 
     ghost counts = { λ _ _ kept. kept.1 };
 }
