@@ -153,7 +153,7 @@ step_answers left rf shown moment df may_leave since (Err faults.DiskFault) r o 
   λ no. absurd (no refl),
   published,
 )
-step_answers left rf shown moment df may_leave since (Err faults.Closed) r o n x y d e answers published later time closed unclosed kept calm counted st lt dc rc draws short =
+step_answers left rf shown moment df may_leave since (Err faults.Closed) r o n x y d e answers published later time closed unclosed kept calm counted st lt dc rc draws short same =
     let shut : IsTrue o.journal.is_closed = closed.0 refl in
     absurd cc
 step_answers left rf shown moment df may_leave since (Err faults.OutOfMemory) r o n x y d e answers published later time closed unclosed kept calm counted st lt dc rc draws short same = (

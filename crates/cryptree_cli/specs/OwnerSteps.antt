@@ -23,8 +23,7 @@ pub record Scene : Type 0 where
   pub disk_faults : ℕ
 
 -- a command that is answered: as the journal says for which the owner stands, with what a stop might leave before, at each moment since,
--- and after; the owner's key stays; it takes whole keys, and a refused
--- one draws and writes nothing; and one that is accepted is counted
+-- and after; the owner's key stays; it takes whole keys, and a refused one draws and writes nothing; and one that is accepted is counted
 pub record AnswersIn (before : Scene) (request : Request) (reply : Reply) (after : Scene) (might may : List ℕ → Type 0)
     (past since : ℕ → List ℕ → List ℕ → Type 0) : Type 0 where
   pub answers : (m : Journal) → IsOwnerOf m before.owner

@@ -38,13 +38,6 @@ returns-in-Ok-make-clause-time g c =
     goes_on_then (D.moment c.args.disk.now) (D.moment c.make.new.disk) (D.since c.args.disk.now) (D.since c.make.new.disk) (D.since c.fill.new.disk)
     c.in-Ok-make.ensures.later c.in-Ok-make.ensures.time c.fill.ensures.time
 
-pub returns-then-size-clause-time : goal.returns-then-size-clause-time
-returns-then-size-clause-time g c =
-    let D = g.D.Disk in
-    let a = c.args.disk.now in
-    time_still (D.moment a) (D.since a) (D.shown a) (D.may_leave a) (λ s left at. g.met.D.Disk.only_now a s left at)
-    (λ t s left early is leaves. g.met.D.Disk.counts_now a t s left early is leaves)
-
 pub returns-in_default-clause-time : goal.returns-in_default-clause-time
 returns-in_default-clause-time g c =
     let D = g.D.Disk in

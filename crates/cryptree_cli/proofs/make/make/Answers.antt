@@ -67,13 +67,6 @@ returns-in-Ok-make-clause-disk_kept g c = λ early. absurd (told_wrote c.tell.re
 pub returns-in-Ok-make-clause-out_kept : goal.returns-in-Ok-make-clause-out_kept
 returns-in-Ok-make-clause-out_kept g c = λ early. absurd (told_printed c.tell.result c.tell.ensures.answers early)
 
-pub returns-then-size-clause-time : goal.returns-then-size-clause-time
-returns-then-size-clause-time g c =
-    let D = g.D.Disk in
-    let a = c.args.disk.now in
-    time_still (D.moment a) (D.since a) (D.shown a) (D.may_leave a) (λ s left at. g.met.D.Disk.only_now a s left at)
-    (λ t s left early is leaves. g.met.D.Disk.counts_now a t s left early is leaves)
-
 pub returns-in_default-clause-time : goal.returns-in_default-clause-time
 returns-in_default-clause-time g c =
     let D = g.D.Disk in
