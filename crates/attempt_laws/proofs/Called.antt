@@ -2,6 +2,7 @@
 use Rattle.std.proofs.Common.{◌≡◌, ⊎_elim, ◌⊎◌, inl, inr, ℕ, Bool, true, false, cond, List, [], ◌∷◌, ◌++◌, length, Option, Some, None, Result, Ok, Err, append-nil, append_assoc, arith, refl, sym, ap, subst, ◌∙◌}
 use Rattle.std.proofs.lemmas.List.{append_cancel_left}
 use Rattle.std.proofs.lemmas.List.Elements.{All-cons, All-nil}
+use Rattle.commit_journal.specs.Handing.{Hands, Write, header_writes, log_writes}
 use Rattle.commit_journal.specs.Holding.{IsPrefix}
 use Rattle.commit_journal.specs.Journals.{IsJournalOf, JournalState, next_command, next_epoch}
 use Rattle.commit_journal.specs.Laws.{batch_of}
@@ -14,26 +15,29 @@ use Rattle.cry_base.specs.declared.limits.Limits.{Limits}
 use Rattle.record_format.specs.Plain.{PlainPayload}
 use Rattle.record_format.specs.Spelling.{spell_payload}
 use Rattle.public_fold.specs.Journal.{Entry, Journal, nothing, stand_after}
-use Rattle.public_fold.specs.Journal.Entry.{Did, Session}
+use Rattle.public_fold.specs.Journal.Entry.{Did, Made, Session}
+use Rattle.key_links.specs.Fresh.{piece}
 use Rattle.journal_bytes.specs.Attempts.{Course, begun_journal, course_then}
 use Rattle.journal_bytes.specs.Attempts.Event.{IsRefused, Enters, IsAbandoned, LosesEpoch, Reopens}
-use Rattle.journal_bytes.specs.Bytes.{batches_of, entry_body}
+use Rattle.journal_bytes.specs.Bytes.{batches_of, bodies_from, bodies_of, entry_body}
 use Rattle.journal_bytes.specs.Journals.{StandsForJournal}
 use Rattle.journal_bytes.specs.Keys.{all_keys}
 use Rattle.journal_bytes.specs.Script.{answer, draws_of, journal_then}
 use Rattle.journal_bytes.proofs.NextBatches.{batches_then}
 use Rattle.store_owner.specs.Applying.{Answers, HasOtherRoom, IsDone}
 use Rattle.store_owner.specs.Drawing.{AreKeys}
-use Rattle.store_owner.specs.Making.{IsMade, root_keys}
+use Rattle.store_owner.specs.Making.{IsMade, fresh_writes, made_batches, made_writes, root_keys, root_payload}
+use Rattle.store_owner.proofs.MadeOwner.{batches_are}
 use Rattle.store_owner.specs.Opened.{IsFresh}
 use Rattle.store_owner.specs.Owned.{IsOwnerOf, OwnerView, limits_in}
-use Rattle.store_owner.specs.Stopping.{ComesToRest, RestsAt, StopsBetween}
+use Rattle.store_owner.specs.Stopping.{ComesToRest, RestsAt, StopsBetween, journal_writes}
+use Rattle.store_owner.proofs.HandedBatches.{journal_writes_are, no_writes, writes_both}
 use Rattle.store_owner.specs.declared.apply_fault.ApplyFault.{ApplyFault}
 use Rattle.store_owner.specs.declared.apply_fault.ApplyFault.TheVariants as faults
 use Rattle.store_owner.proofs.OtherRoom.{owner_still}
-use Rattle.attempt_laws.specs.Calls.{GoesOn, GoesOnAt, Happened, IsEventOf, LeavesCourse, StandsOn}
+use Rattle.attempt_laws.specs.Calls.{GoesOn, GoesOnAt, Happened, HandsTrials, IsEventOf, LeavesCourse, StandsOn}
 use Rattle.attempt_laws.specs.Happenings.{CanHappen, IsCourse}
-use Rattle.attempt_laws.specs.Trials.{Befalls, Happening, batch_in, course_after, course_behind, made_course, trials, trials_at}
+use Rattle.attempt_laws.specs.Trials.{Befalls, Happening, all_trials, batch_in, command_trial, course_after, course_behind, epoch_trial, made_course, trial_writes, trials, trials_at}
 use Rattle.attempt_laws.proofs.Written.{entered_is}
 
 -- ---- the batch of the next entry
@@ -248,7 +252,73 @@ module _ (c : Course) (r : Request) (old : OwnerView) (was shows : Option (List 
   left_by (Err faults.Closed) new left_before left_after is = at_rest is.2
   left_by (Err faults.OutOfMemory) new left_before left_after is = at_rest is.1
 
+-- ---- what the disk is handed
+
+-- the writes by which one entry joins its journal are those of its trial
+entry_writes : (key : List ℕ) (m : Journal) (entry : Entry)
+    → journal_writes key m (m ++ entry ∷ []) ≡ log_writes key (batches_of key m) (batch_in key (record { behind = m; entry = entry }) ∷ [])
+entry_writes key m entry = journal_writes_are key m (m ++ entry ∷ []) (batch_in key (record { behind = m; entry = entry }) ∷ []) (entered_is key m entry)
+
+command_writes : (key : List ℕ) (m : Journal) (r : Request) (drawn : List (List ℕ)) (b : Bool)
+    → journal_writes key m (journal_then m b r drawn) ≡ trial_writes key (trials (record { journal = m; begun = b }) (Befalls (Enters r drawn) ∷ []))
+unfolding trial_writes trials trials_at epoch_trial command_trial begun_journal
+command_writes key m r drawn true =
+    ap (λ (l : Journal). journal_writes key l ((m ++ []) ++ Did r drawn ∷ [])) (sym (append-nil m))
+    ∙ entry_writes key (m ++ []) (Did r drawn)
+    ∙ sym (append-nil (log_writes key (batches_of key (m ++ [])) (batch_in key (record { behind = m ++ []; entry = Did r drawn }) ∷ [])))
+command_writes key m r drawn false =
+    let begun = m ++ Session ∷ [] in
+    let last = log_writes key (batches_of key begun) (batch_in key (record { behind = begun; entry = Did r drawn }) ∷ []) in
+    writes_both key m begun (begun ++ Did r drawn ∷ []) (Session ∷ [], refl) (Did r drawn ∷ [], refl)
+    ∙ (λ i. entry_writes key m Session i ++ entry_writes key begun (Did r drawn) i)
+    ∙ ap (λ (ws : List Write). log_writes key (batches_of key m) (batch_in key (record { behind = m; entry = Session }) ∷ []) ++ ws) (sym (append-nil last))
+
+module _ (c : Course) (r : Request) (old : OwnerView) (was shows : Option (List ℕ)) (might may : List ℕ → Type 0) (since : List ℕ → List ℕ → Type 0)
+    (stands : StandsOn c old) where
+  abbrev HandsHere : Type 0
+  HandsHere = HandsTrials (limits_in old) old.key c r was shows since
+
+  hands_none : ComesToRest old.key c.journal c.journal was shows might may since → HandsHere
+  unfolding trial_writes trials
+  hands_none comes =
+      (nothing_happened (limits_in old) c r, subst (λ (ws : List Write). Hands ws (Unit {0}) was shows since) (no_writes old.key c.journal) comes.stops.hands)
+
+  hands_command : (drawn : List (List ℕ)) → answer (limits_in old) c.journal old.journal.has_epoch r ≡ None → length drawn ≡ draws_of c.journal r → AreKeys drawn
+      → StopsBetween old.key c.journal (journal_then c.journal old.journal.has_epoch r drawn) was shows might may since → HandsHere
+  hands_command drawn fine count sizes stops =
+      let accepted = subst (λ b. answer (limits_in old) c.journal b r ≡ None) stands.has_begun fine in
+      let there = subst (λ b. StopsBetween old.key c.journal (journal_then c.journal b r drawn) was shows might may since) stands.has_begun stops in (
+        one_happened (limits_in old) c r (Befalls (Enters r drawn)) refl (accepted, count, sizes),
+        subst (λ (ws : List Write). Hands ws (Unit {0}) was shows since) (command_writes old.key c.journal r drawn c.begun) there.hands,
+      )
+
+  pub handed_by : (result : Result Reply ApplyFault) (new : OwnerView) (left_before left_after : Option (List ℕ)) → Answers result c.journal r old new left_before left_after was shows might may since → HandsHere
+  handed_by (Ok (replies.Refused why)) new left_before left_after is = hands_none is.2
+  handed_by (Ok replies.Done) new left_before left_after is = hands_command is.drawn is.accepted is.drawn_count is.drawn_sizes is.comes_to_rest.stops
+  handed_by (Ok (replies.Made holder key)) new left_before left_after is = hands_command is.drawn is.accepted is.drawn_count is.drawn_sizes is.comes_to_rest.stops
+  handed_by (Err (faults.RandomShort left need)) new left_before left_after is = hands_none is.6
+  handed_by (Err faults.RandomFault) new left_before left_after is = hands_none is.2
+  handed_by (Err faults.DiskFault) new left_before left_after is = hands_command is.2.drawn is.0 is.2.drawn_count is.2.drawn_sizes is.2.stops
+  handed_by (Err faults.Closed) new left_before left_after is = hands_none is.2
+  handed_by (Err faults.OutOfMemory) new left_before left_after is = hands_none is.1
+
 -- ---- making and opening
+
+-- the writes that make a store are its header and those of its two trials
+pub fresh_trials : (drawn : List ℕ)
+    → fresh_writes drawn ≡ header_writes (piece drawn 0) ++ trial_writes (piece drawn 0) (all_trials (root_keys drawn) [])
+unfolding made_writes trial_writes trials all_trials batches_of bodies_of bodies_from log_writes
+fresh_trials drawn =
+    let key = piece drawn 0 in
+    let keys = root_keys drawn in
+    let made = made_batches (root_payload key keys) in
+    let begun : Journal = Session ∷ [] in
+    let last = log_writes key (batches_of key begun) (batch_in key (record { behind = begun; entry = Made keys }) ∷ []) in
+    ap (λ (ws : List Write). header_writes key ++ ws)
+    (sym (journal_writes_are key [] (begun ++ Made keys ∷ []) made (sym (batches_are key keys)))
+    ∙ writes_both key [] begun (begun ++ Made keys ∷ []) (Session ∷ [], refl) (Made keys ∷ [], refl)
+    ∙ (λ i. entry_writes key [] Session i ++ entry_writes key begun (Made keys) i)
+    ∙ ap (λ (ws : List Write). log_writes key [] (batch_in key (record { behind = []; entry = Session }) ∷ []) ++ ws) (sym (append-nil last)))
 
 pub made_stands : (drawn : List ℕ) (limits : Limits) (o : OwnerView) → IsMade drawn limits o → StandsOn (made_course (root_keys drawn)) o
 unfolding made_course

@@ -5,9 +5,10 @@
 -- It is the course's own: the session's epoch was lost, or, where it was begun before, the command's batch was abandoned. It has the
 -- session begun: that epoch entered, and the command's batch was abandoned. Or it has the command: its batch entered. The call commits
 -- the epoch's batch first, so by then it has written no batch that such an event doesn't write.
-use Rattle.std.specs.Prelude.{◌≡◌, ◌≤◌, ℕ, List, length, All, IsTrue, Result, Err}
+use Rattle.std.specs.Prelude.{◌≡◌, ◌≤◌, ℕ, List, length, All, IsTrue, Option, Result, Err}
 use Rattle.cry_base.specs.Requests.{Request}
 use Rattle.cry_base.specs.declared.commands.Reply.{Reply}
+use Rattle.commit_journal.specs.Handing.{Hands}
 use Rattle.cry_base.specs.declared.limits.Limits.{Limits}
 use Rattle.journal_bytes.specs.Attempts.{Course}
 use Rattle.journal_bytes.specs.Attempts.Event.{IsRefused, Enters, IsAbandoned, LosesEpoch, Ends, Reopens}
@@ -16,7 +17,7 @@ use Rattle.store_owner.specs.Owned.{IsOwnerOf, OwnerView, limits_in}
 use Rattle.store_owner.specs.declared.apply_fault.ApplyFault.{ApplyFault}
 use Rattle.store_owner.specs.declared.apply_fault.ApplyFault.TheVariants as faults
 use Rattle.attempt_laws.specs.Happenings.{IsCourse}
-use Rattle.attempt_laws.specs.Trials.{Happening, Befalls, BeginsEpoch, course_after}
+use Rattle.attempt_laws.specs.Trials.{Happening, Befalls, BeginsEpoch, course_after, trial_writes, trials}
 
 -- the owner stands on a course: it stands for the course's journal, and has begun an epoch where the course has
 pub record StandsOn (c : Course) (o : OwnerView) : Type 0 where
@@ -53,3 +54,9 @@ LeavesCourse limits key c r bytes =
 abbrev pub GoesOnAt : Result Reply ApplyFault → Course → Request → OwnerView → OwnerView → Type 0
 GoesOnAt (Err faults.DiskFault) c r old new = IsTrue new.journal.is_closed
 GoesOnAt _ c r old new = GoesOn (limits_in old) c r new
+
+-- Such an event hands the disk its batches, each as it is staged behind the log of its journal, as it is opened, and as it is
+-- published; and nothing else. So each batch that the disk ever shows, and each part of one, is of a trial of which the laws speak.
+abbrev pub HandsTrials : Limits → List ℕ → Course → Request → Option (List ℕ) → Option (List ℕ) → (List ℕ → List ℕ → Type 0) → Type 0
+HandsTrials limits key c r was shows since =
+    (happened : Happened limits c r) × Hands (trial_writes key (trials c happened.events)) (Unit {0}) was shows since

@@ -2,6 +2,7 @@
 use Rattle.std.specs.Prelude.{◌≡◌, ◌<◌, ◌⊎◌, ℕ, ◌+◌, true, false, cond, List, [], ◌∷◌, ◌++◌, length, slice_index_or, Option, Some, None}
 use Rattle.cry_base.specs.Requests.{Request}
 use Rattle.cry_base.specs.Sets.{In}
+use Rattle.commit_journal.specs.Handing.{Write, log_writes}
 use Rattle.commit_journal.specs.Image.{Batch, masked_payload}
 use Rattle.commit_journal.specs.Laws.{batch_of}
 use Rattle.public_fold.specs.Journal.{Entry, Journal, Stand, nothing, entry_step, keys_of, stand_after}
@@ -9,7 +10,7 @@ use Rattle.public_fold.specs.Journal.Entry.{Session, Made, Did}
 use Rattle.public_fold.specs.KeyStep.{Stepped}
 use Rattle.journal_bytes.specs.Attempts.{Attempt, Course, Event, begun_journal, course_then}
 use Rattle.journal_bytes.specs.Attempts.Event.{IsRefused, Enters, IsAbandoned, LosesEpoch, Ends, Reopens}
-use Rattle.journal_bytes.specs.Bytes.{entry_body}
+use Rattle.journal_bytes.specs.Bytes.{batches_of, entry_body}
 use Rattle.journal_bytes.specs.Keys.{all_keys}
 
 -- what happens to a store: one of the events, or the session's epoch batch enters with no command behind it
@@ -82,6 +83,11 @@ unfoldable pub batch_in : List ℕ → Trial → Batch
 batch_in owner t =
     batch_of (length t.behind) (keys_of t.behind).epoch
     (entry_body (all_keys owner (t.behind ++ t.entry ∷ [])) (stand_after nothing t.behind) t.entry)
+
+-- the writes of batches that were tried: each joins the log of its journal
+unfoldable pub trial_writes : List ℕ → List Trial → List Write
+trial_writes owner [] = []
+trial_writes owner (t ∷ ts) = log_writes owner (batches_of owner t.behind) (batch_in owner t ∷ []) ++ trial_writes owner ts
 
 -- both are masked under the veil key of one epoch and one number
 abbrev pub ShareVeil : Trial → Trial → Type 0

@@ -1,5 +1,6 @@
 //! Laws of what the owner's calls make happen: each takes the clause of a call to the event that it makes.
 ghost use Rattle.std.specs.Prelude.{◌≡◌, ℕ, List, [], ◌∷◌, ◌++◌, Option, Result};
+ghost use Rattle.commit_journal.specs.Handing.{header_writes};
 ghost use Rattle.commit_journal.specs.Journals.{IsJournalOf, JournalState, next_command, next_epoch};
 ghost use Rattle.cry_base.specs.Requests.{Request};
 ghost use Rattle.cry_base.specs.declared.commands.Reply.{Reply};
@@ -13,15 +14,17 @@ ghost use Rattle.journal_bytes.specs.Attempts.Event.{Reopens};
 ghost use Rattle.journal_bytes.specs.Bytes.{batches_of, entry_body};
 ghost use Rattle.journal_bytes.specs.Keys.{all_keys};
 ghost use Rattle.commit_journal.specs.Placed.{Commands};
+ghost use Rattle.key_links.specs.Fresh.{piece};
 ghost use Rattle.store_owner.specs.Applying.{Answers};
-ghost use Rattle.store_owner.specs.Making.{IsMade, root_keys};
+ghost use Rattle.store_owner.specs.Making.{IsMade, fresh_writes, root_keys};
 ghost use Rattle.store_owner.specs.Opened.{IsFresh};
 ghost use Rattle.store_owner.specs.Owned.{IsOwnerOf, OwnerView, limits_in};
 ghost use Rattle.store_owner.specs.Stopping.{RestsAt};
 ghost use Rattle.store_owner.specs.declared.apply_fault.ApplyFault.{ApplyFault};
-ghost use Rattle.attempt_laws.specs.Calls.{GoesOnAt, LeavesCourse, StandsOn};
+ghost use Rattle.attempt_laws.specs.Calls.{GoesOnAt, HandsTrials, LeavesCourse, StandsOn};
 ghost use Rattle.attempt_laws.specs.Happenings.{IsCourse};
-ghost use Rattle.attempt_laws.specs.Trials.{Befalls, Happening, batch_in, course_after, course_behind, made_course, trials};
+ghost use Rattle.attempt_laws.specs.Trials.{Befalls, Happening, all_trials, batch_in, course_after, course_behind, made_course};
+ghost use Rattle.attempt_laws.specs.Trials.{trial_writes, trials};
 
 use cry_io::Disk;
 
@@ -36,9 +39,13 @@ pub fn commits_are_attempts()
         next_command j (spell_payload payload) ≡ batch_in owner (record { behind = m; entry = entry }) }
 {}
 
-/// The owner of a store that was just made stands where the store's course begins.
+/// The owner of a store that was just made stands where the store's course begins. What the disk was handed for it is the header and the
+/// batches of the two first trials.
 pub fn made_stores_begin_a_course()
-    ensures { (drawn : List ℕ) (limits : Limits) (o : OwnerView) → IsMade drawn limits o → StandsOn (made_course (root_keys drawn)) o }
+    ensures writes { (drawn : List ℕ) →
+        fresh_writes drawn ≡ header_writes (piece drawn 0) ++ trial_writes (piece drawn 0) (all_trials (root_keys drawn) []) }
+    ensures owner { (drawn : List ℕ) (limits : Limits) (o : OwnerView) → IsMade drawn limits o
+        → StandsOn (made_course (root_keys drawn)) o }
 {}
 
 /// Who opened a store for writing that stands for a course's journal stands on the course that goes on behind `Reopens`.
@@ -67,6 +74,16 @@ pub fn applied_commands_are_attempts<D: Disk>(before: &D, after: &D)
         (D.may_leave before.now) (D.may_leave after.now) (D.since after.now (D.moment before.now)) →
         RestsAt old.key c.journal (D.shown before.now) (D.may_leave before.now) →
         (bytes : List ℕ) → D.may_leave after.now bytes → LeavesCourse (limits_in old) old.key c r bytes }
+{}
+
+/// A call of `Owner::apply`, whatever it answers, hands the disk the batches of one event of its command that can happen there, or none,
+/// and nothing else: each staged, opened and published. So what the laws say of all attempts they say of all that the disk was handed.
+pub fn applied_commands_hand_over_attempts<D: Disk>(before: &D, after: &D)
+    ensures { (c : Course) (r : Request) (result : Result Reply ApplyFault) (old new : OwnerView)
+        (left_before left_after : Option (List ℕ)) → StandsOn c old →
+        Answers result c.journal r old new left_before left_after (D.shown before.now) (D.shown after.now)
+        (D.may_leave before.now) (D.may_leave after.now) (D.since after.now (D.moment before.now)) →
+        HandsTrials (limits_in old) old.key c r (D.shown before.now) (D.shown after.now) (D.since after.now (D.moment before.now)) }
 {}
 
 /// Calls add up: what can happen, and then what can happen behind that, can happen one after the other; and all batches that were written

@@ -34,10 +34,6 @@ use Rattle.public_fold.specs.KeyStep.{KeyState, no_keys}
 use Rattle.public_fold.specs.Standing.{IsSeenAs}
 use Rattle.role_graph.specs.PublicStore.{GrantsStand}
 
--- of a log that gave nothing, all is shown
-pub shows_none : (log : LogState) (s : List ℕ) → log.given ≡ [] → ShowsGiven log s
-shows_none log s none = λ batch p from to. let long : length log.given ≡ 0 = ap length none in absurd (omega (arith, from, to, long))
-
 -- a batch that is shown as it was given is read again
 pub reread : (log : LogState) (s : List ℕ) (position : ℕ) (p : PlainPlaced) → IsAt log.given position p → ShowsGiven log s → again_in log (position + 1) s ≡ Ok p
 reread log s position p at shows =

@@ -1,20 +1,17 @@
--- Whether a bundle's key may read a log: the check that is published, and the steps one after another.
-use Rattle.std.proofs.Common.{◌≡◌, ◌+◌, ◌<◌, ◌≤◌, ℕ, List, [], ◌∷◌, drop, get_or, length, map, Option, None, Some, Result, Ok, Err, ⊎_elim, refl, sym, ap, subst, ◌∙◌}
+-- Whether a bundle's key may read a log, by the steps one after another.
+use Rattle.std.proofs.Common.{◌≡◌, ℕ, List, [], ◌∷◌, Option, None, Some, Result, Ok, Err, ⊎_elim, refl, sym, ap, subst, ◌∙◌}
 use Rattle.std.specs.Prelude.{bytes_eq, true, false}
 use Rattle.chacha_seal.specs.Sealing.{check_of}
-use Rattle.std.proofs.Math.ListN.{drop_of_length-le}
-use Rattle.std.proofs.lemmas.List.{drop_more}
 use Rattle.commit_journal.specs.Answering.{Fault, WrongKey, and_then}
-use Rattle.commit_journal.specs.Placed.{PlainPlaced, plain_body, plain_placed}
-use Rattle.commit_journal.specs.declared.placed.Placed.{Placed}
+use Rattle.commit_journal.specs.Placed.{PlainPlaced}
 use Rattle.cry_base.specs.Store.{no_store}
 use Rattle.cry_base.specs.declared.client.Bundle.{Bundle}
 use Rattle.cry_base.specs.declared.client.Bundle.TheVariants as bundles
 use Rattle.cry_base.specs.declared.ids.HolderId.{HolderId}
 use Rattle.log_visits.specs.Answering.{IsFailure, IsFault}
 use Rattle.log_visits.specs.Folding.{folded}
-use Rattle.log_visits.specs.Holding.{IsReadingIn, IsReadingOf}
-use Rattle.log_visits.specs.Judging.{Failure, OfBytes, NoHolder, body_check, holder_reads, may_read, of_bytes, published_check, read_through, read_with, then_on}
+use Rattle.log_visits.specs.Holding.{IsReadingIn}
+use Rattle.log_visits.specs.Judging.{Failure, OfBytes, NoHolder, holder_reads, may_read, of_bytes, published_check, read_through, read_with, then_on}
 use Rattle.log_visits.specs.Visiting.{Reading}
 use Rattle.log_visits.specs.declared.fault.ClientFault.{ClientFault}
 use Rattle.log_visits.specs.declared.fault.ClientFault.TheVariants as faults
@@ -23,29 +20,6 @@ use Rattle.log_visits.proofs.Viewed.{fault_first}
 use Rattle.public_fold.specs.Journal.{Stand, nothing}
 use Rattle.public_fold.specs.Standing.{IsSeenAs, PublicView}
 use Rattle.role_graph.specs.PublicStore.{GrantsStand}
-
--- ---- the check that a log publishes
-
-from_here : (h : ℕ) (log : List Placed) (i : ℕ) (d : Placed) → i < length log → map plain_placed (drop i log) ≡ plain_placed (get_or log i d) ∷ map plain_placed (drop (i + 1) log)
-from_here h log i d within = ap (map plain_placed) (drop_more log i d within)
-
-pub check_later : (h : ℕ) (log : List Placed) (i : ℕ) (x : Placed) → i < length log → x ≡ get_or log i x → None ≡ body_check h (plain_body x.body) →
-    published_check h (map plain_placed (drop i log)) ≡ published_check h (map plain_placed (drop (i + 1) log))
-unfolding published_check
-check_later h log i x within is none =
-    ap (published_check h) (from_here h log i x within ∙ ap (λ (p : Placed). plain_placed p ∷ map plain_placed (drop (i + 1) log)) (sym is))
-    ∙ ap (λ o. elim o [ Some check ↦ Some check | None ↦ published_check h (map plain_placed (drop (i + 1) log)) ]) (sym none)
-
-pub check_here : (h : ℕ) (log : List Placed) (i : ℕ) (x : Placed) (check : List ℕ) → i < length log → x ≡ get_or log i x → Some check ≡ body_check h (plain_body x.body) →
-    published_check h (map plain_placed (drop i log)) ≡ Some check
-unfolding published_check
-check_here h log i x check within is some =
-    ap (published_check h) (from_here h log i x within ∙ ap (λ (p : Placed). plain_placed p ∷ map plain_placed (drop (i + 1) log)) (sym is))
-    ∙ ap (λ o. elim o [ Some check ↦ Some check | None ↦ published_check h (map plain_placed (drop (i + 1) log)) ]) (sym some)
-
-pub check_nowhere : (h : ℕ) (log : List Placed) (i : ℕ) → length log ≤ i → published_check h (map plain_placed (drop i log)) ≡ None
-unfolding published_check
-check_nowhere h log i past = ap (λ l. published_check h (map plain_placed l)) (drop_of_length-le log past)
 
 -- ---- the key of a holder
 
@@ -151,12 +125,3 @@ taken_key bundle log v folds taken =
     (r, through bundle log folds.0 folds.1 ∙ taken r (refl, folds.2, folds.1), ((refl, folds.2, folds.1), grants_stand log folds.0 folds.1))
     in
     told
-
--- the same of a log
-pub key_refused : (bundle : Bundle) (log : List Placed) (v : PublicView) (fault : ClientFault) → (stand : Stand) × (folded nothing (map plain_placed log) ≡ Ok stand) × IsSeenAs v stand →
-    ((r : Reading) → IsReadingOf v log r → IsFailure fault (may_read bundle r)) → IsFailure fault (read_with bundle (Ok (map plain_placed log)))
-key_refused bundle log v fault folds refused = refused_key bundle (map plain_placed log) v fault folds refused
-
-pub key_taken : (bundle : Bundle) (log : List Placed) (v : PublicView) → (stand : Stand) × (folded nothing (map plain_placed log) ≡ Ok stand) × IsSeenAs v stand →
-    ((r : Reading) → IsReadingOf v log r → may_read bundle r ≡ Ok r) → (r : Reading) × (read_with bundle (Ok (map plain_placed log)) ≡ Ok r) × (IsReadingOf v log r × GrantsStand r.stand.store)
-key_taken bundle log v folds taken = taken_key bundle (map plain_placed log) v folds taken

@@ -1,9 +1,7 @@
 -- A log that is listed: the visits of names, then those of files, then the lines.
-use Rattle.std.proofs.Common.{◌≡◌, ◌≢◌, ℕ, ◌<◌, Bool, true, false, Option, None, Some, List, [], ◌∷◌, ◌++◌, map, filter, Result, Ok, Err, refl, sym, ap, subst, ◌∙◌}
+use Rattle.std.proofs.Common.{◌≡◌, ◌≢◌, ℕ, ◌<◌, Bool, List, [], ◌∷◌, ◌++◌, map, filter, Result, Ok, Err, refl, sym, ap, subst, ◌∙◌}
 use Rattle.std.specs.List.{flat_map, list_any}
 use Rattle.std.proofs.lemmas.List.Kept.{AllPairs-filter}
-use Rattle.std.specs.Prelude.{bytes_eq, if◌then◌else◌}
-use Rattle.chacha_seal.specs.Sealing.{check_of}
 use Rattle.commit_journal.specs.Answering.{Fault, WrongKey, and_then}
 use Rattle.commit_journal.specs.declared.fault.OpenFault.{OpenFault}
 use Rattle.commit_journal.specs.declared.fault.OpenFault.TheVariants as opening
@@ -20,7 +18,7 @@ use Rattle.folder_nodes.specs.declared.rows.FileRow.{FileRow}
 use Rattle.folder_nodes.specs.Trees.{IsTree}
 use Rattle.log_visits.specs.Answering.{AnswersAs, IsFailure, IsFault, client_fault}
 use Rattle.holder_client.specs.Filed.{file_stops, viewed}
-use Rattle.log_visits.specs.Judging.{Failure, OfBytes, Unseen, bundle_log, holder_reads, published_check, may_read, of_bytes, opened_first, read_through, read_with, shown_with, then_on, view_with, who_of}
+use Rattle.log_visits.specs.Judging.{Failure, Unseen, bundle_log, may_read, of_bytes, opened_first, read_through, read_with, shown_with, then_on, view_with, who_of}
 use Rattle.log_visits.specs.Folding.{folded}
 use Rattle.holder_client.specs.Lines.{plain_view}
 use Rattle.log_visits.specs.Sights.{AreSights, MayRead, opens}
@@ -139,41 +137,3 @@ opening_seen (opening.Damaged at) = λ q. absurd cc
 opening_seen (opening.Tampered batch at) = λ q. absurd cc
 opening_seen opening.DiskFault = λ q. absurd cc
 opening_seen opening.OutOfMemory = λ q. absurd cc
-
--- a fault of the log that is the disk's was the disk's
-pub opening_disk : {X : Type 0} (fault : OpenFault) → (let r : Result X ClientFault = Err (client_fault fault) in r) ≡ Err faults.DiskFault → fault ≡ opening.DiskFault
-opening_disk opening.NotAStore = λ q. absurd cc
-opening_disk opening.WrongKey = λ q. absurd cc
-opening_disk (opening.Damaged at) = λ q. absurd cc
-opening_disk (opening.Tampered batch at) = λ q. absurd cc
-opening_disk opening.DiskFault = λ q. refl
-opening_disk opening.OutOfMemory = λ q. absurd cc
-
-pub fault_seen : {X Y : Type 0} (fault : ClientFault) (wanted : Result Y Failure) → IsFailure fault wanted → (wanted ≡ Err Unseen → ⊥) → (let r : Result X ClientFault = Err fault in r) ≢ Err faults.Unseen
-fault_seen fault wanted is never = λ q. let same : fault ≡ faults.Unseen = cc in never (subst (λ f. IsFailure f wanted) same is)
-
-pub answers_seen : {X Y : Type 0} (see : X → Y) (result : Result X ClientFault) (wanted : Result Y Failure) → AnswersAs see result wanted → (wanted ≡ Err Unseen → ⊥) → result ≢ Err faults.Unseen
-answers_seen see (Ok x) wanted is never = λ q. absurd cc
-answers_seen see (Err fault) wanted is never = fault_seen fault wanted is never
-
-holder_seen : (key : List ℕ) (r : Reading) (o : Option (List ℕ)) → holder_reads key r o ≡ Err Unseen → ⊥
-unfolding holder_reads
-holder_seen key r None = λ q. absurd cc
-holder_seen key r (Some check) =
-    elim (bytes_eq check (check_of key)) as (λ b. (let x : Result Reading Failure = if b then Ok r else Err (OfBytes WrongKey) in x) ≡ Err Unseen → ⊥) [ true ↦ λ q. absurd cc | false ↦ λ q. absurd cc ]
-
-may_seen : (bundle : Bundle) (r : Reading) → may_read bundle r ≡ Err Unseen → ⊥
-unfolding may_read
-may_seen (bundles.Owner key) r = λ q. absurd cc
-may_seen (bundles.Holder h key) r = holder_seen key r (published_check h.0 r.log)
-
-pub reads_seen : (bundle : Bundle) (log : Result (List PlainPlaced) Fault) → read_with bundle log ≡ Err Unseen → ⊥
-unfolding read_with then_on of_bytes
-reads_seen bundle log =
-    elim (read_through log) as (λ x. then_on (of_bytes x) (may_read bundle) ≡ Err Unseen → ⊥) [ Ok r ↦ may_seen bundle r | Err fault ↦ λ q. absurd cc ]
-
-pub viewed_seen : (bundle : Bundle) (r : Reading) → viewed bundle r ≡ Err Unseen → ⊥
-unfolding then_on of_bytes
-viewed_seen bundle r =
-    elim (visit_all r (all_visits r.stand.store (who_of bundle)) (opened_first bundle r)) as
-    (λ x. then_on (of_bytes x) (λ (o : Opened). let y : Result (List Line) Failure = Ok (view o.store (who_of bundle)) in y) ≡ Err Unseen → ⊥) [ Ok o ↦ λ q. absurd cc | Err fault ↦ λ q. absurd cc ]

@@ -6,6 +6,7 @@ mod file_rows;
 pub mod laws;
 mod lines;
 mod log_reader;
+mod log_reading;
 mod opening_path;
 mod reading;
 pub mod rows;
@@ -15,5 +16,6 @@ pub mod verdict_laws;
 pub mod verdict_rows;
 
 pub use log_reader::Reader;
+pub use log_reading::{Keeps, ReadLog, read_log};
 pub use opening_path::open_path;
 pub use showing::view;

@@ -1,6 +1,5 @@
 //! Reads a log batch by batch (docs/FORMAT.md, "Reading").
 ghost use Rattle.std.specs.Prelude.{◌≡◌, ◌≢◌, ◌+◌, ◌-◌, ◌≤◌, ◌++◌, [], ◌∷◌, Err, IfOk, List, Ok, OnOk, Some, length};
-ghost use Rattle.commit_journal.specs.Logs.{AreInEpochs};
 ghost use Rattle.commit_journal.specs.Placed.{PlainPlaced, plain_placed};
 ghost use Rattle.commit_journal.specs.Places.{IsStanding};
 ghost use Rattle.commit_journal.specs.declared.past.Past.{Past as ThePast};
@@ -9,11 +8,13 @@ ghost use Rattle.log_visits.specs.Folding.{folded};
 ghost use Rattle.log_visits.specs.Holding.{IsReadingIn};
 ghost use Rattle.log_visits.specs.Indexed.{HaveStarts, IsIndexOf, IsTidy, StartsAt};
 ghost use Rattle.log_visits.specs.Judging as spec;
+ghost use Rattle.holder_client.specs.Keeping.{ComesNext, ReadsOn, StartsOn};
 ghost use Rattle.holder_client.specs.Reads.{HasChecks, HasFolded, HasRead, HasStarts, KeepsLittle};
 ghost use Rattle.public_fold.specs.Journal.{Stand, nothing};
 ghost use Rattle.public_fold.specs.Standing.{IsSeenAs};
 ghost use Rattle.role_graph.specs.PublicStore.{GrantsStand};
 
+use crate::Keeps;
 use crate::admission::{Checks, may_read, note_check};
 use commit_journal::{Past, Placed};
 use cry_base::{Bundle, Mem, OutOfMemory};
@@ -35,12 +36,13 @@ pub struct Reader {
     pub(crate) misfit: Option<u64>,
 }
 
-impl Reader {
+impl Keeps for Reader {
+    ghost has_read = { HasRead };
+
+    ghost has_starts = { HasStarts };
+
     /// A reader to which no batch was added.
-    pub fn new(alloc: Global) -> Mem<Reader>
-        ensures read { IfOk result (λ reader. HasRead reader []) }
-        ensures starts { IfOk result (λ reader. HasStarts reader []) }
-    {
+    fn new(alloc: Global) -> Mem<Reader> {
         let state = PublicState::new(alloc)?;
         Ok(Reader {
             index: Index::new(alloc),
@@ -50,17 +52,27 @@ impl Reader {
         })
     }
 
-    /// Adds the next batch, with what [`PublicLog::past`](commit_journal::PublicLog::past) was before it. What the reader keeps then is
-    /// at most some twice of what stands has, or of what stands alone. After `Err` it is that of no log, and of no more use.
-    pub fn add(&mut self, alloc: Global, placed: &Placed, start: &Past) -> Mem<()>
+    /// What the reader keeps then is at most some twice of what stands has, or of what stands alone.
+    fn add(self, alloc: Global, placed: &Placed, start: &Past) -> Mem<Reader>
         requires stands { IsStanding placed.now }
-        requires next { (log : List PlainPlaced) × HasRead self.old log × AreInEpochs 0 (log ++ plain_placed placed.now ∷ [])
-            × (placed.now.batch ≡ length log + 1) }
-        ensures read { OnOk result ((log : List PlainPlaced) → HasRead self.old log → AreInEpochs 0 (log ++ plain_placed placed.now ∷ [])
-            → placed.now.batch ≡ length log + 1 →
-            HasRead self.new (log ++ plain_placed placed.now ∷ [])) }
-        ensures starts { OnOk result ((starts : List ThePast) → HasStarts self.old starts → start.now.number ≡ length starts
-            → placed.now.batch ≡ length starts + 1 → HasStarts self.new (starts ++ start.now ∷ [])) }
+        requires next { ComesNext HasRead self placed.now }
+        ensures read { IfOk result (ReadsOn HasRead self placed.now) }
+        ensures starts { IfOk result (StartsOn HasStarts self placed.now start.now) }
+        ensures tidy { IfOk result KeepsLittle }
+    {
+        let mut reader = self;
+        reader.take(alloc, placed, start)?;
+        Ok(reader)
+    }
+}
+
+impl Reader {
+    /// Takes the next batch. At `Err` half of it may have been taken.
+    fn take(&mut self, alloc: Global, placed: &Placed, start: &Past) -> Mem<()>
+        requires stands { IsStanding placed.now }
+        requires next { ComesNext HasRead self.old placed.now }
+        ensures read { OnOk result (ReadsOn HasRead self.old placed.now self.new) }
+        ensures starts { OnOk result (StartsOn HasStarts self.old placed.now start.now self.new) }
         ensures tidy { OnOk result (KeepsLittle self.new) }
     {
         let _number = placed.batch;

@@ -25,8 +25,8 @@ ghost use Rattle.public_fold.specs.KeyStep.{present};
 use crate::file_rows::files_in;
 use crate::lines::{folder_lines, path_of, push_files};
 use crate::log_reader::Reader;
+use crate::log_reading::{ReadLog, read_log};
 use crate::reading::{ReadFile, open_names, read_files, viewer_of};
-use crate::showing::{ReadLog, read_log};
 use crate::streamed_log::StreamedLog;
 use commit_journal::PublicLog;
 use cry_base::{Bundle, Line, Mem};
@@ -248,6 +248,6 @@ pub fn open_path<D: Disk>(
     ensures counts { D.faults disk.old ≤ D.faults disk.new }
     ensures disk_fault { result ≡ Err ClientFault.DiskFault → D.faults disk.old < D.faults disk.new }
 {
-    let ReadLog { log, reader } = read_log(alloc, disk, bundle)?;
+    let ReadLog { log, kept: reader }: ReadLog<Reader> = read_log(alloc, disk, bundle)?;
     reader.open_path(alloc, &log, disk, bundle, path)
 }

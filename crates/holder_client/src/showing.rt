@@ -1,11 +1,10 @@
 //! The lines that a key shows.
-ghost use Rattle.std.specs.Prelude.{◌≡◌, ◌≢◌, ◌<◌, ◌≤◌, Err, IfOk, Ok, option_copied};
+ghost use Rattle.std.specs.Prelude.{◌≡◌, ◌≢◌, ◌<◌, ◌≤◌, Err, Ok};
 ghost use Rattle.cry_io.specs.Told.{WhereTold};
-ghost use Rattle.commit_journal.specs.Readers as readers;
 ghost use Rattle.cry_io.specs.Reading.{IsOnlyRead};
 ghost use Rattle.commit_journal.specs.Streaming.{ShowsGiven};
 ghost use Rattle.cry_base.specs.declared.roles.Role.TheVariants.{Owner};
-ghost use Rattle.log_visits.specs.Answering.{Answers, AnswersAs};
+ghost use Rattle.log_visits.specs.Answering.{AnswersAs};
 ghost use Rattle.holder_client.specs.Filed.{viewed};
 ghost use Rattle.log_visits.specs.Holding.{IsReadingIn};
 ghost use Rattle.log_visits.specs.Judging as spec;
@@ -19,72 +18,15 @@ ghost use Rattle.public_fold.specs.KeyStep.{present};
 use crate::file_rows::allowed_files;
 use crate::lines::view_lines;
 use crate::log_reader::Reader;
+use crate::log_reading::{ReadLog, read_log};
 use crate::reading::{open_names, read_files, viewer_of};
 use crate::streamed_log::StreamedLog;
-use chacha_seal::{Key, OwnerK};
 use commit_journal::PublicLog;
 use cry_base::{Bundle, Line, List};
 use cry_io::Disk;
 use log_visits::{ClientFault, OwnersView, Records, all_sights, is_nameless};
 use public_fold::PublicState;
 use std::alloc::Global;
-
-/// A log that was read to its end, and what a reading needs of it.
-#[derive(Drop)]
-pub(crate) struct ReadLog {
-    pub(crate) log: PublicLog,
-    pub(crate) reader: Reader,
-}
-
-/// Reads a log batch by batch up to its end, with the owner's key or without one.
-fn read_batches<D: Disk>(
-    alloc: Global,
-    disk: &mut D,
-    owner: Option<&Key<OwnerK>>,
-) -> Result<ReadLog, ClientFault>
-    ensures verdict { WhereTold (D.shown disk.old)
-        (λ s. Answers (λ read. read.log.given) result (readers.read_log (readers.key_bytes (option_copied owner.entry)) s)) }
-    ensures read { IfOk result (λ read. HasRead read.reader read.log.given) }
-    ensures starts { IfOk result (λ read. HasStarts read.reader read.log.starts) }
-    ensures shows { WhereTold (D.shown disk.old) (λ s. IfOk result (λ read. ShowsGiven read.log s)) }
-    ensures seen { result ≢ Err ClientFault.Unseen }
-    ensures read_only { IsOnlyRead D.Disk disk.old disk.new }
-    ensures counts { D.faults disk.old ≤ D.faults disk.new }
-    ensures disk_fault { result ≡ Err ClientFault.DiskFault → D.faults disk.old < D.faults disk.new }
-{
-    let mut log = PublicLog::begin(alloc, disk, owner)?;
-    let mut reader = Reader::new(alloc)?;
-    let mut start = log.past();
-    while let Some(placed) = log.next(alloc, disk)? {
-        reader.add(alloc, &placed, &start)?;
-        start = log.past();
-    }
-    Ok(ReadLog { log, reader })
-}
-
-/// Reads the log as the bundle's reader reads it.
-pub(crate) fn read_log<D: Disk>(
-    alloc: Global,
-    disk: &mut D,
-    bundle: &Bundle,
-) -> Result<ReadLog, ClientFault>
-    ensures verdict { WhereTold (D.shown disk.old) (λ s. Answers (λ read. read.log.given) result (spec.bundle_log bundle.now s)) }
-    ensures read { IfOk result (λ read. HasRead read.reader read.log.given) }
-    ensures starts { IfOk result (λ read. HasStarts read.reader read.log.starts) }
-    ensures shows { WhereTold (D.shown disk.old) (λ s. IfOk result (λ read. ShowsGiven read.log s)) }
-    ensures seen { result ≢ Err ClientFault.Unseen }
-    ensures read_only { IsOnlyRead D.Disk disk.old disk.new }
-    ensures counts { D.faults disk.old ≤ D.faults disk.new }
-    ensures disk_fault { result ≡ Err ClientFault.DiskFault → D.faults disk.old < D.faults disk.new }
-{
-    match bundle {
-        Bundle::Owner { key } => {
-            let owner = Key::owner(*key);
-            read_batches(alloc, disk, Some(&owner))
-        }
-        Bundle::Holder { .. } => read_batches(alloc, disk, None),
-    }
-}
 
 /// Opens what the bundle's key opens of a log that it may read, and lists it.
 fn list_records<S, R: Records<S>>(
@@ -168,6 +110,6 @@ pub fn view<D: Disk>(
     ensures counts { D.faults disk.old ≤ D.faults disk.new }
     ensures disk_fault { result ≡ Err ClientFault.DiskFault → D.faults disk.old < D.faults disk.new }
 {
-    let ReadLog { log, reader } = read_log(alloc, disk, bundle)?;
+    let ReadLog { log, kept: reader }: ReadLog<Reader> = read_log(alloc, disk, bundle)?;
     reader.view(alloc, &log, disk, bundle)
 }

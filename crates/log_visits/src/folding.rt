@@ -11,7 +11,7 @@ ghost use Rattle.log_visits.specs.Folding.{folded, stand_behind};
 
 use crate::ClientFault;
 use commit_journal::{Body, Placed};
-use cry_base::Epoch;
+use cry_base::{Epoch, Steps};
 use public_fold::{FoldFault, PublicState};
 use std::alloc::Global;
 
@@ -41,7 +41,7 @@ pub fn take_batch(
             begin(state, placed.epoch);
             Ok(())
         }
-        Body::Commands(payload) => match state.advance(alloc, payload) {
+        Body::Commands(payload) => match state.advance(alloc, payload, &mut Steps::new()) {
             Ok(()) => Ok(()),
             Err(FoldFault::Unfit) => Err(ClientFault::Damaged { at: placed.place }),
             Err(FoldFault::OutOfMemory) => Err(ClientFault::OutOfMemory),

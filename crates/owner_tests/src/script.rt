@@ -3,7 +3,7 @@ ghost use Rattle.std.specs.Prelude.{◌≡◌, ◌≤◌, false, length};
 ghost use Rattle.cry_io.specs.Leaving.{shown_of};
 
 use crate::fakes::{FreshStore, falling, make_store};
-use cry_base::{Command, HolderId, List, Reply, Text};
+use cry_base::{Command, HolderId, List, Reply, Steps, Text};
 use cry_io::MemSource;
 use script_text::read_line;
 use std::alloc::Global;
@@ -86,5 +86,7 @@ fn applied_once(
     requires { store.old.owner.journal.is_closed ≡ false → store.old.owner.journal.end ≤ length (shown_of store.old.disk.events) }
     ensures { store.new.owner.journal.is_closed ≡ false → store.new.owner.journal.end ≤ length (shown_of store.new.disk.events) }
 {
-    store.owner.apply(alloc, &mut store.disk, random, command)
+    store
+        .owner
+        .apply(alloc, &mut store.disk, random, command, &mut Steps::new())
 }

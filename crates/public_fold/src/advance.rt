@@ -1,11 +1,12 @@
 //! The skeleton of a note, and the state after a payload.
-ghost use Rattle.std.specs.Prelude.{◌≡◌, false, true, IfOk, OnOk, OnErr};
+ghost use Rattle.std.specs.Prelude.{◌≡◌, ◌≤◌, ◌+◌, false, true, IfOk, OnOk, OnErr};
 ghost use Rattle.record_format.specs.Plain.{plain_payload};
 ghost use Rattle.record_format.specs.Told.{told_note};
 ghost use Rattle.public_fold.specs.Changing.{checks_then};
 ghost use Rattle.public_fold.specs.Fitted.{payload_fits, told_stand, told_step};
 ghost use Rattle.public_fold.specs.Heads.{IsSkeleton};
 ghost use Rattle.public_fold.specs.Journal.{Stand};
+ghost use Rattle.public_fold.specs.LookUps.{note_look_ups};
 ghost use Rattle.public_fold.specs.StandFits.{note_fits};
 ghost use Rattle.public_fold.specs.Standing.{IsSeenAs, with_room_of};
 
@@ -33,16 +34,22 @@ impl PublicState {
 
     /// Makes the payload's change. `Unfit` comes only where the payload doesn't fit: its note doesn't, or its records
     /// aren't those of the note's skeleton, in order, each with a text of a right length. At `Err` the state is as it was, but
-    /// for room.
-    pub fn advance(&mut self, alloc: Global, payload: &Payload) -> Result<(), FoldFault>
+    /// for room. It looks up as many edges as preparing the note does.
+    pub fn advance(
+        &mut self,
+        alloc: Global,
+        payload: &Payload,
+        steps: &mut Steps,
+    ) -> Result<(), FoldFault>
         ensures seen { OnOk result ((at : Stand) → IsSeenAs self.old at → IsSeenAs self.new (told_stand at (told_note payload.now.note))) }
         ensures checks { OnOk result (self.new.checks ≡ checks_then self.old.checks (told_note payload.now.note)) }
         ensures fits { OnOk result ((at : Stand) → IsSeenAs self.old at → payload_fits at (plain_payload payload.now) ≡ true) }
         ensures unfit { result ≡ Err FoldFault.Unfit → (at : Stand) → IsSeenAs self.old at
             → payload_fits at (plain_payload payload.now) ≡ false }
         ensures err { OnErr result (self.new ≡ with_room_of self.old self.new) }
+        ensures look_ups { steps.new ≤ steps.old + note_look_ups self.old (told_note payload.now.note) }
     {
-        let ready = self.prepare(alloc, &payload.note, false)?;
+        let ready = self.prepare(alloc, &payload.note, false, steps)?;
         if !has_records(ready.skeleton(), payload) {
             return Err(FoldFault::Unfit);
         }

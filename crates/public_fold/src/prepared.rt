@@ -1,9 +1,10 @@
 //! A note's change, prepared on a state with all the memory that it takes, and made later without any.
-ghost use Rattle.std.specs.Prelude.{◌≡◌, ◌<◌, true, false, Err, IfOk, OnOk, option_map};
+ghost use Rattle.std.specs.Prelude.{◌≡◌, ◌<◌, ◌≤◌, ◌+◌, true, false, Err, IfOk, OnOk, option_map};
 ghost use Rattle.record_format.specs.Told.{told_note};
 ghost use Rattle.public_fold.specs.Fitted.{told_stand, told_step};
 ghost use Rattle.public_fold.specs.Heads.{IsSkeleton};
 ghost use Rattle.public_fold.specs.Journal.{Stand};
+ghost use Rattle.public_fold.specs.LookUps.{note_look_ups};
 ghost use Rattle.public_fold.specs.Preparing.{CanSettle, HasRoomFor, begun, is_new_holder, root_made, settled, with_check};
 ghost use Rattle.public_fold.specs.StandFits.{note_fits};
 ghost use Rattle.public_fold.specs.Standing.{IsSeenAs, PublicView, with_room_of};
@@ -91,12 +92,14 @@ fn note_with(note: Note, check: [u8; 32]) -> Note
 
 impl PublicState {
     /// Prepares the note's change on this state; where an epoch is wanted, one is begun before it. `Unfit` comes only where
-    /// the note doesn't fit the state that it then meets.
+    /// the note doesn't fit the state that it then meets. It looks up no more edges than those at the roles that it marks and
+    /// renews: the bound is on the look-ups of the walks, which have no other way to an edge.
     pub fn prepare(
         &self,
         alloc: Global,
         note: &Note,
         new_epoch: bool,
+        steps: &mut Steps,
     ) -> Result<Prepared, FoldFault>
         requires { new_epoch ≡ true → self.now.keys.epoch < 4294967295 }
         ensures note { IfOk result (λ p. p.note ≡ note.now) }
@@ -109,8 +112,9 @@ impl PublicState {
             → note_fits (begun new_epoch at) (told_note note.now) (told_step (begun new_epoch at) (told_note note.now)) ≡ true) }
         ensures unfit { result ≡ Err FoldFault.Unfit → (at : Stand) → IsSeenAs self.now at
             → note_fits (begun new_epoch at) (told_note note.now) (told_step (begun new_epoch at) (told_note note.now)) ≡ false }
+        ensures look_ups { steps.new ≤ steps.old + note_look_ups self.now (told_note note.now) }
     {
-        let step = step_of(alloc, self, new_epoch, note, &mut Steps::new())?;
+        let step = step_of(alloc, self, new_epoch, note, steps)?;
         let root = root_for(alloc, note)?;
         Ok(Prepared {
             note: *note,

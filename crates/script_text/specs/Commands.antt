@@ -1,4 +1,4 @@
--- Command lines that are read. This project's own, docs/FORMAT.md, "Lines".
+-- Command lines that are read. This project's own, docs/PROGRAM.md, "Lines".
 use Rattle.std.specs.Prelude.{◌≡◌, ℕ, ◌+◌, ◌≤◌, Bool, ◌==◌, ◌&&◌, not, nat_eq, List, [], ◌∷◌, ◌++◌, length, take, drop, Option, Some, None}
 use Rattle.std.specs.Prelude.{IsSome, Result, Ok, Err, if◌then◌else◌, codes, position, option_map, option_and_then}
 use Rattle.std.specs.Cmp.Lexicographic.{pointwise}

@@ -1,4 +1,4 @@
--- Bytes that come in pieces, and the lines in them. This project's own, docs/FORMAT.md, "Lines".
+-- Bytes that come in pieces, and the lines in them. This project's own, docs/PROGRAM.md, "Lines".
 use Rattle.std.specs.Prelude.{◌≡◌, ◌≢◌, ◌+◌, ◌==◌, nat_lt, ℕ, Bool, true, false, List, [], ◌∷◌, ◌++◌, length, take, All, Option, Some, None}
 use Rattle.std.specs.Prelude.{if◌then◌else◌}
 use Rattle.std.specs.List.{count_by}

@@ -1,4 +1,4 @@
--- Printed lines, each ended by the byte 0x0a. This project's own, docs/FORMAT.md, "Lines".
+-- Printed lines, each ended by the byte 0x0a. This project's own, docs/PROGRAM.md, "Lines".
 use Rattle.std.specs.Prelude.{ℕ, List, [], ◌∷◌, ◌++◌, codes, decimal}
 use Rattle.cry_base.specs.Texts.{hex_of}
 use Rattle.cry_base.specs.declared.client.Line.{Line}

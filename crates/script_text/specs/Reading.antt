@@ -1,4 +1,4 @@
--- Lines that are read. This project's own, docs/FORMAT.md, "Lines".
+-- Lines that are read. This project's own, docs/PROGRAM.md, "Lines".
 use Rattle.std.specs.Prelude.{◌≡◌, ℕ, ◌+◌, ◌<◌, ◌≤◌, ◌^◌, ◌==◌, ◌&&◌, nat_le, nat_lt, nat_eq, List, ◌∷◌, ◌++◌, length, take, drop, Option}
 use Rattle.std.specs.Prelude.{Some, None, Ok, if◌then◌else◌, codes, decimal, position, option_map, option_and_then}
 use Rattle.std.specs.Cmp.Lexicographic.{pointwise}

@@ -38,9 +38,8 @@ impl Model for Cutter {
 }
 
 impl Cutter {
-    /// Of no bytes. It watches for one byte more than `limit`, which is less than the largest `u64`. It takes no memory.
-    pub fn new(alloc: Global, limit: u64) -> Cutter
-        requires { limit < 18446744073709551615 }
+    /// Of no bytes. It watches for one byte more than `limit`. It takes no memory.
+    pub fn new(alloc: Global, limit: u32) -> Cutter
         ensures { result ≡ record { fed = []; held = []; limit = limit } }
     {
         Cutter {
@@ -48,7 +47,7 @@ impl Cutter {
             whole: List::new(alloc),
             at: 0,
             rest: List::new(alloc),
-            gauge: Gauge::new(limit),
+            gauge: Gauge::new(u64::from(limit)),
         }
     }
 

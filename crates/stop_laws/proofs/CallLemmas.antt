@@ -1,5 +1,5 @@
 -- Calls of the program in a list of calls: those that aren't a run by the owner leave the store as it is.
-use Rattle.std.proofs.Common.{◌≡◌, ◌≤◌, ◌<◌, ◌≢◌, ◌⊎◌, ⊎_elim, inl, inr, ℕ, Bool, true, false, List, [], length, take, drop, Option, Some, None, Result, Ok, Err, arith, refl, sym, ap, subst, ◌∙◌}
+use Rattle.std.proofs.Common.{◌≡◌, ◌≤◌, ◌≢◌, ◌⊎◌, ⊎_elim, inl, inr, ℕ, Bool, true, false, List, [], length, take, drop, Some, None, Result, Ok, Err, arith, refl, sym, ap, subst, ◌∙◌}
 use Rattle.std.specs.Prelude.{IsTrue, codes, if◌then◌else◌, is_some, nat_le, slice_range, ◌++◌, ◌∷◌}
 use Rattle.std.specs.Str.{bytes_eq}
 use Rattle.std.proofs.lemmas.Bool.{false_from_ne_true}
@@ -21,23 +21,22 @@ use Rattle.cry_base.specs.Layout.{first_gate_offset, header_len, magic_len}
 use Rattle.cry_base.specs.Limits.{most_store_bytes}
 use Rattle.cry_io.specs.Reading.{IsOnlyRead}
 use Rattle.cry_io.specs.declared.disk.Disk as disk
-use Rattle.cry_io.specs.declared.streams.Sink as sink
-use Rattle.cry_io.specs.declared.streams.Source as source
-use Rattle.cryptree_cli.specs.Promises.Any.{AnyEnds}
-use Rattle.cryptree_cli.specs.Promises.Gen.{GenEnds}
-use Rattle.cryptree_cli.specs.Promises.Make.{MakeEnds}
-use Rattle.cryptree_cli.specs.Promises.Run.{RunEnds}
-use Rattle.cryptree_cli.specs.Running.{key_in_lines, lines_in}
-use Rattle.cryptree_cli.specs.Status.{is_before_write}
-use Rattle.cryptree_cli.specs.Unopened.{HasOpened, LeavesUnopened, WasTried}
-use Rattle.cryptree_cli.specs.declared.status.Status.{Status}
-use Rattle.cryptree_cli.proofs.RunEnds.{still_told}
-use Rattle.cryptree_cli.proofs.StopLemmas.{time_still}
+use Rattle.cli_base.specs.Promises.Any.{AnyEnds}
+use Rattle.cli_making.specs.Promises.Gen.{GenEnds}
+use Rattle.cli_making.specs.Promises.Make.{MakeEnds}
+use Rattle.cli_running.specs.Promises.Run.{RunEnds}
+use Rattle.cli_running.specs.Running.{key_in_lines, lines_in}
+use Rattle.cli_base.specs.Status.{is_before_write}
+use Rattle.cli_running.specs.Unopened.{HasOpened, LeavesUnopened, WasTried}
+use Rattle.cli_base.specs.World.{Senses, World}
+use Rattle.cli_base.specs.declared.status.Status.{Status}
+use Rattle.cli_sessions.proofs.RunEnds.{still_told}
+use Rattle.cli_sessions.proofs.StopLemmas.{time_still}
 use Rattle.journal_bytes.specs.Bytes.{bodies_of}
 use Rattle.journal_bytes.specs.Journals.{ShowsJournal, StandsForJournal}
 use Rattle.log_visits.specs.Asking.{failure_of, open_with, opened_store, verdict}
 use Rattle.log_visits.specs.Asking.Asking.{ToWrite}
-use Rattle.log_visits.specs.Judging.{Failure, OfBytes, of_bytes, read_through, then_on}
+use Rattle.log_visits.specs.Judging.{OfBytes, of_bytes, read_through, then_on}
 use Rattle.public_fold.specs.Journal.{Journal}
 use Rattle.stop_laws.specs.Others.{IsByOther}
 use Rattle.stop_laws.specs.Runs.{LeavesStore, RunOver}
@@ -106,7 +105,7 @@ module _ {D : Type 0} (disks : disk.Ghosts D)
     (present : (d : D) (s c : List ℕ) → disks.since d (disks.moment d) s c → (disks.shown d ≡ Some s) × disks.may_leave d c)
     (may_be_left : (d : D) (s : List ℕ) → disks.shown d ≡ Some s → disks.may_leave d s) where
   abbrev Leaves : D → D → Type 0
-  Leaves before after = LeavesStore disks.shown disks.may_leave disks.moment disks.since before after
+  Leaves before after = LeavesStore disks before after
 
   abbrev Same : D → D → Type 0
   Same before after = (s c : List ℕ) → disks.since after (disks.moment before) s c
@@ -168,19 +167,31 @@ module _ {D : Type 0} (disks : disk.Ghosts D)
       (λ filled. (shows.1 ∙ ap (λ z. Some z) (sym (gated s filled.0)), inr (shows.1 ∙ ap (λ z. Some z) (sym (gated c filled.1)))))
       (tried.throughout x shows.1 s c at)
 
+-- a call between two worlds
+module _ {S R D W : Type 0} (see : Senses S R D W)
+    (counted : (d : D) (t : ℕ) (s c : List ℕ) → t ≤ see.disks.moment d → see.disks.shown d ≡ Some s → see.disks.may_leave d c → see.disks.since d t s c)
+    (present : (d : D) (s c : List ℕ) → see.disks.since d (see.disks.moment d) s c → (see.disks.shown d ≡ Some s) × see.disks.may_leave d c)
+    (may_be_left : (d : D) (s : List ℕ) → see.disks.shown d ≡ Some s → see.disks.may_leave d s) (status : Status) (before after : World S R D W) where
+  abbrev LeavesDisk : Type 0
+  LeavesDisk = LeavesStore see.disks before.disk after.disk
+
+  abbrev SameDisk : Type 0
+  SameDisk = Same see.disks counted present may_be_left before.disk after.disk
+
+  disk_untouched : after.disk ≡ before.disk → LeavesDisk
+  disk_untouched is = untouched_leaves see.disks counted present may_be_left before.disk after.disk is
+
   -- a run by the owner
-  pub owner_run : {S R W : Type 0} (inputs : source.Ghosts S) (randoms : source.Ghosts R) (outs : sink.Ghosts W) (status : Status) (input_old input_new : S) (random_old random_new : R)
-      (before after : D) (out_old out_new : W) (owner typed : List ℕ) → inputs.left input_old ≡ Some typed → key_in_lines (lines_in typed) ≡ Some owner
-      → RunEnds inputs randoms disks outs status input_old input_new random_old random_new before after out_old out_new
-      → RunOver disks.shown disks.may_leave disks.moment disks.since owner before after
-  owner_run inputs randoms outs status input_old input_new random_old random_new before after out_old out_new owner typed told hands run = record {
+  pub owner_run : (owner typed : List ℕ) → see.inputs.left before.input ≡ Some typed → key_in_lines (lines_in typed) ≡ Some owner
+      → RunEnds see status before after → RunOver see.disks owner before.disk after.disk
+  owner_run owner typed told hands run = record {
     status = status;
     typed = typed;
     asked = run.asked;
-    left_before = randoms.left random_old;
-    left_after = randoms.left random_new;
-    written_before = outs.written out_old;
-    written_after = outs.written out_new;
+    left_before = see.randoms.left before.random;
+    left_after = see.randoms.left after.random;
+    written_before = see.outs.written before.out;
+    written_after = see.outs.written after.out;
     hands_in = hands;
     later = run.later;
     ran = run.ran typed told;
@@ -188,17 +199,16 @@ module _ {D : Type 0} (disks : disk.Ghosts D)
   }
 
   -- a run whose first line hands in no key, or one of another
-  module _ {S R W : Type 0} (inputs : source.Ghosts S) (randoms : source.Ghosts R) (outs : sink.Ghosts W) (status : Status) (input_old input_new : S) (random_old random_new : R)
-      (before after : D) (out_old out_new : W) (owner : List ℕ) (m : Journal) (typed : List ℕ) (told : inputs.left input_old ≡ Some typed)
-      (shows : ShowsJournal owner m (disks.shown before)) (other : IsByOther owner typed) where
-    unopened_same : LeavesUnopened disks status (inputs.left input_old) random_old random_new before after out_old out_new → Same before after
+  module _ (owner : List ℕ) (m : Journal) (typed : List ℕ) (told : see.inputs.left before.input ≡ Some typed)
+      (shows : ShowsJournal owner m (see.disks.shown before.disk)) (other : IsByOther owner typed) where
+    unopened_same : LeavesUnopened see status before after → SameDisk
     unopened_same left s c at =
         ⊎_elim
-        (λ (is : after ≡ before). (untouched_leaves before after is).same s c at)
-        (λ tried. tried_same before after status owner tried.0 m shows (other tried.0 (tried.1 typed told)) tried.2 s c at)
+        (λ (is : after.disk ≡ before.disk). (disk_untouched is).same s c at)
+        (λ tried. tried_same see.disks counted present may_be_left before.disk after.disk status owner tried.0 m shows (other tried.0 (tried.1 typed told)) tried.2 s c at)
         left.store
 
-    never_opened : HasOpened disks status (inputs.left input_old) before after → Same before after
+    never_opened : HasOpened see status before after → SameDisk
     never_opened opened s c at =
         let x = shows.0 in
         let passes = opened.passes typed x told shows.1 in
@@ -206,24 +216,19 @@ module _ {D : Type 0} (disks : disk.Ghosts D)
         let no : None ≡ Some (OfBytes WrongKey) = sym passes.2 ∙ refused_verdict passes.0 x wrong in
         absurd cc
 
-    pub run_leaves_store : RunEnds inputs randoms disks outs status input_old input_new random_old random_new before after out_old out_new
-        → AnyEnds inputs randoms disks outs status input_old input_new random_old random_new before after out_old out_new → Leaves before after
+    pub run_leaves_store : RunEnds see status before after → AnyEnds see status before after → LeavesDisk
     run_leaves_store run any =
-        same_leaves before after shows.0 shows.1 run.later run.time any.disk_told
+        same_leaves see.disks counted present may_be_left before.disk after.disk shows.0 shows.1 run.later run.time any.disk_told
         (λ s c at. ⊎_elim (λ left. unopened_same left s c at) (λ opened. never_opened opened s c at) run.opening)
 
   -- over a store that stands `make` and `gen` answer that the disk isn't blank
-  module _ (before after : D) (owner : List ℕ) (m : Journal) (sized : (s : List ℕ) → disks.shown before ≡ Some s → length s ≡ disks.size_of before)
-      (shows : ShowsJournal owner m (disks.shown before)) where
-    has_size : disks.size_of before ≢ 0
+  module _ (owner : List ℕ) (m : Journal) (sized : (s : List ℕ) → see.disks.shown before.disk ≡ Some s → length s ≡ see.disks.size_of before.disk)
+      (shows : ShowsJournal owner m (see.disks.shown before.disk)) where
+    has_size : see.disks.size_of before.disk ≢ 0
     has_size none = store_has_bytes owner m shows.0 shows.2 (sized shows.0 shows.1 ∙ none)
 
-    pub make_leaves_store : {S R W : Type 0} (inputs : source.Ghosts S) (randoms : source.Ghosts R) (outs : sink.Ghosts W) (status : Status) (input_old input_new : S) (random_old random_new : R)
-        (out_old out_new : W) → MakeEnds inputs randoms disks outs status input_old input_new random_old random_new before after out_old out_new → Leaves before after
-    make_leaves_store inputs randoms outs status input_old input_new random_old random_new out_old out_new made =
-        untouched_leaves before after (made.disk_kept (subst (λ s. IsTrue (is_before_write s)) (sym (made.not_blank.1 has_size)) refl))
+    pub make_leaves_store : MakeEnds see status before after → LeavesDisk
+    make_leaves_store made = disk_untouched (made.disk_kept (subst (λ s. IsTrue (is_before_write s)) (sym (made.not_blank.1 has_size)) refl))
 
-    pub gen_leaves_store : {S R W : Type 0} (inputs : source.Ghosts S) (randoms : source.Ghosts R) (outs : sink.Ghosts W) (status : Status) (input_old input_new : S) (random_old random_new : R)
-        (out_old out_new : W) (seed count : ℕ) → GenEnds inputs randoms disks outs status input_old input_new random_old random_new before after out_old out_new seed count → Leaves before after
-    gen_leaves_store inputs randoms outs status input_old input_new random_old random_new out_old out_new seed count made =
-        untouched_leaves before after (made.blank_kept (made.not_blank.1 has_size)).1
+    pub gen_leaves_store : (seed count : ℕ) → GenEnds see status before after seed count → LeavesDisk
+    gen_leaves_store seed count made = disk_untouched (made.blank_kept (made.not_blank.1 has_size)).1

@@ -4,13 +4,14 @@ use Rattle.std.proofs.lemmas.List.{append-nil, append_cancel_left}
 use Rattle.commit_journal.specs.Gates.{recovered}
 use Rattle.commit_journal.specs.Holding.{IsBetween, IsPrefix}
 use Rattle.commit_journal.specs.Image.{Batch}
-use Rattle.commit_journal.proofs.KeptLemmas.{prefix_same, prefix_trans}
+use Rattle.commit_journal.proofs.KeptLemmas.{prefix_trans}
+use Rattle.cry_io.specs.declared.disk.Disk as disk
 use Rattle.journal_bytes.specs.Bytes.{batches_of}
 use Rattle.journal_bytes.specs.Journals.{HoldsBetween, StandsForJournal}
 use Rattle.journal_bytes.proofs.Grown.{batches_grow, journal_recovered}
-use Rattle.public_fold.specs.Journal.{Entry, Journal}
+use Rattle.public_fold.specs.Journal.{Journal}
 use Rattle.store_owner.specs.Published.{HasPublished, StaysPublished, published_batches}
-use Rattle.stop_laws.specs.Runs.{CallOver, IsLeft, Runs, WasShown}
+use Rattle.stop_laws.specs.Runs.{Runs, WasShown}
 use Rattle.stop_laws.specs.Runs.CallOver.{ByOther, ByOwner}
 use Rattle.stop_laws.specs.Runs.Runs.{Begun, Ran, StopsBehind, StopsIn}
 use Rattle.stop_laws.proofs.Kept.{all_stay, ends_keep}
@@ -113,24 +114,24 @@ module _ (key : List ℕ) (shown : Option (List ℕ)) (may_leave : List ℕ → 
 
 -- ---- calls and stops
 
-module _ (D : Type 0) (shown : D → Option (List ℕ)) (may_leave : D → List ℕ → Type 0) (moment : D → ℕ) (since : D → ℕ → List ℕ → List ℕ → Type 0)
-    (counted : (d : D) (t : ℕ) (s c : List ℕ) → t ≤ moment d → shown d ≡ Some s → may_leave d c → since d t s c)
-    (present : (d : D) (s c : List ℕ) → since d (moment d) s c → (shown d ≡ Some s) × may_leave d c)
-    (may_be_left : (d : D) (s : List ℕ) → shown d ≡ Some s → may_leave d s) (key : List ℕ)
-    (start : D) (m1 m2 : Journal) (holds : HoldsBetween key m1 m2 (shown start) (may_leave start)) (stays : StaysPublished key (shown start) (may_leave start)) where
+module _ {D : Type 0} (disks : disk.Ghosts D)
+    (counted : (d : D) (t : ℕ) (s c : List ℕ) → t ≤ disks.moment d → disks.shown d ≡ Some s → disks.may_leave d c → disks.since d t s c)
+    (present : (d : D) (s c : List ℕ) → disks.since d (disks.moment d) s c → (disks.shown d ≡ Some s) × disks.may_leave d c)
+    (may_be_left : (d : D) (s : List ℕ) → disks.shown d ≡ Some s → disks.may_leave d s) (key : List ℕ)
+    (start : D) (m1 m2 : Journal) (holds : HoldsBetween key m1 m2 (disks.shown start) (disks.may_leave start)) (stays : StaysPublished key (disks.shown start) (disks.may_leave start)) where
   abbrev Came : D → Type 0
-  Came now = Runs shown may_leave moment since key start now
+  Came now = Runs disks key start now
 
   -- what is shown may be left
-  left_too : (d : D) (s : List ℕ) → ((c : List ℕ) → may_leave d c → HasPublished key s c) → (c : List ℕ) → (shown d ≡ Some c) ⊎ may_leave d c → HasPublished key s c
+  left_too : (d : D) (s : List ℕ) → ((c : List ℕ) → disks.may_leave d c → HasPublished key s c) → (c : List ℕ) → (disks.shown d ≡ Some c) ⊎ disks.may_leave d c → HasPublished key s c
   left_too d s has c either = ⊎_elim (λ is. has c (may_be_left d c is)) (λ left. has c left) either
 
   -- behind the owner's run, and at each moment of it
-  raised_at : (s : List ℕ) (before : D) (runs : Came before) → ((c : List ℕ) → may_leave before c → HasPublished key s c)
-      → (h : Journal) × Raised key (shown before) (may_leave before) (published_batches key s) m1 h
+  raised_at : (s : List ℕ) (before : D) (runs : Came before) → ((c : List ℕ) → disks.may_leave before c → HasPublished key s c)
+      → (h : Journal) × Raised key (disks.shown before) (disks.may_leave before) (published_batches key s) m1 h
   raised_at s before runs has =
-      let so_far = all_left D shown may_leave moment since counted key start m1 m2 holds before runs in
-      let up = raised key (shown before) (may_leave before) (published_batches key s) so_far.0 so_far.1 (left_too before s has) so_far.3 in
+      let so_far = all_left disks counted key start m1 m2 holds before runs in
+      let up = raised key (disks.shown before) (disks.may_leave before) (published_batches key s) so_far.0 so_far.1 (left_too before s has) so_far.3 in
       (so_far.1, record { low = up.low; holds = up.holds; has = up.has })
 
   has_from : (s c : List ℕ) (low held : Journal) → IsPrefix (published_batches key s) (batches_of key low) → IsPrefix low held → StandsForJournal key held c → HasPublished key s c
@@ -138,16 +139,16 @@ module _ (D : Type 0) (shown : D → Option (List ℕ)) (may_leave : D → List 
       subst (IsPrefix (published_batches key s)) (sym (journal_recovered key held c stands))
       (prefix_trans (published_batches key s) (batches_of key low) (batches_of key held) has (batches_grow key low held longer))
 
-  pub never_lost : (now : D) (runs : Came now) (s : List ℕ) → WasShown shown may_leave moment since key start now runs s → (bytes : List ℕ) → may_leave now bytes → HasPublished key s bytes
+  pub never_lost : (now : D) (runs : Came now) (s : List ℕ) → WasShown disks key start now runs s → (bytes : List ℕ) → disks.may_leave now bytes → HasPublished key s bytes
   never_lost now Begun s was bytes left = stays s was bytes left
   never_lost now (Ran {before = before} {after = after} runs (ByOwner run)) s was bytes left =
       ⊎_elim
       (λ old.
       let up = raised_at s before runs (never_lost before runs s old) in
-      let then = run_leaves D shown may_leave moment since counted key start before now up.1.low up.0 up.1.holds run in
+      let then = run_leaves disks counted key start before now up.1.low up.0 up.1.holds run in
       let at = then.holds.leaves bytes left in
       has_from s bytes up.1.low at.held up.1.has (prefix_trans up.1.low then.low at.held then.grown at.from) at.stands_for)
-      (λ at. ends_keep D shown may_leave moment since counted key start m1 m2 holds stays present before now runs (ByOwner run) s at.0 bytes at.1 left)
+      (λ at. ends_keep disks counted key start m1 m2 holds stays present before now runs (ByOwner run) s at.0 bytes at.1 left)
       was
   never_lost now (Ran {before = before} {after = after} runs (ByOther call)) s was bytes left =
       ⊎_elim
@@ -155,23 +156,23 @@ module _ (D : Type 0) (shown : D → Option (List ℕ)) (may_leave : D → List 
       (λ could. never_lost before runs s old bytes could)
       (λ is. never_lost before runs s old bytes (may_be_left before bytes is))
       (call.leaves bytes left))
-      (λ at. ends_keep D shown may_leave moment since counted key start m1 m2 holds stays present before now runs (ByOther call) s at.0 bytes at.1 left)
+      (λ at. ends_keep disks counted key start m1 m2 holds stays present before now runs (ByOther call) s at.0 bytes at.1 left)
       was
   never_lost now (StopsBehind {before = before} {after = after} {bytes = there} runs could is) s was bytes left =
       ⊎_elim
       (λ old.
       let same : there ≡ bytes = let both = sym is.0 ∙ is.1 bytes left in cc in
       subst (HasPublished key s) same (never_lost before runs s old there could))
-      (λ now_shown. all_stay D shown may_leave moment since counted key start m1 m2 holds stays now (StopsBehind runs could is) s now_shown bytes left)
+      (λ now_shown. all_stay disks counted key start m1 m2 holds stays now (StopsBehind runs could is) s now_shown bytes left)
       was
   never_lost now (StopsIn {before = before} {after = after} {next = next} {there = there} {bytes = stopped} runs (ByOwner run) at is) s was bytes left =
       ⊎_elim
       (λ old.
       let same : stopped ≡ bytes = let both = sym is.0 ∙ is.1 bytes left in cc in
       let up = raised_at s before runs (never_lost before runs s old) in
-      let k = (run_leaves D shown may_leave moment since counted key start before after up.1.low up.0 up.1.holds run).kept there stopped at in
+      let k = (run_leaves disks counted key start before after up.1.low up.0 up.1.holds run).kept there stopped at in
       subst (HasPublished key s) same (has_from s stopped up.1.low k.held up.1.has k.from k.stands_for))
-      (λ now_shown. all_stay D shown may_leave moment since counted key start m1 m2 holds stays now (StopsIn runs (ByOwner run) at is) s now_shown bytes left)
+      (λ now_shown. all_stay disks counted key start m1 m2 holds stays now (StopsIn runs (ByOwner run) at is) s now_shown bytes left)
       was
   never_lost now (StopsIn {before = before} {after = after} {next = next} {there = there} {bytes = stopped} runs (ByOther call) at is) s was bytes left =
       ⊎_elim
@@ -182,5 +183,5 @@ module _ (D : Type 0) (shown : D → Option (List ℕ)) (may_leave : D → List 
       (λ could. never_lost before runs s old stopped could)
       (λ shows. never_lost before runs s old stopped (may_be_left before stopped shows))
       (call.same there stopped at).1))
-      (λ now_shown. all_stay D shown may_leave moment since counted key start m1 m2 holds stays now (StopsIn runs (ByOther call) at is) s now_shown bytes left)
+      (λ now_shown. all_stay disks counted key start m1 m2 holds stays now (StopsIn runs (ByOther call) at is) s now_shown bytes left)
       was

@@ -5,15 +5,17 @@ use Rattle.commit_journal.proofs.KeptLemmas.{prefix_same, prefix_trans}
 use Rattle.cry_base.specs.Requests.{Request}
 use Rattle.cry_base.specs.declared.limits.Limits.{Limits}
 use Rattle.cry_io.specs.Told.{WhereBothTold}
-use Rattle.cryptree_cli.specs.Lines.{InputLine}
-use Rattle.cryptree_cli.specs.Running.{Ends, HasRun, IsUnopened, LeavesAt, RanCut, RanTo, RanUnwritten, Seen, SessionOver, lines_behind, lines_in, seen_from, version_limits}
-use Rattle.cryptree_cli.specs.Script.{Asks, PrintsCut}
-use Rattle.cryptree_cli.specs.Stopping.{KeepsUpTo}
-use Rattle.cryptree_cli.specs.declared.status.Status.{Status}
-use Rattle.cryptree_cli.specs.declared.status.Status.TheVariants as statuses
-use Rattle.cryptree_cli.proofs.RunEnds.{asks_fewer}
-use Rattle.cryptree_cli.proofs.ScriptLemmas.{whole_is_cut}
-use Rattle.cryptree_cli.proofs.StopLemmas.{line_grows, settled_holds_journal}
+use Rattle.cry_io.specs.declared.disk.Disk as disk
+use Rattle.cli_base.specs.Lines.{InputLine}
+use Rattle.cli_sessions.specs.Sessions.{Ends, HasRun, IsUnopened, LeavesAt, RanCut, RanTo, RanUnwritten, Seen, SessionOver, seen_from, version_limits}
+use Rattle.cli_running.specs.Running.{lines_behind, lines_in}
+use Rattle.cli_sessions.specs.Script.{Asks, PrintsCut}
+use Rattle.cli_sessions.specs.Stopping.{KeepsUpTo}
+use Rattle.cli_base.specs.declared.status.Status.{Status}
+use Rattle.cli_base.specs.declared.status.Status.TheVariants as statuses
+use Rattle.cli_sessions.proofs.RunEnds.{asks_fewer}
+use Rattle.cli_sessions.proofs.ScriptLemmas.{whole_is_cut}
+use Rattle.cli_sessions.proofs.StopLemmas.{line_grows, settled_holds_journal}
 use Rattle.journal_bytes.specs.Journals.{HoldsBetween, Kept, ShowsJournal, StandsForJournal}
 use Rattle.journal_bytes.specs.Script.{Going, answer, line_going, opened, script_going}
 use Rattle.public_fold.specs.Journal.{Journal}
@@ -66,7 +68,7 @@ module _ (key : List ℕ) (l h m : Journal) (left_before left_after was shown wr
   lines = lines_behind (lines_in typed)
 
   abbrev KeepsTo : Journal → Type 0
-  KeepsTo = KeepsUpTo key m was could_leave since
+  KeepsTo = KeepsUpTo key m was shown could_leave since
 
   abbrev Left : Type 0
   Left = Leaves key l h was shown written_before written_after typed since may_leave
@@ -79,7 +81,7 @@ module _ (key : List ℕ) (l h m : Journal) (left_before left_after was shown wr
     high = session.now;
     grown = prefix_trans l m session.now low_m (session_begins version_limits m asked session);
     holds = settled_holds_journal key session.now shown may_leave leaves.settled;
-    kept = kept l h held low_m;
+    kept = kept.kept l h held low_m;
     made = inr (m, m_high, shows, session_made m asked lines rest asks session);
     acknowledged = inr (m, shows, record { asked = asked; rest = rest; asks = asks; session = session; prints = prints; holds = prefix_same session.now });
   }
@@ -104,7 +106,7 @@ module _ (key : List ℕ) (l h m : Journal) (left_before left_after was shown wr
         high = _;
         grown = prefix_trans l m ran.session.now low_m (session_begins version_limits m ran.asked ran.session);
         holds = run.holds;
-        kept = run.kept l h held low_m;
+        kept = run.kept.kept l h held low_m;
         made = inr (m, m_high, shows, next_made m ran.asked ran.next lines ran.rest ran.asks ran.session ran.is_accepted run.last run.last_count run.last_sizes);
         acknowledged = inr (
           m,
@@ -123,7 +125,7 @@ module _ (key : List ℕ) (l h m : Journal) (left_before left_after was shown wr
   -- before the opening, or in it
   unopened : IsUnopened key m seen KeepsTo → Left
   unopened is =
-      let kept = is.kept l h held low_m in
+      let kept = is.kept.kept l h held low_m in
       let still = is.shows_still in
       record {
         low = l;
@@ -186,35 +188,35 @@ run_more key was typed before after j more longer holds =
     ))
     holds
 
-module _ (D : Type 0) (shown : D → Option (List ℕ)) (may_leave : D → List ℕ → Type 0) (moment : D → ℕ) (since : D → ℕ → List ℕ → List ℕ → Type 0)
-    (counted : (d : D) (t : ℕ) (s c : List ℕ) → t ≤ moment d → shown d ≡ Some s → may_leave d c → since d t s c) (key : List ℕ) (start : D) where
+module _ {D : Type 0} (disks : disk.Ghosts D)
+    (counted : (d : D) (t : ℕ) (s c : List ℕ) → t ≤ disks.moment d → disks.shown d ≡ Some s → disks.may_leave d c → disks.since d t s c) (key : List ℕ) (start : D) where
   abbrev Came : D → Type 0
-  Came now = Runs shown may_leave moment since key start now
+  Came now = Runs disks key start now
 
   abbrev HoldsHere : (now : D) → Came now → Journal → Type 0
-  HoldsHere now runs j = HoldsAll shown may_leave moment since key start now runs j
+  HoldsHere now runs j = HoldsAll disks key start now runs j
 
   all_more : (now : D) (runs : Came now) (j more : Journal) → IsPrefix j more → HoldsHere now runs j → HoldsHere now runs more
   all_more now Begun j more longer holds = tt
   all_more now (Ran {before = before} {after = after} runs (ByOwner run)) j more longer holds = (
     all_more before runs j more longer holds.0,
-    run_more key (shown before) run.typed run.written_before run.written_after j more longer holds.1,
+    run_more key (disks.shown before) run.typed run.written_before run.written_after j more longer holds.1,
   )
   all_more now (Ran {before = before} {after = after} runs (ByOther call)) j more longer holds = all_more before runs j more longer holds
   all_more now (StopsBehind {before = before} runs left is) j more longer holds = all_more before runs j more longer holds
   all_more now (StopsIn {before = before} runs call left is) j more longer holds = all_more before runs j more longer holds
 
-  pub run_leaves : (before after : D) (l h : Journal) → HoldsBetween key l h (shown before) (may_leave before) → (run : RunOver shown may_leave moment since key before after)
-      → Leaves key l h (shown before) (shown after) run.written_before run.written_after run.typed (since after (moment before)) (may_leave after)
+  pub run_leaves : (before after : D) (l h : Journal) → HoldsBetween key l h (disks.shown before) (disks.may_leave before) → (run : RunOver disks key before after)
+      → Leaves key l h (disks.shown before) (disks.shown after) run.written_before run.written_after run.typed (disks.since after (disks.moment before)) (disks.may_leave after)
   run_leaves before after l h held run =
       let at = held.shows.2 in
-      let shows : ShowsJournal key at.held (shown before) = (held.shows.0, held.shows.1, at.stands_for) in
-      left_by key l h at.held run.left_before run.left_after (shown before) (shown after) run.written_before run.written_after run.typed (may_leave before) (since after (moment before)) (may_leave after)
-      held at.from at.to shows (λ s c is left. counted after (moment before) s c run.later is left) run.status run.asked (run.ran key at.held run.hands_in shows)
+      let shows : ShowsJournal key at.held (disks.shown before) = (held.shows.0, held.shows.1, at.stands_for) in
+      left_by key l h at.held run.left_before run.left_after (disks.shown before) (disks.shown after) run.written_before run.written_after run.typed (disks.may_leave before) (disks.since after (disks.moment before)) (disks.may_leave after)
+      held at.from at.to shows (λ s c is left. counted after (disks.moment before) s c run.later is left) run.status run.asked (run.ran key at.held run.hands_in shows)
 
   -- a call that leaves the store as it is
-  pub call_between : (before after : D) (l h : Journal) → HoldsBetween key l h (shown before) (may_leave before) → LeavesStore shown may_leave moment since before after
-      → (c : List ℕ) → may_leave before c ⊎ (shown before ≡ Some c) → IsBetween (StandsForJournal key) l h c
+  pub call_between : (before after : D) (l h : Journal) → HoldsBetween key l h (disks.shown before) (disks.may_leave before) → LeavesStore disks before after
+      → (c : List ℕ) → disks.may_leave before c ⊎ (disks.shown before ≡ Some c) → IsBetween (StandsForJournal key) l h c
   call_between before after l h held call c either =
       ⊎_elim
       (λ left. held.leaves c left)
@@ -223,15 +225,15 @@ module _ (D : Type 0) (shown : D → Option (List ℕ)) (may_leave : D → List 
       subst (IsBetween (StandsForJournal key) l h) same held.shows.2)
       either
 
-  pub call_holds : (before after : D) (l h : Journal) → HoldsBetween key l h (shown before) (may_leave before) → LeavesStore shown may_leave moment since before after
-      → HoldsBetween key l h (shown after) (may_leave after)
+  pub call_holds : (before after : D) (l h : Journal) → HoldsBetween key l h (disks.shown before) (disks.may_leave before) → LeavesStore disks before after
+      → HoldsBetween key l h (disks.shown after) (disks.may_leave after)
   call_holds before after l h held call = record {
     shows = (held.shows.0, call.shows ∙ held.shows.1, held.shows.2);
     leaves = λ c left. call_between before after l h held call c (call.leaves c left);
   }
 
   -- a disk that shows what a stop left, which lay between the two
-  pub left_between : (l h : Journal) (bytes : List ℕ) (d : D) → IsBetween (StandsForJournal key) l h bytes → IsLeft shown may_leave bytes d → HoldsBetween key l h (shown d) (may_leave d)
+  pub left_between : (l h : Journal) (bytes : List ℕ) (d : D) → IsBetween (StandsForJournal key) l h bytes → IsLeft disks bytes d → HoldsBetween key l h (disks.shown d) (disks.may_leave d)
   left_between l h bytes d lies is = record {
     shows = (bytes, is.0, lies);
     leaves = λ c left.
@@ -241,7 +243,7 @@ module _ (D : Type 0) (shown : D → Option (List ℕ)) (may_leave : D → List 
 
   -- a front of what comes of the runs comes of them
   abbrev ComesHere : Journal → (now : D) → Came now → Journal → Type 0
-  ComesHere m2 now runs j = ComesOf shown may_leave moment since key m2 start now runs j
+  ComesHere m2 now runs j = ComesOf disks key m2 start now runs j
 
   comes_front : (m2 : Journal) (now : D) (runs : Came now) (j front : Journal) → IsPrefix front j → ComesHere m2 now runs j → ComesHere m2 now runs front
   comes_front m2 now Begun j front shorter comes = prefix_trans front j m2 shorter comes
@@ -262,10 +264,10 @@ module _ (D : Type 0) (shown : D → Option (List ℕ)) (may_leave : D → List 
   -- what one more run reaches
   abbrev ReachesBy : Journal → (before : D) → Came before → List ℕ → Journal → Type 0
   ReachesBy m2 before runs typed j =
-      ComesHere m2 before runs j ⊎ ((m : Journal) × ComesHere m2 before runs m × ShowsJournal key m (shown before) × IsMadeOf m (lines_behind (lines_in typed)) j)
+      ComesHere m2 before runs j ⊎ ((m : Journal) × ComesHere m2 before runs m × ShowsJournal key m (disks.shown before) × IsMadeOf m (lines_behind (lines_in typed)) j)
 
   reaches : (m2 : Journal) (before : D) (runs : Came before) (typed : List ℕ) (h high : Journal) → ComesHere m2 before runs h
-      → IsPrefix high h ⊎ ((m : Journal) × IsPrefix m h × ShowsJournal key m (shown before) × IsMadeOf m (lines_behind (lines_in typed)) high)
+      → IsPrefix high h ⊎ ((m : Journal) × IsPrefix m h × ShowsJournal key m (disks.shown before) × IsMadeOf m (lines_behind (lines_in typed)) high)
       → ReachesBy m2 before runs typed high
   reaches m2 before runs typed h high comes made =
       ⊎_elim
@@ -274,9 +276,9 @@ module _ (D : Type 0) (shown : D → Option (List ℕ)) (may_leave : D → List 
       made
 
   abbrev LeftAt : (m1 m2 : Journal) (now : D) → Came now → Type 0
-  LeftAt m1 m2 now runs = (low high : Journal) × IsPrefix m1 low × HoldsBetween key low high (shown now) (may_leave now) × HoldsHere now runs low × ComesHere m2 now runs high
+  LeftAt m1 m2 now runs = (low high : Journal) × IsPrefix m1 low × HoldsBetween key low high (disks.shown now) (disks.may_leave now) × HoldsHere now runs low × ComesHere m2 now runs high
 
-  pub all_left : (m1 m2 : Journal) → HoldsBetween key m1 m2 (shown start) (may_leave start) → (now : D) (runs : Came now) → LeftAt m1 m2 now runs
+  pub all_left : (m1 m2 : Journal) → HoldsBetween key m1 m2 (disks.shown start) (disks.may_leave start) → (now : D) (runs : Came now) → LeftAt m1 m2 now runs
   all_left m1 m2 first now Begun = (m1, m2, prefix_same m1, first, tt, prefix_same m2)
   all_left m1 m2 first now (Ran {before = before} {after = after} runs (ByOther call)) =
       let so_far = all_left m1 m2 first before runs in
@@ -316,8 +318,8 @@ module _ (D : Type 0) (shown : D → Option (List ℕ)) (may_leave : D → List 
       k.to
 
   -- whatever is left behind the runs is theirs
-  pub left_of_runs : (m1 m2 : Journal) → HoldsBetween key m1 m2 (shown start) (may_leave start) → (now : D) (runs : Came now) (bytes : List ℕ) → may_leave now bytes
-      → IsOfRuns shown may_leave moment since key m1 m2 start now runs bytes
+  pub left_of_runs : (m1 m2 : Journal) → HoldsBetween key m1 m2 (disks.shown start) (disks.may_leave start) → (now : D) (runs : Came now) (bytes : List ℕ) → disks.may_leave now bytes
+      → IsOfRuns disks key m1 m2 start now runs bytes
   left_of_runs m1 m2 first now runs bytes left =
       let all = all_left m1 m2 first now runs in
       let here = all.3.leaves bytes left in

@@ -4,10 +4,10 @@ use Rattle.std.proofs.lemmas.List.Elements.{All-append}
 use Rattle.commit_journal.specs.Holding.{IsPrefix}
 use Rattle.commit_journal.proofs.KeptLemmas.{prefix_same, prefix_trans}
 use Rattle.cry_base.specs.Requests.{Request}
-use Rattle.cryptree_cli.specs.Lines.{InputLine}
-use Rattle.cryptree_cli.specs.Running.{SessionOver, version_limits}
-use Rattle.cryptree_cli.specs.Script.{Asks}
-use Rattle.cryptree_cli.proofs.AnsweredScripts.{going_more, joined_more}
+use Rattle.cli_base.specs.Lines.{InputLine}
+use Rattle.cli_sessions.specs.Sessions.{SessionOver, version_limits}
+use Rattle.cli_sessions.specs.Script.{Asks}
+use Rattle.cli_sessions.proofs.AnsweredScripts.{going_more, joined_more}
 use Rattle.journal_bytes.specs.Script.{Going, accepted_going, answer, draws_of, journal_then, keys_from, line_going, opened, script_going}
 use Rattle.public_fold.specs.Journal.{Journal}
 use Rattle.store_owner.specs.Drawing.{AreKeys, joined}

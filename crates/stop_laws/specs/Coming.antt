@@ -3,12 +3,14 @@
 --
 -- A run over a disk that shows a journal m adds an entry to m for each command that it accepts, with `Session` before the first one, and
 -- adds no other. A stop may leave a front of what it made: then the next run goes on from that front.
-use Rattle.std.specs.Prelude.{◌≡◌, ◌⊎◌, ℕ, Bool, List, ◌++◌, Option}
+use Rattle.std.specs.Prelude.{◌≡◌, ◌⊎◌, ℕ, Bool, List, ◌++◌}
 use Rattle.commit_journal.specs.Holding.{IsPrefix}
 use Rattle.cry_base.specs.Requests.{Request}
-use Rattle.cryptree_cli.specs.Lines.{InputLine}
-use Rattle.cryptree_cli.specs.Running.{lines_behind, lines_in, version_limits}
-use Rattle.cryptree_cli.specs.Script.{Asks}
+use Rattle.cry_io.specs.declared.disk.Disk as disk
+use Rattle.cli_base.specs.Lines.{InputLine}
+use Rattle.cli_running.specs.Running.{lines_behind, lines_in}
+use Rattle.cli_sessions.specs.Sessions.{version_limits}
+use Rattle.cli_sessions.specs.Script.{Asks}
 use Rattle.journal_bytes.specs.Journals.{ShowsJournal, StandsForJournal}
 use Rattle.journal_bytes.specs.Script.{opened, script_going}
 use Rattle.public_fold.specs.Journal.{Journal}
@@ -33,33 +35,30 @@ pub record IsMadeOf (m : Journal) (lines : List InputLine) (j : Journal) : Type 
 
 -- The journal comes of a first one by these runs: it is a front of the first one; or some run, over a disk that showed a journal which
 -- comes of the runs before it, made it of that journal.
-abbrev pub ComesOf : {D : Type 0} (shown : D → Option (List ℕ)) (may_leave : D → List ℕ → Type 0) (moment : D → ℕ) (since : D → ℕ → List ℕ
-    → List ℕ → Type 0)
-    (key : List ℕ) (first : Journal) (start now : D) → Runs shown may_leave moment since key start now → Journal → Type 0
-ComesOf shown may_leave moment since key first start now Begun j = IsPrefix j first
-ComesOf shown may_leave moment since key first start now (Ran {before = before} {after = after} runs (ByOwner run)) j =
-    ComesOf shown may_leave moment since key first start before runs j
-    ⊎ ((m : Journal) × ComesOf shown may_leave moment since key first start before runs m × ShowsJournal key m (shown before)
+abbrev pub ComesOf : {D : Type 0} (disks : disk.Ghosts D) (key : List ℕ) (first : Journal) (start now : D) → Runs disks key start now
+    → Journal → Type 0
+ComesOf disks key first start now Begun j = IsPrefix j first
+ComesOf disks key first start now (Ran {before = before} {after = after} runs (ByOwner run)) j =
+    ComesOf disks key first start before runs j
+    ⊎ ((m : Journal) × ComesOf disks key first start before runs m × ShowsJournal key m (disks.shown before)
     × IsMadeOf m (lines_behind (lines_in run.typed)) j)
-ComesOf shown may_leave moment since key first start now (Ran {before = before} {after = after} runs (ByOther call)) j =
-    ComesOf shown may_leave moment since key first start before runs j
-ComesOf shown may_leave moment since key first start now (StopsBehind {before = before} runs left is) j =
-    ComesOf shown may_leave moment since key first start before runs j
-ComesOf shown may_leave moment since key first start now (StopsIn {before = before} runs (ByOther call) left is) j =
-    ComesOf shown may_leave moment since key first start before runs j
-ComesOf shown may_leave moment since key first start now (StopsIn {before = before} runs (ByOwner run) left is) j =
-    ComesOf shown may_leave moment since key first start before runs j
-    ⊎ ((m : Journal) × ComesOf shown may_leave moment since key first start before runs m × ShowsJournal key m (shown before)
+ComesOf disks key first start now (Ran {before = before} {after = after} runs (ByOther call)) j =
+    ComesOf disks key first start before runs j
+ComesOf disks key first start now (StopsBehind {before = before} runs left is) j =
+    ComesOf disks key first start before runs j
+ComesOf disks key first start now (StopsIn {before = before} runs (ByOther call) left is) j =
+    ComesOf disks key first start before runs j
+ComesOf disks key first start now (StopsIn {before = before} runs (ByOwner run) left is) j =
+    ComesOf disks key first start before runs j
+    ⊎ ((m : Journal) × ComesOf disks key first start before runs m × ShowsJournal key m (disks.shown before)
     × IsMadeOf m (lines_behind (lines_in run.typed)) j)
 
 -- What is said of bytes that are left behind the runs: they stand for a journal that begins with the lower one, has each command that any
 -- of the runs acknowledged, and comes of the higher one by the runs.
-pub record IsOfRuns {D : Type 0} (shown : D → Option (List ℕ)) (may_leave : D → List ℕ → Type 0) (moment : D → ℕ) (since : D → ℕ → List ℕ
-    → List ℕ → Type 0)
-    (key : List ℕ) (low high : Journal) (start now : D) (runs : Runs shown may_leave moment since key start now) (bytes : List ℕ)
-    : Type 0 where
+pub record IsOfRuns {D : Type 0} (disks : disk.Ghosts D) (key : List ℕ) (low high : Journal) (start now : D)
+    (runs : Runs disks key start now) (bytes : List ℕ) : Type 0 where
   pub journal : Journal
   pub stands_for : StandsForJournal key journal bytes
   pub begins : IsPrefix low journal
-  pub acknowledged : HoldsAll shown may_leave moment since key start now runs journal
-  pub comes : ComesOf shown may_leave moment since key high start now runs journal
+  pub acknowledged : HoldsAll disks key start now runs journal
+  pub comes : ComesOf disks key high start now runs journal

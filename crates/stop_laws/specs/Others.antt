@@ -1,7 +1,7 @@
 -- Calls of the program that aren't a run by the store's owner. This project's own, docs/MODEL.md.
 use Rattle.std.specs.Prelude.{◌≡◌, ◌≢◌, List, ℕ, Some}
 use Rattle.chacha_seal.specs.Sealing.{check_of}
-use Rattle.cryptree_cli.specs.Running.{key_in_lines, lines_in}
+use Rattle.cli_running.specs.Running.{key_in_lines, lines_in}
 
 -- The first line hands in no key, or one with another check than the owner's: the header of a store tells the two apart by their checks.
 abbrev pub IsByOther : List ℕ → List ℕ → Type 0

@@ -11,18 +11,18 @@ use Rattle.commit_journal.specs.Holding.{GoesOn, IsPrefix}
 use Rattle.cry_base.specs.Requests.{Request}
 use Rattle.cry_io.specs.Stops.{IsDurable}
 use Rattle.cry_io.specs.Told.{WhereBothTold}
-use Rattle.cryptree_cli.specs.Lines.{InputLine}
-use Rattle.cryptree_cli.specs.Published.{PublishesTyped}
-use Rattle.cryptree_cli.specs.Running.{EndsTyped, SessionOver, key_in_lines, lines_behind, lines_in, seen_from, version_limits}
-use Rattle.cryptree_cli.specs.Script.{Asks, PrintsCut}
-use Rattle.cryptree_cli.specs.declared.status.Status.{Status}
+use Rattle.cry_io.specs.declared.disk.Disk as disk
+use Rattle.cli_base.specs.Lines.{InputLine}
+use Rattle.cli_running.specs.Published.{PublishesTyped}
+use Rattle.cli_running.specs.Running.{EndsTyped, key_in_lines, lines_behind, lines_in}
+use Rattle.cli_sessions.specs.Sessions.{SessionOver, seen_from, version_limits}
+use Rattle.cli_sessions.specs.Script.{Asks, PrintsCut}
+use Rattle.cli_base.specs.declared.status.Status.{Status}
 use Rattle.journal_bytes.specs.Journals.{ShowsJournal}
 use Rattle.public_fold.specs.Journal.{Journal}
 
 -- a run over a disk, from what it was before to what it was after, whose first line hands in this owner's key
-pub record RunOver {D : Type 0} (shown : D → Option (List ℕ)) (may_leave : D → List ℕ → Type 0) (moment : D → ℕ) (since : D → ℕ → List ℕ
-    → List ℕ → Type 0)
-    (key : List ℕ) (before after : D) : Type 0 where
+pub record RunOver {D : Type 0} (disks : disk.Ghosts D) (key : List ℕ) (before after : D) : Type 0 where
   pub status : Status
   pub typed : List ℕ
   pub asked : List Request
@@ -31,46 +31,39 @@ pub record RunOver {D : Type 0} (shown : D → Option (List ℕ)) (may_leave : D
   pub written_before : Option (List ℕ)
   pub written_after : Option (List ℕ)
   pub hands_in : key_in_lines (lines_in typed) ≡ Some key
-  pub later : moment before ≤ moment after
-  pub ran : EndsTyped status asked typed (seen_from left_before left_after (shown before) (shown after) written_before written_after)
-      (may_leave before) (since after (moment before)) (may_leave after)
-  pub published : PublishesTyped typed (shown before) (may_leave before) (FromThenOn moment since before after)
+  pub later : disks.moment before ≤ disks.moment after
+  pub ran : EndsTyped status asked typed
+      (seen_from left_before left_after (disks.shown before) (disks.shown after) written_before written_after)
+      (disks.may_leave before) (disks.since after (disks.moment before)) (disks.may_leave after)
+  pub published : PublishesTyped typed (disks.shown before) (disks.may_leave before) (FromThenOn disks.moment disks.since before after)
 
 -- a call that leaves the store as it is: behind it and at each moment of it the disk shows what it showed before, and a stop leaves what it
 -- could leave before, or what is shown
-pub record LeavesStore {D : Type 0} (shown : D → Option (List ℕ)) (may_leave : D → List ℕ → Type 0) (moment : D → ℕ) (since : D → ℕ → List ℕ
-    → List ℕ → Type 0)
-    (before after : D) : Type 0 where
-  pub later : moment before ≤ moment after
-  pub time : GoesOn (moment before) (since before) (since after)
-  pub shows : shown after ≡ shown before
-  pub leaves : (c : List ℕ) → may_leave after c → may_leave before c ⊎ (shown before ≡ Some c)
-  pub same : (s c : List ℕ) → since after (moment before) s c → (shown before ≡ Some s) × (may_leave before c ⊎ (shown before ≡ Some c))
+pub record LeavesStore {D : Type 0} (disks : disk.Ghosts D) (before after : D) : Type 0 where
+  pub later : disks.moment before ≤ disks.moment after
+  pub time : GoesOn (disks.moment before) (disks.since before) (disks.since after)
+  pub shows : disks.shown after ≡ disks.shown before
+  pub leaves : (c : List ℕ) → disks.may_leave after c → disks.may_leave before c ⊎ (disks.shown before ≡ Some c)
+  pub same : (s c : List ℕ) → disks.since after (disks.moment before) s c
+      → (disks.shown before ≡ Some s) × (disks.may_leave before c ⊎ (disks.shown before ≡ Some c))
 
 -- a call of the program over a disk
-pub data CallOver {D : Type 0} (shown : D → Option (List ℕ)) (may_leave : D → List ℕ → Type 0) (moment : D → ℕ) (since : D → ℕ → List ℕ
-    → List ℕ → Type 0)
-    (key : List ℕ) (before after : D) : Type 0 where
-  ByOwner : RunOver shown may_leave moment since key before after → CallOver shown may_leave moment since key before after
-  ByOther : LeavesStore shown may_leave moment since before after → CallOver shown may_leave moment since key before after
+pub data CallOver {D : Type 0} (disks : disk.Ghosts D) (key : List ℕ) (before after : D) : Type 0 where
+  ByOwner : RunOver disks key before after → CallOver disks key before after
+  ByOther : LeavesStore disks before after → CallOver disks key before after
 
 -- behind a stop a disk shows what was left, and nothing is pending
-abbrev pub IsLeft : {D : Type 0} → (D → Option (List ℕ)) → (D → List ℕ → Type 0) → List ℕ → D → Type 0
-IsLeft shown may_leave bytes disk = (shown disk ≡ Some bytes) × IsDurable (may_leave disk) (shown disk)
+abbrev pub IsLeft : {D : Type 0} → disk.Ghosts D → List ℕ → D → Type 0
+IsLeft disks bytes d = (disks.shown d ≡ Some bytes) × IsDurable (disks.may_leave d) (disks.shown d)
 
 -- from a first disk to one behind some calls and stops
-pub data Runs {D : Type 0} (shown : D → Option (List ℕ)) (may_leave : D → List ℕ → Type 0) (moment : D → ℕ) (since : D → ℕ → List ℕ
-    → List ℕ → Type 0)
-    (key : List ℕ) (start : D) : D → Type 0 where
-  Begun : Runs shown may_leave moment since key start start
-  Ran : {before after : D} → Runs shown may_leave moment since key start before → CallOver shown may_leave moment since key before after
-      → Runs shown may_leave moment since key start after
-  StopsBehind : {before after : D} {bytes : List ℕ} → Runs shown may_leave moment since key start before → may_leave before bytes
-      → IsLeft shown may_leave bytes after
-      → Runs shown may_leave moment since key start after
-  StopsIn : {before after next : D} {there bytes : List ℕ} → Runs shown may_leave moment since key start before
-      → CallOver shown may_leave moment since key before after
-      → since after (moment before) there bytes → IsLeft shown may_leave bytes next → Runs shown may_leave moment since key start next
+pub data Runs {D : Type 0} (disks : disk.Ghosts D) (key : List ℕ) (start : D) : D → Type 0 where
+  Begun : Runs disks key start start
+  Ran : {before after : D} → Runs disks key start before → CallOver disks key before after → Runs disks key start after
+  StopsBehind : {before after : D} {bytes : List ℕ} → Runs disks key start before → disks.may_leave before bytes
+      → IsLeft disks bytes after → Runs disks key start after
+  StopsIn : {before after next : D} {there bytes : List ℕ} → Runs disks key start before → CallOver disks key before after
+      → disks.since after (disks.moment before) there bytes → IsLeft disks bytes next → Runs disks key start next
 
 -- The lines that were asked over m, and the replies to them: all that was printed is these, but for some of the last; and the journal
 -- begins with all that these lines made of m.
@@ -89,29 +82,25 @@ HoldsRun key was typed written_before written_after j =
     × Answered m (lines_behind (lines_in typed)) written_before written_after j)
 
 -- and so for all the owner's runs that came to their end
-abbrev pub HoldsAll : {D : Type 0} (shown : D → Option (List ℕ)) (may_leave : D → List ℕ → Type 0) (moment : D → ℕ) (since : D → ℕ → List ℕ
-    → List ℕ → Type 0)
-    (key : List ℕ) (start now : D) → Runs shown may_leave moment since key start now → Journal → Type 0
-HoldsAll shown may_leave moment since key start now Begun j = Unit {0}
-HoldsAll shown may_leave moment since key start now (Ran {before = before} {after = after} runs (ByOwner run)) j =
-    HoldsAll shown may_leave moment since key start before runs j
-    × HoldsRun key (shown before) run.typed run.written_before run.written_after j
-HoldsAll shown may_leave moment since key start now (Ran {before = before} {after = after} runs (ByOther call)) j =
-    HoldsAll shown may_leave moment since key start before runs j
-HoldsAll shown may_leave moment since key start now (StopsBehind {before = before} runs left is) j = HoldsAll shown may_leave moment since
-    key start before runs j
-HoldsAll shown may_leave moment since key start now (StopsIn {before = before} runs call left is) j = HoldsAll shown may_leave moment since
-    key start before runs j
+abbrev pub HoldsAll : {D : Type 0} (disks : disk.Ghosts D) (key : List ℕ) (start now : D) → Runs disks key start now → Journal → Type 0
+HoldsAll disks key start now Begun j = Unit {0}
+HoldsAll disks key start now (Ran {before = before} {after = after} runs (ByOwner run)) j =
+    HoldsAll disks key start before runs j
+    × HoldsRun key (disks.shown before) run.typed run.written_before run.written_after j
+HoldsAll disks key start now (Ran {before = before} {after = after} runs (ByOther call)) j =
+    HoldsAll disks key start before runs j
+HoldsAll disks key start now (StopsBehind {before = before} runs left is) j =
+    HoldsAll disks key start before runs j
+HoldsAll disks key start now (StopsIn {before = before} runs call left is) j =
+    HoldsAll disks key start before runs j
 
 -- These bytes were shown at a moment of the calls that came to their end, or behind them or a stop. What was shown in a call before a stop
 -- in it is spoken of by the order of that call's moments.
-abbrev pub WasShown : {D : Type 0} (shown : D → Option (List ℕ)) (may_leave : D → List ℕ → Type 0) (moment : D → ℕ) (since : D → ℕ → List ℕ
-    → List ℕ → Type 0)
-    (key : List ℕ) (start now : D) → Runs shown may_leave moment since key start now → List ℕ → Type 0
-WasShown shown may_leave moment since key start now Begun s = shown start ≡ Some s
-WasShown shown may_leave moment since key start now (Ran {before = before} {after = after} runs call) s =
-    WasShown shown may_leave moment since key start before runs s ⊎ ((c : List ℕ) × since after (moment before) s c)
-WasShown shown may_leave moment since key start now (StopsBehind {before = before} runs left is) s =
-    WasShown shown may_leave moment since key start before runs s ⊎ (shown now ≡ Some s)
-WasShown shown may_leave moment since key start now (StopsIn {before = before} runs call left is) s =
-    WasShown shown may_leave moment since key start before runs s ⊎ (shown now ≡ Some s)
+abbrev pub WasShown : {D : Type 0} (disks : disk.Ghosts D) (key : List ℕ) (start now : D) → Runs disks key start now → List ℕ → Type 0
+WasShown disks key start now Begun s = disks.shown start ≡ Some s
+WasShown disks key start now (Ran {before = before} {after = after} runs call) s =
+    WasShown disks key start before runs s ⊎ ((c : List ℕ) × disks.since after (disks.moment before) s c)
+WasShown disks key start now (StopsBehind {before = before} runs left is) s =
+    WasShown disks key start before runs s ⊎ (disks.shown now ≡ Some s)
+WasShown disks key start now (StopsIn {before = before} runs call left is) s =
+    WasShown disks key start before runs s ⊎ (disks.shown now ≡ Some s)

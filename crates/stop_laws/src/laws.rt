@@ -25,17 +25,17 @@ pub fn sessions_take_nothing_back()
 /// any of the runs acknowledged.
 pub fn stops_leave_what_was_acknowledged<D: Disk>(start: &D, now: &D)
     ensures { (key : List ℕ) (m1 m2 : Journal) → HoldsBetween key m1 m2 (D.shown start.now) (D.may_leave start.now) →
-        (runs : Runs D.shown D.may_leave D.moment D.since key start.now now.now) →
+        (runs : Runs D.Disk key start.now now.now) →
         (low high : Journal) × IsPrefix m1 low × HoldsBetween key low high (D.shown now.now) (D.may_leave now.now) ×
-        HoldsAll D.shown D.may_leave D.moment D.since key start.now now.now runs low }
+        HoldsAll D.Disk key start.now now.now runs low }
 {}
 
 /// Law: over every list of calls and stops, whatever a stop leaves behind them stands for a journal of theirs: it begins with the first one
 /// and has each command that any of the runs acknowledged; and it has nothing but commands that the runs accepted, in their order.
 pub fn stops_leave_nothing_but_accepted_commands<D: Disk>(start: &D, now: &D)
     ensures { (key : List ℕ) (m1 m2 : Journal) → HoldsBetween key m1 m2 (D.shown start.now) (D.may_leave start.now) →
-        (runs : Runs D.shown D.may_leave D.moment D.since key start.now now.now) (bytes : List ℕ) → D.may_leave now.now bytes →
-        IsOfRuns D.shown D.may_leave D.moment D.since key m1 m2 start.now now.now runs bytes }
+        (runs : Runs D.Disk key start.now now.now) (bytes : List ℕ) → D.may_leave now.now bytes →
+        IsOfRuns D.Disk key m1 m2 start.now now.now runs bytes }
 {}
 
 /// Law: over every list of calls and stops, a stop at any moment of a call, whatever that ended with, leaves all batches that were published
@@ -50,21 +50,18 @@ pub fn nothing_published_is_taken_back<D: Disk>(
 )
     ensures now { (key : List ℕ) (m1 m2 : Journal) → HoldsBetween key m1 m2 (D.shown start.now) (D.may_leave start.now) →
         StaysPublished key (D.shown start.now) (D.may_leave start.now) →
-        Runs D.shown D.may_leave D.moment D.since key start.now before.now →
-        CallOver D.shown D.may_leave D.moment D.since key before.now after.now →
+        Runs D.Disk key start.now before.now → CallOver D.Disk key before.now after.now →
         FromThenOn D.moment D.since before.now after.now (HasPublished key) }
     ensures ends { (key : List ℕ) (m1 m2 : Journal) → HoldsBetween key m1 m2 (D.shown start.now) (D.may_leave start.now) →
         StaysPublished key (D.shown start.now) (D.may_leave start.now) →
-        Runs D.shown D.may_leave D.moment D.since key start.now before.now →
-        CallOver D.shown D.may_leave D.moment D.since key before.now after.now →
+        Runs D.Disk key start.now before.now → CallOver D.Disk key before.now after.now →
         (shown left bytes : List ℕ) → D.since after.now (D.moment before.now) shown left → D.may_leave after.now bytes →
         HasPublished key shown bytes }
     ensures later { (key : List ℕ) (m1 m2 : Journal) → HoldsBetween key m1 m2 (D.shown start.now) (D.may_leave start.now) →
         StaysPublished key (D.shown start.now) (D.may_leave start.now) →
-        Runs D.shown D.may_leave D.moment D.since key start.now before.now →
-        CallOver D.shown D.may_leave D.moment D.since key before.now after.now →
-        FromThenOn D.moment D.since before.now after.now (λ shown left. (bytes : List ℕ) → IsLeft D.shown D.may_leave left next.now →
-        Runs D.shown D.may_leave D.moment D.since key next.now last.now → D.may_leave last.now bytes →
+        Runs D.Disk key start.now before.now → CallOver D.Disk key before.now after.now →
+        FromThenOn D.moment D.since before.now after.now (λ shown left. (bytes : List ℕ) → IsLeft D.Disk left next.now →
+        Runs D.Disk key next.now last.now → D.may_leave last.now bytes →
         HasPublished key shown bytes) }
 {}
 
@@ -73,8 +70,8 @@ pub fn nothing_published_is_taken_back<D: Disk>(
 pub fn what_was_published_is_never_lost<D: Disk>(start: &D, now: &D)
     ensures { (key : List ℕ) (m1 m2 : Journal) → HoldsBetween key m1 m2 (D.shown start.now) (D.may_leave start.now) →
         StaysPublished key (D.shown start.now) (D.may_leave start.now) →
-        (runs : Runs D.shown D.may_leave D.moment D.since key start.now now.now) (shown bytes : List ℕ) →
-        WasShown D.shown D.may_leave D.moment D.since key start.now now.now runs shown → D.may_leave now.now bytes →
+        (runs : Runs D.Disk key start.now now.now) (shown bytes : List ℕ) →
+        WasShown D.Disk key start.now now.now runs shown → D.may_leave now.now bytes →
         HasPublished key shown bytes }
 {}
 
@@ -85,6 +82,6 @@ pub fn what_is_published_stays<D: Disk>(start: &D, now: &D)
         → StaysPublished key (D.shown start.now) (D.may_leave start.now) }
     ensures stays { (key : List ℕ) (m1 m2 : Journal) → HoldsBetween key m1 m2 (D.shown start.now) (D.may_leave start.now) →
         StaysPublished key (D.shown start.now) (D.may_leave start.now) →
-        Runs D.shown D.may_leave D.moment D.since key start.now now.now →
+        Runs D.Disk key start.now now.now →
         StaysPublished key (D.shown now.now) (D.may_leave now.now) }
 {}

@@ -1,5 +1,5 @@
 -- How a command's line is spelled. Where the grammar leaves a choice, digits are in lower case, and the space before a
--- file's bytes stands. This project's own, docs/FORMAT.md, "Lines".
+-- file's bytes stands. This project's own, docs/PROGRAM.md, "Lines".
 use Rattle.std.specs.Prelude.{ℕ, List, ◌∷◌, ◌++◌, codes, decimal}
 use Rattle.cry_base.specs.Texts.{hex_of}
 use Rattle.cry_base.specs.Requests.{Request}

@@ -98,9 +98,9 @@ done_answer (declared.ShiftFolder g q) drawn m r old new left_before left_after 
 done_answer (declared.Give h f) drawn m r old new left_before left_after was shows might may since d = d
 done_answer (declared.Take h f) drawn m r old new left_before left_after was shows might may since d = d
 
-pub both_ok : (result : Result Reply ApplyFault) (A B : Type 0) → OnOk result A → OnOk result B → OnOk result (A × B)
-both_ok (Ok reply) A B a b = (a, b)
-both_ok (Err fault) A B a b = tt
+pub all_ok : (result : Result Reply ApplyFault) (A B C : Type 0) → OnOk result A → OnOk result B → OnOk result C → OnOk result (A × B × C)
+all_ok (Ok reply) A B C a b c = (a, b, c)
+all_ok (Err fault) A B C a b c = tt
 
 pub carried_answer : (result : Result Reply ApplyFault) (note : Declared) (drawn : List (List ℕ)) (m : Journal) (r : Request) (old new : OwnerView) (left_before left_after was shows : Option (List ℕ))
     (might may : List ℕ → Type 0) (since : List ℕ → List ℕ → Type 0) (C : Type 0)

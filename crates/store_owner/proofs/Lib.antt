@@ -26,6 +26,7 @@ pub mod RingRecords
 pub mod RefusedStores
 pub mod RootSealed
 pub mod Scripted
+pub mod SlotsHanded
 pub mod SoundOpened
 pub mod SoundSeals
 pub mod SoundStays
@@ -35,3 +36,5 @@ pub mod SoundVisits
 pub mod StoppedCommands
 pub mod Taken
 mod Tallies
+pub mod HandedBatches
+pub mod HandedStores

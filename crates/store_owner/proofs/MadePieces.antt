@@ -13,7 +13,7 @@ use Rattle.journal_bytes.specs.Bytes.{image_of}
 use Rattle.store_owner.specs.declared.apply_fault.ApplyFault.{ApplyFault}
 use Rattle.store_owner.specs.declared.apply_fault.ApplyFault.TheVariants as answers
 use Rattle.store_owner.specs.Drawing.{AreKeys, DrawsKeys, IsFillFault, joined}
-use Rattle.store_owner.specs.Making.{IsMade, IsMadeJournal, Makes, made_batches, made_with, root_keys, root_payload}
+use Rattle.store_owner.specs.Making.{IsMade, IsMadeJournal, Makes, fresh_writes, made_batches, made_with, made_writes, root_keys, root_payload}
 use Rattle.store_owner.specs.Counted.{root_counted}
 use Rattle.store_owner.specs.Owned.{IsOwnerOf, OwnerView}
 use Rattle.store_owner.proofs.MadeOwner.{batches_are}
@@ -115,6 +115,9 @@ module _ (owner : List ℕ) (rest keys : List (List ℕ)) (six : length keys ≡
 
   rest_pieces : rest ≡ root_keys (joined keys)
   rest_pieces = rest_is ∙ (six_pieces keys six sizes).rest
+
+  pub fresh_are : made_writes owner (root_payload owner rest) ≡ fresh_writes (joined keys)
+  fresh_are = λ i. made_writes (owner_piece i) (root_payload (owner_piece i) (rest_pieces i))
 
   pub is_made : (limits : Limits) (o : OwnerView) → o.key ≡ owner → IsOwnerOf (made_with rest) o → IsMadeJournal owner limits.store_bytes o.journal → o.counter ≡ None
       → o.file_bytes ≡ limits.file_bytes → o.tally ≡ root_counted → IsMade (joined keys) limits o

@@ -28,7 +28,7 @@ use Rattle.store_owner.specs.declared.counted.Counted.{Counted}
 use Rattle.command_plan.specs.NameChanges.{IsRenaming, IsNameChangeOf}
 use Rattle.store_owner.specs.Published.{PublishesWithin}
 use Rattle.store_owner.specs.Sound.{IsSound, granted_in, own_store}
-use Rattle.store_owner.specs.Stopping.{StopsWithin}
+use Rattle.store_owner.specs.Stopping.{HandsAll, StopsWithin}
 use Rattle.store_owner.specs.declared.change.Change.{Change}
 use Rattle.command_plan.specs.declared.name_change.NameChange.{NameChange}
 
@@ -260,6 +260,15 @@ pub stops_from : (r : Request) (drawn : List (List ℕ)) (old between : OwnerVie
     → StopsWithin r drawn between was shows might may since → StopsWithin r drawn old was shows might may since
 stops_from r drawn old between was shows might may since h c =
     stops_before r drawn old was shows might may since _ _ _ _ _ (subst (λ (o : OwnerView). StopsWithin r drawn o was shows might may since) (has_room old between h) c)
+
+handed_before : (r : Request) (drawn : List (List ℕ)) (o : OwnerView) (was shows : Option (List ℕ)) (b c d e f : ℕ)
+    → HandsAll r drawn (with_room o b c d e f) was shows → HandsAll r drawn o was shows
+handed_before r drawn o was shows b c d e f h = λ m is low bound fine. h m (owner_with o b c d e f m is) low bound fine
+
+pub handed_from : (r : Request) (drawn : List (List ℕ)) (old between : OwnerView) (was shows : Option (List ℕ)) → HasOtherRoom old between
+    → HandsAll r drawn between was shows → HandsAll r drawn old was shows
+handed_from r drawn old between was shows h c =
+    handed_before r drawn old was shows _ _ _ _ _ (subst (λ (o : OwnerView). HandsAll r drawn o was shows) (has_room old between h) c)
 
 published_before : (r : Request) (o : OwnerView) (was : Option (List ℕ)) (might : List ℕ → Type 0) (on : (List ℕ → List ℕ → Type 0) → Type 0) (b c d e f : ℕ)
     → PublishesWithin r (with_room o b c d e f) was might on → PublishesWithin r o was might on

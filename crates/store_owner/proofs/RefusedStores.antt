@@ -58,3 +58,17 @@ on_ok P (Err e) p = tt
 pub untouched_refused : {D : Type 0} (shown : D → Option (List ℕ)) (size_of : D → ℕ) (may_leave : D → List ℕ → Type 0) (limit : ℕ) (key : List ℕ) (old new : D) (fault : OpenFault) →
     (fault ≡ faults.DiskFault) ⊎ IsUntouched shown size_of may_leave old new → (fault ≡ faults.DiskFault) ⊎ LeavesRefused shown size_of may_leave limit key old new
 untouched_refused shown size_of may_leave limit key old new fault either = ⊎_elim (λ disk. inl disk) (λ same. inr (inl same)) either
+
+-- a log's fault, handed on
+abbrev log_failed : OpenFault → Result OpenedLog OpenFault
+log_failed fault = Err fault
+
+abbrev log_opened : OpenedLog → Result OpenedLog OpenFault
+log_opened opened = Ok opened
+
+pub same_fault : {T : Type 0} (result : Result T OpenFault) (told fault other : OpenFault) → result ≡ Err told → told ≡ fault → log_failed fault ≡ log_failed other → result ≡ Err other
+same_fault result told fault other is same failed =
+    let one : fault ≡ other = cc in is ∙ ap Err (same ∙ one)
+
+pub ok_is_no_fault : (opened : OpenedLog) (fault : OpenFault) → log_opened opened ≡ log_failed fault → ⊥
+ok_is_no_fault opened fault same = absurd cc

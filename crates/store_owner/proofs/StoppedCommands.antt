@@ -7,12 +7,14 @@ use Rattle.cry_base.specs.Limits.{most_file_bytes, most_store_bytes}
 use Rattle.cry_base.specs.Requests.{Request}
 use Rattle.cry_io.specs.Stops.{IsDurable}
 use Rattle.cry_io.specs.Told.{WhereBothTold}
+use Rattle.commit_journal.specs.Handing.{Hands, Write, joining_writes, log_writes}
 use Rattle.commit_journal.specs.Holding as holding
 use Rattle.commit_journal.specs.Holding.{GoesOn, IsBetween, IsKept, IsPrefix}
 use Rattle.commit_journal.specs.Image.{Batch}
 use Rattle.commit_journal.specs.Journals.{IsJournalOf, JournalState, next_command, next_epoch}
 use Rattle.commit_journal.specs.Standing.{StandsFor, StandsWhole}
 use Rattle.commit_journal.specs.Stopping.{HoldsLog, KeepsLog}
+use Rattle.batch_log.proofs.Handed.{hands_nothing}
 use Rattle.commit_journal.proofs.KeptLemmas.{between_wider, kept_starts, kept_then, prefix_same, prefix_trans, settled_holds}
 use Rattle.commit_journal.proofs.Standings.{whole_stands}
 use Rattle.record_format.specs.Spelling.{spell_payload}
@@ -28,7 +30,8 @@ use Rattle.journal_bytes.proofs.NextEntry.{between}
 use Rattle.journal_bytes.proofs.NextValid.{next_whole, session_valid, session_whole}
 use Rattle.store_owner.specs.Applying.{IsSealed}
 use Rattle.store_owner.specs.Owned.{IsOwnerOf, OwnerView, limits_in}
-use Rattle.store_owner.specs.Stopping.{AddsBatches, ComesToRest, RestsAt, StopsBetween, epoch_due}
+use Rattle.store_owner.specs.Stopping.{AddsBatches, ComesToRest, HasAdded, RestsAt, ShowsWritten, StopsBetween, epoch_due, journal_writes}
+use Rattle.store_owner.proofs.HandedBatches.{handed_both, handed_nothing, hands_both, hands_one, hands_to, journal_writes_are}
 use Rattle.store_owner.proofs.OwnerGoesOn.{batches_are, between_owner, between_shown, between_stands, ends_low_is, told_some, valid_then}
 
 -- ---- a disk at rest
@@ -72,8 +75,10 @@ stays_at_rest key m was might since only = record {
   stops = record {
     kept = λ rests. kept_starts (StandsForJournal key) m m m was might since (rests_holds key m was might rests) only;
     holds = rests_holds key m was might;
+    hands = hands_nothing (journal_writes key m m) (Unit {0}) was was since (λ s c at. (only s c at).0);
   };
   rests = λ rests. rests;
+  handed = handed_nothing key m was;
 }
 
 pub adds_nothing : (added : List Batch) (j : JournalState) (was : Option (List ℕ)) (might : List ℕ → Type 0) (since : List ℕ → List ℕ → Type 0)
@@ -86,17 +91,18 @@ adds_nothing added j was might since only =
     record {
       kept = λ bs of durable shows. kept_starts (StandsFor j.owner) bs (bs ++ added) (bs ++ added) was might since (holds bs durable shows) only;
       holds = λ bs of durable shows. holds bs durable shows;
+      hands = λ bs of. hands_nothing (log_writes j.owner bs added) (Unit {0}) was was since (λ s c at. (only s c at).0);
     }
 
 -- a commit, and the commit that begins an epoch
-pub adds_one : (b : Batch) (j : JournalState) (was shows : Option (List ℕ)) (might may : List ℕ → Type 0) (since : List ℕ → List ℕ → Type 0)
-    → KeepsLog b j was might since → HoldsLog b j was might shows may → AddsBatches (b ∷ []) j was shows might may since
-adds_one b j was shows might may since keeps holds = record { kept = keeps; holds = holds }
+pub adds_one : (b : Batch) (j : JournalState) (failed : Type 0) (was shows : Option (List ℕ)) (might may : List ℕ → Type 0) (since : List ℕ → List ℕ → Type 0)
+    → KeepsLog b j was might since → HoldsLog b j was might shows may → Hands (joining_writes b j) failed was shows since → AddsBatches (b ∷ []) j was shows might may since
+adds_one b j failed was shows might may since keeps holds hands = record { kept = keeps; holds = holds; hands = hands_one b j failed was shows since hands }
 
-pub adds_epoch : (has : Bool) (b : Batch) (j : JournalState) (was shows : Option (List ℕ)) (might may : List ℕ → Type 0) (since : List ℕ → List ℕ → Type 0) → has ≡ false
-    → KeepsLog b j was might since → HoldsLog b j was might shows may → AddsBatches (cond has [] (b ∷ [])) j was shows might may since
-adds_epoch true b j was shows might may since none keeps holds = absurd (false≢true (sym none))
-adds_epoch false b j was shows might may since none keeps holds = adds_one b j was shows might may since keeps holds
+pub adds_epoch : (has : Bool) (b : Batch) (j : JournalState) (failed : Type 0) (was shows : Option (List ℕ)) (might may : List ℕ → Type 0) (since : List ℕ → List ℕ → Type 0) → has ≡ false
+    → KeepsLog b j was might since → HoldsLog b j was might shows may → Hands (joining_writes b j) failed was shows since → AddsBatches (cond has [] (b ∷ [])) j was shows might may since
+adds_epoch true b j failed was shows might may since none keeps holds hands = absurd (false≢true (sym none))
+adds_epoch false b j failed was shows might may since none keeps holds hands = adds_one b j failed was shows might may since keeps holds hands
 
 -- ---- time, and two calls one after the other
 
@@ -118,11 +124,12 @@ time_then start next past since later order one two t s c early =
 
 pub stops_then : (key : List ℕ) (low middle high : Journal) (was showed shows : Option (List ℕ)) (might midst may : List ℕ → Type 0) (start first : ℕ) (past since : ℕ → List ℕ → List ℕ → Type 0)
     → first ≤ start → GoesOn start past since → IsPrefix low middle → IsPrefix middle high → (RestsAt key low was might → RestsAt key middle showed midst)
-    → StopsBetween key low middle was showed might midst (past first) → StopsBetween key middle high showed shows midst may (since start)
+    → ShowsWritten (journal_writes key low middle) was showed → StopsBetween key low middle was showed might midst (past first) → StopsBetween key middle high showed shows midst may (since start)
     → StopsBetween key low high was shows might may (since first)
-stops_then key low middle high was showed shows might midst may start first past since before goes lower higher rests one two = record {
+stops_then key low middle high was showed shows might midst may start first past since before goes lower higher rests all one two = record {
   kept = λ at. kept_then (StandsForJournal key) low low middle middle middle high start first past since before goes lower higher higher (one.kept at) (two.kept (rests at));
   holds = λ at. between_wider (StandsForJournal key) middle high low high shows may lower (prefix_same high) (two.holds (rests at));
+  hands = hands_both key low middle high was showed shows start first past since before goes lower higher all one.hands two.hands;
 }
 
 -- ---- lists that lie between some and these with one more
@@ -202,7 +209,16 @@ module _ (key : List ℕ) (low high : Journal) (has : Bool) (b : Batch) (more : 
       record {
         kept = λ rests. kept_step since (subst (λ k. holding.Kept (StandsFor k) bs (bs ++ added) (bs ++ added) since) owner (adds.kept bs of rests.durable (shown rests)));
         holds = λ rests. holds_step shows may (subst (λ k. holding.HoldsBetween (StandsFor k) bs (bs ++ added) shows may) owner (adds.holds bs of rests.durable (shown rests)));
+        hands = subst (λ (ws : List Write). Hands ws (Unit {0}) was shows since) (sym (journal_writes_are key low high added more))
+            (subst (λ k. Hands (log_writes k bs added) (Unit {0}) was shows since) owner (adds.hands bs of));
       }
+
+  pub step_handed : (j : JournalState) (was shows : Option (List ℕ)) → j.owner ≡ key → IsJournalOf (batches_of key low) j → HasAdded added j was shows
+      → ShowsWritten (journal_writes key low high) was shows
+  step_handed j was shows owner of all =
+      let bs = batches_of key low in
+      subst (λ (ws : List Write). ShowsWritten ws was shows) (sym (journal_writes_are key low high added more))
+      (subst (λ k. ShowsWritten (log_writes k bs added) was shows) owner (all bs of))
 
 -- ---- a command
 
@@ -253,7 +269,14 @@ module _ (m : Journal) (r : Request) (drawn : List (List ℕ)) (old : OwnerView)
               stands_for = k.stands_for;
             } in so);
         holds = λ rests. between_wider (StandsForJournal old.key) m begun m then showed midst (prefix_same m) to_then (first.holds rests);
+        hands = hands_to old.key m begun then was showed since to_begun to_then first.hands;
       }
+
+  -- all writes of that epoch's batch are done
+  pub epoch_handed : (showed : Option (List ℕ)) → HasAdded (epoch_due old.journal) old.journal was showed → ShowsWritten (journal_writes old.key m begun) was showed
+  epoch_handed showed all =
+      step_handed old.key m begun old.journal.has_epoch (next_epoch old.journal) (begun_batches old.key m old.journal.has_epoch old.journal is.stands) to_begun is.valid is.whole_keys begun_valid begun_whole
+      old.journal was showed is.same_key is.stands all
 
   module _ (s : IsSealed r drawn old was) (midst : List ℕ → Type 0) (calm : IsDurable might was → IsDurable midst s.showed) where
     pub then_valid : IsValid then
@@ -280,10 +303,18 @@ module _ (m : Journal) (r : Request) (drawn : List (List ℕ)) (old : OwnerView)
         }
 
     pub late_stops : (shows : Option (List ℕ)) (may : List ℕ → Type 0) (start first : ℕ) (past since : ℕ → List ℕ → List ℕ → Type 0) → first ≤ start → GoesOn start past since
-        → AddsBatches (epoch_due old.journal) old.journal was s.showed might midst (past first)
+        → HasAdded (epoch_due old.journal) old.journal was s.showed → AddsBatches (epoch_due old.journal) old.journal was s.showed might midst (past first)
         → AddsBatches (next_command s.between (spell_payload s.payload) ∷ []) s.between s.showed shows midst may (since start)
         → StopsBetween old.key m then was shows might may (since first)
-    late_stops shows may start first past since before goes begins adds =
-        stops_then old.key m begun then was s.showed shows might midst may start first past since before goes to_begun to_then rests_begun (epoch_stops s.showed midst (past first) begins)
+    late_stops shows may start first past since before goes all begins adds =
+        stops_then old.key m begun then was s.showed shows might midst may start first past since before goes to_begun to_then rests_begun (epoch_handed s.showed all) (epoch_stops s.showed midst (past first) begins)
         (step old.key begun then false (next_command s.between (spell_payload s.payload)) (batches_are m r drawn old was is low bound fine s) to_then begun_valid begun_whole then_valid then_whole
         s.between s.showed shows midst may (since start) (between_owner m r drawn old was is low bound fine s) (between_stands m r drawn old was is low bound fine s) adds)
+
+    -- all writes of both batches are done
+    pub all_handed : (shows : Option (List ℕ)) → HasAdded (epoch_due old.journal) old.journal was s.showed
+        → HasAdded (next_command s.between (spell_payload s.payload) ∷ []) s.between s.showed shows → ShowsWritten (journal_writes old.key m then) was shows
+    all_handed shows begins adds =
+        handed_both old.key m begun then was s.showed shows to_begun to_then (epoch_handed s.showed begins)
+        (step_handed old.key begun then false (next_command s.between (spell_payload s.payload)) (batches_are m r drawn old was is low bound fine s) to_then begun_valid begun_whole then_valid then_whole
+        s.between s.showed shows (between_owner m r drawn old was is low bound fine s) (between_stands m r drawn old was is low bound fine s) adds)

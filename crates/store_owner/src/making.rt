@@ -1,5 +1,7 @@
 //! Makes a store: all memory, one draw, the root sealed, the store file written, in this order.
-ghost use Rattle.std.specs.Prelude.{◌≡◌, ◌≢◌, ◌<◌, ◌≤◌, ◌+◌, ℕ, Err, IfErr, IfOk, None, OnOk, Some, [], ◌∷◌, ◌++◌, is_some, length};
+ghost use Rattle.std.specs.Prelude.{◌≡◌, ◌≢◌, ◌<◌, ◌≤◌, ◌+◌, ℕ, Err, IfErr, IfOk, None, OnOk, Some, [], ◌∷◌, ◌++◌, is_some};
+ghost use Rattle.std.specs.Prelude.{length};
+ghost use Rattle.commit_journal.specs.Handing.{Hands};
 ghost use Rattle.commit_journal.specs.Holding.{GoesOn};
 ghost use Rattle.commit_journal.specs.Image.{image};
 ghost use Rattle.commit_journal.specs.Journals.{IsJournalOf};
@@ -25,9 +27,11 @@ ghost use Rattle.journal_bytes.specs.Keys.{all_keys};
 ghost use Rattle.journal_bytes.specs.Sealing.{HoldsKeys, IsSpaceFor};
 ghost use Rattle.store_owner.specs.Counted.{root_counted};
 ghost use Rattle.store_owner.specs.Drawing.{AreKeys, FillsByCount, joined};
-ghost use Rattle.store_owner.specs.Making.{IsMade, IsMadeJournal, Makes, first_stand, made_batches, made_with, root_payload};
+ghost use Rattle.store_owner.specs.Making.{HandsFresh, IsMade, IsMadeJournal, Makes, first_stand, fresh_writes, made_batches, made_with};
+ghost use Rattle.store_owner.specs.Making.{made_writes, root_payload};
 ghost use Rattle.store_owner.specs.Owned.{counting, owner_at};
 ghost use Rattle.store_owner.specs.Sound.{IsSound};
+ghost use Rattle.store_owner.specs.Stopping.{ShowsWritten};
 
 use crate::counted::ROOT;
 use crate::key_room::KeyRoom;
@@ -37,7 +41,7 @@ use crate::step_room::StepRoom;
 use crate::{ApplyFault, Owner};
 use chacha_seal::{Counter, Key};
 use commit_journal::{CommitFault, Journal};
-use cry_base::{Epoch, FolderId, Limits, List, Mem, Node, OutOfMemory};
+use cry_base::{Epoch, FolderId, Limits, List, Mem, Node, OutOfMemory, Steps};
 use cry_io::{Disk, Source};
 use folder_nodes::Names;
 use journal_bytes::laws::fresh_journal_has_the_fresh_image;
@@ -146,6 +150,10 @@ impl Blank {
         ensures told { is_some (D.shown disk.new) ≡ is_some (D.shown disk.old) }
         ensures later { D.moment disk.old ≤ D.moment disk.new }
         ensures time { GoesOn (D.moment disk.old) (D.since disk.old) (D.since disk.new) }
+        ensures hands { Hands (made_writes owner.now (root_payload owner.now keys.now)) (Unit {0}) (D.shown disk.old) (D.shown disk.new)
+            (D.since disk.new (D.moment disk.old)) }
+        ensures handed { OnOk result (ShowsWritten (made_writes owner.now (root_payload owner.now keys.now)) (D.shown disk.old)
+            (D.shown disk.new)) }
         ensures fault { IfErr result (λ fault. fault ≡ ApplyFault.DiskFault) }
         ensures counts { CountsFault result (D.faults disk.old) (D.faults disk.new) }
     {
@@ -248,6 +256,9 @@ fn made<D: Disk>(
     ensures told { is_some (D.shown disk.new) ≡ is_some (D.shown disk.old) }
     ensures later { D.moment disk.old ≤ D.moment disk.new }
     ensures time { GoesOn (D.moment disk.old) (D.since disk.old) (D.since disk.new) }
+    ensures hands { Hands (fresh_writes (joined drawn.now)) (Unit {0}) (D.shown disk.old) (D.shown disk.new)
+        (D.since disk.new (D.moment disk.old)) }
+    ensures handed { OnOk result (ShowsWritten (fresh_writes (joined drawn.now)) (D.shown disk.old) (D.shown disk.new)) }
     ensures fault { IfErr result (λ fault. fault ≡ ApplyFault.DiskFault) }
     ensures counts { CountsFault result (D.faults disk.old) (D.faults disk.new) }
 {
@@ -271,7 +282,8 @@ impl Owner {
     ///
     /// All memory comes first, or `OutOfMemory`, which leaves source and disk as they were. Then 192 bytes are drawn, the owner's
     /// key and the root's five: `RandomFault` and `RandomShort` leave the disk as it was. `DiskFault` comes only behind the draw, where
-    /// the disk's faults rose in this call, and the disk is then to be thrown away. `Closed` never comes.
+    /// the disk's faults rose in this call, and the disk is then to be thrown away. `Closed` never comes. Whatever comes behind the draw,
+    /// the disk is handed the header, and the two batches as they are staged, opened and published, and nothing else.
     pub fn make<D: Disk, R: Source>(
         alloc: Global,
         disk: &mut D,
@@ -291,6 +303,10 @@ impl Owner {
             × WhereBothTold (R.left random.old) (R.left random.new) (λ before after. (length before ≡ left) × (after ≡ [])) }
         ensures drew { result ≡ Err ApplyFault.DiskFault
             → WhereBothTold (R.left random.old) (R.left random.new) (λ before after. length before ≡ fresh_draw_len + length after) }
+        ensures hands { OnOk result (HandsFresh (Unit {0}) (R.left random.old) (R.left random.new) (D.shown disk.old) (D.shown disk.new)
+            (D.since disk.new (D.moment disk.old))) }
+        ensures cut_short { result ≡ Err ApplyFault.DiskFault → HandsFresh ⊥ (R.left random.old) (R.left random.new)
+            (D.shown disk.old) (D.shown disk.new) (D.since disk.new (D.moment disk.old)) }
         ensures not_closed { result ≢ Err ApplyFault.Closed }
         ensures no_memory { result ≡ Err ApplyFault.OutOfMemory → (random.new ≡ random.old) × (disk.new ≡ disk.old) }
         ensures untouched { IfErr result (λ fault. fault ≢ ApplyFault.DiskFault → disk.new ≡ disk.old) }
@@ -324,7 +340,7 @@ fn prepared(alloc: Global, state: &PublicState) -> Mem<Prepared>
     ensures can { IfOk result (CanSettle state.now) }
     ensures after { IfOk result (λ ready. IsSeenAs (settled state.now ready) (told_stand first_stand Root)) }
 {
-    let Ok(ready) = state.prepare(alloc, &Note::Root, true) else {
+    let Ok(ready) = state.prepare(alloc, &Note::Root, true, &mut Steps::new()) else {
         return Err(OutOfMemory);
     };
     Ok(ready)
@@ -380,6 +396,9 @@ fn write_store<D: Disk>(
     ensures told { is_some (D.shown disk.new) ≡ is_some (D.shown disk.old) }
     ensures later { D.moment disk.old ≤ D.moment disk.new }
     ensures time { GoesOn (D.moment disk.old) (D.since disk.old) (D.since disk.new) }
+    ensures hands { Hands (made_writes owner.now (plain_payload payload.now)) (Unit {0}) (D.shown disk.old) (D.shown disk.new)
+        (D.since disk.new (D.moment disk.old)) }
+    ensures handed { OnOk result (ShowsWritten (made_writes owner.now (plain_payload payload.now)) (D.shown disk.old) (D.shown disk.new)) }
     ensures fault { IfErr result (λ fault. fault ≡ CommitFault.DiskFault) }
     ensures counts { CountsFault result (D.faults disk.old) (D.faults disk.new) }
 {

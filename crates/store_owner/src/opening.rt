@@ -4,6 +4,7 @@ ghost use Rattle.cry_base.specs.Limits.{most_file_bytes, most_store_bytes};
 ghost use Rattle.cry_io.specs.Stops.{IsDurable};
 ghost use Rattle.cry_io.specs.Told.{WhereTold, WhereBothTold};
 ghost use Rattle.batch_log.specs.Moments.{FromThenOn};
+ghost use Rattle.commit_journal.specs.Handing.{HandsOpening};
 ghost use Rattle.commit_journal.specs.Holding.{GoesOn};
 ghost use Rattle.commit_journal.specs.Logs.{AreInEpochs, epoch_behind};
 ghost use Rattle.commit_journal.specs.Moments.{OpensThroughout};
@@ -139,7 +140,8 @@ impl Owner {
     ///
     /// A store that is refused by its header or its log is left as it was, but for the sync. One that is refused by its payloads or
     /// records has its slots filled, and nothing else written. After any fault a journal for which the disk's bytes stood stands
-    /// still, and after none is anything else written than slots of batches that passed their tests.
+    /// still, and after none is anything else written than slots of batches that passed their tests: the disk is handed their
+    /// veil keys and nothing else.
     ///
     /// At each moment of the call the disk shows what it showed, and a stop leaves what it could leave then; or both are the bytes that were
     /// shown at the start with some slots filled, of a log that passes every test.
@@ -186,6 +188,8 @@ impl Owner {
         ensures kept { (m m1 m2 : AnyJournal) → HoldsBetween key m1 m2 (D.shown disk.old) (D.may_leave disk.old) →
             WhereTold (D.shown disk.old) (StandsForJournal key m) → end_of m ≤ limits.store_bytes →
             Kept key m1 m2 m2 (D.since disk.new (D.moment disk.old)) }
+        ensures hands { HandsOpening limits.store_bytes key (result ≡ Err OpenFault.DiskFault) (D.shown disk.old) (D.shown disk.new)
+            (D.since disk.new (D.moment disk.old)) }
         ensures published { (m : AnyJournal) → StaysPublished key (D.shown disk.old) (D.may_leave disk.old) →
             WhereTold (D.shown disk.old) (λ s. StandsForJournal key m s → end_of m ≤ limits.store_bytes →
             PublishesUpTo key m (D.since disk.new (D.moment disk.old)) (FromThenOn D.moment D.since disk.old disk.new)) }

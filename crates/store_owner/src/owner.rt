@@ -1,6 +1,6 @@
 //! The owner of a store, and what the owner's commands do to it.
 ghost use Rattle.std.specs.Prelude.{◌≡◌, ◌<◌, ◌≤◌, ◌+◌, ◌↔◌, ℕ, [], ◌∷◌, None, Some, Err, IfErr, IfOk, IsTrue, OnErr, OnOk, false, is_some};
-ghost use Rattle.std.specs.Prelude.{length};
+ghost use Rattle.std.specs.Prelude.{length, replicate};
 ghost use Rattle.batch_log.specs.Moments.{FromThenOn};
 ghost use Rattle.commit_journal.specs.Holding.{GoesOn};
 ghost use Rattle.commit_journal.specs.Journals.{IsBehind, Joins, next_command, MayJoin, next_epoch};
@@ -14,11 +14,13 @@ ghost use Rattle.cry_io.specs.Stops.{IsDurable};
 ghost use Rattle.command_plan.specs.Targeted.{HasShortName};
 ghost use Rattle.folder_nodes.specs.Targets.{IsTargetOf, why_of};
 ghost use Rattle.folder_nodes.specs.Titles.{tree_store};
+ghost use Rattle.move_plan.specs.Noting.{note_of};
 ghost use Rattle.record_format.specs.Plain.{plain_payload};
 ghost use Rattle.record_format.specs.Sizes.{payload_size};
 ghost use Rattle.record_format.specs.Spellable.{IsSpellable};
 ghost use Rattle.record_format.specs.Spelling.{spell_payload};
 ghost use Rattle.public_fold.specs.Journal.{Journal as AnyJournal};
+ghost use Rattle.public_fold.specs.LookUps.{note_look_ups};
 ghost use Rattle.public_fold.specs.Preparing.{HasRoomFor};
 ghost use Rattle.journal_bytes.specs.Owning.{IsStoreOf};
 ghost use Rattle.journal_bytes.specs.Sealing.{IsSpaceFor};
@@ -30,7 +32,7 @@ ghost use Rattle.store_owner.specs.Owned.{IsOwnerOf, owner_at};
 ghost use Rattle.store_owner.specs.Planning.{AnswersPlan, HasBegun, IsDrafted, IsFurnished, IsUnfit, reply_for};
 ghost use Rattle.store_owner.specs.Published.{AddsPublished, PublishesOn, PublishesWithin};
 ghost use Rattle.store_owner.specs.Sound.{IsSound, granted_in, own_store};
-ghost use Rattle.store_owner.specs.Stopping.{AddsBatches, StopsWithin, epoch_due};
+ghost use Rattle.store_owner.specs.Stopping.{AddsBatches, HandsAll, HasAdded, StopsWithin, epoch_due};
 ghost use Rattle.store_owner.specs.Taking.{FallsShort, TakesKeys};
 ghost use Rattle.store_owner.specs.Tallied.{CountsCommand, tally_in};
 
@@ -56,7 +58,7 @@ use command_plan::{
     change_names, name_change_for, note_for, resolve, sealed_len, size_of, text_for,
 };
 use commit_journal::{CommitFault, Journal};
-use cry_base::{Command, Limits, Mem, OutOfMemory, Refusal, Reply};
+use cry_base::{Command, Limits, Mem, OutOfMemory, Refusal, Reply, Steps};
 use cry_io::{Disk, Source};
 use folder_nodes::{Names, Target};
 use key_links::KeyRing;
@@ -199,6 +201,7 @@ impl Owner {
         disk: &mut D,
         random: &mut R,
         command: &Command,
+        steps: &mut Steps,
     ) -> Result<Reply, ApplyFault>
         requires inside { self.old.journal.is_closed ≡ false → self.old.journal.end ≤ D.size_of disk.old }
         ensures answers { (m : AnyJournal) → IsOwnerOf m self.old → Answers result m (request_of command.now) self.old self.new
@@ -226,6 +229,8 @@ impl Owner {
         ensures draws { OnOk result (TakesKeys (R.left random.old) (R.left random.new)) }
         ensures short { (left need : ℕ) → result ≡ Err (ApplyFault.RandomShort left need) →
             FallsShort self.old (request_of command.now) left need (R.left random.old) (R.left random.new) }
+        ensures look_ups { (s : Store) → IsStoreOf self.old.state.tree self.old.names (granted_in self.old) s → steps.new
+            ≤ steps.old + note_look_ups self.old.state (note_of s (request_of command.now) (replicate 32 0)) }
     {
         commands_are_measured();
         interrupted_commands_leave_a_journal();
@@ -242,7 +247,7 @@ impl Owner {
             Ok(target) => target,
             Err(why) => return Ok(Reply::Refused { why }),
         };
-        let (change, room) = match self.plan(alloc, command, &target) {
+        let (change, room) = match self.plan(alloc, command, &target, steps) {
             Ok(Verdict::Planned(change, room)) => (change, room),
             Ok(Verdict::Full) => return Ok(Reply::Refused { why: Refusal::Full }),
             Err(OutOfMemory) => return Err(ApplyFault::OutOfMemory),
@@ -281,19 +286,22 @@ impl Owner {
         alloc: Global,
         command: &Command,
         target: &Target<'_>,
+        steps: &mut Steps,
     ) -> Result<Change, FoldFault>
         requires open { self.now.journal.is_closed ≡ false }
         requires found { IsTargetOf (tree_store self.now.state.tree self.now.names) (request_of command.now) target.now }
         requires short { HasShortName target.now }
         ensures drafted { IfOk result (IsDrafted (request_of command.now) self.now) }
         ensures unfit { result ≡ Err FoldFault.Unfit → IsUnfit (request_of command.now) self.now }
+        ensures look_ups { (s : Store) → IsStoreOf self.now.state.tree self.now.names (granted_in self.now) s → steps.new
+            ≤ steps.old + note_look_ups self.now.state (note_of s (request_of command.now) (replicate 32 0)) }
     {
         sound_owners_keep_a_store();
         self.journal.journal_is_within();
         let shape = self.state.shape();
         let note = note_for(shape, self.state.grants(), target);
         let begins = !self.journal.has_epoch();
-        let ready = self.state.prepare(alloc, &note, begins)?;
+        let ready = self.state.prepare(alloc, &note, begins, steps)?;
         let Ok(text) = text_for(alloc, &self.names, target) else {
             return Err(FoldFault::OutOfMemory);
         };
@@ -310,7 +318,13 @@ impl Owner {
 
     /// Plans the command with this target, with all the memory that it takes, or finds that the store is too full for it. For want
     /// of memory the owner has at most other room.
-    fn plan(&mut self, alloc: Global, command: &Command, target: &Target<'_>) -> Mem<Verdict>
+    fn plan(
+        &mut self,
+        alloc: Global,
+        command: &Command,
+        target: &Target<'_>,
+        steps: &mut Steps,
+    ) -> Mem<Verdict>
         requires open { self.old.journal.is_closed ≡ false }
         requires found { IsTargetOf (tree_store self.old.state.tree self.old.names) (request_of command.now) target.now }
         requires short { HasShortName target.now }
@@ -318,11 +332,13 @@ impl Owner {
             → refusal_of s (request_of command.now) self.old.file_bytes ≡ None }
         ensures room { HasOtherRoom self.old self.new }
         ensures answers { AnswersPlan result (request_of command.now) self.old self.new }
+        ensures look_ups { (s : Store) → IsStoreOf self.old.state.tree self.old.names (granted_in self.old) s → steps.new
+            ≤ steps.old + note_look_ups self.old.state (note_of s (request_of command.now) (replicate 32 0)) }
     {
         commands_are_measured();
         owners_keep_the_store();
         self.journal.journal_is_within();
-        let change = match self.draft(alloc, command, target) {
+        let change = match self.draft(alloc, command, target, steps) {
             Ok(change) => change,
             Err(FoldFault::Unfit) => return Ok(Verdict::Full),
             Err(FoldFault::OutOfMemory) => return Err(OutOfMemory),
@@ -380,6 +396,7 @@ impl Owner {
         ensures time { GoesOn (D.moment disk.old) (D.since disk.old) (D.since disk.new) }
         ensures stops { StopsWithin (request_of command.now) drawn.now self.old (D.shown disk.old) (D.shown disk.new)
             (D.may_leave disk.old) (D.may_leave disk.new) (D.since disk.new (D.moment disk.old)) }
+        ensures handed { OnOk result (HandsAll (request_of command.now) drawn.now self.old (D.shown disk.old) (D.shown disk.new)) }
         ensures published { PublishesWithin (request_of command.now) self.old (D.shown disk.old) (D.may_leave disk.old)
             (FromThenOn D.moment D.since disk.old disk.new) }
         ensures reply { IfOk result (λ reply. reply ≡ reply_for change.note drawn.now) }
@@ -449,6 +466,7 @@ fn begin<D: Disk>(
     ensures time { GoesOn (D.moment disk.old) (D.since disk.old) (D.since disk.new) }
     ensures adds { AddsBatches (epoch_due journal.old) journal.old (D.shown disk.old) (D.shown disk.new)
         (D.may_leave disk.old) (D.may_leave disk.new) (D.since disk.new (D.moment disk.old)) }
+    ensures added { OnOk result (HasAdded (epoch_due journal.old) journal.old (D.shown disk.old) (D.shown disk.new)) }
     ensures published { AddsPublished (epoch_due journal.old) journal.old (D.shown disk.old) (D.may_leave disk.old)
         (FromThenOn D.moment D.since disk.old disk.new) }
     ensures calm { IsDurable (D.may_leave disk.old) (D.shown disk.old) → OnOk result (IsDurable (D.may_leave disk.new) (D.shown disk.new)) }
@@ -490,6 +508,8 @@ fn commit_within<D: Disk>(
     ensures adds { AddsBatches (next_command journal.old (spell_payload (plain_payload payload.now))
         ∷ []) journal.old (D.shown disk.old) (D.shown disk.new)
         (D.may_leave disk.old) (D.may_leave disk.new) (D.since disk.new (D.moment disk.old)) }
+    ensures added { OnOk result (HasAdded (next_command journal.old (spell_payload (plain_payload payload.now)) ∷ []) journal.old
+        (D.shown disk.old) (D.shown disk.new)) }
     ensures published { KeepsPublished (next_command journal.old (spell_payload (plain_payload payload.now))) journal.old
         (D.shown disk.old) (D.may_leave disk.old) (FromThenOn D.moment D.since disk.old disk.new) }
     ensures begun { journal.new.has_epoch ≡ journal.old.has_epoch }

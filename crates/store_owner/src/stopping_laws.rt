@@ -1,10 +1,14 @@
 //! Laws of what a stop leaves of an owner's calls: what a disk at rest holds, and how calls one after another add up.
-ghost use Rattle.std.specs.Prelude.{◌≤◌, ℕ, List};
+ghost use Rattle.std.specs.Prelude.{◌≡◌, ◌≤◌, ℕ, List};
 ghost use Rattle.cry_io.specs.Stops.{IsDurable};
 ghost use Rattle.batch_log.specs.Moments.{FromThenOn};
+ghost use Rattle.commit_journal.specs.Handing.{all_written, opening_writes};
 ghost use Rattle.commit_journal.specs.Holding.{GoesOn, IsPrefix};
+ghost use Rattle.cry_base.specs.Limits.{most_store_bytes};
 ghost use Rattle.public_fold.specs.Journal.{Journal};
-ghost use Rattle.journal_bytes.specs.Journals.{HoldsBetween, IsSettled};
+ghost use Rattle.public_fold.specs.Lengths.{end_of};
+ghost use Rattle.journal_bytes.specs.Journals.{HoldsBetween, IsSettled, StandsForJournal};
+ghost use Rattle.store_owner.specs.Opened.{IsFilled};
 ghost use Rattle.store_owner.specs.Published.{HasPublished, StaysPublished};
 ghost use Rattle.store_owner.specs.Stopping.{ComesToRest, RestsAt, StopsBetween};
 
@@ -52,4 +56,10 @@ pub fn stops_of_two_calls<D: Disk>(before: &D, between: &D, after: &D)
         (D.since after.now (D.moment between.now))
         → ComesToRest key low high (D.shown before.now) (D.shown after.now) (D.may_leave before.now) (D.may_leave after.now)
         (D.since after.now (D.moment before.now)) }
+{}
+
+/// Law: where the bytes of a store stood for a journal, the store that was opened shows each write of its opening done.
+pub fn opened_stores_show_their_writes()
+    ensures { (key : List ℕ) (m : Journal) (x y : List ℕ) → StandsForJournal key m x → end_of m ≤ most_store_bytes
+        → IsFilled most_store_bytes key x y → y ≡ all_written (opening_writes most_store_bytes key x) x }
 {}

@@ -34,16 +34,6 @@ grown_by_none key keys = record {
   followed = λ l i. absurd i;
 }
 
--- a link that begins elsewhere
-pub grown_by_other : (l : PlacedLink) (key : KeyParts) (keys : List KeyParts) → (BeginsAt l.link key → ⊥) → IsGrown (l ∷ []) key keys keys
-grown_by_other l key keys elsewhere = record {
-  more = [];
-  joined = sym (append-nil keys);
-  targets = λ k i. absurd i;
-  once = λ once. once;
-  followed = λ m i begins. absurd (⊎_elim (λ (e : m ≡ l). elsewhere (subst (λ (z : PlacedLink). BeginsAt z.link key) e begins)) (λ n. n) i);
-}
-
 -- the target of the one link is there
 one_followed : (l : PlacedLink) (key : KeyParts) (keys : List KeyParts) → LeadsOn key l.link → In (target_of key l.link) keys → AreFollowed (l ∷ []) key keys
 one_followed l key keys leads there = λ m i begins.

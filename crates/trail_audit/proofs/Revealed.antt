@@ -1,5 +1,5 @@
 -- What keys show of contents, as they are opened one after another, and the faults on the way.
-use Rattle.std.proofs.Common.{◌≡◌, ◌≢◌, ◌+◌, ◌<◌, ◌&&◌, ℕ, Bool, true, false, List, [], ◌∷◌, ◌++◌, filter, get_or, length, map, take, inl, ⊎_elim, refl, sym, ap, subst, ◌∙◌, append_assoc}
+use Rattle.std.proofs.Common.{◌≡◌, ◌≢◌, ◌+◌, ◌<◌, ◌&&◌, ℕ, Bool, true, false, List, [], ◌∷◌, ◌++◌, filter, get_or, length, map, take, ⊎_elim, refl, sym, ap, subst, ◌∙◌, append_assoc}
 use Rattle.std.specs.List.{flat_map}
 use Rattle.std.specs.Cmp.Derive.{both_true}
 use Rattle.std.proofs.Math.Seq.{take-append_seam, drop-append_seam}
@@ -27,8 +27,7 @@ use Rattle.record_format.specs.Plain.{PlainContent}
 use Rattle.role_graph.proofs.Rising.{get_or-In}
 use Rattle.trail_audit.specs.Auditing.{RecordFault, bundle_key, is_text, links_read, sealing_id}
 use Rattle.trail_audit.specs.Auditing.RecordFault.{WrongLink, WrongContent, WrongText}
-use Rattle.trail_audit.specs.Derived.{AreSeen, ContentFault, FormFault, IsOpened, IsOpenedBy, IsToldOf, Passes, PlainSeen, audit_of, content_shown, file_shown, is_sealed_by, plain_seen, shown_by, text_shown, text_with}
-use Rattle.trail_audit.specs.Records.{AContent, IsTagged}
+use Rattle.trail_audit.specs.Derived.{AreSeen, ContentFault, IsOpened, IsToldOf, Passes, PlainSeen, audit_of, content_shown, file_shown, is_sealed_by, plain_seen, shown_by, text_shown, text_with}
 use Rattle.trail_audit.specs.Trails.{AreRightKeys, LinkFault}
 use Rattle.cry_base.specs.declared.client.Seen.{Seen}
 
@@ -69,30 +68,13 @@ seen_alike batch b node n name m bytes k same_batch same_node same_name same_byt
 
 -- ---- one content and one key
 
-pub sealed_elsewhere : (c : PlacedContent) (key : KeyParts) → is_sealed_by c.content key ≡ false → IsOpened (key ∷ []) c
-sealed_elsewhere c key elsewhere = λ k i sealed. absurd (⊎_elim (λ (e : k ≡ key). false≢true (sym elsewhere ∙ subst (λ (z : KeyParts). is_sealed_by c.content z ≡ true) e sealed)) (λ n. n) i)
-
 pub nothing_shown : (c : PlacedContent) (key : KeyParts) → is_sealed_by c.content key ≡ false → content_shown (key ∷ []) c ≡ []
 unfolding content_shown
 nothing_shown c key elsewhere = rw elsewhere refl
 
-pub sealed_here : (c : PlacedContent) (key : KeyParts) → IsOpenedBy c.content key → IsOpened (key ∷ []) c
-sealed_here c key opened = λ k i sealed. ⊎_elim (λ (e : k ≡ key). subst (IsOpenedBy c.content) (sym e) opened) (λ n. absurd n) i
-
 pub one_shown : (c : PlacedContent) (key : KeyParts) → is_sealed_by c.content key ≡ true → content_shown (key ∷ []) c ≡ text_shown c.batch c.content (text_with c.content key)
 unfolding content_shown shown_by
 one_shown c key sealed = rw sealed (append-nil (text_shown c.batch c.content (text_with c.content key)))
-
-pub form_fault_of : (c : PlacedContent) (key : KeyParts) (text : List ℕ) (fault : ClientFault) → is_sealed_by c.content key ≡ true → IsTagged key.bytes (AContent c.content) → text ≡ text_with c.content key → FormFault c text fault →
-    ContentFault (c ∷ []) (key ∷ []) fault
-form_fault_of c key text (faults.Damaged at) sealed tagged is w = (c, inl refl, sym w.0, (key, inl refl, sealed, tagged, subst (λ (t : List ℕ). is_text c.content t ≡ false) is w.1))
-form_fault_of c key text faults.OutOfMemory sealed tagged is w = tt
-form_fault_of c key text (faults.Tampered batch at) sealed tagged is w = absurd w
-form_fault_of c key text faults.NotAStore sealed tagged is w = absurd w
-form_fault_of c key text faults.WrongKey sealed tagged is w = absurd w
-form_fault_of c key text (faults.NoHolder known) sealed tagged is w = absurd w
-form_fault_of c key text faults.Unseen sealed tagged is w = absurd w
-form_fault_of c key text faults.DiskFault sealed tagged is w = absurd w
 
 -- ---- more keys, more contents
 

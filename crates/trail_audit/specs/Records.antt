@@ -42,9 +42,6 @@ read_payloads (Err at) = []
 unfoldable pub payloads_in : List ℕ → List PlainPayload
 payloads_in bytes = flat_map (λ batch. read_payloads (payload_or_place (slot_payload batch))) (gated bytes)
 
--- the records that stand in the bytes, and the links among them
+-- the records that stand in the bytes
 unfoldable pub records_in : List ℕ → List PlainRecord
 records_in bytes = flat_map payload_records (payloads_in bytes)
-
-unfoldable pub links_in : List ℕ → List LinkRecord
-links_in bytes = flat_map (λ p. p.links) (payloads_in bytes)

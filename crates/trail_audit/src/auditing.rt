@@ -14,14 +14,13 @@ ghost use Rattle.trail_audit.specs.Grouped.{HasGroups, key_source, source_of_lin
 
 use crate::Seen;
 use crate::kept::Kept;
-use crate::log_reading::{ReadLog, read_log};
 use crate::placed_records::Links;
 use crate::right_key::RightKey;
 use crate::seen_log::see_log;
 use crate::trails::{KnownKeys, right_keys};
 use cry_base::{Bundle, HolderId, List, Role, Serial};
 use cry_io::Disk;
-use holder_client::Reader;
+use holder_client::{ReadLog, Reader, read_log};
 use log_visits::ClientFault;
 use public_fold::PublicState;
 use std::alloc::Global;
@@ -96,7 +95,7 @@ pub fn audit<D: Disk>(
     ensures counts { D.faults disk.old ≤ D.faults disk.new }
     ensures disk_fault { result ≡ Err ClientFault.DiskFault → D.faults disk.old < D.faults disk.new }
 {
-    let ReadLog { log, kept } = read_log(alloc, disk, bundle)?;
+    let ReadLog { log, kept }: ReadLog<Kept> = read_log(alloc, disk, bundle)?;
     let Kept {
         reader,
         links,

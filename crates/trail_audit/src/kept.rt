@@ -1,15 +1,12 @@
 //! What an audit keeps of a log that it reads batch by batch (docs/FORMAT.md, "Reading").
-ghost use Rattle.std.specs.Prelude.{◌≡◌, ◌+◌, ◌++◌, [], ◌∷◌, IfOk, List as TheList, OnOk, length};
-ghost use Rattle.commit_journal.specs.Logs.{AreInEpochs};
-ghost use Rattle.commit_journal.specs.Placed.{PlainPlaced, plain_placed};
-ghost use Rattle.commit_journal.specs.Places.{IsStanding};
+ghost use Rattle.std.specs.Prelude.{◌≡◌};
 ghost use Rattle.trail_audit.specs.Kept.{HasKept};
 
 use crate::placed_records::{Links, add_links_of, contents_of};
 use crate::seals::{Seals, seals_of};
 use commit_journal::{Past, Placed};
 use cry_base::{List, Mem};
-use holder_client::Reader;
+use holder_client::{Keeps, Reader};
 use std::alloc::Global;
 use std::collections::HashMap;
 
@@ -28,12 +25,12 @@ pub(crate) struct Kept {
     pub(crate) last: u32,
 }
 
-impl Kept {
-    /// What is kept of no batch.
-    pub(crate) fn new(alloc: Global) -> Mem<Kept>
-        ensures kept { IfOk result (λ kept. HasKept kept []) }
-        ensures starts { IfOk result (λ kept. kept.starts.items ≡ []) }
-    {
+impl Keeps for Kept {
+    ghost has_read = { HasKept };
+
+    ghost has_starts = { λ kept starts. kept.starts.items ≡ starts };
+
+    fn new(alloc: Global) -> Mem<Kept> {
         let reader = Reader::new(alloc)?;
         Ok(Kept {
             reader,
@@ -44,23 +41,25 @@ impl Kept {
         })
     }
 
-    /// Adds the next batch, and what was known before it. After `Err` it is what is kept of no log, and of no more use.
-    pub(crate) fn add(&mut self, alloc: Global, placed: &Placed, start: &Past) -> Mem<()>
-        requires stands { IsStanding placed.now }
-        requires next { (log : TheList PlainPlaced) × HasKept self.old log × AreInEpochs 0 (log ++ plain_placed placed.now ∷ [])
-            × (placed.now.batch ≡ length log + 1) }
-        ensures kept { OnOk result ((log : TheList PlainPlaced) → HasKept self.old log → AreInEpochs 0 (log ++ plain_placed placed.now ∷ [])
-            → placed.now.batch ≡ length log + 1 →
-            HasKept self.new (log ++ plain_placed placed.now ∷ [])) }
-        ensures starts { OnOk result (self.new.starts.items ≡ self.old.starts.items ++ start.now ∷ []) }
-    {
-        self.reader.add(alloc, placed, start)?;
-        add_links_of(&mut self.links, alloc, placed)?;
+    fn add(self, alloc: Global, placed: &Placed, start: &Past) -> Mem<Kept> {
+        let Kept {
+            reader,
+            mut links,
+            mut seals,
+            mut starts,
+            last: _,
+        } = self;
+        let reader = reader.add(alloc, placed, start)?;
+        add_links_of(&mut links, alloc, placed)?;
         let contents = contents_of(alloc, placed)?;
-        let seals = seals_of(alloc, contents.as_slice())?;
-        self.seals.push(seals)?;
-        self.starts.push(*start)?;
-        self.last = placed.batch;
-        Ok(())
+        seals.push(seals_of(alloc, contents.as_slice())?)?;
+        starts.push(*start)?;
+        Ok(Kept {
+            reader,
+            links,
+            seals,
+            starts,
+            last: placed.batch,
+        })
     }
 }

@@ -6,7 +6,6 @@ mod contents;
 mod grouped;
 mod kept;
 pub mod laws;
-mod log_reading;
 mod placed_records;
 mod right_key;
 mod seals;

@@ -1,26 +1,31 @@
-use Rattle.std.proofs.Common.{◌≡◌, List, ℕ, Option, Some, arith, refl, rules, sym, ap, ◌∙◌, subst}
+use Rattle.std.proofs.Common.{◌≡◌, List, ℕ, Option, Some, arith, refl, sym, ap, ◌∙◌, subst}
 use Rattle.std.specs.Prelude.{IfSome}
 use Rattle.commit_journal.proofs.OpenedMoments.{read_throughout}
-use Rattle.cryptree_cli.specs.declared.texts.TheConstants.{HELP, VERSION}
-use Rattle.cryptree_cli.specs.declared.words.Form.TheVariants.{Help, Version}
-use Rattle.cryptree_cli.specs.declared.words.Form.{Form}
-use Rattle.cryptree_cli.specs.Promises.Gen.{GenEnds}
-use Rattle.cryptree_cli.specs.Promises.Open.{OpenEnds}
-use Rattle.cryptree_cli.specs.Promises.Text.{TextEnds}
-use Rattle.cryptree_cli.specs.Words.{HasFewLines, form_of_words, text_of}
-use Rattle.cryptree_cli.proofs.GenerateLemmas.{of_asked}
-use Rattle.cryptree_cli.proofs.MakeLemmas.{done_or_no_memory}
-use Rattle.cryptree_cli.proofs.ReaderPromises.{audit_ends, list_ends, open_ends}
+use Rattle.cli_words.specs.declared.texts.TheConstants.{HELP, VERSION}
+use Rattle.cli_words.specs.declared.words.Form.TheVariants.{Help, Version}
+use Rattle.cli_words.specs.declared.words.Form.{Form}
+use Rattle.cli_making.specs.Promises.Gen.{GenEnds}
+use Rattle.cli_reading.specs.Promises.Audit.{of_audit}
+use Rattle.cli_reading.specs.Promises.List.{of_list}
+use Rattle.cli_reading.specs.Promises.Open.{OpenEnds, of_open}
+use Rattle.cli_base.specs.Promises.Text.{TextEnds}
+use Rattle.cli_base.specs.World.{senses_of, world_of}
+use Rattle.cli_words.specs.Words.{HasFewLines, form_of_words, text_of}
+use Rattle.cli_words.proofs.AskedScripts.{of_asked}
+use Rattle.cli_making.proofs.MakeLemmas.{done_or_no_memory}
+use Rattle.cli_reading.proofs.Sound.{reading_ends}
+use Rattle.cli_reading.proofs.SoundAudit.{audit_sound}
+use Rattle.cli_reading.proofs.SoundLines.{list_sound, open_sound}
 use Rattle.cryptree_cli.proofs.top.top.Goals as goal
 
 pub returns-in-Some-Make-clause-makes : goal.returns-in-Some-Make-clause-makes
 returns-in-Some-Make-clause-makes g c = λ is.
     let make = c.make.ensures in
     record {
-      answers = search rules;
-      not_blank = search rules;
-      short = search rules;
-      short_only = search rules;
+      answers = make.answers;
+      not_blank = make.not_blank;
+      short = make.short;
+      short_only = make.short_only;
       complete = λ blank x was enough random disk out.
           done_or_no_memory c.make.result make.answers
           (λ e. make.not_blank.0 e blank)
@@ -28,15 +33,17 @@ returns-in-Some-Make-clause-makes g c = λ is.
           (λ e. omega (arith, make.disk_fault e, disk))
           (λ e. omega (arith, make.write_fault e, out))
           (λ left need e. let short = make.short left need e in omega (arith, short.had x was, short.fewer, enough));
-      made = search rules;
-      cut_short = search rules;
-      stays = search rules;
+      made = make.made;
+      cut_short = make.cut_short;
+      stays = make.stays;
+      hands = make.hands;
+      hands_some = make.hands_some;
       later = make.later;
       time = make.time;
-      input_kept = refl;
-      random_kept = search rules;
-      disk_kept = search rules;
-      out_kept = search rules;
+      rest_kept = refl;
+      random_kept = make.random_kept;
+      disk_kept = make.disk_kept;
+      out_kept = make.out_kept;
     }
 
 -- ---- `run`
@@ -62,7 +69,11 @@ returns-in-Some-Run-clause-runs g c = λ is.
       time = run.time;
       stays = run.stays;
       opening = run.opening;
-      unopened = run.unopened;
+      unopened = λ early.
+          let kept = run.unopened early in
+          ap (λ random. world_of c.run.new.input random c.run.new.disk c.run.new.out) kept.0
+          ∙ ap (λ disk. world_of c.run.new.input c.args.random.now disk c.run.new.out) kept.1
+          ∙ ap (λ out. world_of c.run.new.input c.args.random.now c.args.disk.now out) kept.2;
     }
 
 -- ---- `gen`
@@ -75,14 +86,15 @@ generate_store-requires g c =
 pub returns-in-Some-Gen-clause-generates : goal.returns-in-Some-Gen-clause-generates
 returns-in-Some-Gen-clause-generates g c = λ seed count asked.
     let gen = c.generate_store.ensures in
-    of_asked (λ n m. GenEnds g.S.Source g.R.Source g.D.Disk g.W.Sink c.generate_store.result c.args.input.now c.args.input.now
-    c.args.random.now c.generate_store.new.random c.args.disk.now c.generate_store.new.disk c.args.out.now c.generate_store.new.out n m)
+    of_asked (λ n m. GenEnds (senses_of g.S.Source g.R.Source g.D.Disk g.W.Sink) c.generate_store.result
+    (world_of c.args.input.now c.args.random.now c.args.disk.now c.args.out.now)
+    (world_of c.args.input.now c.generate_store.new.random c.generate_store.new.disk c.generate_store.new.out) n m)
     c.in-Some-Gen.seed c.in-Some-Gen.count seed count (form_of_words c.args.words.now.items)
     (sym c.form_of.ensures.form ∙ c.in-Some-Gen.is ∙ ap (λ f. Some f) c.in-Some-Gen.field-0-is) asked
     (record {
-      answers = search rules;
-      not_blank = search rules;
-      short = search rules;
+      answers = gen.answers;
+      not_blank = gen.not_blank;
+      short = gen.short;
       complete = λ blank enough random disk out.
           done_or_no_memory c.generate_store.result gen.answers
           (λ e. gen.not_blank.0 e blank)
@@ -90,39 +102,52 @@ returns-in-Some-Gen-clause-generates g c = λ seed count asked.
           (λ e. omega (arith, gen.disk_fault e, disk))
           (λ e. omega (arith, gen.write_fault e, out))
           enough;
-      generates = search rules;
+      generates = gen.generates;
       later = gen.later;
       time = gen.time;
-      calm = search rules;
-      input_kept = refl;
-      blank_kept = search rules;
-      out_kept = search rules;
+      calm = gen.calm;
+      rest_kept = refl;
+      blank_kept = gen.blank_kept;
+      out_kept = gen.out_kept;
     })
 
 -- ---- `list`, `open` and `audit`
 
 pub returns-in-Some-List-clause-lists : goal.returns-in-Some-List-clause-lists
 returns-in-Some-List-clause-lists g c = λ is.
+    let read = c.read_and_print in
     let moments = read_throughout g.D.Disk (λ d s left at. g.met.D.Disk.only_now d s left at)
     (λ d t s left early shows leaves. g.met.D.Disk.counts_now d t s left early shows leaves)
-    c.args.disk.now c.list.new.disk c.list.ensures.reads.reads_only in
-    search (rules, list_ends, moments)
+    c.args.disk.now read.new.disk read.ensures.reads.reads_only in
+    reading_ends of_list list_sound (senses_of g.S.Source g.R.Source g.D.Disk g.W.Sink) read.result
+    (world_of c.args.input.now c.args.random.now c.args.disk.now c.args.out.now)
+    (world_of read.new.input c.args.random.now read.new.disk read.new.out)
+    refl read.ensures.answers read.ensures.reads moments read.ensures.disk_unread read.ensures.out_kept
 
 pub returns-in-Some-Open-clause-opens : goal.returns-in-Some-Open-clause-opens
 returns-in-Some-Open-clause-opens g c = λ is.
+    let read = c.read_and_print-in-Some-Open in
+    let path = c.path_in.result.now in
+    let see = senses_of g.S.Source g.R.Source g.D.Disk g.W.Sink in
+    let before = world_of c.args.input.now c.args.random.now c.args.disk.now c.args.out.now in
+    let after = world_of read.new.input c.args.random.now read.new.disk read.new.out in
     let moments = read_throughout g.D.Disk (λ d s left at. g.met.D.Disk.only_now d s left at)
     (λ d t s left early shows leaves. g.met.D.Disk.counts_now d t s left early shows leaves)
-    c.args.disk.now c.open.new.disk c.open.ensures.reads.reads_only in
-    subst (λ named. OpenEnds g.S.Source g.R.Source g.D.Disk g.W.Sink c.open.result c.args.input.now c.open.new.input
-    c.args.random.now c.args.random.now c.args.disk.now c.open.new.disk c.args.out.now c.open.new.out named) c.path_in.ensures
-    (search (rules, open_ends, moments))
+    c.args.disk.now read.new.disk read.ensures.reads.reads_only in
+    subst (λ named. OpenEnds see read.result before after named) c.path_in.ensures
+    (reading_ends (of_open path) (open_sound path) see read.result before after refl read.ensures.answers read.ensures.reads moments read.ensures.disk_unread
+    read.ensures.out_kept)
 
 pub returns-in-Some-Audit-clause-audits : goal.returns-in-Some-Audit-clause-audits
 returns-in-Some-Audit-clause-audits g c = λ is.
+    let read = c.read_and_print-in-Some-Audit in
     let moments = read_throughout g.D.Disk (λ d s left at. g.met.D.Disk.only_now d s left at)
     (λ d t s left early shows leaves. g.met.D.Disk.counts_now d t s left early shows leaves)
-    c.args.disk.now c.audit.new.disk c.audit.ensures.reads.reads_only in
-    search (rules, audit_ends, moments)
+    c.args.disk.now read.new.disk read.ensures.reads.reads_only in
+    reading_ends of_audit audit_sound (senses_of g.S.Source g.R.Source g.D.Disk g.W.Sink) read.result
+    (world_of c.args.input.now c.args.random.now c.args.disk.now c.args.out.now)
+    (world_of read.new.input c.args.random.now read.new.disk read.new.out)
+    refl read.ensures.answers read.ensures.reads moments read.ensures.disk_unread read.ensures.out_kept
 
 -- ---- the texts
 
@@ -133,9 +158,10 @@ returns-in-Some-Help-clause-tells g c = λ x asked.
     in
     let some : Some HELP.now ≡ Some x = sym (ap text_of form) ∙ asked in
     let text : HELP.now ≡ x = cc in
-    subst (λ (t : List ℕ). TextEnds g.W.Sink c.tell.result c.args.input.now c.args.input.now c.args.random.now c.args.random.now
-    c.args.disk.now c.args.disk.now c.args.out.now c.tell.new.out t) text
-    (record { answers = c.tell.ensures.done; input_kept = refl; random_kept = refl; disk_kept = refl })
+    subst (λ (t : List ℕ). TextEnds (senses_of g.S.Source g.R.Source g.D.Disk g.W.Sink) c.tell.result
+    (world_of c.args.input.now c.args.random.now c.args.disk.now c.args.out.now)
+    (world_of c.args.input.now c.args.random.now c.args.disk.now c.tell.new.out) t) text
+    (record { answers = c.tell.ensures.done; rest_kept = refl })
 
 pub returns-in-Some-Version-clause-tells : goal.returns-in-Some-Version-clause-tells
 returns-in-Some-Version-clause-tells g c = λ x asked.
@@ -145,6 +171,7 @@ returns-in-Some-Version-clause-tells g c = λ x asked.
     let some : Some VERSION.now ≡ Some x = sym (ap text_of form) ∙ asked in
     let text : VERSION.now ≡ x = cc in
     let out = c.tell-in-Some-Version.new.out in
-    subst (λ (t : List ℕ). TextEnds g.W.Sink c.tell-in-Some-Version.result c.args.input.now c.args.input.now c.args.random.now
-    c.args.random.now c.args.disk.now c.args.disk.now c.args.out.now out t) text
-    (record { answers = c.tell-in-Some-Version.ensures.done; input_kept = refl; random_kept = refl; disk_kept = refl })
+    subst (λ (t : List ℕ). TextEnds (senses_of g.S.Source g.R.Source g.D.Disk g.W.Sink) c.tell-in-Some-Version.result
+    (world_of c.args.input.now c.args.random.now c.args.disk.now c.args.out.now)
+    (world_of c.args.input.now c.args.random.now c.args.disk.now out) t) text
+    (record { answers = c.tell-in-Some-Version.ensures.done; rest_kept = refl })

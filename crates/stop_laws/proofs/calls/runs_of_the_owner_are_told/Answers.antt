@@ -1,8 +1,8 @@
+use Rattle.cli_base.specs.World.{senses_of}
 use Rattle.stop_laws.proofs.CallLemmas.{owner_run}
 use Rattle.stop_laws.proofs.calls.runs_of_the_owner_are_told.Goals as goal
 
 pub returns : goal.returns
-returns g c owner typed status told hands run =
-    owner_run g.D.Disk (λ d t s left early shown leaves. g.met.D.Disk.counts_now d t s left early shown leaves) (λ d s left at. g.met.D.Disk.only_now d s left at) (λ d s is. g.met.D.Disk.shown_may_be_left d s is)
-    g.S.Source g.R.Source g.W.Sink status c.args.input_old.now c.args.input_new.now c.args.random_old.now c.args.random_new.now c.args.disk_old.now c.args.disk_new.now c.args.out_old.now c.args.out_new.now
-    owner typed told hands run
+returns g c owner typed status before after told hands run =
+    owner_run (senses_of g.S.Source g.R.Source g.D.Disk g.W.Sink) (λ d t s left early shown leaves. g.met.D.Disk.counts_now d t s left early shown leaves) (λ d s left at. g.met.D.Disk.only_now d s left at) (λ d s is. g.met.D.Disk.shown_may_be_left d s is)
+    status before after owner typed told hands run

@@ -3,5 +3,5 @@ use Rattle.stop_laws.proofs.laws.stops_leave_nothing_but_accepted_commands.Goals
 
 pub returns : goal.returns
 returns g c key m1 m2 first runs bytes left =
-    left_of_runs g.row.D.Denot g.D.Disk.shown g.D.Disk.may_leave g.D.Disk.moment g.D.Disk.since (λ d t s left early shown leaves. g.met.D.Disk.counts_now d t s left early shown leaves)
+    left_of_runs g.D.Disk (λ d t s left early shown leaves. g.met.D.Disk.counts_now d t s left early shown leaves)
     key c.args.start.now m1 m2 first c.args.now.now runs bytes left

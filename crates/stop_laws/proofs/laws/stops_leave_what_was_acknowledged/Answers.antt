@@ -3,6 +3,6 @@ use Rattle.stop_laws.proofs.laws.stops_leave_what_was_acknowledged.Goals as goal
 
 pub returns : goal.returns
 returns g c key m1 m2 first runs =
-    let all = all_left g.row.D.Denot g.D.Disk.shown g.D.Disk.may_leave g.D.Disk.moment g.D.Disk.since (λ d t s left early shown leaves. g.met.D.Disk.counts_now d t s left early shown leaves)
+    let all = all_left g.D.Disk (λ d t s left early shown leaves. g.met.D.Disk.counts_now d t s left early shown leaves)
     key c.args.start.now m1 m2 first c.args.now.now runs in
     (all.0, all.1, all.2, all.3, all.4)

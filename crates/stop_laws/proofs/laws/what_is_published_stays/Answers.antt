@@ -7,6 +7,6 @@ returns g c =
     let a = c.args.start.now in
     record {
       calm = λ key durable. calm_stays key (D.shown a) (D.may_leave a) durable;
-      stays = λ key m1 m2 holds stays runs. all_stay g.row.D.Denot D.shown D.may_leave D.moment D.since (λ d t s left early shown leaves. g.met.D.Disk.counts_now d t s left early shown leaves)
+      stays = λ key m1 m2 holds stays runs. all_stay D (λ d t s left early shown leaves. g.met.D.Disk.counts_now d t s left early shown leaves)
           key a m1 m2 holds stays c.args.now.now runs;
     }

@@ -1,10 +1,12 @@
-use Rattle.std.proofs.Common.{ℕ, [], arith, ◌-◌, drop, length, slice_index_or, take, refl, sym, subst, ◌∙◌}
+use Rattle.std.proofs.Common.{ℕ, List, [], arith, ◌-◌, drop, length, slice_index_or, take, refl, sym, subst, ◌∙◌}
 use Rattle.std.proofs.lemmas.List.{take_rest}
 use Rattle.store_owner.specs.Drawing.{joined}
 use Rattle.store_owner.specs.Counted.{root_counted}
 use Rattle.store_owner.specs.Making.{IsMade, IsMadeJournal}
+use Rattle.commit_journal.specs.Handing.{Hands, Write}
 use Rattle.store_owner.specs.Owned.{OwnerView, owner_at}
-use Rattle.store_owner.proofs.MadePieces.{five_left, is_made, rest_keys, shows_fresh, six_pieces}
+use Rattle.store_owner.specs.Stopping.{ShowsWritten}
+use Rattle.store_owner.proofs.MadePieces.{five_left, fresh_are, is_made, rest_keys, shows_fresh, six_pieces}
 use Rattle.store_owner.proofs.making.made.Goals as goal
 
 pub write-requires-clause-five : goal.write-requires-clause-five
@@ -48,3 +50,28 @@ returns-clause-shows g c = λ s is.
     let rest = take (length drawn - 1) (drop 1 drawn) in
     c.in-Ok.ensures.shows s is
     ∙ shows_fresh (slice_index_or drawn 0 []) rest drawn c.requires.six c.requires.sizes refl (take_rest drawn 1) (c.fresh_journal_has_the_fresh_image.ensures (joined drawn))
+
+pub returns-clause-hands : goal.returns-clause-hands
+returns-clause-hands g c =
+    let D = g.D.Disk in
+    let a = c.args.disk.now in
+    let b = c.write.new.disk in
+    let drawn = c.args.drawn.now in
+    subst (λ (ws : List Write). Hands ws (Unit {0}) (D.shown a) (D.shown b) (D.since b (D.moment a)))
+    (fresh_are (slice_index_or drawn 0 []) (take (length drawn - 1) (drop 1 drawn)) drawn c.requires.six c.requires.sizes refl (take_rest drawn 1)) c.write.ensures.hands
+
+pub returns-in_default-clause-hands : goal.returns-in_default-clause-hands
+returns-in_default-clause-hands g c =
+    let D = g.D.Disk in
+    let a = c.args.disk.now in
+    let b = c.write.new.disk in
+    let drawn = c.args.drawn.now in
+    subst (λ (ws : List Write). Hands ws (Unit {0}) (D.shown a) (D.shown b) (D.since b (D.moment a)))
+    (fresh_are (slice_index_or drawn 0 []) (take (length drawn - 1) (drop 1 drawn)) drawn c.requires.six c.requires.sizes refl (take_rest drawn 1)) c.write.ensures.hands
+
+pub returns-clause-handed : goal.returns-clause-handed
+returns-clause-handed g c =
+    let D = g.D.Disk in
+    let drawn = c.args.drawn.now in
+    subst (λ (ws : List Write). ShowsWritten ws (D.shown c.args.disk.now) (D.shown c.write.new.disk))
+    (fresh_are (slice_index_or drawn 0 []) (take (length drawn - 1) (drop 1 drawn)) drawn c.requires.six c.requires.sizes refl (take_rest drawn 1)) c.in-Ok.ensures.handed

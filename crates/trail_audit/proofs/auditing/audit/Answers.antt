@@ -14,13 +14,13 @@ pub returns-in_err-known-clause-verdict : goal.returns-in_err-known-clause-verdi
 returns-in_err-known-clause-verdict g c = λ s is.
     let p = err_from_is_err_and c.from_residual-in_err-known.result c.from_residual-in_err-known.ensures.1 in
     let read = c.in_ok-log.field-0 in
-    let kept = c.in_ok-log.ensures.kept in
+    let kept = c.in_ok-log.ensures.read in
     rw (p.1, p.2) (log_read c.args.bundle.now s read.log.given (Err c.in_err-known.field-0.0) (c.in_ok-log.ensures.verdict s is) (c.in_err-known.ensures.answer read.log.given kept.read kept.links))
 
 pub returns-clause-verdict : goal.returns-clause-verdict
 returns-clause-verdict g c = λ s is.
     let given = c.in_ok-log.field-0.log.given in
-    let kept = c.in_ok-log.ensures.kept in
+    let kept = c.in_ok-log.ensures.read in
     let bundle = c.args.bundle.now in
     log_read bundle s given c.see_log.result (c.in_ok-log.ensures.verdict s is)
     (records_opened (read_with bundle (Ok given)) bundle given c.in_ok-known.known.keys.items c.see_log.result (c.in_ok-known.ensures.answer given kept.read kept.links)
@@ -35,5 +35,5 @@ returns-clause-counts g c = omega (arith, c.in_ok-log.ensures.counts, c.see_log.
 
 pub known_keys-requires : goal.known_keys-requires
 known_keys-requires g c =
-    let kept = c.in_ok-log.ensures.kept in
+    let kept = c.in_ok-log.ensures.read in
     record { kept = (c.in_ok-log.field-0.log.given, kept.read, kept.links) }

@@ -17,12 +17,12 @@ use Rattle.store_owner.specs.Drawing.{AreKeys, joined}
 use Rattle.store_owner.specs.Owned.{IsOwnerOf, OwnerView}
 use Rattle.store_owner.specs.Planning.{AnswersPlan, reply_for}
 use Rattle.store_owner.specs.Sound.{IsSound, own_store}
-use Rattle.store_owner.specs.Stopping.{StopsBetween}
+use Rattle.store_owner.specs.Stopping.{HandsAll, StopsBetween}
 use Rattle.store_owner.specs.declared.apply_fault.ApplyFault.TheVariants as faults
 use Rattle.store_owner.specs.declared.owner.Verdict.{Verdict}
 use Rattle.store_owner.specs.declared.owner.Verdict.TheVariants as verdicts
-use Rattle.store_owner.proofs.Applied.{both_ok, carried_answer, reply_due, undrawn_answer}
-use Rattle.store_owner.proofs.OtherRoom.{accepted_still, carried_from, limit_still, published_from, sound_still, stops_from, store_still, interrupted_from}
+use Rattle.store_owner.proofs.Applied.{all_ok, carried_answer, reply_due, undrawn_answer}
+use Rattle.store_owner.proofs.OtherRoom.{accepted_still, carried_from, handed_from, limit_still, published_from, sound_still, stops_from, store_still, interrupted_from}
 use Rattle.std.proofs.lemmas.Result.{on_err_weaker}
 use Rattle.store_owner.proofs.Planned.{is_refused}
 use Rattle.store_owner.proofs.Tallies.{carried_counts}
@@ -47,6 +47,21 @@ returns-in-Err-fill-clause-answers g c = λ m is.
     (g.D.Disk.may_leave c.args.disk.now) (g.D.Disk.may_leave c.args.disk.now) (g.D.Disk.since c.args.disk.now (g.D.Disk.moment c.args.disk.now))
     (planned.2 m is) c.plan.ensures.room (c.in-Ok-reserve.ensures ∙ ap length c.as_slice-count.ensures ∙ ap (λ (s : Skeleton). length s.keys.items) c.skeleton.ensures ∙ draws.0) draws.1
     c.in-Err-fill.ensures.faults c.in-Err-fill.ensures.bytes c.in-Err-fill.ensures.told (c.disk_stands_still.ensures.rests o.key m)
+
+pub returns-then-is_closed-clause-answers : goal.returns-then-is_closed-clause-answers
+returns-then-is_closed-clause-answers g c = λ m is.
+    let closed = ap (λ (o : OwnerView). o.journal.is_closed) (sym c.self.view_is) ∙ sym c.is_closed.ensures ∙ c.if-is_closed.true in
+    (closed, refl, c.disk_stands_still.ensures.rests c.args.self.now.key m)
+
+pub returns-in-Ok-Full-clause-answers : goal.returns-in-Ok-Full-clause-answers
+returns-in-Ok-Full-clause-answers g c = λ m is.
+    let o : OwnerView = c.args.self.now in
+    let full : AnswersPlan {E = OutOfMemory} (Ok verdicts.Full) (request_of c.args.command.now) o c.plan.new.self =
+    subst (λ (v : Verdict). AnswersPlan {E = OutOfMemory} (Ok v) (request_of c.args.command.now) o c.plan.new.self) c.in-Ok-Full.field-0-is c.in-Ok-Full.ensures.answers in
+    (full.1 m is, full.0, c.disk_stands_still.ensures.rests o.key m)
+
+pub returns-in-Err-plan-clause-answers : goal.returns-in-Err-plan-clause-answers
+returns-in-Err-plan-clause-answers g c = λ m is. (c.plan.ensures.room, c.disk_stands_still.ensures.rests c.args.self.now.key m)
 
 pub returns-in_default-clause-answers : goal.returns-in_default-clause-answers
 returns-in_default-clause-answers g c = λ m is. (c.plan.ensures.room, c.disk_stands_still.ensures.rests c.args.self.now.key m)
@@ -80,7 +95,7 @@ returns-clause-answers g c = λ m is.
     let then = journal_then m o.journal.has_epoch r drawn in
     let stops : StopsBetween o.key m then was shows might may since =
     stops_from r drawn o mid was shows might may since c.plan.ensures.room c.carry_out.ensures.stops m is limit bounded (planned.2 m is) in
-    let done : IsCarriedOut r drawn mid new was shows × IsDurable may shows → IsDone m r (reply_for note drawn) o new before after was shows might may since = λ h.
+    let done : IsCarriedOut r drawn mid new was shows × IsDurable may shows × HandsAll r drawn mid was shows → IsDone m r (reply_for note drawn) o new before after was shows might may since = λ h.
     let full : IsCarriedOut r drawn o new was shows = carried_from r drawn o mid new was shows c.plan.ensures.room h.0 in
     let owner : IsOwnerOf then new = c.owners_go_on.ensures.owner m r drawn o new was shows is limit bounded (planned.2 m is) full in
     let disk = c.owners_go_on.ensures.disk m r drawn o new was shows is limit bounded (planned.2 m is) full in
@@ -101,6 +116,7 @@ returns-clause-answers g c = λ m is.
       comes_to_rest = record {
         stops = stops;
         rests = rests_then o.key m then was shows might may owner.valid (subst (λ key. AreWhole key then) full.same_key owner.whole_keys) c.carry_out.ensures.told disk h.1;
+        handed = handed_from r drawn o mid was shows c.plan.ensures.room h.2 m is limit bounded (planned.2 m is);
       };
     } in
     let left : IsInterrupted r drawn mid was shows → IsCutShort m r o before after was shows might may since = λ h. record {
@@ -112,9 +128,10 @@ returns-clause-answers g c = λ m is.
       disk_stands = c.interrupted_commands_leave_a_journal.ensures m r drawn o was shows is limit bounded (planned.2 m is) (interrupted_from r drawn o mid was shows c.plan.ensures.room h);
       stops = stops;
     } in
-    carried_answer c.carry_out.result note drawn m r o new before after was shows might may since (IsCarriedOut r drawn mid new was shows × IsDurable may shows) (planned.2 m is) c.carry_out.ensures.fault c.carry_out.ensures.closed
+    carried_answer c.carry_out.result note drawn m r o new before after was shows might may since (IsCarriedOut r drawn mid new was shows × IsDurable may shows × HandsAll r drawn mid was shows) (planned.2 m is) c.carry_out.ensures.fault c.carry_out.ensures.closed
     (on_err_weaker c.carry_out.result left c.carry_out.ensures.interrupted) c.carry_out.ensures.reply
-    (both_ok c.carry_out.result (IsCarriedOut r drawn mid new was shows) (IsDurable may shows) c.carry_out.ensures.done c.carry_out.ensures.durable) done
+    (all_ok c.carry_out.result (IsCarriedOut r drawn mid new was shows) (IsDurable may shows) (HandsAll r drawn mid was shows) c.carry_out.ensures.done c.carry_out.ensures.durable
+    c.carry_out.ensures.handed) done
 
 pub returns-clause-counts : goal.returns-clause-counts
 returns-clause-counts g c =

@@ -24,13 +24,13 @@ use Rattle.command_plan.specs.NameChanges.{IsNameChangeOf}
 use Rattle.store_owner.specs.Sound.{own_store}
 use Rattle.store_owner.specs.declared.counted.Counted.{Counted}
 use Rattle.store_owner.specs.Published.{PublishesWithin}
-use Rattle.store_owner.specs.Stopping.{StopsWithin}
+use Rattle.store_owner.specs.Stopping.{HandsAll, StopsWithin}
 use Rattle.command_plan.specs.declared.name_change.NameChange.{NameChange}
 use Rattle.store_owner.proofs.Counts.{within_limit, within_on}
 use Rattle.store_owner.proofs.CarriedOut.{batches_for, carried, ends_for, fits_for, sealed_for, size_for, skeleton_for, starts_for, text_for}
 use Rattle.store_owner.proofs.NotesKeyed.{adds_holder, holder_drawn}
 use Rattle.store_owner.proofs.PublishedCommands.{early_published, late_published}
-use Rattle.store_owner.proofs.StoppedCommands.{early_stops, late_stops, time_then}
+use Rattle.store_owner.proofs.StoppedCommands.{all_handed, early_stops, late_stops, time_then}
 use Rattle.store_owner.proofs.owner.Owner.carry_out.Goals as goal
 
 pub take_key-reply-requires-clause-holder : goal.take_key-reply-requires-clause-holder
@@ -270,7 +270,7 @@ returns-in_default-commit_within-clause-stops g c =
     subst (λ (o : OwnerView). StopsWithin r drawn o was (D.shown e) (D.may_leave a) (D.may_leave e) (D.since e (D.moment a))) c.self.view_is
     (λ m is low bound fine.
     late_stops m r drawn old was (D.may_leave a) is low bound fine sealed (D.may_leave b) c.in-Ok.ensures.calm (D.shown e) (D.may_leave e) (D.moment b) (D.moment a) (D.since b) (D.since e)
-    c.in-Ok.ensures.later c.in_default-commit_within.ensures.time c.in-Ok.ensures.adds c.in_default-commit_within.ensures.adds)
+    c.in-Ok.ensures.later c.in_default-commit_within.ensures.time c.in-Ok.ensures.added c.in-Ok.ensures.adds c.in_default-commit_within.ensures.adds)
 
 pub returns-in_default-commit_within-clause-time : goal.returns-in_default-commit_within-clause-time
 returns-in_default-commit_within-clause-time g c =
@@ -305,7 +305,34 @@ returns-clause-stops g c =
     subst (λ (o : OwnerView). StopsWithin r drawn o was (D.shown e) (D.may_leave a) (D.may_leave e) (D.since e (D.moment a))) c.self.view_is
     (λ m is low bound fine.
     late_stops m r drawn old was (D.may_leave a) is low bound fine sealed (D.may_leave b) c.in-Ok.ensures.calm (D.shown e) (D.may_leave e) (D.moment b) (D.moment a) (D.since b) (D.since e)
-    c.in-Ok.ensures.later c.in-Ok-commit_within.ensures.time c.in-Ok.ensures.adds c.in-Ok-commit_within.ensures.adds)
+    c.in-Ok.ensures.later c.in-Ok-commit_within.ensures.time c.in-Ok.ensures.added c.in-Ok.ensures.adds c.in-Ok-commit_within.ensures.adds)
+
+pub returns-clause-handed : goal.returns-clause-handed
+unfolding sealed_for
+returns-clause-handed g c =
+    let i = c.self.inside in
+    let old : OwnerView = record { key = i.key.bytes; journal = i.journal; state = i.state; names = i.names; ring = i.ring; counter = i.counter; file_bytes = i.limits.file_bytes; tally = i.tally } in
+    let D = g.D.Disk in
+    let a = c.args.disk.now in
+    let b = c.begin.new.disk in
+    let e = c.commit_within.new.disk in
+    let r = request_of c.args.command.now in
+    let drawn = c.args.drawn.now in
+    let before = c.args.change in
+    let after = c.take_key-reply.new.self in
+    let at = stand_of i.state in
+    let keyed = c.take_key-reply.ensures.keyed in
+    let drafted : IsDrafted r old before = subst (λ (o : OwnerView). IsDrafted r o before) (sym c.self.view_is) c.requires.drafted in
+    let own = c.sound_owners_keep_a_store.ensures.store old in
+    let was = D.shown a in
+    let showed = D.shown b in
+    let has : HasBegun i.journal c.begin.new.journal i.counter c.in-Ok.counter was showed =
+    subst (λ (k : Option Counting). HasBegun i.journal c.begin.new.journal k c.in-Ok.counter was showed) c.take.ensures.value c.in-Ok.ensures.begun in
+    let sealed = sealed_for r drawn old before after at drafted keyed c.requires.count c.requires.sizes own c.is_seen.ensures was showed c.begin.new.journal c.in-Ok.counter
+    c.skeleton.result.now (plain_payload c.seal_step-payload.result) has c.in-Ok.ensures.told c.skeleton.ensures c.seal_step-payload.ensures.payload in
+    subst (λ (o : OwnerView). HandsAll r drawn o was (D.shown e)) c.self.view_is
+    (λ m is low bound fine.
+    all_handed m r drawn old was (D.may_leave a) is low bound fine sealed (D.may_leave b) c.in-Ok.ensures.calm (D.shown e) c.in-Ok.ensures.added c.in-Ok-commit_within.ensures.added)
 
 pub returns-clause-time : goal.returns-clause-time
 returns-clause-time g c =

@@ -1,19 +1,22 @@
-use Rattle.std.proofs.Common.{◌≡◌, Ok, ap, inr, subst}
+use Rattle.std.proofs.Common.{◌≡◌, Ok, Err, ap, inr, subst}
 use Rattle.std.proofs.lemmas.Result.{err_from_is_err_and}
 use Rattle.batch_log.specs.Moments.{FromThenOn}
 use Rattle.chacha_seal.specs.Keys.{KeyParts}
 use Rattle.cry_io.specs.Told.{WhereTold, WhereBothTold}
 use Rattle.commit_journal.specs.Answering.{IsFault}
+use Rattle.commit_journal.specs.declared.fault.OpenFault.TheVariants as faults
+use Rattle.commit_journal.specs.Handing.{HandsOpening}
 use Rattle.commit_journal.specs.Moments.{OpensInOrder, OpensThroughout}
 use Rattle.commit_journal.specs.Opening.{IsOpened, LeavesGated, opening_verdict, plain_opened, slots_filled}
 use Rattle.commit_journal.specs.Placed.{plain_log}
 use Rattle.commit_journal.specs.WholeLogs.{StillStand}
 use Rattle.commit_journal.proofs.CommitLemmas.{on_err}
+use Rattle.commit_journal.proofs.SlotsWritten.{opening_failing}
 use Rattle.store_owner.proofs.OpenedBehind.{journal_filled, journal_left, journal_never, journal_settled, journal_stands, largest_verdict, same_verdict}
 use Rattle.store_owner.proofs.OpenedContents.{log_fails}
 use Rattle.store_owner.proofs.OpenedKept.{journals_kept}
 use Rattle.store_owner.proofs.PublishedCommands.{opening_published}
-use Rattle.store_owner.proofs.RefusedStores.{behind_kept, is_filled, is_gated, on_each, on_ok, untouched_refused}
+use Rattle.store_owner.proofs.RefusedStores.{behind_kept, is_filled, is_gated, ok_is_no_fault, on_each, on_ok, same_fault, untouched_refused}
 use Rattle.store_owner.proofs.owner.Owner.open_store.Goals as goal
 
 pub returns-in_err-opened-clause-verdict : goal.returns-in_err-opened-clause-verdict
@@ -217,3 +220,28 @@ returns-clause-published g c =
     opening_published g.row.D.Denot D.moment D.since a e limit c.args.key (D.shown a) (D.may_leave a) c.requires.known
     (subst (λ b. OpensThroughout limit b (D.shown a) (D.may_leave a) (D.since e (D.moment a))) bytes c.open_owner.ensures.stops)
     (subst (λ b. OpensInOrder limit b (D.shown a) (FromThenOn D.moment D.since a e)) bytes c.open_owner.ensures.ordered)
+
+-- ---- what the disk is handed
+
+pub returns-in_err-opened-clause-hands : goal.returns-in_err-opened-clause-hands
+returns-in_err-opened-clause-hands g c =
+    let D = g.D.Disk in
+    let a = c.args.disk.now in
+    let b = c.open_owner.new.disk in
+    let limit = c.args.limits.store_bytes in
+    let p = err_from_is_err_and c.from_residual.result c.from_residual.ensures.1 in
+    let bytes = ap (λ (k : KeyParts). k.bytes) c.owner-owner.ensures in
+    subst (λ k. HandsOpening limit k (c.from_residual.result ≡ Err faults.DiskFault) (D.shown a) (D.shown b) (D.since b (D.moment a))) bytes
+    (opening_failing limit c.owner-owner.result.bytes _ (c.from_residual.result ≡ Err faults.DiskFault) (D.shown a) (D.shown b) (D.since b (D.moment a))
+    (λ fault. same_fault c.from_residual.result p.0 c.in_err-opened.field-0.0 faults.DiskFault p.1 p.2 fault) c.in_err-opened.ensures.hands)
+
+pub returns-clause-hands : goal.returns-clause-hands
+returns-clause-hands g c =
+    let D = g.D.Disk in
+    let a = c.args.disk.now in
+    let b = c.open_owner.new.disk in
+    let limit = c.args.limits.store_bytes in
+    let bytes = ap (λ (k : KeyParts). k.bytes) c.owner-owner.ensures in
+    subst (λ k. HandsOpening limit k (c.owner_behind.result ≡ Err faults.DiskFault) (D.shown a) (D.shown b) (D.since b (D.moment a))) bytes
+    (opening_failing limit c.owner-owner.result.bytes _ (c.owner_behind.result ≡ Err faults.DiskFault) (D.shown a) (D.shown b) (D.since b (D.moment a))
+    (λ fault. absurd (ok_is_no_fault c.in_ok-opened.opened faults.DiskFault fault)) c.in_ok-opened.ensures.hands)

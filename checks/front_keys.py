@@ -1,0 +1,229 @@
+"""What the front end promises of keys, grants, locks and older copies, asked of it."""
+import fcntl
+import glob
+import json
+import os
+import shutil
+import stat
+
+from front_calls import Paused, expect_told, front, keys_of, program_that, started
+from harness import read
+
+
+def modes(folder):
+    """The modes of a folder and of all in it."""
+    found = {stat.S_IMODE(os.stat(folder).st_mode)}
+    for place, folders, files in os.walk(folder):
+        found |= {stat.S_IMODE(os.stat(os.path.join(place, name)).st_mode) for name in folders + files}
+    return found
+
+
+def key_file(check, store, name):
+    return os.path.join(keys_of(check), read(store)[9:41].hex(), name)
+
+
+def done(check, what, came):
+    """That it ended with 0 and said nothing; what it printed."""
+    check.expect(what, (came[0], came[2]), (0, b""))
+    return came[1]
+
+
+def fresh(check, name):
+    """A new store."""
+    store = os.path.join(check.folder, name)
+    done(check, "init " + name, front(check, store, "init"))
+    return store
+
+
+def making(check):
+    """init: who may read what it makes, twice in a row, a program that fails."""
+    store = fresh(check, "made.store")
+    owner = read(key_file(check, store, "owner.key"))
+    check.expect("modes", (modes(keys_of(check)), stat.S_IMODE(os.stat(store).st_mode)), ({0o700, 0o600}, 0o600))
+    check.expect("owner's key opens the store", check.call([store, "-", "list"], owner), (0, b"folder /\n", b""))
+    before = read(store), sorted(glob.glob(keys_of(check) + "/**", recursive=True))
+    expect_told(check, "init twice", front(check, store, "init"), 1, "stands there already")
+    check.expect("init twice leaves all", (read(store), sorted(glob.glob(keys_of(check) + "/**", recursive=True)), read(
+        key_file(check, store, "owner.key"))), (*before, owner))
+    missing = os.path.join(check.folder, "none.store")
+    ends = program_that(check, "ends", "exit 7")
+    expect_told(check, "init without random bytes", front(check, missing, "init", program=ends), 1, "/dev/urandom")
+    left = [name for name in os.listdir(check.folder) if name.startswith((".cryptree", "none"))]
+    check.expect("init that failed leaves nothing", left, [])
+    expect_told(check, "no program", front(check, missing, "init", program=os.path.join(check.folder, "no")), 1, "CRYPTREE")
+    open_folder = os.path.join(check.folder, "open_keys")
+    os.mkdir(open_folder, 0o755)
+    os.chmod(open_folder, 0o755)
+    expect_told(check, "a key folder for all", front(check, missing, "init", keys=open_folder), 1, "chmod 700")
+    os.rename(store, store + ".moved")
+    done(check, "keys follow a store that moved", front(check, store + ".moved", "holder", "add", "mo"))
+
+
+def init_that_is_killed(check):
+    """A store never has its name before its key stands in the key folder."""
+    store = os.path.join(check.folder, "killed.store")
+    paused = Paused(check, "made", "{program}; {pause}")
+    paused.killed_at(started(check, store, "init", program=paused.path))
+    paused.go()
+    check.expect("init that was killed", os.path.exists(store), False)
+    done(check, "init after it", front(check, store, "init"))
+    check.expect("its key", os.path.exists(key_file(check, store, "owner.key")), True)
+
+
+def sharing(check):
+    """holder, grant, revoke and who, and what they refuse."""
+    store = fresh(check, "granted.store")
+    done(check, "holder add", front(check, store, "holder", "add", "ann"))
+    there = os.path.join(check.folder, "ben.key")
+    printed = json.loads(done(check, "holder add --to", front(check, store, "holder", "add", "ben", "--to", there, "--json")))
+    check.expect("what holder add prints", printed, {"name": "ben", "number": 2, "key": there})
+    check.expect("modes of keys", modes(keys_of(check)) | {stat.S_IMODE(os.stat(there).st_mode)}, {0o700, 0o600})
+    key, size = read(there), os.stat(store).st_size
+    expect_told(check, "a holder twice", front(check, store, "holder", "add", "ann"), 1, "already")
+    expect_told(check, "a key file twice", front(check, store, "holder", "add", "cy", "--to", there), 1, "never written over")
+    expect_told(check, "a holder's name", front(check, store, "holder", "add", "../x"), 2, "can't be a holder's name")
+    check.expect("these write nothing", (read(there), os.stat(store).st_size), (key, size))
+    done(check, "grant", front(check, store, "grant", "ann", "/"))
+    size = os.stat(store).st_size
+    expect_told(check, "a grant that stands", front(check, store, "grant", "ann", "/"), 1, "has-grant", "nothing was done")
+    expect_told(check, "a grant on nothing", front(check, store, "grant", "ben", "/no"), 1, "no-path")
+    expect_told(check, "a grant to nobody", front(check, store, "grant", "bob", "/"), 1, "ann, ben")
+    expect_told(check, "a grant that isn't there", front(check, store, "revoke", "ben", "/"), 1, "no-grant")
+    check.expect("refusals write nothing", os.stat(store).st_size, size)
+    due = [{"name": "ann", "number": 1, "granted": ["/"], "from": "store"},
+           {"name": "ben", "number": 2, "granted": [], "from": "record"}]
+    check.expect("who", json.loads(done(check, "who --json", front(check, store, "who", "--json"))), due)
+    done(check, "revoke", front(check, store, "revoke", "ann", "/"))
+    check.expect("who after it", b"ann  -" in done(check, "who", front(check, store, "who")), True)
+    owner = read(key_file(check, store, "owner.key"))
+    check.call([store, "/dev/urandom", "run"], owner + b"grant 1 /\n")
+    expect_told(check, "a grant by the program", front(check, store, "who"), 1, "otherwise than is recorded")
+    check.expect("no key is printed", owner[6:70] in b"".join(front(check, store, "who", "--json")[1:]), False)
+
+
+def locks(check):
+    """A store that another is at: waiting for it, and not waiting."""
+    store = fresh(check, "locked.store")
+    with open(store, "rb") as file:
+        for how, words in ((fcntl.LOCK_EX, ["who"]), (fcntl.LOCK_EX, ["holder", "add", "ann"]), (fcntl.LOCK_SH, ["holder", "add", "ann"])):
+            fcntl.flock(file, how)
+            expect_told(check, f"{words[0]} without waiting", front(check, store, *words, "--no-wait"), 1, "another is at")
+        done(check, "two readers", front(check, store, "who"))
+        process = started(check, store, "holder", "add", "ann")
+        said = process.stderr.readline()
+        check.expect("it says that it waits", b"waiting for another" in said and process.poll() is None, True)
+        fcntl.flock(file, fcntl.LOCK_UN)
+        done(check, "and goes on", (process.wait(), *process.communicate()))
+    processes = [started(check, store, "holder", "add", f"holder{number}") for number in range(4)]
+    check.expect("four writers at once", [(process.communicate()[0][:6], process.returncode) for process in processes],
+                 [(b"holder", 0)] * 4)
+    check.expect("all of them are there", done(check, "who", front(check, store, "who")).count(b"\n"), 5)
+
+
+def exchanged(check):
+    """Two stores of one owner's that were exchanged on the disk: neither is written for the holders of the other."""
+    one, two = fresh(check, "one.store"), fresh(check, "two.store")
+    images = read(one), read(two)
+    check.put("one.store", images[1])
+    check.put("two.store", images[0])
+    expect_told(check, "an exchanged store is written", front(check, one, "holder", "add", "ann"), 1, "another store", "--accept")
+    expect_told(check, "an exchanged store is read", front(check, two, "who"), 1, "another store", "--accept")
+    check.expect("it isn't written", (read(two), read(one)), images)
+    check.put("one.store", images[0])
+    done(check, "put back", front(check, one, "holder", "add", "ann"))
+    os.rename(one, two)
+    came = front(check, two, "holder", "add", "ben", "--accept")
+    check.expect("moved to where another stood", (came[0], b"taken as it is" in came[2]), (0, True))
+    done(check, "and then for good", front(check, two, "holder", "add", "cy"))
+
+
+def stopped_holder(check):
+    """A key file that a stopped `holder add` left is taken, another's isn't."""
+    store = fresh(check, "again.store")
+    done(check, "holder add", front(check, store, "holder", "add", "ann"))
+    ann, record = key_file(check, store, "ann.key"), key_file(check, store, "holders.json")
+    key, kept = read(ann), read(record)
+    os.remove(record)
+    done(check, "holder add again", front(check, store, "holder", "add", "ann"))
+    check.expect("it's the same holder", (read(ann), read(record)), (key, kept))
+    os.rename(ann, key_file(check, store, "ben.key"))
+    expect_told(check, "a key file of another", front(check, store, "holder", "add", "ben"), 1, "never written over")
+
+
+def older_copies(check):
+    """A copy that was put back, one that was written elsewhere, one that only went on, and a session that was killed."""
+    store = fresh(check, "older.store")
+    older = read(store)
+    done(check, "a writing", front(check, store, "holder", "add", "ann"))
+    newest, owner = read(store), read(key_file(check, store, "owner.key"))
+    for what, bytes_there, run in (("put back", older, b""), ("written elsewhere", older, b"holder\nholder\nholder\n")):
+        copy = check.put("older.store", bytes_there)
+        check.call([copy, "/dev/urandom", "run"], owner + run)
+        left = read(copy)
+        expect_told(check, f"a copy that was {what}", front(check, store, "holder", "add", "ben"), 1, "older copy", "--accept")
+        check.expect(f"a copy that was {what} isn't written", read(store) == left, True)
+        done(check, "it can be read, though", front(check, store, "who"))
+    check.put("older.store", newest)
+    done(check, "the newest one again", front(check, store, "grant", "ann", "/"))
+    newest = read(store)
+    check.call([store, "/dev/urandom", "run"], owner + b"mkdir /by-the-program\n")
+    done(check, "one that went on", front(check, store, "revoke", "ann", "/"))
+    check.put("older.store", newest)
+    came = front(check, store, "holder", "add", "ben", "--accept")
+    check.expect("taken as it is", (came[0], b"older copy" in came[2], b"whoever has both copies" in came[2]), (0, True, True))
+    done(check, "and then for good", front(check, store, "holder", "add", "cy"))
+    kept = key_file(check, store, "last")
+    os.rename(kept, kept + ".gone")
+    expect_told(check, "nothing known", front(check, store, "holder", "add", "di"), 1, "--accept")
+    os.rename(kept + ".gone", kept)
+    killed_session(check, store)
+
+
+def killed_session(check, store):
+    """A session that was killed: what it had written goes on, and where nothing of it is there that is told."""
+    before, paused = read(store), Paused(check, "begun", "{pause}; exec {program}")
+    paused.killed_at(started(check, store, "holder", "add", "ed", program=paused.path))
+    expect_told(check, "the program still has the lock", front(check, store, "holder", "add", "ed", "--no-wait"), 1, "another is at")
+    paused.go()
+    with open(store, "rb") as file:
+        fcntl.flock(file, fcntl.LOCK_EX)
+        after = read(store)
+    check.put("older.store", before)
+    expect_told(check, "put back after a kill", front(check, store, "holder", "add", "fo"), 1, "was killed", "--accept")
+    shutil.copyfile(check.put("after", after), store)
+    goes_on = front(check, store, "holder", "add", "fo")
+    check.expect("what a killed session left", goes_on[0], 0 if after != before else 1)
+
+
+def renewed(check):
+    """A new store of an older copy, with new keys for the same holders."""
+    store, new = fresh(check, "old.store"), os.path.join(check.folder, "new.store")
+    owner = read(key_file(check, store, "owner.key"))
+    check.call([store, "/dev/urandom", "run"], owner + b"mkdir /a\nmkdir /a/b\nwrite /a/b/c 6869\nwrite /empty \n")
+    for name, path in (("ann", "/a"), ("ben", "/a/b"), ("cy", None)):
+        done(check, "holder add", front(check, store, "holder", "add", name))
+        if path:
+            done(check, "grant", front(check, store, "grant", name, path))
+    older, copy = read(store), os.path.join(check.folder, "backup")
+    done(check, "backup", front(check, store, "backup", copy))
+    expect_told(check, "backup twice", front(check, store, "backup", copy), 1, "never written over")
+    check.expect("the backup", (read(copy) == older, stat.S_IMODE(os.stat(copy).st_mode)), (True, 0o600))
+    check.call([store, "/dev/urandom", "run"], owner + b"mkdir /later\n")
+    done(check, "grant", front(check, store, "grant", "cy", "/later"))
+    os.replace(copy, store)
+    expect_told(check, "a backup is written", front(check, store, "holder", "add", "di"), 1, "older copy", "renew")
+    came = front(check, store, "renew", new)
+    check.expect("renew", (came[0], b"the grant of cy on /later" in came[2], read(store) == older), (1, True, True))
+    for name in ("owner", "ann", "ben"):
+        lists = [check.call([path, "-", "list"], read(key_file(check, path, name + ".key"))) for path in (store, new)]
+        check.expect(f"what {name} is shown", lists[0] == lists[1] and lists[0][0], 0)
+        is_new = read(key_file(check, store, name + ".key")) != read(key_file(check, new, name + ".key"))
+        check.expect(f"{name} has a new key", is_new, True)
+    check.expect("modes after renew", modes(keys_of(check)), {0o700, 0o600})
+    done(check, "who of the new one", front(check, new, "who"))
+    for path, due in (("/", []), ("/a", ["ann"]), ("/a/b", ["ann", "ben"]), ("/a/b/d", ["ann", "ben"]), ("/ab", [])):
+        names = [entry["name"] for entry in json.loads(done(check, "who of a path", front(check, new, "who", path, "--json")))]
+        check.expect(f"who reads {path}", names, due)
+    done(check, "it can be written", front(check, new, "grant", "cy", "/a"))
+    expect_told(check, "renew to what stands", front(check, store, "renew", new), 1, "stands there already")
+    check.expect("nothing half is left", os.path.exists(new + ".half"), False)

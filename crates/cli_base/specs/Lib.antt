@@ -1,0 +1,6 @@
+pub mod Input
+pub mod Lines
+pub mod Outside
+pub mod Promises
+pub mod Status
+pub mod World

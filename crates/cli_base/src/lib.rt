@@ -1,0 +1,8 @@
+//! What all commands share: how the program ends, lines of an input, and pieces of an output.
+#![tactic(auto)]
+
+pub mod input;
+pub mod lines;
+pub mod outside;
+mod piece;
+pub mod status;

@@ -1,0 +1,4 @@
+pub mod GeneratedLines
+pub mod GeneratedRuns
+pub mod GenerateLemmas
+pub mod MakeLemmas

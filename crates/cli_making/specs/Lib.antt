@@ -1,0 +1,4 @@
+pub mod Figures
+pub mod Generating
+pub mod Making
+pub mod Promises

@@ -1,0 +1,5 @@
+pub mod Changed
+pub mod Journals
+pub mod Promises
+pub mod Reading
+pub mod Statuses

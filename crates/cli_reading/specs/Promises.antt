@@ -1,0 +1,4 @@
+pub mod Audit
+pub mod List
+pub mod Open
+pub mod Reading

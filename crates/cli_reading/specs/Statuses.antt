@@ -1,0 +1,61 @@
+-- How a command ends that only reads a store. This project's own, docs/PROGRAM.md, "The program".
+use Rattle.std.specs.Prelude.{Bool, true, false}
+use Rattle.commit_journal.specs.Answering.{NotAStore, WrongKey, Damaged, Tampered}
+use Rattle.log_visits.specs.declared.fault.ClientFault.{ClientFault}
+use Rattle.log_visits.specs.declared.fault.ClientFault.TheVariants as clients
+use Rattle.log_visits.specs.Judging.{Failure, NoHolder, OfBytes, Unseen}
+use Rattle.cli_base.specs.declared.input.InputFault.{InputFault}
+use Rattle.cli_base.specs.declared.input.InputFault.TheVariants.{BadLine, Failed, OutOfMemory}
+use Rattle.cli_base.specs.declared.status.Status.{Status}
+use Rattle.cli_base.specs.declared.status.Status.TheVariants as statuses
+
+-- where an input hands in no bundle
+abbrev pub input_status : InputFault → Status
+input_status (BadLine line) = statuses.BadScript line
+input_status Failed = statuses.ReadFault
+input_status OutOfMemory = statuses.OutOfMemory
+
+-- where a test of the store fails
+abbrev pub failure_status : Failure → Status
+failure_status (OfBytes NotAStore) = statuses.NotAStore
+failure_status (OfBytes WrongKey) = statuses.WrongKey
+failure_status (OfBytes (Damaged at)) = statuses.Damaged at
+failure_status (OfBytes (Tampered batch at)) = statuses.Tampered batch at
+failure_status (NoHolder known) = statuses.NoHolder known
+failure_status Unseen = statuses.Unseen
+
+-- where a client's call shows nothing
+abbrev pub client_status : ClientFault → Status
+client_status clients.NotAStore = statuses.NotAStore
+client_status clients.WrongKey = statuses.WrongKey
+client_status (clients.Damaged at) = statuses.Damaged at
+client_status (clients.Tampered batch at) = statuses.Tampered batch at
+client_status (clients.NoHolder known) = statuses.NoHolder known
+client_status clients.Unseen = statuses.Unseen
+client_status clients.DiskFault = statuses.DiskFault
+client_status clients.OutOfMemory = statuses.OutOfMemory
+
+-- how it may end, for a command that may tell "unseen" or one that doesn't
+abbrev pub is_reading_answer : Bool → Status → Bool
+is_reading_answer tells_unseen statuses.Done = true
+is_reading_answer tells_unseen statuses.Usage = false
+is_reading_answer tells_unseen (statuses.BadScript line) = true
+is_reading_answer tells_unseen statuses.ReadFault = true
+is_reading_answer tells_unseen statuses.WriteFault = true
+is_reading_answer tells_unseen statuses.DiskFault = true
+is_reading_answer tells_unseen statuses.RandomFault = false
+is_reading_answer tells_unseen (statuses.RandomShort left need) = false
+is_reading_answer tells_unseen statuses.NotAStore = true
+is_reading_answer tells_unseen (statuses.Damaged at) = true
+is_reading_answer tells_unseen statuses.WrongKey = true
+is_reading_answer tells_unseen (statuses.Tampered batch at) = true
+is_reading_answer tells_unseen statuses.OutOfMemory = true
+is_reading_answer tells_unseen statuses.NotBlank = false
+is_reading_answer tells_unseen (statuses.NoHolder known) = true
+is_reading_answer tells_unseen statuses.Unseen = tells_unseen
+
+-- how it ends before it reads the disk
+abbrev pub is_before_read : Status → Bool
+is_before_read (statuses.BadScript line) = true
+is_before_read statuses.ReadFault = true
+is_before_read _ = false

@@ -1,0 +1,9 @@
+//! The commands that only read a store: `list`, `open` and `audit`, over any source of input, any disk and any sink.
+#![tactic(auto)]
+
+mod answering;
+pub mod audit;
+pub mod list;
+pub mod open;
+pub mod reading;
+mod texts;

@@ -1,0 +1,6 @@
+pub mod EndsMapped
+pub mod FaultedRuns
+pub mod LinesRun
+pub mod PublishedRuns
+pub mod ReadFaults
+pub mod RunOpening

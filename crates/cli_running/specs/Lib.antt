@@ -1,0 +1,5 @@
+pub mod KeyLine
+pub mod Promises
+pub mod Published
+pub mod Running
+pub mod Unopened

@@ -1,0 +1,211 @@
+-- What `run` answers, prints and leaves: on every disk, and on one that shows a journal. This project's own,
+-- docs/PROGRAM.md, "The program".
+use Rattle.std.specs.Prelude.{◌≡◌, ◌≤◌, ◌⊎◌, ℕ, ◌+◌, ◌==◌, nat_lt, Bool, true, false, List, [], ◌∷◌, ◌++◌, length, Option}
+use Rattle.std.specs.Prelude.{Some, None, Result, Ok, Err}
+use Rattle.commit_journal.specs.Answering.{Damaged, NotAStore, Tampered, WrongKey}
+use Rattle.cry_base.specs.Requests.{Request}
+use Rattle.cry_base.specs.declared.commands.Reply.{Reply}
+use Rattle.cry_io.specs.Told.{WhereTold, WhereBothTold}
+use Rattle.log_visits.specs.Asking.{verdict}
+use Rattle.log_visits.specs.Asking.Asking.{ToWrite}
+use Rattle.log_visits.specs.Judging.{Failure, OfBytes}
+use Rattle.public_fold.specs.Journal.{Journal}
+use Rattle.script_text.specs.Reading.{bundle_of}
+use Rattle.journal_bytes.specs.Journals.{ShowsJournal}
+use Rattle.cli_running.specs.KeyLine.{owner_key}
+use Rattle.cli_base.specs.Input.{TakesLines}
+use Rattle.script_text.specs.Cutting.{IsOneLine}
+use Rattle.cli_base.specs.Lines.{AreOfLines, InputLine, input_limit, lines_of}
+use Rattle.cli_base.specs.Lines.InputLine.{Whole, TooLong}
+use Rattle.cli_sessions.specs.Stopping.{KeepsUpTo}
+use Rattle.cli_sessions.specs.Script.{Asks, IsBadFirst, PrintsCut, spell_replies}
+use Rattle.commit_journal.specs.declared.fault.OpenFault.{OpenFault}
+use Rattle.commit_journal.specs.declared.fault.OpenFault.TheVariants as opening
+use Rattle.cli_sessions.specs.declared.script.ScriptFault.{ScriptFault}
+use Rattle.cli_sessions.specs.declared.script.ScriptFault.TheVariants as script
+use Rattle.cli_base.specs.declared.status.Status.{Status}
+use Rattle.cli_base.specs.declared.status.Status.TheVariants as statuses
+use Rattle.cli_sessions.specs.Sessions.{Seen, Ends, version_limits}
+
+-- the owner's key that the first line hands in, and the lines behind it
+abbrev pub key_in_lines : List InputLine → Option (List ℕ)
+key_in_lines [] = None
+key_in_lines (Whole line ∷ lines) = owner_key (bundle_of line)
+key_in_lines (TooLong ∷ lines) = None
+
+abbrev pub lines_behind : List InputLine → List InputLine
+lines_behind [] = []
+lines_behind (line ∷ lines) = lines
+
+-- the lines of a whole input
+abbrev pub lines_in : List ℕ → List InputLine
+lines_in typed = lines_of input_limit typed
+
+-- how `run` may end
+abbrev pub is_run_answer : Status → Bool
+is_run_answer statuses.Usage = false
+is_run_answer statuses.NotBlank = false
+is_run_answer (statuses.NoHolder known) = false
+is_run_answer statuses.Unseen = false
+is_run_answer _ = true
+
+-- how it ends before it opens the store
+abbrev pub is_before_opening : Status → Bool
+is_before_opening (statuses.BadScript line) = line == 1
+is_before_opening _ = false
+
+-- what the bytes of a store, opened for writing, have to do with how `run` ends: their verdict is answered exactly, unless something
+-- outside failed first or memory was wanting
+abbrev pub Judges : Status → Option Failure → Type 0
+Judges statuses.NotAStore verdict = verdict ≡ Some (OfBytes NotAStore)
+Judges statuses.WrongKey verdict = verdict ≡ Some (OfBytes WrongKey)
+Judges (statuses.Damaged at) verdict = verdict ≡ Some (OfBytes (Damaged at))
+Judges (statuses.Tampered batch at) verdict = verdict ≡ Some (OfBytes (Tampered batch at))
+Judges statuses.ReadFault verdict = Unit {0}
+Judges statuses.DiskFault verdict = Unit {0}
+Judges statuses.OutOfMemory verdict = Unit {0}
+Judges _ verdict = verdict ≡ None
+
+-- the first line hands in this key, and the others are still to come; or it hands in none, and then it is line 1 that is bad
+abbrev pub GivesOwner : Result (List ℕ) ScriptFault → List InputLine → List InputLine → Type 0
+GivesOwner (Ok key) before after = (key_in_lines before ≡ Some key) × (after ≡ lines_behind before)
+GivesOwner (Err (script.BadLine line)) before after = (key_in_lines before ≡ None) × (line ≡ 1)
+GivesOwner (Err script.ReadFault) before after = after ≡ before
+GivesOwner (Err script.OutOfMemory) before after = Unit {0}
+GivesOwner (Err _) before after = ⊥
+
+-- the line with the key is counted, and a bad one is the first
+abbrev pub CountsOwner : Result (List ℕ) ScriptFault → ℕ → ℕ → Type 0
+CountsOwner (Ok key) old new = new ≡ old + 1
+CountsOwner (Err (script.BadLine line)) old new = line ≡ 1
+CountsOwner (Err _) old new = Unit {0}
+
+-- and where the store isn't opened
+abbrev pub open_status : OpenFault → Status
+open_status opening.NotAStore = statuses.NotAStore
+open_status opening.WrongKey = statuses.WrongKey
+open_status (opening.Damaged at) = statuses.Damaged at
+open_status (opening.Tampered batch at) = statuses.Tampered batch at
+open_status opening.DiskFault = statuses.DiskFault
+open_status opening.OutOfMemory = statuses.OutOfMemory
+
+-- a first line that hands in no owner's key is bad, unless the input failed or memory was wanting first
+abbrev pub FirstIsBad : Status → Type 0
+FirstIsBad (statuses.BadScript line) = line ≡ 1
+FirstIsBad statuses.ReadFault = Unit {0}
+FirstIsBad statuses.OutOfMemory = Unit {0}
+FirstIsBad _ = ⊥
+
+-- how it ends once the store was opened, but for what may come before that too
+abbrev pub is_after_opening : Status → Bool
+is_after_opening statuses.Done = true
+is_after_opening (statuses.BadScript line) = nat_lt 1 line
+is_after_opening statuses.WriteFault = true
+is_after_opening statuses.RandomFault = true
+is_after_opening (statuses.RandomShort given need) = true
+is_after_opening _ = false
+
+-- what is answered, in the words of the verdict, to the bytes of a store under the key that the first line hands in
+abbrev pub JudgesTyped : Status → List ℕ → List ℕ → Type 0
+JudgesTyped status typed image = (key : List ℕ) → key_in_lines (lines_in typed) ≡ Some key → Judges status (verdict (ToWrite key) image)
+
+-- how it ends for each journal with that key that the disk showed, with what a stop might leave before, at each moment since, and after
+abbrev pub EndsTyped : Status → List Request → List ℕ → Seen → (List ℕ → Type 0) → (List ℕ → List ℕ → Type 0) → (List ℕ → Type 0) → Type 0
+EndsTyped status asked typed seen could_leave since may_leave = (key : List ℕ) (m : Journal) → key_in_lines (lines_in typed) ≡ Some key
+    → ShowsJournal key m seen.was
+    → Ends status version_limits key m asked (lines_behind (lines_in typed)) seen may_leave
+    (KeepsUpTo key m seen.was seen.shown could_leave since)
+
+-- ---- on every disk
+
+-- the lines behind the first, of a whole input
+abbrev pub lines_typed : List ℕ → List InputLine
+lines_typed typed = lines_behind (lines_in typed)
+
+-- the first lines ask for this, and the next one for a command too
+abbrev pub AsksNext : List Request → List InputLine → Type 0
+AsksNext asked lines = (next : Request) × (rest : List InputLine) × Asks (asked ++ next ∷ []) lines rest
+
+-- how many lines were answered: none before the opening; and the bad line is the first of all, or the one behind those that were
+-- answered
+abbrev pub CountsAnswered : Status → List Request → Type 0
+CountsAnswered (statuses.BadScript line) asked = (line ≡ 1) × (asked ≡ []) ⊎ (line ≡ length asked + 2)
+CountsAnswered statuses.NotAStore asked = asked ≡ []
+CountsAnswered statuses.WrongKey asked = asked ≡ []
+CountsAnswered (statuses.Damaged at) asked = asked ≡ []
+CountsAnswered (statuses.Tampered batch at) asked = asked ≡ []
+CountsAnswered _ asked = Unit {0}
+
+-- which of these lines were answered: at Done all; before a bad one those before it; else the first ones, and behind them a fault
+-- of the random source, or of the disk once the store was opened, met a command too
+abbrev pub AnswersLines : Status → List Request → List InputLine → Type 0
+AnswersLines statuses.Done asked lines = Asks asked lines []
+AnswersLines (statuses.BadScript line) asked lines = (line ≡ 1) ⊎ ((rest : List InputLine) × Asks asked lines rest × IsBadFirst rest)
+AnswersLines (statuses.RandomShort left need) asked lines = AsksNext asked lines
+AnswersLines statuses.RandomFault asked lines = AsksNext asked lines
+AnswersLines statuses.DiskFault asked lines = (asked ≡ []) ⊎ AsksNext asked lines
+AnswersLines _ asked lines = (rest : List InputLine) × Asks asked lines rest
+
+-- what was printed: each reply; after a write fault or without memory a front of it, without more than the last reply
+abbrev pub PrintsAnswers : Status → List Reply → List ℕ → List ℕ → Type 0
+PrintsAnswers statuses.WriteFault replies before after = PrintsCut replies before after
+PrintsAnswers statuses.OutOfMemory replies before after = PrintsCut replies before after
+PrintsAnswers _ replies before after = after ≡ before ++ spell_replies replies
+
+-- The lines of a run: these were asked and answered, each with one reply, in their order; and the replies are what was printed.
+pub record RanLines (status : Status) (asked : List Request) (lines : List ℕ → List InputLine) (typed before after : Option (List ℕ))
+    : Type 0 where
+  pub replies : List Reply
+  pub one_each : length replies ≡ length asked
+  pub counted : CountsAnswered status asked
+  pub answered : WhereTold typed (λ bytes. AnswersLines status asked (lines bytes))
+  pub printed : WhereBothTold before after (PrintsAnswers status replies)
+
+-- some line among them is bad
+abbrev pub HasBadLine : List InputLine → Type 0
+HasBadLine lines = (front rest : List InputLine) × (lines ≡ front ++ rest) × IsBadFirst rest
+
+-- ---- where the input failed
+
+-- The first of these lines were asked, and no other had ended in what was taken of the input: it is of no more lines than were asked, and
+-- of the front of the next one, within the limit. A bad line is told before more is read.
+pub record ReadsWhole (asked : List Request) (lines : List InputLine) (typed left : List ℕ) : Type 0 where
+  pub given : List ℕ
+  pub front : List ℕ
+  pub room : ℕ
+  pub taken : typed ≡ given ++ (front ++ left)
+  pub of_lines : AreOfLines (length asked) given
+  pub one : IsOneLine front
+  pub within : length front ≤ room
+  pub asks : Asks asked lines (lines_of room (front ++ left))
+
+-- so it is with the lines behind the first; or that one had not ended, and none was asked
+abbrev pub ReadsWholeTyped : List Request → List ℕ → List ℕ → Type 0
+ReadsWholeTyped asked typed left =
+    ((asked ≡ []) × (front : List ℕ) × IsOneLine front × (length front ≤ input_limit) × (typed ≡ front ++ left))
+    ⊎ ((first behind : List ℕ) × AreOfLines 1 first × (typed ≡ first ++ behind) × ReadsWhole asked (lines_typed typed) behind left)
+
+-- ---- how much of the input was taken
+
+-- the number of the line at which it ended, where so many behind the first were answered: the first, where the store wasn't opened; the bad
+-- line; the one whose reply wasn't printed; or the one behind those that were answered. None where it read to the end, or nothing is said
+abbrev pub line_ended : Status → ℕ → Option ℕ
+line_ended statuses.Done answered = None
+line_ended statuses.ReadFault answered = None
+line_ended statuses.OutOfMemory answered = None
+line_ended (statuses.BadScript line) answered = Some line
+line_ended statuses.WriteFault answered = Some (answered + 1)
+line_ended statuses.RandomFault answered = Some (answered + 2)
+line_ended (statuses.RandomShort left need) answered = Some (answered + 2)
+line_ended statuses.DiskFault answered = Some (answered + 2)
+line_ended _ answered = Some 1
+
+-- what was taken goes to that line's end, and little past it
+abbrev pub TakesTo : Option ℕ → List ℕ → List ℕ → Type 0
+TakesTo None typed left = Unit {0}
+TakesTo (Some line) typed left = TakesLines line typed left
+
+-- so it is for whatever line was taken before those that were to come
+abbrev pub TakesBehindFirst : (List ℕ → List ℕ) → Option ℕ → List ℕ → List ℕ → Type 0
+TakesBehindFirst ahead end before left = (front typed : List ℕ) → AreOfLines 1 front → typed ≡ front ++ ahead before
+    → TakesTo end typed left

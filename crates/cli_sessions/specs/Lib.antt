@@ -1,0 +1,6 @@
+pub mod OwnerSteps
+pub mod Published
+pub mod Script
+pub mod Sessions
+pub mod Stopping
+pub mod Taking

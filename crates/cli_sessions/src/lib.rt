@@ -1,0 +1,7 @@
+//! One session of a store's owner: lines applied one after another, over any source of lines and of random bytes, any disk and any sink.
+#![tactic(auto)]
+
+pub mod ends;
+mod owner_steps;
+pub mod script;
+pub mod version;

@@ -1,0 +1,8 @@
+//! The one version of stores that there is.
+use cry_base::{FILE_BYTES, Limits, STORE_BYTES};
+
+/// The sizes of its stores and files, in bytes.
+pub const LIMITS: Limits = Limits {
+    store_bytes: STORE_BYTES,
+    file_bytes: FILE_BYTES,
+};

@@ -1,0 +1,2 @@
+pub mod AskedScripts
+pub mod SpelledNumbers

@@ -1,0 +1,105 @@
+-- The words that the program takes. This project's own, docs/PROGRAM.md, "The program".
+use Rattle.std.specs.Prelude.{◌≡◌, ◌<◌, ◌≤◌, ◌^◌, ◌&&◌, nat_le, nat_lt, ℕ, List, [], ◌∷◌, Bool, Option, Some, None, codes, decimal}
+use Rattle.std.specs.Prelude.{if◌then◌else◌, nat_eq, option_and_then, option_map}
+use Rattle.std.specs.Cmp.Lexicographic.{pointwise}
+use Rattle.std.specs.Str.Parse.{digits_value}
+use Rattle.cry_base.specs.Listed.{Listed}
+use Rattle.cli_words.specs.declared.texts.TheConstants.{HELP, VERSION}
+use Rattle.cli_words.specs.declared.words.Form.{Form}
+use Rattle.cli_words.specs.declared.words.Form.TheVariants.{Make, Run, Open, Audit, Gen, Help, Version}
+use Rattle.cli_words.specs.declared.words.Form.TheVariants as forms
+
+-- the word is spelled by these bytes
+abbrev pub is_word : Listed ℕ → List ℕ → Bool
+is_word word spelling = pointwise nat_eq word.items spelling
+
+-- one word that asks for a text of the program's own
+abbrev pub option_form : Listed ℕ → Option Form
+option_form word =
+    if is_word word (codes "--help") then Some Help
+    else (if is_word word (codes "--version") then Some Version else None)
+
+-- STORE RANDOM COMMAND
+abbrev pub command_form : Listed ℕ → Option Form
+command_form word =
+    if is_word word (codes "make") then Some Make
+    else (if is_word word (codes "run") then Some Run
+    else (if is_word word (codes "list") then Some forms.List else (if is_word word (codes "audit") then Some Audit else None)))
+
+-- STORE RANDOM COMMAND PATH
+abbrev pub path_command_form : Listed ℕ → Option Form
+path_command_form word = if is_word word (codes "open") then Some Open else None
+
+-- the word spells this number in decimal digits, without a sign or leading zeros
+pub record IsNumber (word : List ℕ) (number : ℕ) : Type 0 where
+  pub spelled : word ≡ decimal number
+  pub fits : number < 2 ^ 64
+
+-- the number that a word spells
+unfoldable pub number_of : List ℕ → Option ℕ
+number_of word =
+    let number = digits_value 10 word in
+    if pointwise nat_eq (decimal number) word && nat_lt number (2 ^ 64) then Some number else None
+
+-- so is a count of lines, up to 50,000
+abbrev pub few_lines : ℕ → Option ℕ
+few_lines count = if nat_le count 50000 then Some count else None
+
+unfoldable pub count_of : List ℕ → Option ℕ
+count_of word = option_and_then few_lines (number_of word)
+
+-- STORE RANDOM COMMAND NUMBER COUNT
+unfoldable pub script_form : Listed ℕ → Listed ℕ → Listed ℕ → Option Form
+script_form word number count =
+    if is_word word (codes "gen")
+    then option_and_then (λ seed. option_map (Gen seed) (count_of count.items)) (number_of number.items) else None
+
+-- a form that asks for lines asks for no more than the most
+abbrev pub HasFewLines : Form → Type 0
+HasFewLines (Gen seed count) = count ≤ 50000
+HasFewLines form = Unit {0}
+
+-- the form that the words are of, and none where they are of no form that is built
+abbrev pub form_of_words : List (Listed ℕ) → Option Form
+form_of_words (only ∷ []) = option_form only
+form_of_words (store ∷ random ∷ command ∷ []) = command_form command
+form_of_words (store ∷ random ∷ command ∷ path ∷ []) = path_command_form command
+form_of_words (store ∷ random ∷ command ∷ number ∷ count ∷ []) = script_form command number count
+form_of_words _ = None
+
+-- the path that they name
+abbrev pub path_in_words : List (Listed ℕ) → List ℕ
+path_in_words (store ∷ random ∷ command ∷ path ∷ []) = path.items
+path_in_words _ = []
+
+-- ---- what the words ask for
+
+-- the words ask for a store to be made
+abbrev pub IsMake : List (Listed ℕ) → Type 0
+IsMake words = form_of_words words ≡ Some Make
+
+-- or for the store of this number and so many lines
+abbrev pub AsksGen : List (Listed ℕ) → ℕ → ℕ → Type 0
+AsksGen words seed count = form_of_words words ≡ Some (Gen seed count)
+
+-- the words ask for commands to be applied
+abbrev pub IsRun : List (Listed ℕ) → Type 0
+IsRun words = form_of_words words ≡ Some Run
+
+-- the words ask for a key's view
+abbrev pub IsList : List (Listed ℕ) → Type 0
+IsList words = form_of_words words ≡ Some forms.List
+
+-- or for the one line of it that has a path
+abbrev pub IsOpen : List (Listed ℕ) → Type 0
+IsOpen words = form_of_words words ≡ Some Open
+
+-- or for all that it leads to
+abbrev pub IsAudit : List (Listed ℕ) → Type 0
+IsAudit words = form_of_words words ≡ Some Audit
+
+-- the text that the words ask for, where they ask for one
+abbrev pub text_of : Option Form → Option (List ℕ)
+text_of (Some Help) = Some HELP.now
+text_of (Some Version) = Some VERSION.now
+text_of _ = None

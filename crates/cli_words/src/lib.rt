@@ -1,0 +1,6 @@
+//! The words that the program takes after its name, and the texts that some of them ask for.
+#![tactic(auto)]
+
+mod numbers;
+pub mod texts;
+pub mod words;

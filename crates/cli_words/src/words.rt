@@ -1,0 +1,124 @@
+//! The words that the program takes after its name.
+ghost use Rattle.std.specs.Prelude.{◌≡◌, ◌≤◌, IfSome};
+ghost use Rattle.cli_words.specs.Words.{HasFewLines, form_of_words, option_form, command_form, count_of, path_command_form};
+ghost use Rattle.cli_words.specs.Words.{path_in_words, script_form};
+
+use crate::numbers::number_in;
+use cry_base::{List, Text};
+
+/// What the words ask for.
+#[derive(Clone, Copy, Debug, PartialEq, Eq)]
+pub enum Form {
+    /// `STORE RANDOM make`
+    Make,
+    /// `STORE RANDOM run`
+    Run,
+    /// `STORE RANDOM list`
+    List,
+    /// `STORE RANDOM audit`
+    Audit,
+    /// `STORE RANDOM open PATH`, where any word stands for a path
+    Open,
+    /// `STORE RANDOM gen NUMBER COUNT`
+    Gen { seed: u64, count: u32 },
+    /// `--help`
+    Help,
+    /// `--version`
+    Version,
+}
+
+/// The most lines that a generated script has behind its opening.
+const LINES: u64 = 50_000;
+
+/// The form of the words, which are those after the program's name, and `None` where they are of no form that is built.
+pub fn form_of(words: &List<Text>) -> Option<Form>
+    ensures form { result ≡ form_of_words words.now.items }
+    ensures few_lines { IfSome result HasFewLines }
+{
+    match words.as_slice() {
+        [only] => option_of(only),
+        [_store, _random, command] => command_of(command),
+        [_store, _random, command, _path] => path_command_of(command),
+        [_store, _random, command, seed, count] => script_of(command, seed, count),
+        _ => None,
+    }
+}
+
+/// The path that `STORE RANDOM open PATH` names, and no bytes where the words name none.
+pub fn path_in(words: &List<Text>) -> &[u8]
+    ensures { result.now ≡ path_in_words words.now.items }
+{
+    match words.as_slice() {
+        [_store, _random, _command, path] => path.as_slice(),
+        _ => &[],
+    }
+}
+
+fn option_of(word: &Text) -> Option<Form>
+    ensures form { result ≡ option_form word.now }
+    ensures few_lines { IfSome result HasFewLines }
+{
+    if word.as_slice() == b"--help".as_slice() {
+        Some(Form::Help)
+    } else if word.as_slice() == b"--version".as_slice() {
+        Some(Form::Version)
+    } else {
+        None
+    }
+}
+
+fn command_of(word: &Text) -> Option<Form>
+    ensures form { result ≡ command_form word.now }
+    ensures few_lines { IfSome result HasFewLines }
+{
+    if word.as_slice() == b"make".as_slice() {
+        Some(Form::Make)
+    } else if word.as_slice() == b"run".as_slice() {
+        Some(Form::Run)
+    } else if word.as_slice() == b"list".as_slice() {
+        Some(Form::List)
+    } else if word.as_slice() == b"audit".as_slice() {
+        Some(Form::Audit)
+    } else {
+        None
+    }
+}
+
+/// The command that takes one word more.
+fn path_command_of(word: &Text) -> Option<Form>
+    ensures form { result ≡ path_command_form word.now }
+    ensures few_lines { IfSome result HasFewLines }
+{
+    if word.as_slice() == b"open".as_slice() {
+        Some(Form::Open)
+    } else {
+        None
+    }
+}
+
+/// The command that takes a number and a count more.
+#[tactic(auto, unfolding(crate::specs::Words::script_form))]
+fn script_of(word: &Text, seed: &Text, count: &Text) -> Option<Form>
+    ensures form { result ≡ script_form word.now seed.now count.now }
+    ensures few_lines { IfSome result HasFewLines }
+{
+    if word.as_slice() != b"gen".as_slice() {
+        return None;
+    }
+    let seed = number_in(seed.as_slice())?;
+    let count = count_in(count.as_slice())?;
+    Some(Form::Gen { seed, count })
+}
+
+#[tactic(auto, unfolding(crate::specs::Words::count_of))]
+fn count_in(word: &[u8]) -> Option<u32>
+    ensures count { result ≡ count_of word.now }
+    ensures few { IfSome result (λ count. count ≤ 50000) }
+{
+    let count = number_in(word)?;
+    if count <= LINES {
+        Some(count as u32)
+    } else {
+        None
+    }
+}

@@ -1,0 +1,92 @@
+"""What a user is told where something wasn't done: one family of exceptions, with messages that say what it is and then what to do."""
+import sys
+
+REFUSALS = {  # docs/PROGRAM.md has the words
+    "bad-name": "that is no path or name of a store",
+    "no-path": "nothing has that path",
+    "is-root": "that can't be done to /",
+    "not-folder": "a file stands there, not a folder",
+    "is-folder": "a folder stands there, not a file",
+    "exists": "something of that name stands there",
+    "not-empty": "the folder has something in it",
+    "inside-itself": "a folder can't go into itself",
+    "too-deep": "a path has at most 64 names",
+    "no-holder": "the store has no holder of that number",
+    "has-grant": "the holder has that grant",
+    "no-grant": "the holder doesn't have that grant",
+    "too-long": "a file in a store has at most 1,048,576 bytes",
+    "full": "the store is full: make a new one of what stands with renew",
+}
+
+
+class Fault(Exception):
+    """Something wasn't done. Its text goes to standard error, and the command ends with its status."""
+
+    status = 1
+
+
+class BadWords(Fault):
+    """The words of a call don't say what to do."""
+
+    status = 2
+
+
+class Refused(Fault):
+    """The store refused a line, and no line behind it was tried; `done` lines before it stand."""
+
+    def __init__(self, line, reply, done):
+        word = reply.removeprefix("refused ")
+        shown = line if len(line) <= 80 else line[:80] + "..."
+        before = "nothing was done" if not done else f"{done} before it stand"
+        super().__init__(f"the store refused {shown!r} ({word}): {REFUSALS.get(word, 'it gave no cause')}; {before}")
+        self.line, self.reply, self.done = line, reply, done
+
+
+class Hostile(Fault):
+    """What was read isn't what the program and this front end write."""
+
+
+class NoStore(Fault):
+    """There is no file where a store is looked for, or none that can be opened."""
+
+
+class NotAStore(Fault):
+    """What stands there isn't a store."""
+
+
+class WrongKey(Fault):
+    """The key isn't one of this store."""
+
+
+class Tampered(Fault):
+    """A tag in the store is wrong."""
+
+
+class Damaged(Fault):
+    """Bytes of the store have no form."""
+
+
+class NoSpace(Fault):
+    """The disk is full."""
+
+
+class Locked(Fault):
+    """Another is at the store."""
+
+
+class OlderCopy(Fault):
+    """The store isn't a continuation of what was last written with this key folder."""
+
+
+class NoKey(Fault):
+    """There is no key file where one is looked for."""
+
+
+class BadKey(Fault):
+    """A key file isn't what it has to be."""
+
+
+def warn(text):
+    """Tells something on standard error, in one line, whatever names are in it."""
+    safe = "".join(letter if letter.isprintable() else ascii(letter)[1:-1] for letter in str(text))
+    print(f"cryptree-folder: {safe}", file=sys.stderr, flush=True)

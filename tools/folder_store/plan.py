@@ -1,0 +1,154 @@
+"""The lines that bring a store from what stands in it to what is wanted, in an order in which each is accepted.
+
+First goes what stands in the way; then come new folders, files that were renamed, other new and changed files, the indexes, and last goes
+what is gone: so a stop leaves more rather than less. A file in parts has a name of its own, `-.half`, from the first change of a part to
+the last, so that nobody takes a half one for a whole.
+"""
+import collections
+from itertools import filterfalse
+
+from folder_store.listed import part_name
+from folder_store.names import HALF, INDEX, MORE, PARTS, real_path
+from folder_store.units import Standing, Wanted
+
+
+def parent(path: str) -> str:
+    return path.rpartition("/")[0] or "/"
+
+
+def last(path: str) -> str:
+    return path.rpartition("/")[2]
+
+
+def below(folder: str, name: str) -> str:
+    return f"{folder.rstrip('/')}/{name}"
+
+
+def half(path: str) -> str:
+    return path.removesuffix(PARTS) + HALF
+
+
+def is_index(path: str) -> bool:
+    return last(path) in (INDEX, INDEX + PARTS)
+
+
+def is_own(path: str) -> bool:
+    """Whether it stands for no real file or folder of its own."""
+    return is_index(path) or last(path).endswith(MORE)
+
+
+class Plan:
+    """`steps` are words, paths and bytes of lines; `renamed` has files' old paths and new ones, `gone_folders` the paths of folders."""
+
+    def __init__(self, standing: Standing, wanted: Wanted):
+        self.units, self.half, self.wanted, self.other = dict(standing.units), set(standing.half), wanted.units, wanted.other
+        self.steps: list[tuple] = []
+        self.before = standing.units
+        self.renamed: list[tuple[str, str]] = []
+        self.gone_folders = {path for path, unit in self.units.items() if unit is None and self.wanted.get(path, path) is not None}
+        self.clear_the_way()
+        for path, unit in sorted(self.wanted.items()):
+            if unit is None and path not in self.units:
+                self.step("mkdir", path)
+                self.units[path] = None
+        self.rename_files()
+        for path in sorted(self.wanted, key=lambda path: (is_index(path), path)):
+            self.write(path, self.wanted[path])
+        for path in sorted(set(self.units) - set(self.wanted), reverse=True):
+            self.remove(path)
+
+    def step(self, *words) -> None:
+        self.steps.append(words)
+
+    def lines(self):
+        """The lines for the program, one at a time."""
+        for word, *fields in self.steps:
+            yield " ".join([word, *(field.hex() if isinstance(field, bytes) else field for field in fields)])
+
+    def clear_the_way(self) -> None:
+        for path, unit in self.wanted.items():
+            stands = self.units.get(path)
+            if path in self.units and (stands is None) != (unit is None):
+                self.remove_all(path)
+            other = self.other.get(path)
+            if other in self.units and other not in self.wanted:
+                self.remove_all(other)
+
+    def remove_all(self, path: str) -> None:
+        for inside in sorted((inside for inside in self.units if inside.startswith(path + "/")), reverse=True):
+            self.remove(inside)
+        self.remove(path)
+
+    def remove(self, path: str) -> None:
+        unit = self.units.pop(path)
+        if isinstance(unit, tuple):
+            self.to_half(path)
+            self.half.discard(path)
+            path = half(path)
+            for number in reversed(range(len(unit))):
+                self.step("rm", below(path, part_name(number)))
+        self.step("rm", path)
+
+    def to_half(self, path: str) -> None:
+        if path not in self.half:
+            self.step("rename", path, last(half(path)))
+            self.half.add(path)
+
+    def write(self, path: str, unit) -> None:
+        if isinstance(unit, tuple):
+            self.write_parts(path, unit)
+        elif unit is not None and self.units.get(path) != unit:
+            self.step("write", path, unit)
+            self.units[path] = unit
+
+    def write_parts(self, path: str, parts: tuple[bytes, ...]) -> None:
+        stands = self.units.get(path)
+        if stands != parts:
+            if stands is None:
+                self.step("mkdir", half(path))
+                self.half.add(path)
+            stands = stands or ()
+            self.to_half(path)
+            for number, part in enumerate(parts):
+                if number >= len(stands) or stands[number] != part:
+                    self.step("write", below(half(path), part_name(number)), part)
+            for number in reversed(range(len(parts), len(stands))):
+                self.step("rm", below(half(path), part_name(number)))
+            self.units[path] = parts
+        if path in self.half:
+            self.step("rename", half(path), last(path))
+            self.half.discard(path)
+
+    def rename_files(self) -> None:
+        """Renames each file that is new where one with its bytes is gone from the same folder. One that went to another folder is written
+        there anew: moved, it would keep its key, which opens to whoever reads that folder what it once held elsewhere."""
+        gone = collections.defaultdict(list)
+        for path in sorted(set(self.units) - set(self.wanted)):
+            if self.units[path] and path not in self.half:
+                gone[parent(path), self.units[path]].append(path)
+        for path, unit in sorted(self.wanted.items()):
+            if unit and path not in self.units and not is_index(path) and gone[parent(path), unit]:
+                source = gone[parent(path), unit].pop(0)
+                self.step("rename", source, last(path))
+                self.units[path] = self.units.pop(source)
+                self.renamed.append((source, path))
+
+    def counts(self) -> dict[str, int]:
+        """What is done, counted by files and folders of the real folder; `indexes` by folders."""
+        before, after = (set(filterfalse(is_own, units)) for units in (self.before, self.wanted))
+        sources, targets = {source for source, _ in self.renamed}, {target for _, target in self.renamed}
+        new = {real_path(path) for path in after - before - targets} - {real_path(path) for path in before}
+        gone = {real_path(path) for path in before - after - sources} - {real_path(path) for path in after}
+        changed = {real_path(path) for path in after if self.wanted[path] is not None
+                   and self.before.get(path) != self.wanted[path]} - new - {real_path(path) for path in targets}
+        indexes = sum(is_index(path) and self.before.get(path) != unit for path, unit in self.wanted.items())
+        same = len({real_path(path) for path in after}) - len(new) - len(changed) - len(targets)
+        return {"new": len(new), "changed": len(changed), "renamed": len(self.renamed), "gone": len(gone), "same": same,
+                "indexes": indexes}
+
+    def summary(self) -> str:
+        """The counts in words."""
+        if not self.steps:
+            return "nothing to do, {same} files and folders are as they were".format(**self.counts())
+        return ("of files and folders {new} new, {changed} changed, {renamed} renamed, {gone} gone, {same} as they were; "
+                "modes, times and links of {indexes} folders").format(**self.counts())

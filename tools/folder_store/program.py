@@ -1,0 +1,152 @@
+"""Calls of the proved program `cryptree`: where it is, one question or a session with it, and what its statuses mean to a user."""
+import os
+import shutil
+import subprocess
+
+from folder_store.faults import Damaged, Fault, NoSpace, NotAStore, Tampered, WrongKey
+
+RANDOM = "/dev/urandom"     # an ordinary file would give the first holder the owner's key
+INPUT_LIMIT = 67_108_864    # bytes that one session takes, the owner's line among them
+PIECE = 4096                # what goes into a pipe whole or not at all
+ALMOST_NOTHING = 2 << 20    # free bytes on a disk that count as full: a command writes up to 1 MiB and its keys
+BESIDE = os.path.join(os.path.dirname(os.path.dirname(os.path.dirname(os.path.abspath(__file__)))), "build", "cryptree")
+
+
+def find():
+    """The path of the program: $CRYPTREE, else build/cryptree beside tools/, else `cryptree` on the PATH."""
+    named = os.environ.get("CRYPTREE")
+    found = named or (BESIDE if os.access(BESIDE, os.X_OK) else shutil.which("cryptree"))
+    if not found or not os.access(found, os.X_OK) or os.path.isdir(found):
+        where = f"$CRYPTREE names {named}, which can't be run" if named else "it's neither beside tools/ nor on the PATH"
+        raise Fault(f"the program cryptree isn't there, {where}: build it with ./demo, or set CRYPTREE to where it is")
+    return os.path.abspath(found)
+
+
+def start(store, command, **how):
+    """The program at work on this store."""
+    try:
+        os.fsencode(store).decode()
+    except UnicodeDecodeError:
+        raise Fault(f"the store's path {store!r} isn't UTF-8, which the program asks for: rename it") from None
+    return subprocess.Popen([find(), os.path.abspath(store), RANDOM, command], bufsize=0, stderr=subprocess.PIPE,
+                            stdout=subprocess.PIPE, start_new_session=True, **how)
+
+
+def made(file, store):
+    """Makes a store in an empty file, which is to have the second name, and gives the owner's line."""
+    with start(file, "make", stdin=subprocess.DEVNULL) as process:
+        line, said = process.communicate()
+    if process.returncode:
+        raise fault(store, process.returncode, said)
+    return line.decode("ascii").rstrip("\n")
+
+
+def answer(store, command, key_line, lock):
+    """The lines that `list` or `audit` prints to this key, one after another, without newlines. Whoever takes them has to throw them
+    away where a fault comes at their end."""
+    with start(store, command, stdin=subprocess.PIPE, pass_fds=(lock,)) as process:
+        try:
+            process.stdin.write(key_line.encode("ascii") + b"\n")
+        except BrokenPipeError:
+            pass
+        process.stdin.close()
+        with open(process.stdout.fileno(), "rb", buffering=1 << 20, closefd=False) as printed:
+            for line in printed:
+                yield line.removesuffix(b"\n")
+        said = process.stderr.read()
+    if process.returncode:
+        raise fault(store, process.returncode, said)
+
+
+class Session:
+    """One opening for writing. Each line is answered before the next is sent; the lock on the store is the program's too, so that it's
+    held until both have ended, however they end."""
+
+    def __init__(self, store, owner_line, lock):
+        self.store, self.room = store, INPUT_LIMIT
+        self.process = start(store, "run", stdin=subprocess.PIPE, pass_fds=(lock,))
+        self.printed = open(self.process.stdout.fileno(), "rb", closefd=False)
+        self.send(owner_line)
+
+    def has_room(self, line):
+        return len(line.encode()) + 1 <= self.room
+
+    def send(self, line):
+        """Puts a line into the pipe, in pieces of which none ends where a stop of the front end would leave another whole line: bytes are
+        pairs of digits, and each piece but the last ends within a pair."""
+        data = line.encode() + b"\n"
+        self.room -= len(data)
+        words = line.split(" ") if len(data) > PIECE else []
+        if len(words) == 3 and words[0] == "write":
+            head = len("write  ") + len(words[1]) + 1
+            cut = max(head, PIECE - (PIECE - head) % 2)
+            pieces = [data[:cut], *(data[at:at + PIECE] for at in range(cut, len(data), PIECE))]
+        else:
+            pieces = [data]     # it goes into an empty pipe, which has room for 65,536 bytes
+        try:
+            for piece in pieces:
+                written = self.process.stdin.write(piece)
+                while written < len(piece):
+                    written += self.process.stdin.write(piece[written:])
+        except BrokenPipeError:
+            pass        # the program ended: its status tells why, where its answer is looked for
+
+    def say(self, line):
+        """The reply to a line."""
+        self.send(line)
+        reply = self.printed.readline()
+        if not reply.endswith(b"\n"):
+            self.end()
+            raise Fault(f"the program ended without an answer to a line: {line[:80]!r}")
+        return reply.decode("ascii").rstrip("\n")
+
+    def end(self):
+        """Waits for the program's end, and raises what its status tells, once."""
+        if self.process.stdin.closed:
+            return
+        self.process.stdin.close()
+        status, said = self.process.wait(), self.process.stderr.read()
+        self.printed.close()
+        self.process.stdout.close()
+        self.process.stderr.close()
+        if status:
+            raise fault(self.store, status, said)
+
+
+def fault(store, status, said):
+    """What this status of the program, and what it said, mean to a user."""
+    said = said.decode("utf-8", "replace").strip().removeprefix("cryptree: ")
+    if status in (6, 14):
+        return disk_fault(store, status)
+    older = "put a good copy beside it and read that; never write on it"
+    kinds = {
+        7: (Fault, f"the system's random source {RANDOM} can't be read: see to it that it's there"),
+        8: (Fault, f"the system's random source {RANDOM} ended: see to it that it's the system's own"),
+        9: (NotAStore, f"{store} is not a store, or can't be read: check the path"),
+        10: (Damaged, f"{store} is damaged ({said}): {older}"),
+        11: (WrongKey, f"this key is not one of {store}: name the key of this store with --keys, --as or --key"),
+        12: (Tampered, f"{store} was tampered with ({said}): {older}"),
+        13: (Fault, f"there was no memory for what {store} holds: free some, and do it again"),
+        15: (WrongKey, f"{store} has no such holder ({said}): the key is another store's, or this is an older copy of the store"),
+        16: (Fault, "nothing that the key opens has this path: check it with ls"),
+    }
+    if status in kinds:
+        kind, text = kinds[status]
+        return kind(text)
+    how = f"was ended by signal {-status}" if status < 0 else f"ended with status {status} ({said})"
+    return Fault(f"the program {how}: what was answered before stands; do it again, or tell its makers")
+
+
+def disk_fault(store, status):
+    """Why the store's file couldn't be written or read, as far as the disk can tell."""
+    try:
+        disk = os.statvfs(os.path.dirname(os.path.abspath(store)))
+        if disk.f_bavail * disk.f_frsize < ALMOST_NOTHING:
+            return NoSpace(f"the disk that {store} is on is full: make room, and do it again")
+        if status == 14:
+            return Fault(f"something stands in {store}: nothing is written over it")
+        if not os.access(store, os.W_OK):
+            return Fault(f"{store} can't be written: change its mode or its owner (chmod u+w), or the disk's")
+    except OSError:
+        pass
+    return Fault(f"the disk failed under {store}: what was answered before stands; look after the disk, and do it again")

@@ -1,0 +1,224 @@
+"""A store, locked for as long as one command is at it: what a key reads of it, and lines that the owner has it do."""
+import binascii
+import fcntl
+import os
+import re
+import stat
+import tempfile
+from typing import NamedTuple
+
+from folder_store import last, places, private, program
+from folder_store.faults import Fault, Hostile, Locked, NoStore, NotAStore, Refused, warn
+from folder_store.holders import Holders
+from folder_store.keys import KeyFolder, read_key
+from folder_store.names import real_path
+
+MAGIC, IDENTITY_AT, HEADER, FULL = b"CRYPTREE\1", 9, 42, 268_435_456
+NAME = rb"(?!\.\.?(?:[/ ]|\Z))[A-Za-z0-9._-]{1,64}"
+LISTED = re.compile(rb"(?:(folder|ancestor) (/|(?:/" + NAME + rb")+)|(file) ((?:/" + NAME + rb")+) ([0-9a-f]*))")
+NUMBERS = rb" ([0-9]{1,10}) ([0-9]{1,10}) "
+SEEN = re.compile(rb"(?:(folder)" + NUMBERS + rb"(|" + NAME + rb")|(file)" + NUMBERS + rb"(" + NAME + rb") ([0-9a-f]*))")
+
+
+class Line(NamedTuple):
+    """One line of a listing: what stands at a path, and a file's bytes."""
+
+    kind: str
+    path: str
+    data: bytes | None
+
+
+class Seen(NamedTuple):
+    """One line of an audit: a name or a file that a key leads to, old ones too, with the batch that wrote it."""
+
+    kind: str
+    batch: int
+    number: int
+    name: str
+    data: bytes | None
+
+
+def read_line(line, form, make):
+    """A printed line as what it says, or Hostile."""
+    found = form.fullmatch(line)
+    try:
+        kind, *fields = (group for group in found.groups() if group is not None)
+        data = binascii.unhexlify(fields.pop()) if kind == b"file" else None
+    except (AttributeError, binascii.Error):
+        raise Hostile(f"the program printed what it never prints, so nothing is taken from it: {line[:80]!r}") from None
+    return make(kind.decode(), *(field.decode() for field in fields), data)
+
+
+class Store:
+    """A store between `open` and the end of its `with`."""
+
+    def __init__(self, path, handle, keys):
+        self.path, self.handle, self.keys = path, handle, keys
+
+    @classmethod
+    def open(cls, path, keys_folder, writes, wait, accept=False):
+        """The store, locked against writers, and to write against readers too. To write, it has to continue what was last written."""
+        handle = locked(path, writes, wait)
+        try:
+            store = cls(path, handle, KeyFolder(keys_folder, identity(path, handle)))
+            if writes:
+                store.keys.owner()
+            places.check(path, store.keys, accept)
+            if writes:
+                last.check(store.keys.file("last"), handle, path, accept)
+                places.keep(path, store.keys)
+            return store
+        except BaseException:
+            os.close(handle)
+            raise
+
+    def __enter__(self):
+        return self
+
+    def __exit__(self, *_):
+        os.close(self.handle)
+
+    @property
+    def owner(self):
+        """The owner's key; NoKey where the key folder doesn't have it."""
+        return self.keys.owner()
+
+    @property
+    def holders(self):
+        """The record of holders' names, numbers and grants."""
+        return Holders(self.keys.file("holders.json"))
+
+    def key(self, holder=None, file=None):
+        """The key to read with: a holder's by name, one in a file, or else the owner's."""
+        return read_key(file, file) if file is not None else self.keys.holder(holder) if holder is not None else self.owner
+
+    def listing(self, key):
+        """What the key opens, in the order of paths."""
+        return [read_line(line, LISTED, Line) for line in program.answer(self.path, "list", key.line, self.handle)]
+
+    def audit(self, key):
+        """What the key leads to, in the order of writing."""
+        def seen(kind, batch, number, name, data):
+            return Seen(kind, int(batch), int(number), name, data)
+        return [read_line(line, SEEN, seen) for line in program.answer(self.path, "audit", key.line, self.handle)]
+
+    def run(self, lines):
+        """Has the store do these lines, one after another, and gives the replies. It stops at the first refusal."""
+        replies, session, holders = [], None, self.holders
+        try:
+            for line in lines:
+                if not line.isascii() or "\n" in line:
+                    raise Fault(f"no line for a store: {line[:80]!r}")
+                if session and not session.has_room(line):
+                    session.end()
+                    session = None
+                session = session or self.begun()
+                reply = session.say(line)
+                if reply.startswith("refused "):
+                    raise Refused(line, reply, len(replies))
+                replies.append(reply)
+                for name, folder in holders.follow(line):
+                    warn(f"the grant of {name} on {real_path(folder)} went with that folder: if it was only renamed, grant the new one")
+        finally:
+            if session:
+                self.ended(session)
+        return replies
+
+    def begun(self):
+        """A session with the store, marked as begun beside the key."""
+        last.mark(self.keys.file("last"), self.handle)
+        return program.Session(self.path, self.owner.line, self.handle)
+
+    def ended(self, session):
+        """Ends a session, and keeps what it left."""
+        try:
+            session.end()
+        finally:
+            end = last.write(self.keys.file("last"), self.handle)
+            if end > FULL * 0.8:
+                warn(f"{self.path} is {end * 100 // FULL} in 100 full, and what was overwritten takes its room too; a full one takes no "
+                     "more commands, a revocation neither: make a new one of what stands with renew")
+
+
+def opened(path, writes):
+    """The store's file, without waiting for what isn't one."""
+    try:
+        if stat.S_ISREG(os.stat(path).st_mode):
+            handle = os.open(path, (os.O_RDWR if writes else os.O_RDONLY) | os.O_NONBLOCK | os.O_CLOEXEC)
+            if stat.S_ISREG(os.fstat(handle).st_mode):
+                return handle
+            os.close(handle)
+    except (FileNotFoundError, NotADirectoryError):
+        raise NoStore(f"there is no store {path}: check the path, or make one with init") from None
+    except OSError as error:
+        raise NoStore(f"{path} can't be opened ({error.strerror}): see to its mode and owner, and to the folders above it") from None
+    kind = "a folder" if os.path.isdir(path) else "a pipe, a device or a socket"
+    raise NotAStore(f"{path} is {kind}, not a store: name the store's file")
+
+
+def locked(path, writes, wait):
+    """The store's file with the lock on it; it's the file of that path still when the lock is there."""
+    while True:
+        handle = opened(path, writes)
+        try:
+            lock(path, handle, fcntl.LOCK_EX if writes else fcntl.LOCK_SH, wait)
+            there = os.stat(path)
+            if os.path.samestat(os.fstat(handle), there):
+                return handle
+        except FileNotFoundError:
+            pass
+        except BaseException:
+            os.close(handle)
+            raise
+        os.close(handle)
+
+
+def lock(path, handle, how, wait):
+    """Waits for the lock, and says so, or tells that another has it."""
+    try:
+        fcntl.flock(handle, how | fcntl.LOCK_NB)
+    except BlockingIOError:
+        if not wait:
+            raise Locked(f"another is at {path}: wait until it's done, or leave out --no-wait") from None
+        warn(f"waiting for another that is at {path}")
+        fcntl.flock(handle, how)
+    except OSError as error:
+        raise Fault(f"{path} can't be locked ({error.strerror}), and two writers at once destroy a store: "
+                    "move it to a disk with locks") from None
+
+
+def identity(path, handle):
+    """The check of the owner's key, from the store's header."""
+    header = os.pread(handle, HEADER, 0)
+    if not header:
+        raise NotAStore(f"{path} is empty, as a stopped `make` leaves it: take it away, and put the store there or make one with init")
+    if len(header) < HEADER or not header.startswith(MAGIC):
+        raise NotAStore(f"{path} is not a store of this version: check the path")
+    return header[IDENTITY_AT:HEADER - 1]
+
+
+def make(path, keys_folder):
+    """A new store with its owner's key, which stands in the key folder before the store has its name; so a stop leaves no store without
+    its key. Gives the folder of its keys."""
+    if os.path.lexists(path):
+        raise Fault(f"{path} stands there already: init never writes over anything, name another file")
+    private.make_folder(KeyFolder(keys_folder, b"").above)
+    place = os.path.abspath(path)
+    handle, temporary = tempfile.mkstemp(prefix=".cryptree-", dir=os.path.dirname(place))
+    try:
+        line = program.made(temporary, path)
+        keys = KeyFolder(keys_folder, identity(path, handle))
+        keys.make()
+        with private.NewFile(keys.file("owner.key")) as file:
+            file.put(line + "\n")
+        Holders(keys.file("holders.json")).save()
+        last.write(keys.file("last"), handle)
+        private.settle(temporary, place)
+        places.keep(path, keys)
+    except FileExistsError:
+        raise Fault(f"{path} has come to stand there meanwhile: it's left as it is, name another file") from None
+    finally:
+        os.close(handle)
+        if os.path.lexists(temporary):
+            os.unlink(temporary)
+    return keys
