@@ -77,6 +77,17 @@ def peak(words, typed, waits):
     return most
 
 
+def held(words, typed):
+    """The most bytes that a command had of the system at once, its code and its stack among them, as massif counts them: the same number
+    each time, whatever else the machine does and has in its caches."""
+    with tempfile.TemporaryDirectory() as folder:
+        told = os.path.join(folder, "held")
+        watching = ["valgrind", "--tool=massif", "--pages-as-heap=yes", "--peak-inaccuracy=0.0", f"--massif-out-file={told}"]
+        subprocess.run(watching + words, input=typed, check=True, stdout=subprocess.DEVNULL, stderr=subprocess.PIPE)
+        with open(told) as file:
+            return max(int(line[len("mem_heap_B="):]) for line in file if line.startswith("mem_heap_B="))
+
+
 def wait_until_it_sleeps(pid):
     """Returns when the process has used no processor for a quarter of a second."""
     before, same = None, 0
