@@ -56,9 +56,6 @@ apart-append (x ∷ xs) ys a b cross = (
 
 -- ---- the ranks of what is written
 
-session_rank : (m : Journal) → rank (session_behind m) ≡ next_rank m false
-session_rank m = refl
-
 command_rank : (m : Journal) (b : Bool) (r : Request) (keys : List (List ℕ))
     → rank (command_behind (between m b) r keys) ≡ next_rank m b + cond b 0 1
 command_rank m b r keys =

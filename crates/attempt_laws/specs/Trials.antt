@@ -1,4 +1,5 @@
--- All batches that were ever written to a store, from its making on, with what each one masked. This project's own, docs/FORMAT.md.
+-- All batches that were ever written to a store, from its making on, with what each one masked. This project's own, docs/FORMAT.md,
+-- "Committing".
 use Rattle.std.specs.Prelude.{◌≡◌, ◌<◌, ◌⊎◌, ℕ, ◌+◌, true, false, cond, List, [], ◌∷◌, ◌++◌, length, slice_index_or, Option, Some, None}
 use Rattle.cry_base.specs.Requests.{Request}
 use Rattle.cry_base.specs.Sets.{In}

@@ -1,4 +1,5 @@
--- What an audit shows of a journal, by serials alone. This project's own, docs/FORMAT.md, "Records" and "Lines".
+-- What an audit shows of a journal, by serials alone. This project's own, docs/FORMAT.md, "Records", and
+-- docs/PROGRAM.md, "What is printed".
 use Rattle.std.specs.Prelude.{◌≡◌, ℕ, List, map, Result, Ok}
 use Rattle.closure_laws.specs.Seen.{Sight, seen}
 use Rattle.cry_base.specs.Listed.{Listed}

@@ -1,4 +1,4 @@
-//! Bundle lines, and printed lines, by the text of docs/FORMAT.md.
+//! Bundle lines, and printed lines, by the text of docs/PROGRAM.md, "Lines".
 ghost use Rattle.std.specs.Prelude;
 
 use cry_base::{Bundle, HolderId, Line, Mem, Text};

@@ -1,4 +1,4 @@
-//! Payloads without records: each note by the bytes that docs/FORMAT.md gives it.
+//! Payloads without records: each note by the bytes that docs/FORMAT.md, "Notes and payloads", gives it.
 ghost use Rattle.std.specs.Prelude;
 
 use cry_base::{FileId, FolderId, HolderId, Text};

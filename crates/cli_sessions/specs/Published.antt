@@ -1,5 +1,5 @@
 -- What is published of a store while lines are applied to it, and that no stop takes it back. This project's own, docs/FORMAT.md,
--- "Committing" and "The program".
+-- "Committing", and docs/PROGRAM.md, "The program".
 use Rattle.std.specs.Prelude.{ℕ, List}
 use Rattle.commit_journal.specs.Gates.{recovered}
 use Rattle.commit_journal.specs.Holding.{IsPrefix}

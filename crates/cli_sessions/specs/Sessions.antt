@@ -1,5 +1,5 @@
--- What a session over a journal leaves and prints, and how the program ends where its lines do. This project's own, docs/FORMAT.md, "The
--- program".
+-- What a session over a journal leaves and prints, and how the program ends where its lines do. This project's own, docs/PROGRAM.md,
+-- "The program".
 use Rattle.std.specs.Prelude.{◌≡◌, ◌<◌, ◌⊎◌, ℕ, ◌+◌, ◌*◌, Bool, List, [], ◌∷◌, ◌++◌, drop, length, Option}
 use Rattle.std.specs.Prelude.{None, Result, Ok, Err}
 use Rattle.cry_base.specs.Limits.{most_file_bytes, most_store_bytes}
@@ -162,7 +162,8 @@ pub record IsUnopened (key : List ℕ) (m : Journal) (seen : Seen) (KeepsTo : Jo
 
 -- How `run` ends on a disk that shows a journal, where the input tells and these commands were asked: at Done all lines were, before a bad
 -- line those before it. What the bytes of a store answer comes on no such disk.
-abbrev pub Ends : Status → Limits → List ℕ → Journal → List Request → List InputLine → Seen → (List ℕ → Type 0) → (Journal → Type 0) → Type 0
+abbrev pub Ends : Status → Limits → List ℕ → Journal → List Request → List InputLine → Seen → (List ℕ → Type 0) → (Journal → Type 0)
+    → Type 0
 Ends statuses.Done limits key m asked lines seen may_leave KeepsTo =
     (run : HasRun limits key m lines [] seen may_leave KeepsTo) × (run.asked ≡ asked)
 Ends (statuses.BadScript line) limits key m asked lines seen may_leave KeepsTo =

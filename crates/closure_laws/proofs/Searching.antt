@@ -233,20 +233,12 @@ no_more found i x s at other none there =
     (λ (j : In w.0 (x ∷ [])). ⊎_elim (λ (e : w.0 ≡ x). other (sym (w.2 ∙ ap (λ (z : Found). z.serial.0) e))) (λ n. n) j)
     ((In-append Found w.0 (take i found) (x ∷ [])).0 (subst (λ (l : List Found). In w.0 l) taken w.1))
 
-pub none_at_all : (found : List Found) (i s : ℕ) → length found ≤ i → (In s (serials_of (take i found)) → ⊥) → In s (serials_of found) → ⊥
-none_at_all found i s past none there = none (subst (λ (l : List Found). In s (serials_of l)) (sym (take_all i found past)) there)
-
 -- ---- a trail from one place to the next
 
 -- what leads on to a place leads on from the first
 abbrev pub LeadsTo : List Found → ℕ → ℕ → List LinkRef → Type 0
 LeadsTo found place at trail = (links : List HeldLink) (b : ℕ) (x y : Found) → AreChained links b found → StandsAt found place x → StandsAt found at y
     → (rest : List LinkRef) → IsTrail links y.serial.0 b rest → IsTrail links x.serial.0 b (trail ++ rest)
-
-pub leads_to_itself : (found : List Found) (place : ℕ) (trail : List LinkRef) → trail ≡ [] → LeadsTo found place place trail
-leads_to_itself found place trail none = λ links b x y chained at and rest way.
-    let same : y ≡ x = stands_same found place y x and at in
-    subst (λ (t : List LinkRef). IsTrail links x.serial.0 b (t ++ rest)) (sym none) (subst (λ (z : Found). IsTrail links z.serial.0 b rest) same way)
 
 back_from : (links : List HeldLink) (b : ℕ) (found : List Found) (at : ℕ) (one : Found) → 0 < at → StandsAt found at one → AreChained links b found → LeadsBack links found at one
 back_from links b found at one past stands chained = ⊎_elim (λ (first : (at ≡ 0) × (one.serial.0 ≡ b)). absurd (omega (arith, first.0, past))) (λ back. back) (chained at one stands)

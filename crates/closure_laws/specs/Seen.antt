@@ -1,4 +1,4 @@
--- What an audit shows: the names and files that a key leads to. This project's own, docs/FORMAT.md, "Lines".
+-- What an audit shows: the names and files that a key leads to. This project's own, docs/PROGRAM.md, "What is printed".
 use Rattle.std.specs.Prelude.{◌≡◌, ◌≢◌, ℕ, cond, not, ◌&&◌, ◌==◌, List, [], ◌∷◌, ◌++◌, map, filter, Option, Some, None, codes, decimal}
 use Rattle.cry_base.specs.Sets.{In, has}
 use Rattle.cry_base.specs.Texts.{hex_of, ended_lines}

@@ -1,20 +1,15 @@
 -- What a command's paths and name in form are each.
-use Rattle.std.proofs.Common.{◌≡◌, ℕ, ◌≤◌, Bool, true, false, not, ◌&&◌, nat_le, List, [], ◌∷◌, length, inl, inr, ⊎_elim, refl, sym, ap, ◌∙◌, arith}
+use Rattle.std.proofs.Common.{◌≡◌, ℕ, ◌≤◌, Bool, true, false, not, ◌&&◌, nat_le, List, [], length, inl, inr, ⊎_elim, refl, ap, arith}
 use Rattle.std.specs.Prelude.{bytes_eq, codes}
 use Rattle.std.specs.List.{list_all}
 use Rattle.std.proofs.lemmas.Bool.{and_parts, leb-true}
-use Rattle.cry_base.specs.Naming.{front, is_between, is_name, is_name_byte, is_path, is_root_path, last_name, names_behind, names_of, parent_path, spell_path}
+use Rattle.cry_base.specs.Naming.{is_between, is_name, is_name_byte, is_path, is_root_path, last_name, names_behind, names_of}
 use Rattle.cry_base.specs.Refusing.{has_bad_name}
 use Rattle.cry_base.specs.Requests.{paths_of}
 use Rattle.folder_nodes.specs.Titles.{MayBeNamed}
 use Rattle.folder_nodes.proofs.Downward.{bytes_told}
 use Rattle.folder_nodes.proofs.Slashes.{path_parts}
-use Rattle.cry_base.specs.Requests.Request.{MakeFolder, WriteFile, Remove, Rename, Relocate, Grant, Revoke}
-
--- the root's path is that without its last name
-pub root_parent : (path : List ℕ) → is_root_path path ≡ true → path ≡ parent_path path
-unfolding is_root_path parent_path spell_path front names_of names_behind
-root_parent path root = let slash : path ≡ 47 ∷ [] = bytes_told path (codes "/") root in slash ∙ ap parent_path (sym slash)
+use Rattle.cry_base.specs.Requests.Request.{MakeFolder, WriteFile, Rename}
 
 -- the last name of a path is one, or the root's
 pub last_named : (path : List ℕ) → is_path path ≡ true → MayBeNamed (last_name (names_of path))
@@ -48,11 +43,6 @@ both true true e = (refl, refl)
 both true false e = absurd (cc)
 both false b e = absurd (cc)
 
-two : (a b : Bool) → not (a && (b && true)) ≡ false → (a ≡ true) × (b ≡ true)
-two true true e = (refl, refl)
-two true false e = absurd (cc)
-two false b e = absurd (cc)
-
 pub folder_form : (path : List ℕ) → has_bad_name (MakeFolder path) ≡ false → is_path path ≡ true
 unfolding has_bad_name paths_of
 folder_form path e = one (is_path path) e
@@ -61,22 +51,6 @@ pub bytes_form : (path bytes : List ℕ) → has_bad_name (WriteFile path bytes)
 unfolding has_bad_name paths_of
 bytes_form path bytes e = one (is_path path) e
 
-pub removal_form : (path : List ℕ) → has_bad_name (Remove path) ≡ false → is_path path ≡ true
-unfolding has_bad_name paths_of
-removal_form path e = one (is_path path) e
-
 pub name_form : (path name : List ℕ) → has_bad_name (Rename path name) ≡ false → (is_path path ≡ true) × (is_name name ≡ true)
 unfolding has_bad_name paths_of
 name_form path name e = both (is_path path) (is_name name) e
-
-pub move_form : (path into : List ℕ) → has_bad_name (Relocate path into) ≡ false → (is_path path ≡ true) × (is_path into ≡ true)
-unfolding has_bad_name paths_of
-move_form path into e = two (is_path path) (is_path into) e
-
-pub grant_form : (h : ℕ) (path : List ℕ) → has_bad_name (Grant h path) ≡ false → is_path path ≡ true
-unfolding has_bad_name paths_of
-grant_form h path e = one (is_path path) e
-
-pub revoke_form : (h : ℕ) (path : List ℕ) → has_bad_name (Revoke h path) ≡ false → is_path path ≡ true
-unfolding has_bad_name paths_of
-revoke_form h path e = one (is_path path) e

@@ -1,4 +1,5 @@
--- What a command refuses, notes, seals and names, by what it found. This project's own, docs/FORMAT.md, "Notes" and "Records".
+-- What a command refuses, notes, seals and names, by what it found. This project's own, docs/FORMAT.md, "Notes and
+-- payloads" and "Records".
 use Rattle.std.specs.Prelude.{◌≤◌, ℕ, ◌+◌, true, false, List, [], length, replicate, Option, Some, None}
 use Rattle.cry_base.specs.Limits.{most_name_bytes}
 use Rattle.cry_base.specs.Store.{Store}

@@ -128,12 +128,6 @@ none_in : (batches : List (List ℕ)) (log : List PlainPlaced) → (let r : Resu
 none_in batches log e p i = let nothing : [] ≡ log = cc in absurd (subst (λ l. In p l) (sym nothing) i)
 
 module _ (judge : Judges) (gives : Gives judge) where
-  abbrev Step : Type 0
-  Step = Past → List ℕ → Result (Option PlainTurn) Fault
-
-  abbrev walks : Step
-  walks = turn_by judge
-
   -- what a turn gave, and how far on it goes
   record IsNext (past : Past) (rest : List ℕ) (turn : PlainTurn) : Type 0 where
     inside : batch_len + (head_of (take 13 rest)).size ≤ length rest

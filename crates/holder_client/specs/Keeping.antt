@@ -13,7 +13,8 @@ ComesNext has kept p = (log : List PlainPlaced) × has kept log × AreInEpochs 0
 -- whichever batches it comes next behind, this is kept of them and of it
 abbrev pub ReadsOn : {K : Type 0} → (K → List PlainPlaced → Type 0) → K → Placed → K → Type 0
 ReadsOn has old p new =
-    (log : List PlainPlaced) → has old log → AreInEpochs 0 (log ++ plain_placed p ∷ []) → p.batch ≡ length log + 1 → has new (log ++ plain_placed p ∷ [])
+    (log : List PlainPlaced) → has old log → AreInEpochs 0 (log ++ plain_placed p ∷ []) → p.batch ≡ length log + 1
+    → has new (log ++ plain_placed p ∷ [])
 
 -- and so of what was known before each of them, and before it
 abbrev pub StartsOn : {K : Type 0} → (K → List Past → Type 0) → K → Placed → Past → K → Type 0

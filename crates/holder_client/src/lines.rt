@@ -1,4 +1,4 @@
-//! The lines of what was opened (docs/FORMAT.md, "Lines").
+//! The lines of what was opened (docs/PROGRAM.md, "What is printed").
 ghost use Rattle.std.specs.Prelude.{◌≡◌, ◌++◌, IfOk, OnOk, map};
 ghost use Rattle.std.specs.List.{flat_map};
 ghost use Rattle.std.specs.Ordering.{is_lt};

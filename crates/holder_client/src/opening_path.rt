@@ -155,7 +155,8 @@ fn files_beside(
     files: Walk<'_, FileRow>,
     path: &[u8],
 ) -> Mem<Vec<FileRow>>
-    ensures { IfOk result (λ l. l.items ≡ filter (spec.is_row_beside (tree_store shape.now.tree names.now) sights.now path.now) files.entry) }
+    ensures { IfOk result (λ l.
+        l.items ≡ filter (spec.is_row_beside (tree_store shape.now.tree names.now) sights.now path.now) files.entry) }
 {
     if !path_ok(path) {
         return Ok(Vec::new(alloc));

@@ -1,4 +1,5 @@
--- All batches that were ever written, those that a stop or a fault cut short included. This project's own, docs/FORMAT.md.
+-- All batches that were ever written, those that a stop or a fault cut short included. This project's own, docs/FORMAT.md,
+-- "Committing".
 use Rattle.std.specs.Prelude.{ℕ, ◌+◌, Bool, true, false, cond, List, [], ◌∷◌, ◌++◌, length, Option, Some, None}
 use Rattle.cry_base.specs.Requests.{Request}
 use Rattle.public_fold.specs.KeyStep.{Stepped}

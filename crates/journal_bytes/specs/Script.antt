@@ -1,4 +1,4 @@
--- What a list of commands is answered, and the journal that it leaves. This project's own, docs/FORMAT.md.
+-- What a list of commands is answered, and the journal that it leaves. This project's own, docs/PROGRAM.md, "Lines".
 use Rattle.std.specs.Prelude.{ℕ, zero, suc, ◌+◌, ◌*◌, Bool, true, false, cond, nat_lt, List, [], ◌∷◌, ◌++◌, length, take, drop, replicate}
 use Rattle.std.specs.Prelude.{Option, Some, None}
 use Rattle.cry_base.specs.Layout.{batch_len}

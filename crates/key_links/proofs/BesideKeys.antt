@@ -7,7 +7,7 @@ use Rattle.sorted_table.specs.Rows.{row_at, replaced, with_row, without}
 use Rattle.key_links.specs.ByKind.{IsFoundBeside}
 use Rattle.key_links.specs.Ringed.{key_rank}
 use Rattle.key_links.specs.declared.any_key.AnyKey.{AnyKey}
-use Rattle.key_links.proofs.Looked.{found_replaced, found_with, found_without, without-append}
+use Rattle.key_links.proofs.Looked.{found_replaced, found_with, found_without}
 
 -- the first, where there is one, and else the second
 unfoldable pub either : {T : Type 0} → Option T → Option T → Option T
@@ -74,12 +74,3 @@ cleared key front rows front' after at place free is = λ k.
       | false ↦ refl
     ])
     ∙ ap (λ o. cond (key_rank key == k) (Some key) o) (sym (found_either front rows k))
-
--- what is left of five lists
-pub left_of_five : (a b c d e : List AnyKey) (k : ℕ) →
-    without key_rank a k ++ (without key_rank b k ++ (without key_rank c k ++ (without key_rank d k ++ without key_rank e k))) ≡ without key_rank (a ++ (b ++ (c ++ (d ++ e)))) k
-left_of_five a b c d e k =
-    ap (λ l. without key_rank a k ++ (without key_rank b k ++ (without key_rank c k ++ l))) (sym (without-append AnyKey key_rank d e k))
-    ∙ ap (λ l. without key_rank a k ++ (without key_rank b k ++ l)) (sym (without-append AnyKey key_rank c (d ++ e) k))
-    ∙ ap (λ l. without key_rank a k ++ l) (sym (without-append AnyKey key_rank b (c ++ (d ++ e)) k))
-    ∙ sym (without-append AnyKey key_rank a (b ++ (c ++ (d ++ e))) k)

@@ -21,15 +21,6 @@ find-front X p (x ∷ xs) ys y e =
       | false ↦ λ q. find-front X p xs ys y q
     ]) e
 
--- what isn't found stands neither in front nor behind
-pub find-neither : (X : Type 0) (p : X → Bool) (xs ys : List X) → find p (xs ++ ys) ≡ None → (find p xs ≡ None) × (find p ys ≡ None)
-find-neither X p [] ys e = (refl, e)
-find-neither X p (x ∷ xs) ys e =
-    (elim (p x) as (λ b. cond b (Some x) (find p (xs ++ ys)) ≡ None → (cond b (Some x) (find p xs) ≡ None) × (find p ys ≡ None)) [
-      | true ↦ λ q. absurd (cc)
-      | false ↦ λ q. find-neither X p xs ys q
-    ]) e
-
 -- a look-up among those that a weaker test kept
 find-kept : (T : Type 0) (p q : T → Bool) → ((x : T) → p x ≡ true → q x ≡ true) → (xs : List T) → find p (filter q xs) ≡ find p xs
 find-kept T p q keeps [] = refl
@@ -123,12 +114,3 @@ found_replaced T rank rows row k there =
               ∙ at_others xs t ∙ sym (ap (λ b. cond b (Some x) (row_at rank xs k)) other)
           | false ↦ λ e. ap (λ o. cond (rank x == k) (Some x) o) (at_others xs t)
         ]) refl
-
--- rows without a rank, in two parts
-pub without-append : (T : Type 0) (rank : T → ℕ) (front rows : List T) (k : ℕ) → without rank (front ++ rows) k ≡ without rank front k ++ without rank rows k
-without-append T rank [] rows k = refl
-without-append T rank (x ∷ front) rows k =
-    (elim (not (rank x == k)) as (λ b. cond b (x ∷ without rank (front ++ rows) k) (without rank (front ++ rows) k) ≡ cond b (x ∷ without rank front k) (without rank front k) ++ without rank rows k) [
-      | true ↦ ap (λ xs. x ∷ xs) (without-append T rank front rows k)
-      | false ↦ without-append T rank front rows k
-    ])

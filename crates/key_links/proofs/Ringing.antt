@@ -11,7 +11,7 @@ use Rattle.key_links.specs.Drawn.{number_of}
 use Rattle.key_links.specs.declared.any_key.AnyKey.{AnyKey}
 use Rattle.key_links.specs.declared.any_key.AnyKey.TheVariants as any
 use Rattle.key_links.specs.Ringed.{Ringed, role_of, parts_of, rank_of, key_rank, found, key_of, serial_in, IsWithKey, IsWithoutKey, IsAlone}
-use Rattle.key_links.proofs.Looked.{find-neither, found_without}
+use Rattle.key_links.proofs.Looked.{found_without}
 use Rattle.key_links.specs.ByKind.{IsFoundBeside}
 use Rattle.key_links.proofs.Ranks.{same_rank}
 use Rattle.sorted_table.proofs.Found.{row_at-Some}
@@ -85,13 +85,6 @@ pub absent_is : (ring : Ringed) (role : Role) → None ≡ found ring.keys role 
 unfolding serial_in key_of
 absent_is ring role none = ap (λ o. option_map (λ k. record { 0 = k.serial }) (option_map parts_of o)) none
 
--- where none has the place, none has it in front or behind
-pub emptied : (ring : Ringed) (front rows keys : List AnyKey) (k : ℕ) → front ++ rows ≡ ring.keys → ring.keys ≡ without key_rank keys k →
-    (row_at key_rank front k ≡ None) × (row_at key_rank rows k ≡ None)
-emptied ring front rows keys k is left =
-    find-neither AnyKey (λ key. key_rank key == k) front rows
-    (ap (λ ks. row_at key_rank ks k) (is ∙ left) ∙ found_without AnyKey key_rank keys k k ∙ ap (λ b. cond b None (row_at key_rank keys k)) (eq-eqb k k refl))
-
 -- a serial is told exactly where there is a key
 pub is_there : (ring : Ringed) (role : Role) (o : Option Serial) → o ≡ serial_in ring role → (IsSome o ↔ IsSome (key_of ring role))
 unfolding serial_in serial
@@ -101,15 +94,6 @@ is_there ring role o is =
       | None ↦ (λ there. there, λ there. there)
       | Some key ↦ (λ there. refl, λ there. refl)
     ])
-
--- the key whose serial was told
-pub told_key : (ring : Ringed) (role : Role) (s : Serial) → Some s ≡ serial_in ring role → (key : KeyParts) × (key_of ring role ≡ Some key) × (s.0 ≡ key.serial)
-unfolding serial_in serial
-told_key ring role s is =
-    (elim (key_of ring role) as (λ k. key_of ring role ≡ k → Some s ≡ option_map (λ (key : KeyParts). serial key.serial) k → (key : KeyParts) × (key_of ring role ≡ Some key) × (s.0 ≡ key.serial)) [
-      | None ↦ λ e none. absurd (cc)
-      | Some key ↦ λ e some. let same : s ≡ serial key.serial = cc in (key, e, ap (λ t. t.0) same)
-    ]) refl is
 
 key_number : (key : AnyKey) → role_of key ≢ Owner → (parts_of key).id ≡ number_of (role_of key)
 unfolding role_of parts_of number_of
@@ -133,8 +117,3 @@ key_numbered ring role key other is =
           let of : role_of any ≡ role = found_is ring.keys role any e in
           ap (λ k. k.id) (sym same) ∙ key_number any (λ owner. other (sym of ∙ owner)) ∙ ap number_of of
     ]) refl is
-
--- the same keys are found for the same roles
-pub keys_stay : (old new : Ringed) → new.keys ≡ old.keys → (role : Role) → key_of new role ≡ key_of old role
-unfolding key_of
-keys_stay old new same role = ap (λ keys. option_map parts_of (found keys role)) same

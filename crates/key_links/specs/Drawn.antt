@@ -1,4 +1,4 @@
--- Keys that were drawn for a role. This project's own, docs/FORMAT.md, "Serials and keys".
+-- Keys that were drawn for a role. This project's own, docs/FORMAT.md, "Serials".
 use Rattle.std.specs.Prelude.{ℕ, List}
 use Rattle.chacha_seal.specs.Keys.{KeyParts}
 use Rattle.cry_base.specs.declared.roles.Role.{Role}

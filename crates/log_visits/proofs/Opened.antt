@@ -1,35 +1,13 @@
 -- Records that are opened as the definition says.
-use Rattle.std.proofs.Common.{◌≡◌, ℕ, true, List, ◌++◌, length, take, drop, Ok, refl, sym, ap, ◌∙◌}
+use Rattle.std.proofs.Common.{◌≡◌, ℕ, true, List, Ok, refl, ap}
 use Rattle.std.specs.Str.{bytes_eq}
-use Rattle.std.proofs.Math.Seq.{take-append_seam}
 use Rattle.std.proofs.lemmas.Slice.Eq.{bytes_eq-Decides}
-use Rattle.chacha_seal.specs.Sealing.{sealed, seal_tag}
-use Rattle.chacha_seal.proofs.SealingLemmas.{length-sealed, sealed-sealed}
-use Rattle.record_format.specs.Plain.{PlainContent}
+use Rattle.chacha_seal.specs.Sealing.{seal_tag}
+use Rattle.chacha_seal.proofs.SealingLemmas.{sealed-sealed}
 use Rattle.record_format.specs.Spelling.{link_head, content_head}
 use Rattle.chacha_seal.specs.Keys.{KeyParts}
 use Rattle.key_links.specs.Sealed.{sealed_link, sealed_content}
 use Rattle.log_visits.specs.Verdict.{open_link, open_content}
-
--- bytes as many as there were, left behind a loan of a whole text
-left_behind : (items bytes : List ℕ) → length bytes ≡ length items → take (length items) (bytes ++ drop (length bytes) items) ≡ bytes
-left_behind items bytes same =
-    ap (λ n. take n (bytes ++ drop (length bytes) items)) (sym same) ∙ take-append_seam bytes (drop (length bytes) items)
-
--- a text that was opened in place
-pub opened_in_place : (batch at : ℕ) (key : List ℕ) (r : PlainContent) (header old new items : List ℕ) → header ≡ content_head r → old ≡ items → items ≡ r.cipher →
-    r.tag ≡ seal_tag key header old → new ≡ sealed key r.nonce old →
-    open_content batch at key r ≡ Ok (take (length items) (new ++ drop (length new) items))
-unfolding open_content
-opened_in_place batch at key r header old new items header_is old_is items_is tag new_is =
-    let cipher = old_is ∙ items_is in
-    let right : r.tag ≡ seal_tag key (content_head r) r.cipher =
-    tag ∙ ap (λ h. seal_tag key h old) header_is ∙ ap (λ c. seal_tag key (content_head r) c) cipher
-    in
-    let test : bytes_eq r.tag (seal_tag key (content_head r) r.cipher) ≡ true = (bytes_eq-Decides r.tag (seal_tag key (content_head r) r.cipher)).1 right in
-    let text : new ≡ sealed key r.nonce r.cipher = new_is ∙ ap (sealed key r.nonce) cipher in
-    let same : length new ≡ length items = ap length text ∙ length-sealed key r.nonce r.cipher ∙ sym (ap length items_is) in
-    rw test (ap Ok (sym (left_behind items new same ∙ text)))
 
 -- ---- what was sealed is opened
 

@@ -4,11 +4,10 @@ use Rattle.std.specs.HashMap.{HashMap, get}
 use Rattle.std.specs.Map.{lookup}
 use Rattle.commit_journal.specs.declared.past.Past.{Past}
 use Rattle.commit_journal.specs.Placed.{PlainPlaced}
-use Rattle.commit_journal.specs.Streaming.{IsStart, LogState, again_in}
+use Rattle.commit_journal.specs.Streaming.{LogState, again_in}
 use Rattle.log_visits.specs.declared.last_contents.ContentHead.{ContentHead}
 use Rattle.log_visits.specs.declared.last_contents.ContentSpot.{ContentSpot}
 use Rattle.log_visits.specs.Indexed.{HaveStarts, StartsAt, same_content_heads}
-use Rattle.log_visits.specs.Spots.{IsAt}
 use Rattle.log_visits.proofs.Lasts.{at_end, at_more}
 
 -- a spot that is noted has what was known before its batch
@@ -41,13 +40,6 @@ starts_next starts start batch number next =
 pub start_found : {S : Type 0} (last : HashMap ContentHead ContentSpot S) (starts : List Past) (head : ContentHead) (found : Option ContentSpot) → HaveStarts last starts → get same_content_heads last head ≡ found →
     IfSome found (λ s. StartsAt starts s.position s.start)
 start_found last starts head found have is = subst (λ o. IfSome o (λ s. StartsAt starts s.position s.start)) is (have.found head)
-
-abbrev IsAtNumber : List Past → Past → ℕ → Type 0
-IsAtNumber starts start n = IsAt starts n start
-
--- it is what the log knew before a batch that it gave
-pub start_known : (log : LogState) (spot : ContentSpot) → StartsAt log.starts spot.position spot.start → IsStart log spot.start
-start_known log spot at = subst (IsAtNumber log.starts spot.start) (sym at.0) at.1
 
 -- the batch of a spot is read again by what was known before it
 pub reread_from : (log : LogState) (s : List ℕ) (start : Past) (position : ℕ) (p : PlainPlaced) → start.number ≡ position → again_in log (position + 1) s ≡ Ok p → again_in log (start.number + 1) s ≡ Ok p

@@ -5,7 +5,7 @@ use Rattle.commit_journal.specs.declared.fault.OpenFault.TheVariants as opening
 use Rattle.commit_journal.specs.Answering as journal
 use Rattle.log_visits.specs.declared.fault.ClientFault.{ClientFault}
 use Rattle.log_visits.specs.declared.fault.ClientFault.TheVariants as faults
-use Rattle.log_visits.specs.Answering.{client_fault, IsFault, IsOfBytes}
+use Rattle.log_visits.specs.Answering.{IsFault, IsOfBytes}
 use Rattle.commit_journal.specs.Answering.{Fault, and_then}
 
 -- a fault ends what would follow
@@ -30,12 +30,3 @@ of_bytes_alone (faults.NoHolder known) wanted is = is
 of_bytes_alone faults.Unseen wanted is = is
 of_bytes_alone faults.DiskFault wanted is = tt
 of_bytes_alone faults.OutOfMemory wanted is = tt
-
--- a fault of the log is the client's
-pub log_fault : {A : Type 0} (fault : OpenFault) (read : Result A Fault) → journal.IsFault fault read → IsFault (client_fault fault) read
-log_fault opening.NotAStore read is = is
-log_fault opening.WrongKey read is = is
-log_fault (opening.Damaged at) read is = is
-log_fault (opening.Tampered batch at) read is = is
-log_fault opening.DiskFault read is = tt
-log_fault opening.OutOfMemory read is = tt

@@ -53,7 +53,8 @@ pub record HasLastLink {S : Type 0} (last : HashMap LinkHead FoundLink S) (head 
 
 -- these links were noted: whatever last link of a head the map had, it has the last one with these behind
 abbrev pub LinksAreNoted : {S : Type 0} → (old new : HashMap LinkHead FoundLink S) → List PlacedLink → Type 0
-LinksAreNoted old new more = (head : LinkHead) (so_far : List PlacedLink) → HasLastLink old head so_far → HasLastLink new head (so_far ++ more)
+LinksAreNoted old new more =
+    (head : LinkHead) (so_far : List PlacedLink) → HasLastLink old head so_far → HasLastLink new head (so_far ++ more)
 
 -- this content stands at the spot in a log
 abbrev pub IsContentAt : List PlainPlaced → ContentSpot → PlainContent → Type 0

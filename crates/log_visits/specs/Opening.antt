@@ -104,19 +104,22 @@ pub record IsOpenedBy (bare : Store) (view : OwnersView) (o : Opened) : Type 0 w
 -- of what was to be visited the rest is left
 abbrev pub IsVisitedTo : PublicView → List PlainPlaced → List Visit → OwnersView → List Visit → OwnersView → Type 0
 IsVisitedTo state log all before left view =
-    (told : Role → Bool) (r : Reading) (o : Opened) → AllByRecursion (IsFor told) all → IsReadingIn state log r → IsOpenedTo told r.stand.store all before o →
+    (told : Role → Bool) (r : Reading) (o : Opened) → AllByRecursion (IsFor told) all → IsReadingIn state log r →
+    IsOpenedTo told r.stand.store all before o →
     (p : Opened) × AllByRecursion (IsFor told) left × IsOpenedTo told r.stand.store left view p × (visit_all r all o ≡ visit_all r left p)
 
 -- these visits were made, whatever was to be visited before and behind them
 abbrev pub LeadsOn : PublicView → List PlainPlaced → List Visit → OwnersView → OwnersView → Type 0
 LeadsOn state log visits old new =
-    (all left : List Visit) (first : OwnersView) → IsVisitedTo state log all first (visits ++ left) old → IsVisitedTo state log all first left new
+    (all left : List Visit) (first : OwnersView) → IsVisitedTo state log all first (visits ++ left) old →
+    IsVisitedTo state log all first left new
 
 -- one of these visits fails so, whatever was to be visited before and behind them
 abbrev pub FailsBy : PublicView → List PlainPlaced → List Visit → OwnersView → ClientFault → Type 0
 FailsBy state log visits old fault =
-    (all left : List Visit) (first : OwnersView) → IsVisitedTo state log all first (visits ++ left) old → (told : Role → Bool) (r : Reading) (o : Opened) →
-    AllByRecursion (IsFor told) all → IsReadingIn state log r → IsOpenedTo told r.stand.store all first o → IsFault fault (visit_all r all o)
+    (all left : List Visit) (first : OwnersView) → IsVisitedTo state log all first (visits ++ left) old →
+    (told : Role → Bool) (r : Reading) (o : Opened) → AllByRecursion (IsFor told) all → IsReadingIn state log r →
+    IsOpenedTo told r.stand.store all first o → IsFault fault (visit_all r all o)
 
 -- a tree without names and bytes
 pub record IsNameless (s : Store) : Type 0 where

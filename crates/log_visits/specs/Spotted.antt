@@ -29,8 +29,8 @@ IsSpotOf records log None wanted = wanted ≡ None
 IsSpotOf {X} records log (Some spot) wanted = (x : X) × HasRecordAt records log spot x × (wanted ≡ Some x)
 
 -- this is the spot of the last record of a head
-pub record HasSpot {H X : Type 0} (spot : H → Option RecordSpot) (test : H → X → Bool) (records : PlainPlaced → List X) (log : List PlainPlaced)
-    (head : H) (so_far : List X) : Type 0 where
+pub record HasSpot {H X : Type 0} (spot : H → Option RecordSpot) (test : H → X → Bool) (records : PlainPlaced → List X)
+    (log : List PlainPlaced) (head : H) (so_far : List X) : Type 0 where
   pub found : IsSpotOf records log (spot head) (last_one (test head) so_far)
 
 -- the spots that a table has

@@ -1,4 +1,4 @@
--- What whoever looks is shown of a store. This project's own, docs/FORMAT.md, "Lines".
+-- What whoever looks is shown of a store. This project's own, docs/PROGRAM.md, "What is printed".
 use Rattle.std.specs.Prelude.{[], ◌∷◌, ◌≡◌, ◌⊎◌, IsFalse, ℕ, true, false, List, ◌++◌, map, filter, codes}
 use Rattle.cry_base.specs.Naming.{spell_path}
 use Rattle.cry_base.specs.Sets.{In}

@@ -9,7 +9,8 @@ ghost use Rattle.log_visits.specs.Answering.{AnswersBy};
 ghost use Rattle.log_visits.specs.Found.{IsLinkFor, plain_link};
 ghost use Rattle.log_visits.specs.Holding.{ArePresent, AreSized, HasKind, HoldsKeys, IsPresent, IsReadingIn, IsReadingOf};
 ghost use Rattle.log_visits.specs.Placing.{link_for};
-ghost use Rattle.log_visits.specs.Opening.{FailsBy, HasItsKind, IsFor, IsOpenedBy, IsOpenedTo, LeadsOn, file_row_visits, owner_list, plain_visit};
+ghost use Rattle.log_visits.specs.Opening.{FailsBy, HasItsKind, IsFor, IsOpenedBy, IsOpenedTo, LeadsOn};
+ghost use Rattle.log_visits.specs.Opening.{file_row_visits, owner_list, plain_visit};
 ghost use Rattle.log_visits.specs.Visiting.{Opened, Reading};
 ghost use Rattle.log_visits.specs.Visiting as spec;
 ghost use Rattle.log_visits.specs.Visits.{Visit as PlainVisit, all_visits, holder_visits};
@@ -120,8 +121,10 @@ fn visit_part<S, R: Records<S>>(
     requires kinds { AllByRecursion HasItsKind (map plain_visit visits.now) }
     requires keys { ArePresent state.now.keys.keys view.old.ring }
     requires sized { AreSized view.old.names }
-    ensures visited { R.shows records.now source.old → OnOk result (LeadsOn state.now (R.log records.now) (map plain_visit visits.now) view.old view.new) }
-    ensures failed { R.shows records.now source.old → IfErr result (FailsBy state.now (R.log records.now) (map plain_visit visits.now) view.old) }
+    ensures visited { R.shows records.now source.old
+        → OnOk result (LeadsOn state.now (R.log records.now) (map plain_visit visits.now) view.old view.new) }
+    ensures failed { R.shows records.now source.old
+        → IfErr result (FailsBy state.now (R.log records.now) (map plain_visit visits.now) view.old) }
     ensures keys { OnOk result (ArePresent state.now.keys.keys view.new.ring) }
     ensures sized { OnOk result (AreSized view.new.names) }
     ensures seen { result ≢ Err ClientFault.Unseen }

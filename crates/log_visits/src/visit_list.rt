@@ -270,12 +270,12 @@ fn key_visits(alloc: Global, last: u32) -> Mem<Vec<Visit>>
 
 /// All visits of the owner but for those to files, and then the holders' keys.
 pub(crate) fn owner_visits(alloc: Global, state: &PublicState) -> Mem<OwnerVisits>
-    ensures visits { IfOk result (λ l. (at : Stand) (rows : List TheFileRow) → state.now.tree.files ≡ map file_of_row rows → IsSeenAs state.now at
-        → owner_list l rows ≡ spec.all_visits at.store TheOwner ++ spec.holder_visits at.store) }
+    ensures visits { IfOk result (λ l. (at : Stand) (rows : List TheFileRow) → state.now.tree.files ≡ map file_of_row rows
+        → IsSeenAs state.now at → owner_list l rows ≡ spec.all_visits at.store TheOwner ++ spec.holder_visits at.store) }
     ensures nameless { IfOk result (λ _. IsNameless state.now.tree) }
     ensures owners { IfOk result (λ l. (rows : List TheFileRow) → AllByRecursion (IsFor is_no_holders) (owner_list l rows)) }
-    ensures holders { IfOk result (λ l. (at : Stand) (rows : List TheFileRow) (e : HolderEntry) → IsSeenAs state.now at → In e at.store.holders
-        → In (ToHolder e.number) (owner_list l rows)) }
+    ensures holders { IfOk result (λ l. (at : Stand) (rows : List TheFileRow) (e : HolderEntry) → IsSeenAs state.now at
+        → In e at.store.holders → In (ToHolder e.number) (owner_list l rows)) }
 {
     is_nameless(state);
     let seen = all_sights(alloc, state, Viewer::Owner)?;

@@ -99,10 +99,6 @@ valid_readable owner m valid whole = record {
 abbrev pub begun : Journal
 begun = Session ∷ []
 
-begun_store : store_of begun ≡ no_store
-unfolding store_of stand_after stand_then entry_store nothing
-begun_store = refl
-
 begun_followed : (owner : List ℕ) → fold_of owner begun ≡ Ok (public_stand begun)
 unfolding fold_of log_of bodies_of bodies_from entry_body folded stand_behind and_then public_stand public_of store_of keys_of stand_after stand_then entry_store entry_step nothing no_store
 begun_followed owner = refl

@@ -139,10 +139,6 @@ first_store : (bundle : Bundle) (r : Reading) → (opened_first bundle r).store 
 unfolding opened_first
 first_store bundle r = refl
 
-bare_store : (m : Journal) → public_of (store_of m) ≡ (public_stand m).store
-unfolding public_stand
-bare_store m = refl
-
 module _ (owner : List ℕ) (m : Journal) (bundle : Bundle) (ok : IsReadable owner m) (is : IsReaderOf owner m bundle) where
   abbrev reading : Reading
   reading = reading_of owner m

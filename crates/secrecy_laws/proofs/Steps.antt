@@ -70,10 +70,6 @@ module _ {R : Type 0} (same : R → R → Bool) (tells : Tells same) (root : R �
   no_root_marked : (r : R) → In r m.marked → root r ≡ true → ⊥
   no_root_marked r h t = let w = (step.marked r).0 h in ends_no_root w.0.1 r w.2 (λ u. was.marked.none_into_roots w.0 (step.removed_stood w.0 w.1) u) t
 
-  -- an edge that is left has no new role at an end
-  source_old : (e : R × R) → In e m.left → In e.0 m.fresh → ⊥
-  source_old e l f = let w = was.linked e (step.left_stood e l) in fresh_had e.0 w.0.0 f w.2
-
   target_old : (e : R × R) → In e m.left → In e.1 m.fresh → ⊥
   target_old e l f = let w = was.linked e (step.left_stood e l) in fresh_had e.1 w.0.1 f w.3
 

@@ -1,4 +1,4 @@
--- The script of a generated store: what its lines ask for, by a rule from a number. This project's own, docs/FORMAT.md,
+-- The script of a generated store: what its lines ask for, by a rule from a number. This project's own, docs/PROGRAM.md,
 -- "Generated scripts".
 use Rattle.std.specs.Prelude.{◌≡◌, ℕ, zero, suc, ◌+◌, ◌*◌, ◌/◌, ◌%◌, ◌^◌, ◌<◌, Bool, true, false, nat_lt, ◌==◌, List, [], ◌∷◌, ◌++◌, length}
 use Rattle.std.specs.Prelude.{map, replicate, slice_index_or, slice_set, if◌then◌else◌}

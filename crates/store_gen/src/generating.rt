@@ -32,7 +32,7 @@ holder
 holder
 ";
 
-/// A script of 20 lines and `count` more, each ended by the byte 0x0a, that follow from the seed (docs/FORMAT.md,
+/// A script of 20 lines and `count` more, each ended by the byte 0x0a, that follow from the seed (docs/PROGRAM.md,
 /// "Generated scripts"). It has no owner's line. The plain store refuses none of its lines where it begins with a fresh
 /// store ([`laws`](crate::laws)). `OutOfMemory` has no other cause than memory.
 pub fn generate(alloc: Global, seed: u64, count: u32) -> Mem<Text>

@@ -1,5 +1,5 @@
 -- Six keys that were drawn are the pieces of their bytes, and who stands for the journal of the last five is made by them.
-use Rattle.std.proofs.Common.{◌≡◌, ℕ, ◌+◌, ◌*◌, ◌<◌, ◌≤◌, List, Result, Ok, Err, Option, [], ◌∷◌, ◌++◌, length, take, drop, slice_index_or, None, arith, sym, ap, subst, ◌∙◌, length-append}
+use Rattle.std.proofs.Common.{◌≡◌, ℕ, ◌+◌, ◌*◌, ◌<◌, List, Result, Ok, Err, Option, [], ◌∷◌, ◌++◌, length, take, drop, slice_index_or, None, arith, sym, ap, subst, ◌∙◌, length-append}
 use Rattle.std.proofs.lemmas.List.Elements.{All-head, All-tail}
 use Rattle.std.proofs.Math.Seq.{take-append_seam, drop-append-add}
 use Rattle.std.specs.Prelude.{IfOk, OnOk}
@@ -7,7 +7,7 @@ use Rattle.commit_journal.specs.Image.{Batch, image}
 use Rattle.cry_base.specs.Listed.{Listed}
 use Rattle.cry_base.specs.declared.limits.Limits.{Limits}
 use Rattle.cry_io.specs.Told.{WhereBothTold, WhereTold}
-use Rattle.key_links.specs.Fresh.{fresh_draw_len, fresh_image, fresh_store_len, piece}
+use Rattle.key_links.specs.Fresh.{fresh_draw_len, fresh_image, piece}
 use Rattle.public_fold.specs.Journal.Entry.{Made, Session}
 use Rattle.journal_bytes.specs.Bytes.{image_of}
 use Rattle.store_owner.specs.declared.apply_fault.ApplyFault.{ApplyFault}
@@ -157,9 +157,3 @@ short_of_six fault before after left need told bytes is =
     let t = subst (λ (f : ApplyFault). IsFillFault {T = Listed (List ℕ)} 6 (Err f)) is told small in
     let drew = subst (λ (f : ApplyFault). WhereBothTold before after (DrawsKeys 6 (Err f))) is bytes in
     (t.0, omega (arith, t.0, t.1), λ x y was now. ((drew x y was now).0 small, (drew x y was now).1))
-
--- the log of a fresh store is within its disk
-pub inside_fresh : (result : Result OwnerView ApplyFault) (limits : Limits) (drawn : List ℕ) (size : ℕ) → IfOk result (IsMade drawn limits) → OnOk result (size ≡ fresh_store_len)
-    → IfOk result (λ (o : OwnerView). o.journal.end ≤ size)
-inside_fresh (Ok o) limits drawn size is all = let e = is.journal.ends_at in omega (arith, e, all)
-inside_fresh (Err fault) limits drawn size is all = tt

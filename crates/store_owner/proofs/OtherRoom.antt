@@ -73,10 +73,6 @@ held_still : (keys : List KeyParts) (k : KeyState) (ring : Ringed) (d : ℕ) (co
 unfolding key_of
 held_still keys k ring d counter h = record { has_present = h.has_present; drawn_below = h.drawn_below; present_below = h.present_below; is_counted = h.is_counted }
 
-held_before : (keys : List KeyParts) (k : KeyState) (ring : Ringed) (d : ℕ) (counter : Counting) → HoldsKeys keys k (record { keys = ring.keys; spare = d }) counter → HoldsKeys keys k ring counter
-unfolding key_of
-held_before keys k ring d counter h = record { has_present = h.has_present; drawn_below = h.drawn_below; present_below = h.present_below; is_counted = h.is_counted }
-
 sound_with : (o : OwnerView) (b c d e f : ℕ) → IsSound o → IsSound (with_room o b c d e f)
 unfolding tree_store
 sound_with o b c d e f s = record {

@@ -26,7 +26,6 @@ use Rattle.cry_io.specs.Stops.{IsDurable}
 use Rattle.cry_io.specs.Told.{WhereTold}
 use Rattle.record_format.specs.Spelling.{spell_payload}
 use Rattle.public_fold.specs.Journal.{Journal}
-use Rattle.public_fold.specs.Journal.Entry.{Did}
 use Rattle.public_fold.specs.Lengths.{end_of}
 use Rattle.public_fold.specs.Valid.{IsValid}
 use Rattle.journal_bytes.specs.Bytes.{batches_of, bodies_of}
@@ -140,12 +139,6 @@ still_batches added bs j was might since only durable shows s c at =
       begins = inl (prefix_same bs);
     }
 
--- a commit that begins an epoch
-pub adds_epoch_published : (has : Bool) (b : Batch) (j : JournalState) (was : Option (List ℕ)) (might : List ℕ → Type 0) (on : (List ℕ → List ℕ → Type 0) → Type 0) → has ≡ false
-    → KeepsPublished b j was might on → AddsPublished (cond has [] (b ∷ [])) j was might on
-adds_epoch_published true b j was might on none keeps = absurd (false≢true (sym none))
-adds_epoch_published false b j was might on none keeps = keeps
-
 module _ (D : Type 0) (moment : D → ℕ) (since : D → ℕ → List ℕ → List ℕ → Type 0) where
   -- a weaker relation
   weaker : (R Q : List ℕ → List ℕ → Type 0) (a e : D) → ((s c : List ℕ) → R s c → Q s c) → FromThenOn moment since a e R → FromThenOn moment since a e Q
@@ -186,9 +179,6 @@ module _ (m : Journal) (r : Request) (drawn : List (List ℕ)) (old : OwnerView)
 
   abbrev then : Journal
   then = journal_then m old.journal.has_epoch r drawn
-
-  to_then : IsPrefix begun then
-  to_then = (Did r drawn ∷ [], refl)
 
   module _ (D : Type 0) (moment : D → ℕ) (since : D → ℕ → List ℕ → List ℕ → Type 0) where
     abbrev On : D → D → (List ℕ → List ℕ → Type 0) → Type 0

@@ -11,7 +11,6 @@ use Rattle.commit_journal.specs.Journals.{JournalState, Joins, MayJoin, next_com
 use Rattle.commit_journal.specs.Standing.{StandsWhole}
 use Rattle.cry_base.specs.Requests.{Request}
 use Rattle.cry_base.specs.Store.{Store}
-use Rattle.cry_base.specs.declared.commands.Refusal.{Refusal}
 use Rattle.cry_base.specs.declared.commands.Reply.{Reply}
 use Rattle.cry_base.specs.declared.commands.Reply.TheVariants as replies
 use Rattle.cry_io.specs.Told.{WhereTold, WhereBothTold}
@@ -134,11 +133,6 @@ pub record IsDone (m : Journal) (r : Request) (reply : Reply) (old new : OwnerVi
   pub disk_behind : WhereBothTold was shows (λ x y. StandsWhole old.key (batches_of old.key m) x
       → drop new.journal.end y ≡ drop new.journal.end x)
   pub comes_to_rest : ComesToRest old.key m (journal_then m old.journal.has_epoch r drawn) was shows might may since
-
--- why a reply refuses, where it does
-abbrev pub why_refused : Reply → Option Refusal
-why_refused (replies.Refused why) = Some why
-why_refused reply = None
 
 -- A command that met a fault of the disk: it drew keys of 32 bytes from the next random bytes; and where the disk showed the whole of the
 -- journal, it shows bytes that stand for the journal, or for it with the session begun, or with the command too. Where the disk rested at

@@ -143,8 +143,8 @@ impl Owner {
     /// still, and after none is anything else written than slots of batches that passed their tests: the disk is handed their
     /// veil keys and nothing else.
     ///
-    /// At each moment of the call the disk shows what it showed, and a stop leaves what it could leave then; or both are the bytes that were
-    /// shown at the start with some slots filled, of a log that passes every test.
+    /// At each moment of the call the disk shows what it showed, and a stop leaves what it could leave then; or both are the bytes that
+    /// were shown at the start with some slots filled, of a log that passes every test.
     ///
     /// A stop at any moment of the call leaves a journal between two, where the disk held between these at its start and showed one
     /// whose log ends within the store limit. It takes back no batch that was published then or at an

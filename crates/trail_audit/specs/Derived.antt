@@ -1,5 +1,5 @@
--- What an audit gives: the names and files that a bundle's key leads to. This project's own, docs/FORMAT.md, "Records" and
--- "Lines".
+-- What an audit gives: the names and files that a bundle's key leads to. This project's own, docs/FORMAT.md, "Records", and
+-- docs/PROGRAM.md, "What is printed".
 use Rattle.std.specs.Prelude.{◌≡◌, ◌⊎◌, ℕ, Bool, true, false, ◌&&◌, ◌==◌, cond, IsTrue, List, [], ◌∷◌, ◌++◌, filter, map, take, drop}
 use Rattle.std.specs.Prelude.{Result, Ok, Err}
 use Rattle.std.specs.List.{flat_map}
