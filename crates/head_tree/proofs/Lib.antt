@@ -1,0 +1,10 @@
+pub mod Depths
+pub mod Trees
+pub mod Proofs
+pub mod Checks
+pub mod Sizes
+pub mod Collisions
+pub mod Reaching
+pub mod Prefixes
+pub mod Accepting
+pub mod Growth
