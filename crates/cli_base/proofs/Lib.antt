@@ -1,4 +1,5 @@
 pub mod InputLemmas
 pub mod LineLemmas
 pub mod OutsideLemmas
+pub mod PrintedLines
 pub mod TakenLines

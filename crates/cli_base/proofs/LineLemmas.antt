@@ -319,7 +319,3 @@ read_on l h r m y kept read is =
 pub nothing_read : (piece m y : List ℕ) → length piece ≡ 0 → m ≡ [] → m ≡ piece ++ y → y ≡ []
 nothing_read [] m y none gone is = sym is ∙ gone
 nothing_read (byte ∷ piece) m y none gone is = absurd (omega (arith, none))
-
-pub no_piece : (piece : List ℕ) → length piece ≡ 0 → piece ≡ []
-no_piece [] none = refl
-no_piece (byte ∷ piece) none = absurd (omega (arith, none))

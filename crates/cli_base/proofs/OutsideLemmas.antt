@@ -2,11 +2,6 @@
 use Rattle.std.proofs.Common.{◌≡◌, ℕ, ◌-◌, List, ◌++◌, length, take, drop, append_assoc, sym, ap, ◌∙◌, length-drop}
 use Rattle.std.proofs.Math.Seq.{take-length}
 
--- what is left goes on behind what was taken in two calls
-pub taken_twice : (x front middle next last : List ℕ) → x ≡ front ++ middle → middle ≡ next ++ last → x ≡ (front ++ next) ++ last
-taken_twice x front middle next last first second =
-    first ∙ ap (λ r. front ++ r) second ∙ sym (append_assoc front next last)
-
 -- what was written grows by two pieces in a row
 pub put_twice : (x front middle next last : List ℕ) → middle ≡ x ++ front → last ≡ middle ++ next → last ≡ x ++ (front ++ next)
 put_twice x front middle next last first second =

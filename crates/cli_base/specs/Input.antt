@@ -7,6 +7,8 @@ use Rattle.cli_base.specs.Lines.{AreOfLines, InputLine, IsCutOff, LineState, inp
 use Rattle.cli_base.specs.Lines.InputLine.{Whole, TooLong}
 use Rattle.cli_base.specs.declared.input.InputFault.{InputFault}
 use Rattle.cli_base.specs.declared.input.InputFault.TheVariants.{BadLine, Failed, OutOfMemory}
+use Rattle.cli_base.specs.declared.status.Status.{Status}
+use Rattle.cli_base.specs.declared.status.Status.TheVariants as statuses
 
 -- each line behind the bundle's is bad
 abbrev pub alone : Bundle → List InputLine → Result Bundle ℕ
@@ -80,3 +82,9 @@ EndsInput (Err fault) bundle typed left = ReadsInput (Err fault) typed left
 abbrev pub InputFailsByCount : {U : Type 0} → Result U InputFault → ℕ → ℕ → Type 0
 InputFailsByCount (Err Failed) old new = old < new
 InputFailsByCount _ old new = old ≤ new
+
+-- how the program ends where an input fails
+abbrev pub input_status : InputFault → Status
+input_status (BadLine line) = statuses.BadScript line
+input_status Failed = statuses.ReadFault
+input_status OutOfMemory = statuses.OutOfMemory

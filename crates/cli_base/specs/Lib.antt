@@ -1,3 +1,4 @@
+pub mod Answering
 pub mod Input
 pub mod Lines
 pub mod Outside

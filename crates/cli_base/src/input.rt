@@ -1,17 +1,19 @@
-//! A reader's input: one line, its bundle's.
+//! A reader's input: one line, its bundle's; and how the program ends where an input fails.
 ghost use Rattle.std.specs.Prelude.{◌≡◌, [], List, ℕ, is_some};
 ghost use Rattle.cry_base.specs.declared.client.Bundle.{Bundle};
 ghost use Rattle.cry_io.specs.Told.{WhereBothTold};
+ghost use Rattle.cli_base.specs.Input as spec;
 ghost use Rattle.cli_base.specs.Input.{BeginsInput, EndsInput, InputFailsByCount, IsBehindBundle, ReadsInput};
 ghost use Rattle.cli_base.specs.Lines.{input_limit};
 
 use crate::lines::{LineReader, Next, NextFault};
+use crate::status::Status;
 use cry_base::Bundle;
 use cry_io::Source;
 use script_text::read_bundle;
 use std::alloc::Global;
 
-/// Why an input gave no bundle.
+/// Why an input didn't give what it is read for.
 #[derive(Clone, Copy, Debug, PartialEq, Eq)]
 pub enum InputFault {
     /// The line with this number, counted from 1, is bad.
@@ -20,6 +22,17 @@ pub enum InputFault {
     Failed,
     /// There was no memory for a line.
     OutOfMemory,
+}
+
+/// How the program ends where an input fails.
+pub fn input_status(fault: InputFault) -> Status
+    ensures { result ≡ spec.input_status fault }
+{
+    match fault {
+        InputFault::BadLine { line } => Status::BadScript { line },
+        InputFault::Failed => Status::ReadFault,
+        InputFault::OutOfMemory => Status::OutOfMemory,
+    }
 }
 
 /// Reads a whole input, which is one line of a bundle, ended by a newline or by the end. Lines are judged as they end: at

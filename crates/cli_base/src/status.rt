@@ -41,10 +41,14 @@ pub enum Status {
     NoHolder { known: u32 },
     /// Nothing that the key shows has this path.
     Unseen,
+    /// The log has fewer batches than a head names: `have` of the `want`.
+    Behind { have: u32, want: u32 },
+    /// A proof doesn't lead from one head to the other.
+    BadProof,
 }
 
 impl Status {
-    /// The exit status, 0 to 16.
+    /// The exit status, 0 to 21.
     pub fn code(&self) -> u8
         ensures { result ≡ code_of self.now }
     {
@@ -65,6 +69,8 @@ impl Status {
             Status::NotBlank => 14,
             Status::NoHolder { .. } => 15,
             Status::Unseen => 16,
+            Status::Behind { .. } => 19,
+            Status::BadProof => 21,
         }
     }
 }
@@ -96,6 +102,8 @@ pub fn fault_line(alloc: Global, status: &Status, out: &mut Text) -> Mem<()>
         Status::NotBlank => out.append(b"cryptree: not blank\n"),
         Status::NoHolder { known } => out.append(no_holder_line(alloc, *known)?.as_bytes()),
         Status::Unseen => out.append(b"cryptree: unseen\n"),
+        Status::Behind { have, want } => out.append(behind_line(alloc, *have, *want)?.as_bytes()),
+        Status::BadProof => out.append(b"cryptree: bad proof\n"),
     }
 }
 
@@ -103,6 +111,12 @@ fn random_short_line(alloc: Global, left: u32, need: u32) -> Mem<String>
     ensures { IfOk result (λ line. string_bytes line ≡ line_of (Status.RandomShort left need)) }
 {
     Ok(format!(in alloc; "cryptree: random {left} of {need}\n")?)
+}
+
+fn behind_line(alloc: Global, have: u32, want: u32) -> Mem<String>
+    ensures { IfOk result (λ line. string_bytes line ≡ line_of (Status.Behind have want)) }
+{
+    Ok(format!(in alloc; "cryptree: behind, {have} of {want}\n")?)
 }
 
 fn bad_script_line(alloc: Global, line: u64) -> Mem<String>

@@ -1,6 +1,5 @@
 -- What is shown, line by line, is spelled as it is defined to be.
-use Rattle.std.proofs.Common.{refl, ◌≡◌, ◌<◌, ◌+◌, ℕ, List, [], ◌∷◌, ◌++◌, map, drop, length, get_or, append_assoc, codes, sym, ap, ◌∙◌}
-use Rattle.std.proofs.lemmas.List.{drop_more}
+use Rattle.std.proofs.Common.{refl, ◌≡◌, ℕ, List, [], ◌∷◌, ◌++◌, map, append_assoc, codes, sym, ap, ◌∙◌}
 use Rattle.std.specs.List.{flat_map}
 use Rattle.cry_base.specs.Texts.{hex_of, ended_lines}
 use Rattle.cry_base.specs.declared.client.Line.{Line}
@@ -13,15 +12,6 @@ use Rattle.script_text.specs.Printing as printing
 use Rattle.script_text.specs.SeenLines.{spell_seen}
 use Rattle.trail_audit.specs.Derived.{plain_seen}
 use Rattle.cli_reading.specs.Promises.Audit.{seen_text}
-
--- one line more was printed
-pub printed_more : {X : Type 0} (spell : X → List ℕ) (text whole : List ℕ) (items : List X) (i : ℕ) (item : X) → i < length items
-    → get_or items i item ≡ item
-    → text ++ flat_map spell (drop i items) ≡ whole → (text ++ spell item) ++ flat_map spell (drop (i + 1) items) ≡ whole
-printed_more spell text whole items i item within is before =
-    append_assoc text (spell item) (flat_map spell (drop (i + 1) items))
-    ∙ ap (λ xs. text ++ flat_map spell xs) (sym (drop_more items i item within ∙ ap (λ x. x ∷ drop (i + 1) items) is))
-    ∙ before
 
 -- the end of a line may be counted to the line, or to what follows
 ended : (word path rest : List ℕ) → (word ++ (path ++ 10 ∷ [])) ++ rest ≡ (word ++ path) ++ 10 ∷ rest

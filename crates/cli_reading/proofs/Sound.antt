@@ -43,6 +43,8 @@ answered_or P Q E each (statuses.Tampered batch at) before after said = each (Er
 answered_or P Q E each statuses.NotBlank before after said = each (Err statuses.NotBlank) said
 answered_or P Q E each (statuses.NoHolder known) before after said = each (Err (statuses.NoHolder known)) said
 answered_or P Q E each statuses.Unseen before after said = each (Err statuses.Unseen) said
+answered_or P Q E each (statuses.Behind have want) before after said = each (Err (statuses.Behind have want)) said
+answered_or P Q E each statuses.BadProof before after said = each (Err statuses.BadProof) said
 
 answered_more : (P Q : Answered) → ((answer : Result (List ℕ) Status) → P answer → Q answer)
     → (status : Status) (before after : Option (List ℕ))

@@ -8,10 +8,10 @@ use Rattle.cry_io.specs.declared.disk.Disk as disk
 use Rattle.log_visits.specs.declared.fault.ClientFault.{ClientFault}
 use Rattle.log_visits.specs.Judging.{Failure}
 use Rattle.trail_audit.specs.Derived.{IsToldOf}
+pub use Rattle.cli_base.specs.Answering.{AnswersAs, IsExactly}
 use Rattle.cli_base.specs.declared.status.Status.{Status}
 use Rattle.cli_base.specs.declared.status.Status.TheVariants as statuses
 use Rattle.cli_base.specs.Input.{IsUnjudged, TakesLines, input_answer}
-use Rattle.cli_base.specs.Outside.{PrintsAll, PrintsFront}
 use Rattle.cli_reading.specs.Statuses.{failure_status}
 
 -- ---- what may be answered: a text that is printed, or how the program ends
@@ -20,10 +20,6 @@ use Rattle.cli_reading.specs.Statuses.{failure_status}
 abbrev pub answer_as : {X : Type 0} → (X → List ℕ) → Result X Failure → Result (List ℕ) Status
 answer_as spell (Ok shown) = Ok (spell shown)
 answer_as spell (Err failure) = Err (failure_status failure)
-
--- this alone
-abbrev pub IsExactly : Result (List ℕ) Status → Result (List ℕ) Status → Type 0
-IsExactly wanted answer = wanted ≡ answer
 
 -- what may be answered for the bundle that an input hands in, if no line of it is bad
 abbrev pub AnswersFor : (Bundle → Result (List ℕ) Status → Type 0) → Result Bundle ℕ → Result (List ℕ) Status → Type 0
@@ -40,15 +36,6 @@ AnswersBy Gives typed image = AnswersFor (λ bundle. Gives bundle image) (input_
 abbrev pub GivesText : Result (Listed ℕ) ClientFault → (Result (List ℕ) Status → Type 0) → Type 0
 GivesText (Ok text) May = May (Ok text.items)
 GivesText (Err fault) May = IsToldOf (λ failure. May (Err (failure_status failure))) fault
-
--- The answer is one that may be given, and its text was printed, unless something outside failed or memory was wanting.
-abbrev pub AnswersAs : Status → (Result (List ℕ) Status → Type 0) → Option (List ℕ) → Option (List ℕ) → Type 0
-AnswersAs statuses.Done May before after = (text : List ℕ) × May (Ok text) × WhereBothTold before after (PrintsAll text)
-AnswersAs statuses.WriteFault May before after = (text : List ℕ) × May (Ok text) × WhereBothTold before after (PrintsFront text)
-AnswersAs statuses.ReadFault May before after = Unit {0}
-AnswersAs statuses.DiskFault May before after = Unit {0}
-AnswersAs statuses.OutOfMemory May before after = Unit {0}
-AnswersAs status May before after = May (Err status)
 
 -- what the input decides, whatever the disk shows: a bad line is told, where it has one, unless it failed or memory was wanting first
 abbrev pub InputDecides : Status → Result Bundle ℕ → Type 0

@@ -4,16 +4,9 @@ use Rattle.commit_journal.specs.Answering.{NotAStore, WrongKey, Damaged, Tampere
 use Rattle.log_visits.specs.declared.fault.ClientFault.{ClientFault}
 use Rattle.log_visits.specs.declared.fault.ClientFault.TheVariants as clients
 use Rattle.log_visits.specs.Judging.{Failure, NoHolder, OfBytes, Unseen}
-use Rattle.cli_base.specs.declared.input.InputFault.{InputFault}
-use Rattle.cli_base.specs.declared.input.InputFault.TheVariants.{BadLine, Failed, OutOfMemory}
+pub use Rattle.cli_base.specs.Input.{input_status}
 use Rattle.cli_base.specs.declared.status.Status.{Status}
 use Rattle.cli_base.specs.declared.status.Status.TheVariants as statuses
-
--- where an input hands in no bundle
-abbrev pub input_status : InputFault → Status
-input_status (BadLine line) = statuses.BadScript line
-input_status Failed = statuses.ReadFault
-input_status OutOfMemory = statuses.OutOfMemory
 
 -- where a test of the store fails
 abbrev pub failure_status : Failure → Status
@@ -53,6 +46,8 @@ is_reading_answer tells_unseen statuses.OutOfMemory = true
 is_reading_answer tells_unseen statuses.NotBlank = false
 is_reading_answer tells_unseen (statuses.NoHolder known) = true
 is_reading_answer tells_unseen statuses.Unseen = tells_unseen
+is_reading_answer tells_unseen (statuses.Behind have want) = false
+is_reading_answer tells_unseen statuses.BadProof = false
 
 -- how it ends before it reads the disk
 abbrev pub is_before_read : Status → Bool

@@ -2,19 +2,8 @@
 ghost use Rattle.std.specs.Prelude.{◌≡◌};
 ghost use Rattle.cli_reading.specs.Statuses as statuses;
 
-use cli_base::input::InputFault;
 use cli_base::status::Status;
 use log_visits::ClientFault;
-
-pub(crate) fn input_status(fault: InputFault) -> Status
-    ensures { result ≡ statuses.input_status fault }
-{
-    match fault {
-        InputFault::BadLine { line } => Status::BadScript { line },
-        InputFault::Failed => Status::ReadFault,
-        InputFault::OutOfMemory => Status::OutOfMemory,
-    }
-}
 
 pub(crate) fn client_status(fault: ClientFault) -> Status
     ensures { result ≡ statuses.client_status fault }

@@ -8,8 +8,8 @@ ghost use Rattle.cli_base.specs.declared.status.Status.{Status};
 ghost use Rattle.cli_reading.specs.Reading.{GivesText, Reads};
 ghost use Rattle.cli_reading.specs.Statuses.{is_before_read, is_reading_answer};
 
-use crate::answering::{client_status, input_status};
-use cli_base::input::read_bundle_line;
+use crate::answering::client_status;
+use cli_base::input::{input_status, read_bundle_line};
 use cli_base::outside::tell;
 use cli_base::status::Status;
 use cry_base::{Bundle, Text};

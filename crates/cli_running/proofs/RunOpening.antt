@@ -8,7 +8,7 @@ use Rattle.cry_base.specs.declared.limits.Limits.{Limits}
 use Rattle.journal_bytes.specs.Journals.{IsSettled, ShowsJournal}
 use Rattle.journal_bytes.specs.Script.{opened}
 use Rattle.cli_base.specs.Lines.{InputLine, LineState, lines_ahead}
-use Rattle.cli_running.specs.Running.{CountsOwner, FirstIsBad, GivesOwner, Judges, is_after_opening, is_before_opening, key_in_lines, lines_in, open_status}
+use Rattle.cli_running.specs.Running.{FirstIsBad, GivesOwner, Judges, is_before_opening, key_in_lines, lines_in, open_status}
 use Rattle.cli_sessions.specs.Sessions.{Ends, IsUnopened, Seen, script_status, version_limits}
 use Rattle.cli_sessions.specs.Script.{IsReading}
 use Rattle.cli_sessions.specs.declared.script.ScriptFault.{ScriptFault}
@@ -63,13 +63,6 @@ first_ends ReadFault reading before after gives key hands limits m lines left wa
 first_ends OutOfMemory reading before after gives key hands limits m lines left was shown written may_leave KeepsTo shows kept = inl (refl, unopened key m left was shown written KeepsTo shows kept)
 first_ends WriteFault reading before after gives key hands limits m lines left was shown written may_leave KeepsTo shows kept = absurd reading
 first_ends (Applying fault) reading before after gives key hands limits m lines left was shown written may_leave KeepsTo shows kept = absurd reading
-
-pub first_is_before : (fault : ScriptFault) → IsReading fault → (old new : ℕ) → CountsOwner (Err fault) old new → is_after_opening (script_status fault) ≡ false
-first_is_before (BadLine line) reading old new count = subst (λ n. is_after_opening (script_status (BadLine n)) ≡ false) (sym count) refl
-first_is_before ReadFault reading old new count = refl
-first_is_before OutOfMemory reading old new count = refl
-first_is_before WriteFault reading old new count = absurd reading
-first_is_before (Applying fault) reading old new count = absurd reading
 
 -- a line that hands in a key isn't bad
 pub key_is_given : {P : Type 0} (key : List ℕ) (before after : List InputLine) → GivesOwner (Ok key) before after → key_in_lines before ≡ None → P

@@ -1,5 +1,5 @@
--- What is published of a store at any moment of a run, and that no stop takes it back. This project's own, docs/FORMAT.md, "Committing"
--- and "The program".
+-- What is published of a store at any moment of a run, and that no stop takes it back. This project's own, docs/FORMAT.md,
+-- "Committing", and docs/PROGRAM.md, "The program".
 --
 -- Whoever reads the store while a run goes on reads what the disk shows then. A stop at that moment, or at any later one of the run, leaves
 -- all batches that this publishes; and so does what a stop may leave behind the run.

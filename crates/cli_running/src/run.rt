@@ -143,7 +143,8 @@ fn apply_lines<S: Source, R: Source, D: Disk, W: Sink>(
         → LinesPublish key m (D.since disk.new (D.moment disk.old)) (FromThenOn D.moment D.since disk.old disk.new) }
     ensures later { D.moment disk.old ≤ D.moment disk.new }
     ensures time { GoesOn (D.moment disk.old) (D.since disk.old) (D.since disk.new) }
-    ensures lines { (asked : List Request) × RanLines result asked (lines_ahead reader) (S.left input.old) (W.written out.old) (W.written out.new)
+    ensures lines { (asked : List Request) × RanLines result asked (lines_ahead reader) (S.left input.old) (W.written out.old)
+        (W.written out.new)
         × WhereBothTold (S.left input.old) (S.left input.new) (TakesBehindFirst (bytes_ahead reader) (line_ended result (length asked)))
         × (result ≡ Status.ReadFault → WhereBothTold (S.left input.old) (S.left input.new)
         (λ before after. ReadsWhole asked (lines_ahead reader before) (bytes_ahead reader before) after))

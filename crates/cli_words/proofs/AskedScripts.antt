@@ -1,7 +1,8 @@
 -- What the words ask for is what they are.
 use Rattle.std.proofs.Common.{◌≡◌, ℕ, Option, Some, sym, subst, ◌∙◌}
+use Rattle.head_tree.specs.declared.head.Head.{Head}
 use Rattle.cli_words.specs.declared.words.Form.{Form}
-use Rattle.cli_words.specs.declared.words.Form.TheVariants.{Gen}
+use Rattle.cli_words.specs.declared.words.Form.TheVariants.{Gen, Prove, Check}
 
 pub of_asked : (P : ℕ → ℕ → Type 0) (own_seed own_count seed count : ℕ) (form : Option Form) → form ≡ Some (Gen own_seed own_count) → form ≡ Some (Gen seed count)
     → P own_seed own_count → P seed count
@@ -10,3 +11,17 @@ of_asked P own_seed own_count seed count form own asked is =
     let same_seed : own_seed ≡ seed = cc in
     let same_count : own_count ≡ count = cc in
     subst (λ n. P n count) same_seed (subst (λ n. P own_seed n) same_count is)
+
+pub of_asked_proof : (P : ℕ → Type 0) (own batches : ℕ) (form : Option Form) → form ≡ Some (Prove own) → form ≡ Some (Prove batches) → P own → P batches
+of_asked_proof P own batches form is asked said =
+    let both : Some (Prove own) ≡ Some (Prove batches) = sym is ∙ asked in
+    let same : own ≡ batches = cc in
+    subst P same said
+
+pub of_asked_check : (P : Head → Head → Type 0) (own_old own_new old new : Head) (form : Option Form) → form ≡ Some (Check own_old own_new) → form ≡ Some (Check old new)
+    → P own_old own_new → P old new
+of_asked_check P own_old own_new old new form own asked is =
+    let both : Some (Check own_old own_new) ≡ Some (Check old new) = sym own ∙ asked in
+    let same_old : own_old ≡ old = cc in
+    let same_new : own_new ≡ new = cc in
+    subst (λ head. P head new) same_old (subst (λ head. P own_old head) same_new is)

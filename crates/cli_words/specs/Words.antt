@@ -1,12 +1,14 @@
 -- The words that the program takes. This project's own, docs/PROGRAM.md, "The program".
-use Rattle.std.specs.Prelude.{◌≡◌, ◌<◌, ◌≤◌, ◌^◌, ◌&&◌, nat_le, nat_lt, ℕ, List, [], ◌∷◌, Bool, Option, Some, None, codes, decimal}
-use Rattle.std.specs.Prelude.{if◌then◌else◌, nat_eq, option_and_then, option_map}
+use Rattle.std.specs.Prelude.{◌≡◌, ◌<◌, ◌≤◌, ◌+◌, ◌^◌, ◌&&◌, ◌==◌, nat_le, nat_lt, ℕ, List, [], ◌∷◌, take, drop, Bool, Option, Some, None}
+use Rattle.std.specs.Prelude.{codes, decimal, if◌then◌else◌, nat_eq, option_and_then, option_map, position}
 use Rattle.std.specs.Cmp.Lexicographic.{pointwise}
 use Rattle.std.specs.Str.Parse.{digits_value}
 use Rattle.cry_base.specs.Listed.{Listed}
+use Rattle.head_tree.specs.declared.head.Head.{Head}
+use Rattle.script_text.specs.Reading.{key_of}
 use Rattle.cli_words.specs.declared.texts.TheConstants.{HELP, VERSION}
 use Rattle.cli_words.specs.declared.words.Form.{Form}
-use Rattle.cli_words.specs.declared.words.Form.TheVariants.{Make, Run, Open, Audit, Gen, Help, Version}
+use Rattle.cli_words.specs.declared.words.Form.TheVariants.{Make, Run, Open, Audit, Gen, Prove, Check, Help, Version}
 use Rattle.cli_words.specs.declared.words.Form.TheVariants as forms
 
 -- the word is spelled by these bytes
@@ -24,11 +26,8 @@ abbrev pub command_form : Listed ℕ → Option Form
 command_form word =
     if is_word word (codes "make") then Some Make
     else (if is_word word (codes "run") then Some Run
-    else (if is_word word (codes "list") then Some forms.List else (if is_word word (codes "audit") then Some Audit else None)))
-
--- STORE RANDOM COMMAND PATH
-abbrev pub path_command_form : Listed ℕ → Option Form
-path_command_form word = if is_word word (codes "open") then Some Open else None
+    else (if is_word word (codes "list") then Some forms.List else (if is_word word (codes "audit") then Some Audit
+    else (if is_word word (codes "head") then Some forms.Head else None))))
 
 -- the word spells this number in decimal digits, without a sign or leading zeros
 pub record IsNumber (word : List ℕ) (number : ℕ) : Type 0 where
@@ -54,6 +53,36 @@ script_form word number count =
     if is_word word (codes "gen")
     then option_and_then (λ seed. option_map (Gen seed) (count_of count.items)) (number_of number.items) else None
 
+-- a number of batches, from 0 to 4,294,967,294
+abbrev pub few_batches : ℕ → Option ℕ
+few_batches count = if nat_lt count 4294967295 then Some count else None
+
+unfoldable pub batches_of : List ℕ → Option ℕ
+batches_of word = option_and_then few_batches (number_of word)
+
+-- STORE RANDOM COMMAND PATH, and STORE RANDOM COMMAND M
+unfoldable pub proof_form : Listed ℕ → Option Form
+proof_form batches = option_map Prove (batches_of batches.items)
+
+abbrev pub longer_command_form : Listed ℕ → Listed ℕ → Option Form
+longer_command_form word more =
+    if is_word word (codes "open") then Some Open else (if is_word word (codes "prove") then proof_form more else None)
+
+-- a head: `N:HEX64`, a number of batches and a root
+unfoldable pub head_of : List ℕ → Option Head
+head_of word =
+    option_and_then (λ colon.
+    option_and_then (λ batches. option_map (λ root. record { batches = batches; root = root }) (key_of (drop (colon + 1) word)))
+    (batches_of (take colon word)))
+    (position (λ byte. byte == 58) word)
+
+-- STORE RANDOM COMMAND OLD NEW
+unfoldable pub heads_form : Listed ℕ → Listed ℕ → Option Form
+heads_form old new = option_and_then (λ first. option_map (Check first) (head_of new.items)) (head_of old.items)
+
+abbrev pub longest_command_form : Listed ℕ → Listed ℕ → Listed ℕ → Option Form
+longest_command_form word one other = if is_word word (codes "check") then heads_form one other else script_form word one other
+
 -- a form that asks for lines asks for no more than the most
 abbrev pub HasFewLines : Form → Type 0
 HasFewLines (Gen seed count) = count ≤ 50000
@@ -63,8 +92,8 @@ HasFewLines form = Unit {0}
 abbrev pub form_of_words : List (Listed ℕ) → Option Form
 form_of_words (only ∷ []) = option_form only
 form_of_words (store ∷ random ∷ command ∷ []) = command_form command
-form_of_words (store ∷ random ∷ command ∷ path ∷ []) = path_command_form command
-form_of_words (store ∷ random ∷ command ∷ number ∷ count ∷ []) = script_form command number count
+form_of_words (store ∷ random ∷ command ∷ more ∷ []) = longer_command_form command more
+form_of_words (store ∷ random ∷ command ∷ one ∷ other ∷ []) = longest_command_form command one other
 form_of_words _ = None
 
 -- the path that they name
@@ -97,6 +126,18 @@ IsOpen words = form_of_words words ≡ Some Open
 -- or for all that it leads to
 abbrev pub IsAudit : List (Listed ℕ) → Type 0
 IsAudit words = form_of_words words ≡ Some Audit
+
+-- the words ask for the head of a log
+abbrev pub IsHead : List (Listed ℕ) → Type 0
+IsHead words = form_of_words words ≡ Some forms.Head
+
+-- or for the proof that it begins with so many batches
+abbrev pub AsksProof : List (Listed ℕ) → ℕ → Type 0
+AsksProof words batches = form_of_words words ≡ Some (Prove batches)
+
+-- or for a test of such a proof, between two heads
+abbrev pub AsksCheck : List (Listed ℕ) → Head → Head → Type 0
+AsksCheck words old new = form_of_words words ≡ Some (Check old new)
 
 -- the text that the words ask for, where they ask for one
 abbrev pub text_of : Option Form → Option (List ℕ)

@@ -1,10 +1,12 @@
 //! The words that the program takes after its name.
 ghost use Rattle.std.specs.Prelude.{◌≡◌, ◌≤◌, IfSome};
-ghost use Rattle.cli_words.specs.Words.{HasFewLines, form_of_words, option_form, command_form, count_of, path_command_form};
-ghost use Rattle.cli_words.specs.Words.{path_in_words, script_form};
+ghost use Rattle.cli_words.specs.Words.{HasFewLines, form_of_words, option_form, command_form, count_of, heads_form};
+ghost use Rattle.cli_words.specs.Words.{longer_command_form, longest_command_form, path_in_words, script_form};
 
-use crate::numbers::number_in;
+use crate::heads::head_in;
+use crate::numbers::{batches_in, number_in};
 use cry_base::{List, Text};
+use head_tree::Head;
 
 /// What the words ask for.
 #[derive(Clone, Copy, Debug, PartialEq, Eq)]
@@ -21,6 +23,12 @@ pub enum Form {
     Open,
     /// `STORE RANDOM gen NUMBER COUNT`
     Gen { seed: u64, count: u32 },
+    /// `STORE RANDOM head`
+    Head,
+    /// `STORE RANDOM prove M`
+    Prove { batches: u32 },
+    /// `STORE RANDOM check OLD NEW`
+    Check { old: Head, new: Head },
     /// `--help`
     Help,
     /// `--version`
@@ -38,8 +46,8 @@ pub fn form_of(words: &List<Text>) -> Option<Form>
     match words.as_slice() {
         [only] => option_of(only),
         [_store, _random, command] => command_of(command),
-        [_store, _random, command, _path] => path_command_of(command),
-        [_store, _random, command, seed, count] => script_of(command, seed, count),
+        [_store, _random, command, more] => longer_command_of(command, more),
+        [_store, _random, command, one, other] => longest_command_of(command, one, other),
         _ => None,
     }
 }
@@ -79,21 +87,50 @@ fn command_of(word: &Text) -> Option<Form>
         Some(Form::List)
     } else if word.as_slice() == b"audit".as_slice() {
         Some(Form::Audit)
+    } else if word.as_slice() == b"head".as_slice() {
+        Some(Form::Head)
     } else {
         None
     }
 }
 
 /// The command that takes one word more.
-fn path_command_of(word: &Text) -> Option<Form>
-    ensures form { result ≡ path_command_form word.now }
+#[tactic(auto, unfolding(crate::specs::Words::proof_form))]
+fn longer_command_of(word: &Text, more: &Text) -> Option<Form>
+    ensures form { result ≡ longer_command_form word.now more.now }
     ensures few_lines { IfSome result HasFewLines }
 {
     if word.as_slice() == b"open".as_slice() {
         Some(Form::Open)
+    } else if word.as_slice() == b"prove".as_slice() {
+        let batches = batches_in(more.as_slice())?;
+        Some(Form::Prove { batches })
     } else {
         None
     }
+}
+
+/// The command that takes two words more.
+fn longest_command_of(word: &Text, one: &Text, other: &Text) -> Option<Form>
+    ensures form { result ≡ longest_command_form word.now one.now other.now }
+    ensures few_lines { IfSome result HasFewLines }
+{
+    if word.as_slice() == b"check".as_slice() {
+        heads_of(one, other)
+    } else {
+        script_of(word, one, other)
+    }
+}
+
+/// The command that takes two heads more.
+#[tactic(auto, unfolding(crate::specs::Words::heads_form))]
+fn heads_of(old: &Text, new: &Text) -> Option<Form>
+    ensures form { result ≡ heads_form old.now new.now }
+    ensures few_lines { IfSome result HasFewLines }
+{
+    let old = head_in(old.as_slice())?;
+    let new = head_in(new.as_slice())?;
+    Some(Form::Check { old, new })
 }
 
 /// The command that takes a number and a count more.

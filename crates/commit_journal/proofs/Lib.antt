@@ -5,6 +5,7 @@ pub mod Counted
 pub mod Followed
 pub mod JournalLemmas
 pub mod Judged
+pub mod Leaved
 pub mod KeptLemmas
 pub mod MayHaveJoined
 pub mod OpenedJournals

@@ -1,6 +1,7 @@
 pub mod Answering
 pub mod Image
 pub mod Laws
+pub mod Leaves
 pub mod Log
 pub mod Logs
 pub mod Placed

@@ -13,13 +13,15 @@ use Rattle.commit_journal.specs.Placed.{PlainPlaced, plain_placed}
 use Rattle.commit_journal.specs.Places.{IsStanding}
 use Rattle.commit_journal.specs.Readers.{again_turn, read_turn}
 
--- the owner's key that tests the log, if one does; the batches that were given so far; what was known before each of them, and
--- what is known behind the last
+-- the owner's key that tests the log, if one does; the bytes before the first gate; the batches that were given so far; what was known
+-- before each of them, and what is known behind the last; the leaf of the last, and no bytes before the first
 pub record LogState : Type 0 where
   pub owner : Option (List ℕ)
+  pub front : List ℕ
   pub given : List PlainPlaced
   pub starts : List Past
   pub past : Past
+  pub leaf : List ℕ
 
 -- what stands behind the batches that were given, in a file of these bytes: a batch, or the end of the log
 unfoldable pub next_in : LogState → List ℕ → Result (Option PlainTurn) Fault
@@ -62,6 +64,7 @@ given_turn past (Some p) = Some (record { placed = plain_placed p; past = past }
 -- one batch more was given, which ends within so many bytes
 pub record GivesOne (size : ℕ) (old : LogState) (p : Placed) (new : LogState) : Type 0 where
   pub owner : new.owner ≡ old.owner
+  pub front : new.front ≡ old.front
   pub given : new.given ≡ old.given ++ plain_placed p ∷ []
   pub starts : new.starts ≡ old.starts ++ old.past ∷ []
   pub batch : p.batch ≡ length old.given + 1

@@ -23,6 +23,9 @@ pub(crate) use batch_log::OPEN;
 /// The first bytes of a store file: its name, and its version.
 pub(crate) const MAGIC: [u8; 9] = *b"CRYPTREE\x01";
 
+/// The bytes of a header before its gate.
+pub const FRONT_LEN: usize = 41;
+
 /// The bytes of a header.
 pub const HEADER_LEN: usize = 42;
 

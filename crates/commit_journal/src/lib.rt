@@ -32,7 +32,7 @@ pub use keeping::{
     holding_is_widened, kept_at_the_start, kept_by_two_calls, settled_disk_holds, time_goes_on,
 };
 pub use laws::{image_is_read_back, nothing_behind_is_looked_at, records_stand_at_their_places};
-pub use layout::HEADER_LEN;
+pub use layout::{FRONT_LEN, HEADER_LEN};
 pub use log_laws::{
     epochs_count_up, holder_reads_the_owners_log, nobody_looks_behind, owner_walks_the_log,
     standing_bytes_are_opened_whole, writers_epochs_count_up,

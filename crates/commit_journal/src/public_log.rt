@@ -5,6 +5,8 @@ ghost use Rattle.std.specs.Prelude.{IfErr, OnOk, OnErr, IsTrue, MatchResult, All
 ghost use Rattle.cry_base.specs.Layout.{header_len, payload_offset};
 ghost use Rattle.cry_io.specs.Told.{WhereTold};
 ghost use Rattle.commit_journal.specs.Answering.{Answers, IsFault};
+ghost use Rattle.commit_journal.specs.Leaves as leaves;
+ghost use Rattle.commit_journal.specs.Leaves.{IsLeaf, IsLeafAt, front_of};
 ghost use Rattle.commit_journal.specs.Log.{log_verdict};
 ghost use Rattle.commit_journal.specs.Logs.{AreInEpochs, holder_log, turn_by};
 ghost use Rattle.commit_journal.specs.Opening as opening;
@@ -17,7 +19,7 @@ ghost use Rattle.commit_journal.specs.Turns.{plain_option, plain_turn};
 
 use crate::given::Given;
 use crate::judge::{Turn, judge_again, judge_read};
-use crate::layout::{BATCH_LEN, HEADER_LEN, MAGIC, OPEN};
+use crate::layout::{BATCH_LEN, FRONT_LEN, HEADER_LEN, MAGIC, OPEN};
 use crate::reading::{array_at, read_head};
 use crate::{OpenFault, Past, Placed};
 use chacha_seal::{Key, LogKey, OwnerK, check_of};
@@ -82,18 +84,20 @@ fn read_header<D: Disk>(disk: &mut D, owner: Option<&Key<OwnerK>>) -> Result<Pas
     header_of(owner, &header)
 }
 
-/// What stands behind an open gate. The memory that it takes is no more than the disk backs.
+/// What stands behind an open gate, and where that is a batch, its leaf. The memory that it takes is no more than the disk backs.
 fn read_turn<D: Disk>(
     alloc: Global,
     disk: &mut D,
     owner: Option<&LogKey>,
     past: &Past,
+    leaf: &mut Vec<u8>,
 ) -> Result<Option<Turn>, OpenFault>
     requires behind { header_len ≤ past.now.at }
     requires small { past.now.at ≤ 2 ^ 32 }
     ensures answer { WhereTold (D.shown disk.old)
         (λ s. Answers plain_option result (turn_by (readers.read_turn (readers.key_bytes (option_copied owner.entry))) past.now
         (drop past.now.at s))) }
+    ensures leaf { WhereTold (D.shown disk.old) (λ s. IfOk result (IsLeafAt leaf.new.items s past.now.at)) }
     ensures next { IfOk result (opening.GoesOnTo past.now (D.size_of disk.old)) }
     ensures in_epoch { IfOk result (opening.GoesOnIn past.now) }
     ensures stands { IfOk result TurnStands }
@@ -105,6 +109,8 @@ fn read_turn<D: Disk>(
     let head = read_head(disk, past)?;
     let mut batch = Vec::from_elem(alloc, 0, BATCH_LEN as usize + head.size as usize)?;
     disk.read_at(past.at, &mut batch)?;
+    // Judging takes the veil away in the batch itself.
+    *leaf = Vec::from_slice(alloc, &batch[..batch.len() - 1])?;
     judge_read(alloc, owner, past, &head, &mut batch)
 }
 
@@ -132,6 +138,17 @@ fn read_again<D: Disk>(
     judge_again(alloc, owner, past, &head, &mut batch)
 }
 
+/// The bytes before the first gate, with this check of an owner's key.
+#[tactic(auto, unfolding(crate::specs::Leaves::front_with))]
+fn front_with(check: &[u8; 32]) -> [u8; FRONT_LEN]
+    ensures { result ≡ leaves.front_with check.now }
+{
+    let mut front = [0; FRONT_LEN];
+    front[..MAGIC.len()].copy_from_slice(&MAGIC);
+    front[MAGIC.len()..].copy_from_slice(check);
+    front
+}
+
 fn log_key_of(owner: Option<&Key<OwnerK>>) -> Option<LogKey>
     ensures { readers.key_bytes result ≡ readers.key_bytes (option_copied owner.entry) }
 {
@@ -141,12 +158,14 @@ fn log_key_of(owner: Option<&Key<OwnerK>>) -> Option<LogKey>
     }
 }
 
-/// The log of a store, read one batch after the other: by its owner, who has the key, or by anybody. It keeps nothing of a batch
-/// that it gave.
+/// The log of a store, read one batch after the other: by its owner, who has the key, or by anybody. Of the batches that it gave it
+/// keeps the last one's bytes.
 #[derive(Drop)]
 pub struct PublicLog {
     owner: Option<LogKey>,
+    front: [u8; FRONT_LEN],
     past: Past,
+    leaf: Vec<u8>,
     given: Given,
 }
 
@@ -158,9 +177,11 @@ impl Model for PublicLog {
 
     ghost view = { λ log. record {
       owner = key_bytes log.owner;
+      front = log.front;
       given = log.given.batches;
       starts = log.given.starts;
       past = log.past;
+      leaf = log.leaf.items;
     } };
 
     ghost invariant = { λ log. IsReading log.given.batches log.given.starts log.past };
@@ -183,6 +204,7 @@ impl PublicLog {
             (λ s. IfErr result (λ fault. IsFault fault (readers.read_log (readers.key_bytes (option_copied owner.entry)) s))) }
         ensures fresh { IfOk result (λ log. (log.owner ≡ readers.key_bytes (option_copied owner.entry)) × (log.given ≡ [])
             × (log.starts ≡ [])) }
+        ensures front { WhereTold (D.shown disk.old) (λ s. IfOk result (λ log. log.front ≡ front_of s)) }
         ensures inside { IfOk result (λ log. log.past.at ≤ D.size_of disk.old) }
         ensures no_key { option_copied owner.entry ≡ None → result ≢ Err OpenFault.WrongKey }
         ensures read_only { IsOnlyRead D.Disk disk.old disk.new }
@@ -190,18 +212,42 @@ impl PublicLog {
         ensures disk_fault { result ≡ Err OpenFault.DiskFault → D.faults disk.old < D.faults disk.new }
     {
         let past = read_header(disk, owner)?;
-        Ok(PublicLog::behind_header(log_key_of(owner), past))
+        Ok(PublicLog::behind_header(alloc, log_key_of(owner), past))
     }
 
-    fn behind_header(owner: Option<LogKey>, past: Past) -> PublicLog
+    fn behind_header(alloc: Global, owner: Option<LogKey>, past: Past) -> PublicLog
         requires { (past.at ≡ header_len) × (past.number ≡ 0) × (past.epoch.0 ≡ 0) }
-        ensures { result ≡ record { owner = readers.key_bytes owner; given = []; starts = []; past = past } }
+        ensures { result ≡ record {
+          owner = readers.key_bytes owner;
+          front = leaves.front_with past.tag;
+          given = [];
+          starts = [];
+          past = past;
+          leaf = [];
+        } }
     {
         PublicLog {
             owner,
+            front: front_with(&past.tag),
             past,
+            leaf: Vec::new(alloc),
             given: Given::new(),
         }
+    }
+
+    /// The file's bytes before its first gate: its name, its version and the check of the owner's key.
+    pub fn front(&self) -> [u8; FRONT_LEN]
+        ensures { result ≡ self.now.front }
+    {
+        self.front
+    }
+
+    /// The leaf of the batch that `next` gave last: the batch's bytes without the gate behind it (docs/FORMAT.md, "Heads").
+    pub fn leaf(&self) -> &[u8]
+        requires gave { self.now.given ≢ [] }
+        ensures { result.now ≡ self.now.leaf }
+    {
+        self.leaf.as_slice()
     }
 
     fn key(&self) -> Option<&LogKey>
@@ -220,9 +266,15 @@ impl PublicLog {
         self.past
     }
 
-    /// What stands behind the batches that were given.
-    fn look<D: Disk>(&self, alloc: Global, disk: &mut D) -> Result<Option<Turn>, OpenFault>
+    /// What stands behind the batches that were given, and where that is a batch, its leaf.
+    fn look<D: Disk>(
+        &self,
+        alloc: Global,
+        disk: &mut D,
+        leaf: &mut Vec<u8>,
+    ) -> Result<Option<Turn>, OpenFault>
         ensures answer { WhereTold (D.shown disk.old) (λ s. Answers plain_option result (streaming.next_in self.now s)) }
+        ensures leaf { WhereTold (D.shown disk.old) (λ s. IfOk result (IsLeafAt leaf.new.items s self.now.past.at)) }
         ensures next { IfOk result (opening.GoesOnTo self.now.past (D.size_of disk.old)) }
         ensures in_epoch { IfOk result (opening.GoesOnIn self.now.past) }
         ensures stands { IfOk result TurnStands }
@@ -235,20 +287,23 @@ impl PublicLog {
         if self.past.gate != OPEN {
             return Ok(None);
         }
-        read_turn(alloc, disk, self.key(), &self.past)
+        read_turn(alloc, disk, self.key(), &self.past, leaf)
     }
 
-    fn go_on(&mut self, placed: &Placed, past: Past)
+    fn go_on(&mut self, placed: &Placed, past: Past, leaf: Vec<u8>)
         requires { streaming.IsReading (self.old.given ++ plain_placed placed.now ∷ []) (self.old.starts ++ self.old.past ∷ []) past }
         ensures { self.new ≡ record {
           owner = self.old.owner;
+          front = self.old.front;
           given = self.old.given ++ plain_placed placed.now ∷ [];
           starts = self.old.starts ++ self.old.past ∷ [];
           past = past;
+          leaf = leaf.items;
         } }
     {
         self.given = self.given.adding(placed, &self.past);
         self.past = past;
+        self.leaf = leaf;
     }
 
     /// Reads the next batch, with the tests of docs/FORMAT.md, "Reading", in their order. `None` comes exactly where the log
@@ -266,6 +321,7 @@ impl PublicLog {
         ensures verdict { WhereTold (D.shown disk.old)
             (λ s. Answers (streaming.given_turn self.new.past) result (streaming.next_in self.old s)) }
         ensures gives { IfOk result (λ next. streaming.Gives (D.size_of disk.old) self.old next self.new) }
+        ensures leaf { WhereTold (D.shown disk.old) (λ s. IfOk result (IsLeaf self.new.leaf s)) }
         ensures unchanged { OnErr result (self.new ≡ self.old) }
         ensures log { WhereTold (D.shown disk.old) (λ s. streaming.log_in self.new s ≡ streaming.log_in self.old s) }
         ensures ended { result ≡ Ok None → WhereTold (D.shown disk.old) (λ s. streaming.log_in self.old s ≡ Ok self.old.given) }
@@ -277,11 +333,12 @@ impl PublicLog {
         ensures counts { D.faults disk.old ≤ D.faults disk.new }
         ensures disk_fault { result ≡ Err OpenFault.DiskFault → D.faults disk.old < D.faults disk.new }
     {
-        let Some(turn) = self.look(alloc, disk)? else {
+        let mut leaf = Vec::new(alloc);
+        let Some(turn) = self.look(alloc, disk, &mut leaf)? else {
             return Ok(None);
         };
         let Turn { placed, past } = turn;
-        self.go_on(&placed, past);
+        self.go_on(&placed, past, leaf);
         Ok(Some(placed))
     }
 

@@ -6,6 +6,8 @@
 -- `see.disks.shown after.disk` is what the disk shows behind the call. An object that tells nothing of itself is promised nothing that
 -- speaks of what it tells.
 pub use Rattle.cli_base.specs.Promises.Any
+pub use Rattle.cli_heads.specs.Promises.Asking
+pub use Rattle.cli_heads.specs.Promises.Checking
 pub use Rattle.cli_reading.specs.Promises.Audit
 pub use Rattle.cli_making.specs.Promises.Gen
 pub use Rattle.cli_reading.specs.Promises.List

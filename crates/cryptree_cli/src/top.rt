@@ -2,6 +2,9 @@
 ghost use Rattle.std.specs.Prelude.{◌≡◌, ◌↔◌, ℕ, None};
 ghost use Rattle.cry_io.specs.Told.{WhereTold};
 ghost use Rattle.cli_base.specs.Promises.Any.{AnyEnds};
+ghost use Rattle.cli_heads.specs.Promises.Asking.{AskingEnds};
+ghost use Rattle.cli_heads.specs.Promises.Checking.{CheckEnds};
+ghost use Rattle.cli_heads.specs.declared.asking.Asked.TheVariants as asked;
 ghost use Rattle.cli_reading.specs.Promises.Audit.{AuditEnds};
 ghost use Rattle.cli_making.specs.Promises.Gen.{GenEnds};
 ghost use Rattle.cli_reading.specs.Promises.List.{ListEnds};
@@ -10,10 +13,14 @@ ghost use Rattle.cli_reading.specs.Promises.Open.{OpenEnds};
 ghost use Rattle.cli_running.specs.Promises.Run.{RunEnds};
 ghost use Rattle.cli_base.specs.Promises.Text.{TextEnds};
 ghost use Rattle.cli_base.specs.World.{senses_of, world_of};
-ghost use Rattle.cli_words.specs.Words.{AsksGen, IsAudit, IsList, IsMake, IsOpen, IsRun, form_of_words, path_in_words, text_of};
+ghost use Rattle.head_tree.specs.declared.head.Head.{Head};
+ghost use Rattle.cli_words.specs.Words.{AsksCheck, AsksGen, AsksProof, IsAudit, IsHead, IsList, IsMake, IsOpen, IsRun, form_of_words};
+ghost use Rattle.cli_words.specs.Words.{path_in_words, text_of};
 
 use cli_base::outside::tell;
 use cli_base::status::Status;
+use cli_heads::asking::{Asked, ask_log};
+use cli_heads::checking::check;
 use cli_making::generating::generate_store;
 use cli_making::make::make;
 use cli_reading::audit::Auditing;
@@ -32,7 +39,8 @@ use std::alloc::Global;
 ///
 /// Where two causes of an answer hold, the one met first is given; for `make`: words, size, memory, draw, disk, output; for
 /// `gen` the same, and before the output for each line of the script memory, draw, disk; for `run`: words, the first line, the store,
-/// and then for each line its form, memory, draw, disk, output; for `list`, `open` and `audit`: words, the input, the store, output.
+/// and then for each line its form, memory, draw, disk, output; for `list`, `open` and `audit`: words, the input, the store, output; for
+/// `head` and `prove`: words, the store, output; for `check`: words, the input, the proof, output.
 /// Want of memory comes at its place in this order, and no clause says when.
 pub fn top<S: Source, R: Source, D: Disk, W: Sink>(
     alloc: Global,
@@ -60,6 +68,14 @@ pub fn top<S: Source, R: Source, D: Disk, W: Sink>(
         (world_of input.old random.old disk.old out.old) (world_of input.new random.new disk.new out.new) (path_in_words words.now.items) }
     ensures audits { IsAudit words.now.items → AuditEnds (senses_of S.Source R.Source D.Disk W.Sink) result
         (world_of input.old random.old disk.old out.old) (world_of input.new random.new disk.new out.new) }
+    ensures heads { IsHead words.now.items → AskingEnds asked.Head (senses_of S.Source R.Source D.Disk W.Sink) result
+        (world_of input.old random.old disk.old out.old) (world_of input.new random.new disk.new out.new) }
+    ensures proves { (batches : ℕ) → AsksProof words.now.items batches → AskingEnds (asked.Proof batches)
+        (senses_of S.Source R.Source D.Disk W.Sink) result
+        (world_of input.old random.old disk.old out.old) (world_of input.new random.new disk.new out.new) }
+    ensures checks { (old new : Head) → AsksCheck words.now.items old new → CheckEnds old new
+        (senses_of S.Source R.Source D.Disk W.Sink) result
+        (world_of input.old random.old disk.old out.old) (world_of input.new random.new disk.new out.new) }
     ensures tells { WhereTold (text_of (form_of_words words.now.items)) (TextEnds (senses_of S.Source R.Source D.Disk W.Sink) result
         (world_of input.old random.old disk.old out.old) (world_of input.new random.new disk.new out.new)) }
 
@@ -80,6 +96,9 @@ pub fn top<S: Source, R: Source, D: Disk, W: Sink>(
             };
             read_and_print(alloc, &opening, input, disk, out)
         }
+        Some(Form::Head) => ask_log(alloc, Asked::Head, disk, out),
+        Some(Form::Prove { batches }) => ask_log(alloc, Asked::Proof { batches }, disk, out),
+        Some(Form::Check { old, new }) => check(alloc, &old, &new, input, out),
         Some(Form::Help) => tell(HELP, out),
         Some(Form::Version) => tell(VERSION, out),
     }

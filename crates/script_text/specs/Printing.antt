@@ -30,6 +30,14 @@ spell_line (File path bytes) = file_line path.items bytes.items
 unfoldable pub holder_line : ℕ → List ℕ → List ℕ
 holder_line holder key = codes "holder " ++ (decimal holder ++ (32 ∷ (hex_of key ++ 10 ∷ [])))
 
+-- a log's head: how many batches it has, and the root over its leaves
+unfoldable pub head_line : ℕ → List ℕ → List ℕ
+head_line batches root = codes "head " ++ (decimal batches ++ (58 ∷ (hex_of root ++ 10 ∷ [])))
+
+-- a hash of a proof
+unfoldable pub node_line : List ℕ → List ℕ
+node_line hash = codes "node " ++ (hex_of hash ++ 10 ∷ [])
+
 -- a command that was refused
 unfoldable pub refused_line : Refusal → List ℕ
 refused_line why = codes "refused " ++ (word_of why ++ 10 ∷ [])

@@ -67,3 +67,7 @@ bundle_behind None fields = option_and_then holder_of fields
 -- the bundle that a line spells, and none where it spells none
 unfoldable pub bundle_of : List ℕ → Option Bundle
 bundle_of line = bundle_behind (behind (codes "owner ") line) (behind (codes "holder ") line)
+
+-- the hash that a line `node HEX64` spells, and none where it spells none
+unfoldable pub node_of : List ℕ → Option (List ℕ)
+node_of line = option_and_then key_of (behind (codes "node ") line)

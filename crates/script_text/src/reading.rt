@@ -49,8 +49,9 @@ pub(crate) fn first_space(fields: &[u8]) -> Option<usize>
     fields.iter().position(|byte| *byte == b' ')
 }
 
+/// The 32 bytes that 64 hexadecimal digits in either case spell, and `None` where the field is anything else.
 #[tactic(auto, unfolding(crate::specs::Reading::key_of))]
-fn key_in(field: &[u8]) -> Option<[u8; 32]>
+pub fn key_in(field: &[u8]) -> Option<[u8; 32]>
     ensures { result ≡ key_of field.now }
 {
     <[u8; 32] as FromHex>::from_hex(field).ok()

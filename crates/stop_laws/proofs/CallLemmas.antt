@@ -147,13 +147,6 @@ module _ {D : Type 0} (disks : disk.Ghosts D)
         same = same;
       }
 
-  -- one that only reads
-  pub reading_leaves : (before after : D) (owner : List ℕ) (m : Journal) → ShowsJournal owner m (disks.shown before) → disks.moment before ≤ disks.moment after
-      → GoesOn (disks.moment before) (disks.since before) (disks.since after) → is_some (disks.shown after) ≡ is_some (disks.shown before)
-      → ((s c : List ℕ) → disks.since after (disks.moment before) s c → (disks.shown before ≡ Some s) × disks.may_leave before c) → Leaves before after
-  reading_leaves before after owner m shows later time told same =
-      same_leaves before after shows.0 shows.1 later time told (λ s c at. let is = same s c at in (is.0, inl is.1))
-
   -- what opening leaves under a key of another
   tried_same : (before after : D) (status : Status) (owner key : List ℕ) (m : Journal) → ShowsJournal owner m (disks.shown before) → check_of owner ≢ check_of key
       → WasTried disks status key before after → Same before after

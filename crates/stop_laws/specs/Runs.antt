@@ -2,9 +2,9 @@
 --
 -- A call is a run whose first line hands in the store's key, told by what `top` promises of it (`ran`, `published` and `later` of
 -- `RunEnds`); or it leaves the store as it is, as other calls of the program do: laws say so of each. A call is over a disk as the call
--- before left it, or as a stop left it. A stop comes behind a call, or at any moment in one. It leaves bytes that the disk might leave then;
--- the disk shows these, and nothing is pending. A command was acknowledged where its whole reply line was taken. A run that met a stop at a
--- moment in it is told like one that met a fault of the disk then: the clause of its exit says what it had acknowledged.
+-- before left it, or as a stop left it. A stop comes behind a call, or at any moment in one. It leaves bytes that the disk might leave
+-- then; the disk shows these, and nothing is pending. A command was acknowledged where its whole reply line was taken. A run that met a
+-- stop at a moment in it is told like one that met a fault of the disk then: the clause of its exit says what it had acknowledged.
 use Rattle.std.specs.Prelude.{◌≡◌, ◌≤◌, ◌⊎◌, ℕ, List, Option, Some}
 use Rattle.batch_log.specs.Moments.{FromThenOn}
 use Rattle.commit_journal.specs.Holding.{GoesOn, IsPrefix}

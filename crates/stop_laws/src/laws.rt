@@ -21,8 +21,8 @@ pub fn sessions_take_nothing_back()
         IsPrefix (script_going limits g first).journal (script_going limits g (first ++ more)).journal }
 {}
 
-/// Law: over every list of calls and stops, whatever is left stands for a journal that begins with the first one, and with each command that
-/// any of the runs acknowledged.
+/// Law: over every list of calls and stops, whatever is left stands for a journal that begins with the first one, and with each
+/// command that any of the runs acknowledged.
 pub fn stops_leave_what_was_acknowledged<D: Disk>(start: &D, now: &D)
     ensures { (key : List ℕ) (m1 m2 : Journal) → HoldsBetween key m1 m2 (D.shown start.now) (D.may_leave start.now) →
         (runs : Runs D.Disk key start.now now.now) →
@@ -38,9 +38,9 @@ pub fn stops_leave_nothing_but_accepted_commands<D: Disk>(start: &D, now: &D)
         IsOfRuns D.Disk key m1 m2 start.now now.now runs bytes }
 {}
 
-/// Law: over every list of calls and stops, a stop at any moment of a call, whatever that ended with, leaves all batches that were published
-/// then or at an earlier moment of that call, where so it was at the start; and so does a stop behind the call. Whatever further calls and
-/// stops leave behind a stop in it has them too.
+/// Law: over every list of calls and stops, a stop at any moment of a call, whatever that ended with, leaves all batches that were
+/// published then or at an earlier moment of that call, where so it was at the start; and so does a stop behind the call. Whatever
+/// further calls and stops leave behind a stop in it has them too.
 pub fn nothing_published_is_taken_back<D: Disk>(
     start: &D,
     before: &D,

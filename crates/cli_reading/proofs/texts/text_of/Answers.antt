@@ -1,7 +1,7 @@
 use Rattle.std.proofs.Common.{◌++◌, ◌+◌, drop, sym, ap, ◌∙◌}
 use Rattle.std.proofs.lemmas.List.{append-nil, drop_all}
 use Rattle.std.specs.List.{flat_map}
-use Rattle.cli_reading.proofs.PrintedLines.{printed_more}
+use Rattle.cli_base.proofs.PrintedLines.{printed_more}
 use Rattle.cli_reading.proofs.texts.text_of.Goals as goal
 
 pub loop-line-preserved : goal.loop-line-preserved

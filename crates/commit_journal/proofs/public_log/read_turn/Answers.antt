@@ -1,4 +1,4 @@
-use Rattle.std.proofs.Common.{◌≡◌, ◌+◌, length, drop, ◌∙◌, ap, take, arith}
+use Rattle.std.proofs.Common.{◌≡◌, ◌+◌, ◌-◌, length, drop, ◌∙◌, ap, take, arith}
 use Rattle.std.specs.Prelude.{slice_range, option_copied}
 use Rattle.std.proofs.lemmas.Result.{IfOk-weaker, err_from_is_err_and}
 use Rattle.cry_base.specs.Layout.{batch_len}
@@ -9,6 +9,7 @@ use Rattle.commit_journal.proofs.Counted.{next_counts}
 use Rattle.commit_journal.proofs.Judged.{fault_first, filled}
 use Rattle.commit_journal.proofs.Stepped.{turn_is_by}
 use Rattle.commit_journal.proofs.Streamed.{goes_on_to}
+use Rattle.commit_journal.proofs.Leaved.{leaf_there, whatever_judged}
 use Rattle.commit_journal.proofs.public_log.read_turn.Goals as goal
 
 pub returns-in_err-head-clause-answer : goal.returns-in_err-head-clause-answer
@@ -36,6 +37,24 @@ returns-clause-answer g c = λ s is.
     in
     rw (turn_is_by (read_turn (key_bytes (option_copied c.args.owner))) past (drop past.at s) head c.deref_mut-2.result.now (c.in_ok-head.ensures.answer s is) whole)
     c.judge_read.ensures.answer
+
+pub returns-clause-leaf : goal.returns-clause-leaf
+returns-clause-leaf g c = λ s is.
+    let past = c.args.past.now in
+    let head = c.in_ok-head.head in
+    let n = c.in_ok-batch.batch.len in
+    let sized = g.met.D.Disk.size_is_shown c.args.disk.now s is in
+    let long : n ≡ batch_len + head.size = c.in_ok-batch.ensures.len in
+    let loan : length c.deref_mut.result.now ≡ n = c.deref_mut.ensures.len in
+    let bytes = c.in_ok-read_at.ensures.bytes s (c.in_ok-head.ensures.read_only.same_bytes ∙ is) ∙ ap (λ k. slice_range s past.at (past.at + k)) loan in
+    let whole : c.deref.result.now ≡ take (batch_len + head.size) (drop past.at s) =
+    filled n past.at s c.read_at.new.buf c.in_ok-batch.batch.items c.deref.result.now
+    (omega (arith, sized, long, c.in_ok-head.ensures.inside)) bytes c.deref.ensures.value
+    ∙ ap (λ k. take k (drop past.at s)) long
+    in
+    whatever_judged c.in_ok-leaf.field-0.items s past.at c.judge_read.result
+    (leaf_there past s c.in_ok-leaf.field-0.items c.deref.result.now head (c.in_ok-head.ensures.answer s is) whole
+    (c.in_ok-leaf.ensures.items ∙ ap (λ k. take (k - 1) c.deref.result.now) (omega (arith, c.len.ensures, long, c.deref.ensures.len))))
 
 pub returns-clause-next : goal.returns-clause-next
 returns-clause-next g c =

@@ -10,8 +10,11 @@ use Rattle.cli_reading.specs.Promises.List.{of_list}
 use Rattle.cli_reading.specs.Promises.Open.{OpenEnds, of_open}
 use Rattle.cli_base.specs.Promises.Text.{TextEnds}
 use Rattle.cli_base.specs.World.{senses_of, world_of}
+use Rattle.cli_heads.specs.Promises.Asking.{AskingEnds}
+use Rattle.cli_heads.specs.Promises.Checking.{CheckEnds}
+use Rattle.cli_heads.specs.declared.asking.Asked.TheVariants.{Proof}
 use Rattle.cli_words.specs.Words.{HasFewLines, form_of_words, text_of}
-use Rattle.cli_words.proofs.AskedScripts.{of_asked}
+use Rattle.cli_words.proofs.AskedScripts.{of_asked, of_asked_check, of_asked_proof}
 use Rattle.cli_making.proofs.MakeLemmas.{done_or_no_memory}
 use Rattle.cli_reading.proofs.Sound.{reading_ends}
 use Rattle.cli_reading.proofs.SoundAudit.{audit_sound}
@@ -148,6 +151,59 @@ returns-in-Some-Audit-clause-audits g c = λ is.
     (world_of c.args.input.now c.args.random.now c.args.disk.now c.args.out.now)
     (world_of read.new.input c.args.random.now read.new.disk read.new.out)
     refl read.ensures.answers read.ensures.reads moments read.ensures.disk_unread read.ensures.out_kept
+
+-- ---- `head` and `prove`
+
+pub returns-in-Some-Head-clause-heads : goal.returns-in-Some-Head-clause-heads
+returns-in-Some-Head-clause-heads g c = λ is.
+    let ask = c.ask_log in
+    let moments = read_throughout g.D.Disk (λ d s left at. g.met.D.Disk.only_now d s left at)
+    (λ d t s left early shows leaves. g.met.D.Disk.counts_now d t s left early shows leaves)
+    c.args.disk.now ask.new.disk ask.ensures.read_only in
+    record {
+      answers = ask.ensures.answers;
+      answered = ask.ensures.answered;
+      moments = moments;
+      rest_kept = refl;
+      out_kept = ask.ensures.out_kept;
+    }
+
+pub returns-in-Some-Prove-clause-proves : goal.returns-in-Some-Prove-clause-proves
+returns-in-Some-Prove-clause-proves g c = λ batches asked.
+    let ask = c.ask_log-in-Some-Prove in
+    let moments = read_throughout g.D.Disk (λ d s left at. g.met.D.Disk.only_now d s left at)
+    (λ d t s left early shows leaves. g.met.D.Disk.counts_now d t s left early shows leaves)
+    c.args.disk.now ask.new.disk ask.ensures.read_only in
+    of_asked_proof (λ n. AskingEnds (Proof n) (senses_of g.S.Source g.R.Source g.D.Disk g.W.Sink) ask.result
+    (world_of c.args.input.now c.args.random.now c.args.disk.now c.args.out.now)
+    (world_of c.args.input.now c.args.random.now ask.new.disk ask.new.out))
+    c.in-Some-Prove.batches batches (form_of_words c.args.words.now.items)
+    (sym c.form_of.ensures.form ∙ c.in-Some-Prove.is ∙ ap (λ f. Some f) c.in-Some-Prove.field-0-is) asked
+    (record {
+      answers = ask.ensures.answers;
+      answered = ask.ensures.answered;
+      moments = moments;
+      rest_kept = refl;
+      out_kept = ask.ensures.out_kept;
+    })
+
+-- ---- `check`
+
+pub returns-in-Some-Check-clause-checks : goal.returns-in-Some-Check-clause-checks
+returns-in-Some-Check-clause-checks g c = λ old new asked.
+    let check = c.check in
+    of_asked_check (λ first second. CheckEnds first second (senses_of g.S.Source g.R.Source g.D.Disk g.W.Sink) check.result
+    (world_of c.args.input.now c.args.random.now c.args.disk.now c.args.out.now)
+    (world_of check.new.input c.args.random.now c.args.disk.now check.new.out))
+    c.in-Some-Check.old c.in-Some-Check.new old new (form_of_words c.args.words.now.items)
+    (sym c.form_of.ensures.form ∙ c.in-Some-Check.is ∙ ap (λ f. Some f) c.in-Some-Check.field-0-is) asked
+    (record {
+      answers = check.ensures.answers;
+      answered = check.ensures.answered;
+      takes = check.ensures.takes;
+      rest_kept = refl;
+      out_kept = check.ensures.out_kept;
+    })
 
 -- ---- the texts
 

@@ -1,4 +1,4 @@
-use Rattle.std.proofs.Common.{drop, sym}
+use Rattle.std.proofs.Common.{drop, sym, ap, ◌∙◌}
 use Rattle.std.specs.Prelude.{option_copied}
 use Rattle.std.proofs.lemmas.Result.{err_from_is_err_and}
 use Rattle.cry_base.specs.Layout.{header_len}
@@ -6,6 +6,7 @@ use Rattle.commit_journal.specs.Logs.{turn_by, walk_at}
 use Rattle.commit_journal.specs.Readers.{key_bytes, header_at, read_log, read_turn}
 use Rattle.commit_journal.specs.Streaming.{log_in}
 use Rattle.commit_journal.proofs.Judged.{fault_first}
+use Rattle.commit_journal.proofs.Leaved.{front_known}
 use Rattle.commit_journal.proofs.Stepped.{read_starts}
 use Rattle.commit_journal.proofs.public_log.PublicLog.begin.Goals as goal
 
@@ -21,3 +22,8 @@ unfolding log_in
 returns-clause-log g c = λ s is.
     let who = key_bytes (option_copied c.args.owner) in
     rw (c.behind_header.ensures, c.log_key_of.ensures) (sym (read_starts who s c.in_ok-past.past (c.in_ok-past.ensures.answer s is) c.in_ok-past.ensures.place))
+
+pub returns-clause-front : goal.returns-clause-front
+returns-clause-front g c = λ s is.
+    let who = key_bytes (option_copied c.args.owner) in
+    ap (λ log. log.front) c.behind_header.ensures ∙ front_known who s c.in_ok-past.past (c.in_ok-past.ensures.answer s is)

@@ -1,5 +1,6 @@
 use Rattle.std.proofs.Common.{◌≡◌, None, Some, Ok, ap, sym, subst, ◌∙◌, arith}
 use Rattle.std.proofs.lemmas.Result.{err_from_is_err_and}
+use Rattle.commit_journal.specs.Leaves.{IsLeafAt, batch_at}
 use Rattle.commit_journal.specs.Logs.{AreInEpochs}
 use Rattle.commit_journal.specs.Opening.{GoesOnIn, GoesOnTo, IsNextTurn, IsTurnIn}
 use Rattle.commit_journal.specs.Placed.{plain_placed}
@@ -52,6 +53,7 @@ returns-clause-gives g c =
     let past = ap (λ log. log.past.at) on in
     record {
       owner = ap (λ log. log.owner) on;
+      front = ap (λ log. log.front) on;
       given = ap (λ log. log.given) on;
       starts = ap (λ log. log.starts) on;
       batch = omega (arith, next.batch, last.2, reading.count);
@@ -60,6 +62,16 @@ returns-clause-gives g c =
       ahead = omega (arith, past, next.ahead);
       inside = omega (arith, past, next.inside);
     }
+
+pub returns-clause-leaf : goal.returns-clause-leaf
+returns-clause-leaf g c = λ s is.
+    let log = c.args.self.now in
+    let turn = c.in-Some.turn in
+    let size = g.D.Disk.size_of c.args.disk.now in
+    let next : IsNextTurn log.past size turn = subst (GoesOnTo log.past size) c.in-Some.is c.in_ok-turn.ensures.next in
+    let leaf = c.look.new.leaf.items in
+    let here : leaf ≡ batch_at s log.past.at = subst (IsLeafAt leaf s log.past.at) c.in-Some.is (c.in_ok-turn.ensures.leaf s is) in
+    ap (λ log. log.leaf) c.go_on.ensures ∙ here ∙ ap (batch_at s) (omega (arith, next.place))
 
 pub returns-clause-log : goal.returns-clause-log
 returns-clause-log g c = λ s is.

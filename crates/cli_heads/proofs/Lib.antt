@@ -1,0 +1,4 @@
+pub mod AskLemmas
+pub mod CheckLemmas
+pub mod NodeLemmas
+pub mod Telling

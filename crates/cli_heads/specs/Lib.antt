@@ -1,0 +1,5 @@
+pub mod Asking
+pub mod Checking
+pub mod Promises
+pub mod ProofLines
+pub mod Statuses

@@ -1,0 +1,7 @@
+//! Heads of a log: what names it, and what shows that it goes on from an older one (docs/PROGRAM.md, "Heads").
+#![tactic(auto)]
+
+pub mod asking;
+pub mod checking;
+mod proof_lines;
+pub mod statuses;
