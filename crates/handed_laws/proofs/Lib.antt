@@ -1,0 +1,6 @@
+pub mod Publishing
+pub mod Staged
+pub mod Handed
+pub mod Runs
+pub mod Unmasked
+pub mod Generated
