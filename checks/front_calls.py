@@ -10,15 +10,15 @@ def keys_of(check):
     return os.path.join(check.folder, "keys")
 
 
-def started(check, *words, keys=None, program=None):
+def started(check, *words, keys=None, program=None, with_front=FRONT):
     """The front end at work with these words, STORE the first of them, over the check's program."""
-    return subprocess.Popen([FRONT, *words, "--keys", keys or keys_of(check)], env=os.environ | {"CRYPTREE": program or check.program},
+    return subprocess.Popen([with_front, *words, "--keys", keys or keys_of(check)], env=os.environ | {"CRYPTREE": program or check.program},
                             stdin=subprocess.PIPE, stdout=subprocess.PIPE, stderr=subprocess.PIPE)
 
 
-def front(check, *words, keys=None, program=None, typed=b""):
+def front(check, *words, typed=b"", **how):
     """How the front end ends with these words: its status, what it prints and what it says."""
-    with started(check, *words, keys=keys, program=program) as process:
+    with started(check, *words, **how) as process:
         printed, said = process.communicate(typed)
     return process.returncode, printed, said
 
@@ -51,7 +51,13 @@ class Paused:
 
 
 def program_that(check, name, text):
-    """A program of these lines of shell that stands in for the proved one; $1 is STORE, $3 the command."""
+    """A program of these lines of shell that stands in for the proved one; $1 is STORE, $3 the command. Of heads the proved
+    one is asked."""
+    return shell(check, name, f'case $3 in head|prove|check) exec "{check.program}" "$@" ;; esac\n{text}')
+
+
+def shell(check, name, text):
+    """A program of these lines of shell."""
     path = check.put(name, b"#!/bin/sh\n" + text.encode() + b"\n")
     os.chmod(path, 0o700)
     return path

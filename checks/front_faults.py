@@ -4,7 +4,7 @@ import resource
 import socket
 import subprocess
 
-from front_calls import FRONT, expect_told, front, keys_of, program_that
+from front_calls import FRONT, expect_told, front, keys_of, program_that, shell
 from front_keys import done, fresh, key_file
 from harness import read
 
@@ -14,6 +14,7 @@ def all_faults(check):
     key_files(check)
     statuses(check)
     lines_that_are_cut(check)
+    full_disk(check)
     words(check)
 
 
@@ -33,7 +34,7 @@ def stores(check):
     owner, changed = read(key_file(check, os.path.join(check.folder, "good.store"), "owner.key")), bytearray(good)
     changed[300] ^= 1
     path = check.put("good.store", bytes(changed))
-    expect_told(check, "a changed store is written", front(check, path, "holder", "add", "ann"), 1, "isn't what was last written")
+    expect_told(check, "a changed store is written", front(check, path, "holder", "add", "ann"), 1, "older copy")
     check.put("tampered.key", owner)
     os.chmod(os.path.join(check.folder, "tampered.key"), 0o600)
     came = front(check, path, "holder", "add", "ann", "--accept")
@@ -108,6 +109,62 @@ def lines_that_are_cut(check):
             check.expect(f"pieces of {size} bytes at a path of {len(path)}", (sent == line.encode() + b"\n", all(
                 (cut - len(f"write {path} ")) % 2 == 1 and cut > len(f"write {path} ") for cut in cuts),
                 all(len(piece) <= 4096 for piece in Pipe.pieces[1:])), (True, True, True))
+
+
+class SmallDisk:
+    """A disk of 1 MiB in a mount namespace of its own, which root may make; `front` is the front end that sees it, None where none is."""
+
+    def __init__(self, check):
+        self.place = os.path.join(check.folder, "disk")
+        os.mkdir(self.place)
+        made = 'mount -t tmpfs -o size=1m none "$0" && echo $$ && exec cat'
+        words = ["unshare", "--mount", "--propagation", "private", "sh", "-c", made, self.place]
+        try:
+            self.process = subprocess.Popen(words, stdin=subprocess.PIPE, stdout=subprocess.PIPE, stderr=subprocess.DEVNULL)
+        except OSError:
+            self.front = None
+            return
+        self.number = self.process.stdout.readline().strip().decode()
+        self.front = shell(check, "on_disk", f'exec nsenter -t {self.number} -m -- "{FRONT}" "$@"') if self.number else None
+
+    def do(self, line):
+        subprocess.run(["nsenter", "-t", self.number, "-m", "--", "sh", "-c", line], cwd=self.place, check=False, stderr=subprocess.DEVNULL)
+
+
+def full_disk(check):
+    """A disk that is full, under the store, under the key folder, and where something is to be made."""
+    disk = SmallDisk(check)
+    if disk.front is None:
+        print("front_end: no disk of its own could be made, which takes root: a full disk isn't tried")
+        return
+    store, folder, away = os.path.join(disk.place, "store"), os.path.join(check.folder, "for_disk"), fresh(check, "away.store")
+    os.mkdir(folder)
+    for number in range(30):
+        with open(os.path.join(folder, f"f{number:02}"), "wb") as file:
+            file.write(os.urandom(50_000))
+
+    def calls(*words, **how):
+        return front(check, *words, with_front=disk.front, **how)
+
+    done(check, "init on it", calls(store, "init"))
+    expect_told(check, "put of too much", calls(store, "put", folder, "/f"), 1, "the disk that", "is full: make room")
+    disk.do(f"cat /dev/zero >{disk.place}/filler")
+    expect_told(check, "put again", calls(store, "put", folder, "/f"), 1, "is full: make room")
+    expect_told(check, "init on a full disk", calls(store + "2", "init"), 1, "is full: make room")
+    new = os.path.join(check.folder, "new.store2")
+    expect_told(check, "keys on a full disk", calls(new, "init", keys=disk.place + "/keys"), 1, "is full")
+    check.expect("no store without keys", os.path.exists(new), False)
+    done(check, "put elsewhere", front(check, away, "put", folder, "/f"))
+    expect_told(check, "backup to a full disk", calls(away, "backup", disk.place + "/copy"), 1, "is full: make room")
+    expect_told(check, "get to a full disk", calls(away, "get", "/f", disk.place + "/out"), 1, "is full: make room")
+    disk.do(f"rm {disk.place}/filler; rmdir {disk.place}/keys/* {disk.place}/keys; ls -A {disk.place} >{check.folder}/on_disk.list")
+    check.expect("nothing half is left", read(os.path.join(check.folder, "on_disk.list")), b"store\n")
+    for number in range(10, 30):
+        os.remove(os.path.join(folder, f"f{number:02}"))
+    done(check, "and then it can", calls(store, "put", folder, "/f"))
+    done(check, "holder add then", calls(store, "holder", "add", "ann"))
+    disk.process.stdin.close()
+    disk.process.wait()
 
 
 def words(check):

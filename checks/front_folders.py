@@ -191,6 +191,8 @@ def what_can_not_be_kept(check):
     causes = (b"pipe is a fifo", b"gone is a fifo", b"linked again is a hard link of linked", b"key is a key of a store",
               b"deep" + b"/d" * 62 + b" would have more than 64 names", b"nothing was done")
     check.expect("each cause", ([cause for cause in causes if cause not in said], harness.read(at.store) == before), ([], True))
+    _, said = at.put("with keys", "--with-keys", "--dry-run", status=1)
+    check.expect("a key that is asked for", b"key is a key" in said, False)
     at.put("skip", "--skip", status=1)
     printed, _ = at.ends("ls", 0, "ls", "/trip")
     check.expect("what was left out stays", printed.split(b"\n"), [b"d/", b"deep/", b"gone", b"good", b"linked", b"linked again", b""])
@@ -228,9 +230,15 @@ def shared(check):
     printed, _ = at.ends("its history", 0, "history", "--json", "/trip/Open plans/two", "--as", "ann")
     versions = [entry["sha256"] for entry in json.loads(printed)]
     check.expect("what it held elsewhere isn't shown", versions, [hashlib.sha256(b"new").hexdigest()])
-    os.rename(at.path("Open plans"), at.path("renamed"))
+    os.rename(at.path("Open plans"), at.path("Renamed plans"))
+    printed, _ = at.put("a granted folder that was renamed")
+    check.expect("it's renamed in the store", b" 1 renamed, 0 gone" in printed, True)
+    printed, _ = at.ends("ls as the holder", 0, "ls", "/trip/Renamed plans", "--as", "ann")
+    check.expect("the grant follows", printed, b"link\none\ntwo\n")
+    os.rename(at.path("Renamed plans"), at.path("changed"))
+    make(at.folder, {"changed/one": b"new"})
     at.ends("a grant that would go", 0, "put", at.folder, "/trip", "--dry-run", says=b"ann's grant on it would go too")
-    at.ends("a grant that goes", 0, "put", at.folder, "/trip", says=b"grant of ann on /trip/Open plans went with that folder")
+    at.ends("a grant that goes", 0, "put", at.folder, "/trip", says=b"grant of ann on /trip/Renamed plans went with that folder")
     at.ends("cat what isn't granted", 1, "cat", "/trip/closed/three", "--as", "ann", says=b"nothing that this key opens")
 
 

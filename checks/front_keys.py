@@ -10,6 +10,11 @@ from front_calls import Paused, expect_told, front, keys_of, program_that, start
 from harness import read
 
 
+def all_keys(check):
+    for part in (making, init_that_is_killed, sharing, locks, older_copies, exchanged, stopped_holder, renewed):
+        part(check)
+
+
 def modes(folder):
     """The modes of a folder and of all in it."""
     found = {stat.S_IMODE(os.stat(folder).st_mode)}
@@ -162,7 +167,9 @@ def older_copies(check):
         left = read(copy)
         expect_told(check, f"a copy that was {what}", front(check, store, "holder", "add", "ben"), 1, "older copy", "--accept")
         check.expect(f"a copy that was {what} isn't written", read(store) == left, True)
-        done(check, "it can be read, though", front(check, store, "who"))
+        expect_told(check, f"nor read, a copy that was {what}", front(check, store, "who"), 1, "older copy", "--accept")
+        came = front(check, store, "who", "--accept")
+        check.expect(f"a copy that was {what} is read with --accept", (came[0], b"read as it is" in came[2]), (0, True))
     check.put("older.store", newest)
     done(check, "the newest one again", front(check, store, "grant", "ann", "/"))
     newest = read(store)

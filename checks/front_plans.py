@@ -1,5 +1,6 @@
 """The lines that `put` makes of random folders, over a plain store that refuses what the program refuses: none is refused, at their end
 the folder comes back from a listing, and a stop leaves whole files, or ones that are told as half; the next put finishes it."""
+import dataclasses
 import os
 import random
 import sys
@@ -81,12 +82,48 @@ def one_put(store, wanted, names, wrong):
         wrong.append("putting it again writes")
 
 
+def renamed(node):
+    """The same folder, in which some of the folders have other names."""
+    names = {name: RANDOM.choice([name, *(free for free in NAMES if free not in node.inside)]) for name in node.inside}
+    new = dataclasses.replace(node, inside={})
+    for name, inside in node.inside.items():
+        is_folder = inside.kind == tree.FOLDER
+        target = names[name] if is_folder and names[name] not in new.inside else name
+        new.inside[target] = renamed(inside) if is_folder else inside
+    return new
+
+
+def folders_that_keep_their_grants(check):
+    """A folder that was renamed is renamed in the store where it holds the very same, and nothing in it is written again."""
+    def holding(name, data, number=1):
+        inside = tree.Node(tree.FOLDER, 0o755, 1, inside={b"in": tree.Node(tree.FOLDER, 0o755, 1, inside={b"f": tree.Node(
+            tree.FILE, 0o644, number, data)})})
+        return tree.Node(tree.FOLDER, 0o755, 1, inside={name: inside, b"g": tree.Node(tree.FILE, 0o644, 1, b"g")})
+
+    large = b"in parts, as it is long"
+    for data in (b"1", large):
+        for new, due in ((holding(b"new", data), ["rename /old new"]), (holding(b"n" * 70, data), None), (holding(b"new", b"2"), None),
+                         (holding(b"new", data, 2), None)):
+            store = StrictStore()
+            done(store, plan_for(store, holding(b"old", data), []).lines(), [])
+            store.grants.add((1, b"/old"))
+            found = plan_for(store, new, [])
+            lines = list(found.lines())
+            done(store, lines, [])
+            check.expect(f"a folder renamed with {data}", (lines if due else None, store.grants, found.gone_folders), (
+                due, {(1, b"/new")} if due else set(), set() if due else {"/old", "/old/in"}))
+            check.expect("what is counted", [found.counts()[word] for word in ("new", "changed", "renamed", "gone", "same")],
+                         [0, 0, 1, 0, 3] if due else [3, 0, 0, 3, 1])
+
+
 def all_plans(check):
     units.PART_SIZE, size = PART, units.PART_SIZE
+    folders_that_keep_their_grants(check)
     for number in range(400):
-        store, wrong = StrictStore(), []
+        store, wrong, last = StrictStore(), [], None
         for _ in range(3):
-            one_put(store, folder(), RANDOM.choice([[], ["trip"], ["trip", "in"]]), wrong)
+            last = renamed(last) if last and RANDOM.randrange(2) else folder()
+            one_put(store, last, RANDOM.choice([[], ["trip"], ["trip", "in"]]), wrong)
         check.expect(f"plan {number}", wrong, [])
     units.PART_SIZE = size
 

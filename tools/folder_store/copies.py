@@ -1,4 +1,5 @@
-"""`backup FILE` and `renew NEW`: a copy of a store to read, and a new store of what stands in one that is full or is such a copy."""
+"""`backup FILE`, `restore FILE` and `renew NEW`: a copy of a store to read, the same put in a store's place, and a new store of what stands
+in one that is full or is such a copy."""
 import os
 import shutil
 import tempfile
@@ -7,8 +8,10 @@ from folder_store import places, private
 from folder_store import store as stores
 from folder_store.entry import opened
 from folder_store.faults import Fault, warn
-from folder_store.names import real_path
+from folder_store.names import real_path, shown
+from folder_store.progress import Progress, followed
 from folder_store.sharing import made_now, tell
+from folder_store.who import seen_by, topmost
 from folder_store.store import Store
 
 
@@ -17,23 +20,50 @@ def add_commands(add):
     words.add_argument("new", metavar="NEW", help="the new store's file, which is missing")
     words = add("backup", backup, "copies the store, to be read or renewed, and never to be written")
     words.add_argument("file", metavar="FILE", help="the copy's file, which is missing")
+    words = add("restore", restore, "makes STORE, which is missing, of a backup; it can be read and renewed, and isn't written")
+    words.add_argument("file", metavar="FILE", help="the backup; where the key folder is gone, name the owner's key file with --key")
 
 
 def backup(words):
-    """The copy is of one moment: nobody writes meanwhile. It has its name when it's whole."""
-    place = os.path.abspath(words.file)
-    with opened(words, writes=False) as store, tempfile.TemporaryDirectory(prefix=".cryptree-", dir=os.path.dirname(place)) as folder:
+    """The copy is of one moment: nobody writes meanwhile."""
+    with opened(words, writes=False) as store:
+        copy(store, words.file)
+    tell(words, f"copied {words.store} to {words.file}: to go on with the copy some day put it in a store's place with restore",
+         store=os.path.abspath(words.store), backup=os.path.abspath(words.file))
+
+
+def copy(store, path):
+    """A copy of a store that this has locked. It has its name when it's whole, and is never written over anything."""
+    place = os.path.abspath(path)
+    with tempfile.TemporaryDirectory(prefix=".cryptree-", dir=os.path.dirname(place)) as folder:
         whole = os.path.join(folder, "store")
-        with open(store.path, "rb") as source, open(whole, "xb") as copy:
-            shutil.copyfileobj(source, copy, 1 << 20)
-            copy.flush()
-            os.fsync(copy.fileno())
+        with open(store.path, "rb") as source, open(whole, "xb") as target, Progress(f"copying {shown(store.path)}"):
+            shutil.copyfileobj(source, target, 1 << 20)
+            target.flush()
+            os.fsync(target.fileno())
         try:
             private.settle(whole, place)
         except FileExistsError:
-            raise Fault(f"{words.file} stands there already, and is never written over: name another file") from None
-    tell(words, f"copied {words.store} to {words.file}: to go on with the copy some day make a new store of it with renew",
-         store=os.path.abspath(words.store), backup=place)
+            raise Fault(f"{path} stands there already, and is never written over: name another file") from None
+
+
+def restore(words):
+    """The mark that it's a copy stands before the copy does, so that it's never written, wherever this is stopped."""
+    if os.path.lexists(words.store):
+        raise Fault(f"{words.store} stands there already: move it away, or name a store that isn't there")
+    with Store.open(words.file, words.keys, False, not words.no_wait, older=stores.COPY) as store:
+        key = store.key(None, words.key)
+        store.listing(key)
+        if not os.path.exists(store.keys.file("owner.key")):
+            stores.take_in(words.file, words.keys, key, not words.no_wait, words.accept, is_copy=True)
+        places.keep(words.store, store.keys, places.RESTORED)
+        try:
+            copy(store, words.store)
+        except BaseException:
+            places.drop(words.store, store.keys, places.RESTORED)
+            raise
+    tell(words, f"made {words.store} of {words.file}; it can be read, and isn't written: make a new store of it with renew",
+         store=os.path.abspath(words.store), backup=os.path.abspath(words.file), keys=store.keys.path)
 
 
 def renew(words):
@@ -41,18 +71,24 @@ def renew(words):
     half = words.new + ".half"
     if os.path.lexists(words.new):
         raise Fault(f"{words.new} stands there already: name a new file for the new store")
-    with opened(words, writes=False) as old:
+    if os.path.lexists(half):
+        raise Fault(f"{half} is there: a renew that was stopped left it, or one makes it now; take it away where none does")
+    with opened(words, writes=False, older=stores.TOLD) as old:
         listing = old.listing(old.owner)
         keys = stores.make(half, words.keys)
         with Store.open(half, words.keys, True, True) as new:
-            new.run(lines(listing))
+            new.run(followed(lines(listing), f"writing {shown(half)}", len(listing)))
             lost = share(old, new, {line.path for line in listing if line.kind == "folder"})
-            if new.listing(new.owner) != listing:
+            if new.listing(new.owner) != listing or not all(shows_what_is_granted(new, name) for name in new.holders.names):
                 raise Fault(f"{half} doesn't hold what {words.store} does: take it away, and tell its makers; the old store is as it was")
     settle(half, words.new, keys)
     tell(words, f"made {words.new} of {words.store}, with new keys in {keys.path}: hand them over, and then take the old store away",
          store=os.path.abspath(words.new), keys=keys.path)
     return 1 if lost else 0
+
+
+def shows_what_is_granted(store, name):
+    return seen_by(store, name) == topmost(store.holders.names[name][1])
 
 
 def settle(half, path, keys):

@@ -70,6 +70,10 @@ class NoSpace(Fault):
     """The disk is full."""
 
 
+class Full(Fault):
+    """The store has no room left for it."""
+
+
 class Locked(Fault):
     """Another is at the store."""
 

@@ -5,10 +5,11 @@ import stat
 
 from folder_store.faults import Fault
 from folder_store.names import PART_SIZE, PARTS, pieces, shown
+from folder_store.progress import Progress
+from folder_store.room import LIMIT
 from folder_store.tree import FILE, FOLDER, LINK, Node
 from folder_store.units import DEPTH
 
-STORE_LIMIT = 268_435_456
 KEY_LINE = re.compile(rb"\s*(?:owner|holder [0-9]+) [0-9A-Fa-f]{64}\s*")
 KINDS = ((stat.S_ISFIFO, "a fifo"), (stat.S_ISSOCK, "a socket"), (stat.S_ISCHR, "a device"), (stat.S_ISBLK, "a device"))
 
@@ -19,12 +20,14 @@ class Reader:
     `left_out` has each path that no store can keep, by names, with the cause.
     """
 
-    def __init__(self, place: str, own_places: list[str], depth: int):
+    def __init__(self, place: str, own_places: list[str], depth: int, with_keys: bool = False):
         if not os.path.isdir(place):
             raise Fault(f"{shown(place)} is no folder: put takes one")
         self.place, self.left_out, self.size, self.first_names, self.depth = os.fsencode(place), {}, 0, {}, depth
+        self.with_keys = with_keys
         self.own = {(status.st_dev, status.st_ino) for status in map(os.stat, filter(os.path.exists, own_places))}
-        self.tree = self.folder((), os.stat(place))
+        with Progress(f"reading {shown(place)}") as self.progress:
+            self.tree = self.folder((), os.stat(place))
 
     def folder(self, path, status) -> Node:
         node = Node(FOLDER, status.st_mode & 0o777, status.st_mtime_ns)
@@ -70,14 +73,15 @@ class Reader:
         with open(handle, "rb") as file:
             status = os.fstat(handle)
             self.size += status.st_size
-            if self.size > STORE_LIMIT:
-                raise Fault(f"{shown(self.place)} has more than the {STORE_LIMIT:,} bytes of a store: put less, or in several stores")
+            if self.size > LIMIT:
+                raise Fault(f"{shown(self.place)} has more than the {LIMIT:,} bytes of a store: put less, or in several stores")
             data = file.read()
+            self.progress.done += 1
             after = os.fstat(handle)
         if (status.st_mtime_ns, len(data)) != (after.st_mtime_ns, after.st_size) or not stat.S_ISREG(status.st_mode):
             raise CanNotBeKept("was changed while it was read")
-        if len(data) < 200 and KEY_LINE.fullmatch(data):
-            raise CanNotBeKept("is a key of a store")
+        if len(data) < 200 and KEY_LINE.fullmatch(data) and not self.with_keys:
+            raise CanNotBeKept("is a key of a store, and is put only with --with-keys")
         return Node(FILE, status.st_mode & 0o777, status.st_mtime_ns, data)
 
 

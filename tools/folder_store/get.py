@@ -12,6 +12,7 @@ from folder_store.entry import opened
 from folder_store.faults import Fault, Hostile, warn
 from folder_store.listed import node_at
 from folder_store.names import shown
+from folder_store.progress import followed
 from folder_store.tree import FILE, FOLDER, LINK, Node, walk
 
 AT_FDCWD, RENAME_EXCHANGE = -100, 2
@@ -93,7 +94,7 @@ def leads_outside(target: bytes, depth: int) -> bool:
 def fill(tree: Node, place: bytes) -> None:
     """Makes all that is in a folder: files into folders that only this user reads, then the links, then the modes and times of folders."""
     found = [(os.path.join(place, *path), node) for path, node in walk(tree)][1:]
-    for path, node in found:
+    for path, node in followed(found, "making files", len(found)):
         if node.kind == FOLDER:
             os.mkdir(path, 0o700)
         elif node.kind == FILE:

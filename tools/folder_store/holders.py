@@ -50,8 +50,8 @@ class Holders:
             raise Fault(f"no holder is called {name!r} here (known: {known}): check the name, or make them with holder add")
         return self.names[name][0]
 
-    def add(self, name, number):
-        self.names[name] = (number, set())
+    def add(self, name, number, granted=()):
+        self.names[name] = (number, set(granted))
         self.save()
 
     def follow(self, line):

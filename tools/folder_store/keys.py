@@ -6,7 +6,7 @@ store's header. So keys follow a store that is moved or renamed. In it are
     owner.key       the owner's line, made with the store and never written again
     NAME.key        the line of a holder, to be handed over
     holders.json    who has which number, and what was granted (holders.py)
-    last            what stood in the store after the last writing (last.py)
+    last            the last head that was seen of the store (last.py); a reader's folder may have this alone
 
 and beside these folders `places.json` tells which store was written where (places.py). Each of them can be read by their owner alone, and
 no key is ever shown.

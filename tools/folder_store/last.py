@@ -1,117 +1,169 @@
-"""What was last written, so that nothing is ever written on an older copy of a store.
+"""The last head that was seen of a store, so that an older copy or another history of it is noticed, and never written on.
 
-An owner who writes on an older copy seals other texts with numbers that were used, and whoever has both copies reads what nobody was
-granted. So after each writing the key folder gets, in `last`, how far the store's log reaches and the SHA-256 of it, and before each
-writing the store has to continue that.
+A head tells how many batches a log has and a hash over them (docs/FORMAT.md, "Heads"). The key folder has the last one in `last`, and
+before each reading and each writing the program has to prove that the store goes on from it. An owner who writes on an older copy seals
+other texts with numbers that were used, and whoever has both copies reads what nobody was granted; a reader of one is shown what isn't so
+any more.
 
-An addition changes two things in what stood there before: it opens the gate at the end, and where a stop hit the last batch it fills this
-batch's slot. So the gate isn't hashed, and the slot as 32 zero bytes. All else is, so a copy that was put back, which ends sooner, and
-one that was written elsewhere, which goes on otherwise, are both told.
+    {"version": 2, "head": "7:HEX", "end": 2333, "begun": false}
+
+`end` is where the log ended then. A batch that a stop hit stands behind those that the head tells until the next writing publishes it, so
+a store that is to be written has to reach that end too.
 
 Before a session `last` is marked as begun. Where the front end was killed then and nothing came behind the end, nobody can tell whether
 the session wrote nothing or its store was put back: that is told too. Where something came behind it, no session after it takes the same
 numbers, since each begins an epoch: a store that lost some of it goes on without harm.
 """
-import hashlib
 import json
 import os
+import re
+from typing import NamedTuple
 
-from folder_store import private
+from folder_store import older_form, private, program
 from folder_store.faults import BadKey, Damaged, OlderCopy, warn
+from folder_store.progress import Progress
 
-HEADER, BATCH, SLOT_AT, SLOT, CHUNK = 42, 110, 13, 32, 1 << 20
-REMEDY = ("put the newest copy in its place, or make a new store of this one with renew; only where it is the newest itself, "
-          "say --accept, which takes it as it is")
-WARNING = ("taken as it is: if this is an older copy, then whoever has both copies can read what is written now, "
-           "whether or not it was ever granted to them")
+HEADER, BATCH, SLOT_AT = 42, 110, 13
+HEAD = re.compile(r"(0|[1-9][0-9]{0,9}):[0-9a-f]{64}")
+TO_READ = "put the newest copy in its place; where you know that this is the copy you mean, --accept reads it as it is"
+TO_WRITE = ("put the newest copy in its place, or make a new store of this one with renew; only where it is the newest itself, "
+            "say --accept, which takes it as it is")
+READ_SO = "read as it is: what it shows may be older than what was seen before, or never have been so"
+WRITTEN_SO = ("taken as it is: if this is an older copy, then whoever has both copies can read what is written now, "
+              "whether or not it was ever granted to them")
 
 
 def end_of_log(handle):
-    """Where the log ends, and the place of the last batch's slot (None where there is no batch)."""
-    end, slot, size = HEADER, None, os.fstat(handle).st_size
+    """Where the log ends."""
+    end, size = HEADER, os.fstat(handle).st_size
     while os.pread(handle, 1, end - 1) == b"\1":
         head = os.pread(handle, SLOT_AT, end)
         after = end + BATCH + int.from_bytes(head[9:13], "big")
         if len(head) < SLOT_AT or after > size:
             raise Damaged(f"the store is damaged at {end}: put a good copy in its place")
-        end, slot = after, end + SLOT_AT
-    return end, slot
-
-
-def digest(handle, end, slot):
-    """The SHA-256 of the log up to the gate at its end, its last slot as zero bytes."""
-    found = hashlib.sha256()
-    for begin, stop in [(0, end - 1)] if slot is None else [(0, slot), (slot + SLOT, end - 1)]:
-        if begin:
-            found.update(bytes(SLOT))
-        while begin < stop:
-            data = os.pread(handle, min(CHUNK, stop - begin), begin)
-            if not data:
-                return None     # it ends sooner
-            found.update(data)
-            begin += len(data)
-    return found.hexdigest()
-
-
-def write(path, handle):
-    """Keeps what stands in the store, and tells where its log ends."""
-    end, slot = end_of_log(handle)
-    put(path, {"version": 1, "end": end, "slot": slot, "sha256": digest(handle, end, slot), "begun": False})
+        end = after
     return end
 
 
-def mark(path, handle):
-    """Keeps that the store, which continues what is kept, is to be written."""
-    end, slot, due, _ = read(path)
-    if is_behind(handle, end):
-        write(path, handle)
-        end, slot, due, _ = read(path)
-    put(path, {"version": 1, "end": end, "slot": slot, "sha256": due, "begun": True})
+class Kept(NamedTuple):
+    """What was kept. The version before kept no head, but what `older` has."""
 
-
-def put(path, kept):
-    private.replace(path, json.dumps(kept) + "\n")
-
-
-def is_behind(handle, end):
-    """Whether a batch came behind this end of the log."""
-    return os.pread(handle, 1, end - 1) == b"\1"
+    head: str | None
+    end: int
+    begun: bool
+    older: tuple | None = None
 
 
 def read(path):
     """What was kept; None where nothing was."""
     try:
         kept = json.loads(private.read(path))
-        places = [kept["end"], *([] if kept["slot"] is None else [kept["slot"]])]
-        if kept["version"] != 1 or not all(isinstance(place, int) and HEADER <= place < 1 << 32 for place in places):
+        end, begun, is_older = kept["end"], kept["begun"], kept["version"] == 1
+        if kept["version"] not in (1, 2) or not (isinstance(end, int) and HEADER <= end < 1 << 32) or not isinstance(begun, bool):
             raise ValueError
-        return kept["end"], kept["slot"], kept["sha256"], kept["begun"]
+        if is_older:
+            return Kept(None, end, begun, older_form.fields(kept))
+        if not HEAD.fullmatch(kept["head"]):
+            raise ValueError
+        return Kept(kept["head"], end, begun)
     except FileNotFoundError:
         return None
     except (ValueError, KeyError, TypeError):
         raise BadKey(f"{path} isn't what this front end writes: take it away, and say --accept if the store is the newest") from None
 
 
-def cause_against(path, handle, store):
-    """Why the store mustn't be written; None where it continues what was last written."""
-    kept = read(path)
-    if kept is None:
-        return f"the key folder doesn't know what was last written to {store}, so it may be an older copy"
-    end, slot, due, begun = kept
-    size = os.fstat(handle).st_size
-    if size < end or digest(handle, end, slot) != due:
-        how = "ends before what was last written" if size < end else "isn't what was last written, or goes on otherwise"
-        return f"{store} {how}, so it is an older copy that was put back, or was written by another"
-    if begun and not is_behind(handle, end):
-        return f"a writing to {store} was killed, and nothing of it is here, so it had written nothing, or an older copy was put back"
+def batches(head):
+    """How many batches a head tells."""
+    return int(head.split(":")[0])
+
+
+def against(head, present, store, handle):
+    """Why a store with this present head doesn't go on from an earlier one; None where it does."""
+    if head == present:
+        return None
+    lines = program.proof(store, batches(head), handle)
+    if lines is None:
+        return (f"{store} ends at batch {batches(present)}, and {batches(head)} were seen before, so an older copy was put back, "
+                "or this is another copy")
+    if not program.is_prefix(store, head, present, lines, handle):
+        return f"{store} isn't what it was at batch {batches(head)}, so somebody wrote another history, as on an older copy"
     return None
 
 
-def check(path, handle, store, accept):
-    """Raises OlderCopy where the store mustn't be written; with `accept` it tells what that means, and takes the store as it is."""
-    cause = cause_against(path, handle, store)
-    if cause and not accept:
-        raise OlderCopy(f"{cause}; nothing was written: {REMEDY}")
-    if cause:
-        warn(f"{cause}; {WARNING}")
-        write(path, handle)
+class Last:
+    """What is kept of a store that this has locked, and its present head."""
+
+    def __init__(self, path, store, handle):
+        self.path, self.store, self.handle, self.before = path, store, handle, None
+        self.kept = read(path)
+        with Progress("testing that the store goes on from what was seen"):
+            self.present = program.head(store, handle)
+            self.cause = self.against_kept()
+
+    def against_kept(self):
+        """Why the store isn't one that goes on from what is kept; None where it is, or nothing is kept."""
+        if self.kept is None:
+            return None
+        if self.kept.older is None:
+            return against(self.kept.head, self.present, self.store, self.handle)
+        if older_form.goes_on(self.handle, self.kept.end, self.kept.older):
+            return None
+        return f"{self.store} doesn't go on from what was last written, so it is an older copy that was put back, or was written by another"
+
+    def cause_against_writing(self):
+        """Why the store mustn't be written; None where it may be."""
+        if self.kept is None:
+            return f"the key folder doesn't know what was last written to {self.store}, so it may be an older copy"
+        if self.cause:
+            return self.cause
+        end = end_of_log(self.handle)
+        if end < self.kept.end:
+            return f"{self.store} ends before what was last written, so it is an older copy that was put back"
+        if self.kept.begun and end == self.kept.end:
+            return (f"a writing to {self.store} was killed, and nothing of it is here, so it had written nothing, or an older copy was put "
+                    "back")
+        return None
+
+    def see_that_it_may_be_written(self, accept):
+        """Raises OlderCopy where it mustn't be; with `accept` it tells what that means, and takes the store as it is."""
+        cause = self.cause_against_writing()
+        if cause and not accept:
+            raise OlderCopy(f"{cause}; nothing was written: {TO_WRITE}")
+        if cause:
+            warn(f"{cause}; {WRITTEN_SO}")
+            self.put(False)
+
+    def see_that_it_may_be_read(self, accept):
+        """Raises OlderCopy where it goes on from nothing that was seen; with `accept` that is told, and what is kept stays."""
+        if self.cause and not accept:
+            raise OlderCopy(f"{self.cause}; nothing was read: {TO_READ}")
+        if self.cause:
+            warn(f"{self.cause}; {READ_SO}")
+
+    def mark(self):
+        """Keeps that the store is to be written."""
+        self.before = private.read(self.path).decode()
+        self.put(True)
+
+    def unmark(self):
+        """Keeps what was kept before, where the program didn't get as far as to write."""
+        private.replace(self.path, self.before)
+
+    def write(self):
+        """Keeps what stands in the store after a writing, and gives where its log ends."""
+        self.present = program.head(self.store, self.handle)
+        return self.put(False)
+
+    def has_grown(self, is_owner):
+        """Whether a reading saw more than is kept. What the owner wrote last is never made up from a reading alone."""
+        kept = read(self.path)      # another reader may have kept more meanwhile
+        if self.cause or kept is None:
+            return not self.cause and not is_owner
+        if kept.begun and end_of_log(self.handle) == kept.end:
+            return False
+        return kept.older is not None or batches(kept.head) < batches(self.present)
+
+    def put(self, begun):
+        end = end_of_log(self.handle)
+        private.replace(self.path, json.dumps({"version": 2, "head": self.present, "end": end, "begun": begun}) + "\n")
+        return end

@@ -1,10 +1,11 @@
 """The lines that bring a store from what stands in it to what is wanted, in an order in which each is accepted.
 
-First goes what stands in the way; then come new folders, files that were renamed, other new and changed files, the indexes, and last goes
-what is gone: so a stop leaves more rather than less. A file in parts has a name of its own, `-.half`, from the first change of a part to
-the last, so that nobody takes a half one for a whole.
+First goes what stands in the way; then come folders that are new or were renamed, files that were renamed, other new and changed files,
+the indexes, and last goes what is gone: so a stop leaves more rather than less. A file in parts has a name of its own, `-.half`, from the
+first change of a part to the last, so that nobody takes a half one for a whole.
 """
 import collections
+import hashlib
 from itertools import filterfalse
 
 from folder_store.listed import part_name
@@ -37,20 +38,33 @@ def is_own(path: str) -> bool:
     return is_index(path) or last(path).endswith(MORE)
 
 
+def contents(units: dict) -> dict[str, bytes]:
+    """For each folder of these units a digest of all that is in it, where there is a file in it beside indexes."""
+    inside, has_file = collections.defaultdict(list), set()
+    for path in sorted(units, reverse=True):     # what is in a folder comes before it
+        unit, above = units[path], parent(path)
+        if unit is None:
+            found = hashlib.sha256(b"".join(inside[path])).digest()
+        else:
+            parts = unit if isinstance(unit, tuple) else (unit,)
+            found = hashlib.sha256(b"".join(hashlib.sha256(part).digest() for part in parts)).digest()
+        if path in has_file or (unit is not None and not is_index(path)):
+            has_file.add(above)
+        inside[above].append(hashlib.sha256(repr((last(path), unit is None)).encode() + found).digest())
+    return {path: hashlib.sha256(b"".join(inside[path])).digest() for path in has_file}
+
+
 class Plan:
     """`steps` are words, paths and bytes of lines; `renamed` has files' old paths and new ones, `gone_folders` the paths of folders."""
 
     def __init__(self, standing: Standing, wanted: Wanted):
         self.units, self.half, self.wanted, self.other = dict(standing.units), set(standing.half), wanted.units, wanted.other
         self.steps: list[tuple] = []
-        self.before = standing.units
+        self.before = dict(standing.units)
         self.renamed: list[tuple[str, str]] = []
         self.gone_folders = {path for path, unit in self.units.items() if unit is None and self.wanted.get(path, path) is not None}
         self.clear_the_way()
-        for path, unit in sorted(self.wanted.items()):
-            if unit is None and path not in self.units:
-                self.step("mkdir", path)
-                self.units[path] = None
+        self.make_folders()
         self.rename_files()
         for path in sorted(self.wanted, key=lambda path: (is_index(path), path)):
             self.write(path, self.wanted[path])
@@ -118,6 +132,36 @@ class Plan:
         if path in self.half:
             self.step("rename", half(path), last(path))
             self.half.discard(path)
+
+    def make_folders(self) -> None:
+        """Makes each new folder, or renames one that is gone from the same folder and held the very same: so its keys and grants stay."""
+        gone, stands = collections.defaultdict(list), contents(self.units)
+        for path, unit in sorted(self.units.items()):
+            if unit is None and path not in self.wanted and not is_own(path) and not self.has_half(path):
+                gone[parent(path), stands.get(path)].append(path)
+        found = contents(self.wanted)
+        for path, unit in sorted(self.wanted.items()):
+            if unit is not None or path in self.units:
+                continue
+            sources = gone[parent(path), found.get(path)] if found.get(path) and not is_own(path) else []
+            if sources:
+                self.rename_folder(sources.pop(0), path)
+            else:
+                self.step("mkdir", path)
+                self.units[path] = None
+
+    def has_half(self, folder: str) -> bool:
+        return any(path.startswith(folder + "/") for path in self.half)
+
+    def rename_folder(self, source: str, path: str) -> None:
+        """What is in it counts as being as it was."""
+        self.step("rename", source, last(path))
+        self.renamed.append((source, path))
+        for inside in [inside for inside in self.units if inside == source or inside.startswith(source + "/")]:
+            self.units[path + inside[len(source):]] = self.units.pop(inside)
+            self.gone_folders.discard(inside)
+            if inside != source and inside in self.before:
+                self.before[path + inside[len(source):]] = self.before.pop(inside)
 
     def rename_files(self) -> None:
         """Renames each file that is new where one with its bytes is gone from the same folder. One that went to another folder is written

@@ -1,34 +1,38 @@
 """Calls of the proved program `cryptree`: where it is, one question or a session with it, and what its statuses mean to a user."""
 import os
+import re
 import shutil
 import subprocess
 
-from folder_store.faults import Damaged, Fault, NoSpace, NotAStore, Tampered, WrongKey
+from folder_store.faults import Damaged, Fault, Hostile, NoSpace, NotAStore, Tampered, WrongKey
 
 RANDOM = "/dev/urandom"     # an ordinary file would give the first holder the owner's key
 INPUT_LIMIT = 67_108_864    # bytes that one session takes, the owner's line among them
 PIECE = 4096                # what goes into a pipe whole or not at all
+BEHIND, BAD_PROOF = 19, 21     # statuses of `prove` and of `check`
+HEAD = re.compile(rb"head ((?:0|[1-9][0-9]{0,9}):[0-9a-f]{64})\n")
 ALMOST_NOTHING = 2 << 20    # free bytes on a disk that count as full: a command writes up to 1 MiB and its keys
-BESIDE = os.path.join(os.path.dirname(os.path.dirname(os.path.dirname(os.path.abspath(__file__)))), "build", "cryptree")
+LIBRARY = os.path.dirname(os.path.dirname(os.path.abspath(__file__)))     # tools/ of the tree, or PREFIX/lib/cryptree
+BESIDE = os.path.join(*([LIBRARY, "..", "..", "bin"] if LIBRARY.endswith("/lib/cryptree") else [LIBRARY, "..", "build"]), "cryptree")
 
 
 def find():
-    """The path of the program: $CRYPTREE, else build/cryptree beside tools/, else `cryptree` on the PATH."""
+    """The path of the program: $CRYPTREE, else the one that was built or installed with this front end, else `cryptree` on the PATH."""
     named = os.environ.get("CRYPTREE")
     found = named or (BESIDE if os.access(BESIDE, os.X_OK) else shutil.which("cryptree"))
     if not found or not os.access(found, os.X_OK) or os.path.isdir(found):
-        where = f"$CRYPTREE names {named}, which can't be run" if named else "it's neither beside tools/ nor on the PATH"
+        where = f"$CRYPTREE names {named}, which can't be run" if named else "it's neither beside this front end nor on the PATH"
         raise Fault(f"the program cryptree isn't there, {where}: build it with ./demo, or set CRYPTREE to where it is")
     return os.path.abspath(found)
 
 
-def start(store, command, **how):
-    """The program at work on this store."""
+def start(store, *command, **how):
+    """The program at work on this store, with a command and what it takes."""
     try:
         os.fsencode(store).decode()
     except UnicodeDecodeError:
         raise Fault(f"the store's path {store!r} isn't UTF-8, which the program asks for: rename it") from None
-    return subprocess.Popen([find(), os.path.abspath(store), RANDOM, command], bufsize=0, stderr=subprocess.PIPE,
+    return subprocess.Popen([find(), os.path.abspath(store), RANDOM, *command], bufsize=0, stderr=subprocess.PIPE,
                             stdout=subprocess.PIPE, start_new_session=True, **how)
 
 
@@ -58,12 +62,46 @@ def answer(store, command, key_line, lock):
         raise fault(store, process.returncode, said)
 
 
+def asked(store, command, lock, typed=b""):
+    """The status of a question that needs no key, what it printed and what it said."""
+    with start(store, *command, stdin=subprocess.PIPE, pass_fds=(lock,)) as process:
+        printed, said = process.communicate(typed)
+    return process.returncode, printed, said
+
+
+def head(store, lock):
+    """The head of a store's log, `N:HEX`."""
+    status, printed, said = asked(store, ["head"], lock)
+    if status:
+        raise fault(store, status, said)
+    found = HEAD.fullmatch(printed)
+    if not found:
+        raise Hostile(f"the program printed what it never prints, so nothing is done: {printed[:80]!r}")
+    return found.group(1).decode()
+
+
+def proof(store, count, lock):
+    """The lines that prove what the log was at so many batches; None where it has fewer."""
+    status, printed, said = asked(store, ["prove", str(count)], lock)
+    if status not in (0, BEHIND):
+        raise fault(store, status, said)
+    return None if status else printed
+
+
+def is_prefix(store, old, new, lines, lock):
+    """Whether these lines prove that the log with the head `new` goes on from the one with the head `old`."""
+    status, _, said = asked(store, ["check", old, new], lock, lines)
+    if status not in (0, BAD_PROOF):
+        raise fault(store, status, said)
+    return status == 0
+
+
 class Session:
     """One opening for writing. Each line is answered before the next is sent; the lock on the store is the program's too, so that it's
     held until both have ended, however they end."""
 
     def __init__(self, store, owner_line, lock):
-        self.store, self.room = store, INPUT_LIMIT
+        self.store, self.room, self.failure = store, INPUT_LIMIT, None
         self.process = start(store, "run", stdin=subprocess.PIPE, pass_fds=(lock,))
         self.printed = open(self.process.stdout.fileno(), "rb", closefd=False)
         self.send(owner_line)
@@ -110,7 +148,8 @@ class Session:
         self.process.stdout.close()
         self.process.stderr.close()
         if status:
-            raise fault(self.store, status, said)
+            self.failure = fault(self.store, status, said)
+            raise self.failure
 
 
 def fault(store, status, said):

@@ -1,19 +1,15 @@
 """`put FOLDER /path`: brings the store to what a folder holds."""
 import json
-import os
-import sys
-import time
 
+from folder_store import room
 from folder_store.entry import opened
 from folder_store.faults import Fault, warn
-from folder_store.folder import STORE_LIMIT, Reader, overlay
+from folder_store.folder import Reader, overlay
 from folder_store.listed import CoreFolder, core_at, core_tree, real_folder
 from folder_store.names import HALF, PARTS, pieces, real_names, real_path, shown
 from folder_store.plan import Plan
+from folder_store.progress import followed
 from folder_store.units import Standing, Wanted
-
-GRANT_ROOM = 4096       # bytes, more than one revocation is likely to take
-LINE_ROOM = 2048        # bytes, more than a command is likely to take beside a file's bytes
 
 
 def add_commands(add) -> None:
@@ -22,6 +18,7 @@ def add_commands(add) -> None:
     words.add_argument("path", metavar="/path", help="the folder in the store that becomes as FOLDER; missing ones are made")
     words.add_argument("--keep", action="store_true", help="what is gone from FOLDER stays in the store")
     words.add_argument("--skip", action="store_true", help="go on without what a store can't keep; the status is 1 all the same")
+    words.add_argument("--with-keys", action="store_true", help="put files that have a line like a store's key, too")
     words.add_argument("--dry-run", action="store_true", help="tell what would be done, and do nothing")
 
 
@@ -29,14 +26,14 @@ def put(words) -> int:
     """What can't be kept is told by name; without --skip nothing is done then. One line sums up what was done."""
     names = real_names(words.path)
     with opened(words, writes=not words.dry_run) as store:
-        read = Reader(words.folder, [words.store, store.keys.above], sum(len(pieces(name)) for name in names))
+        read = Reader(words.folder, [words.store, store.keys.above], sum(len(pieces(name)) for name in names), words.with_keys)
         tell_left_out(read, words)
         plan = plan_of(store, read, names, words.keep)
         see_to_room(store, plan)
         if words.dry_run:
             tell_lost_grants(store, plan)
         else:
-            store.run(with_progress(plan.lines(), len(plan.steps)))
+            store.run(followed(plan.lines(), f"writing {shown(words.store)}", len(plan.steps)))
     tell(words, plan, len(read.left_out))
     return 1 if read.left_out else 0
 
@@ -91,25 +88,10 @@ def texts(step) -> list[str]:
     return [word, shown(real_path(path)), *(f"{len(field)} bytes" if isinstance(field, bytes) else field for field in more)]
 
 
-def with_progress(lines, count: int):
-    """The same lines; where standard error is a terminal it's told there once a second how many were done."""
-    told = time.monotonic()
-    for done, line in enumerate(lines):
-        if sys.stderr.isatty() and time.monotonic() - told > 1:
-            told = time.monotonic()
-            print(f"\r{done} of {count}", end="\r", file=sys.stderr, flush=True)
-        yield line
-
-
 def see_to_room(store, plan: Plan) -> None:
-    """A Fault where what is to be put may not leave the room that a revocation of every grant takes: then nothing is done."""
-    grants = sum(len(granted) for _, granted in store.holders.names.values())
-    kept_back = (1 << 20) + grants * GRANT_ROOM
-    needed = sum(LINE_ROOM + sum(len(field) for field in step if isinstance(field, bytes)) for step in plan.steps)
-    left = STORE_LIMIT - kept_back - os.path.getsize(store.path)
-    if plan.steps and needed > left:
-        raise Fault(f"this may take {needed:,} bytes, and {shown(store.path)} has {max(left, 0):,} left beside what revocations need, "
-                    "so nothing was done: put less, or put it into a new store")
+    """A Fault where all that is to be written may not find room."""
+    if plan.steps:
+        room.see_to(store, sum(room.COMMAND + sum(len(field) for field in step if isinstance(field, bytes)) for step in plan.steps))
 
 
 def tell_lost_grants(store, plan: Plan) -> None:

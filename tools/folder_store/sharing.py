@@ -1,19 +1,22 @@
-"""Who reads what: the commands init, holder, grant, revoke and who."""
+"""What makes stores and holders, and who is let to read: the commands init, adopt, holder, grant and revoke."""
 import json
 import os
 
+from folder_store import room
 from folder_store import store as stores
 from folder_store.entry import opened
-from folder_store.faults import Fault, NoKey, Refused, WrongKey, warn
-from folder_store.keys import checked_name
-from folder_store.names import core_path, real_path, shown
+from folder_store.faults import BadWords, Fault, Refused
+from folder_store.keys import checked_name, read_key
+from folder_store.names import core_path
 from folder_store.private import NewFile
+from folder_store.who import granted_to
 
 
 def add_commands(add):
     add("init", init, "makes a new store, and its owner's key in the key folder")
-    words = add("holder", holder, "makes a holder, with a key file to hand over")
-    words.add_argument("what", metavar="add", choices=["add"])
+    add("adopt", adopt, "takes in a store that was made without this program, or whose key folder is gone, by the owner's key in --key")
+    words = add("holder", holder, "makes a holder, with a key file to hand over, or takes in one that has a key")
+    words.add_argument("what", metavar="add|adopt", choices=["add", "adopt"], help="adopt: the holder whose key is in --key FILE")
     words.add_argument("name", metavar="NAME")
     words.add_argument("--to", metavar="FILE", help="where the key file goes (NAME.key in the key folder)")
     for name, function, text in (("grant", grant, "lets a holder read a folder and all below it"),
@@ -21,8 +24,6 @@ def add_commands(add):
         words = add(name, function, text)
         words.add_argument("name", metavar="NAME")
         words.add_argument("path", metavar="/PATH")
-    words = add("who", who, "tells the holders: name, number, what is granted to them")
-    words.add_argument("path", metavar="/PATH", nargs="?", help="those alone who read this folder")
 
 
 def tell(words, text, **facts):
@@ -36,11 +37,19 @@ def init(words):
          store=os.path.abspath(words.store), keys=keys.path)
 
 
+def adopt(words):
+    if words.key is None:
+        raise BadWords("adopt takes a store in by its owner's key: name the file that has it with --key FILE")
+    keys = stores.take_in(words.store, words.keys, read_key(words.key, words.key), not words.no_wait, words.accept)
+    tell(words, f"took in {words.store} as the newest that there is; its owner's key is in {keys.path} now, and its holders get names with "
+         "holder adopt", store=os.path.abspath(words.store), keys=keys.path)
+
+
 def holder(words):
+    if words.what == "adopt":
+        return adopt_holder(words)
     with opened(words, writes=True) as store:
-        name, holders = checked_name(words.name), store.holders
-        if name in holders.names:
-            raise Fault(f"{name} is a holder already, with the number {holders.number(name)}: take another name")
+        name, holders = new_name(store, words.name)
         place = os.path.abspath(words.to or store.keys.file(name + ".key"))
         number = made_before(store, name, place, holders) or made_now(store, place)
         holders.add(name, number)
@@ -48,9 +57,40 @@ def holder(words):
          name=name, number=number, key=place)
 
 
+def new_name(store, name):
+    """A holder's name that is free, and the record that it's to go into."""
+    holders = store.holders
+    if checked_name(name) in holders.names:
+        raise Fault(f"{name} is a holder already, with the number {holders.number(name)}: take another name")
+    return name, holders
+
+
+def adopt_holder(words):
+    """Gives a name to a holder that was made without this front end. Of grants one within the other the outer one alone can be told."""
+    if words.key is None:
+        raise BadWords("holder adopt takes a holder in by their key: name the file that has it with --key FILE")
+    with opened(words, writes=True) as store:
+        name, holders = new_name(store, words.name)
+        key = read_key(words.key, words.key)
+        if key.is_owner:
+            raise Fault(f"{words.key} has an owner's key in it: name a file with a holder's")
+        taken = [other for other, (number, _) in holders.names.items() if number == key.number]
+        if taken:
+            raise Fault(f"this is the key of {taken[0]}, who is a holder here already: go on with that name")
+        granted = granted_to(store, key)
+        place = os.path.abspath(words.to or store.keys.file(name + ".key"))
+        if not (os.path.exists(place) and os.path.samefile(place, words.key)):
+            with NewFile(place) as file:
+                file.put(key.line + "\n")
+        holders.add(name, key.number, granted)
+    tell(words, f"{name} is holder {key.number}, with {len(granted)} grant{'s' * (len(granted) != 1)}; the key is in {place}",
+         name=name, number=key.number, key=place, granted=granted)
+
+
 def made_now(store, place):
     """The number of a new holder, whose key file is made here."""
     with NewFile(place) as file:
+        room.see_to(store, room.COMMAND)
         reply, = store.run(["holder"])
         file.put(reply + "\n")
     return int(reply.split(" ")[1])
@@ -70,6 +110,8 @@ def change(words, command, settled):
     with opened(words, writes=True) as store:
         holders = store.holders
         line = f"{command} {holders.number(words.name)} {core_path(words.path)}"
+        if command == "grant":
+            room.see_to(store, room.COMMAND)
         try:
             store.run([line])
         except Refused as refused:
@@ -86,47 +128,3 @@ def grant(words):
 
 def revoke(words):
     change(words, "revoke", "refused no-grant")
-
-
-def topmost(paths):
-    """Those of the paths that none of the others is above."""
-    found = set(paths)
-    return sorted(path for path in found if not found.intersection(all_above(path)))
-
-
-def all_above(path):
-    """The paths of the folders that this one is in; with a `/` behind it, it's one of them."""
-    return {"/", *(path[:at] for at in range(1, len(path)) if path[at] == "/")} - {path}
-
-
-def who(words):
-    """The record, held against what the program shows with each holder's key, where the key folder has it still."""
-    told, status, asked = [], 0, words.path and core_path(words.path)
-    with opened(words, writes=False) as store:
-        store.keys.owner()
-        for name, (number, granted) in sorted(store.holders.names.items(), key=lambda entry: entry[1][0]):
-            seen, paths = seen_by(store, name), sorted(granted)
-            if seen is not None and seen != topmost(granted):
-                warn(f"{name}: the store grants otherwise than is recorded, as an older copy does, or one that the program was used on "
-                     "without this front end; what is told is what the store shows")
-                paths, status = seen, 1
-            if asked and not all_above(asked + "/").intersection(paths):
-                continue
-            told.append({"name": name, "number": number, "granted": [real_path(path) for path in paths],
-                         "from": "record" if seen is None else "store"})
-    if words.json:
-        print(json.dumps(told, ensure_ascii=False))
-    for entry in [] if words.json else told:
-        note = "   (as recorded: the key isn't here to ask with)" if entry["from"] == "record" else ""
-        print(f"{entry['number']:4}  {entry['name']}  {', '.join(map(shown, entry['granted'])) or '-'}{note}")
-    return status
-
-
-def seen_by(store, name):
-    """The topmost folders that the store shows to a holder, none to one that it doesn't know; None where their key isn't here."""
-    try:
-        return topmost(line.path for line in store.listing(store.keys.holder(name)) if line.kind == "folder")
-    except NoKey:
-        return None
-    except WrongKey:
-        return []

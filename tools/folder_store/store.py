@@ -7,13 +7,17 @@ import stat
 import tempfile
 from typing import NamedTuple
 
-from folder_store import last, places, private, program
-from folder_store.faults import Fault, Hostile, Locked, NoStore, NotAStore, Refused, warn
+from folder_store import places, private, program, room
+from folder_store.faults import BadKey, Damaged, Fault, Hostile, Locked, NoStore, NotAStore, Refused, Tampered, WrongKey, warn
 from folder_store.holders import Holders
 from folder_store.keys import KeyFolder, read_key
-from folder_store.names import real_path
+from folder_store.last import Last
+from folder_store.names import real_path, shown
+from folder_store.progress import followed
 
-MAGIC, IDENTITY_AT, HEADER, FULL = b"CRYPTREE\1", 9, 42, 268_435_456
+TOLD, COPY = "told", "copy"     # how one that may be older is read: told that it is, or as a copy that is known to be one
+UNOPENED = (NotAStore, Damaged, WrongKey, Tampered)     # what a session tells that ends before it takes a line
+MAGIC, IDENTITY_AT, HEADER = b"CRYPTREE\1", 9, 42
 NAME = rb"(?!\.\.?(?:[/ ]|\Z))[A-Za-z0-9._-]{1,64}"
 LISTED = re.compile(rb"(?:(folder|ancestor) (/|(?:/" + NAME + rb")+)|(file) ((?:/" + NAME + rb")+) ([0-9a-f]*))")
 NUMBERS = rb" ([0-9]{1,10}) ([0-9]{1,10}) "
@@ -52,31 +56,57 @@ def read_line(line, form, make):
 class Store:
     """A store between `open` and the end of its `with`."""
 
-    def __init__(self, path, handle, keys):
-        self.path, self.handle, self.keys = path, handle, keys
+    def __init__(self, path, handle, keys, last=None):
+        self.path, self.handle, self.keys, self.last = path, handle, keys, last
+        self.writes = self.owner_read = False
 
     @classmethod
-    def open(cls, path, keys_folder, writes, wait, accept=False):
-        """The store, locked against writers, and to write against readers too. To write, it has to continue what was last written."""
+    def open(cls, path, keys_folder, writes, wait, accept=False, older=None):
+        """The store, locked against writers, and to write against readers too. It has to go on from what was last seen of it. With
+        `accept`, or with `older` to read, another is told and taken all the same; a copy that `restore` takes or made isn't asked."""
         handle = locked(path, writes, wait)
         try:
             store = cls(path, handle, KeyFolder(keys_folder, identity(path, handle)))
             if writes:
                 store.keys.owner()
             places.check(path, store.keys, accept)
+            store.writes = writes
             if writes:
-                last.check(store.keys.file("last"), handle, path, accept)
+                places.see_that_it_may_be_written(path, store.keys)
+                store.last = store.asked_for_its_head()
+                store.last.see_that_it_may_be_written(accept)
                 places.keep(path, store.keys)
+            elif older != COPY and not places.is_restored(path, store.keys):
+                store.last = store.asked_for_its_head()
+                store.last.see_that_it_may_be_read(accept or older == TOLD)
             return store
         except BaseException:
             os.close(handle)
             raise
 
+    def asked_for_its_head(self):
+        return Last(self.keys.file("last"), self.path, self.handle)
+
     def __enter__(self):
         return self
 
-    def __exit__(self, *_):
-        os.close(self.handle)
+    def __exit__(self, kind, *_):
+        try:
+            if kind is None and self.last and not self.writes:
+                self.keep_head()
+        finally:
+            os.close(self.handle)
+
+    def keep_head(self):
+        """Keeps the head that a reading saw; beside an owner's key one alone whose tags were tested with it, since anybody can add batches
+        without. What was read is good without that, so where it can't be kept this is told only."""
+        is_owner = os.path.exists(self.keys.file("owner.key"))
+        try:
+            if self.owner_read >= is_owner and self.last.has_grown(is_owner):
+                self.keys.make()
+                self.last.put(False)
+        except (Fault, OSError) as cause:
+            warn(f"the head of {self.path} can't be kept ({cause}): an older copy of it won't be noticed")
 
     @property
     def owner(self):
@@ -94,13 +124,17 @@ class Store:
 
     def listing(self, key):
         """What the key opens, in the order of paths."""
-        return [read_line(line, LISTED, Line) for line in program.answer(self.path, "list", key.line, self.handle)]
+        return [read_line(line, LISTED, Line) for line in self.answer("list", key)]
 
     def audit(self, key):
         """What the key leads to, in the order of writing."""
         def seen(kind, batch, number, name, data):
             return Seen(kind, int(batch), int(number), name, data)
-        return [read_line(line, SEEN, seen) for line in program.answer(self.path, "audit", key.line, self.handle)]
+        return [read_line(line, SEEN, seen) for line in self.answer("audit", key)]
+
+    def answer(self, command, key):
+        yield from followed(program.answer(self.path, command, key.line, self.handle), f"reading {shown(self.path)}")
+        self.owner_read |= key.is_owner
 
     def run(self, lines):
         """Has the store do these lines, one after another, and gives the replies. It stops at the first refusal."""
@@ -126,7 +160,7 @@ class Store:
 
     def begun(self):
         """A session with the store, marked as begun beside the key."""
-        last.mark(self.keys.file("last"), self.handle)
+        self.last.mark()
         return program.Session(self.path, self.owner.line, self.handle)
 
     def ended(self, session):
@@ -134,10 +168,10 @@ class Store:
         try:
             session.end()
         finally:
-            end = last.write(self.keys.file("last"), self.handle)
-            if end > FULL * 0.8:
-                warn(f"{self.path} is {end * 100 // FULL} in 100 full, and what was overwritten takes its room too; a full one takes no "
-                     "more commands, a revocation neither: make a new one of what stands with renew")
+            if isinstance(session.failure, UNOPENED):
+                self.last.unmark()
+            else:
+                room.tell(self.path, self.last.write())
 
 
 def opened(path, writes):
@@ -212,7 +246,7 @@ def make(path, keys_folder):
         with private.NewFile(keys.file("owner.key")) as file:
             file.put(line + "\n")
         Holders(keys.file("holders.json")).save()
-        last.write(keys.file("last"), handle)
+        Last(keys.file("last"), temporary, handle).put(False)
         private.settle(temporary, place)
         places.keep(path, keys)
     except FileExistsError:
@@ -221,4 +255,33 @@ def make(path, keys_folder):
         os.close(handle)
         if os.path.lexists(temporary):
             os.unlink(temporary)
+    return keys
+
+
+def take_in(path, keys_folder, key, wait, accept, is_copy=False):
+    """Takes a store that was made without this front end, or whose key folder is gone, into the key folder: it gets a file with this
+    owner's key, as `make` would have left it. A copy isn't taken as what was written last. Gives the folder of its keys."""
+    if not key.is_owner:
+        raise BadKey(f"{key.name} has a holder's key in it, and a store is taken in by its owner's: name the file that has it with --key")
+    handle = locked(path, False, wait)
+    try:
+        keys = KeyFolder(keys_folder, identity(path, handle))
+        if os.path.lexists(keys.file("owner.key")):
+            raise Fault(f"the owner's key of {path} is in the key folder already, in {keys.path}: go on with it")
+        for _ in program.answer(path, "list", key.line, handle):
+            pass
+        places.check(path, keys, accept)
+        last = Last(keys.file("last"), path, handle)
+        if last.kept is not None and not is_copy:
+            last.see_that_it_may_be_written(accept)
+        keys.make()
+        with private.NewFile(keys.file("owner.key")) as file:
+            file.put(key.line + "\n")
+        if not os.path.exists(keys.file("holders.json")):
+            Holders(keys.file("holders.json")).save()
+        if not is_copy:
+            last.put(False)
+            places.keep(path, keys)
+    finally:
+        os.close(handle)
     return keys

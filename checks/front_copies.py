@@ -1,0 +1,212 @@
+"""Backups that are restored, stores that are taken in, renewed ones, and how full a store may become, asked of the front end."""
+import contextlib
+import glob
+import io
+import json
+import os
+import shutil
+import stat
+import sys
+import time
+
+from front_calls import FRONT, expect_told, front, keys_of
+from front_keys import done, fresh, key_file, modes
+from harness import read
+
+sys.path.insert(0, os.path.dirname(FRONT))
+
+from folder_store import progress     # noqa: E402 (the package stands beside the front end)
+
+
+def all_copies(check):
+    restored(check)
+    lost_keys(check)
+    taken_in(check)
+    holders_taken_in(check)
+    followed_grants(check)
+    full(check)
+    progress_line(check)
+
+
+def shared_store(check, name):
+    """A store with a folder, a file, and ann, who may read the folder."""
+    store = fresh(check, name)
+    done(check, "holder add", front(check, store, "holder", "add", "ann"))
+    owner = read(key_file(check, store, "owner.key"))
+    check.call([store, "/dev/urandom", "run"], owner + b"mkdir /a\nwrite /a/b 6869\n")
+    done(check, "grant", front(check, store, "grant", "ann", "/a"))
+    return store
+
+
+def restored(check):
+    """A restored backup is read and never written, by whatever options, until it's renewed."""
+    store = shared_store(check, "backed.store")
+    copy, back, new = (os.path.join(check.folder, f"backed.{part}") for part in ("copy", "back", "new"))
+    done(check, "backup", front(check, store, "backup", copy))
+    expect_told(check, "restore over a store", front(check, store, "restore", copy), 1, "stands there already")
+    expect_told(check, "restore of nothing", front(check, back, "restore", copy + ".no"), 1, "there is no store")
+    expect_told(check, "restore of another file", front(check, back, "restore", FRONT), 1, "is not a store")
+    check.expect("these make nothing", os.path.exists(back), False)
+    done(check, "restore", front(check, back, "restore", copy))
+    check.expect("the restored store", (read(back) == read(copy), stat.S_IMODE(os.stat(back).st_mode)), (True, 0o600))
+    for words in (("holder", "add", "ben"), ("grant", "ann", "/"), ("revoke", "ann", "/a"), ("holder", "add", "ben", "--accept"),
+                  ("put", os.path.dirname(FRONT), "/x")):
+        expect_told(check, f"{words[0]} on a restored store", front(check, back, *words), 1, "is a restored copy", "renew")
+    check.expect("it isn't written", read(back) == read(copy), True)
+    check.expect("it's read", done(check, "cat", front(check, back, "cat", "/a/b", "--as", "ann")), b"hi")
+    done(check, "the store itself goes on", front(check, store, "holder", "add", "ben"))
+    done(check, "renew", front(check, back, "renew", new))
+    check.expect("the new one is read", done(check, "cat", front(check, new, "cat", "/a/b", "--as", "ann")), b"hi")
+    done(check, "and written", front(check, new, "holder", "add", "cy"))
+    changed = bytearray(read(copy))
+    changed[-40] ^= 1
+    hurt = check.put("backed.hurt", bytes(changed))
+    came = front(check, back + "2", "restore", hurt)
+    check.expect("a hurt backup isn't restored", (came[0], os.path.exists(back + "2")), (1, False))
+
+
+def lost_keys(check):
+    """A backup and the owner's key are all that is left: they are enough to go on with a new store."""
+    store = shared_store(check, "lost.store")
+    copy, back, new, kept = (os.path.join(check.folder, f"lost.{part}") for part in ("copy", "back", "new", "owner"))
+    done(check, "backup", front(check, store, "backup", copy))
+    shutil.copy(key_file(check, store, "owner.key"), kept)
+    elsewhere = os.path.join(check.folder, "lost_keys")
+    expect_told(check, "restore without a key", front(check, back, "restore", copy, keys=elsewhere), 1, "no owner's key")
+    ann = key_file(check, store, "ann.key")
+    expect_told(check, "restore with a holder's", front(check, back, "restore", copy, "--key", ann, keys=elsewhere), 1, "a holder's key")
+    done(check, "restore with the key", front(check, back, "restore", copy, "--key", kept, keys=elsewhere))
+    check.expect("modes of what was taken in", modes(elsewhere), {0o700, 0o600})
+    expect_told(check, "it isn't written", front(check, back, "holder", "add", "di", keys=elsewhere), 1, "is a restored copy")
+    os.rename(back, back + ".moved")
+    expect_told(check, "nor where it was moved to", front(check, back + ".moved", "holder", "add", "di", keys=elsewhere), 1, "older copy")
+    done(check, "renew", front(check, back + ".moved", "renew", new, keys=elsewhere))
+    check.expect("all stands", done(check, "cat", front(check, new, "cat", "/a/b", keys=elsewhere)), b"hi")
+    done(check, "a holder of the new one", front(check, new, "holder", "add", "ann", keys=elsewhere))
+
+
+def taken_in(check):
+    """A store that the program made alone, taken in by its owner's key."""
+    store = check.put("core.store", b"")
+    os.chmod(store, 0o600)
+    line = check.call([store, "/dev/urandom", "make"])[1]
+    key, holder = check.put("core.owner", line), check.put("core.holder", check.call([store, "/dev/urandom", "run"], line + b"holder\n")[1])
+    keys = os.path.join(check.folder, "core_keys")
+    expect_told(check, "adopt without a key", front(check, store, "adopt", keys=keys), 2, "--key FILE")
+    os.chmod(key, 0o644)
+    expect_told(check, "a key that others read", front(check, store, "adopt", "--key", key, keys=keys), 1, "chmod 600")
+    os.chmod(key, 0o600)
+    os.chmod(holder, 0o600)
+    expect_told(check, "a holder's key", front(check, store, "adopt", "--key", holder, keys=keys), 1, "a holder's key")
+    other = fresh(check, "core.other")
+    expect_told(check, "another's key", front(check, other, "adopt", "--key", key, keys=keys), 1, "not one of")
+    expect_told(check, "not taken in yet", front(check, store, "who", keys=keys), 1, "no owner's key")
+    check.expect("nothing was made", glob.glob(keys + "/*"), [])
+    done(check, "adopt", front(check, store, "adopt", "--key", key, keys=keys))
+    check.expect("the key that was taken in", (read(key_file_in(keys, store)), modes(keys)), (line, {0o700, 0o600}))
+    expect_told(check, "adopt twice", front(check, store, "adopt", "--key", key, keys=keys), 1, "in the key folder already")
+    done(check, "it's written", front(check, store, "holder", "add", "ann", keys=keys))
+
+
+def key_file_in(keys, store):
+    return os.path.join(keys, read(store)[9:41].hex(), "owner.key")
+
+
+def holders_taken_in(check):
+    """Holders that the program made get names, and the grants that they have are known then."""
+    store = fresh(check, "core2.store")
+    owner = read(key_file(check, store, "owner.key"))
+    said = check.call([store, "/dev/urandom", "run"], owner + b"mkdir /a\nmkdir /a/b\nholder\ngrant 1 /a\nholder\n")[1].splitlines(True)
+    keys = [check.put(f"core2.{number}", said[place]) for number, place in ((1, 2), (2, 4))]
+    for key in keys:
+        os.chmod(key, 0o600)
+    expect_told(check, "holder adopt without a key", front(check, store, "holder", "adopt", "ann"), 2, "--key FILE")
+    done(check, "holder adopt", front(check, store, "holder", "adopt", "ann", "--key", keys[0]))
+    expect_told(check, "the same again", front(check, store, "holder", "adopt", "cy", "--key", keys[0]), 1, "the key of ann")
+    expect_told(check, "a name again", front(check, store, "holder", "adopt", "ann", "--key", keys[1]), 1, "is a holder already")
+    owners = key_file(check, store, "owner.key")
+    expect_told(check, "the owner's key", front(check, store, "holder", "adopt", "cy", "--key", owners), 1, "an owner's key")
+    elsewhere = fresh(check, "core3.store")
+    expect_told(check, "another store's", front(check, elsewhere, "holder", "adopt", "cy", "--key", keys[0]), 1, "no such holder")
+    done(check, "holder adopt", front(check, store, "holder", "adopt", "ben", "--key", keys[1]))
+    due = [{"name": "ann", "number": 1, "granted": ["/a"], "from": "store"}, {"name": "ben", "number": 2, "granted": [], "from": "store"}]
+    check.expect("who", json.loads(done(check, "who", front(check, store, "who", "--json"))), due)
+    check.expect("modes", modes(keys_of(check)), {0o700, 0o600})
+    done(check, "revoke", front(check, store, "revoke", "ann", "/a"))
+
+
+def followed_grants(check):
+    """Who and grants tell the names of what stands now, where a folder was renamed since it was granted."""
+    store, folder = fresh(check, "named.store"), os.path.join(check.folder, "named")
+    os.makedirs(os.path.join(folder, "old plans", "in"))
+    with open(os.path.join(folder, "old plans", "in", "x"), "w") as file:
+        file.write("x")
+    done(check, "put", front(check, store, "put", folder, "/t"))
+    for name, path in (("ann", "/t/old plans"), ("ben", "/t/old plans/in"), ("cy", "/")):
+        done(check, "holder add", front(check, store, "holder", "add", name))
+        done(check, "grant", front(check, store, "grant", name, path))
+    os.rename(os.path.join(folder, "old plans"), os.path.join(folder, "new plans"))
+    printed = done(check, "put renamed", front(check, store, "put", folder, "/t"))
+    check.expect("a folder that was renamed", b"0 new, 0 changed, 1 renamed, 0 gone" in printed, True)
+    due = [{"path": "/", "names": ["cy"], "recorded": []}, {"path": "/t/new plans", "names": ["ann"], "recorded": []},
+           {"path": "/t/new plans/in", "names": ["ben"], "recorded": []}]
+    for path, those in ((None, due), ("/t/new plans/in", due), ("/t/new plans", due), ("/other", due[:1])):
+        words = ["grants", "--json"] + [path] * bool(path)
+        check.expect(f"grants of {path}", json.loads(done(check, "grants", front(check, store, *words))), those)
+    check.expect("who", b"ben  /t/new plans/in\n" in done(check, "who", front(check, store, "who")), True)
+    os.remove(key_file(check, store, "ben.key"))
+    printed = done(check, "grants", front(check, store, "grants"))
+    check.expect("one whose key was handed over", b"/t/new plans/in  ben*\n*  as recorded" in printed, True)
+
+
+def full(check):
+    """A store that is nearly full, over a front end for which it's small: what is warned, refused, and still revoked."""
+    store, folder = shared_store(check, "full.store"), os.path.join(check.folder, "full")
+    os.mkdir(folder)
+    size = os.stat(store).st_size
+    small = check.put("small", f"""#!{sys.executable}
+import sys
+sys.path.insert(0, {os.path.dirname(FRONT)!r})
+from folder_store import room
+from folder_store.entry import main
+room.LIMIT, room.BESIDE = {size + 60_000}, 3000
+sys.exit(main())
+""".encode())
+    os.chmod(small, 0o700)
+
+    def calls(*words):
+        return front(check, store, *words, with_front=small)
+
+    with open(os.path.join(folder, "x"), "wb") as file:
+        file.write(bytes(59_000))
+    expect_told(check, "put of too much", calls("put", folder, "/x"), 1, "beside what revocations need", "nothing was done")
+    os.truncate(os.path.join(folder, "x"), 50_000)
+    done_with = calls("put", folder, "/x")
+    check.expect("a put that fits", done_with[0], 0)
+    before = read(store)
+    while (came := calls("holder", "add", f"h{len(read(store))}"))[0] == 0:
+        before = read(store)
+    check.expect("holders until it's full", (b"beside what revocations need" in came[2], read(store) == before), (True, True))
+    expect_told(check, "a grant", calls("grant", "ann", "/"), 1, "nothing was done", "renew")
+    came = calls("revoke", "ann", "/a")
+    check.expect("a revocation still works", (came[0], b"in 100 full" in came[2], b"renew" in came[2]), (0, True, True))
+
+
+class Terminal(io.StringIO):
+    """What is told on standard error, where that is a terminal."""
+
+    def isatty(self):
+        return True
+
+
+def progress_line(check):
+    """What takes more than a second is told on a terminal, in a line that is blanked at the end, and nowhere else."""
+    for kind, due in ((Terminal, ["", "reading a store: 3 of 1,000", ""]), (io.StringIO, [""])):
+        with contextlib.redirect_stderr(kind()) as told:
+            with progress.Progress("reading a store", 1000) as at:
+                at.done = 3
+                time.sleep(1.3)
+        check.expect(f"what is told to {kind.__name__}", told.getvalue().split("\r\x1b[K"), due)
+    with contextlib.redirect_stderr(Terminal()) as told:
+        check.expect("what passes by", list(progress.followed("abc", "letters", 3)), ["a", "b", "c"])
+    check.expect("what is done in less", told.getvalue(), "")
