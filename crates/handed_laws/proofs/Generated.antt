@@ -1,9 +1,6 @@
 -- What `gen` unveils from the moment on at which its store stood.
-use Rattle.std.proofs.Common.{◌≡◌, ◌≢◌, ◌⊎◌, ⊎_elim, inl, inr, ℕ, List, [], ◌∷◌, ◌++◌, length, Option, Some, arith, refl, sym, ap, subst, ◌∙◌}
-use Rattle.batch_log.specs.Handing.{IsStage, IsTornStage}
-use Rattle.batch_log.specs.Moments.{FromThenOn, Throughout}
+use Rattle.std.proofs.Common.{◌≡◌, ⊎_elim, inl, inr, ℕ, List, [], ◌∷◌, ◌++◌, length, Option, Some, arith, refl, sym, ◌∙◌}
 use Rattle.batch_log.proofs.InOrder.{on_maps}
-use Rattle.commit_journal.specs.Holding.{IsPrefix}
 use Rattle.commit_journal.specs.Standing.{StandsWhole}
 use Rattle.cry_io.specs.declared.disk.Disk as disk
 use Rattle.cli_base.specs.declared.status.Status.{Status}
@@ -20,7 +17,7 @@ use Rattle.public_fold.specs.Valid.{IsValid}
 use Rattle.store_gen.specs.Rule.{requests}
 use Rattle.store_owner.specs.Making.{made_with, root_keys}
 use Rattle.store_owner.specs.Published.{HasPublished}
-use Rattle.handed_laws.specs.Unveiled.{HasNoEmptyVeil, KeepsUnveiled, ScriptUnveils, ShowsJoined}
+use Rattle.handed_laws.specs.Unveiled.{KeepsUnveiled, ScriptUnveils}
 use Rattle.handed_laws.proofs.Handed.{joins_shown}
 use Rattle.handed_laws.proofs.Runs.{Reaches, settled, stopped_by}
 use Rattle.handed_laws.proofs.Unmasked.{kept_now}

@@ -9,7 +9,7 @@ use Rattle.cry_io.specs.Stops.{Torn}
 use Rattle.batch_log.specs.Handing.{IsStage, IsTornStage, Write, all_written}
 use Rattle.batch_log.specs.Steps.{written_at}
 use Rattle.chacha_seal.proofs.SealingLemmas.{length-veil_of}
-use Rattle.commit_journal.specs.Handing.{Hands, batch_writes, log_writes, opening_writes}
+use Rattle.commit_journal.specs.Handing.{Hands, log_writes, opening_writes}
 use Rattle.commit_journal.specs.Holding.{IsPrefix}
 use Rattle.commit_journal.specs.Image.{Batch, batch_veil, empty_slot, image, spell_batch}
 use Rattle.commit_journal.specs.Opening.{slots_filled}

@@ -9,14 +9,10 @@ use Rattle.cry_base.specs.Limits.{most_file_bytes, most_store_bytes}
 use Rattle.cry_base.specs.Refusing.{refusal_of}
 use Rattle.cry_base.specs.Requests.{Request}
 use Rattle.cry_base.specs.declared.commands.Refusal.{Refusal}
-use Rattle.cry_io.specs.declared.disk.Disk as disk
 use Rattle.cli_base.specs.Lines.{InputLine}
 use Rattle.cli_base.specs.declared.status.Status.{Status}
 use Rattle.cli_base.specs.declared.status.Status.TheVariants as statuses
-use Rattle.cli_running.specs.Running.{lines_behind, lines_in}
 use Rattle.cli_sessions.specs.Sessions.{Ends, HasRun, IsUnopened, LeavesAt, RanCut, RanTo, RanUnwritten, Seen, SessionOver, StopsApplying, version_limits}
-use Rattle.cli_sessions.specs.Stopping.{KeepsUpTo}
-use Rattle.journal_bytes.specs.Journals.{ShowsJournal, StandsForJournal}
 use Rattle.journal_bytes.specs.Keys.{AreWhole, drawn_by}
 use Rattle.journal_bytes.specs.Script.{answer, answer_with, due_end, journal_then, opened, script_going}
 use Rattle.journal_bytes.proofs.NextValid.{next_valid, next_whole}
@@ -25,7 +21,6 @@ use Rattle.public_fold.specs.Journal.Entry.{Did, Made, Session}
 use Rattle.public_fold.specs.Valid.{BeginsWell, IsValid}
 use Rattle.public_fold.proofs.Prefixes.{prefix_valid}
 use Rattle.store_owner.specs.Drawing.{joined}
-use Rattle.stop_laws.specs.Runs.{RunOver}
 use Rattle.stop_laws.proofs.Left.{front_grows}
 
 -- ---- journals that begin others

@@ -1,8 +1,7 @@
 -- What calls of the program unveil, and that what they unveil keeps its secrets.
-use Rattle.std.proofs.Common.{◌≡◌, ◌≢◌, ◌≤◌, ◌+◌, inl, inr, ℕ, List, [], ◌∷◌, ◌++◌, All, length, Option, Some, arith, refl, sym, ap, subst, ◌∙◌, length-append}
+use Rattle.std.proofs.Common.{◌≡◌, ◌≢◌, ◌≤◌, ◌+◌, ℕ, List, [], ◌∷◌, ◌++◌, All, length, Some, arith, sym, ap, subst, ◌∙◌, length-append}
 use Rattle.batch_log.specs.Moments.{FromThenOn}
 use Rattle.batch_log.proofs.InOrder.{on_maps}
-use Rattle.commit_journal.specs.Gates.{recovered}
 use Rattle.commit_journal.specs.Holding.{IsBetween, IsPrefix}
 use Rattle.commit_journal.specs.Image.{Batch, batch_veil, empty_slot}
 use Rattle.commit_journal.specs.Standing.{HasSizes, StandsWhole}
@@ -16,7 +15,7 @@ use Rattle.journal_bytes.specs.Journals.{HoldsBetween, ShowsJournal, StandsForJo
 use Rattle.journal_bytes.proofs.Grown.{batches_grow, journal_recovered}
 use Rattle.public_fold.specs.Journal.{Journal}
 use Rattle.secrecy_laws.proofs.Secrets.{keeps_secret, opens_by_gain}
-use Rattle.stop_laws.specs.Runs.{CallOver, IsLeft, RunOver, Runs, WasShown}
+use Rattle.stop_laws.specs.Runs.{CallOver, IsLeft, Runs, WasShown}
 use Rattle.stop_laws.specs.Runs.CallOver.{ByOther, ByOwner}
 use Rattle.stop_laws.proofs.Kept.{all_keep}
 use Rattle.stop_laws.proofs.Lasting.{never_lost}
