@@ -2,7 +2,11 @@
 comes to.
 
 A step is what changes a file, a folder or a lock, begins a program, or sends it a line. The front end runs in a process that is forked
-from this one, and is killed just before its step of a number, with each number until there is none of it.
+from this one, and is killed just before its step of a number, until there is none of it.
+
+    checks/front_stops.py PROGRAM
+
+That kills it at each step, which takes a quarter of an hour; checks/front_end asks for every STRIDE-th.
 """
 import contextlib
 import io
@@ -23,6 +27,7 @@ from folder_store import entry, program, units     # noqa: E402 (the package sta
 STEPS = {"os.rename", "os.link", "os.remove", "os.mkdir", "os.rmdir", "os.chmod", "os.utime", "os.symlink", "tempfile.mkstemp",
          "tempfile.mkdtemp", "subprocess.Popen", "fcntl.flock", "ctypes.dlsym"}
 KILLED = -signal.SIGKILL
+STRIDE = 9
 TREE = {"in/x": b"1", "y": b"a file in parts", "z": b""}
 
 
@@ -65,10 +70,10 @@ def in_child(check, words, stop, into):
 
 
 def stops(check, what, words, stands, again):
-    """Kills the front end at each step of these words. `stands` gives what is wrong then, and `again` puts all back to before."""
-    number = 0
+    """Kills the front end at every STRIDE-th step of these words. `stands` gives what is wrong then, and `again` puts all back to before."""
+    number = 1 - STRIDE
     while True:
-        number += 1
+        number += STRIDE
         status, told = called(check, words(number), number)
         wrong = stands(number, status)
         check.expect(f"{what} that is killed at step {number}", (status in (0, KILLED), wrong, told if status else ""), (True, [], ""))
@@ -94,9 +99,17 @@ def all_stops(check):
     holders(check, store)
     puts(check, store)
     gets(check, store)
-    copies(check, store)
+    copies(check, small(check))
     units.PART_SIZE = size
     check.expect("modes of keys after all stops", modes(keys_of(check)), {0o700, 0o600})
+
+
+def small(check):
+    """A store with a holder and a folder alone, since a renewal takes steps for each."""
+    store = os.path.join(check.folder, "small.store")
+    for words in (["init"], ["holder", "add", "h1"], ["put", os.path.join(check.folder, "stops.put"), "/t"]):
+        called(check, [store, *words])
+    return store
 
 
 def inits(check):
@@ -200,4 +213,5 @@ def copies(check, store):
 
 
 if __name__ == "__main__":
+    STRIDE = 1
     harness.main(__doc__, all_stops)
