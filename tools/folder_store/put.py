@@ -28,8 +28,9 @@ def put(words) -> int:
     with opened(words, writes=not words.dry_run) as store:
         read = Reader(words.folder, [words.store, store.keys.above], sum(len(pieces(name)) for name in names), words.with_keys)
         tell_left_out(read, words)
-        plan = plan_of(store, read, names, words.keep)
-        see_to_room(store, plan)
+        root = core_tree(store.listing(store.owner))
+        plan = plan_of(root, read, names, words.keep)
+        see_to_room(store, plan, root)
         if words.dry_run:
             tell_lost_grants(store, plan)
         else:
@@ -56,9 +57,8 @@ def tell_left_out(read: Reader, words) -> None:
         raise Fault(f"{len(read.left_out)} in {shown(words.folder)} can't be kept, so nothing was done: type --skip to put all else")
 
 
-def plan_of(store, read: Reader, real: list[bytes], keep: bool) -> Plan:
+def plan_of(root: CoreFolder, read: Reader, real: list[bytes], keep: bool) -> Plan:
     """The plan to bring the folder of these real names to what was read."""
-    root = core_tree(store.listing(store.owner))
     see_that_no_file_stands(root, real)
     names = [piece for name in real for piece in pieces(name)]
     around = core_at(root, names)
@@ -88,10 +88,20 @@ def texts(step) -> list[str]:
     return [word, shown(real_path(path)), *(f"{len(field)} bytes" if isinstance(field, bytes) else field for field in more)]
 
 
-def see_to_room(store, plan: Plan) -> None:
+def see_to_room(store, plan: Plan, root: CoreFolder) -> None:
     """A Fault where all that is to be written may not find room."""
     if plan.steps:
-        room.see_to(store, sum(room.COMMAND + sum(len(field) for field in step if isinstance(field, bytes)) for step in plan.steps))
+        grants = room.grants_on(store)
+        grants[""] = grants["/"]
+        room.see_to(store, room.of_steps(plan.steps, dict(names_in(root)), grants))
+
+
+def names_in(folder: CoreFolder, path: str = ""):
+    """Each folder at and below a path, with the number of names in it; the root's path is empty."""
+    yield path, len(folder)
+    for name, entry in folder.items():
+        if isinstance(entry, CoreFolder):
+            yield from names_in(entry, f"{path}/{name}")
 
 
 def tell_lost_grants(store, plan: Plan) -> None:

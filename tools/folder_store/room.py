@@ -6,14 +6,49 @@ from folder_store.faults import Full, warn
 
 LIMIT = 268_435_456     # bytes of a store
 WARNED_AT = 80          # in 100
-COMMAND = 2048          # bytes, more than a command is likely to take beside a file's bytes
+COMMAND = 2048          # bytes, more than a command is likely to take beside a file's bytes and the links of a departure
+OWN_LINKS = 4           # of a folder whose keys are renewed, beside those into what is in it and those from holders
 REVOCATION, LINK = 323, 98      # bytes of one, and for each grant that stays on its folder (docs/FORMAT.md)
 BESIDE = 1 << 20        # bytes kept back beside revocations, for grants that were made without this front end
 
 
+def grants_on(store):
+    """How many grants stand on each folder, by the record of them."""
+    return collections.Counter(path for _, granted in store.holders.names.values() for path in granted)
+
+
+def of_steps(steps, inside, grants):
+    """More bytes than these steps of `put` are likely to take, where so many names and grants stand in and on each folder, by its path. What
+    is removed leaves the keys that led to it renewed, with a link for each grant on a folder above and for all that stays in these."""
+    inside, grants, needed = collections.Counter(inside), collections.Counter(grants), 0
+    for word, path, *fields in steps:
+        needed += COMMAND + sum(len(field) for field in fields if isinstance(field, bytes))
+        if word == "rm":
+            needed += LINK * sum(inside[folder] + grants[folder] + OWN_LINKS for folder in above(path))
+            inside[path.rpartition("/")[0]] -= 1
+        elif word == "rename":
+            for counts in (inside, grants):
+                shift(counts, path, f"{path.rpartition('/')[0]}/{fields[0]}")
+        else:
+            inside[path.rpartition("/")[0]] += 1
+    return needed
+
+
+def above(path):
+    """The paths of the folders that a path is in; the root's is empty."""
+    while path:
+        path = path.rpartition("/")[0]
+        yield path
+
+
+def shift(counts, old, new):
+    for path in [path for path in counts if path == old or path.startswith(old + "/")]:
+        counts[new + path[len(old):]] += counts.pop(path)
+
+
 def kept_back(store):
-    """What revoking every grant takes, one after another, by the record of grants."""
-    on_folders = collections.Counter(path for _, granted in store.holders.names.values() for path in granted)
+    """What revoking every grant takes, one after another."""
+    on_folders = grants_on(store)
     return BESIDE + sum(REVOCATION * count + LINK * count * (count - 1) // 2 for count in on_folders.values())
 
 

@@ -16,7 +16,7 @@ use Rattle.record_format.specs.Plain.{PlainPayload}
 use Rattle.record_format.specs.Spelling.{spell_payload}
 use Rattle.public_fold.specs.Journal.{Entry, Journal, nothing, stand_after}
 use Rattle.public_fold.specs.Journal.Entry.{Did, Made, Session}
-use Rattle.key_links.specs.Fresh.{piece}
+use Rattle.key_links.specs.Fresh.{made_version, piece}
 use Rattle.journal_bytes.specs.Attempts.{Course, begun_journal, course_then}
 use Rattle.journal_bytes.specs.Attempts.Event.{IsRefused, Enters, IsAbandoned, LosesEpoch, Reopens}
 use Rattle.journal_bytes.specs.Bytes.{batches_of, bodies_from, bodies_of, entry_body}
@@ -306,21 +306,21 @@ module _ (c : Course) (r : Request) (old : OwnerView) (was shows : Option (List 
 
 -- the writes that make a store are its header and those of its two trials
 pub fresh_trials : (drawn : List ℕ)
-    → fresh_writes drawn ≡ header_writes (piece drawn 0) ++ trial_writes (piece drawn 0) (all_trials (root_keys drawn) [])
+    → fresh_writes drawn ≡ header_writes (piece drawn 0) ++ trial_writes (piece drawn 0) (all_trials made_version (root_keys drawn) [])
 unfolding made_writes trial_writes trials all_trials batches_of bodies_of bodies_from log_writes
 fresh_trials drawn =
     let key = piece drawn 0 in
     let keys = root_keys drawn in
     let made = made_batches (root_payload key keys) in
     let begun : Journal = Session ∷ [] in
-    let last = log_writes key (batches_of key begun) (batch_in key (record { behind = begun; entry = Made keys }) ∷ []) in
+    let last = log_writes key (batches_of key begun) (batch_in key (record { behind = begun; entry = Made made_version keys }) ∷ []) in
     ap (λ (ws : List Write). header_writes key ++ ws)
-    (sym (journal_writes_are key [] (begun ++ Made keys ∷ []) made (sym (batches_are key keys)))
-    ∙ writes_both key [] begun (begun ++ Made keys ∷ []) (Session ∷ [], refl) (Made keys ∷ [], refl)
-    ∙ (λ i. entry_writes key [] Session i ++ entry_writes key begun (Made keys) i)
+    (sym (journal_writes_are key [] (begun ++ Made made_version keys ∷ []) made (sym (batches_are key keys)))
+    ∙ writes_both key [] begun (begun ++ Made made_version keys ∷ []) (Session ∷ [], refl) (Made made_version keys ∷ [], refl)
+    ∙ (λ i. entry_writes key [] Session i ++ entry_writes key begun (Made made_version keys) i)
     ∙ ap (λ (ws : List Write). log_writes key [] (batch_in key (record { behind = []; entry = Session }) ∷ []) ++ ws) (sym (append-nil last)))
 
-pub made_stands : (drawn : List ℕ) (limits : Limits) (o : OwnerView) → IsMade drawn limits o → StandsOn (made_course (root_keys drawn)) o
+pub made_stands : (drawn : List ℕ) (limits : Limits) (o : OwnerView) → IsMade drawn limits o → StandsOn (made_course made_version (root_keys drawn)) o
 unfolding made_course
 made_stands drawn limits o is = record { owner_is = is.owner; has_begun = is.journal.not_begun }
 

@@ -3,7 +3,7 @@ use Rattle.std.proofs.Common.{◌≡◌, ℕ, ◌+◌, Bool, true, false, cond, 
 use Rattle.std.proofs.lemmas.List.{length-append}
 use Rattle.cry_base.specs.Requests.{Request}
 use Rattle.public_fold.specs.Journal.{Entry, Journal, Stand, nothing, entry_step, keys_of, note_step, stand_then, stand_after}
-use Rattle.public_fold.specs.Journal.Entry.{Session, Made, Did}
+use Rattle.public_fold.specs.Journal.Entry.{Session, Made, Did, Upgraded}
 use Rattle.public_fold.specs.KeyStep.{KeyState, key_step, next_epoch, published, step_with}
 use Rattle.public_fold.proofs.Prefixes.{stand_after-append}
 use Rattle.journal_bytes.specs.Attempts.{Course}
@@ -33,9 +33,13 @@ pub epoch_command : (m : Journal) (r : Request) (keys : List (List ℕ)) → epo
 unfolding entry_step note_step key_step step_with published keys_of
 epoch_command m r keys = ap (λ (k : KeyState). k.epoch) (keys_more m (Did r keys))
 
-pub epoch_made : (m : Journal) (keys : List (List ℕ)) → epoch_in (m ++ Made keys ∷ []) ≡ epoch_in m
+pub epoch_made : (m : Journal) (version : ℕ) (keys : List (List ℕ)) → epoch_in (m ++ Made version keys ∷ []) ≡ epoch_in m
 unfolding entry_step note_step key_step step_with published keys_of
-epoch_made m keys = ap (λ (k : KeyState). k.epoch) (keys_more m (Made keys))
+epoch_made m version keys = ap (λ (k : KeyState). k.epoch) (keys_more m (Made version keys))
+
+pub epoch_upgraded : (m : Journal) (keys : List (List ℕ)) → epoch_in (m ++ Upgraded keys ∷ []) ≡ epoch_in m
+unfolding entry_step note_step key_step step_with published keys_of
+epoch_upgraded m keys = ap (λ (k : KeyState). k.epoch) (keys_more m (Upgraded keys))
 
 pub epoch_between : (m : Journal) (b : Bool) → epoch_in (between m b) ≡ epoch_in m + cond b 0 1
 epoch_between m true = ap epoch_in (append-nil m) ∙ omega arith

@@ -281,19 +281,19 @@ trials_apart c (now ∷ later) =
     apart-append (trials_at c now) (trials then later) (now_apart c.journal c.begun now) (trials_apart then later)
     (λ t u i j e. now_once c.journal c.begun now t u i (trials_ahead then later u j) e)
 
-pub all_apart : (keys : List (List ℕ)) (later : List Happening) → AreApart (all_trials keys later)
+pub all_apart : (version : ℕ) (keys : List (List ℕ)) (later : List Happening) → AreApart (all_trials version keys later)
 unfolding all_trials made_course
-all_apart keys later =
-    let m : Journal = Session ∷ Made keys ∷ [] in
+all_apart version keys later =
+    let m : Journal = Session ∷ Made version keys ∷ [] in
     let one : epoch_in (Session ∷ []) ≡ epoch_in [] + 1 = epoch_session [] in
-    let two : epoch_in m ≡ epoch_in (Session ∷ []) = epoch_made (Session ∷ []) keys in
+    let two : epoch_in m ≡ epoch_in (Session ∷ []) = epoch_made (Session ∷ []) version keys in
     let three : epoch_in (m ++ Session ∷ []) ≡ epoch_in m + 1 = epoch_session m in
-    let after : (u : Trial) → In u (trials (made_course keys) later) → epoch_in m + 4 ≤ rank u = λ u i.
-    let ahead = trials_ahead (made_course keys) later u i in
+    let after : (u : Trial) → In u (trials (made_course version keys) later) → epoch_in m + 4 ≤ rank u = λ u i.
+    let ahead = trials_ahead (made_course version keys) later u i in
     let low : epoch_in (m ++ Session ∷ []) + (2 + 1) ≤ rank u = ahead_low m false u ahead in omega (arith, low, three)
     in (
       λ u i e. ⊎_elim
-          (λ (s : u ≡ record { behind = Session ∷ []; entry = Made keys }).
+          (λ (s : u ≡ record { behind = Session ∷ []; entry = Made version keys }).
           let first : epoch_in (Session ∷ []) + 1 ≡ epoch_in m + 2 = e ∙ ap rank s in absurd (omega (arith, two, first)))
           (λ r.
           let low : epoch_in m + 4 ≤ rank u = after u r in
@@ -303,7 +303,7 @@ all_apart keys later =
         λ u i e.
             let low : epoch_in m + 4 ≤ rank u = after u i in
             let first : epoch_in m + 2 ≡ rank u = e in absurd (omega (arith, low, first)),
-        trials_apart (made_course keys) later,
+        trials_apart (made_course version keys) later,
       ),
     )
 

@@ -13,21 +13,20 @@ use Rattle.move_plan.specs.Change.{Change, change_of}
 use Rattle.cry_base.specs.Stepping.{effect}
 use Rattle.cry_base.specs.Store.{root_store}
 use Rattle.role_graph.specs.Edges.{edges}
-use Rattle.record_format.specs.Noted.Note.{Root}
 use Rattle.move_plan.specs.Noting.{note_of}
-use Rattle.public_fold.specs.Journal.{Journal, first_key, nothing, entry_step, keys_of, note_step, stand_after, store_of}
+use Rattle.public_fold.specs.Journal.{Journal, first_key, nothing, root_note, entry_step, keys_of, note_step, stand_after, store_of}
 use Rattle.public_fold.specs.Journal.Entry.{Session, Made, Did}
-use Rattle.public_fold.specs.KeyStep.{KeyState, content_of, contents_from, given, key_step, keys_then, link_of, links_from, next_epoch, next_serial, numbered, published, published_edges, renewed, step_with}
+use Rattle.public_fold.specs.KeyStep.{KeyState, content_of, contents_from, given, is_strict, key_step, keys_then, link_of, links_from, next_epoch, next_serial, numbered, published, published_edges, renewed, step_with}
 use Rattle.public_fold.specs.Records.{Content, Link, Piece, pieces_of}
-use Rattle.public_fold.specs.Valid.{IsValid}
+use Rattle.public_fold.specs.Valid.{IsValid, IsVersion}
 use Rattle.public_fold.proofs.Serials.{numbered-length}
 use Rattle.public_fold.proofs.SerialsKept.{journal_count}
 use Rattle.journal_bytes.specs.Attempts.{Course, begun_journal, course_then}
 use Rattle.journal_bytes.specs.Attempts.Event.{IsRefused, Enters, IsAbandoned, LosesEpoch, Ends, Reopens}
 use Rattle.journal_bytes.specs.Script.{answer, answer_with, due_end}
-use Rattle.journal_bytes.specs.WorkedBytes.{journal_bytes}
 use Rattle.journal_bytes.proofs.NextEntry.{between}
 use Rattle.journal_bytes.proofs.NextValid.{next_valid, session_valid}
+use Rattle.store_owner.proofs.MadeOwner.{made_valid}
 use Rattle.attempt_laws.specs.Happenings.{CanHappen, IsCourse, IsDrawnFor}
 use Rattle.attempt_laws.specs.Spent.{AContent, AKey, ALink, Differ, Spender, all_spenders, number_of, spenders_in}
 use Rattle.attempt_laws.specs.Trials.{Befalls, BeginsEpoch, Happening, Trial, all_trials, attempt_of, command_trial, course_after, course_behind, epoch_trial, held, made_course, trials, trials_at}
@@ -162,15 +161,16 @@ command_rises m r keys =
     let at = stand_after nothing m in
     let note = note_of at.store r [] in
     subst (λ k. Rises number_of (spenders_in (held at (Did r keys))) (next_serial at.keys) (next_serial k)) (sym (keys_more m (Did r keys)))
-    (step_rises at.keys (edges at.store) (change_of at.store note) (pieces_of note (effect at.store r (first_key keys))))
+    (step_rises at.keys (edges at.store) (change_of (is_strict at.keys) at.store note) (pieces_of note (effect at.store r (first_key keys))))
 
-made_rises : (m : Journal) (keys : List (List ℕ))
-    → Rises number_of (spenders_in (held (stand_after nothing m) (Made keys))) (next_in m) (next_in (m ++ Made keys ∷ []))
+made_rises : (m : Journal) (version : ℕ) (keys : List (List ℕ))
+    → Rises number_of (spenders_in (held (stand_after nothing m) (Made version keys))) (next_in m) (next_in (m ++ Made version keys ∷ []))
 unfolding held keys_of entry_step note_step
-made_rises m keys =
+made_rises m version keys =
     let at = stand_after nothing m in
-    subst (λ k. Rises number_of (spenders_in (held at (Made keys))) (next_serial at.keys) (next_serial k)) (sym (keys_more m (Made keys)))
-    (step_rises at.keys (edges at.store) (change_of at.store Root) (pieces_of Root root_store))
+    let root = root_note version in
+    subst (λ k. Rises number_of (spenders_in (held at (Made version keys))) (next_serial at.keys) (next_serial k)) (sym (keys_more m (Made version keys)))
+    (step_rises at.keys (edges at.store) (change_of (is_strict at.keys) at.store root) (pieces_of root root_store))
 
 -- the next epoch begins above all that was counted, and above all that a journal counted
 above : (k : KeyState) → k.count ≤ 4294967296 → next_serial k ≤ next_serial (next_epoch k)
@@ -328,21 +328,17 @@ module _ (limits : Limits) (store_low : limits.store_bytes ≤ most_store_bytes)
   course_valid c [] valid can = valid
   course_valid c (now ∷ later) valid can = course_valid (course_behind c now) later (valid_behind c.journal c.begun now valid can.0) can.1
 
-pub made_valid : (keys : List (List ℕ)) → length keys ≡ 5 → IsValid (Session ∷ Made keys ∷ [])
-unfolding journal_bytes
-made_valid keys five = ((five, tt), omega arith)
-
-pub all_differ : (limits : Limits) (keys : List (List ℕ)) (later : List Happening) → limits.store_bytes ≤ most_store_bytes
-    → limits.file_bytes ≤ most_file_bytes → length keys ≡ 5 → IsCourse limits (made_course keys) later
-    → Differ number_of (spent (all_trials keys later))
+pub all_differ : (limits : Limits) (version : ℕ) (keys : List (List ℕ)) (later : List Happening) → limits.store_bytes ≤ most_store_bytes
+    → limits.file_bytes ≤ most_file_bytes → IsVersion version → length keys ≡ 5 → IsCourse limits (made_course version keys) later
+    → Differ number_of (spent (all_trials version keys later))
 unfolding all_trials all_spenders attempt_of held spenders_in made_course
-all_differ limits keys later store_low files_low five can =
-    let m : Journal = Session ∷ Made keys ∷ [] in
-    let valid = made_valid keys five in
-    let rest = trials_rise limits store_low files_low (made_course keys) later valid can in
-    let made = spenders_in (held (stand_after nothing (Session ∷ [])) (Made keys)) in
-    let first : Rises number_of made (next_in (Session ∷ [])) (next_in m) = made_rises (Session ∷ []) keys in
+all_differ limits version keys later store_low files_low known five can =
+    let m : Journal = Session ∷ Made version keys ∷ [] in
+    let valid = made_valid version keys known five in
+    let rest = trials_rise limits store_low files_low (made_course version keys) later valid can in
+    let made = spenders_in (held (stand_after nothing (Session ∷ [])) (Made version keys)) in
+    let first : Rises number_of made (next_in (Session ∷ [])) (next_in m) = made_rises (Session ∷ []) version keys in
     let low = next_in (Session ∷ []) in
     let above = rises_to Spender number_of made low (next_in m) (low_in m false) (epoch_above m (count_low m valid)) first in
-    rising_differ Spender number_of (spent (all_trials keys later)) low rest.0
-    (rises-append Spender number_of made (spent (trials (made_course keys) later)) low (low_in m false) rest.0 above rest.1)
+    rising_differ Spender number_of (spent (all_trials version keys later)) low rest.0
+    (rises-append Spender number_of made (spent (trials (made_course version keys) later)) low (low_in m false) rest.0 above rest.1)

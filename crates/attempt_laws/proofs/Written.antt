@@ -9,7 +9,7 @@ use Rattle.commit_journal.specs.Laws.{batch_of, batches_from}
 use Rattle.commit_journal.specs.Standing.{last_tag}
 use Rattle.public_fold.specs.Journal.{Entry, Journal, Stand, entry_step, keys_of, note_step, nothing, stand_after, stand_then}
 use Rattle.public_fold.specs.KeyStep.{key_step, next_epoch, no_keys, published, step_with}
-use Rattle.public_fold.specs.Journal.Entry.{Session, Made, Did}
+use Rattle.public_fold.specs.Journal.Entry.{Session, Made, Did, Upgraded}
 use Rattle.journal_bytes.specs.Attempts.{Course, Event, attempts, attempts_at, begun_journal, command_attempt, course_then, epoch_attempt}
 use Rattle.journal_bytes.specs.Attempts.Event.{IsRefused, Enters, IsAbandoned, LosesEpoch, Ends, Reopens}
 use Rattle.journal_bytes.specs.Bytes.{batches_of, bodies_from, bodies_of, entry_body, keys_then}
@@ -17,7 +17,7 @@ use Rattle.journal_bytes.specs.Keys.{all_keys, owner_parts}
 use Rattle.journal_bytes.proofs.NextBatches.{batches_then, epoch_of}
 use Rattle.journal_bytes.proofs.NextEntry.{between}
 use Rattle.attempt_laws.specs.Trials.{Befalls, Happening, Trial, all_trials, attempt_of, batch_in, command_trial, course_behind, epoch_trial, held, made_course, trials, trials_at}
-use Rattle.attempt_laws.proofs.Epochs.{course, epoch_in, epoch_command, epoch_made, epoch_session}
+use Rattle.attempt_laws.proofs.Epochs.{course, epoch_in, epoch_command, epoch_made, epoch_session, epoch_upgraded}
 use Rattle.attempt_laws.proofs.Ranks.{all_apart, apart_same}
 
 -- ---- attempts
@@ -65,15 +65,15 @@ attempts_told c (event ∷ events) =
     ∙ ap (λ l. l ++ map attempt_of (trials (course_then c event) (map Befalls events))) (event_told c.journal c.begun event)
     ∙ sym (map-append (trials_at c (Befalls event)) (trials (course_then c event) (map Befalls events)))
 
-pub made_told : (keys : List (List ℕ)) (events : List Event) → map attempt_of (all_trials keys (map Befalls events))
+pub made_told : (version : ℕ) (keys : List (List ℕ)) (events : List Event) → map attempt_of (all_trials version keys (map Befalls events))
     ≡ record { epoch = 1; number = 1; holds = None }
-    ∷ record { epoch = 1; number = 2; holds = Some (entry_step (stand_after nothing (Session ∷ [])) (Made keys)) }
-    ∷ attempts (made_course keys) events
+    ∷ record { epoch = 1; number = 2; holds = Some (entry_step (stand_after nothing (Session ∷ [])) (Made version keys)) }
+    ∷ attempts (made_course version keys) events
 unfolding all_trials attempt_of held nothing no_keys keys_of stand_after stand_then entry_step note_step next_epoch key_step step_with published
-made_told keys events =
-    let step = entry_step (stand_after nothing (Session ∷ [])) (Made keys) in
+made_told version keys events =
+    let step = entry_step (stand_after nothing (Session ∷ [])) (Made version keys) in
     ap (λ l. record { epoch = 1; number = 1; holds = None } ∷ record { epoch = 1; number = 2; holds = Some step } ∷ l)
-    (sym (attempts_told (made_course keys) events))
+    (sym (attempts_told (made_course version keys) events))
 
 -- ---- batches
 
@@ -83,8 +83,9 @@ epochs_agree owner t = agree t.entry
   where
     agree : (entry : Entry) → (batch_in owner (record { behind = t.behind; entry = entry })).epoch ≡ epoch_in (t.behind ++ entry ∷ [])
     agree Session = sym (epoch_session t.behind)
-    agree (Made keys) = sym (epoch_made t.behind keys)
+    agree (Made version keys) = sym (epoch_made t.behind version keys)
     agree (Did r keys) = sym (epoch_command t.behind r keys)
+    agree (Upgraded keys) = sym (epoch_upgraded t.behind keys)
 
 pub numbers_agree : (owner : List ℕ) (t : Trial) → (batch_in owner t).number ≡ (attempt_of t).number
 unfolding batch_in attempt_of entry_body
@@ -92,8 +93,9 @@ numbers_agree owner t = agree t.entry
   where
     agree : (entry : Entry) → (batch_in owner (record { behind = t.behind; entry = entry })).number ≡ length t.behind + 1
     agree Session = refl
-    agree (Made keys) = refl
+    agree (Made version keys) = refl
     agree (Did r keys) = refl
+    agree (Upgraded keys) = refl
 
 -- a journal has a batch for each entry
 many_from : (keys : List KeyParts) (at : Stand) (number epoch : ℕ) (m : List Entry)
@@ -133,11 +135,11 @@ entered_is owner m entry =
 
 -- ---- two batches under one veil key
 
-module _ (owner : List ℕ) (keys : List (List ℕ)) (later : List Happening) (a b : Trial)
-    (i : In a (all_trials keys later)) (j : In b (all_trials keys later))
+module _ (owner : List ℕ) (version : ℕ) (keys : List (List ℕ)) (later : List Happening) (a b : Trial)
+    (i : In a (all_trials version keys later)) (j : In b (all_trials version keys later))
     (epochs : (batch_in owner a).epoch ≡ (batch_in owner b).epoch) (numbers : (batch_in owner a).number ≡ (batch_in owner b).number) where
   same_trial : a ≡ b
-  same_trial = apart_same (all_trials keys later) (all_apart keys later) a b i j
+  same_trial = apart_same (all_trials version keys later) (all_apart version keys later) a b i j
       (sym (epochs_agree owner a) ∙ epochs ∙ epochs_agree owner b, sym (numbers_agree owner a) ∙ numbers ∙ numbers_agree owner b)
 
   pub same_payload : ((batch_in owner a).payload ≡ (batch_in owner b).payload)

@@ -7,7 +7,7 @@ use Rattle.commit_journal.specs.Handing.{Write, log_writes}
 use Rattle.commit_journal.specs.Image.{Batch, masked_payload}
 use Rattle.commit_journal.specs.Laws.{batch_of}
 use Rattle.public_fold.specs.Journal.{Entry, Journal, Stand, nothing, entry_step, keys_of, stand_after}
-use Rattle.public_fold.specs.Journal.Entry.{Session, Made, Did}
+use Rattle.public_fold.specs.Journal.Entry.{Session, Made, Did, Upgraded}
 use Rattle.public_fold.specs.KeyStep.{Stepped}
 use Rattle.journal_bytes.specs.Attempts.{Attempt, Course, Event, begun_journal, course_then}
 use Rattle.journal_bytes.specs.Attempts.Event.{IsRefused, Enters, IsAbandoned, LosesEpoch, Ends, Reopens}
@@ -56,20 +56,22 @@ unfoldable pub course_after : Course → List Happening → Course
 course_after c [] = c
 course_after c (now ∷ later) = course_after (course_behind c now) later
 
--- the course of a store that was just made under these keys: the session that makes a store ends there
-unfoldable pub made_course : List (List ℕ) → Course
-made_course keys = record { journal = Session ∷ Made keys ∷ []; begun = false }
+-- the course of a store of this version that was just made under these keys: the session that makes a store ends there
+unfoldable pub made_course : ℕ → List (List ℕ) → Course
+made_course version keys = record { journal = Session ∷ Made version keys ∷ []; begun = false }
 
 -- the two batches of making a store, and all that is written to it then
-unfoldable pub all_trials : List (List ℕ) → List Happening → List Trial
-all_trials keys later =
-    record { behind = []; entry = Session } ∷ record { behind = Session ∷ []; entry = Made keys } ∷ trials (made_course keys) later
+unfoldable pub all_trials : ℕ → List (List ℕ) → List Happening → List Trial
+all_trials version keys later =
+    record { behind = []; entry = Session } ∷ record { behind = Session ∷ []; entry = Made version keys }
+    ∷ trials (made_course version keys) later
 
 -- the step that an entry's batch holds. An epoch's batch holds none
 unfoldable pub held : Stand → Entry → Option Stepped
 held at Session = None
-held at (Made keys) = Some (entry_step at (Made keys))
+held at (Made version keys) = Some (entry_step at (Made version keys))
 held at (Did request keys) = Some (entry_step at (Did request keys))
+held at (Upgraded keys) = Some (entry_step at (Upgraded keys))
 
 -- the attempt that a batch is
 unfoldable pub attempt_of : Trial → Attempt

@@ -14,7 +14,7 @@ ghost use Rattle.journal_bytes.specs.Attempts.Event.{Reopens};
 ghost use Rattle.journal_bytes.specs.Bytes.{batches_of, entry_body};
 ghost use Rattle.journal_bytes.specs.Keys.{all_keys};
 ghost use Rattle.commit_journal.specs.Placed.{Commands};
-ghost use Rattle.key_links.specs.Fresh.{piece};
+ghost use Rattle.key_links.specs.Fresh.{made_version, piece};
 ghost use Rattle.store_owner.specs.Applying.{Answers};
 ghost use Rattle.store_owner.specs.Making.{IsMade, fresh_writes, root_keys};
 ghost use Rattle.store_owner.specs.Opened.{IsFresh};
@@ -43,9 +43,9 @@ pub fn commits_are_attempts()
 /// batches of the two first trials.
 pub fn made_stores_begin_a_course()
     ensures writes { (drawn : List ℕ) →
-        fresh_writes drawn ≡ header_writes (piece drawn 0) ++ trial_writes (piece drawn 0) (all_trials (root_keys drawn) []) }
+        fresh_writes drawn ≡ header_writes (piece drawn 0) ++ trial_writes (piece drawn 0) (all_trials made_version (root_keys drawn) []) }
     ensures owner { (drawn : List ℕ) (limits : Limits) (o : OwnerView) → IsMade drawn limits o
-        → StandsOn (made_course (root_keys drawn)) o }
+        → StandsOn (made_course made_version (root_keys drawn)) o }
 {}
 
 /// Who opened a store for writing that stands for a course's journal stands on the course that goes on behind `Reopens`.

@@ -9,12 +9,12 @@ use Rattle.cry_base.proofs.Members.{In-append}
 use Rattle.move_plan.specs.Change.{change_of}
 use Rattle.move_plan.specs.Noting.{note_of}
 use Rattle.record_format.specs.Noted.{Note}
-use Rattle.record_format.specs.Noted.Note.{Root}
+use Rattle.record_format.specs.Noted.Note.{Upgrade}
 use Rattle.role_graph.specs.Edges.{edges}
 use Rattle.role_graph.specs.Roles.{role_id}
-use Rattle.public_fold.specs.Journal.{Entry, Journal, Stand, entry_step, first_key, keys_of, note_step, nothing, stand_after, stand_then}
-use Rattle.public_fold.specs.Journal.Entry.{Session, Made, Did}
-use Rattle.public_fold.specs.KeyStep.{KeyState, Stepped, key_step, newest, next_epoch, next_serial, no_keys}
+use Rattle.public_fold.specs.Journal.{Entry, Journal, Stand, entry_step, first_key, keys_of, note_step, nothing, root_note, stand_after, stand_then}
+use Rattle.public_fold.specs.Journal.Entry.{Session, Made, Did, Upgraded}
+use Rattle.public_fold.specs.KeyStep.{KeyState, Stepped, is_strict, key_step, newest, next_epoch, next_serial, no_keys}
 use Rattle.public_fold.specs.Records.{pieces_of}
 use Rattle.public_fold.specs.Valid.{IsValid}
 use Rattle.public_fold.proofs.AllFit.{journal_all_fit}
@@ -22,7 +22,7 @@ use Rattle.public_fold.proofs.Prefixes.{prefix_valid}
 use Rattle.journal_bytes.specs.Bytes as bytes
 use Rattle.journal_bytes.specs.Keys.{all_keys, bytes_in, drawn_by, entry_keys, key_bytes, keys_from, owner_parts, with_bytes}
 use Rattle.journal_bytes.proofs.Ascending.{Above, Ascends, all_below, drawn_found, step_between}
-use Rattle.journal_bytes.proofs.Counted.{HasSerial, IsFed, did_step, keys_after, made_step}
+use Rattle.journal_bytes.proofs.Counted.{HasSerial, IsFed, did_step, keys_after, made_step, upgraded_step}
 use Rattle.journal_bytes.proofs.Grown.{all_keys-append}
 use Rattle.journal_bytes.proofs.Walked.{newest_of}
 use Rattle.audit_laws.proofs.Steps.{longer, one_more}
@@ -69,11 +69,11 @@ step_keyed : (keys : List KeyParts) (at : Stand) (entry : Entry) (note : Note) (
     AreKeyed (bytes.keys_then keys at entry) (entry_step at entry).after
 unfolding bytes.keys_then entry_keys note_step
 step_keyed keys at entry note after is have fed q i =
-    let told : In q (key_step at.keys (edges at.store) (change_of at.store note) (pieces_of note after)).after.keys = subst (λ (s : Stepped). In q s.after.keys) is i in
+    let told : In q (key_step at.keys (edges at.store) (change_of (is_strict at.keys) at.store note) (pieces_of note after)).after.keys = subst (λ (s : Stepped). In q s.after.keys) is i in
     ⊎_elim
     (λ g. key_comes keys _ q (given_keyed (entry_step at entry).given (drawn_by entry) fed.many q (subst (λ (s : Stepped). In q s.given) (sym is) g)))
     (λ old. key_stays keys _ q (have q old))
-    (keys_after at.keys (edges at.store) (change_of at.store note) (pieces_of note after) q told)
+    (keys_after at.keys (edges at.store) (change_of (is_strict at.keys) at.store note) (pieces_of note after) q told)
 
 session_keyed : (keys : List KeyParts) (at : Stand) → AreKeyed keys at.keys → AreKeyed (bytes.keys_then keys at Session) (entry_step at Session).after
 unfolding bytes.keys_then entry_step next_epoch
@@ -81,8 +81,9 @@ session_keyed keys at have q i = key_stays keys _ q (have q i)
 
 pub keyed_then : (keys : List KeyParts) (at : Stand) (entry : Entry) → AreKeyed keys at.keys → IsFed at entry → AreKeyed (bytes.keys_then keys at entry) (entry_step at entry).after
 keyed_then keys at Session have fed = session_keyed keys at have
-keyed_then keys at (Made drawn) have fed = step_keyed keys at (Made drawn) Root root_store (made_step at drawn) have fed
+keyed_then keys at (Made version drawn) have fed = step_keyed keys at (Made version drawn) (root_note version) root_store (made_step at version drawn) have fed
 keyed_then keys at (Did r drawn) have fed = step_keyed keys at (Did r drawn) (note_of at.store r []) (effect at.store r (first_key drawn)) (did_step at r drawn) have fed
+keyed_then keys at (Upgraded drawn) have fed = step_keyed keys at (Upgraded drawn) Upgrade at.store (upgraded_step at drawn) have fed
 
 pub keyed_at_first : (owner : List ℕ) → AreKeyed (owner_parts owner ∷ []) nothing.keys
 unfolding owner_parts nothing no_keys role_id
@@ -141,12 +142,16 @@ record ComeNext (at : Stand) (keys : List KeyParts) : Type 0 where
 entry_next : (at : Stand) (entry : Entry) → ComeNext at (entry_keys at entry)
 unfolding entry_keys drawn_by entry_step note_step with_bytes
 entry_next at Session = record { apart = λ a b i j e. absurd i; above = λ key i. absurd i }
-entry_next at (Made drawn) =
-    let between = step_between at.keys (edges at.store) (change_of at.store Root) (pieces_of Root root_store) drawn in
+entry_next at (Made version drawn) =
+    let note = root_note version in
+    let between = step_between at.keys (edges at.store) (change_of (is_strict at.keys) at.store note) (pieces_of note root_store) drawn in
     record { apart = ascends_apart _ between.ascends; above = between.above }
 entry_next at (Did r drawn) =
     let note = note_of at.store r [] in
-    let between = step_between at.keys (edges at.store) (change_of at.store note) (pieces_of note (effect at.store r (first_key drawn))) drawn in
+    let between = step_between at.keys (edges at.store) (change_of (is_strict at.keys) at.store note) (pieces_of note (effect at.store r (first_key drawn))) drawn in
+    record { apart = ascends_apart _ between.ascends; above = between.above }
+entry_next at (Upgraded drawn) =
+    let between = step_between at.keys (edges at.store) (change_of (is_strict at.keys) at.store Upgrade) (pieces_of Upgrade at.store) drawn in
     record { apart = ascends_apart _ between.ascends; above = between.above }
 
 keys_of_one : (at : Stand) (entry : Entry) → keys_from at (entry ∷ []) ≡ entry_keys at entry
@@ -188,12 +193,14 @@ pub journal_apart : (owner : List ℕ) (m : Journal) → IsValid m → AreApart 
 journal_apart owner [] valid = absurd valid.0
 journal_apart owner (Session ∷ []) valid = absurd valid.0
 journal_apart owner (Session ∷ Session ∷ es) valid = absurd valid.0
-journal_apart owner (Session ∷ Made drawn ∷ es) valid =
-    apart_on owner (Session ∷ Made drawn ∷ []) es valid (omega arith)
-    (apart_with owner (Session ∷ []) (Made drawn) (session_keys owner) (session_apart owner))
+journal_apart owner (Session ∷ Made version drawn ∷ es) valid =
+    apart_on owner (Session ∷ Made version drawn ∷ []) es valid (omega arith)
+    (apart_with owner (Session ∷ []) (Made version drawn) (session_keys owner) (session_apart owner))
 journal_apart owner (Session ∷ Did r drawn ∷ es) valid = absurd valid.0
-journal_apart owner (Made drawn ∷ es) valid = absurd valid.0
+journal_apart owner (Session ∷ Upgraded drawn ∷ es) valid = absurd valid.0
+journal_apart owner (Made version drawn ∷ es) valid = absurd valid.0
 journal_apart owner (Did r drawn ∷ es) valid = absurd valid.0
+journal_apart owner (Upgraded drawn ∷ es) valid = absurd valid.0
 
 -- a key that is there has the bytes of its serial
 pub own_bytes : (owner : List ℕ) (m : Journal) → IsValid m → (key : KeyParts) → In key (all_keys owner m) → bytes_in (all_keys owner m) key.serial ≡ key.bytes

@@ -16,7 +16,7 @@ use Rattle.record_format.specs.Plain.{PlainContent}
 use Rattle.record_format.specs.Sizes.{content_size}
 use Rattle.role_graph.specs.Roles.{role_id}
 use Rattle.public_fold.specs.Journal.{Entry, Journal, Stand, entry_step, keys_of, nothing, stand_after, stand_then, steps_from, steps_of}
-use Rattle.public_fold.specs.Journal.Entry.{Session, Made, Did}
+use Rattle.public_fold.specs.Journal.Entry.{Session, Made, Did, Upgraded}
 use Rattle.public_fold.specs.KeyStep.{KeyState, Stepped}
 use Rattle.public_fold.specs.Records.{Content, Link, sealing_role, text_of}
 use Rattle.public_fold.specs.Valid.{IsValid}
@@ -108,8 +108,9 @@ step_links keys step batch at seal have p i =
 entry_links : (keys : List KeyParts) (at : Stand) (entry : Entry) (batch place : ℕ) → IsWell at entry → AreKeyed keys (entry_step at entry).after → (p : PlacedLink) → In p (body_links batch place (entry_body keys at entry)) → IsKeyedLink keys p.link
 unfolding entry_body body_links step_payload
 entry_links keys at Session batch place well have p i = absurd i
-entry_links keys at (Made drawn) batch place well have p i = step_links keys (entry_step at (Made drawn)) batch _ well.sealable have p i
+entry_links keys at (Made version drawn) batch place well have p i = step_links keys (entry_step at (Made version drawn)) batch _ well.sealable have p i
 entry_links keys at (Did r drawn) batch place well have p i = step_links keys (entry_step at (Did r drawn)) batch _ well.sealable have p i
+entry_links keys at (Upgraded drawn) batch place well have p i = step_links keys (entry_step at (Upgraded drawn)) batch _ well.sealable have p i
 
 -- ---- the contents in order
 
@@ -138,8 +139,9 @@ no_heads keys at batch = refl
 body_heads : (keys : List KeyParts) (at : Stand) (entry : Entry) (batch place : ℕ) → map head_of (body_contents batch place (entry_body keys at entry)) ≡ map (head_in keys batch) (entry_step at entry).contents
 unfolding entry_body body_contents step_payload
 body_heads keys at Session batch place = no_heads keys at batch
-body_heads keys at (Made drawn) batch place = placed_heads keys batch _ (entry_step at (Made drawn)).contents
+body_heads keys at (Made version drawn) batch place = placed_heads keys batch _ (entry_step at (Made version drawn)).contents
 body_heads keys at (Did r drawn) batch place = placed_heads keys batch _ (entry_step at (Did r drawn)).contents
+body_heads keys at (Upgraded drawn) batch place = placed_heads keys batch _ (entry_step at (Upgraded drawn)).contents
 
 same_heads : (keys more : List KeyParts) (batch : ℕ) (xs : List Content) → ((x : Content) → In x xs → IsKeyedContent keys x) → map (head_in keys batch) xs ≡ map (head_in (keys ++ more) batch) xs
 same_heads keys more batch [] each = refl

@@ -1,5 +1,5 @@
 -- Each entry of a valid journal seals its records under present keys, and texts of the forms that a reader tests.
-use Rattle.std.proofs.Common.{◌≡◌, ⊎_elim, ℕ, ◌≤◌, true, ◌==◌, List, [], ◌∷◌, ◌++◌, length, All, Option, None, Some, arith, append_assoc, length-append, refl, sym, ap, subst, ◌∙◌}
+use Rattle.std.proofs.Common.{◌≡◌, ⊎_elim, ℕ, ◌≤◌, true, false, ◌==◌, List, [], ◌∷◌, ◌++◌, length, All, Option, None, Some, arith, append_assoc, length-append, refl, sym, ap, subst, ◌∙◌}
 use Rattle.std.proofs.lemmas.Bool.{eqb-true}
 use Rattle.std.proofs.lemmas.List.Elements.{All-cons, All-head, All-nil, All-tail}
 use Rattle.cry_base.specs.Limits.{most_file_bytes}
@@ -13,19 +13,20 @@ use Rattle.log_visits.specs.Visiting.{is_file_text, is_folder_text}
 use Rattle.move_plan.specs.Change.{change_of}
 use Rattle.move_plan.specs.Noting.{note_of}
 use Rattle.record_format.specs.Noted.{Note}
-use Rattle.record_format.specs.Noted.Note.{Root, NewHolder, NewFolder, NewFile, Rewrite, NameFile, NameFolder, DropFile, DropFolder, ShiftFile, ShiftFolder, Give, Take}
-use Rattle.public_fold.specs.Journal.{Entry, Journal, Stand, entry_step, entry_store, first_key, note_step, nothing, stand_after, stand_then, store_of}
-use Rattle.public_fold.specs.Journal.Entry.{Session, Made, Did}
-use Rattle.public_fold.specs.KeyStep.{key_step, next_epoch, no_keys, published, step_with}
+use Rattle.record_format.specs.Noted.Note.{Root, NewHolder, NewFolder, NewFile, Rewrite, NameFile, NameFolder, DropFile, DropFolder, ShiftFile, ShiftFolder, Give, Take, StrictRoot, Upgrade}
+use Rattle.public_fold.specs.Journal.{Entry, Journal, Stand, entry_step, entry_store, first_key, note_step, nothing, root_note, keys_of, stand_after, stand_then, steps_of, store_of}
+use Rattle.public_fold.specs.Journal.Entry.{Session, Made, Did, Upgraded}
+use Rattle.public_fold.specs.KeyStep.{is_strict, key_step, next_epoch, no_keys, published, step_with}
+use Rattle.public_fold.specs.Keyed.{links_of}
 use Rattle.public_fold.specs.Records.{Content, Piece, file_piece, folder_piece, holder_piece, pieces_of}
 use Rattle.public_fold.specs.Valid.{FollowOn, IsNext, IsValid}
 use Rattle.public_fold.proofs.Keeping.{HasTree, journal_tree}
-use Rattle.public_fold.proofs.KeyMoves.{nothing_holds, root_moves}
+use Rattle.public_fold.proofs.KeyMoves.{journal_holds, nothing_holds, root_moves, upgrade_moves}
 use Rattle.public_fold.proofs.Prefixes.{prefix_valid, stand_after-append}
 use Rattle.journal_bytes.specs.Keys.{AreWhole, drawn_by}
 use Rattle.journal_bytes.specs.Sealing.{IsSealable}
 use Rattle.journal_bytes.proofs.PlainTexts.{IsPlain, file_form, folder_form, journal_plain}
-use Rattle.journal_bytes.proofs.Sealable.{command_sealable, content_from, fresh_once, pieces_due, step_sealable}
+use Rattle.journal_bytes.proofs.Sealable.{begun_sound, command_sealable, content_from, fresh_once, pieces_due, step_sealable}
 
 -- ---- the forms of texts
 
@@ -90,6 +91,8 @@ pieces_have_form (ShiftFile x g) t tree plain p i = absurd i
 pieces_have_form (ShiftFolder g q) t tree plain p i = absurd i
 pieces_have_form (Give h f) t tree plain p i = absurd i
 pieces_have_form (Take h f) t tree plain p i = absurd i
+pieces_have_form StrictRoot t tree plain p i = folder_has_form t tree plain 1 p i
+pieces_have_form Upgrade t tree plain p i = absurd i
 
 -- ---- one entry
 
@@ -140,21 +143,44 @@ did_well owner before r drawn valid more whole none =
       forms = step_forms at (note_of at.store r []) t tree plain;
     }
 
+-- an upgrade leaves the store as it is
+upgraded_store : (before : Journal) (drawn : List (List ℕ)) → store_of (before ++ Upgraded drawn ∷ []) ≡ (stand_after nothing before).store
+unfolding store_of
+upgraded_store before drawn = ap (λ (z : Stand). z.store) (stand_after-append nothing before (Upgraded drawn ∷ [])) ∙ one_upgraded (stand_after nothing before) drawn
+  where
+    one_upgraded : (at : Stand) (drawn : List (List ℕ)) → (stand_after at (Upgraded drawn ∷ [])).store ≡ at.store
+    one_upgraded at drawn = unfold stand_after stand_then entry_store in refl
+
+upgraded_well : (owner : List ℕ) (before : Journal) (drawn : List (List ℕ)) → IsValid before → IsValid (before ++ Upgraded drawn ∷ []) → AreWhole owner (before ++ Upgraded drawn ∷ [])
+    → IsWell (stand_after nothing before) (Upgraded drawn)
+unfolding entry_step note_step
+upgraded_well owner before drawn valid more whole =
+    let at = stand_after nothing before in
+    let strict = is_strict at.keys in
+    let m : Journal = before ++ Upgraded drawn ∷ [] in
+    let tree : HasTree at.store = subst HasTree (upgraded_store before drawn) (journal_tree m more) in
+    let plain : IsPlain at.store = subst IsPlain (upgraded_store before drawn) (journal_plain owner m more whole) in record {
+      sealable = step_sealable at.store at.store at.keys (change_of strict at.store Upgrade) (links_of (steps_of before)) (pieces_of Upgrade at.store)
+          (upgrade_moves strict at.store (begun_sound before valid.0)) (unfold store_of keys_of in journal_holds before valid) (fresh_once strict at.store Upgrade) (pieces_due Upgrade at.store);
+      forms = step_forms at Upgrade at.store tree plain;
+    }
+
 abbrev pub begun : Stand
 begun = stand_then nothing Session
 
-root_after : (drawn : List (List ℕ)) → store_of (Session ∷ Made drawn ∷ []) ≡ root_store
+root_after : (version : ℕ) (drawn : List (List ℕ)) → store_of (Session ∷ Made version drawn ∷ []) ≡ root_store
 unfolding store_of stand_after stand_then entry_store
-root_after drawn = refl
+root_after version drawn = refl
 
-made_well : (owner : List ℕ) (drawn : List (List ℕ)) → IsValid (Session ∷ Made drawn ∷ []) → AreWhole owner (Session ∷ Made drawn ∷ []) → IsWell begun (Made drawn)
-unfolding entry_step note_step stand_then entry_store nothing
-made_well owner drawn valid whole =
-    let m : Journal = Session ∷ Made drawn ∷ [] in
-    let tree : HasTree root_store = subst HasTree (root_after drawn) (journal_tree m valid) in
-    let plain : IsPlain root_store = subst IsPlain (root_after drawn) (journal_plain owner m valid whole) in record {
-      sealable = step_sealable no_store root_store (next_epoch no_keys) (change_of no_store Root) [] (pieces_of Root root_store) root_moves nothing_holds (fresh_once no_store Root) (pieces_due Root root_store);
-      forms = step_forms begun Root root_store tree plain;
+made_well : (owner : List ℕ) (version : ℕ) (drawn : List (List ℕ)) → IsValid (Session ∷ Made version drawn ∷ []) → AreWhole owner (Session ∷ Made version drawn ∷ []) → IsWell begun (Made version drawn)
+unfolding entry_step note_step stand_then entry_store nothing is_strict next_epoch no_keys
+made_well owner version drawn valid whole =
+    let m : Journal = Session ∷ Made version drawn ∷ [] in
+    let note = root_note version in
+    let tree : HasTree root_store = subst HasTree (root_after version drawn) (journal_tree m valid) in
+    let plain : IsPlain root_store = subst IsPlain (root_after version drawn) (journal_plain owner m valid whole) in record {
+      sealable = step_sealable no_store root_store (next_epoch no_keys) (change_of false no_store note) [] (pieces_of note root_store) (root_moves version) nothing_holds (fresh_once false no_store note) (pieces_due note root_store);
+      forms = step_forms begun note root_store tree plain;
     }
 
 -- ---- entries
@@ -190,8 +216,9 @@ then_after before entry = after_one (stand_after nothing before) entry ∙ sym (
 
 entry_well : (owner : List ℕ) (before : Journal) (entry : Entry) → IsValid before → IsValid (before ++ entry ∷ []) → AreWhole owner (before ++ entry ∷ []) → IsNext (stand_after nothing before) entry → IsWell (stand_after nothing before) entry
 entry_well owner before Session valid more whole next = session_well (stand_after nothing before)
-entry_well owner before (Made drawn) valid more whole next = absurd next
+entry_well owner before (Made version drawn) valid more whole next = absurd next
 entry_well owner before (Did r drawn) valid more whole next = did_well owner before r drawn valid more whole next.0
+entry_well owner before (Upgraded drawn) valid more whole next = upgraded_well owner before drawn valid more whole
 
 well_on : (owner : List ℕ) (before entries : Journal) → IsValid (before ++ entries) → AreWhole owner (before ++ entries) → 2 ≤ length before → FollowOn (stand_after nothing before) entries → AreWell (stand_after nothing before) entries
 well_on owner before [] valid whole two follow = tt
@@ -205,23 +232,25 @@ well_on owner before (entry ∷ entries) valid whole two follow =
           (well_on owner with entries all_valid all_whole (longer before entry two) (subst (λ z. FollowOn z entries) now follow.1)),
     )
 
-two_after : (drawn : List (List ℕ)) → stand_after nothing (Session ∷ Made drawn ∷ []) ≡ stand_then begun (Made drawn)
+two_after : (version : ℕ) (drawn : List (List ℕ)) → stand_after nothing (Session ∷ Made version drawn ∷ []) ≡ stand_then begun (Made version drawn)
 unfolding stand_after
-two_after drawn = refl
+two_after version drawn = refl
 
 pub journal_well : (owner : List ℕ) (m : Journal) → IsValid m → AreWhole owner m → AreWell nothing m
 journal_well owner [] valid whole = absurd valid.0
 journal_well owner (Session ∷ []) valid whole = absurd valid.0
 journal_well owner (Session ∷ Session ∷ es) valid whole = absurd valid.0
-journal_well owner (Session ∷ Made drawn ∷ es) valid whole =
-    let first : Journal = Session ∷ Made drawn ∷ [] in
+journal_well owner (Session ∷ Made version drawn ∷ es) valid whole =
+    let first : Journal = Session ∷ Made version drawn ∷ [] in
     let two : 2 ≤ length first = omega arith in (
       session_well nothing,
       (
-        made_well owner drawn (prefix_valid first es two valid) (whole_first owner first es whole),
-        subst (λ z. AreWell z es) (two_after drawn) (well_on owner first es valid whole two (subst (λ z. FollowOn z es) (sym (two_after drawn)) valid.0.1)),
+        made_well owner version drawn (prefix_valid first es two valid) (whole_first owner first es whole),
+        subst (λ z. AreWell z es) (two_after version drawn) (well_on owner first es valid whole two (subst (λ z. FollowOn z es) (sym (two_after version drawn)) valid.0.1)),
       ),
     )
 journal_well owner (Session ∷ Did r drawn ∷ es) valid whole = absurd valid.0
-journal_well owner (Made drawn ∷ es) valid whole = absurd valid.0
+journal_well owner (Session ∷ Upgraded drawn ∷ es) valid whole = absurd valid.0
+journal_well owner (Made version drawn ∷ es) valid whole = absurd valid.0
 journal_well owner (Did r drawn ∷ es) valid whole = absurd valid.0
+journal_well owner (Upgraded drawn ∷ es) valid whole = absurd valid.0

@@ -9,7 +9,7 @@ use Rattle.log_visits.specs.Judging.{Failure, who_of}
 use Rattle.public_fold.specs.Journal.{Journal, store_of}
 use Rattle.reader_laws.specs.Reading.{if_known}
 use Rattle.role_graph.specs.Rights.{Who}
-use Rattle.secrecy_laws.specs.Sights.{IsFairlySeen}
+use Rattle.secrecy_laws.specs.Sights.{IsFairlySeen, IsStrictlySeen}
 use Rattle.trail_audit.specs.Derived.{PlainSeen, plain_seen, seen_of_sight}
 use Rattle.cry_base.specs.declared.client.Seen.{Seen}
 
@@ -25,6 +25,11 @@ audit_answer m bundle = if_known (store_of m) bundle (Ok (audit_of_journal m (wh
 -- each of them was shown to the holder when it was written, or a later gain for the holder opened it
 abbrev pub AreFairlySeen : Journal → ℕ → List PlainSeen → Type 0
 AreFairlySeen m h shown = (s : PlainSeen) → In s shown → (x : Sight) × IsFairlySeen m h x × (s ≡ seen_of_sight x)
+
+-- since it was written each of them was shown to the holder at some moment, or the holder derived it before the store came to have
+-- version 2
+abbrev pub AreStrictlySeen : Journal → ℕ → List PlainSeen → Type 0
+AreStrictlySeen m h shown = (s : PlainSeen) → In s shown → (x : Sight) × IsStrictlySeen m h x × (s ≡ seen_of_sight x)
 
 -- what an answer shows, without the room beside the bytes
 abbrev pub seen_items : Listed Seen → List PlainSeen

@@ -1,5 +1,5 @@
 //! Laws of what audits answer of bytes that stand for a journal.
-ghost use Rattle.std.specs.Prelude.{List, Ok, Err, Result, ℕ};
+ghost use Rattle.std.specs.Prelude.{◌≡◌, List, Ok, Err, Result, ℕ};
 ghost use Rattle.commit_journal.specs.Answering.{WrongKey};
 ghost use Rattle.cry_base.specs.Listed.{Listed};
 ghost use Rattle.cry_base.specs.declared.client.Bundle.{Bundle};
@@ -7,12 +7,12 @@ ghost use Rattle.cry_base.specs.declared.ids.HolderId.{HolderId};
 ghost use Rattle.log_visits.specs.Answering.{AnswersAs};
 ghost use Rattle.log_visits.specs.Judging.{Failure, OfBytes};
 ghost use Rattle.log_visits.specs.declared.fault.ClientFault.{ClientFault};
-ghost use Rattle.public_fold.specs.Journal.{Journal};
+ghost use Rattle.public_fold.specs.Journal.{Journal, keys_of};
 ghost use Rattle.journal_bytes.specs.Journals.{IsHonestFor, StandsForJournal, published_journal};
 ghost use Rattle.reader_laws.specs.Reading.{IsRightFor, IsWrongFor};
 ghost use Rattle.trail_audit.specs.Derived.{MayAnswer, PlainSeen};
 ghost use Rattle.cry_base.specs.declared.client.Seen.{Seen};
-ghost use Rattle.audit_laws.specs.Audited.{AreFairlySeen, audit_answer, seen_items};
+ghost use Rattle.audit_laws.specs.Audited.{AreFairlySeen, AreStrictlySeen, audit_answer, seen_items};
 
 /// Law: of bytes that stand for a journal, with an honest last slot, an audit with a right key answers exactly what the history of
 /// the journal that they publish derives from that key: each name and file, as it was written, in the order of their batches. It
@@ -37,4 +37,16 @@ pub fn audits_show_what_was_shown_or_gained()
         → IsRightFor owner (published_journal owner bytes m) (Bundle.Holder h key)
         → MayAnswer (Bundle.Holder h key) bytes (Ok answer)
         → AreFairlySeen (published_journal owner bytes m) h.0 (seen_items answer) }
+{}
+
+/// Law: each name and file that an audit of bytes of a store of version 2 shows a holder was shown to the holder at some moment, from its
+/// writing on; or, in a store that came to have that version, the holder derived it before. So what left a folder is closed to whoever
+/// comes to read the folder later.
+pub fn audits_of_strict_stores_show_what_was_shown()
+    ensures { (owner : List ℕ) (m : Journal) (bytes : List ℕ) (h : HolderId) (key : List ℕ) (answer : Listed Seen)
+        → StandsForJournal owner m bytes → IsHonestFor owner bytes m
+        → IsRightFor owner (published_journal owner bytes m) (Bundle.Holder h key)
+        → (keys_of (published_journal owner bytes m)).version ≡ 2
+        → MayAnswer (Bundle.Holder h key) bytes (Ok answer)
+        → AreStrictlySeen (published_journal owner bytes m) h.0 (seen_items answer) }
 {}

@@ -20,7 +20,7 @@ const NEW_HOLDER: [u8; 37] = [
     0xab, 0xab, 0xab,
 ];
 
-const NOTES: [(Note, &[u8]); 13] = [
+const NOTES: [(Note, &[u8]); 15] = [
     (Note::Root, &[1]),
     (
         Note::NewHolder {
@@ -76,6 +76,8 @@ const NOTES: [(Note, &[u8]); 13] = [
         },
         &[13, 0, 0, 0, 6, 0, 0, 0, 5],
     ),
+    (Note::StrictRoot, &[14]),
+    (Note::Upgrade, &[15]),
 ];
 
 /// The note that is read from these bytes and two counts of no records.

@@ -4,7 +4,7 @@ use Rattle.std.proofs.Common.{refl, ◌≡◌, ⊎_elim, inl, inr, ℕ, List, []
 use Rattle.std.specs.Prelude.{◌⊎◌}
 use Rattle.audit_laws.specs.Audited.{audit_answer, seen_items}
 use Rattle.audit_laws.proofs.Answered.{audit_answered, audit_refused}
-use Rattle.audit_laws.proofs.Fair.{answer_fair}
+use Rattle.audit_laws.proofs.Fair.{answer_fair, answer_strict}
 use Rattle.commit_journal.specs.Answering.{NotAStore, WrongKey, Damaged, Tampered}
 use Rattle.cry_base.specs.Listed.{Listed}
 use Rattle.cry_base.specs.declared.client.Bundle.{Bundle}
@@ -83,6 +83,7 @@ audit_sound = record {
         (λ result may. audit_refused owner m image bundle result stands honest wrong may))
         answered;
     fair = λ owner m h key seen stands is. answer_fair owner m image h key seen stands is;
+    strict = λ owner m h key seen stands two is. answer_strict owner m image h key seen stands two is;
   };
   written = λ status typed image before after. as_written AuditGives status typed image before after AreSightsOf
       (λ owner m bundle are valid whole has. written_so owner m image bundle are valid whole has);

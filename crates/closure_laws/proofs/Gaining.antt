@@ -13,7 +13,7 @@ use Rattle.role_graph.specs.Rights.{IsShown, IsOpen, shown, node_allowed}
 use Rattle.role_graph.specs.Rights.Who.{TheHolder}
 use Rattle.role_graph.proofs.Granting.{nat_tells, shown_told, open_told}
 use Rattle.public_fold.specs.Journal.{Stand, Entry, stand_then}
-use Rattle.public_fold.specs.Journal.Entry.{Session, Made, Did}
+use Rattle.public_fold.specs.Journal.Entry.{Session, Made, Did, Upgraded}
 use Rattle.closure_laws.specs.History.{Published, trails, Derives, derived}
 use Rattle.closure_laws.specs.Gains.{GivesGrant, IsGain, gives_grant, is_gained_node, gains}
 
@@ -62,7 +62,8 @@ grant_told (Revoke holder path) h = nothing_told
 pub gains_told : (at : Stand) (entry : Entry) (h : ℕ) → IsTrue (gains at entry h) ↔ IsGain at entry h
 unfolding gains
 gains_told at Session h = nothing_told
-gains_told at (Made keys) h = nothing_told
+gains_told at (Made version keys) h = nothing_told
+gains_told at (Upgraded keys) h = nothing_told
 gains_told at (Did request keys) h =
     let after = (stand_then at (Did request keys)).store in
     let some = In-any Node (is_gained_node at.store after h) (λ node. (IsShown after (TheHolder h) node × ¬ IsShown at.store (TheHolder h) node) ⊎ (IsOpen after (TheHolder h) node × ¬ IsOpen at.store (TheHolder h) node)) (gained_told at.store after h) (nodes_of at.store) in

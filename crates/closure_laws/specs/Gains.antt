@@ -10,7 +10,7 @@ use Rattle.role_graph.specs.Rights.{IsShown, IsOpen, shown, node_allowed}
 use Rattle.role_graph.specs.Rights.Who.{TheHolder}
 use Rattle.public_fold.specs.Records.{Content}
 use Rattle.public_fold.specs.Journal.{Entry, Stand, nothing, entry_step, stand_then, stand_after}
-use Rattle.public_fold.specs.Journal.Entry.{Session, Made, Did}
+use Rattle.public_fold.specs.Journal.Entry.{Session, Made, Did, Upgraded}
 
 -- the content is written by this entry of the journal, which comes after the entries before
 abbrev pub IsWritten : List Entry → Entry → Content → Type 0
@@ -36,7 +36,8 @@ IsGainedNode before after h node =
 -- the entry gives the holder a grant, or shows or allows a node that stood before
 abbrev pub IsGain : Stand → Entry → ℕ → Type 0
 IsGain at Session h = ⊥
-IsGain at (Made keys) h = ⊥
+IsGain at (Made version keys) h = ⊥
+IsGain at (Upgraded keys) h = ⊥
 IsGain at (Did request keys) h = GivesGrant request h
     ⊎ ((node : Node) × IsGainedNode at.store (stand_then at (Did request keys)).store h node)
 
@@ -52,7 +53,8 @@ is_gained_node before after h node =
 
 unfoldable pub gains : Stand → Entry → ℕ → Bool
 gains at Session h = false
-gains at (Made keys) h = false
+gains at (Made version keys) h = false
+gains at (Upgraded keys) h = false
 gains at (Did request keys) h = gives_grant request h
     || list_any (is_gained_node at.store (stand_then at (Did request keys)).store h) (nodes_of at.store)
 

@@ -1,11 +1,13 @@
 //! Worked rows of histories, each computed by the checker from the definitions.
 ghost use Rattle.std.specs.Prelude.{◌≡◌, [], ◌∷◌, ◌++◌, codes, true, false, map};
-ghost use Rattle.cry_base.specs.Requests.Request.{Relocate, MakeFolder};
+ghost use Rattle.cry_base.specs.Requests.Request.{AddHolder, Grant, MakeFolder, Relocate, WriteFile};
 ghost use Rattle.cry_base.specs.Texts.{ended_lines};
 ghost use Rattle.role_graph.specs.Rights.Who.{TheOwner, TheHolder};
 ghost use Rattle.public_fold.specs.Journal.{nothing};
+ghost use Rattle.public_fold.specs.Journal.Entry.{Session};
 ghost use Rattle.public_fold.specs.WorkedSteps.{rewriting, granting, revoking, writing_again, renaming_again, moving_away};
-ghost use Rattle.public_fold.specs.WorkedSteps.{does, dropping, making_again};
+ghost use Rattle.public_fold.specs.WorkedSteps.{does, dropping, fresh, making_again};
+ghost use Rattle.public_fold.specs.WorkedSteps.{departing_after_it, departing_strictly, moving_strictly};
 ghost use Rattle.closure_laws.specs.Gains.{gains_from};
 ghost use Rattle.closure_laws.specs.Invariants.{invariants_hold};
 ghost use Rattle.closure_laws.specs.Secrecy.{keeps_secret};
@@ -54,6 +56,36 @@ pub fn move_away_from_a_grant()
         ≡ ended_lines (codes "folder 2 1 " ∷ codes "folder 4 2 s" ∷ codes "folder 6 4 d" ∷ codes "file 7 1 f 01" ∷ []) }
 {}
 
+/// In a store of version 1 a file that left a folder stays readable for whoever is granted the folder later.
+#[tactic(auto, unfolding(crate::specs::WorkedHistories::histories))]
+pub fn lazy_departure()
+    ensures { spell_seen (seen (fresh ++ (Session ∷ does 5 (MakeFolder (codes "/a")) ∷ does 5 (MakeFolder (codes "/b"))
+        ∷ does 1 (WriteFile (codes "/a/x") (0 ∷ [])) ∷ does 0 (Relocate (codes "/a/x") (codes "/b")) ∷ does 1 AddHolder
+        ∷ does 0 (Grant 1 (codes "/a")) ∷ [])) (TheHolder 1))
+        ≡ ended_lines (codes "folder 2 1 " ∷ codes "folder 4 2 a" ∷ codes "file 6 1 x 00" ∷ []) }
+{}
+
+/// In one of version 2 it is closed to them, and stays open to whoever derived it before.
+#[tactic(auto, unfolding(crate::specs::WorkedHistories::histories))]
+pub fn strict_departure()
+    ensures later_holder { spell_seen (seen departing_strictly (TheHolder 1))
+        ≡ ended_lines (codes "folder 2 1 " ∷ codes "folder 4 2 a" ∷ []) }
+    ensures owner { spell_seen (seen departing_strictly TheOwner)
+        ≡ ended_lines (codes "folder 2 1 " ∷ codes "folder 4 2 a" ∷ codes "folder 5 3 b" ∷ codes "file 6 1 x 00" ∷ []) }
+    ensures earlier_holder { spell_seen (seen moving_strictly (TheHolder 1))
+        ≡ ended_lines (codes "folder 2 1 " ∷ codes "folder 4 2 s" ∷ codes "folder 6 4 d" ∷ codes "file 7 1 f 01" ∷ []) }
+{}
+
+/// An upgrade publishes no name and no file, and what was derived before it stays so.
+#[tactic(auto, unfolding(crate::specs::WorkedHistories::histories))]
+pub fn departure_after_an_upgrade()
+    ensures holder { spell_seen (seen departing_after_it (TheHolder 1))
+        ≡ ended_lines (codes "folder 2 1 " ∷ codes "folder 4 2 a" ∷ codes "file 5 1 x 00ff" ∷ []) }
+    ensures owner { spell_seen (seen departing_after_it TheOwner)
+        ≡ ended_lines (codes "folder 2 1 " ∷ codes "folder 4 2 a" ∷ codes "file 5 1 x 00ff" ∷ codes "folder 11 3 b" ∷ codes "file 13 1 x 02"
+        ∷ []) }
+{}
+
 /// A grant is a gain for its holder alone, and so is a move into what is granted; a new folder there is none.
 #[tactic(auto, unfolding(crate::specs::WorkedHistories::histories))]
 pub fn gains_of_a_grant()
@@ -74,12 +106,15 @@ pub fn worked_journals_keep_secrets()
     ensures made { map (keeps_secret making_again) (1 ∷ []) ≡ true ∷ [] }
     ensures gained { map (keeps_secret (granting
         ++ (does 5 (MakeFolder (codes "/b")) ∷ does 0 (Relocate (codes "/b") (codes "/a")) ∷ []))) (1 ∷ []) ≡ true ∷ [] }
+    ensures moved_strictly { map (keeps_secret moving_strictly) (1 ∷ []) ≡ true ∷ [] }
+    ensures upgraded { map (keeps_secret departing_after_it) (1 ∷ []) ≡ true ∷ [] }
 {}
 
 /// After each entry of the worked journals what is dirty is so with all behind it, each edge has a link between present
 /// keys, and no link leaves a dirty key.
 #[tactic(auto, unfolding(crate::specs::WorkedHistories::histories))]
 pub fn worked_journals_keep_their_keys()
-    ensures { map invariants_hold (rewriting ∷ writing_again ∷ renaming_again ∷ moving_away ∷ making_again ∷ dropping ∷ []) ≡ true ∷ true
+    ensures lazy { map invariants_hold (rewriting ∷ writing_again ∷ renaming_again ∷ moving_away ∷ making_again ∷ dropping ∷ []) ≡ true ∷ true
         ∷ true ∷ true ∷ true ∷ true ∷ [] }
+    ensures strict { map invariants_hold (moving_strictly ∷ departing_strictly ∷ departing_after_it ∷ []) ≡ true ∷ true ∷ true ∷ [] }
 {}

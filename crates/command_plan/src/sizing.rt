@@ -61,7 +61,7 @@ fn note_len(note: &Note) -> u64
     ensures short { result < 38 }
 {
     match note {
-        Note::Root => 1,
+        Note::Root | Note::StrictRoot | Note::Upgrade => 1,
         Note::NewHolder { .. } => 37,
         Note::Rewrite { .. }
         | Note::NameFile { .. }

@@ -40,7 +40,7 @@ const INPUT: Row = Row {
 const RANDOM: Row = Row {
     failing: Failing::Random,
     status: Status::RandomFault,
-    script_calls: 11,
+    script_calls: 17,
     make_calls: 3,
     picks: 8,
 };

@@ -24,7 +24,7 @@ use Rattle.handed_laws.proofs.Unmasked.{kept_now}
 
 made_valid : (keys : List (List ℕ)) → length keys ≡ 5 → IsValid (made_with keys)
 unfolding journal_bytes
-made_valid keys five = ((five, tt), omega arith)
+made_valid keys five = ((five, tt, inr refl), omega arith)
 
 -- what a script reached
 filled_by : (status : Status) (seed count : ℕ) (key : List ℕ) (m : Journal) (seen : Seen) (may_leave : List ℕ → Type 0) (KeepsTo : Journal → Type 0) (before after : Option (List ℕ))

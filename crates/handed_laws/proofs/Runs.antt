@@ -17,7 +17,7 @@ use Rattle.journal_bytes.specs.Keys.{AreWhole, drawn_by}
 use Rattle.journal_bytes.specs.Script.{answer, answer_with, due_end, journal_then, opened, script_going}
 use Rattle.journal_bytes.proofs.NextValid.{next_valid, next_whole}
 use Rattle.public_fold.specs.Journal.{Entry, Journal, nothing, stand_after, store_of}
-use Rattle.public_fold.specs.Journal.Entry.{Did, Made, Session}
+use Rattle.public_fold.specs.Journal.Entry.{Did, Made, Session, Upgraded}
 use Rattle.public_fold.specs.Valid.{BeginsWell, IsValid}
 use Rattle.public_fold.proofs.Prefixes.{prefix_valid}
 use Rattle.store_owner.specs.Drawing.{joined}
@@ -29,10 +29,12 @@ two_at_least : (m : Journal) → BeginsWell m → 2 ≤ length m
 two_at_least [] begins = absurd begins
 two_at_least (Session ∷ []) begins = absurd begins
 two_at_least (Session ∷ Session ∷ entries) begins = absurd begins
-two_at_least (Session ∷ Made keys ∷ entries) begins = omega arith
+two_at_least (Session ∷ Made version keys ∷ entries) begins = omega arith
 two_at_least (Session ∷ Did request keys ∷ entries) begins = absurd begins
-two_at_least (Made keys ∷ entries) begins = absurd begins
+two_at_least (Session ∷ Upgraded keys ∷ entries) begins = absurd begins
+two_at_least (Made version keys ∷ entries) begins = absurd begins
 two_at_least (Did request keys ∷ entries) begins = absurd begins
+two_at_least (Upgraded keys ∷ entries) begins = absurd begins
 
 all_front : {X : Type 0} (P : X → Type 0) (xs ys : List X) → All P (xs ++ ys) → All P xs
 all_front P [] ys all = All-nil P

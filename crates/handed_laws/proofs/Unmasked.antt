@@ -14,6 +14,7 @@ use Rattle.journal_bytes.specs.Bytes.{batches_of}
 use Rattle.journal_bytes.specs.Journals.{HoldsBetween, ShowsJournal, StandsForJournal}
 use Rattle.journal_bytes.proofs.Grown.{batches_grow, journal_recovered}
 use Rattle.public_fold.specs.Journal.{Journal}
+use Rattle.secrecy_laws.proofs.Departed.{keeps_departures}
 use Rattle.secrecy_laws.proofs.Secrets.{keeps_secret, opens_by_gain}
 use Rattle.stop_laws.specs.Runs.{CallOver, IsLeft, Runs, WasShown}
 use Rattle.stop_laws.specs.Runs.CallOver.{ByOther, ByOwner}
@@ -34,6 +35,7 @@ kept_by key s bytes j stands has = record {
   has = has;
   secret = λ h. keeps_secret j stands.valid h;
   gained = λ h. opens_by_gain j stands.valid h;
+  departed = λ two h. keeps_departures j stands.valid two h;
 }
 
 -- of what is left now

@@ -15,10 +15,11 @@ use Rattle.cry_base.specs.Sets.{In}
 use Rattle.cry_io.specs.Stops.{Torn}
 use Rattle.cry_io.specs.declared.disk.Disk as disk
 use Rattle.closure_laws.specs.Secrecy.{KeepsSecret}
+use Rattle.secrecy_laws.specs.Departures.{KeepsDepartures}
 use Rattle.secrecy_laws.specs.Revocation.{OpensByGain}
 use Rattle.journal_bytes.specs.Bytes.{batches_of}
 use Rattle.journal_bytes.specs.Journals.{StandsForJournal}
-use Rattle.public_fold.specs.Journal.{Journal}
+use Rattle.public_fold.specs.Journal.{Journal, keys_of}
 use Rattle.store_owner.specs.Published.{published_batches}
 use Rattle.store_owner.specs.Stopping.{journal_writes}
 use Rattle.stop_laws.specs.Runs.{CallOver}
@@ -70,13 +71,15 @@ CallUnveils disks key before after (ByOwner run) x s =
 CallUnveils disks key before after (ByOther call) x s = s ≡ x
 
 -- What is left in the end stands for a journal with all batches that a list published, and from no holder's key more can be derived of
--- what that journal's batches hold, all of them unmasked, than was written in the holder's sight or a later gain opened.
+-- what that journal's batches hold, all of them unmasked, than was written in the holder's sight or a later gain opened; nor, in a store
+-- of version 2, than came to be in the holder's sight since, or was derived before the store had that version.
 pub record KeepsUnveiled (key s bytes : List ℕ) : Type 0 where
   pub journal : Journal
   pub stands_for : StandsForJournal key journal bytes
   pub has : IsPrefix (published_batches key s) (batches_of key journal)
   pub secret : (h : ℕ) → KeepsSecret journal h
   pub gained : (h : ℕ) → OpensByGain journal h
+  pub departed : (keys_of journal).version ≡ 2 → (h : ℕ) → KeepsDepartures journal h
 
 -- From the moment on at which the store of a script stood, on a disk that showed x, for m: so it is with each list that is shown then, up
 -- to a journal that begins with m; and what a stop leaves then or later has all that such a list published.

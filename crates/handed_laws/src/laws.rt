@@ -27,7 +27,8 @@ pub fn calls_unveil_what_they_publish<D: Disk>(start: &D, before: &D, after: &D)
 
 /// Law: over every list of calls and stops, whatever is left in the end stands for a journal with all batches that any list published which
 /// the disk showed at any moment. By the law before these are all whose veil keys were handed over; and of that journal no holder derives
-/// more than revocation secrecy allows. So a batch that was handed over and given up, behind a stop or a fault, stays masked for good.
+/// more than revocation secrecy allows, nor, in a store of version 2, than strict departures do. So a batch that was handed over and given
+/// up, behind a stop or a fault, stays masked for good.
 pub fn unveiled_batches_keep_secrets<D: Disk>(start: &D, before: &D, after: &D, next: &D, last: &D)
     ensures ends { (key : List ℕ) (m1 m2 : Journal) → HoldsBetween key m1 m2 (D.shown start.now) (D.may_leave start.now) →
         StaysPublished key (D.shown start.now) (D.may_leave start.now) →

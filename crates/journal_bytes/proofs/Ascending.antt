@@ -15,14 +15,14 @@ use Rattle.role_graph.specs.Roles.{role_id}
 use Rattle.move_plan.specs.Change.{Change, change_of}
 use Rattle.move_plan.specs.Fitting.{fits}
 use Rattle.record_format.specs.Noted.{Note}
-use Rattle.record_format.specs.Noted.Note.{Root}
+use Rattle.record_format.specs.Noted.Note.{Upgrade}
 use Rattle.move_plan.specs.Noting.{note_of}
 use Rattle.public_fold.specs.Records.{Piece, pieces_of}
-use Rattle.public_fold.specs.KeyStep.{KeyState, no_keys, next_epoch, next_serial, numbered, given, renewed, published, step_with, key_step}
-use Rattle.public_fold.specs.Journal.{Entry, Journal, Stand, nothing, first_key, note_step, entry_step, stand_then, stand_after, keys_of}
+use Rattle.public_fold.specs.KeyStep.{KeyState, no_keys, next_epoch, next_serial, numbered, given, renewed, published, step_with, key_step, is_strict}
+use Rattle.public_fold.specs.Journal.{Entry, Journal, Stand, nothing, first_key, note_step, entry_step, stand_then, stand_after, keys_of, root_note}
 use Rattle.public_fold.specs.Valid.{BeginsWell, IsValid}
 use Rattle.public_fold.proofs.AllFit.{journal_all_fit}
-use Rattle.public_fold.specs.Journal.Entry.{Session, Made, Did}
+use Rattle.public_fold.specs.Journal.Entry.{Session, Made, Did, Upgraded}
 use Rattle.public_fold.specs.StandFits.{has_count, note_fits, entry_fits, all_fit}
 use Rattle.public_fold.proofs.Serials.{keys_between}
 use Rattle.journal_bytes.specs.Keys.{drawn_by, with_bytes, entry_keys, keys_from, owner_parts, all_keys, bytes_of, bytes_in, key_bytes}
@@ -119,10 +119,10 @@ unfolding next_serial
 epoch_first k begun = omega arith
 
 -- a note that fits: an epoch was begun, and the count is small after it
-note_told : (at : Stand) (note : Note) (test : Bool) → IsTrue (nat_lt 0 at.keys.epoch && (fits at.store note && test)) → (1 ≤ at.keys.epoch) × IsTrue test
+note_told : (at : Stand) (note : Note) (test : Bool) → IsTrue (nat_lt 0 at.keys.epoch && (fits (is_strict at.keys) at.store note && test)) → (1 ≤ at.keys.epoch) × IsTrue test
 note_told at note test fit =
-    let one = and_parts (nat_lt 0 at.keys.epoch) (fits at.store note && test) fit in
-    let two = and_parts (fits at.store note) test one.1 in
+    let one = and_parts (nat_lt 0 at.keys.epoch) (fits (is_strict at.keys) at.store note && test) fit in
+    let two = and_parts (fits (is_strict at.keys) at.store note) test one.1 in
     let begun : IsTrue (nat_lt 0 at.keys.epoch) = one.0 in
     ((let early : 1 ≤ at.keys.epoch = grind (arith, nat_tests) in early), two.1)
 
@@ -146,24 +146,34 @@ entry_goes_up at Session fit small = record {
   rises = session_rises at.keys small;
   count = omega arith;
 }
-entry_goes_up at (Made drawn) fit small =
-    let told = note_told at Root _ fit in
-    let between = step_between at.keys (edges at.store) (change_of at.store Root) (pieces_of Root root_store) drawn in
+entry_goes_up at (Made version drawn) fit small =
+    let root = root_note version in
+    let told = note_told at root _ fit in
+    let between = step_between at.keys (edges at.store) (change_of (is_strict at.keys) at.store root) (pieces_of root root_store) drawn in
     record {
       between = between;
       positive = positive_from _ _ _ (epoch_first at.keys told.0) between;
-      rises = step_rises at.keys (edges at.store) (change_of at.store Root) (pieces_of Root root_store);
+      rises = step_rises at.keys (edges at.store) (change_of (is_strict at.keys) at.store root) (pieces_of root root_store);
       count = count_told _ told.1;
     }
 entry_goes_up at (Did request drawn) fit small =
     let note = note_of at.store request [] in
     let pieces = pieces_of note (effect at.store request (first_key drawn)) in
     let told = note_told at note _ fit in
-    let between = step_between at.keys (edges at.store) (change_of at.store note) pieces drawn in
+    let between = step_between at.keys (edges at.store) (change_of (is_strict at.keys) at.store note) pieces drawn in
     record {
       between = between;
       positive = positive_from _ _ _ (epoch_first at.keys told.0) between;
-      rises = step_rises at.keys (edges at.store) (change_of at.store note) pieces;
+      rises = step_rises at.keys (edges at.store) (change_of (is_strict at.keys) at.store note) pieces;
+      count = count_told _ told.1;
+    }
+entry_goes_up at (Upgraded drawn) fit small =
+    let told = note_told at Upgrade _ fit in
+    let between = step_between at.keys (edges at.store) (change_of (is_strict at.keys) at.store Upgrade) (pieces_of Upgrade at.store) drawn in
+    record {
+      between = between;
+      positive = positive_from _ _ _ (epoch_first at.keys told.0) between;
+      rises = step_rises at.keys (edges at.store) (change_of (is_strict at.keys) at.store Upgrade) (pieces_of Upgrade at.store);
       count = count_told _ told.1;
     }
 
@@ -224,8 +234,9 @@ first_epoch entries fit =
 begins_above : (m : Journal) → BeginsWell m → IsTrue (all_fit nothing m) → 0 < next_serial (stand_after nothing m).keys
 begins_above [] b fit = absurd b
 begins_above (Session ∷ es) b fit = first_epoch es fit
-begins_above (Made keys ∷ es) b fit = absurd b
+begins_above (Made version keys ∷ es) b fit = absurd b
 begins_above (Did request keys ∷ es) b fit = absurd b
+begins_above (Upgraded keys ∷ es) b fit = absurd b
 
 pub all_below : (owner : List ℕ) (m : Journal) → IsValid m → (key : KeyParts) → In key (all_keys owner m) → key.serial < next_serial (keys_of m)
 unfolding all_keys owner_parts keys_of nothing no_keys

@@ -12,15 +12,15 @@ use Rattle.role_graph.specs.Edges.{edges}
 use Rattle.role_graph.specs.Roles.{same_role, role_id}
 use Rattle.move_plan.specs.Change.{Change, change_of}
 use Rattle.record_format.specs.Noted.{Note}
-use Rattle.record_format.specs.Noted.Note.{Root}
+use Rattle.record_format.specs.Noted.Note.{Upgrade}
 use Rattle.move_plan.specs.Noting.{note_of}
 use Rattle.cry_base.specs.Requests.{Request}
 use Rattle.cry_base.specs.Stepping.{effect}
 use Rattle.cry_base.specs.Store.{Store, root_store}
 use Rattle.public_fold.specs.Records.{Link, Piece, pieces_of}
-use Rattle.public_fold.specs.KeyStep.{KeyState, Stepped, no_keys, next_epoch, keys_without, keys_then, newest, present, link_of, links_from, published, step_with, key_step}
-use Rattle.public_fold.specs.Journal.{Entry, Stand, nothing, first_key, note_step, entry_step}
-use Rattle.public_fold.specs.Journal.Entry.{Session, Made, Did}
+use Rattle.public_fold.specs.KeyStep.{KeyState, Stepped, no_keys, next_epoch, keys_without, keys_then, newest, present, link_of, links_from, published, step_with, key_step, is_strict}
+use Rattle.public_fold.specs.Journal.{Entry, Stand, nothing, first_key, note_step, entry_step, root_note}
+use Rattle.public_fold.specs.Journal.Entry.{Session, Made, Did, Upgraded}
 use Rattle.journal_bytes.specs.Bytes as bytes
 use Rattle.journal_bytes.specs.Keys.{drawn_by, with_bytes, entry_keys, owner_parts, bytes_of, bytes_in}
 
@@ -127,19 +127,23 @@ step_each : (keys : List KeyParts) (at : Stand) (entry : Entry) (note : Note) (a
     (key : Role × ℕ) → In key (entry_step at entry).after.keys → HasSerial (bytes.keys_then keys at entry) key.1
 unfolding bytes.keys_then entry_keys note_step
 step_each keys at entry note after is have fed key i =
-    let told : In key (key_step at.keys (edges at.store) (change_of at.store note) (pieces_of note after)).after.keys = subst (λ (s : Stepped). In key s.after.keys) is i in
+    let told : In key (key_step at.keys (edges at.store) (change_of (is_strict at.keys) at.store note) (pieces_of note after)).after.keys = subst (λ (s : Stepped). In key s.after.keys) is i in
     ⊎_elim
     (λ g. new_serial keys _ key.1 (given_has (entry_step at entry).given (drawn_by entry) fed.many key (subst (λ (s : Stepped). In key s.given) (sym is) g)))
     (λ old. more_serial keys _ key.1 (have.each key old))
-    (keys_after at.keys (edges at.store) (change_of at.store note) (pieces_of note after) key told)
+    (keys_after at.keys (edges at.store) (change_of (is_strict at.keys) at.store note) (pieces_of note after) key told)
 
 session_each : (keys : List KeyParts) (at : Stand) → HaveKeys keys at.keys → (key : Role × ℕ) → In key (entry_step at Session).after.keys → HasSerial (bytes.keys_then keys at Session) key.1
 unfolding bytes.keys_then entry_step next_epoch
 session_each keys at have key i = more_serial keys _ key.1 (have.each key i)
 
-pub made_step : (at : Stand) (drawn : List (List ℕ)) → entry_step at (Made drawn) ≡ note_step at Root root_store
+pub made_step : (at : Stand) (version : ℕ) (drawn : List (List ℕ)) → entry_step at (Made version drawn) ≡ note_step at (root_note version) root_store
 unfolding entry_step
-made_step at drawn = refl
+made_step at version drawn = refl
+
+pub upgraded_step : (at : Stand) (drawn : List (List ℕ)) → entry_step at (Upgraded drawn) ≡ note_step at Upgrade at.store
+unfolding entry_step
+upgraded_step at drawn = refl
 
 pub did_step : (at : Stand) (request : Request) (drawn : List (List ℕ)) →
     entry_step at (Did request drawn) ≡ note_step at (note_of at.store request []) (effect at.store request (first_key drawn))
@@ -150,17 +154,19 @@ did_step at request drawn = refl
 pub entry_links : (at : Stand) (entry : Entry) (l : Link) → In l (entry_step at entry).links → (r : Role) × (l.to_serial ≡ present (entry_step at entry).after.keys r)
 unfolding entry_step note_step
 entry_links at Session l i = absurd i
-entry_links at (Made drawn) l i = links_after at.keys (edges at.store) (change_of at.store Root) (pieces_of Root root_store) l i
+entry_links at (Made version drawn) l i = links_after at.keys (edges at.store) (change_of (is_strict at.keys) at.store (root_note version)) (pieces_of (root_note version) root_store) l i
 entry_links at (Did request drawn) l i =
     let note = note_of at.store request [] in
-    links_after at.keys (edges at.store) (change_of at.store note) (pieces_of note (effect at.store request (first_key drawn))) l i
+    links_after at.keys (edges at.store) (change_of (is_strict at.keys) at.store note) (pieces_of note (effect at.store request (first_key drawn))) l i
+entry_links at (Upgraded drawn) l i = links_after at.keys (edges at.store) (change_of (is_strict at.keys) at.store Upgrade) (pieces_of Upgrade at.store) l i
 
 entry_each : (keys : List KeyParts) (at : Stand) (entry : Entry) → HaveKeys keys at.keys → IsFed at entry →
     (key : Role × ℕ) → In key (entry_step at entry).after.keys → HasSerial (bytes.keys_then keys at entry) key.1
 entry_each keys at Session have fed = session_each keys at have
-entry_each keys at (Made drawn) have fed = step_each keys at (Made drawn) Root root_store (made_step at drawn) have fed
+entry_each keys at (Made version drawn) have fed = step_each keys at (Made version drawn) (root_note version) root_store (made_step at version drawn) have fed
 entry_each keys at (Did request drawn) have fed =
     step_each keys at (Did request drawn) (note_of at.store request []) (effect at.store request (first_key drawn)) (did_step at request drawn) have fed
+entry_each keys at (Upgraded drawn) have fed = step_each keys at (Upgraded drawn) Upgrade at.store (upgraded_step at drawn) have fed
 
 pub have_then : (keys : List KeyParts) (at : Stand) (entry : Entry) → HaveKeys keys at.keys → IsFed at entry → HaveKeys (bytes.keys_then keys at entry) (entry_step at entry).after
 unfolding bytes.keys_then

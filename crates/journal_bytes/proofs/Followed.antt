@@ -23,21 +23,21 @@ use Rattle.cry_base.specs.declared.roles.Role.{Role}
 use Rattle.log_visits.specs.Folding.{folded, stand_behind}
 use Rattle.log_visits.proofs.ToldLemmas.{accepted_told}
 use Rattle.key_links.specs.Sealed.{sealed_content, sealed_link}
-use Rattle.move_plan.specs.Change.{Change, change_of, no_change}
+use Rattle.move_plan.specs.Change.{Change, change_of, no_change, row_change}
 use Rattle.move_plan.specs.Fitting.{fits, public_of}
 use Rattle.move_plan.specs.Noting.{note_of}
 use Rattle.move_plan.proofs.Public.{change_public, edges_public}
 use Rattle.record_format.specs.Noted.{Note}
-use Rattle.record_format.specs.Noted.Note.{Root, NewHolder, NewFolder, NewFile, Rewrite, NameFile, NameFolder, DropFile, DropFolder, ShiftFile, ShiftFolder, Give, Take}
+use Rattle.record_format.specs.Noted.Note.{Root, NewHolder, NewFolder, NewFile, Rewrite, NameFile, NameFolder, DropFile, DropFolder, ShiftFile, ShiftFolder, Give, Take, StrictRoot, Upgrade}
 use Rattle.record_format.specs.Plain.{PlainContent}
 use Rattle.record_format.specs.Told.{told_note}
 use Rattle.role_graph.specs.Edges.{edges}
 use Rattle.role_graph.specs.Roles.{holder_role, role_id}
 use Rattle.public_fold.specs.Fitted.{are_due, fits_step, has_content_head, has_heads, has_length, has_link_head, payload_fits, told_stand, told_step}
 use Rattle.public_fold.specs.Heads.{content_head, is_content_of}
-use Rattle.public_fold.specs.Journal.{Entry, Journal, Stand, nothing, first_key, note_step, entry_step, entry_store, stand_then, stand_after, store_of, keys_of}
-use Rattle.public_fold.specs.Journal.Entry.{Session, Made, Did}
-use Rattle.public_fold.specs.KeyStep.{KeyState, Stepped, given, key_step, keys_then, next_serial, published, published_edges, renewed, step_with}
+use Rattle.public_fold.specs.Journal.{Entry, Journal, Stand, nothing, first_key, note_step, entry_step, entry_store, stand_then, stand_after, store_of, keys_of, root_note}
+use Rattle.public_fold.specs.Journal.Entry.{Session, Made, Did, Upgraded}
+use Rattle.public_fold.specs.KeyStep.{KeyState, Stepped, given, key_step, keys_then, next_serial, published, published_edges, renewed, step_with, is_strict}
 use Rattle.public_fold.specs.Records.{Content, Link, Piece, pieces_of, text_of}
 use Rattle.public_fold.specs.StandFits.{all_fit, entry_fits, has_count, note_fits}
 use Rattle.public_fold.specs.Told.{told_store}
@@ -52,7 +52,8 @@ use Rattle.journal_bytes.specs.Bytes.{bodies_from, bodies_of, content_record, en
 use Rattle.journal_bytes.specs.Folds.{fold_of, log_of, public_stand}
 use Rattle.journal_bytes.specs.Keys.{AreWhole, bytes_in, drawn_by, owner_parts}
 use Rattle.journal_bytes.specs.Notes.{declared_note}
-use Rattle.journal_bytes.proofs.FitsPublic.{fits_public}
+use Rattle.journal_bytes.proofs.RootNotes.{of_root}
+use Rattle.journal_bytes.proofs.SeenFits.{fits_seen}
 use Rattle.journal_bytes.proofs.Sealable.{content_from}
 use Rattle.journal_bytes.proofs.TextSizes.{AreShort, HasKeySize, IsSized, command_sized, effect_short, is_length, root_short, root_sized}
 use Rattle.journal_bytes.proofs.ToldSkeleton.{bare, pieces_bare, same_change, same_heads, same_pieces}
@@ -108,8 +109,8 @@ record IsToldAs (told step : Stepped) : Type 0 where
   links : told.links ≡ step.links
   contents : map content_head told.contents ≡ map content_head step.contents
 
-abbrev counted : KeyState → List (Role × ℕ) → List Role → ℕ → KeyState
-counted k keys dirty count = record { keys = keys; dirty = dirty; epoch = k.epoch; count = count }
+abbrev counted : KeyState → ℕ → KeyState
+counted k count = record k { count = count }
 
 other_pieces : (k : KeyState) (before : List Edge) (c : Change) (ps qs : List Piece) → map bare ps ≡ map bare qs → IsToldAs (key_step k before c ps) (key_step k before c qs)
 unfolding key_step step_with published
@@ -117,7 +118,7 @@ other_pieces k before c ps qs same =
     let new = given k c (renewed k before c) in
     let es = published_edges before c (renewed k before c) in
     let many : length ps ≡ length qs = sym (length-map ps bare) ∙ ap length same ∙ length-map qs bare in record {
-      after = ap (λ n. counted k (key_step k before c ps).after.keys (key_step k before c ps).after.dirty (k.count + length new + length es + n)) many;
+      after = ap (λ n. counted (key_step k before c ps).after (k.count + length new + length es + n)) many;
       links = refl;
       contents = same_heads (keys_then k c (renewed k before c)) (next_serial k + length new + length es) ps qs same;
     }
@@ -139,9 +140,9 @@ told_command at r check drawn n none =
     let note = note_of s r check in
     let plain = note_of s r [] in
     let t = effect s r (first_key drawn) in
-    told_as at.keys (edges (public_of s)) (edges s) (change_of (public_of s) note) (change_of s plain) (pieces_of note (told_store (public_of s) note)) (pieces_of plain t)
+    told_as at.keys (edges (public_of s)) (edges s) (change_of (is_strict at.keys) (public_of s) note) (change_of (is_strict at.keys) s plain) (pieces_of note (told_store (public_of s) note)) (pieces_of plain t)
     (edges_public s)
-    (change_public s note ∙ same_change s r check)
+    (change_public (is_strict at.keys) s note ∙ same_change (is_strict at.keys) s r check)
     (ap (λ z. map bare (pieces_of note z)) (sym (accepted_told s r (first_key drawn) check n none)) ∙ pieces_bare note t ∙ ap (map bare) (same_pieces s r check t))
 
 -- ---- a payload that fits
@@ -161,6 +162,8 @@ told_declared (ShiftFile file into) = refl
 told_declared (ShiftFolder folder into) = refl
 told_declared (Give holder folder) = refl
 told_declared (Take holder folder) = refl
+told_declared StrictRoot = refl
+told_declared Upgrade = refl
 
 heads_fit : (at : Stand) (keys : List KeyParts) (note : Note) (told step : Stepped) → IsToldAs told step → note_fits at note told ≡ true → ((c : Content) → In c step.contents → IsSized c.piece)
     → fits_step at note told (step_payload keys (declared_note note) step) ≡ true
@@ -197,7 +200,7 @@ pub command_contents : (at : Stand) (r : Request) (drawn : List (List ℕ)) → 
 unfolding entry_step note_step
 command_contents at r drawn sound short none size =
     let note = note_of at.store r [] in
-    pieces_sized at.keys (edges at.store) (change_of at.store note) (pieces_of note (effect at.store r (first_key drawn)))
+    pieces_sized at.keys (edges at.store) (change_of (is_strict at.keys) at.store note) (pieces_of note (effect at.store r (first_key drawn)))
     (command_sized at.store r (first_key drawn) [] sound short none size)
 
 command_fits : (at : Stand) (r : Request) (check : List ℕ) (drawn : List (List ℕ)) (told : Stepped) → IsSound at.store → refusal_of at.store r most_file_bytes ≡ None → entry_fits at (Did r drawn) ≡ true
@@ -206,12 +209,13 @@ unfolding entry_fits note_fits has_count
 command_fits at r check drawn told sound none fit same =
     let s = at.store in
     let note = note_of s r check in
+    let strict = is_strict at.keys in
     let step = entry_step at (Did r drawn) in
-    let one = and_parts (nat_lt 0 at.keys.epoch) (fits s (note_of s r []) && nat_lt step.after.count (2 ^ 32 - 1)) fit in
-    let two = and_parts (fits s (note_of s r [])) (nat_lt step.after.count (2 ^ 32 - 1)) one.1 in
-    let here : fits (public_of s) note ≡ true = fits_public s note ∙ notes.rest_fits s note sound.tree (notes.note_fits s r check sound.tree (accepted s r most_file_bytes none)) in
-    and_from (nat_lt 0 at.keys.epoch) (fits (public_of s) note && nat_lt told.after.count (2 ^ 32 - 1)) one.0
-    (and_from (fits (public_of s) note) (nat_lt told.after.count (2 ^ 32 - 1)) here (ap (λ (k : KeyState). nat_lt k.count (2 ^ 32 - 1)) same ∙ two.1))
+    let one = and_parts (nat_lt 0 at.keys.epoch) (fits strict s (note_of s r []) && nat_lt step.after.count (2 ^ 32 - 1)) fit in
+    let two = and_parts (fits strict s (note_of s r [])) (nat_lt step.after.count (2 ^ 32 - 1)) one.1 in
+    let here : fits strict (public_of s) note ≡ true = fits_seen strict s note ∙ notes.rest_fits strict s note sound.tree (notes.note_fits strict s r check sound.tree (accepted s r most_file_bytes none)) in
+    and_from (nat_lt 0 at.keys.epoch) (fits strict (public_of s) note && nat_lt told.after.count (2 ^ 32 - 1)) one.0
+    (and_from (fits strict (public_of s) note) (nat_lt told.after.count (2 ^ 32 - 1)) here (ap (λ (k : KeyState). nat_lt k.count (2 ^ 32 - 1)) same ∙ two.1))
 
 command_behind : (at : Stand) (place : ℕ) (keys : List KeyParts) (r : Request) (drawn : List (List ℕ)) → IsSound at.store → AreShort at.store → refusal_of at.store r most_file_bytes ≡ None → entry_fits at (Did r drawn) ≡ true
     → HasKeySize r (first_key drawn) → stand_behind (shown at) place (entry_body keys at (Did r drawn)) ≡ Ok (shown (stand_then at (Did r drawn)))
@@ -226,10 +230,10 @@ command_behind at place keys r drawn sound short none fit size =
 
 -- a new holder's key is one of those drawn
 holder_given : (at : Stand) (drawn : List (List ℕ)) → 1 ≤ length (entry_step at (Did AddHolder drawn)).given
-unfolding entry_step note_step key_step step_with published given note_of change_of no_change
+unfolding entry_step note_step key_step step_with published given note_of change_of row_change no_change
 holder_given at drawn =
     let note = note_of at.store AddHolder [] in
-    let c = change_of at.store note in
+    let c = change_of (is_strict at.keys) at.store note in
     let plan_of = renewed at.keys (edges at.store) c in
     let many = numbered-length Role (next_serial at.keys) (plan_of ++ holder_role (at.store.holders_made + 1) ∷ []) in
     let long = length-append plan_of (holder_role (at.store.holders_made + 1) ∷ []) in
@@ -253,36 +257,84 @@ session_behind : (at : Stand) (place : ℕ) (keys : List KeyParts) → stand_beh
 unfolding stand_behind entry_body stand_then entry_store entry_step
 session_behind at place keys = refl
 
+-- an upgrade seals nothing
+upgraded_as : (at : Stand) (drawn : List (List ℕ)) → IsToldAs (told_step (shown at) Upgrade) (entry_step at (Upgraded drawn))
+unfolding told_step told_store note_step entry_step pieces_of
+upgraded_as at drawn =
+    let strict = is_strict at.keys in
+    told_as at.keys (edges (public_of at.store)) (edges at.store) (change_of strict (public_of at.store) Upgrade) (change_of strict at.store Upgrade) [] []
+    (edges_public at.store) (change_public strict at.store Upgrade) refl
+
+pub upgraded_contents : (at : Stand) (drawn : List (List ℕ)) (c : Content) → In c (entry_step at (Upgraded drawn)).contents → IsSized c.piece
+unfolding entry_step note_step pieces_of
+upgraded_contents at drawn = pieces_sized at.keys (edges at.store) (change_of (is_strict at.keys) at.store Upgrade) [] (λ p i. absurd i)
+
+upgraded_fits : (at : Stand) (drawn : List (List ℕ)) (told : Stepped) → entry_fits at (Upgraded drawn) ≡ true → told.after ≡ (entry_step at (Upgraded drawn)).after
+    → note_fits (shown at) Upgrade told ≡ true
+unfolding entry_fits note_fits has_count
+upgraded_fits at drawn told fit same =
+    let s = at.store in
+    let strict = is_strict at.keys in
+    let step = entry_step at (Upgraded drawn) in
+    let one = and_parts (nat_lt 0 at.keys.epoch) (fits strict s Upgrade && nat_lt step.after.count (2 ^ 32 - 1)) fit in
+    let two = and_parts (fits strict s Upgrade) (nat_lt step.after.count (2 ^ 32 - 1)) one.1 in
+    and_from (nat_lt 0 at.keys.epoch) (fits strict (public_of s) Upgrade && nat_lt told.after.count (2 ^ 32 - 1)) one.0
+    (and_from (fits strict (public_of s) Upgrade) (nat_lt told.after.count (2 ^ 32 - 1)) (fits_seen strict s Upgrade ∙ two.0) (ap (λ (k : KeyState). nat_lt k.count (2 ^ 32 - 1)) same ∙ two.1))
+
+upgraded_behind : (at : Stand) (place : ℕ) (keys : List KeyParts) (drawn : List (List ℕ)) → entry_fits at (Upgraded drawn) ≡ true
+    → stand_behind (shown at) place (entry_body keys at (Upgraded drawn)) ≡ Ok (shown (stand_then at (Upgraded drawn)))
+unfolding entry_body stand_then entry_store told_stand told_store
+upgraded_behind at place keys drawn fit =
+    let told_is = upgraded_as at drawn in
+    behind_step (shown at) place keys Upgrade (entry_step at (Upgraded drawn)) told_is (upgraded_fits at drawn (told_step (shown at) Upgrade) fit told_is.after) (upgraded_contents at drawn)
+    ∙ (λ i. Ok (record { store = public_of at.store; keys = told_is.after i }))
+
+upgraded_sound : (at : Stand) (drawn : List (List ℕ)) → IsSound at.store → IsSound (stand_then at (Upgraded drawn)).store
+unfolding stand_then entry_store
+upgraded_sound at drawn sound = sound
+
+upgraded_short : (at : Stand) (drawn : List (List ℕ)) → AreShort at.store → AreShort (stand_then at (Upgraded drawn)).store
+unfolding stand_then entry_store
+upgraded_short at drawn short = short
+
 -- before the root is made
 abbrev begun : Stand
 begun = stand_then nothing Session
 
-made_as : (drawn : List (List ℕ)) → IsToldAs (told_step (shown begun) Root) (entry_step begun (Made drawn))
+-- either note that makes the root seals its name
+either_sized : (version : ℕ) (p : Piece) → In p (pieces_of (root_note version) root_store) → IsSized p
+unfolding pieces_of
+either_sized version = of_root (λ note. (p : Piece) → In p (pieces_of note root_store) → IsSized p) root_sized root_sized version
+
+made_as : (version : ℕ) (drawn : List (List ℕ)) → IsToldAs (told_step (shown begun) (root_note version)) (entry_step begun (Made version drawn))
 unfolding told_step told_store note_step entry_step stand_then entry_store nothing no_store public_of
-made_as drawn = record { after = refl; links = refl; contents = refl }
+made_as version drawn =
+    of_root (λ note. IsToldAs (told_step (shown begun) note) (note_step begun note root_store))
+    (record { after = refl; links = refl; contents = refl }) (record { after = refl; links = refl; contents = refl }) version
 
-made_fits : (drawn : List (List ℕ)) → entry_fits begun (Made drawn) ≡ true → note_fits (shown begun) Root (told_step (shown begun) Root) ≡ true
+made_fits : (version : ℕ) (drawn : List (List ℕ)) → entry_fits begun (Made version drawn) ≡ true → note_fits (shown begun) (root_note version) (told_step (shown begun) (root_note version)) ≡ true
 unfolding entry_fits told_step told_store note_step entry_step stand_then entry_store nothing no_store public_of
-made_fits drawn fit = fit
+made_fits version drawn = of_root (λ note. note_fits begun note (note_step begun note root_store) ≡ true → note_fits (shown begun) note (told_step (shown begun) note) ≡ true) (λ fit. fit) (λ fit. fit) version
 
-pub made_contents : (drawn : List (List ℕ)) (c : Content) → In c (entry_step begun (Made drawn)).contents → IsSized c.piece
+pub made_contents : (version : ℕ) (drawn : List (List ℕ)) (c : Content) → In c (entry_step begun (Made version drawn)).contents → IsSized c.piece
 unfolding entry_step note_step
-made_contents drawn = pieces_sized begun.keys (edges begun.store) (change_of begun.store Root) (pieces_of Root root_store) root_sized
+made_contents version drawn = pieces_sized begun.keys (edges begun.store) (change_of (is_strict begun.keys) begun.store (root_note version)) (pieces_of (root_note version) root_store) (either_sized version)
 
-made_stand : (drawn : List (List ℕ)) → told_stand (shown begun) Root ≡ shown (stand_then begun (Made drawn))
+made_stand : (version : ℕ) (drawn : List (List ℕ)) → told_stand (shown begun) (root_note version) ≡ shown (stand_then begun (Made version drawn))
 unfolding told_stand told_step told_store note_step entry_step stand_then entry_store nothing root_store no_store public_of
-made_stand drawn = refl
+made_stand version drawn =
+    of_root (λ note. told_stand (shown begun) note ≡ shown (record { store = root_store; keys = (note_step begun note root_store).after })) refl refl version
 
-made_body : (keys : List KeyParts) (drawn : List (List ℕ)) → entry_body keys begun (Made drawn) ≡ Commands (step_payload keys (declared_note Root) (entry_step begun (Made drawn)))
+made_body : (keys : List KeyParts) (version : ℕ) (drawn : List (List ℕ)) → entry_body keys begun (Made version drawn) ≡ Commands (step_payload keys (declared_note (root_note version)) (entry_step begun (Made version drawn)))
 unfolding entry_body declared_note
-made_body keys drawn = refl
+made_body keys version drawn = refl
 
-made_behind : (place : ℕ) (keys : List KeyParts) (drawn : List (List ℕ)) → entry_fits begun (Made drawn) ≡ true
-    → stand_behind (shown begun) place (entry_body keys begun (Made drawn)) ≡ Ok (shown (stand_then begun (Made drawn)))
-made_behind place keys drawn fit =
-    ap (stand_behind (shown begun) place) (made_body keys drawn)
-    ∙ behind_step (shown begun) place keys Root (entry_step begun (Made drawn)) (made_as drawn) (made_fits drawn fit) (made_contents drawn)
-    ∙ ap Ok (made_stand drawn)
+made_behind : (place : ℕ) (keys : List KeyParts) (version : ℕ) (drawn : List (List ℕ)) → entry_fits begun (Made version drawn) ≡ true
+    → stand_behind (shown begun) place (entry_body keys begun (Made version drawn)) ≡ Ok (shown (stand_then begun (Made version drawn)))
+made_behind place keys version drawn fit =
+    ap (stand_behind (shown begun) place) (made_body keys version drawn)
+    ∙ behind_step (shown begun) place keys (root_note version) (entry_step begun (Made version drawn)) (made_as version drawn) (made_fits version drawn fit) (made_contents version drawn)
+    ∙ ap Ok (made_stand version drawn)
 
 next_behind : (at next : Stand) (place : ℕ) (body : PlainBody) (log : List PlainPlaced) (last : Stand) → stand_behind at place body ≡ Ok next → folded next log ≡ Ok last
     → and_then (stand_behind at place body) (λ b. folded b log) ≡ Ok last
@@ -322,7 +374,7 @@ follows keys (Session ∷ entries) at place number epoch sound short follow fit 
     next_behind (shown at) (shown next) (place + 45) body log (shown (stand_after next entries)) (session_behind at (place + 45) later)
     (follows later entries next (place + (batch_len + length batch.payload)) batch.number batch.epoch (session_sound at sound) (session_short at short) follow.1
     (and_parts (entry_fits at Session) (all_fit next entries) fit).1 (All-tail Sized Session entries sizes))
-follows keys (Made drawn ∷ entries) at place number epoch sound short follow fit sizes = absurd follow.0
+follows keys (Made version drawn ∷ entries) at place number epoch sound short follow fit sizes = absurd follow.0
 follows keys (Did r drawn ∷ entries) at place number epoch sound short follow fit sizes =
     let later = bytes.keys_then keys at (Did r drawn) in
     let body = entry_body later at (Did r drawn) in
@@ -334,43 +386,55 @@ follows keys (Did r drawn ∷ entries) at place number epoch sound short follow 
     next_behind (shown at) (shown next) (place + 45) body log (shown (stand_after next entries)) (command_behind at (place + 45) later r drawn sound short follow.0.0 fits_both.0 size)
     (follows later entries next (place + (batch_len + length batch.payload)) batch.number batch.epoch (did_sound at r drawn follow.0.0 sound) (did_short at r drawn follow.0.0 short) follow.1
     fits_both.1 (All-tail Sized (Did r drawn) entries sizes))
+follows keys (Upgraded drawn ∷ entries) at place number epoch sound short follow fit sizes =
+    let later = bytes.keys_then keys at (Upgraded drawn) in
+    let body = entry_body later at (Upgraded drawn) in
+    let batch = batch_of number epoch body in
+    let next = stand_then at (Upgraded drawn) in
+    let log = placed_from (place + (batch_len + length batch.payload)) batch.number batch.epoch (bodies_from later next entries) in
+    let fits_both = and_parts (entry_fits at (Upgraded drawn)) (all_fit next entries) fit in
+    next_behind (shown at) (shown next) (place + 45) body log (shown (stand_after next entries)) (upgraded_behind at (place + 45) later drawn fits_both.0)
+    (follows later entries next (place + (batch_len + length batch.payload)) batch.number batch.epoch (upgraded_sound at drawn sound) (upgraded_short at drawn short) follow.1
+    fits_both.1 (All-tail Sized (Upgraded drawn) entries sizes))
 
 first_shown : shown nothing ≡ nothing
 unfolding nothing no_store public_of
 first_shown = refl
 
-made_sound : (drawn : List (List ℕ)) → IsSound (stand_then begun (Made drawn)).store
+made_sound : (version : ℕ) (drawn : List (List ℕ)) → IsSound (stand_then begun (Made version drawn)).store
 unfolding stand_then entry_store
-made_sound drawn = root_sound
+made_sound version drawn = root_sound
 
-made_short : (drawn : List (List ℕ)) → AreShort (stand_then begun (Made drawn)).store
+made_short : (version : ℕ) (drawn : List (List ℕ)) → AreShort (stand_then begun (Made version drawn)).store
 unfolding stand_then entry_store
-made_short drawn = root_short
+made_short version drawn = root_short
 
 begins : (keys : List KeyParts) (m : Journal) → BeginsWell m → all_fit nothing m ≡ true → All Sized m → folded (shown nothing) (placed_from header_len 0 0 (bodies_from keys nothing m)) ≡ Ok (shown (stand_after nothing m))
 unfolding folded bodies_from stand_after all_fit
 begins keys [] b fit sizes = absurd b
 begins keys (Session ∷ []) b fit sizes = absurd b
 begins keys (Session ∷ Session ∷ es) b fit sizes = absurd b
-begins keys (Session ∷ Made drawn ∷ es) b fit sizes =
+begins keys (Session ∷ Made version drawn ∷ es) b fit sizes =
     let first = bytes.keys_then keys nothing Session in
     let body = entry_body first nothing Session in
     let batch = batch_of 0 0 body in
-    let later = bytes.keys_then first begun (Made drawn) in
-    let made = entry_body later begun (Made drawn) in
+    let later = bytes.keys_then first begun (Made version drawn) in
+    let made = entry_body later begun (Made version drawn) in
     let second = batch_of batch.number batch.epoch made in
     let place = header_len + (batch_len + length batch.payload) in
-    let next = stand_then begun (Made drawn) in
+    let next = stand_then begun (Made version drawn) in
     let log = placed_from (place + (batch_len + length second.payload)) second.number second.epoch (bodies_from later next es) in
-    let outer = and_parts (entry_fits nothing Session) (entry_fits begun (Made drawn) && all_fit next es) fit in
-    let inner = and_parts (entry_fits begun (Made drawn)) (all_fit next es) outer.1 in
-    let rest = All-tail Sized Session (Made drawn ∷ es) sizes in
+    let outer = and_parts (entry_fits nothing Session) (entry_fits begun (Made version drawn) && all_fit next es) fit in
+    let inner = and_parts (entry_fits begun (Made version drawn)) (all_fit next es) outer.1 in
+    let rest = All-tail Sized Session (Made version drawn ∷ es) sizes in
     next_behind (shown nothing) (shown begun) (header_len + 45) body (placed_from place batch.number batch.epoch (made ∷ bodies_from later next es)) (shown (stand_after next es)) (session_behind nothing (header_len + 45) first)
-    (next_behind (shown begun) (shown next) (place + 45) made log (shown (stand_after next es)) (made_behind (place + 45) later drawn inner.0)
-    (follows later es next (place + (batch_len + length second.payload)) second.number second.epoch (made_sound drawn) (made_short drawn) b.1 inner.1 (All-tail Sized (Made drawn) es rest)))
+    (next_behind (shown begun) (shown next) (place + 45) made log (shown (stand_after next es)) (made_behind (place + 45) later version drawn inner.0)
+    (follows later es next (place + (batch_len + length second.payload)) second.number second.epoch (made_sound version drawn) (made_short version drawn) b.1 inner.1 (All-tail Sized (Made version drawn) es rest)))
 begins keys (Session ∷ Did request drawn ∷ es) b fit sizes = absurd b
-begins keys (Made drawn ∷ es) b fit sizes = absurd b
+begins keys (Session ∷ Upgraded drawn ∷ es) b fit sizes = absurd b
+begins keys (Made version drawn ∷ es) b fit sizes = absurd b
 begins keys (Did request drawn ∷ es) b fit sizes = absurd b
+begins keys (Upgraded drawn ∷ es) b fit sizes = absurd b
 
 pub journal_followed : (owner : List ℕ) (m : Journal) → IsValid m → AreWhole owner m → fold_of owner m ≡ Ok (public_stand m)
 unfolding fold_of log_of bodies_of public_stand store_of keys_of

@@ -13,9 +13,9 @@ use Rattle.cry_base.specs.declared.roles.Node.{Node}
 use Rattle.cry_base.specs.declared.roles.Node.TheVariants.{Folder, File}
 use Rattle.cry_base.specs.declared.roles.Role.{Role}
 use Rattle.cry_base.proofs.Members.{In-append, In-filter, In-map}
-use Rattle.move_plan.specs.Change.{change_of, no_change}
+use Rattle.move_plan.specs.Change.{change_of, no_change, root_change, row_change}
 use Rattle.move_plan.specs.Noting.{move_note, note_of, remove_note, rename_note, write_note}
-use Rattle.record_format.specs.Noted.Note.{Root, NewHolder, NewFolder, NewFile, Give, Take}
+use Rattle.record_format.specs.Noted.Note.{Root, NewHolder, NewFolder, NewFile, Give, Take, Upgrade}
 use Rattle.role_graph.specs.Roles.{back_of, clear_of, data_of, file_role, files_of, role_id, sub_of, variant_of}
 use Rattle.public_fold.specs.Counted.{AreCounted}
 use Rattle.public_fold.specs.Records.{Piece, file_piece, folder_piece, holder_piece, pieces_of, text_of}
@@ -24,7 +24,9 @@ use Rattle.public_fold.proofs.Keeping.{HasTree}
 use Rattle.public_fold.proofs.Treeing.{file_own, folder_own}
 use Rattle.journal_bytes.specs.Texting.{file_text}
 use Rattle.journal_bytes.proofs.Found.{found_new}
+use Rattle.journal_bytes.proofs.RootNotes.{of_root}
 use Rattle.journal_bytes.proofs.TextSizes.{file_of, folder_of, holder_of}
+use Rattle.public_fold.specs.Journal.{root_note}
 
 -- a text of the kind for the object is the one that is sealed
 abbrev pub IsNow : List Piece → ℕ → ℕ → List ℕ → Type 0
@@ -165,8 +167,8 @@ file_shifted s x into e i =
 
 -- ---- commands
 
-holder_made : (s : Store) (key check : List ℕ) → AreCounted s → IsKept s (with_new_holder s key) (change_of s (NewHolder (s.holders_made + 1) check)).wanted (holder_piece (with_new_holder s key) (s.holders_made + 1))
-unfolding with_new_holder change_of no_change holder_entry
+holder_made : (s : Store) (key check : List ℕ) → AreCounted s → IsKept s (with_new_holder s key) (row_change s (NewHolder (s.holders_made + 1) check)).wanted (holder_piece (with_new_holder s key) (s.holders_made + 1))
+unfolding with_new_holder row_change no_change holder_entry
 holder_made s key check counted =
     let t = with_new_holder s key in
     let h = s.holders_made + 1 in
@@ -181,8 +183,8 @@ holder_made s key check counted =
           ((In-append HolderEntry e s.holders (new ∷ [])).0 i);
     }
 
-folder_made : (s : Store) (parent p : ℕ) (name : List ℕ) → AreCounted s → IsKept s (with_new_folder s parent name) (change_of s (NewFolder (s.folders_made + 1) p)).wanted (folder_piece (with_new_folder s parent name) (s.folders_made + 1))
-unfolding with_new_folder change_of no_change folder_entry data_of sub_of file_role variant_of
+folder_made : (s : Store) (parent p : ℕ) (name : List ℕ) → AreCounted s → IsKept s (with_new_folder s parent name) (row_change s (NewFolder (s.folders_made + 1) p)).wanted (folder_piece (with_new_folder s parent name) (s.folders_made + 1))
+unfolding with_new_folder row_change no_change folder_entry data_of sub_of file_role variant_of
 folder_made s parent p name counted =
     let t = with_new_folder s parent name in
     let f = s.folders_made + 1 in
@@ -198,8 +200,8 @@ folder_made s parent p name counted =
       holders = λ e i. holder_left s (folder_piece t f) e i (folder_not t f 3 e.number (λ k o. absurd (omega (arith, k))));
     }
 
-file_made : (s : Store) (folder g : ℕ) (name bytes : List ℕ) → AreCounted s → IsKept s (with_new_file s folder name bytes) (change_of s (NewFile (s.files_made + 1) g)).wanted (file_piece (with_new_file s folder name bytes) (s.files_made + 1))
-unfolding with_new_file change_of no_change file_entry data_of files_of file_role variant_of
+file_made : (s : Store) (folder g : ℕ) (name bytes : List ℕ) → AreCounted s → IsKept s (with_new_file s folder name bytes) (row_change s (NewFile (s.files_made + 1) g)).wanted (file_piece (with_new_file s folder name bytes) (s.files_made + 1))
+unfolding with_new_file row_change no_change file_entry data_of files_of file_role variant_of
 file_made s folder g name bytes counted =
     let t = with_new_file s folder name bytes in
     let x = s.files_made + 1 in
@@ -277,14 +279,14 @@ file_same : (s : Store) (e : FileEntry) → In e s.files → FileWas s e
 file_same s e i = (e, i, refl, refl, refl)
 
 written : (s : Store) (path bytes : List ℕ) (o : Option Node) (f : ℕ) → AreCounted s → is_folder o ≡ false → HasTree (with_bytes_at s o path bytes)
-    → IsKept s (with_bytes_at s o path bytes) (change_of s (write_note s o f)).wanted (pieces_of (write_note s o f) (with_bytes_at s o path bytes))
-unfolding write_note pieces_of with_bytes_at is_folder change_of no_change
+    → IsKept s (with_bytes_at s o path bytes) (row_change s (write_note s o f)).wanted (pieces_of (write_note s o f) (with_bytes_at s o path bytes))
+unfolding write_note pieces_of with_bytes_at is_folder row_change no_change
 written s path bytes None f counted file tree = file_made s (id_of (node_at s (parent_path path))) f (last_name (names_of path)) bytes counted
 written s path bytes (Some (Folder g)) f counted file tree = absurd (false≢true (sym file))
 written s path bytes (Some (File x)) f counted file tree = file_set s x.0 (λ e. record e { bytes = bytes }) (λ e. refl) tree
 
-removed : (s : Store) (o : Option Node) → is_none o ≡ false → IsKept s (without_node s o) (change_of s (remove_note o)).wanted (pieces_of (remove_note o) (without_node s o))
-unfolding remove_note pieces_of without_node change_of no_change without_folder without_file
+removed : (s : Store) (o : Option Node) → is_none o ≡ false → IsKept s (without_node s o) (row_change s (remove_note o)).wanted (pieces_of (remove_note o) (without_node s o))
+unfolding remove_note pieces_of without_node row_change no_change without_folder without_file
 removed s None some = absurd (false≢true (sym some))
 removed s (Some (Folder f)) some =
     unsealed s (without_folder s f.0) [] (λ g. none_wanted (data_of g)) (λ x. none_wanted (file_role x))
@@ -293,8 +295,8 @@ removed s (Some (File x)) some =
     unsealed s (without_file s x.0) [] (λ g. none_wanted (data_of g)) (λ y. none_wanted (file_role y))
     (folder_same s) (λ e i. file_same s e (In-filter FileEntry (λ e. not (e.id == x.0)) e s.files i).0) (λ e i. i)
 
-renamed : (s : Store) (o : Option Node) (name : List ℕ) → is_none o ≡ false → HasTree (with_name s o name) → IsKept s (with_name s o name) (change_of s (rename_note o)).wanted (pieces_of (rename_note o) (with_name s o name))
-unfolding rename_note pieces_of with_name change_of no_change
+renamed : (s : Store) (o : Option Node) (name : List ℕ) → is_none o ≡ false → HasTree (with_name s o name) → IsKept s (with_name s o name) (row_change s (rename_note o)).wanted (pieces_of (rename_note o) (with_name s o name))
+unfolding rename_note pieces_of with_name row_change no_change
 renamed s None name some tree = absurd (false≢true (sym some))
 renamed s (Some (Folder f)) name some tree = folder_set s f.0 (λ e. record e { name = name }) (λ e. refl) tree
 renamed s (Some (File x)) name some tree = file_set s x.0 (λ e. record e { name = name }) (λ e. refl) tree
@@ -302,8 +304,8 @@ renamed s (Some (File x)) name some tree = file_set s x.0 (λ e. record e { name
 two_apart : (a b c : Role) → (variant_of a == variant_of b) ≡ false → (variant_of a == variant_of c) ≡ false → In a (b ∷ c ∷ []) → ⊥
 two_apart a b c t u i = ⊎_elim (λ (e : a ≡ b). apart a b t (inl e)) (λ j. apart a c u j) i
 
-shifted : (s : Store) (o : Option Node) (into : ℕ) → is_none o ≡ false → IsKept s (moved s o into) (change_of s (move_note o into)).wanted (pieces_of (move_note o into) (moved s o into))
-unfolding move_note pieces_of moved change_of no_change data_of file_role files_of sub_of back_of variant_of
+shifted : (s : Store) (o : Option Node) (into : ℕ) → is_none o ≡ false → IsKept s (moved s o into) (row_change s (move_note o into)).wanted (pieces_of (move_note o into) (moved s o into))
+unfolding move_note pieces_of moved row_change no_change data_of file_role files_of sub_of back_of variant_of
 shifted s None into some = absurd (false≢true (sym some))
 shifted s (Some (Folder g)) into some =
     unsealed s (with_folder s g.0 (λ e. record e { parent = into })) (sub_of into ∷ back_of g.0 ∷ [])
@@ -314,18 +316,23 @@ shifted s (Some (File x)) into some =
     (λ f. apart (data_of f) (files_of into) refl) (λ y. apart (file_role y) (files_of into) refl)
     (λ e i. folder_same s e (unfold with_file in i)) (file_shifted s x.0 into) (λ e i. unfold with_file in i)
 
-granted : (s : Store) (h f : ℕ) → IsKept s (record s { grants = s.grants ++ record { holder = h; folder = f } ∷ [] }) (change_of s (Give h f)).wanted []
-unfolding change_of no_change
+granted : (s : Store) (h f : ℕ) → IsKept s (record s { grants = s.grants ++ record { holder = h; folder = f } ∷ [] }) (row_change s (Give h f)).wanted []
+unfolding row_change no_change
 granted s h f = unsealed s (record s { grants = s.grants ++ record { holder = h; folder = f } ∷ [] }) [] (λ g. none_wanted (data_of g)) (λ x. none_wanted (file_role x)) (folder_same s) (file_same s) (λ e i. i)
 
-revoked : (s : Store) (h f : ℕ) → IsKept s (without_grant s h f) (change_of s (Take h f)).wanted []
-unfolding change_of no_change without_grant data_of file_role clear_of variant_of
+revoked : (s : Store) (h f : ℕ) → IsKept s (without_grant s h f) (row_change s (Take h f)).wanted []
+unfolding row_change no_change without_grant data_of file_role clear_of variant_of
 revoked s h f =
     unsealed s (without_grant s h f) (clear_of f ∷ []) (λ g. apart (data_of g) (clear_of f) refl) (λ x. apart (file_role x) (clear_of f) refl) (folder_same s) (file_same s) (λ e i. i)
 
+-- an upgrade changes none of it
+pub upgrade_kept : (strict : Bool) (s : Store) → IsKept s s (change_of strict s Upgrade).wanted (pieces_of Upgrade s)
+unfolding change_of row_change no_change pieces_of
+upgrade_kept strict s = unsealed s s [] (λ g. none_wanted (data_of g)) (λ x. none_wanted (file_role x)) (folder_same s) (file_same s) (λ e i. i)
+
 -- each command keeps or seals all that stands after it
 pub command_kept : (s : Store) (r : Request) (key : List ℕ) → IsAccepted s r → AreCounted s → HasTree (effect s r key)
-    → IsKept s (effect s r key) (change_of s (note_of s r [])).wanted (pieces_of (note_of s r []) (effect s r key))
+    → IsKept s (effect s r key) (row_change s (note_of s r [])).wanted (pieces_of (note_of s r []) (effect s r key))
 unfolding note_of effect pieces_of finds_no_path writes_folder paths_of
 command_kept s AddHolder key a counted tree = holder_made s key [] counted
 command_kept s (MakeFolder path) key a counted tree =
@@ -381,8 +388,8 @@ command_holders s (Grant h path) key e i = inl i
 command_holders s (Revoke h path) key e i = inl i
 
 -- so does the making of the root
-pub root_kept : IsKept no_store root_store (change_of no_store Root).wanted (pieces_of Root root_store)
-unfolding pieces_of change_of no_change folder_piece folder_entry root_store no_store text_of
+root_kept : IsKept no_store root_store (root_change 1).wanted (pieces_of Root root_store)
+unfolding pieces_of row_change no_change folder_piece folder_entry root_store no_store text_of
 root_kept = record {
   folders = λ e i. ⊎_elim
       (λ (q : e ≡ record { id = 1; parent = 0; name = [] }). inl (subst (λ (z : FolderEntry). IsNow (record { kind = 1; object = 1; name = []; bytes = [] } ∷ []) 1 z.id z.name) (sym q) (record { kind = 1; object = 1; name = []; bytes = [] }, refl, refl, refl, refl)))
@@ -391,3 +398,8 @@ root_kept = record {
   files = λ e i. absurd i;
   holders = λ e i. absurd i;
 }
+
+-- either note that makes the root seals its name
+pub either_kept : (version : ℕ) → IsKept no_store root_store (change_of false no_store (root_note version)).wanted (pieces_of (root_note version) root_store)
+unfolding change_of row_change no_change pieces_of
+either_kept version = of_root (λ note. IsKept no_store root_store (row_change no_store note).wanted (pieces_of note root_store)) root_kept root_kept version

@@ -2,7 +2,6 @@ pub mod Ascending
 pub mod Counted
 pub mod DueTexts
 pub mod FewDraws
-pub mod FitsPublic
 pub mod Followed
 pub mod Followings
 pub mod Found
@@ -24,6 +23,7 @@ pub mod PlainTexts
 pub mod Published
 pub mod Ready
 pub mod Refused
+pub mod RootNotes
 pub mod Sealable
 pub mod SeenFits
 pub mod SoundSteps

@@ -39,7 +39,7 @@ use Rattle.journal_bytes.specs.Folds.{fold_of, log_of, public_stand}
 use Rattle.journal_bytes.specs.Keys.{AreWhole, all_keys, bytes_in}
 use Rattle.journal_bytes.specs.Opening.{AreDrawn, AreLast, IsLast, key_with, owner_starts, owner_visits, reading_of}
 use Rattle.journal_bytes.specs.Texting.{file_text}
-use Rattle.journal_bytes.proofs.FitsPublic.{folder_public}
+use Rattle.journal_bytes.proofs.SeenFits.{place_seen}
 use Rattle.journal_bytes.proofs.Followed.{journal_followed}
 use Rattle.journal_bytes.proofs.LogsWalked.{journal_walked}
 use Rattle.journal_bytes.proofs.OpenedKeys.{found_opens, owner_drawn, visits_drawn}
@@ -113,7 +113,7 @@ unfolding folder_of_file
 own_folder s e x tree i same = ap (λ o. elim o as (λ z. ℕ) [ None ↦ 0 | Some d ↦ d.folder ]) (file_own s e x tree i same)
 
 file_folder : (s : Store) (e : FileEntry) (x : ℕ) → HasTree s → In e s.files → e.id ≡ x → folder_of_file (public_of s) x ≡ e.folder
-file_folder s e x tree i same = folder_public s x ∙ own_folder s e x tree i same
+file_folder s e x tree i same = place_seen s x ∙ own_folder s e x tree i same
 
 -- ---- what a visit needs
 

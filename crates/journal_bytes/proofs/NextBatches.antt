@@ -6,7 +6,7 @@ use Rattle.commit_journal.specs.Laws.{batch_of, batches_from}
 use Rattle.commit_journal.specs.Placed.{PlainBody}
 use Rattle.cry_base.specs.Requests.{Request}
 use Rattle.public_fold.specs.Journal.{Entry, Journal, Stand, nothing, entry_step, keys_of, note_step, stand_then, stand_after}
-use Rattle.public_fold.specs.Journal.Entry.{Session, Made, Did}
+use Rattle.public_fold.specs.Journal.Entry.{Session, Made, Did, Upgraded}
 use Rattle.public_fold.specs.KeyStep.{key_step, next_epoch, no_keys, published, step_with}
 use Rattle.public_fold.specs.Preparing.{begun}
 use Rattle.journal_bytes.specs.Bytes.{batches_of, bodies_from, bodies_of, entry_body, keys_then}
@@ -48,8 +48,9 @@ batches_then owner m entry j is =
 epoch_then : (keys : List KeyParts) (at : Stand) (entry : Entry) (number epoch : ℕ) → epoch ≡ at.keys.epoch → (batch_of number epoch (entry_body keys at entry)).epoch ≡ (entry_step at entry).after.epoch
 unfolding entry_body entry_step note_step next_epoch key_step step_with published
 epoch_then keys at Session number epoch e = ap (λ n. n + 1) e
-epoch_then keys at (Made drawn) number epoch e = e
+epoch_then keys at (Made version drawn) number epoch e = e
 epoch_then keys at (Did request drawn) number epoch e = e
+epoch_then keys at (Upgraded drawn) number epoch e = e
 
 epoch_after : (keys : List KeyParts) (at : Stand) (entries : List Entry) (number epoch : ℕ) → epoch ≡ at.keys.epoch
     → last_epoch epoch (batches_from number epoch (bodies_from keys at entries)) ≡ (stand_after at entries).keys.epoch

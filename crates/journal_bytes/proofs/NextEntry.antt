@@ -13,17 +13,18 @@ use Rattle.cry_base.specs.Store.{Store}
 use Rattle.cry_base.specs.declared.roles.Edge.{Edge}
 use Rattle.cry_base.specs.declared.roles.Role.{Role}
 use Rattle.role_graph.specs.Edges.{edges}
-use Rattle.move_plan.specs.Change.{Change, change_of, no_change}
+use Rattle.move_plan.specs.Change.{Change, change_of, no_change, row_change}
 use Rattle.move_plan.specs.Noting.{note_of}
 use Rattle.public_fold.specs.Journal.{Journal, Stand, nothing, first_key, note_step, entry_step, entry_store, stand_then, stand_after, store_of}
 use Rattle.public_fold.specs.Journal.Entry.{Session, Did}
-use Rattle.public_fold.specs.KeyStep.{KeyState, content_of, contents_from, dirty_left, given, key_step, keys_then, links_from, next_epoch, next_serial, numbered, published, published_edges, renewed, step_with}
+use Rattle.public_fold.specs.KeyStep.{KeyState, content_of, contents_from, dirty_left, given, key_step, keys_then, links_from, next_epoch, next_serial, numbered, planned, published, published_edges, renewed, step_with, is_strict}
 use Rattle.public_fold.specs.Lengths.{content_len, entry_payload, note_len, payload_len}
 use Rattle.public_fold.specs.Preparing.{begun, begun_keys}
 use Rattle.public_fold.specs.Records.{Piece, pieces_of, text_of}
 use Rattle.public_fold.specs.Valid.{IsValid}
 use Rattle.public_fold.proofs.Accepting.{accepted}
 use Rattle.public_fold.proofs.Counting.{journal_counted}
+use Rattle.public_fold.proofs.HeldMarks.{begun_strict}
 use Rattle.public_fold.proofs.Keeping.{journal_tree}
 use Rattle.public_fold.proofs.Prefixes.{stand_after-append}
 use Rattle.public_fold.proofs.Serials.{numbered-length}
@@ -46,7 +47,7 @@ stand_between m false = stand_after-append nothing m (Session ∷ [])
 -- ---- what a step has, whatever the epoch
 
 begun_renewed : (new : Bool) (k : KeyState) (before : List Edge) (c : Change) → renewed (begun_keys new k) before c ≡ renewed k before c
-unfolding renewed dirty_left begun_keys next_epoch
+unfolding renewed planned dirty_left begun_keys next_epoch
 begun_renewed true k before c = refl
 begun_renewed false k before c = refl
 
@@ -88,25 +89,36 @@ module _ (at : Stand) (r : Request) where
   abbrev pub due : List (List ℕ) → List Piece
   due drawn = pieces_of (note_of at.store r []) (effect at.store r (first_key drawn))
 
+  -- the change, where the session has begun an epoch and where it hasn't
+  abbrev change_begun : Bool → Change
+  change_begun new = change_of (is_strict (begun_keys new at.keys)) at.store (note_of at.store r [])
+
+  same_begun : (new : Bool) → change_begun new ≡ change_of (is_strict at.keys) at.store (note_of at.store r [])
+  same_begun new = ap (λ strict. change_of strict at.store (note_of at.store r [])) (begun_strict new at.keys)
+
   pub given_begun : (new : Bool) (drawn other : List (List ℕ)) → length (entry_step (begun new at) (Did r drawn)).given ≡ length (entry_step at (Did r other)).given
   unfolding entry_step note_step
   given_begun new drawn other =
-      let c = change_of at.store (note_of at.store r []) in
-      given_many (begun_keys new at.keys) (edges at.store) c (due drawn)
+      let k = begun_keys new at.keys in
+      let c = change_of (is_strict at.keys) at.store (note_of at.store r []) in
+      given_many k (edges at.store) (change_begun new) (due drawn)
+      ∙ ap (λ (x : Change). length (renewed k (edges at.store) x ++ x.fresh)) (same_begun new)
       ∙ ap (λ plan. length (plan ++ c.fresh)) (begun_renewed new at.keys (edges at.store) c)
       ∙ sym (given_many at.keys (edges at.store) c (due other))
 
   pub links_begun : (new : Bool) (drawn other : List (List ℕ)) → length (entry_step (begun new at) (Did r drawn)).links ≡ length (entry_step at (Did r other)).links
   unfolding entry_step note_step
   links_begun new drawn other =
-      let c = change_of at.store (note_of at.store r []) in
-      links_many (begun_keys new at.keys) (edges at.store) c (due drawn)
+      let k = begun_keys new at.keys in
+      let c = change_of (is_strict at.keys) at.store (note_of at.store r []) in
+      links_many k (edges at.store) (change_begun new) (due drawn)
+      ∙ ap (λ (x : Change). length (published_edges (edges at.store) x (renewed k (edges at.store) x))) (same_begun new)
       ∙ ap (λ plan. length (published_edges (edges at.store) c plan)) (begun_renewed new at.keys (edges at.store) c)
       ∙ sym (links_many at.keys (edges at.store) c (due other))
 
   pub contents_due : (new : Bool) (drawn : List (List ℕ)) → length (entry_step (begun new at) (Did r drawn)).contents ≡ length (due drawn)
   unfolding entry_step note_step
-  contents_due new drawn = contents_many (begun_keys new at.keys) (edges at.store) (change_of at.store (note_of at.store r [])) (due drawn)
+  contents_due new drawn = contents_many (begun_keys new at.keys) (edges at.store) (change_begun new) (due drawn)
 
   pub payload_due : (new : Bool) (drawn : List (List ℕ)) → entry_payload (begun new at) (Did r drawn)
       ≡ note_len (note_of at.store r []) + 8 + 98 * length (entry_step at (Did r drawn)).links + sum_by piece_len (due drawn)
@@ -115,7 +127,7 @@ module _ (at : Stand) (r : Request) where
       let n = note_len (note_of at.store r []) + 8 in
       ap (λ l. n + 98 * l + sum_by content_len (entry_step (begun new at) (Did r drawn)).contents) (links_begun new drawn drawn)
       ∙ ap (λ l. n + 98 * length (entry_step at (Did r drawn)).links + l)
-      (unfold entry_step note_step in contents_long (begun_keys new at.keys) (edges at.store) (change_of at.store (note_of at.store r [])) (due drawn))
+      (unfold entry_step note_step in contents_long (begun_keys new at.keys) (edges at.store) (change_begun new) (due drawn))
 
 -- ---- how long its text is
 
@@ -137,10 +149,10 @@ due_weighs m r drawn file_bytes valid none =
     (λ p i. ap length (sealed s r (first_key drawn) [] (accepted s r file_bytes none) (journal_counted m) (journal_tree m valid) p i))
 
 draws_for_holder : (m : Journal) → 1 ≤ draws_of m AddHolder
-unfolding draws_of entry_step note_step note_of change_of no_change
+unfolding draws_of entry_step note_step note_of change_of row_change no_change
 draws_for_holder m =
     let at = stand_after nothing m in
-    let c = change_of at.store (note_of at.store AddHolder []) in
+    let c = change_of (is_strict at.keys) at.store (note_of at.store AddHolder []) in
     let plan = renewed at.keys (edges at.store) c in
     let many = given_many at.keys (edges at.store) c (due at AddHolder []) in
     let joined : length (plan ++ c.fresh) ≡ length plan + 1 = length-append plan c.fresh in

@@ -12,6 +12,7 @@ use Rattle.move_plan.specs.Noting.{note_of}
 use Rattle.public_fold.specs.Fitted.{told_step}
 use Rattle.public_fold.specs.Journal.{Entry, Journal, Stand, nothing, entry_step, keys_of, stand_then, stand_after, store_of}
 use Rattle.public_fold.specs.Journal.Entry.{Did}
+use Rattle.public_fold.specs.KeyStep.{is_strict}
 use Rattle.public_fold.specs.Preparing.{begun}
 use Rattle.public_fold.specs.StandFits.{all_fit, entry_fits, has_count, note_fits}
 use Rattle.public_fold.specs.Valid.{IsValid}
@@ -35,16 +36,17 @@ module _ (m : Journal) (has_begun : Bool) (r : Request) (file_bytes : ℕ) (vali
   unfolding note_fits has_count entry_fits public_stand store_of keys_of
   fits_low check low =
       let at = begun (not has_begun) (stand_after nothing m) in
+      let strict = is_strict at.keys in
       let note = note_of (store_of m) r check in
       let drawn : List (List ℕ) = replicate (draws_of m r) (replicate 32 0) in
       let next = next_valid m has_begun r drawn file_bytes valid bound none (length-replicate (draws_of m r) (replicate 32 0)) (All-replicate (λ (key : List ℕ). length key ≡ 32) (draws_of m r) (replicate 32 0) refl) low in
       let last = subst (λ (a : Stand). entry_fits a (Did r drawn) ≡ true) (stand_between m has_begun) (last_fits nothing (between m has_begun) (Did r drawn) (journal_all_fit _ next)) in
-      let parts = and_parts (nat_lt 0 at.keys.epoch) (fits at.store (note_of at.store r []) && has_count (entry_step at (Did r drawn))) last in
-      let counted = (and_parts (fits at.store (note_of at.store r [])) (has_count (entry_step at (Did r drawn))) parts.1).1 in
-      let seen : fits (public_of at.store) note ≡ true = fits_seen at.store note ∙ journal_fits m valid r check file_bytes none in
+      let parts = and_parts (nat_lt 0 at.keys.epoch) (fits strict at.store (note_of at.store r []) && has_count (entry_step at (Did r drawn))) last in
+      let counted = (and_parts (fits strict at.store (note_of at.store r [])) (has_count (entry_step at (Did r drawn))) parts.1).1 in
+      let seen : fits strict (public_of at.store) note ≡ true = fits_seen strict at.store note ∙ journal_fits strict m valid r check file_bytes none in
       let same = told_keys at r check drawn file_bytes none in
-      and_from (nat_lt 0 at.keys.epoch) (fits (public_of at.store) note && has_count (told_step (begun (not has_begun) (public_stand m)) note)) parts.0
-      (and_from (fits (public_of at.store) note) (has_count (told_step (begun (not has_begun) (public_stand m)) note)) seen
+      and_from (nat_lt 0 at.keys.epoch) (fits strict (public_of at.store) note && has_count (told_step (begun (not has_begun) (public_stand m)) note)) parts.0
+      (and_from (fits strict (public_of at.store) note) (has_count (told_step (begun (not has_begun) (public_stand m)) note)) seen
       (ap (λ k. nat_lt k.count (2 ^ 32 - 1)) same ∙ counted))
 
   pub fits_or_full : (check : List ℕ)

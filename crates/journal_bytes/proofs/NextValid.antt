@@ -13,7 +13,7 @@ use Rattle.cry_base.specs.Store.{Store}
 use Rattle.cry_base.specs.declared.commands.Refusal.{Refusal}
 use Rattle.cry_base.specs.declared.commands.Refusal.TheVariants.{BadName, NoPath, IsRoot, NotFolder, IsFolder, Exists, NotEmpty, InsideItself, TooDeep, NoHolder, HasGrant, NoGrant, TooLong}
 use Rattle.public_fold.specs.Journal.{Entry, Journal, Stand, nothing, stand_then, stand_after, store_of}
-use Rattle.public_fold.specs.Journal.Entry.{Session, Made, Did}
+use Rattle.public_fold.specs.Journal.Entry.{Session, Made, Did, Upgraded}
 use Rattle.public_fold.specs.Lengths.{end_of, entry_payload, payloads_from}
 use Rattle.public_fold.specs.Valid.{BeginsWell, FollowOn, IsNext, IsValid}
 use Rattle.public_fold.proofs.Settling.{no_cause}
@@ -71,10 +71,12 @@ unfolding stand_after
 begins-append [] more b f = absurd b
 begins-append (Session ∷ []) more b f = absurd b
 begins-append (Session ∷ Session ∷ es) more b f = absurd b
-begins-append (Session ∷ Made keys ∷ es) more b f = (b.0, follow-append (stand_then (stand_then nothing Session) (Made keys)) es more b.1 f)
+begins-append (Session ∷ Made version keys ∷ es) more b f = (b.0, follow-append (stand_then (stand_then nothing Session) (Made version keys)) es more b.1 f, b.2)
 begins-append (Session ∷ Did request keys ∷ es) more b f = absurd b
-begins-append (Made keys ∷ es) more b f = absurd b
+begins-append (Session ∷ Upgraded keys ∷ es) more b f = absurd b
+begins-append (Made version keys ∷ es) more b f = absurd b
 begins-append (Did request keys ∷ es) more b f = absurd b
+begins-append (Upgraded keys ∷ es) more b f = absurd b
 
 payloads-append : (at : Stand) (xs ys : List Entry) → payloads_from at (xs ++ ys) ≡ payloads_from at xs ++ payloads_from (stand_after at xs) ys
 unfolding payloads_from stand_after

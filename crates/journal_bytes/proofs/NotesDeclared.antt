@@ -20,3 +20,5 @@ told_back (declared.ShiftFile file into) = refl
 told_back (declared.ShiftFolder folder into) = refl
 told_back (declared.Give holder folder) = refl
 told_back (declared.Take holder folder) = refl
+told_back declared.StrictRoot = refl
+told_back declared.Upgrade = refl

@@ -13,7 +13,7 @@ use Rattle.cry_base.specs.Store.{Store, FolderEntry, FileEntry, no_store, root_s
 use Rattle.log_visits.specs.Visiting.{is_file_text, is_folder_text}
 use Rattle.move_plan.specs.Noting.{note_of}
 use Rattle.public_fold.specs.Journal.{Entry, Journal, Stand, nothing, first_key, entry_store, stand_then, stand_after, store_of}
-use Rattle.public_fold.specs.Journal.Entry.{Session, Made, Did}
+use Rattle.public_fold.specs.Journal.Entry.{Session, Made, Did, Upgraded}
 use Rattle.public_fold.specs.Records.{Piece, pieces_of, text_of}
 use Rattle.public_fold.specs.Valid.{BeginsWell, FollowOn, IsValid}
 use Rattle.public_fold.proofs.Accepting.{accepted}
@@ -69,20 +69,23 @@ after_plain : (entries : List Entry) (at : Stand) → IsSound at.store → IsPla
 unfolding stand_after stand_then entry_store drawn_by
 after_plain [] at sound plain f fed = plain
 after_plain (Session ∷ entries) at sound plain f fed = after_plain entries (stand_then at Session) sound plain f.1 fed.1
-after_plain (Made keys ∷ entries) at sound plain f fed = absurd f.0
+after_plain (Made version keys ∷ entries) at sound plain f fed = absurd f.0
 after_plain (Did r keys ∷ entries) at sound plain f fed =
     after_plain entries (stand_then at (Did r keys)) (effect_sound at.store r (first_key keys) most_file_bytes f.0.0 sound)
     (effect_plain at.store r (first_key keys) sound f.0.0 (key_sized at r keys fed.0.many fed.0.sizes) plain) f.1 fed.1
+after_plain (Upgraded keys ∷ entries) at sound plain f fed = after_plain entries (stand_then at (Upgraded keys)) sound plain f.1 fed.1
 
 begun_plain : (m : Journal) → BeginsWell m → AreFed nothing m → IsPlain (stand_after nothing m).store
 unfolding stand_after stand_then entry_store nothing
 begun_plain [] b fed = absurd b
 begun_plain (Session ∷ []) b fed = absurd b
 begun_plain (Session ∷ Session ∷ es) b fed = absurd b
-begun_plain (Session ∷ Made keys ∷ es) b fed = after_plain es (stand_then (stand_then nothing Session) (Made keys)) root_sound root_plain b.1 fed.1.1
+begun_plain (Session ∷ Made version keys ∷ es) b fed = after_plain es (stand_then (stand_then nothing Session) (Made version keys)) root_sound root_plain b.1 fed.1.1
 begun_plain (Session ∷ Did r keys ∷ es) b fed = absurd b
-begun_plain (Made keys ∷ es) b fed = absurd b
+begun_plain (Session ∷ Upgraded keys ∷ es) b fed = absurd b
+begun_plain (Made version keys ∷ es) b fed = absurd b
 begun_plain (Did r keys ∷ es) b fed = absurd b
+begun_plain (Upgraded keys ∷ es) b fed = absurd b
 
 pub journal_plain : (owner : List ℕ) (m : Journal) → IsValid m → AreWhole owner m → IsPlain (store_of m)
 unfolding store_of

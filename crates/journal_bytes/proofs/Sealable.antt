@@ -1,5 +1,5 @@
 -- The steps of commands in valid journals can be sealed.
-use Rattle.std.proofs.Common.{◌≡◌, ◌≢◌, ⊎_elim, inl, inr, ℕ, ◌+◌, ◌≤◌, ◌==◌, List, [], ◌∷◌, ◌++◌, length, map, Option, Some, None, arith, refl, sym, ap, subst, ◌∙◌}
+use Rattle.std.proofs.Common.{◌≡◌, ◌≢◌, ⊎_elim, inl, inr, ℕ, ◌+◌, ◌≤◌, Bool, ◌==◌, List, [], ◌∷◌, ◌++◌, length, map, Option, Some, None, arith, refl, sym, ap, subst, ◌∙◌}
 use Rattle.std.specs.Prelude.{unwrap_or}
 use Rattle.std.proofs.lemmas.Bool.{eqb-true, false≢true}
 use Rattle.std.proofs.lemmas.List.{length-map}
@@ -20,19 +20,18 @@ use Rattle.role_graph.specs.Roles.{clear_of, sub_of, back_of, files_of, data_of,
 use Rattle.role_graph.proofs.Edging.{edges_told}
 use Rattle.role_graph.proofs.Rising.{ascending_ascends, before_self}
 use Rattle.role_graph.proofs.RowsOfEdges.{each_edge}
-use Rattle.move_plan.specs.Change.{Change, no_change, change_of}
+use Rattle.move_plan.specs.Change.{Change, no_change, row_change, change_of}
 use Rattle.move_plan.specs.Noting.{note_of}
 use Rattle.record_format.specs.Noted.{Note}
-use Rattle.record_format.specs.Noted.Note.{Root, NewHolder, NewFolder, NewFile, Rewrite, NameFile, NameFolder, DropFile, DropFolder, ShiftFile, ShiftFolder, Give, Take}
-use Rattle.rekey_walk.specs.Dirty.{plan}
+use Rattle.record_format.specs.Noted.Note.{Root, NewHolder, NewFolder, NewFile, Rewrite, NameFile, NameFolder, DropFile, DropFolder, ShiftFile, ShiftFolder, Give, Take, StrictRoot, Upgrade}
 use Rattle.public_fold.specs.Journal.{Entry, Journal, Stand, nothing, first_key, note_step, entry_step, entry_store, stand_then, stand_after, store_of, keys_of, steps_of}
-use Rattle.public_fold.specs.Journal.Entry.{Session, Made, Did}
+use Rattle.public_fold.specs.Journal.Entry.{Session, Made, Did, Upgraded}
 use Rattle.public_fold.specs.Keyed.{HasRole, KeysHold, links_of}
-use Rattle.public_fold.specs.KeyStep.{KeyState, content_of, contents_from, edges_then, given, is_published, key_step, keys_then, link_of, links_from, newest, next_serial, numbered, present, published, published_edges, renewed, step_with}
+use Rattle.public_fold.specs.KeyStep.{KeyState, is_strict, content_of, contents_from, edges_then, given, is_published, key_step, keys_then, link_of, links_from, newest, next_serial, numbered, present, published, published_edges, renewed, step_with}
 use Rattle.public_fold.specs.Records.{Content, Link, Piece, file_piece, folder_piece, holder_piece, pieces_of, sealing_role}
 use Rattle.public_fold.specs.Valid.{BeginsWell, FollowOn, IsValid}
 use Rattle.public_fold.proofs.EdgesThen.{then_told}
-use Rattle.public_fold.proofs.KeepingKeys.{IsMove, keys_after, marked_no_root, marked_stands, planned_told}
+use Rattle.public_fold.proofs.KeepingKeys.{IsMove, keys_after, renewed_stands}
 use Rattle.public_fold.proofs.KeyMoves.{IsSound, command_moves, effect_sound, journal_holds, root_sound}
 use Rattle.public_fold.proofs.Serials.{numbered-length}
 use Rattle.journal_bytes.specs.Sealing.{EachOnce, IsSealable}
@@ -63,21 +62,27 @@ folder_once f =
     (clear, (sub, (back, (files, (data_last, tt)))))
 
 -- no note brings a role twice
-pub fresh_once : (s : Store) (note : Note) → EachOnce (change_of s note).fresh
-unfolding change_of no_change
-fresh_once s Root = folder_once 1
-fresh_once s (NewHolder h check) = (λ i. i, tt)
-fresh_once s (NewFolder f p) = folder_once f
-fresh_once s (NewFile x f) = (λ i. i, tt)
-fresh_once s (Rewrite x) = tt
-fresh_once s (NameFile x) = tt
-fresh_once s (NameFolder f) = tt
-fresh_once s (DropFile x) = tt
-fresh_once s (DropFolder f) = tt
-fresh_once s (ShiftFile x g) = tt
-fresh_once s (ShiftFolder g q) = tt
-fresh_once s (Give h f) = tt
-fresh_once s (Take h f) = tt
+row_once : (s : Store) (note : Note) → EachOnce (row_change s note).fresh
+unfolding row_change no_change
+row_once s Root = folder_once 1
+row_once s (NewHolder h check) = (λ i. i, tt)
+row_once s (NewFolder f p) = folder_once f
+row_once s (NewFile x f) = (λ i. i, tt)
+row_once s (Rewrite x) = tt
+row_once s (NameFile x) = tt
+row_once s (NameFolder f) = tt
+row_once s (DropFile x) = tt
+row_once s (DropFolder f) = tt
+row_once s (ShiftFile x g) = tt
+row_once s (ShiftFolder g q) = tt
+row_once s (Give h f) = tt
+row_once s (Take h f) = tt
+row_once s StrictRoot = folder_once 1
+row_once s Upgrade = tt
+
+pub fresh_once : (strict : Bool) (s : Store) (note : Note) → EachOnce (change_of strict s note).fresh
+unfolding change_of
+fresh_once strict s note = row_once s note
 
 -- ---- what is sealed
 
@@ -140,6 +145,8 @@ pieces_due (ShiftFile x g) t = none_due t
 pieces_due (ShiftFolder g q) t = none_due t
 pieces_due (Give h f) t = none_due t
 pieces_due (Take h f) t = none_due t
+pieces_due StrictRoot t = folder_due t 1
+pieces_due Upgrade t = none_due t
 
 -- ---- a step that moves one store to another
 
@@ -173,17 +180,16 @@ content_from keys n ps c i =
 
 module _ (s t : Store) (k : KeyState) (c : Change) (links : List Link) (pieces : List Piece) (mv : IsMove s c t) (ok : KeysHold s k links) (once : EachOnce c.fresh) (due : ArePieces t pieces) where
   roles_once : EachOnce (renewed k (edges s) c ++ c.fresh)
-  unfolding renewed plan
+  unfolding renewed
   roles_once =
       once_append (renewed k (edges s) c) c.fresh (ascending_once (renewed k (edges s) c) (ascending_ascends _)) once
-      (λ r i j. mv.fresh_is_new r j (marked_stands s t k c links mv ok r ((planned_told s t k c links mv ok r).0 i).0))
+      (λ r i j. mv.fresh_is_new r j (renewed_stands s t k c links mv ok r i).0)
 
   not_owner : (r : Role) → In r (renewed k (edges s) c ++ c.fresh) → r ≢ Owner
   unfolding is_root_role variant_of
   not_owner r i e =
       ⊎_elim
-      (λ u. let marked = ((planned_told s t k c links mv ok r).0 u).0 in
-      false≢true (sym (marked_no_root s t k c links mv ok r marked) ∙ ap is_root_role e))
+      (λ u. false≢true (sym (renewed_stands s t k c links mv ok r u).1.1 ∙ ap is_root_role e))
       (λ v. mv.fresh_is_new Owner (subst (λ x. In x c.fresh) e v) tt)
       ((In-append Role r (renewed k (edges s) c) c.fresh).0 i)
 
@@ -241,18 +247,21 @@ after_sound : (entries : List Entry) (at : Stand) → IsSound at.store → Follo
 unfolding stand_after stand_then entry_store
 after_sound [] at sound f = sound
 after_sound (Session ∷ entries) at sound f = after_sound entries (stand_then at Session) sound f.1
-after_sound (Made keys ∷ entries) at sound f = absurd f.0
+after_sound (Made version keys ∷ entries) at sound f = absurd f.0
 after_sound (Did request keys ∷ entries) at sound f = after_sound entries (stand_then at (Did request keys)) (effect_sound at.store request (first_key keys) most_file_bytes f.0.0 sound) f.1
+after_sound (Upgraded keys ∷ entries) at sound f = after_sound entries (stand_then at (Upgraded keys)) sound f.1
 
 pub begun_sound : (m : Journal) → BeginsWell m → IsSound (stand_after nothing m).store
 unfolding stand_after stand_then entry_store nothing
 begun_sound [] b = absurd b
 begun_sound (Session ∷ []) b = absurd b
 begun_sound (Session ∷ Session ∷ es) b = absurd b
-begun_sound (Session ∷ Made keys ∷ es) b = after_sound es (stand_then (stand_then nothing Session) (Made keys)) root_sound b.1
+begun_sound (Session ∷ Made version keys ∷ es) b = after_sound es (stand_then (stand_then nothing Session) (Made version keys)) root_sound b.1
 begun_sound (Session ∷ Did request keys ∷ es) b = absurd b
-begun_sound (Made keys ∷ es) b = absurd b
+begun_sound (Session ∷ Upgraded keys ∷ es) b = absurd b
+begun_sound (Made version keys ∷ es) b = absurd b
 begun_sound (Did request keys ∷ es) b = absurd b
+begun_sound (Upgraded keys ∷ es) b = absurd b
 
 pub command_sealable : (m : Journal) → IsValid m → (request : Request) (drawn : List (List ℕ)) (file_bytes : ℕ) → refusal_of (store_of m) request file_bytes ≡ None
     → IsSealable (entry_step (stand_after nothing m) (Did request drawn))
@@ -261,5 +270,5 @@ command_sealable m valid request drawn file_bytes none =
     let at = stand_after nothing m in
     let note = note_of at.store request [] in
     let t = effect at.store request (first_key drawn) in
-    step_sealable at.store t at.keys (change_of at.store note) (links_of (steps_of m)) (pieces_of note t)
-    (command_moves at.store request (first_key drawn) [] file_bytes none (begun_sound m valid.0)) (journal_holds m valid) (fresh_once at.store note) (pieces_due note t)
+    step_sealable at.store t at.keys (change_of (is_strict at.keys) at.store note) (links_of (steps_of m)) (pieces_of note t)
+    (command_moves (is_strict at.keys) at.store request (first_key drawn) [] file_bytes none (begun_sound m valid.0)) (journal_holds m valid) (fresh_once (is_strict at.keys) at.store note) (pieces_due note t)

@@ -1,5 +1,5 @@
 -- Whether a note fits a store hangs on nothing that everyone may not see.
-use Rattle.std.proofs.Common.{◌≡◌, ℕ, ◌+◌, not, ◌==◌, ◌&&◌, ◌||◌, [], Option, Some, None, refl, ap, ◌∙◌}
+use Rattle.std.proofs.Common.{◌≡◌, ℕ, ◌+◌, not, ◌==◌, ◌&&◌, ◌||◌, [], Option, Some, None, refl, ap, ◌∙◌, Bool}
 use Rattle.std.specs.Prelude.{is_some, nat_lt, nat_le}
 use Rattle.std.specs.Option.{option_map}
 use Rattle.cry_base.specs.Refusing.{deepest, has_child, height_of, is_node_within}
@@ -10,7 +10,7 @@ use Rattle.folder_nodes.proofs.Named.{child_named, depth_named, height_named, wi
 use Rattle.move_plan.specs.Change.{folder_of_file, parent_of_folder}
 use Rattle.move_plan.specs.Fitting.{file_stands, fits, folder_stands, has_depth_left, is_other_folder, may_go_into, needs_root, public_of, row_fits}
 use Rattle.record_format.specs.Noted.{Note}
-use Rattle.record_format.specs.Noted.Note.{Root, NewHolder, NewFolder, NewFile, Rewrite, NameFile, NameFolder, DropFile, DropFolder, ShiftFile, ShiftFolder, Give, Take}
+use Rattle.record_format.specs.Noted.Note.{Root, NewHolder, NewFolder, NewFile, Rewrite, NameFile, NameFolder, DropFile, DropFolder, ShiftFile, ShiftFolder, Give, Take, StrictRoot, Upgrade}
 
 abbrev nameless : Titles
 nameless = record { folders = []; files = []; spare = 0 }
@@ -53,7 +53,7 @@ folder_in : (o : Option FileEntry) → elim (option_map (λ (e : FileEntry). rec
 folder_in None = refl
 folder_in (Some e) = refl
 
-place_seen : (s : Store) (x : ℕ) → folder_of_file (public_of s) x ≡ folder_of_file s x
+pub place_seen : (s : Store) (x : ℕ) → folder_of_file (public_of s) x ≡ folder_of_file s x
 unfolding folder_of_file
 place_seen s x = ap (λ o. elim o as (λ o. ℕ) [ None ↦ 0 | Some e ↦ e.folder ]) (file_seen s x) ∙ folder_in (file_entry s x)
 
@@ -90,22 +90,24 @@ go_into_seen s g q = λ i.
     && not (parent_seen s g i == q) && not (within_seen s q g i)
     && nat_le (depth_seen s q i + 1 + height_seen s g i) 64
 
-row_seen : (s : Store) (note : Note) → row_fits (public_of s) note ≡ row_fits s note
+row_seen : (strict : Bool) (s : Store) (note : Note) → row_fits strict (public_of s) note ≡ row_fits strict s note
 unfolding row_fits public_of has_grant
-row_seen s Root = refl
-row_seen s (NewHolder h check) = refl
-row_seen s (NewFolder f p) = ap (λ b. f == s.folders_made + 1 && b) (depth_left_seen s p)
-row_seen s (NewFile x f) = ap (λ b. x == s.files_made + 1 && b) (depth_left_seen s f)
-row_seen s (Rewrite x) = file_stands_seen s x
-row_seen s (NameFile x) = file_stands_seen s x
-row_seen s (NameFolder f) = other_folder_seen s f
-row_seen s (DropFile x) = file_stands_seen s x
-row_seen s (DropFolder f) = λ i. other_folder_seen s f i && not (child_seen s f i)
-row_seen s (ShiftFile x g) = λ i. file_stands_seen s x i && depth_left_seen s g i && not (place_seen s x i == g)
-row_seen s (ShiftFolder g q) = go_into_seen s g q
-row_seen s (Give h f) = λ i. holder_stands_seen s h i && folder_stands_seen s f i && not (has_grant s h f)
-row_seen s (Take h f) = refl
+row_seen strict s Root = refl
+row_seen strict s (NewHolder h check) = refl
+row_seen strict s (NewFolder f p) = ap (λ b. f == s.folders_made + 1 && b) (depth_left_seen s p)
+row_seen strict s (NewFile x f) = ap (λ b. x == s.files_made + 1 && b) (depth_left_seen s f)
+row_seen strict s (Rewrite x) = file_stands_seen s x
+row_seen strict s (NameFile x) = file_stands_seen s x
+row_seen strict s (NameFolder f) = other_folder_seen s f
+row_seen strict s (DropFile x) = file_stands_seen s x
+row_seen strict s (DropFolder f) = λ i. other_folder_seen s f i && not (child_seen s f i)
+row_seen strict s (ShiftFile x g) = λ i. file_stands_seen s x i && depth_left_seen s g i && not (place_seen s x i == g)
+row_seen strict s (ShiftFolder g q) = go_into_seen s g q
+row_seen strict s (Give h f) = λ i. holder_stands_seen s h i && folder_stands_seen s f i && not (has_grant s h f)
+row_seen strict s (Take h f) = refl
+row_seen strict s StrictRoot = refl
+row_seen strict s Upgrade = refl
 
-pub fits_seen : (s : Store) (note : Note) → fits (public_of s) note ≡ fits s note
+pub fits_seen : (strict : Bool) (s : Store) (note : Note) → fits strict (public_of s) note ≡ fits strict s note
 unfolding fits
-fits_seen s note = λ i. row_seen s note i && (not (needs_root note) || folder_stands_seen s 1 i)
+fits_seen strict s note = λ i. row_seen strict s note i && (not (needs_root note) || folder_stands_seen s 1 i)

@@ -13,6 +13,7 @@ use Rattle.public_fold.proofs.NoteMoves.{note_moves}
 use Rattle.public_fold.proofs.TurnsHold.{epoch_stands, first_note, first_stands, fit_told, log_holds}
 use Rattle.journal_bytes.specs.Sealing.{IsSealable}
 use Rattle.journal_bytes.proofs.Sealable.{fresh_once, pieces_due, step_sealable}
+use Rattle.public_fold.specs.KeyStep.{is_strict}
 
 -- what holds of a stand holds once an epoch was begun, where a note fits it then
 pub begun_holds : (new : Bool) (turns : List Turn) (note : Note) → turns_fit nothing turns ≡ true
@@ -29,8 +30,8 @@ pub holding_sealable : (at : Stand) (links : List Link) (note : Note) → StandH
 unfolding told_step note_step
 holding_sealable at links note holds f =
     let after = told_store at.store note in
-    step_sealable at.store after at.keys (change_of at.store note) links (pieces_of note after)
-    (note_moves at.store note (unfold told_step note_step in (fit_told at note f).0) holds.store) holds.keys (fresh_once at.store note) (pieces_due note after)
+    step_sealable at.store after at.keys (change_of (is_strict at.keys) at.store note) links (pieces_of note after)
+    (note_moves (is_strict at.keys) at.store note (unfold told_step note_step in (fit_told at note f).0) holds.store) holds.keys (fresh_once (is_strict at.keys) at.store note) (pieces_due note after)
 
 pub begun_sealable : (new : Bool) (turns : List Turn) (note : Note) → turns_fit nothing turns ≡ true
     → note_fits (begun new (turns_stand nothing turns)) note (told_step (begun new (turns_stand nothing turns)) note) ≡ true

@@ -1,5 +1,5 @@
 -- Each payload of a valid journal has a spelling.
-use Rattle.std.proofs.Common.{◌≡◌, ⊎_elim, inl, inr, ℕ, ◌+◌, ◌≤◌, ◌<◌, Bool, true, not, ◌==◌, ◌&&◌, List, [], ◌∷◌, ◌++◌, length, All, Option, Some, None, Ok, arith, refl, ap, subst}
+use Rattle.std.proofs.Common.{◌≡◌, ⊎_elim, inl, inr, ℕ, ◌+◌, ◌≤◌, ◌<◌, Bool, true, not, ◌==◌, ◌&&◌, List, [], ◌∷◌, ◌++◌, length, All, Option, Some, None, Ok, arith, refl, ap, subst, false}
 use Rattle.std.specs.Prelude.{◌-◌, ◌^◌, find, is_some, nat_le, nat_lt}
 use Rattle.std.proofs.lemmas.Bool.{and_parts, eqb-true, false≢true, leb-true, ltb-true}
 use Rattle.std.proofs.lemmas.List.{length-map}
@@ -34,7 +34,7 @@ use Rattle.move_plan.specs.Change.{Change, change_of}
 use Rattle.move_plan.specs.Fitting.{file_stands, fits, folder_stands, has_depth_left, is_other_folder, may_go_into, row_fits}
 use Rattle.move_plan.specs.Noting.{note_of}
 use Rattle.record_format.specs.Noted.{Note}
-use Rattle.record_format.specs.Noted.Note.{Root, NewHolder, NewFolder, NewFile, Rewrite, NameFile, NameFolder, DropFile, DropFolder, ShiftFile, ShiftFolder, Give, Take}
+use Rattle.record_format.specs.Noted.Note.{Root, NewHolder, NewFolder, NewFile, Rewrite, NameFile, NameFolder, DropFile, DropFolder, ShiftFile, ShiftFolder, Give, Take, StrictRoot, Upgrade}
 use Rattle.record_format.specs.Spellable.{IsContent, IsLink, IsNote, IsSpellable, longest_text, shortest_text}
 use Rattle.record_format.specs.declared.note.Note.{Note as Declared}
 use Rattle.role_graph.specs.Edges.{edges}
@@ -42,10 +42,10 @@ use Rattle.role_graph.specs.RightsByReach.{HasFolder}
 use Rattle.role_graph.specs.Roles.{role_id}
 use Rattle.role_graph.specs.Tabled.{row_of}
 use Rattle.public_fold.specs.Counted.{AreCounted}
-use Rattle.public_fold.specs.Journal.{Entry, Journal, Stand, nothing, first_key, note_step, entry_step, entry_store, stand_then}
-use Rattle.public_fold.specs.Journal.Entry.{Session, Made, Did}
+use Rattle.public_fold.specs.Journal.{Entry, Journal, Stand, nothing, first_key, note_step, entry_step, entry_store, stand_then, root_note}
+use Rattle.public_fold.specs.Journal.Entry.{Session, Made, Did, Upgraded}
 use Rattle.public_fold.specs.Keyed.{HasRole, KeysHold}
-use Rattle.public_fold.specs.KeyStep.{KeyState, Stepped, given, key_step, keys_then, newest, next_epoch, link_of, links_from, next_serial, no_keys, numbered, published, published_edges, renewed, step_with}
+use Rattle.public_fold.specs.KeyStep.{KeyState, Stepped, given, key_step, keys_then, newest, next_epoch, link_of, links_from, next_serial, no_keys, numbered, published, published_edges, renewed, step_with, is_strict}
 use Rattle.public_fold.specs.Lengths.{end_of, entry_payload, payloads_from}
 use Rattle.public_fold.specs.Records.{Content, Link, Piece, file_piece, folder_piece, holder_piece, pieces_of, sealing_role, text_of}
 use Rattle.public_fold.specs.StandFits.{all_fit, entry_fits, has_count, note_fits}
@@ -53,7 +53,7 @@ use Rattle.public_fold.specs.Valid.{BeginsWell, FollowOn, IsValid}
 use Rattle.public_fold.proofs.Accepting.{accepted}
 use Rattle.public_fold.proofs.AllFit.{journal_all_fit}
 use Rattle.public_fold.proofs.KeepingKeys.{IsMove, keys_after}
-use Rattle.public_fold.proofs.KeyMoves.{IsSound, command_moves, effect_sound, epoch_holds, nothing_holds, root_moves, root_sound}
+use Rattle.public_fold.proofs.KeyMoves.{IsSound, command_moves, effect_sound, epoch_holds, nothing_holds, root_moves, root_sound, upgrade_moves}
 use Rattle.public_fold.proofs.NotesFit as notes
 use Rattle.public_fold.proofs.Serials.{contents_between, keys_between, links_between, numbered-length}
 use Rattle.public_fold.proofs.SerialsKept.{spent}
@@ -67,9 +67,10 @@ use Rattle.journal_bytes.specs.Sealing.{EachOnce, IsSealable}
 use Rattle.journal_bytes.proofs.Ascending.{session_rises, step_rises}
 use Rattle.journal_bytes.proofs.Counted as having
 use Rattle.journal_bytes.proofs.Counted.{HaveKeys, IsFed, found, have_at_first, have_then}
-use Rattle.journal_bytes.proofs.Followed.{command_contents, key_sized, made_contents}
+use Rattle.journal_bytes.proofs.Followed.{command_contents, key_sized, made_contents, upgraded_contents}
 use Rattle.journal_bytes.proofs.Followings.{holder_reads, writer_reads}
 use Rattle.journal_bytes.proofs.Published.{journal_read}
+use Rattle.journal_bytes.proofs.RootNotes.{of_root}
 use Rattle.journal_bytes.proofs.Sealable.{ArePieces, content_from, fresh_once, pieces_due, step_sealable}
 use Rattle.journal_bytes.proofs.TextSizes.{AreShort, IsSized, effect_short, root_short}
 use Rattle.journal_bytes.proofs.Walked.{In-list_all, newest_of, newest_serial}
@@ -184,39 +185,41 @@ into_there s g q c t =
     let one = and_parts (is_other_folder s g) (folder_stands s q) two.0 in
     (other_there s g c one.0, folder_there s q c one.1)
 
-note_small : (s : Store) (note : Note) → IsSound s → row_fits s note ≡ true → made s + 1 < 4294967296 → HasCheck note → IsNote (declared_note note)
+note_small : (strict : Bool) (s : Store) (note : Note) → IsSound s → row_fits strict s note ≡ true → made s + 1 < 4294967296 → HasCheck note → IsNote (declared_note note)
 unfolding row_fits declared_note
-note_small s Root sound t small check = tt
-note_small s (NewHolder h c) sound t small check = let new = eqb-true h (s.holders_made + 1) t in (omega (arith, new, small), check)
-note_small s (NewFolder f p) sound t small check =
+note_small strict s Root sound t small check = tt
+note_small strict s (NewHolder h c) sound t small check = let new = eqb-true h (s.holders_made + 1) t in (omega (arith, new, small), check)
+note_small strict s (NewFolder f p) sound t small check =
     let both = and_parts (f == s.folders_made + 1) (has_depth_left s p) t in
     let new = eqb-true f (s.folders_made + 1) both.0 in
     let low = left_there s p sound.counted both.1 in (omega (arith, new, small), omega (arith, low, small))
-note_small s (NewFile x f) sound t small check =
+note_small strict s (NewFile x f) sound t small check =
     let both = and_parts (x == s.files_made + 1) (has_depth_left s f) t in
     let new = eqb-true x (s.files_made + 1) both.0 in
     let low = left_there s f sound.counted both.1 in (omega (arith, new, small), omega (arith, low, small))
-note_small s (Rewrite x) sound t small check = let low = file_there s x sound.counted t in omega (arith, low, small)
-note_small s (NameFile x) sound t small check = let low = file_there s x sound.counted t in omega (arith, low, small)
-note_small s (NameFolder f) sound t small check = let low = other_there s f sound.counted t in omega (arith, low, small)
-note_small s (DropFile x) sound t small check = let low = file_there s x sound.counted t in omega (arith, low, small)
-note_small s (DropFolder f) sound t small check = let low = other_there s f sound.counted (and_parts (is_other_folder s f) _ t).0 in omega (arith, low, small)
-note_small s (ShiftFile x g) sound t small check =
+note_small strict s (Rewrite x) sound t small check = let low = file_there s x sound.counted t in omega (arith, low, small)
+note_small strict s (NameFile x) sound t small check = let low = file_there s x sound.counted t in omega (arith, low, small)
+note_small strict s (NameFolder f) sound t small check = let low = other_there s f sound.counted t in omega (arith, low, small)
+note_small strict s (DropFile x) sound t small check = let low = file_there s x sound.counted t in omega (arith, low, small)
+note_small strict s (DropFolder f) sound t small check = let low = other_there s f sound.counted (and_parts (is_other_folder s f) _ t).0 in omega (arith, low, small)
+note_small strict s (ShiftFile x g) sound t small check =
     let two = and_parts _ _ t in
     let one = and_parts (file_stands s x) (has_depth_left s g) two.0 in
     let first = file_there s x sound.counted one.0 in
     let second = left_there s g sound.counted one.1 in (omega (arith, first, small), omega (arith, second, small))
-note_small s (ShiftFolder g q) sound t small check =
+note_small strict s (ShiftFolder g q) sound t small check =
     let both = into_there s g q sound.counted t in
     let first = both.0 in let second = both.1 in (omega (arith, first, small), omega (arith, second, small))
-note_small s (Give h f) sound t small check =
+note_small strict s (Give h f) sound t small check =
     let two = and_parts _ _ t in
     let one = and_parts (is_some (holder_entry s h)) (folder_stands s f) two.0 in
     let first = holder_there s h sound.counted one.0 in
     let second = folder_there s f sound.counted one.1 in (omega (arith, first, small), omega (arith, second, small))
-note_small s (Take h f) sound t small check =
+note_small strict s (Take h f) sound t small check =
     let both = grant_there s h f sound t in
     let first = both.0 in let second = both.1 in (omega (arith, first, small), omega (arith, second, small))
+note_small strict s StrictRoot sound t small check = tt
+note_small strict s Upgrade sound t small check = tt
 
 -- ---- pieces
 
@@ -265,6 +268,8 @@ piece_small (ShiftFile x g) t p c i = absurd i
 piece_small (ShiftFolder g q) t p c i = absurd i
 piece_small (Give h f) t p c i = absurd i
 piece_small (Take h f) t p c i = absurd i
+piece_small StrictRoot t p c i = folder_object t 1 p c i
+piece_small Upgrade t p c i = absurd i
 
 -- ---- records
 
@@ -406,8 +411,8 @@ record IsReady (keys : List KeyParts) (at : Stand) (links : List Link) : Type 0 
 fit_told : (at : Stand) (note : Note) (step : Stepped) → note_fits at note step ≡ true → (1 ≤ at.keys.epoch) × (step.after.count < 4294967296)
 unfolding note_fits has_count
 fit_told at note step fit =
-    let one = and_parts (nat_lt 0 at.keys.epoch) (fits at.store note && nat_lt step.after.count (2 ^ 32 - 1)) fit in
-    let two = and_parts (fits at.store note) (nat_lt step.after.count (2 ^ 32 - 1)) one.1 in
+    let one = and_parts (nat_lt 0 at.keys.epoch) (fits (is_strict at.keys) at.store note && nat_lt step.after.count (2 ^ 32 - 1)) fit in
+    let two = and_parts (fits (is_strict at.keys) at.store note) (nat_lt step.after.count (2 ^ 32 - 1)) one.1 in
     let low : step.after.count < 4294967295 = ltb-true step.after.count (2 ^ 32 - 1) two.1 in
     (ltb-true 0 at.keys.epoch one.0, omega (arith, low))
 
@@ -438,9 +443,10 @@ did_ready keys at links r drawn is none fit fed =
     let s = at.store in
     let note = note_of s r [] in
     let t = effect s r (first_key drawn) in
-    let c = change_of s note in
+    let strict = is_strict at.keys in
+    let c = change_of strict s note in
     let ps = pieces_of note t in
-    let mv = command_moves s r (first_key drawn) [] most_file_bytes none is.sound in
+    let mv = command_moves strict s r (first_key drawn) [] most_file_bytes none is.sound in
     let told = fit_told at note (entry_step at (Did r drawn)) fit in
     let same = same_epoch at.keys (edges s) c ps in
     let low = is.epoch in
@@ -449,7 +455,7 @@ did_ready keys at links r drawn is none fit fed =
       short = effect_short s r (first_key drawn) none is.short;
       ok = keys_after s t at.keys c links mv is.ok ps;
       have = have_then keys at (Did r drawn) is.have fed;
-      below = step_below keys s t at.keys c links ps mv is.ok (fresh_once s note) (pieces_due note t) is.below;
+      below = step_below keys s t at.keys c links ps mv is.ok (fresh_once strict s note) (pieces_due note t) is.below;
       epoch = omega (arith, same, low);
       count = told.1;
     }
@@ -457,7 +463,7 @@ did_ready keys at links r drawn is none fit fed =
 command_note : (s : Store) (r : Request) (key : List ℕ) → IsSound s → refusal_of s r most_file_bytes ≡ None → made s + 1 < 4294967296 → IsNote (declared_note (note_of s r (check_of key)))
 command_note s r key sound none few =
     let check = check_of key in
-    note_small s (note_of s r check) sound (notes.note_fits s r check sound.tree (accepted s r most_file_bytes none)) few (note_of_weighs s r check (length-check_of key)).0
+    note_small false s (note_of s r check) sound (notes.note_fits false s r check sound.tree (accepted s r most_file_bytes none)) few (note_of_weighs s r check (length-check_of key)).0
 
 did_spelled : (keys : List KeyParts) (at : Stand) (links : List Link) (r : Request) (drawn : List (List ℕ)) → IsReady keys at links → refusal_of at.store r most_file_bytes ≡ None → entry_fits at (Did r drawn) ≡ true → IsFed at (Did r drawn) → made at.store + 1 < 4294967296
     → IsSpellable (step_payload (bytes.keys_then keys at (Did r drawn)) (declared_note (note_of at.store r (check_of (first_key drawn)))) (entry_step at (Did r drawn)))
@@ -466,19 +472,59 @@ did_spelled keys at links r drawn is none fit fed few =
     let s = at.store in
     let note = note_of s r [] in
     let t = effect s r (first_key drawn) in
-    let c = change_of s note in
+    let strict = is_strict at.keys in
+    let c = change_of strict s note in
     let ps = pieces_of note t in
-    let mv = command_moves s r (first_key drawn) [] most_file_bytes none is.sound in
+    let mv = command_moves strict s r (first_key drawn) [] most_file_bytes none is.sound in
     let told = fit_told at note (entry_step at (Did r drawn)) fit in
     let same = same_epoch at.keys (edges s) c ps in
     let low = is.epoch in
     let sound_after = effect_sound s r (first_key drawn) most_file_bytes none is.sound in
     let more = effect_made s r (first_key drawn) in
     let later = bytes.keys_then keys at (Did r drawn) in
-    let small = step_small later s t at.keys c links ps mv is.ok (fresh_once s note) (pieces_due note t) sound_after.counted (omega (arith, more, few)) (have_then keys at (Did r drawn) is.have fed) is.below (omega (arith, same, low)) told.1 in
-    step_spelled later s t at.keys c links ps mv is.ok (fresh_once s note) (pieces_due note t) (declared_note (note_of s r (check_of (first_key drawn))))
+    let small = step_small later s t at.keys c links ps mv is.ok (fresh_once strict s note) (pieces_due note t) sound_after.counted (omega (arith, more, few)) (have_then keys at (Did r drawn) is.have fed) is.below (omega (arith, same, low)) told.1 in
+    step_spelled later s t at.keys c links ps mv is.ok (fresh_once strict s note) (pieces_due note t) (declared_note (note_of s r (check_of (first_key drawn))))
     (command_note s r (first_key drawn) is.sound none few) small told.1 (λ p i. piece_small note t p sound_after.counted i)
     (command_contents at r drawn is.sound is.short none (key_sized at r drawn fed.many fed.sizes))
+
+upgraded_ready : (keys : List KeyParts) (at : Stand) (links : List Link) (drawn : List (List ℕ)) → IsReady keys at links → entry_fits at (Upgraded drawn) ≡ true → IsFed at (Upgraded drawn)
+    → IsReady (bytes.keys_then keys at (Upgraded drawn)) (stand_then at (Upgraded drawn)) (links ++ (entry_step at (Upgraded drawn)).links)
+unfolding stand_then entry_store entry_step note_step entry_fits
+upgraded_ready keys at links drawn is fit fed =
+    let s = at.store in
+    let strict = is_strict at.keys in
+    let c = change_of strict s Upgrade in
+    let ps = pieces_of Upgrade s in
+    let mv = upgrade_moves strict s is.sound in
+    let told = fit_told at Upgrade (entry_step at (Upgraded drawn)) fit in
+    let same = same_epoch at.keys (edges s) c ps in
+    let low = is.epoch in
+    record {
+      sound = is.sound;
+      short = is.short;
+      ok = keys_after s s at.keys c links mv is.ok ps;
+      have = have_then keys at (Upgraded drawn) is.have fed;
+      below = step_below keys s s at.keys c links ps mv is.ok (fresh_once strict s Upgrade) (pieces_due Upgrade s) is.below;
+      epoch = omega (arith, same, low);
+      count = told.1;
+    }
+
+upgraded_spelled : (keys : List KeyParts) (at : Stand) (links : List Link) (drawn : List (List ℕ)) → IsReady keys at links → entry_fits at (Upgraded drawn) ≡ true → IsFed at (Upgraded drawn) → made at.store + 1 < 4294967296
+    → IsSpellable (step_payload (bytes.keys_then keys at (Upgraded drawn)) (declared_note Upgrade) (entry_step at (Upgraded drawn)))
+unfolding entry_step note_step entry_fits drawn_by declared_note
+upgraded_spelled keys at links drawn is fit fed few =
+    let s = at.store in
+    let strict = is_strict at.keys in
+    let c = change_of strict s Upgrade in
+    let ps = pieces_of Upgrade s in
+    let mv = upgrade_moves strict s is.sound in
+    let told = fit_told at Upgrade (entry_step at (Upgraded drawn)) fit in
+    let same = same_epoch at.keys (edges s) c ps in
+    let low = is.epoch in
+    let later = bytes.keys_then keys at (Upgraded drawn) in
+    let small = step_small later s s at.keys c links ps mv is.ok (fresh_once strict s Upgrade) (pieces_due Upgrade s) is.sound.counted (omega (arith, few)) (have_then keys at (Upgraded drawn) is.have fed) is.below (omega (arith, same, low)) told.1 in
+    step_spelled later s s at.keys c links ps mv is.ok (fresh_once strict s Upgrade) (pieces_due Upgrade s) (declared_note Upgrade)
+    tt small told.1 (λ p i. piece_small Upgrade s p is.sound.counted i) (upgraded_contents at drawn)
 
 -- a batch of an epoch, and one of a command
 session_bodies : (keys : List KeyParts) (at : Stand) (rest : List PlainBody) → AreBodies (stand_then at Session).keys.epoch rest → AreBodies at.keys.epoch (entry_body keys at Session ∷ rest)
@@ -491,8 +537,24 @@ did_bodies : (keys : List KeyParts) (at : Stand) (r : Request) (drawn : List (Li
 unfolding entry_body stand_then entry_step note_step
 did_bodies keys at r drawn rest begun spelled more =
     let note = note_of at.store r [] in
-    let same = same_epoch at.keys (edges at.store) (change_of at.store note) (pieces_of note (effect at.store r (first_key drawn))) in
+    let same = same_epoch at.keys (edges at.store) (change_of (is_strict at.keys) at.store note) (pieces_of note (effect at.store r (first_key drawn))) in
     (begun, spelled, subst (λ n. AreBodies n rest) same more)
+
+upgraded_bodies : (keys : List KeyParts) (at : Stand) (drawn : List (List ℕ)) (rest : List PlainBody) → 1 ≤ at.keys.epoch
+    → IsSpellable (step_payload keys (declared_note Upgrade) (entry_step at (Upgraded drawn)))
+    → AreBodies (stand_then at (Upgraded drawn)).keys.epoch rest → AreBodies at.keys.epoch (entry_body keys at (Upgraded drawn) ∷ rest)
+unfolding entry_body stand_then entry_step note_step
+upgraded_bodies keys at drawn rest begun spelled more =
+    let same = same_epoch at.keys (edges at.store) (change_of (is_strict at.keys) at.store Upgrade) (pieces_of Upgrade at.store) in
+    (begun, spelled, subst (λ n. AreBodies n rest) same more)
+
+upgraded_begun : (at : Stand) (drawn : List (List ℕ)) → entry_fits at (Upgraded drawn) ≡ true → 1 ≤ at.keys.epoch
+unfolding entry_fits
+upgraded_begun at drawn fit = (fit_told at Upgrade (entry_step at (Upgraded drawn)) fit).0
+
+upgraded_made : (at : Stand) (drawn : List (List ℕ)) → made (stand_then at (Upgraded drawn)).store ≡ made at.store
+unfolding stand_then entry_store
+upgraded_made at drawn = refl
 
 did_begun : (at : Stand) (r : Request) (drawn : List (List ℕ)) → entry_fits at (Did r drawn) ≡ true → 1 ≤ at.keys.epoch
 unfolding entry_fits
@@ -518,7 +580,7 @@ spell (Session ∷ entries) keys at links is low follow fit fed =
     let same = session_made at in
     session_bodies later at (bodies_from later next entries)
     (spell entries later next links (session_ready keys at links is both.0 fed.0) (omega (arith, low, sum, same)) follow.1 both.1 fed.1)
-spell (Made drawn ∷ entries) keys at links is low follow fit fed = absurd follow.0
+spell (Made version drawn ∷ entries) keys at links is low follow fit fed = absurd follow.0
 spell (Did r drawn ∷ entries) keys at links is low follow fit fed =
     let later = bytes.keys_then keys at (Did r drawn) in
     let next = stand_then at (Did r drawn) in
@@ -528,6 +590,15 @@ spell (Did r drawn ∷ entries) keys at links is low follow fit fed =
     did_bodies later at r drawn (bodies_from later next entries) (did_begun at r drawn both.0)
     (did_spelled keys at links r drawn is follow.0.0 both.0 fed.0 (omega (arith, low, sum)))
     (spell entries later next (links ++ (entry_step at (Did r drawn)).links) (did_ready keys at links r drawn is follow.0.0 both.0 fed.0) (omega (arith, low, sum, more)) follow.1 both.1 fed.1)
+spell (Upgraded drawn ∷ entries) keys at links is low follow fit fed =
+    let later = bytes.keys_then keys at (Upgraded drawn) in
+    let next = stand_then at (Upgraded drawn) in
+    let both = and_parts (entry_fits at (Upgraded drawn)) (all_fit next entries) fit in
+    let sum = sum_by-cons (λ len. batch_len + len) (entry_payload at (Upgraded drawn)) (payloads_from next entries) in
+    let more = upgraded_made at drawn in
+    upgraded_bodies later at drawn (bodies_from later next entries) (upgraded_begun at drawn both.0)
+    (upgraded_spelled keys at links drawn is both.0 fed.0 (omega (arith, low, sum)))
+    (spell entries later next (links ++ (entry_step at (Upgraded drawn)).links) (upgraded_ready keys at links drawn is both.0 fed.0) (omega (arith, low, sum, more)) follow.1 both.1 fed.1)
 
 -- ---- journals
 
@@ -547,23 +618,27 @@ begun_numbers : (begun.keys.epoch ≡ 1) × (begun.keys.count ≡ 0)
 unfolding stand_then entry_step nothing next_epoch no_keys
 begun_numbers = (refl, refl)
 
-root_ready : (keys : List KeyParts) (drawn : List (List ℕ)) → HaveKeys keys begun.keys → entry_fits begun (Made drawn) ≡ true → IsFed begun (Made drawn)
-    → IsReady (bytes.keys_then keys begun (Made drawn)) (stand_then begun (Made drawn)) (entry_step begun (Made drawn)).links
-unfolding stand_then entry_store entry_step note_step entry_fits nothing
-root_ready keys drawn have fit fed =
+root_is_note : (version : ℕ) → IsNote (declared_note (root_note version))
+unfolding declared_note
+root_is_note version = of_root (λ note. IsNote (declared_note note)) tt tt version
+
+root_ready : (keys : List KeyParts) (version : ℕ) (drawn : List (List ℕ)) → HaveKeys keys begun.keys → entry_fits begun (Made version drawn) ≡ true → IsFed begun (Made version drawn)
+    → IsReady (bytes.keys_then keys begun (Made version drawn)) (stand_then begun (Made version drawn)) (entry_step begun (Made version drawn)).links
+unfolding stand_then entry_store entry_step note_step entry_fits nothing is_strict next_epoch no_keys
+root_ready keys version drawn have fit fed =
     let k = next_epoch no_keys in
-    let c = change_of no_store Root in
-    let ps = pieces_of Root root_store in
-    let told = fit_told begun Root (entry_step begun (Made drawn)) fit in
+    let c = change_of false no_store (root_note version) in
+    let ps = pieces_of (root_note version) root_store in
+    let told = fit_told begun (root_note version) (entry_step begun (Made version drawn)) fit in
     let same = same_epoch k (edges no_store) c ps in
     let numbers = begun_numbers in
     let one = numbers.0 in
     record {
       sound = root_sound;
       short = root_short;
-      ok = keys_after no_store root_store k c [] root_moves nothing_holds ps;
-      have = have_then keys begun (Made drawn) have fed;
-      below = step_below keys no_store root_store k c [] ps root_moves nothing_holds (fresh_once no_store Root) (pieces_due Root root_store) first_below;
+      ok = keys_after no_store root_store k c [] (root_moves version) nothing_holds ps;
+      have = have_then keys begun (Made version drawn) have fed;
+      below = step_below keys no_store root_store k c [] ps (root_moves version) nothing_holds (fresh_once false no_store (root_note version)) (pieces_due (root_note version) root_store) first_below;
       epoch = omega (arith, same, one);
       count = told.1;
     }
@@ -572,56 +647,58 @@ root_made : made root_store ≡ 1
 unfolding root_store no_store
 root_made = refl
 
-root_spelled : (keys : List KeyParts) (drawn : List (List ℕ)) → HaveKeys keys begun.keys → entry_fits begun (Made drawn) ≡ true → IsFed begun (Made drawn)
-    → IsSpellable (step_payload (bytes.keys_then keys begun (Made drawn)) (declared_note Root) (entry_step begun (Made drawn)))
-unfolding stand_then entry_store entry_step note_step entry_fits nothing declared_note
-root_spelled keys drawn have fit fed =
+root_spelled : (keys : List KeyParts) (version : ℕ) (drawn : List (List ℕ)) → HaveKeys keys begun.keys → entry_fits begun (Made version drawn) ≡ true → IsFed begun (Made version drawn)
+    → IsSpellable (step_payload (bytes.keys_then keys begun (Made version drawn)) (declared_note (root_note version)) (entry_step begun (Made version drawn)))
+unfolding stand_then entry_store entry_step note_step entry_fits nothing declared_note is_strict next_epoch no_keys
+root_spelled keys version drawn have fit fed =
     let k = next_epoch no_keys in
-    let c = change_of no_store Root in
-    let ps = pieces_of Root root_store in
-    let told = fit_told begun Root (entry_step begun (Made drawn)) fit in
+    let c = change_of false no_store (root_note version) in
+    let ps = pieces_of (root_note version) root_store in
+    let told = fit_told begun (root_note version) (entry_step begun (Made version drawn)) fit in
     let same = same_epoch k (edges no_store) c ps in
     let numbers = begun_numbers in
     let one = numbers.0 in
-    let later = bytes.keys_then keys begun (Made drawn) in
+    let later = bytes.keys_then keys begun (Made version drawn) in
     let few = root_made in
-    let small = step_small later no_store root_store k c [] ps root_moves nothing_holds (fresh_once no_store Root) (pieces_due Root root_store) root_sound.counted (omega (arith, few)) (have_then keys begun (Made drawn) have fed) first_below (omega (arith, same, one)) told.1 in
-    step_spelled later no_store root_store k c [] ps root_moves nothing_holds (fresh_once no_store Root) (pieces_due Root root_store) (declared_note Root)
-    tt small told.1 (λ p i. piece_small Root root_store p root_sound.counted i) (made_contents drawn)
+    let small = step_small later no_store root_store k c [] ps (root_moves version) nothing_holds (fresh_once false no_store (root_note version)) (pieces_due (root_note version) root_store) root_sound.counted (omega (arith, few)) (have_then keys begun (Made version drawn) have fed) first_below (omega (arith, same, one)) told.1 in
+    step_spelled later no_store root_store k c [] ps (root_moves version) nothing_holds (fresh_once false no_store (root_note version)) (pieces_due (root_note version) root_store) (declared_note (root_note version))
+    (root_is_note version) small told.1 (λ p i. piece_small (root_note version) root_store p root_sound.counted i) (made_contents version drawn)
 
-root_bodies : (keys : List KeyParts) (drawn : List (List ℕ)) (rest : List PlainBody) → IsSpellable (step_payload keys (declared_note Root) (entry_step begun (Made drawn)))
-    → AreBodies (stand_then begun (Made drawn)).keys.epoch rest → AreBodies begun.keys.epoch (entry_body keys begun (Made drawn) ∷ rest)
-unfolding entry_body stand_then entry_store entry_step note_step declared_note nothing next_epoch no_keys
-root_bodies keys drawn rest spelled more =
-    let same = same_epoch (next_epoch no_keys) (edges no_store) (change_of no_store Root) (pieces_of Root root_store) in
+root_bodies : (keys : List KeyParts) (version : ℕ) (drawn : List (List ℕ)) (rest : List PlainBody) → IsSpellable (step_payload keys (declared_note (root_note version)) (entry_step begun (Made version drawn)))
+    → AreBodies (stand_then begun (Made version drawn)).keys.epoch rest → AreBodies begun.keys.epoch (entry_body keys begun (Made version drawn) ∷ rest)
+unfolding entry_body stand_then entry_store entry_step note_step declared_note nothing next_epoch no_keys is_strict
+root_bodies keys version drawn rest spelled more =
+    let same = same_epoch (next_epoch no_keys) (edges no_store) (change_of false no_store (root_note version)) (pieces_of (root_note version) root_store) in
     (omega arith, spelled, subst (λ n. AreBodies n rest) same more)
 
-next_made : (drawn : List (List ℕ)) → made (stand_then begun (Made drawn)).store ≡ 1
+next_made : (version : ℕ) (drawn : List (List ℕ)) → made (stand_then begun (Made version drawn)).store ≡ 1
 unfolding stand_then entry_store
-next_made drawn = root_made
+next_made version drawn = root_made
 
 begins : (owner : List ℕ) (m : Journal) → length owner ≡ 32 → BeginsWell m → end_of m ≤ most_store_bytes → all_fit nothing m ≡ true → AreFed nothing m → AreBodies nothing.keys.epoch (bodies_from (owner_parts owner ∷ []) nothing m)
 unfolding bodies_from payloads_from all_fit end_of
 begins owner [] size b low fit fed = absurd b
 begins owner (Session ∷ []) size b low fit fed = absurd b
 begins owner (Session ∷ Session ∷ es) size b low fit fed = absurd b
-begins owner (Session ∷ Made drawn ∷ es) size b low fit fed =
+begins owner (Session ∷ Made version drawn ∷ es) size b low fit fed =
     let keys = owner_parts owner ∷ [] in
     let first = bytes.keys_then keys nothing Session in
-    let later = bytes.keys_then first begun (Made drawn) in
-    let next = stand_then begun (Made drawn) in
-    let outer = and_parts (entry_fits nothing Session) (entry_fits begun (Made drawn) && all_fit next es) fit in
-    let inner = and_parts (entry_fits begun (Made drawn)) (all_fit next es) outer.1 in
+    let later = bytes.keys_then first begun (Made version drawn) in
+    let next = stand_then begun (Made version drawn) in
+    let outer = and_parts (entry_fits nothing Session) (entry_fits begun (Made version drawn) && all_fit next es) fit in
+    let inner = and_parts (entry_fits begun (Made version drawn)) (all_fit next es) outer.1 in
     let have = begun_have owner size fed.0 in
-    let sum = sum_by-cons (λ len. batch_len + len) (entry_payload nothing Session) (entry_payload begun (Made drawn) ∷ payloads_from next es) in
-    let others = sum_by-cons (λ len. batch_len + len) (entry_payload begun (Made drawn)) (payloads_from next es) in
-    let one = next_made drawn in
-    session_bodies first nothing (entry_body later begun (Made drawn) ∷ bodies_from later next es)
-    (root_bodies later drawn (bodies_from later next es) (root_spelled first drawn have inner.0 fed.1.0)
-    (spell es later next (entry_step begun (Made drawn)).links (root_ready first drawn have inner.0 fed.1.0) (omega (arith, low, sum, others, one)) b.1 inner.1 fed.1.1))
+    let sum = sum_by-cons (λ len. batch_len + len) (entry_payload nothing Session) (entry_payload begun (Made version drawn) ∷ payloads_from next es) in
+    let others = sum_by-cons (λ len. batch_len + len) (entry_payload begun (Made version drawn)) (payloads_from next es) in
+    let one = next_made version drawn in
+    session_bodies first nothing (entry_body later begun (Made version drawn) ∷ bodies_from later next es)
+    (root_bodies later version drawn (bodies_from later next es) (root_spelled first version drawn have inner.0 fed.1.0)
+    (spell es later next (entry_step begun (Made version drawn)).links (root_ready first version drawn have inner.0 fed.1.0) (omega (arith, low, sum, others, one)) b.1 inner.1 fed.1.1))
 begins owner (Session ∷ Did r drawn ∷ es) size b low fit fed = absurd b
-begins owner (Made drawn ∷ es) size b low fit fed = absurd b
+begins owner (Session ∷ Upgraded drawn ∷ es) size b low fit fed = absurd b
+begins owner (Made version drawn ∷ es) size b low fit fed = absurd b
 begins owner (Did r drawn ∷ es) size b low fit fed = absurd b
+begins owner (Upgraded drawn ∷ es) size b low fit fed = absurd b
 
 first_epoch : nothing.keys.epoch ≡ 0
 unfolding nothing no_keys

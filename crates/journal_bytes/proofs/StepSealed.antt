@@ -20,7 +20,7 @@ use Rattle.record_format.specs.Sizes.{content_size, note_size, payload_size}
 use Rattle.record_format.specs.Told.{told_note}
 use Rattle.record_format.specs.declared.link.LinkRecord.{LinkRecord}
 use Rattle.record_format.specs.declared.note.Note.{Note}
-use Rattle.record_format.specs.declared.note.Note.TheVariants.{Root, NewHolder, NewFolder, NewFile, Rewrite, NameFile, NameFolder, DropFile, DropFolder, ShiftFile, ShiftFolder, Give, Take}
+use Rattle.record_format.specs.declared.note.Note.TheVariants.{Root, NewHolder, NewFolder, NewFile, Rewrite, NameFile, NameFolder, DropFile, DropFolder, ShiftFile, ShiftFolder, Give, Take, StrictRoot, Upgrade}
 use Rattle.role_graph.specs.Roles.{data_of, file_role}
 use Rattle.public_fold.specs.Heads.{IsSkeleton, content_head}
 use Rattle.public_fold.specs.KeyStep.{KeyState, Stepped, content_of, contents_from, given, key_step, keys_then, keys_without, link_of, links_from, newest, next_serial, numbered, published, published_edges, renewed, step_with}
@@ -113,6 +113,8 @@ note_weighs (ShiftFile x g) = refl
 note_weighs (ShiftFolder g q) = refl
 note_weighs (Give h f) = refl
 note_weighs (Take h f) = refl
+note_weighs StrictRoot = refl
+note_weighs Upgrade = refl
 
 pub payload_weighs : (step : Stepped) (s : Skeleton) (text : List ℕ) (note : Note) (ring : Ringed) (n m : ℕ) (links : List LinkRecord) (contents : List PlainContent) → IsTold step s text
     → links ≡ links_by ring n s.links.items → contents ≡ contents_by ring m text s.contents.items

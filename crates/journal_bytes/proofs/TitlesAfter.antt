@@ -18,7 +18,7 @@ use Rattle.folder_nodes.proofs.Downward.{file_id}
 use Rattle.folder_nodes.proofs.Named.{file_named, named_file}
 use Rattle.folder_nodes.proofs.Joined.{file_rewritten, folder_renamed, move_joins, name_joins, removal_joins}
 use Rattle.record_format.specs.Noted.{Note}
-use Rattle.record_format.specs.Noted.Note.{Root, NewHolder, NewFolder, NewFile, Rewrite, NameFile, NameFolder, DropFile, DropFolder, ShiftFile, ShiftFolder, Give, Take}
+use Rattle.record_format.specs.Noted.Note.{Root, NewHolder, NewFolder, NewFile, Rewrite, NameFile, NameFolder, DropFile, DropFolder, ShiftFile, ShiftFolder, Give, Take, StrictRoot, Upgrade}
 use Rattle.move_plan.specs.Noting.{move_note, note_of, remove_note, rename_note, write_note}
 use Rattle.public_fold.specs.Changing.{tree_then}
 use Rattle.public_fold.specs.Told.{told_store}
@@ -112,6 +112,8 @@ told_tree s t (ShiftFile x g) is = file_changed s t x (λ e. record e { folder =
 told_tree s t (ShiftFolder g q) is = folder_changed s t g (λ e. record e { parent = q }) is
 told_tree s t (Give h f) is = record { folders = is.folders; files = is.files; folders_made = is.folders_made; files_made = is.files_made }
 told_tree s t (Take h f) is = record { folders = is.folders; files = is.files; folders_made = is.folders_made; files_made = is.files_made }
+told_tree s t StrictRoot is = record { folders = refl; files = refl; folders_made = refl; files_made = refl }
+told_tree s t Upgrade is = is
 
 -- names stand beside one tree as beside another
 pub titled_tree : (t u : Store) (names : Titles) → IsTreeOf t u → IsTreeOf (tree_store t names) (tree_store u names)

@@ -10,18 +10,18 @@ use Rattle.cry_base.specs.Store.{Store, FolderEntry, FileEntry, HolderEntry, fol
 use Rattle.cry_base.specs.declared.roles.Edge.{Edge}
 use Rattle.cry_base.specs.declared.roles.Role.{Role}
 use Rattle.role_graph.specs.Edges.{edges}
-use Rattle.move_plan.specs.Change.{Change, change_of}
+use Rattle.move_plan.specs.Change.{Change, change_of, row_change, strict_of, is_upgrade}
 use Rattle.move_plan.specs.Fitting.{public_of}
 use Rattle.move_plan.specs.Noting.{note_of}
 use Rattle.move_plan.proofs.Public.{change_public, edges_public}
 use Rattle.log_visits.proofs.ToldLemmas.{accepted_told}
 use Rattle.record_format.specs.Noted.{Note}
-use Rattle.record_format.specs.Noted.Note.{Root, NewHolder, NewFolder, NewFile, Rewrite, NameFile, NameFolder, DropFile, DropFolder, ShiftFile, ShiftFolder, Give, Take}
+use Rattle.record_format.specs.Noted.Note.{Root, NewHolder, NewFolder, NewFile, Rewrite, NameFile, NameFolder, DropFile, DropFolder, ShiftFile, ShiftFolder, Give, Take, StrictRoot, Upgrade}
 use Rattle.public_fold.specs.Fitted.{told_step}
 use Rattle.public_fold.specs.Heads.{IsSkeleton, content_head}
 use Rattle.public_fold.specs.Journal.{Journal, Stand, nothing, first_key, note_step, entry_step, stand_after, store_of, keys_of}
 use Rattle.public_fold.specs.Journal.Entry.{Did}
-use Rattle.public_fold.specs.KeyStep.{KeyState, content_of, contents_from, given, key_step, keys_then, next_serial, numbered, published, published_edges, renewed, step_with}
+use Rattle.public_fold.specs.KeyStep.{KeyState, content_of, contents_from, given, key_step, keys_then, next_serial, numbered, published, published_edges, renewed, step_with, is_strict}
 use Rattle.public_fold.specs.Records.{Piece, file_piece, folder_piece, holder_piece, pieces_of, sealing_role}
 use Rattle.public_fold.specs.Told.{told_store}
 use Rattle.public_fold.specs.declared.heads.Skeleton.{Skeleton}
@@ -73,6 +73,8 @@ pieces_bare (ShiftFile x g) t = refl
 pieces_bare (ShiftFolder g q) t = refl
 pieces_bare (Give h f) t = refl
 pieces_bare (Take h f) t = refl
+pieces_bare StrictRoot t = folder_bare t 1
+pieces_bare Upgrade t = refl
 
 -- ---- a holder's check changes no key
 
@@ -87,16 +89,16 @@ same_pieces s (Relocate path into) check t = refl
 same_pieces s (Grant h path) check t = refl
 same_pieces s (Revoke h path) check t = refl
 
-pub same_change : (s : Store) (r : Request) (check : List ℕ) → change_of s (note_of s r check) ≡ change_of s (note_of s r [])
-unfolding note_of change_of
-same_change s AddHolder check = refl
-same_change s (MakeFolder path) check = refl
-same_change s (WriteFile path bytes) check = refl
-same_change s (Remove path) check = refl
-same_change s (Rename path name) check = refl
-same_change s (Relocate path into) check = refl
-same_change s (Grant h path) check = refl
-same_change s (Revoke h path) check = refl
+pub same_change : (strict : Bool) (s : Store) (r : Request) (check : List ℕ) → change_of strict s (note_of s r check) ≡ change_of strict s (note_of s r [])
+unfolding note_of change_of row_change strict_of is_upgrade
+same_change strict s AddHolder check = refl
+same_change strict s (MakeFolder path) check = refl
+same_change strict s (WriteFile path bytes) check = refl
+same_change strict s (Remove path) check = refl
+same_change strict s (Rename path name) check = refl
+same_change strict s (Relocate path into) check = refl
+same_change strict s (Grant h path) check = refl
+same_change strict s (Revoke h path) check = refl
 
 -- ---- steps that differ in their texts alone
 
@@ -131,9 +133,9 @@ told_at at request check drawn file_bytes none s is =
     let note = note_of at.store request check in
     let plain = note_of at.store request [] in
     let t = effect at.store request (first_key drawn) in
-    same_steps at.keys (edges (public_of at.store)) (edges at.store) (change_of (public_of at.store) note) (change_of at.store plain) (pieces_of note (told_store (public_of at.store) note)) (pieces_of plain t) s
+    same_steps at.keys (edges (public_of at.store)) (edges at.store) (change_of (is_strict at.keys) (public_of at.store) note) (change_of (is_strict at.keys) at.store plain) (pieces_of note (told_store (public_of at.store) note)) (pieces_of plain t) s
     (edges_public at.store)
-    (change_public at.store note ∙ same_change at.store request check)
+    (change_public (is_strict at.keys) at.store note ∙ same_change (is_strict at.keys) at.store request check)
     (ap (λ z. map bare (pieces_of note z)) (sym (accepted_told at.store request (first_key drawn) check file_bytes none))
     ∙ pieces_bare note t
     ∙ ap (map bare) (same_pieces at.store request check t))
@@ -176,9 +178,9 @@ told_keys at request check drawn file_bytes none =
     let note = note_of at.store request check in
     let plain = note_of at.store request [] in
     let t = effect at.store request (first_key drawn) in
-    after_alike at.keys (edges (public_of at.store)) (edges at.store) (change_of (public_of at.store) note) (change_of at.store plain) (pieces_of note (told_store (public_of at.store) note)) (pieces_of plain t)
+    after_alike at.keys (edges (public_of at.store)) (edges at.store) (change_of (is_strict at.keys) (public_of at.store) note) (change_of (is_strict at.keys) at.store plain) (pieces_of note (told_store (public_of at.store) note)) (pieces_of plain t)
     (edges_public at.store)
-    (change_public at.store note ∙ same_change at.store request check)
+    (change_public (is_strict at.keys) at.store note ∙ same_change (is_strict at.keys) at.store request check)
     (ap (λ z. length (pieces_of note z)) (sym (accepted_told at.store request (first_key drawn) check file_bytes none))
     ∙ sym (length-map (pieces_of note (public_of t)) bare)
     ∙ ap length (pieces_bare note t)

@@ -31,7 +31,7 @@ use Rattle.public_fold.specs.Keyed.{HasRole, KeysHold}
 use Rattle.public_fold.specs.KeyStep.{KeyState, Stepped, content_of, contents_from, given, key_step, newest, next_serial, numbered, present, published, published_edges, renewed, step_with}
 use Rattle.public_fold.specs.Records.{Content, Link, Piece, sealing_role, text_of}
 use Rattle.public_fold.proofs.GrantLaws.{sealing_wanted}
-use Rattle.public_fold.proofs.KeepingKeys.{IsMove, marked_no_root, planned_told, same_key}
+use Rattle.public_fold.proofs.KeepingKeys.{IsMove, renewed_stands, same_key}
 use Rattle.public_fold.proofs.KeepingKeys as keeping
 use Rattle.public_fold.proofs.Serials.{keys_between}
 use Rattle.journal_bytes.specs.Bytes.{content_record, link_record}
@@ -261,14 +261,14 @@ module _ (keys more : List KeyParts) (s t : Store) (k : KeyState) (c : Change) (
       (λ g. ⊎_elim (λ w. w.1 g) (λ f. mv.fresh_stays r f g) ((mv.roles r).0 new))
 
   sealing_kept : (r : Role) → is_sealing_role r ≡ true → HasRole s r → HasRole t r → (In r c.wanted → ⊥) → newest (key_step k (edges s) c ps).after.keys r ≡ newest k.keys r
-  sealing_kept r sealing old new unwanted = not_keyed r old new (λ i. unwanted (sealing_wanted s k c r sealing i))
+  sealing_kept r sealing old new unwanted = not_keyed r old new (λ i. unwanted (sealing_wanted s k c r sealing (λ u. false≢true (sym (mv.strict_seals_none r u) ∙ sealing)) i))
 
   owner_kept : newest (key_step k (edges s) c ps).after.keys Owner ≡ newest k.keys Owner
   unfolding is_root_role variant_of
-  owner_kept = not_keyed Owner tt tt (λ i. false≢true (sym (marked_no_root s t k c links mv ok Owner ((planned_told s t k c links mv ok Owner).0 i).0)))
+  owner_kept = not_keyed Owner tt tt (λ i. false≢true (sym (renewed_stands s t k c links mv ok Owner i).1.1))
 
   root_kept : (r : Role) → is_root_role r ≡ true → HasRole s r → HasRole t r → newest (key_step k (edges s) c ps).after.keys r ≡ newest k.keys r
-  root_kept r root old new = not_keyed r old new (λ i. false≢true (sym (marked_no_root s t k c links mv ok r ((planned_told s t k c links mv ok r).0 i).0) ∙ root))
+  root_kept r root old new = not_keyed r old new (λ i. false≢true (sym (renewed_stands s t k c links mv ok r i).1.1 ∙ root))
 
   -- a holder stood, or its key is drawn now
   step_holders : AreHoldersKeyed keys s k → ((e : HolderEntry) → In e t.holders → In e s.holders ⊎ IsHolderKeyed more (key_step k (edges s) c ps).after e) → AreHoldersKeyed (keys ++ more) t (key_step k (edges s) c ps).after

@@ -11,7 +11,7 @@ use Rattle.cry_base.specs.Layout.{batch_len}
 use Rattle.cry_base.specs.Requests.{Request}
 use Rattle.cry_base.specs.Requests.Request.{AddHolder, MakeFolder, WriteFile, Remove, Rename, Relocate, Grant, Revoke}
 use Rattle.cry_base.specs.Sets.{In}
-use Rattle.cry_base.specs.Store.{Store}
+use Rattle.cry_base.specs.Store.{Store, root_store}
 use Rattle.cry_base.specs.declared.roles.Node.{Node}
 use Rattle.cry_base.specs.declared.roles.Node.TheVariants.{Folder, File}
 use Rattle.record_format.specs.Spelling.{spell_note, spell_link, spell_content, spell_payload}
@@ -23,18 +23,19 @@ use Rattle.commit_journal.proofs.Standings.{length-image}
 use Rattle.key_links.proofs.SealedLemmas.{length-sealed_link, length-sealed_content}
 use Rattle.role_graph.specs.Roles.{role_id}
 use Rattle.record_format.specs.Noted.{Note}
-use Rattle.record_format.specs.Noted.Note.{Root, NewHolder, NewFolder, NewFile, Rewrite, NameFile, NameFolder, DropFile, DropFolder, ShiftFile, ShiftFolder, Give, Take}
+use Rattle.record_format.specs.Noted.Note.{Root, NewHolder, NewFolder, NewFile, Rewrite, NameFile, NameFolder, DropFile, DropFolder, ShiftFile, ShiftFolder, Give, Take, StrictRoot, Upgrade}
 use Rattle.move_plan.specs.Noting.{note_of, write_note, remove_note, rename_note, move_note}
 use Rattle.public_fold.specs.Records.{Link, Content, sealing_role, text_of}
 use Rattle.public_fold.specs.KeyStep.{Stepped}
-use Rattle.public_fold.specs.Journal.{Entry, Journal, Stand, nothing, first_key, entry_step, stand_then}
-use Rattle.public_fold.specs.Journal.Entry.{Session, Made, Did}
+use Rattle.public_fold.specs.Journal.{Entry, Journal, Stand, nothing, first_key, entry_step, stand_then, note_step, root_note}
+use Rattle.public_fold.specs.Journal.Entry.{Session, Made, Did, Upgraded}
 use Rattle.public_fold.specs.Lengths.{note_len, content_len, payload_len, entry_payload, payloads_from, end_of}
 use Rattle.public_fold.specs.Valid.{FollowOn, BeginsWell, IsValid}
 use Rattle.public_fold.specs.WorkedSteps.{journals}
 use Rattle.journal_bytes.specs.Bytes.{link_record, content_record, step_payload, keys_then, entry_body, bodies_from, bodies_of, batches_of, image_of}
 use Rattle.journal_bytes.specs.Keys.{drawn_by, owner_parts, bytes_in, AreWhole}
 use Rattle.journal_bytes.specs.Notes.{declared_note}
+use Rattle.journal_bytes.proofs.RootNotes.{of_root}
 use Rattle.journal_bytes.proofs.Counted.{HaveKeys, IsFed, present_long, entry_links, have_then, have_at_first}
 
 -- ---- notes
@@ -54,6 +55,8 @@ HasCheck (ShiftFile x g) = Unit {0}
 HasCheck (ShiftFolder g q) = Unit {0}
 HasCheck (Give h f) = Unit {0}
 HasCheck (Take h f) = Unit {0}
+HasCheck StrictRoot = Unit {0}
+HasCheck Upgrade = Unit {0}
 
 note_weight : (note : Note) → HasCheck note → length (spell_note (declared_note note)) ≡ note_len note
 unfolding declared_note spell_note note_len
@@ -70,6 +73,8 @@ note_weight (ShiftFile x g) has = simp (length-append, length-be32)
 note_weight (ShiftFolder g q) has = simp (length-append, length-be32)
 note_weight (Give h f) has = simp (length-append, length-be32)
 note_weight (Take h f) has = simp (length-append, length-be32)
+note_weight StrictRoot has = refl
+note_weight Upgrade has = refl
 
 -- a check in a note makes it no longer than another
 abbrev pub Weighs : Note → Note → Type 0
@@ -151,15 +156,20 @@ links_long keys at entry have l i =
     let to = entry_links at entry l i in
     subst (λ (n : ℕ). length (bytes_in keys n) ≡ 32) (sym to.1) (present_long keys (entry_step at entry).after to.0 have)
 
+root_weighs : (version : ℕ) → Weighs (root_note version) (root_note version)
+root_weighs version = of_root (λ note. Weighs note note) (tt, refl) (tt, refl) version
+
 body_weighs : (keys : List KeyParts) (at : Stand) (entry : Entry) → HaveKeys keys (entry_step at entry).after → body_weight (entry_body keys at entry) ≡ entry_payload at entry
 unfolding entry_body entry_payload declared_note
 body_weighs keys at Session have = refl
-body_weighs keys at (Made drawn) have =
-    payload_weighs keys Root Root (entry_step at (Made drawn)) (tt, refl) (links_long keys at (Made drawn) have)
+body_weighs keys at (Made version drawn) have =
+    payload_weighs keys (root_note version) (root_note version) (entry_step at (Made version drawn)) (root_weighs version) (links_long keys at (Made version drawn) have)
 body_weighs keys at (Did request drawn) have =
     payload_weighs keys (note_of at.store request (check_of (first_key drawn))) (note_of at.store request []) (entry_step at (Did request drawn))
     (note_of_weighs at.store request (check_of (first_key drawn)) (length-check_of (first_key drawn)))
     (links_long keys at (Did request drawn) have)
+body_weighs keys at (Upgraded drawn) have =
+    payload_weighs keys Upgrade Upgrade (entry_step at (Upgraded drawn)) (tt, refl) (links_long keys at (Upgraded drawn) have)
 
 -- each entry drew its keys
 abbrev pub AreFed : Stand → List Entry → Type 0
@@ -198,32 +208,42 @@ follows_fed at (Session ∷ entries) follow sizes = (
   record { many = refl; sizes = All-head Sized Session entries sizes },
   follows_fed (stand_then at Session) entries follow.1 (All-tail Sized Session entries sizes),
 )
-follows_fed at (Made drawn ∷ entries) follow sizes = absurd follow.0
+follows_fed at (Made version drawn ∷ entries) follow sizes = absurd follow.0
 follows_fed at (Did request drawn ∷ entries) follow sizes = (
   record { many = follow.0.1; sizes = All-head Sized (Did request drawn) entries sizes },
   follows_fed (stand_then at (Did request drawn)) entries follow.1 (All-tail Sized (Did request drawn) entries sizes),
 )
+follows_fed at (Upgraded drawn ∷ entries) follow sizes = (
+  record { many = follow.0.1; sizes = All-head Sized (Upgraded drawn) entries sizes },
+  follows_fed (stand_then at (Upgraded drawn)) entries follow.1 (All-tail Sized (Upgraded drawn) entries sizes),
+)
 
-pub five_given : (drawn : List (List ℕ)) → length (entry_step (stand_then nothing Session) (Made drawn)).given ≡ 5
-unfolding journals
-five_given drawn = refl
+-- either note that makes the root gives five keys
+root_five : (version : ℕ) → length (note_step (stand_then nothing Session) (root_note version) root_store).given ≡ 5
+root_five version = of_root (λ note. length (note_step (stand_then nothing Session) note root_store).given ≡ 5) (unfold journals in refl) (unfold journals in refl) version
+
+pub five_given : (version : ℕ) (drawn : List (List ℕ)) → length (entry_step (stand_then nothing Session) (Made version drawn)).given ≡ 5
+unfolding entry_step
+five_given version drawn = root_five version
 
 pub begins_fed : (m : Journal) → BeginsWell m → All Sized m → AreFed nothing m
 unfolding drawn_by entry_step
 begins_fed [] begins sizes = absurd begins
 begins_fed (Session ∷ []) begins sizes = absurd begins
 begins_fed (Session ∷ Session ∷ entries) begins sizes = absurd begins
-begins_fed (Session ∷ Made drawn ∷ entries) begins sizes =
-    let rest = All-tail Sized Session (Made drawn ∷ entries) sizes in (
-      record { many = refl; sizes = All-head Sized Session (Made drawn ∷ entries) sizes },
+begins_fed (Session ∷ Made version drawn ∷ entries) begins sizes =
+    let rest = All-tail Sized Session (Made version drawn ∷ entries) sizes in (
+      record { many = refl; sizes = All-head Sized Session (Made version drawn ∷ entries) sizes },
       (
-        record { many = begins.0 ∙ sym (five_given drawn); sizes = All-head Sized (Made drawn) entries rest },
-        follows_fed (stand_then (stand_then nothing Session) (Made drawn)) entries begins.1 (All-tail Sized (Made drawn) entries rest),
+        record { many = begins.0 ∙ sym (five_given version drawn); sizes = All-head Sized (Made version drawn) entries rest },
+        follows_fed (stand_then (stand_then nothing Session) (Made version drawn)) entries begins.1 (All-tail Sized (Made version drawn) entries rest),
       ),
     )
 begins_fed (Session ∷ Did request drawn ∷ entries) begins sizes = absurd begins
-begins_fed (Made drawn ∷ entries) begins sizes = absurd begins
+begins_fed (Session ∷ Upgraded drawn ∷ entries) begins sizes = absurd begins
+begins_fed (Made version drawn ∷ entries) begins sizes = absurd begins
 begins_fed (Did request drawn ∷ entries) begins sizes = absurd begins
+begins_fed (Upgraded drawn ∷ entries) begins sizes = absurd begins
 
 payloads_weigh : (keys : List KeyParts) (at : Stand) (entries : List Entry) (number epoch : ℕ) → HaveKeys keys at.keys → AreFed at entries →
     map (λ (b : Batch). batch_len + length b.payload) (batches_from number epoch (bodies_from keys at entries)) ≡ map (λ len. batch_len + len) (payloads_from at entries)

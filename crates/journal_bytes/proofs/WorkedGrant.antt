@@ -1,5 +1,5 @@
 -- The bytes of the worked journal of a grant.
-use Rattle.std.proofs.Common.{◌≡◌, ℕ, ◌+◌, List, [], ◌∷◌, length, map, replicate, All, refl, lit≤, ◌∙◌}
+use Rattle.std.proofs.Common.{◌≡◌, inl, ℕ, ◌+◌, List, [], ◌∷◌, length, map, replicate, All, refl, lit≤, ◌∙◌}
 use Rattle.std.proofs.lemmas.List.Elements.{All-nil, All-from_recursion, All-replicate}
 use Rattle.commit_journal.specs.Image.{Batch}
 use Rattle.cry_base.specs.Requests.{Request}
@@ -15,7 +15,7 @@ use Rattle.journal_bytes.proofs.Weighed.{Sized, valid_weighs, valid_payloads}
 
 grant_valid : IsValid granting
 unfolding journals
-grant_valid = ((refl, (tt, ((refl, refl), ((refl, refl), ((refl, refl), ((refl, refl), tt)))))), lit≤ tt)
+grant_valid = ((refl, (tt, ((refl, refl), ((refl, refl), ((refl, refl), ((refl, refl), tt))))), inl refl), lit≤ tt)
 
 some_sized : (n : ℕ) → All (λ (key : List ℕ). length key ≡ 32) (some_keys n)
 unfolding some_keys
@@ -25,7 +25,7 @@ session_sized : Sized Session
 unfolding drawn_by
 session_sized = All-nil (λ (key : List ℕ). length key ≡ 32)
 
-made_sized : (n : ℕ) → Sized (Made (some_keys n))
+made_sized : (n : ℕ) → Sized (Made 1 (some_keys n))
 unfolding drawn_by
 made_sized n = some_sized n
 

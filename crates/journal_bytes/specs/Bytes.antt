@@ -5,7 +5,7 @@ use Rattle.chacha_seal.specs.Keys.{KeyParts}
 use Rattle.chacha_seal.specs.Sealing.{check_of}
 use Rattle.record_format.specs.declared.link.LinkRecord.{LinkRecord}
 use Rattle.record_format.specs.declared.note.Note.{Note}
-use Rattle.record_format.specs.declared.note.Note.TheVariants.{Root}
+use Rattle.record_format.specs.Noted.Note.{Upgrade}
 use Rattle.record_format.specs.Plain.{PlainContent, PlainPayload}
 use Rattle.commit_journal.specs.Image.{Batch, image}
 use Rattle.commit_journal.specs.Laws.{batches_from}
@@ -15,8 +15,8 @@ use Rattle.role_graph.specs.Roles.{role_id}
 use Rattle.move_plan.specs.Noting.{note_of}
 use Rattle.public_fold.specs.Records.{Link, Content, sealing_role, text_of}
 use Rattle.public_fold.specs.KeyStep.{Stepped}
-use Rattle.public_fold.specs.Journal.{Entry, Journal, Stand, nothing, first_key, entry_step, stand_then}
-use Rattle.public_fold.specs.Journal.Entry.{Session, Made, Did}
+use Rattle.public_fold.specs.Journal.{Entry, Journal, Stand, nothing, first_key, root_note, entry_step, stand_then}
+use Rattle.public_fold.specs.Journal.Entry.{Session, Made, Did, Upgraded}
 use Rattle.journal_bytes.specs.Keys.{owner_parts, entry_keys, bytes_in}
 use Rattle.journal_bytes.specs.Notes.{declared_note}
 
@@ -50,9 +50,11 @@ keys_then keys at entry = keys ++ entry_keys at entry
 -- what the batch of an entry carries. A new holder's check is that of the key that was drawn
 unfoldable pub entry_body : List KeyParts → Stand → Entry → PlainBody
 entry_body keys at Session = NewEpoch
-entry_body keys at (Made drawn) = Commands (step_payload keys Root (entry_step at (Made drawn)))
+entry_body keys at (Made version drawn) =
+    Commands (step_payload keys (declared_note (root_note version)) (entry_step at (Made version drawn)))
 entry_body keys at (Did request drawn) =
     Commands (step_payload keys (declared_note (note_of at.store request (check_of (first_key drawn)))) (entry_step at (Did request drawn)))
+entry_body keys at (Upgraded drawn) = Commands (step_payload keys (declared_note Upgrade) (entry_step at (Upgraded drawn)))
 
 -- what the batches of entries carry, one after another, with the keys so far
 unfoldable pub bodies_from : List KeyParts → Stand → List Entry → List PlainBody

@@ -4,13 +4,14 @@ use Rattle.chacha_seal.specs.Keys.{KeyParts}
 use Rattle.cry_base.specs.declared.roles.Role.{Role}
 use Rattle.role_graph.specs.Roles.{role_id}
 use Rattle.public_fold.specs.Journal.{Entry, Journal, Stand, nothing, entry_step, stand_then}
-use Rattle.public_fold.specs.Journal.Entry.{Session, Made, Did}
+use Rattle.public_fold.specs.Journal.Entry.{Session, Made, Did, Upgraded}
 
 -- the keys that an entry drew
 unfoldable pub drawn_by : Entry → List (List ℕ)
 drawn_by Session = []
-drawn_by (Made keys) = keys
+drawn_by (Made version keys) = keys
 drawn_by (Did request keys) = keys
+drawn_by (Upgraded keys) = keys
 
 -- the roles and serials that were given, each with the next key of those drawn
 unfoldable pub with_bytes : List (Role × ℕ) → List (List ℕ) → List KeyParts

@@ -1,7 +1,7 @@
 -- The notes of the model as the records of a store have them: one type of the code's for each.
 use Rattle.record_format.specs.Noted.{Note}
 use Rattle.record_format.specs.Noted.Note.{Root, NewHolder, NewFolder, NewFile, Rewrite, NameFile, NameFolder, DropFile, DropFolder}
-use Rattle.record_format.specs.Noted.Note.{ShiftFile, ShiftFolder, Give, Take}
+use Rattle.record_format.specs.Noted.Note.{ShiftFile, ShiftFolder, Give, Take, StrictRoot, Upgrade}
 use Rattle.record_format.specs.declared.note.Note.{Note as Declared}
 use Rattle.record_format.specs.declared.note.Note.TheVariants as declared
 
@@ -20,3 +20,5 @@ declared_note (ShiftFile file into) = declared.ShiftFile (record { 0 = file }) (
 declared_note (ShiftFolder folder into) = declared.ShiftFolder (record { 0 = folder }) (record { 0 = into })
 declared_note (Give holder folder) = declared.Give (record { 0 = holder }) (record { 0 = folder })
 declared_note (Take holder folder) = declared.Take (record { 0 = holder }) (record { 0 = folder })
+declared_note StrictRoot = declared.StrictRoot
+declared_note Upgrade = declared.Upgrade

@@ -9,7 +9,7 @@ ghost use Rattle.public_fold.specs.Journal.{Entry, Journal, nothing, stand_after
 ghost use Rattle.public_fold.specs.Journal.Entry.{Made, Session};
 ghost use Rattle.public_fold.specs.Lengths.{end_of};
 ghost use Rattle.public_fold.specs.Valid.{IsValid};
-ghost use Rattle.key_links.specs.Fresh.{fresh_image, piece};
+ghost use Rattle.key_links.specs.Fresh.{fresh_image, made_version, piece};
 ghost use Rattle.journal_bytes.specs.Bytes.{batches_of, bodies_of, entry_body, image_of};
 ghost use Rattle.journal_bytes.specs.Journals.{IsHonestFor, StandsForJournal, StandsWholeForJournal, published_journal};
 ghost use Rattle.journal_bytes.specs.Keys.{AreWhole, all_keys, key_bytes};
@@ -17,7 +17,8 @@ ghost use Rattle.journal_bytes.specs.Keys.{AreWhole, all_keys, key_bytes};
 /// Law: the image of the journal that makes a store, with a closed gate behind it, is the image of a fresh store.
 pub fn fresh_journal_has_the_fresh_image()
     ensures { (drawn : List ℕ) →
-        image_of (piece drawn 0) (Session ∷ Made (piece drawn 1 ∷ piece drawn 2 ∷ piece drawn 3 ∷ piece drawn 4 ∷ piece drawn 5 ∷ []) ∷ [])
+        image_of (piece drawn 0)
+        (Session ∷ Made made_version (piece drawn 1 ∷ piece drawn 2 ∷ piece drawn 3 ∷ piece drawn 4 ∷ piece drawn 5 ∷ []) ∷ [])
         ++ 0 ∷ []
         ≡ fresh_image drawn }
 {}

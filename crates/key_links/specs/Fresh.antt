@@ -4,12 +4,16 @@ use Rattle.std.specs.Prelude.{ℕ, ◌+◌, ◌*◌, List, [], ◌∷◌, ◌++�
 use Rattle.chacha_seal.specs.Keys.{KeyParts}
 use Rattle.chacha_seal.specs.Serials.{serial_of}
 use Rattle.record_format.specs.declared.link.LinkRecord.{LinkRecord}
-use Rattle.record_format.specs.declared.note.Note.TheVariants.{Root}
+use Rattle.record_format.specs.declared.note.Note.TheVariants.{StrictRoot}
 use Rattle.record_format.specs.Plain.{PlainContent, PlainPayload}
 use Rattle.record_format.specs.Spelling.{spell_payload}
 use Rattle.commit_journal.specs.declared.batch_type.BatchType.TheVariants.{Command, NewEpoch}
 use Rattle.commit_journal.specs.Image.{Batch, image}
 use Rattle.key_links.specs.Sealed.{sealed_link, sealed_content}
+
+-- the version of a store that is made
+abbrev pub made_version : ℕ
+made_version = 2
 
 -- the bytes that are drawn: six keys of 32
 abbrev pub fresh_draw_len : ℕ
@@ -49,7 +53,7 @@ unfoldable pub root_name : List ℕ → PlainContent
 root_name drawn = sealed_content 1 (root_key drawn 4) 1 (serial_of 1 10) []
 
 unfoldable pub root_payload : List ℕ → PlainPayload
-root_payload drawn = record { note = Root; links = root_links drawn; contents = root_name drawn ∷ [] }
+root_payload drawn = record { note = StrictRoot; links = root_links drawn; contents = root_name drawn ∷ [] }
 
 -- the first epoch, and the command that makes the root
 abbrev pub epoch_batch : Batch

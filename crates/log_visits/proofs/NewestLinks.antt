@@ -23,7 +23,7 @@ use Rattle.move_plan.specs.Fitting.{fits}
 use Rattle.public_fold.specs.Fitted.{are_due, fits_step, has_content_head, has_heads, has_link_head, payload_fits, told_stand, told_step}
 use Rattle.public_fold.specs.Journal.{Stand, note_step, nothing}
 use Rattle.public_fold.specs.Keyed.{HasRole, KeysHold}
-use Rattle.public_fold.specs.KeyStep.{KeyState, edges_then, given, is_published, key_step, keys_then, keys_without, link_of, links_from, newest, next_epoch, next_serial, no_keys, numbered, present, published, published_edges, renewed, step_with}
+use Rattle.public_fold.specs.KeyStep.{KeyState, edges_then, given, is_published, is_strict, key_step, keys_then, keys_without, link_of, links_from, newest, next_epoch, next_serial, no_keys, numbered, present, published, published_edges, renewed, step_with}
 use Rattle.public_fold.specs.Records.{Link, pieces_of}
 use Rattle.public_fold.specs.StandFits.{has_count, note_fits}
 use Rattle.public_fold.specs.Standing.{PublicView}
@@ -365,22 +365,22 @@ owner_is_root : is_root_role Owner ≡ true
 unfolding is_root_role variant_of
 owner_is_root = refl
 
-note_goes : (at : Stand) (note : Note) (links : List Link) → fits at.store note ≡ true → StandHolds at links → (r : Role) → GoesTo at.keys (told_stand at note).keys r
+note_goes : (at : Stand) (note : Note) (links : List Link) → fits (is_strict at.keys) at.store note ≡ true → StandHolds at links → (r : Role) → GoesTo at.keys (told_stand at note).keys r
 unfolding told_stand told_step note_step key_step step_with published
-note_goes at note links t ok r = key_goes at.store (told_store at.store note) at.keys (change_of at.store note) links (note_moves at.store note t ok.store) ok.keys r
+note_goes at note links t ok r = key_goes at.store (told_store at.store note) at.keys (change_of (is_strict at.keys) at.store note) links (note_moves (is_strict at.keys) at.store note t ok.store) ok.keys r
 
-note_stands : (at : Stand) (note : Note) (links : List Link) → fits at.store note ≡ true → StandHolds at links → (l : Link) → In l (told_step at note).links →
+note_stands : (at : Stand) (note : Note) (links : List Link) → fits (is_strict at.keys) at.store note ≡ true → StandHolds at links → (l : Link) → In l (told_step at note).links →
     (e : Edge) × IsEdge (told_stand at note).store e × (l.edge ≡ e) × (l.from_serial ≡ present (told_stand at note).keys.keys e.from) × (l.to_serial ≡ present (told_stand at note).keys.keys e.to)
 unfolding told_stand told_step note_step key_step step_with published
 note_stands at note links t ok l i =
-    let c = change_of at.store note in
-    link_stands at.store (told_store at.store note) at.keys c links (note_moves at.store note t ok.store) ok.keys (next_serial at.keys + length (given at.keys c (renewed at.keys (edges at.store) c))) l i
+    let c = change_of (is_strict at.keys) at.store note in
+    link_stands at.store (told_store at.store note) at.keys c links (note_moves (is_strict at.keys) at.store note t ok.store) ok.keys (next_serial at.keys + length (given at.keys c (renewed at.keys (edges at.store) c))) l i
 
-note_ends : (at : Stand) (note : Note) (links : List Link) → fits at.store note ≡ true → StandHolds at links → (e : Edge) → IsEdge (told_stand at note).store e → HasRole (told_stand at note).store e.from × HasRole (told_stand at note).store e.to
+note_ends : (at : Stand) (note : Note) (links : List Link) → fits (is_strict at.keys) at.store note ≡ true → StandHolds at links → (e : Edge) → IsEdge (told_stand at note).store e → HasRole (told_stand at note).store e.from × HasRole (told_stand at note).store e.to
 unfolding told_stand
-note_ends at note links t ok e stands = (note_moves at.store note t ok.store).ends_after e stands
+note_ends at note links t ok e stands = (note_moves (is_strict at.keys) at.store note t ok.store).ends_after e stands
 
-note_fresh : (at : Stand) (note : Note) (links : List Link) → fits at.store note ≡ true → StandHolds at links → (l : Link) → In l (told_step at note).links → (p : PlacedLink) → has_link_head l p.link ≡ true →
+note_fresh : (at : Stand) (note : Note) (links : List Link) → fits (is_strict at.keys) at.store note ≡ true → StandHolds at links → (l : Link) → In l (told_step at note).links → (p : PlacedLink) → has_link_head l p.link ≡ true →
     IsFresh (told_stand at note).keys p
 note_fresh at note links t ok l i p head =
     let after = told_stand at note in
@@ -437,14 +437,14 @@ grown a c g e p = omega arith
 note_grows : (at : Stand) (note : Note) → next_serial at.keys ≤ next_serial (told_stand at note).keys
 unfolding told_stand told_step note_step key_step step_with published next_serial
 note_grows at note =
-    let c = change_of at.store note in
+    let c = change_of (is_strict at.keys) at.store note in
     let p = renewed at.keys (edges at.store) c in
     grown (at.keys.epoch * 2 ^ 32) at.keys.count (length (given at.keys c p)) (length (published_edges (edges at.store) c p)) (length (pieces_of note (told_store at.store note)))
 
 note_begun : (at : Stand) (note : Note) → note_fits at note (told_step at note) ≡ true → 0 < next_serial at.keys
 unfolding note_fits next_serial
 note_begun at note t =
-    let some : 0 < at.keys.epoch = ltb-true 0 at.keys.epoch (and_parts (nat_lt 0 at.keys.epoch) (fits at.store note && has_count (told_step at note)) t).0 in
+    let some : 0 < at.keys.epoch = ltb-true 0 at.keys.epoch (and_parts (nat_lt 0 at.keys.epoch) (fits (is_strict at.keys) at.store note && has_count (told_step at note)) t).0 in
     omega (arith, some)
 
 zero_stays : (old new : KeyState) → 0 < next_serial old → ((r : Role) → GoesTo old new r) → ZeroIsOwners old → ZeroIsOwners new

@@ -14,13 +14,13 @@ use Rattle.move_plan.specs.Change.{change_of}
 use Rattle.move_plan.specs.Fitting.{fits}
 use Rattle.public_fold.specs.Fitted.{has_heads, fits_step, payload_fits, told_stand, told_step}
 use Rattle.public_fold.specs.Journal.{Stand, nothing, note_step}
-use Rattle.public_fold.specs.KeyStep.{key_step, newest, next_epoch, no_keys, present, published, renewed, step_with}
+use Rattle.public_fold.specs.KeyStep.{is_strict, key_step, newest, next_epoch, no_keys, present, published, renewed, step_with}
 use Rattle.public_fold.specs.Records.{Link}
 use Rattle.public_fold.specs.StandFits.{note_fits}
 use Rattle.public_fold.specs.Standing.{PublicView, IsSeenAs}
 use Rattle.public_fold.specs.Told.{told_store}
 use Rattle.public_fold.specs.Turns.{StandHolds}
-use Rattle.public_fold.proofs.KeepingKeys.{marked_no_root, planned_told, same_key}
+use Rattle.public_fold.proofs.KeepingKeys.{renewed_stands, same_key}
 use Rattle.public_fold.proofs.NoteMoves.{note_moves}
 use Rattle.public_fold.proofs.TurnsHold.{epoch_stands, first_fits, first_stands, fit_told, payload_holds}
 use Rattle.record_format.specs.Noted.{Note}
@@ -34,17 +34,17 @@ unfolding is_root_role variant_of
 owner_is_root = refl
 
 -- a step renews other keys, and takes others away
-note_owner : (at : Stand) (note : Note) (links : List Link) → fits at.store note ≡ true → StandHolds at links → newest (told_stand at note).keys.keys Owner ≡ newest at.keys.keys Owner
+note_owner : (at : Stand) (note : Note) (links : List Link) → fits (is_strict at.keys) at.store note ≡ true → StandHolds at links → newest (told_stand at note).keys.keys Owner ≡ newest at.keys.keys Owner
 unfolding told_stand told_step note_step key_step step_with published
 note_owner at note links t holds =
     let s = at.store in
     let after = told_store s note in
-    let c = change_of s note in
-    let mv = note_moves s note t holds.store in
+    let c = change_of (is_strict at.keys) s note in
+    let mv = note_moves (is_strict at.keys) s note t holds.store in
     let plan = renewed at.keys (edges s) c in
     let not_new : In Owner c.fresh → ⊥ = λ f. mv.fresh_is_new Owner f tt in
     same_key s after at.keys c links mv holds.keys Owner
-    (λ i. ⊎_elim (λ p. false≢true (sym (marked_no_root s after at.keys c links mv holds.keys Owner ((planned_told s after at.keys c links mv holds.keys Owner).0 p).0) ∙ owner_is_root)) not_new
+    (λ i. ⊎_elim (λ p. false≢true (sym (renewed_stands s after at.keys c links mv holds.keys Owner p).1.1 ∙ owner_is_root)) not_new
     ((In-append Role Owner plan c.fresh).0 i))
     (λ g. ⊎_elim (λ w. w.1 g) not_new ((mv.roles Owner).0 tt))
 
@@ -52,7 +52,8 @@ note_owner at note links t holds =
 abbrev pub IsOwned : Stand → Type 0
 IsOwned at = (links : List Link) × StandHolds at links × (newest at.keys.keys Owner ≡ Some 0)
 
-payload_fit : (at : Stand) (q : PlainPayload) → payload_fits at q ≡ true → fits at.store (told_note q.note) ≡ true
+-- the note of a payload that fits does
+pub payload_fit : (at : Stand) (q : PlainPayload) → payload_fits at q ≡ true → fits (is_strict at.keys) at.store (told_note q.note) ≡ true
 unfolding payload_fits fits_step
 payload_fit at q t =
     let step = told_step at (told_note q.note) in

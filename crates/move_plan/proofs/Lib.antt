@@ -1,3 +1,4 @@
 pub mod Noting
 pub mod Public
 pub mod Seeing
+pub mod Inside

@@ -1,15 +1,17 @@
 -- No edge and no change hangs on a name, a file's bytes or a holder's key.
-use Rattle.std.proofs.Common.{◌≡◌, ℕ, true, false, cond, ◌==◌, List, [], ◌∷◌, ◌++◌, map, flat_map, Some, None, refl, ap}
+use Rattle.std.proofs.Common.{◌≡◌, ℕ, Bool, true, false, cond, ◌==◌, List, [], ◌∷◌, ◌++◌, map, flat_map, Some, None, refl, ap}
 use Rattle.std.specs.List.{find, filter}
 use Rattle.std.specs.Prelude.{◌||◌}
 use Rattle.cry_base.specs.Sets.{has}
-use Rattle.role_graph.specs.Roles.{same_role, folder_roles, file_role, files_of, sub_of, back_of}
+use Rattle.role_graph.specs.Roles.{same_role, folder_roles, file_role, clear_of, files_of, sub_of, back_of}
 use Rattle.cry_base.specs.Store.{Store, FolderEntry, FileEntry, GrantEntry, folder_entry, file_entry}
 use Rattle.cry_base.specs.declared.roles.Edge.{Edge}
+use Rattle.cry_base.specs.declared.roles.Role.{Role}
 use Rattle.role_graph.specs.Edges.{edge_before, in_order, folder_edges, parent_edges, grant_edge, file_edge, edges}
+use Rattle.rekey_walk.specs.Strict.{strict_roles}
 use Rattle.record_format.specs.Noted.{Note}
-use Rattle.record_format.specs.Noted.Note.{Root, NewHolder, NewFolder, NewFile, Rewrite, NameFile, NameFolder, DropFile, DropFolder, ShiftFile, ShiftFolder, Give, Take}
-use Rattle.move_plan.specs.Change.{no_change, change_of, edges_at, edge_into_file, folder_of_file, parent_of_folder}
+use Rattle.record_format.specs.Noted.Note.{Root, NewHolder, NewFolder, NewFile, Rewrite, NameFile, NameFolder, DropFile, DropFolder, ShiftFile, ShiftFolder, Give, Take, StrictRoot, Upgrade}
+use Rattle.move_plan.specs.Change.{no_change, change_of, row_change, inner_roles, is_upgrade, strict_of, edges_at, edge_into_file, folder_of_file, parent_of_folder}
 use Rattle.move_plan.specs.Fitting.{public_of}
 
 flat-map : (X Y : Type 0) (f : X → X) (g : X → List Y) → ((x : X) → g (f x) ≡ g x) → (xs : List X) → flat_map g (map f xs) ≡ flat_map g xs
@@ -61,18 +63,34 @@ at_public : (s : Store) (f : ℕ) → edges_at (public_of s) f ≡ edges_at s f
 unfolding edges_at
 at_public s f = ap (λ (es : List Edge). filter (λ e. has same_role (folder_roles f) e.from || has same_role (folder_roles f) e.to) es) (edges_public s)
 
-pub change_public : (s : Store) (note : Note) → change_of (public_of s) note ≡ change_of s note
-unfolding change_of no_change
-change_public s Root = refl
-change_public s (NewHolder h check) = refl
-change_public s (NewFolder f p) = refl
-change_public s (NewFile x f) = refl
-change_public s (Rewrite x) = refl
-change_public s (NameFile x) = refl
-change_public s (NameFolder f) = refl
-change_public s (DropFile x) = ap (λ e. record { removed = e ∷ []; gone = file_role x ∷ []; wanted = []; fresh = []; added = [] }) (into_public s x)
-change_public s (DropFolder f) = ap (λ es. record { removed = es; gone = folder_roles f; wanted = []; fresh = []; added = [] }) (at_public s f)
-change_public s (ShiftFile x g) = ap (λ e. record { removed = e ∷ []; gone = []; wanted = files_of g ∷ []; fresh = []; added = file_edge g x ∷ [] }) (into_public s x)
-change_public s (ShiftFolder g q) = ap (λ p. record { removed = parent_edges g p; gone = []; wanted = sub_of q ∷ back_of g ∷ []; fresh = []; added = parent_edges g q }) (parent_public s g)
-change_public s (Give h f) = refl
-change_public s (Take h f) = refl
+inner_public : (s : Store) → inner_roles (public_of s) ≡ inner_roles s
+unfolding inner_roles public_of
+inner_public s =
+    let each = λ (role : ℕ → Role). map-map FolderEntry Role (λ e. record e { name = [] }) (λ e. role e.id) (λ e. refl) s.folders in
+    λ i. each clear_of i ++ (each sub_of i ++ (each back_of i ++ each files_of i))
+
+row_public : (s : Store) (note : Note) → row_change (public_of s) note ≡ row_change s note
+unfolding row_change no_change
+row_public s Root = refl
+row_public s (NewHolder h check) = refl
+row_public s (NewFolder f p) = refl
+row_public s (NewFile x f) = refl
+row_public s (Rewrite x) = refl
+row_public s (NameFile x) = refl
+row_public s (NameFolder f) = refl
+row_public s (DropFile x) = ap (λ e. record no_change { removed = e ∷ []; gone = file_role x ∷ [] }) (into_public s x)
+row_public s (DropFolder f) = ap (λ es. record no_change { removed = es; gone = folder_roles f }) (at_public s f)
+row_public s (ShiftFile x g) = ap (λ e. record no_change { removed = e ∷ []; wanted = files_of g ∷ []; added = file_edge g x ∷ [] }) (into_public s x)
+row_public s (ShiftFolder g q) = ap (λ p. record no_change { removed = parent_edges g p; wanted = sub_of q ∷ back_of g ∷ []; added = parent_edges g q }) (parent_public s g)
+row_public s (Give h f) = refl
+row_public s (Take h f) = refl
+row_public s StrictRoot = refl
+row_public s Upgrade = refl
+
+pub change_public : (strict : Bool) (s : Store) (note : Note) → change_of strict (public_of s) note ≡ change_of strict s note
+unfolding change_of strict_of
+change_public strict s note =
+    let row = row_public s note in
+    λ i. record (row i) {
+      strict = cond (is_upgrade note) (inner_public s i) (cond strict (strict_roles (edges_public s i) (row i).removed (row i).gone) []);
+    }

@@ -17,17 +17,17 @@ use Rattle.role_graph.specs.Edges.{edges}
 use Rattle.role_graph.specs.PublicStore.{public_store}
 use Rattle.role_graph.specs.Roles.{folder_roles}
 use Rattle.role_graph.proofs.AtEnds.{touches}
-use Rattle.move_plan.specs.Change.{change_of, edges_at, folder_of_file, no_change, parent_of_folder}
+use Rattle.move_plan.specs.Change.{row_change, edges_at, folder_of_file, no_change, parent_of_folder}
 use Rattle.move_plan.specs.Fitting.{file_stands, folder_stands, has_depth_left, is_other_folder, may_go_into}
 use Rattle.move_plan.specs.Seen.{keyless, seen_store}
 use Rattle.record_format.specs.Noted.Note.{DropFolder}
 
-edges_seen : (t : Store) (g : Granted) → edges (public_store t g.pairs) ≡ edges (seen_store t g)
+pub edges_seen : (t : Store) (g : Granted) → edges (public_store t g.pairs) ≡ edges (seen_store t g)
 unfolding edges
 edges_seen t g = refl
 
-pub dropped_seen : (t : Store) (g : Granted) (f : ℕ) → change_of (public_store t g.pairs) (DropFolder f) ≡ change_of (seen_store t g) (DropFolder f)
-unfolding change_of edges_at
+pub dropped_seen : (t : Store) (g : Granted) (f : ℕ) → row_change (public_store t g.pairs) (DropFolder f) ≡ row_change (seen_store t g) (DropFolder f)
+unfolding row_change edges_at
 dropped_seen t g f = ap (λ es. record no_change { removed = filter (touches (folder_roles f)) es; gone = folder_roles f }) (edges_seen t g)
 
 any_of_map : (X Y : Type 0) (f : X → Y) (p : Y → Bool) (xs : List X) → list_any p (map f xs) ≡ list_any (λ x. p (f x)) xs

@@ -1,26 +1,30 @@
 -- What a note changes among the keys. This project's own, docs/FORMAT.md, "The key step".
-use Rattle.std.specs.Prelude.{ℕ, ◌||◌, List, [], ◌∷◌, ◌++◌, filter, Some, None}
+use Rattle.std.specs.Prelude.{ℕ, Bool, true, false, cond, ◌||◌, List, [], ◌∷◌, ◌++◌, map, filter, Option, Some, None}
 use Rattle.cry_base.specs.Sets.{has}
 use Rattle.cry_base.specs.Store.{Store, file_entry, folder_entry}
 use Rattle.cry_base.specs.declared.roles.Edge.{Edge}
 use Rattle.cry_base.specs.declared.roles.Role.{Role}
 use Rattle.role_graph.specs.Roles.{same_role, holder_role, clear_of, sub_of, back_of, files_of, data_of, file_role, folder_roles}
 use Rattle.role_graph.specs.Edges.{edges, folder_edges, parent_edges, grant_edge, file_edge, in_order, edge_before}
+use Rattle.rekey_walk.specs.Strict.{strict_roles}
 use Rattle.record_format.specs.Noted.{Note}
 use Rattle.record_format.specs.Noted.Note.{Root, NewHolder, NewFolder, NewFile, Rewrite, NameFile, NameFolder, DropFile, DropFolder}
-use Rattle.record_format.specs.Noted.Note.{ShiftFile, ShiftFolder, Give, Take}
+use Rattle.record_format.specs.Noted.Note.{ShiftFile, ShiftFolder, Give, Take, StrictRoot, Upgrade}
 
--- the edges and roles that go, the roles that must be clean for what is added or written, and the roles and edges that come
+-- the edges and roles that go, the roles that must be clean for what is added or written, those that are renewed whether or not they are
+-- dirty, the roles and edges that come, and the version that the store comes to have, where that is said
 pub record Change : Type 0 where
   pub removed : List Edge
   pub gone : List Role
   pub wanted : List Role
+  pub strict : List Role
   pub fresh : List Role
   pub added : List Edge
+  pub version : Option ℕ
 
 -- nothing
 unfoldable pub no_change : Change
-no_change = record { removed = []; gone = []; wanted = []; fresh = []; added = [] }
+no_change = record { removed = []; gone = []; wanted = []; strict = []; fresh = []; added = []; version = None }
 
 -- the folder that a file is in, and the parent of a folder
 unfoldable pub folder_of_file : Store → ℕ → ℕ
@@ -45,18 +49,46 @@ edges_of_new f p = in_order edge_before (folder_edges f ++ parent_edges f p)
 abbrev pub edges_up : Store → ℕ → List Edge
 edges_up s f = parent_edges f (parent_of_folder s f)
 
--- the change of each note, as the table in docs/FORMAT.md says
-unfoldable pub change_of : Store → Note → Change
-change_of s Root = record no_change { fresh = folder_roles 1; added = folder_edges 1 }
-change_of s (NewHolder h check) = record no_change { fresh = holder_role h ∷ [] }
-change_of s (NewFolder f p) = record no_change { wanted = sub_of p ∷ []; fresh = folder_roles f; added = edges_of_new f p }
-change_of s (NewFile x f) = record no_change { wanted = files_of f ∷ []; fresh = file_role x ∷ []; added = file_edge f x ∷ [] }
-change_of s (Rewrite x) = record no_change { wanted = file_role x ∷ [] }
-change_of s (NameFile x) = record no_change { wanted = file_role x ∷ [] }
-change_of s (NameFolder f) = record no_change { wanted = data_of f ∷ [] }
-change_of s (DropFile x) = record no_change { removed = edge_into_file s x ∷ []; gone = file_role x ∷ [] }
-change_of s (DropFolder f) = record no_change { removed = edges_at s f; gone = folder_roles f }
-change_of s (ShiftFile x g) = record no_change { removed = edge_into_file s x ∷ []; wanted = files_of g ∷ []; added = file_edge g x ∷ [] }
-change_of s (ShiftFolder g q) = record no_change { removed = edges_up s g; wanted = sub_of q ∷ back_of g ∷ []; added = parent_edges g q }
-change_of s (Give h f) = record no_change { added = grant_edge h f ∷ [] }
-change_of s (Take h f) = record no_change { removed = grant_edge h f ∷ []; wanted = clear_of f ∷ [] }
+-- the root is made, in a store of this version
+abbrev pub root_change : ℕ → Change
+root_change version = record no_change { fresh = folder_roles 1; added = folder_edges 1; version = Some version }
+
+-- the change of each note but for strict roles, as the table in docs/FORMAT.md says
+unfoldable pub row_change : Store → Note → Change
+row_change s Root = root_change 1
+row_change s (NewHolder h check) = record no_change { fresh = holder_role h ∷ [] }
+row_change s (NewFolder f p) = record no_change { wanted = sub_of p ∷ []; fresh = folder_roles f; added = edges_of_new f p }
+row_change s (NewFile x f) = record no_change { wanted = files_of f ∷ []; fresh = file_role x ∷ []; added = file_edge f x ∷ [] }
+row_change s (Rewrite x) = record no_change { wanted = file_role x ∷ [] }
+row_change s (NameFile x) = record no_change { wanted = file_role x ∷ [] }
+row_change s (NameFolder f) = record no_change { wanted = data_of f ∷ [] }
+row_change s (DropFile x) = record no_change { removed = edge_into_file s x ∷ []; gone = file_role x ∷ [] }
+row_change s (DropFolder f) = record no_change { removed = edges_at s f; gone = folder_roles f }
+row_change s (ShiftFile x g) = record no_change { removed = edge_into_file s x ∷ []; wanted = files_of g ∷ []; added = file_edge g x ∷ [] }
+row_change s (ShiftFolder g q) = record no_change { removed = edges_up s g; wanted = sub_of q ∷ back_of g ∷ []; added = parent_edges g q }
+row_change s (Give h f) = record no_change { added = grant_edge h f ∷ [] }
+row_change s (Take h f) = record no_change { removed = grant_edge h f ∷ []; wanted = clear_of f ∷ [] }
+row_change s StrictRoot = root_change 2
+row_change s Upgrade = record no_change { version = Some 2 }
+
+-- the roles of the folders that edges lead on from, in their order, since folders stand by number
+unfoldable pub inner_roles : Store → List Role
+inner_roles s =
+    map (λ e. clear_of e.id) s.folders
+    ++ (map (λ e. sub_of e.id) s.folders
+    ++ (map (λ e. back_of e.id) s.folders
+    ++ map (λ e. files_of e.id) s.folders))
+
+unfoldable pub is_upgrade : Note → Bool
+is_upgrade Upgrade = true
+is_upgrade note = false
+
+-- the strict roles of a note with this row: those of all folders where the store becomes strict, and where it is so those that lead to
+-- where a removed edge begins
+unfoldable pub strict_of : Bool → Store → Note → Change → List Role
+strict_of strict s note row =
+    cond (is_upgrade note) (inner_roles s) (cond strict (strict_roles (edges s) row.removed row.gone) [])
+
+-- the change of each note, in a store that is strict or isn't: strict is one of version 2
+unfoldable pub change_of : Bool → Store → Note → Change
+change_of strict s note = record (row_change s note) { strict = strict_of strict s note (row_change s note) }

@@ -6,7 +6,7 @@ use Rattle.cry_base.specs.Store.{Store, FolderEntry, FileEntry, HolderEntry, fol
 use Rattle.cry_base.specs.Store.{depth_of, is_within}
 use Rattle.record_format.specs.Noted.{Note}
 use Rattle.record_format.specs.Noted.Note.{Root, NewHolder, NewFolder, NewFile, Rewrite, NameFile, NameFolder, DropFile, DropFolder}
-use Rattle.record_format.specs.Noted.Note.{ShiftFile, ShiftFolder, Give, Take}
+use Rattle.record_format.specs.Noted.Note.{ShiftFile, ShiftFolder, Give, Take, StrictRoot, Upgrade}
 use Rattle.move_plan.specs.Change.{folder_of_file, parent_of_folder}
 
 -- the folder stands, and something may be put into it; the file stands
@@ -30,29 +30,32 @@ may_go_into s g q =
     && not (parent_of_folder s g == q) && not (is_within s q g)
     && nat_le (depth_of s (folder_node q) + 1 + height_of s (Some (folder_node g))) most_depth
 
--- the condition of each note, as the table in docs/FORMAT.md says, where the root stands
-unfoldable pub row_fits : Store → Note → Bool
-row_fits s Root = s.folders_made == 0
-row_fits s (NewHolder h check) = h == s.holders_made + 1
-row_fits s (NewFolder f p) = f == s.folders_made + 1 && has_depth_left s p
-row_fits s (NewFile x f) = x == s.files_made + 1 && has_depth_left s f
-row_fits s (Rewrite x) = file_stands s x
-row_fits s (NameFile x) = file_stands s x
-row_fits s (NameFolder f) = is_other_folder s f
-row_fits s (DropFile x) = file_stands s x
-row_fits s (DropFolder f) = is_other_folder s f && not (has_child s f)
-row_fits s (ShiftFile x g) = file_stands s x && has_depth_left s g && not (folder_of_file s x == g)
-row_fits s (ShiftFolder g q) = may_go_into s g q
-row_fits s (Give h f) = is_some (holder_entry s h) && folder_stands s f && not (has_grant s h f)
-row_fits s (Take h f) = has_grant s h f
+-- the condition of each note, as the table in docs/FORMAT.md says, where the root stands. A store is strict where it has version 2
+unfoldable pub row_fits : Bool → Store → Note → Bool
+row_fits strict s Root = s.folders_made == 0
+row_fits strict s (NewHolder h check) = h == s.holders_made + 1
+row_fits strict s (NewFolder f p) = f == s.folders_made + 1 && has_depth_left s p
+row_fits strict s (NewFile x f) = x == s.files_made + 1 && has_depth_left s f
+row_fits strict s (Rewrite x) = file_stands s x
+row_fits strict s (NameFile x) = file_stands s x
+row_fits strict s (NameFolder f) = is_other_folder s f
+row_fits strict s (DropFile x) = file_stands s x
+row_fits strict s (DropFolder f) = is_other_folder s f && not (has_child s f)
+row_fits strict s (ShiftFile x g) = file_stands s x && has_depth_left s g && not (folder_of_file s x == g)
+row_fits strict s (ShiftFolder g q) = may_go_into s g q
+row_fits strict s (Give h f) = is_some (holder_entry s h) && folder_stands s f && not (has_grant s h f)
+row_fits strict s (Take h f) = has_grant s h f
+row_fits strict s StrictRoot = s.folders_made == 0
+row_fits strict s Upgrade = not strict
 
--- the note fits the store: every note but Root needs that the root stands
+-- the note fits the store: every note but the two that make the root needs that it stands
 unfoldable pub needs_root : Note → Bool
 needs_root Root = false
+needs_root StrictRoot = false
 needs_root note = true
 
-unfoldable pub fits : Store → Note → Bool
-fits s note = row_fits s note && (not (needs_root note) || folder_stands s 1)
+unfoldable pub fits : Bool → Store → Note → Bool
+fits strict s note = row_fits strict s note && (not (needs_root note) || folder_stands s 1)
 
 -- the store as everyone may see it: no name, no bytes of a file, no holder's key
 unfoldable pub public_of : Store → Store

@@ -6,6 +6,7 @@ use Rattle.grant_book.specs.Granted.{Granted}
 use Rattle.role_graph.specs.PublicStore.{public_store}
 use Rattle.move_plan.specs.Change.{Change}
 use Rattle.move_plan.specs.declared.change.Change.{Change as Declared}
+use Rattle.move_plan.specs.declared.row.Row.{Row}
 
 -- a holder whose key isn't told
 abbrev pub keyless : ℕ → HolderEntry
@@ -24,6 +25,20 @@ plain_change c = record {
   removed = c.removed.items;
   gone = c.gone.items;
   wanted = c.wanted;
+  strict = c.strict.items;
   fresh = c.fresh;
   added = c.added.items;
+  version = c.version;
+}
+
+-- a note's row as the definitions have it: a change without strict roles
+abbrev pub plain_row : Row → Change
+plain_row r = record {
+  removed = r.removed.items;
+  gone = r.gone.items;
+  wanted = r.wanted;
+  strict = [];
+  fresh = r.fresh;
+  added = r.added.items;
+  version = r.version;
 }

@@ -16,32 +16,32 @@ use folder_nodes::Shape;
 use grant_book::Grants;
 use record_format::Note;
 
-/// Whether the note fits: its row's condition holds, and the root stands where the note isn't the one that makes it. It
-/// goes up from the folders that the note names, and down from one that is moved.
-pub fn fits(shape: &Shape, grants: &Grants, note: &Note) -> bool
-    ensures { result ≡ fits_store (seen_store shape.now.tree grants.now) (told_note note.now) }
+/// Whether the note fits: its row's condition holds, and the root stands where the note isn't one that makes it. It
+/// goes up from the folders that the note names, and down from one that is moved. `strict` says that the store has version 2.
+pub fn fits(strict: bool, shape: &Shape, grants: &Grants, note: &Note) -> bool
+    ensures { result ≡ fits_store strict (seen_store shape.now.tree grants.now) (told_note note.now) }
 {
-    row_fits(shape, grants, note) && has_root_for(shape, note)
+    row_fits(strict, shape, grants, note) && has_root_for(shape, note)
 }
 
-/// Whether the root stands, or the note is the one that makes it.
+/// Whether the root stands, or the note is one that makes it.
 #[tactic(auto, unfolding(crate::specs::Fitting::folder_stands))]
 fn has_root_for(shape: &Shape, note: &Note) -> bool
     ensures { result ≡ (not (needs_root (told_note note.now)) || folder_stands shape.now.tree 1) }
 {
-    is_root(note) || shape.has_folder(ROOT)
+    makes_root(note) || shape.has_folder(ROOT)
 }
 
 #[tactic(auto, unfolding(crate::specs::Fitting::needs_root, record_format::specs::Told::told_note))]
-fn is_root(note: &Note) -> bool
+fn makes_root(note: &Note) -> bool
     ensures { result ≡ not (needs_root (told_note note.now)) }
 {
-    matches!(note, Note::Root)
+    matches!(note, Note::Root | Note::StrictRoot)
 }
 
 /// Whether the condition of the note's row holds.
-fn row_fits(shape: &Shape, grants: &Grants, note: &Note) -> bool
-    ensures { result ≡ row_of_note (seen_store shape.now.tree grants.now) (told_note note.now) }
+fn row_fits(strict: bool, shape: &Shape, grants: &Grants, note: &Note) -> bool
+    ensures { result ≡ row_of_note strict (seen_store shape.now.tree grants.now) (told_note note.now) }
 {
     match *note {
         Note::Root => may_make_root(shape),
@@ -57,6 +57,8 @@ fn row_fits(shape: &Shape, grants: &Grants, note: &Note) -> bool
         Note::ShiftFolder { folder, into } => may_move_folder(shape, folder, into),
         Note::Give { holder, folder } => may_give(shape, grants, holder, folder),
         Note::Take { holder, folder } => grants.has(holder, folder),
+        Note::StrictRoot => may_make_root(shape),
+        Note::Upgrade => !strict,
     }
 }
 

@@ -9,7 +9,9 @@ mod fault;
 mod few_roles;
 mod fitting;
 pub mod laws;
+mod row;
 pub mod rows;
+mod strict;
 
 pub use change::{Change, change_of};
 pub use fault::ChangeFault;

@@ -5,10 +5,10 @@ ghost use Rattle.cry_base.specs.Store.{no_store};
 ghost use Rattle.cry_base.specs.WorkedRows.{granted, store_after};
 ghost use Rattle.move_plan.specs.Fitting.{fits};
 ghost use Rattle.role_graph.specs.Edges.{edge};
-ghost use Rattle.role_graph.specs.Roles.{files_of, file_role};
+ghost use Rattle.role_graph.specs.Roles.{clear_of, sub_of, back_of, files_of, file_role};
 ghost use Rattle.move_plan.specs.Change.{change_of};
 ghost use Rattle.record_format.specs.Noted.Note.{Root, NewHolder, NewFolder, NewFile, Rewrite, NameFile, NameFolder, DropFile, DropFolder};
-ghost use Rattle.record_format.specs.Noted.Note.{ShiftFile, ShiftFolder, Give, Take};
+ghost use Rattle.record_format.specs.Noted.Note.{ShiftFile, ShiftFolder, Give, Take, StrictRoot, Upgrade};
 ghost use Rattle.move_plan.specs.Noting.{note_of};
 
 /// The notes of commands on a store with the folder /a and the file /a/x.
@@ -27,23 +27,36 @@ pub fn notes_of_commands()
 {}
 
 /// What fits a store with the folder /a, the file /a/x, a holder and a grant on /a: the next numbers, what stands, and
-/// no move of a folder into itself or to where it is.
+/// no move of a folder into itself or to where it is. It may be upgraded where it has version 1.
 #[tactic(auto, unfolding(crate::specs::WorkedChanges::changes))]
 pub fn notes_that_fit()
-    ensures fit { map (fits granted) (NewHolder 2 [] ∷ NewFolder 3 2 ∷ NewFile 2 2 ∷ Rewrite 1 ∷ NameFolder 2 ∷ DropFile 1 ∷ ShiftFile 1 1
-        ∷ Give 1 1 ∷ Take 1 2 ∷ [])
+    ensures fit { map (fits false granted) (NewHolder 2 [] ∷ NewFolder 3 2 ∷ NewFile 2 2 ∷ Rewrite 1 ∷ NameFolder 2 ∷ DropFile 1
+        ∷ ShiftFile 1 1 ∷ Give 1 1 ∷ Take 1 2 ∷ [])
         ≡ true ∷ true ∷ true ∷ true ∷ true ∷ true ∷ true ∷ true ∷ true ∷ [] }
-    ensures misfit { map (fits granted) (Root ∷ NewHolder 1 [] ∷ NewFolder 4 2 ∷ NewFile 2 3 ∷ Rewrite 2 ∷ NameFolder 1 ∷ DropFolder 2
+    ensures misfit { map (fits false granted) (Root ∷ NewHolder 1 [] ∷ NewFolder 4 2 ∷ NewFile 2 3 ∷ Rewrite 2 ∷ NameFolder 1 ∷ DropFolder 2
         ∷ ShiftFile 1 2 ∷ ShiftFolder 2 1 ∷ ShiftFolder 2 2 ∷ ShiftFolder 1 2 ∷ Give 1 2 ∷ Give 2 1 ∷ Take 1 1 ∷ [])
         ≡ false ∷ false ∷ false ∷ false ∷ false ∷ false ∷ false ∷ false ∷ false ∷ false ∷ false ∷ false ∷ false ∷ false ∷ [] }
-    ensures no_root { map (fits no_store) (Root ∷ NewHolder 1 [] ∷ []) ≡ true ∷ false ∷ [] }
+    ensures upgrade { fits false granted Upgrade ≡ true }
+    ensures upgraded { fits true granted Upgrade ≡ false }
+    ensures no_root { map (fits false no_store) (Root ∷ StrictRoot ∷ NewHolder 1 [] ∷ Upgrade ∷ []) ≡ true ∷ true ∷ false ∷ false ∷ [] }
 {}
 
 /// A file that is removed leaves the edge that led to it, and a folder all edges at its roles: those from the owner and its holder, its
 /// own, and those between it and its parent.
 #[tactic(auto, unfolding(crate::specs::WorkedChanges::changes))]
 pub fn edges_that_are_left()
-    ensures file { (change_of granted (DropFile 1)).removed ≡ edge 9 (files_of 2) (file_role 1) ∷ [] }
-    ensures folder { map (λ e. e.kind) (change_of (store_after granted (Remove (codes "/a/x") ∷ [])) (DropFolder 2)).removed
+    ensures file { (change_of false granted (DropFile 1)).removed ≡ edge 9 (files_of 2) (file_role 1) ∷ [] }
+    ensures folder { map (λ e. e.kind) (change_of false (store_after granted (Remove (codes "/a/x") ∷ [])) (DropFolder 2)).removed
         ≡ 1 ∷ 2 ∷ 3 ∷ 4 ∷ 5 ∷ 6 ∷ 7 ∷ 8 ∷ [] }
+{}
+
+/// What leaves a folder renews the keys that led through it to where it was, in a strict store alone, and an upgrade all keys that may lead
+/// on. A grant that is taken back renews none.
+#[tactic(auto, unfolding(crate::specs::WorkedChanges::changes))]
+pub fn strict_roles_of_notes()
+    ensures departure { (change_of true granted (ShiftFile 1 1)).strict ≡ clear_of 1 ∷ clear_of 2 ∷ sub_of 1 ∷ sub_of 2 ∷ files_of 2 ∷ [] }
+    ensures lazy { (change_of false granted (ShiftFile 1 1)).strict ≡ [] }
+    ensures revocation { (change_of true granted (Take 1 2)).strict ≡ [] }
+    ensures upgrade { (change_of false granted Upgrade).strict
+        ≡ clear_of 1 ∷ clear_of 2 ∷ sub_of 1 ∷ sub_of 2 ∷ back_of 1 ∷ back_of 2 ∷ files_of 1 ∷ files_of 2 ∷ [] }
 {}

@@ -1,9 +1,8 @@
 -- No link leaves a key that is dirty after its command.
-use Rattle.std.proofs.Common.{◌≡◌, ℕ, ◌+◌, ◌||◌, List, [], ◌∷◌, ◌++◌, length, inl, inr, ⊎_elim, sym, ap, ◌∙◌, subst}
+use Rattle.std.proofs.Common.{◌≡◌, ℕ, ◌+◌, ◌||◌, false, List, [], ◌∷◌, ◌++◌, length, inl, inr, ⊎_elim, sym, ap, ◌∙◌, subst}
 use Rattle.std.proofs.lemmas.Bool.{or_cases, false≢true}
 use Rattle.cry_base.specs.Limits.{most_file_bytes}
 use Rattle.cry_base.specs.Sets.{In, has}
-use Rattle.cry_base.specs.Sets.Path.{Here}
 use Rattle.cry_base.specs.Store.{Store, no_store, root_store}
 use Rattle.cry_base.specs.Stepping.{effect}
 use Rattle.cry_base.specs.declared.roles.Edge.{Edge}
@@ -14,18 +13,18 @@ use Rattle.role_graph.specs.Roles.{same_role}
 use Rattle.role_graph.specs.Edges.{edges, same_edge}
 use Rattle.role_graph.proofs.Comparing.{same_role_tells}
 use Rattle.move_plan.specs.Change.{Change, change_of}
-use Rattle.record_format.specs.Noted.Note.{Root}
+use Rattle.record_format.specs.Noted.Note.{Upgrade}
 use Rattle.move_plan.specs.Noting.{note_of}
-use Rattle.public_fold.specs.Journal.{Journal, Entry, Stand, nothing, first_key, note_step, entry_step, entry_store, stand_then, steps_from, steps_of}
-use Rattle.public_fold.specs.Journal.Entry.{Session, Made, Did}
+use Rattle.public_fold.specs.Journal.{Journal, Entry, Stand, nothing, first_key, note_step, root_note, entry_step, entry_store, stand_then, steps_from, steps_of}
+use Rattle.public_fold.specs.Journal.Entry.{Session, Made, Did, Upgraded}
 use Rattle.public_fold.specs.Keyed.{KeysHold, LeavesClean}
-use Rattle.public_fold.specs.KeyStep.{KeyState, Stepped, no_keys, next_epoch, next_serial, numbered, given, keys_then, renewed, dirty_left, edges_then, is_published, published_edges, link_of, links_from, published, step_with, key_step}
+use Rattle.public_fold.specs.KeyStep.{KeyState, Stepped, is_strict, no_keys, next_epoch, next_serial, numbered, given, keys_then, renewed, dirty_left, edges_then, is_published, published_edges, link_of, links_from, published, step_with, key_step}
 use Rattle.public_fold.specs.Records.{Link, Piece, pieces_of}
 use Rattle.public_fold.specs.Valid.{FollowOn, BeginsWell, IsValid}
 use Rattle.public_fold.proofs.EdgesThen.{then_told}
 use Rattle.role_graph.proofs.AtEnds.{same_edge_tells}
-use Rattle.public_fold.proofs.KeepingKeys.{IsMove, without_told, marked_stands, marked_no_root, planned_told, closed_then, keys_after}
-use Rattle.public_fold.proofs.KeyMoves.{IsSound, effect_sound, root_sound, command_moves, root_moves, nothing_holds, epoch_holds}
+use Rattle.public_fold.proofs.KeepingKeys.{IsMove, without_told, marked_stands, marked_no_root, renewed_wanted, closed_then, keys_after}
+use Rattle.public_fold.proofs.KeyMoves.{IsSound, effect_sound, root_sound, command_moves, root_moves, upgrade_moves, nothing_holds, epoch_holds}
 
 -- what is numbered is of the list
 numbered-of : (n : ℕ) (es : List Edge) (q : Edge × ℕ) → In q (numbered n es) → In q.0 es
@@ -46,7 +45,7 @@ module _ (s t : Store) (k : KeyState) (c : Change) (links : List Link) (mv : IsM
       (λ a. ⊎_elim
       (λ root. false≢true (sym (marked_no_root s t k c links mv ok e.from d) ∙ root))
       (λ v. ⊎_elim
-      (λ wanted. out ((planned_told s t k c links mv ok e.from).1 (d, (e.from, wanted, Here))))
+      (λ wanted. out (renewed_wanted s t k c links mv ok e.from d wanted))
       (λ f. new e.from d f) v)
       (mv.sources e (has-in Edge same_edge same_edge_tells c.added e a)))
       (λ b. ⊎_elim out (λ f. new e.from d f) ((In-append Role e.from p c.fresh).0 (has-in Role same_role same_role_tells (p ++ c.fresh) e.from b)))
@@ -73,35 +72,46 @@ after_clean [] at links sound ok f step i = absurd i
 after_clean (Session ∷ entries) at links sound ok f step i = ⊎_elim
     (λ q l j d. subst (In l) (ap (λ (x : Stepped). x.links) q) j)
     (λ r. after_clean entries (stand_then at Session) links sound (epoch_holds at.store at.keys links ok) f.1 step r) i
-after_clean (Made keys ∷ entries) at links sound ok f step i = absurd f.0
+after_clean (Made version keys ∷ entries) at links sound ok f step i = absurd f.0
 after_clean (Did request keys ∷ entries) at links sound ok f step i =
     let s = at.store in
     let t = effect s request (first_key keys) in
     let note = note_of s request [] in
-    let c = change_of s note in
-    let mv = command_moves s request (first_key keys) [] most_file_bytes f.0.0 sound in
+    let c = change_of (is_strict at.keys) s note in
+    let mv = command_moves (is_strict at.keys) s request (first_key keys) [] most_file_bytes f.0.0 sound in
     let here : Stepped = note_step at note t in ⊎_elim
     (λ q. subst LeavesClean (sym q) (links_clean s t at.keys c links mv ok (pieces_of note t)))
     (λ r. after_clean entries (stand_then at (Did request keys)) (links ++ here.links) (effect_sound s request (first_key keys) most_file_bytes f.0.0 sound)
     (keys_after s t at.keys c links mv ok (pieces_of note t)) f.1 step r) i
+after_clean (Upgraded keys ∷ entries) at links sound ok f step i =
+    let s = at.store in
+    let c = change_of (is_strict at.keys) s Upgrade in
+    let mv = upgrade_moves (is_strict at.keys) s sound in
+    let here : Stepped = note_step at Upgrade s in ⊎_elim
+    (λ q. subst LeavesClean (sym q) (links_clean s s at.keys c links mv ok (pieces_of Upgrade s)))
+    (λ r. after_clean entries (stand_then at (Upgraded keys)) (links ++ here.links) sound
+    (keys_after s s at.keys c links mv ok (pieces_of Upgrade s)) f.1 step r) i
 
 begun_clean : (m : Journal) → BeginsWell m → (step : Stepped) → In step (steps_from nothing m) → LeavesClean step
-unfolding stand_then entry_store entry_step note_step steps_from nothing
+unfolding stand_then entry_store entry_step note_step steps_from nothing is_strict next_epoch no_keys
 begun_clean [] b step i = absurd b
 begun_clean (Session ∷ []) b step i = absurd b
 begun_clean (Session ∷ Session ∷ es) b step i = absurd b
-begun_clean (Session ∷ Made keys ∷ es) b step i =
-    let at = stand_then (stand_then nothing Session) (Made keys) in
+begun_clean (Session ∷ Made version keys ∷ es) b step i =
+    let at = stand_then (stand_then nothing Session) (Made version keys) in
     let k : KeyState = next_epoch no_keys in
-    let c = change_of no_store Root in
-    let here : Stepped = note_step (stand_then nothing Session) Root root_store in ⊎_elim
+    let root = root_note version in
+    let c = change_of false no_store root in
+    let here : Stepped = note_step (stand_then nothing Session) root root_store in ⊎_elim
     (λ q l j d. subst (In l) (ap (λ (x : Stepped). x.links) q) j)
     (λ r. ⊎_elim
-    (λ q. subst LeavesClean (sym q) (links_clean no_store root_store k c [] root_moves nothing_holds (pieces_of Root root_store)))
-    (λ u. after_clean es at here.links root_sound (keys_after no_store root_store k c [] root_moves nothing_holds (pieces_of Root root_store)) b.1 step u) r) i
+    (λ q. subst LeavesClean (sym q) (links_clean no_store root_store k c [] (root_moves version) nothing_holds (pieces_of root root_store)))
+    (λ u. after_clean es at here.links root_sound (keys_after no_store root_store k c [] (root_moves version) nothing_holds (pieces_of root root_store)) b.1 step u) r) i
 begun_clean (Session ∷ Did request keys ∷ es) b step i = absurd b
-begun_clean (Made keys ∷ es) b step i = absurd b
+begun_clean (Session ∷ Upgraded keys ∷ es) b step i = absurd b
+begun_clean (Made version keys ∷ es) b step i = absurd b
 begun_clean (Did request keys ∷ es) b step i = absurd b
+begun_clean (Upgraded keys ∷ es) b step i = absurd b
 
 pub journal_clean : (m : Journal) → IsValid m → (step : Stepped) → In step (steps_of m) → LeavesClean step
 unfolding steps_of

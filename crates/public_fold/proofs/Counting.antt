@@ -12,7 +12,7 @@ use Rattle.cry_base.specs.declared.roles.Node.TheVariants.{Folder, File}
 use Rattle.cry_base.proofs.Members.{In-append, In-map, In-filter}
 use Rattle.public_fold.specs.Counted.{AreCounted}
 use Rattle.public_fold.specs.Journal.{Entry, Journal, Stand, nothing, first_key, entry_store, stand_then, stand_after, store_of}
-use Rattle.public_fold.specs.Journal.Entry.{Session, Made, Did}
+use Rattle.public_fold.specs.Journal.Entry.{Session, Made, Did, Upgraded}
 
 -- one more of a kind
 added : (X : Type 0) (id : X → ℕ) (made : ℕ) (x : X) (xs : List X) → ((e : X) → In e xs → id e ≤ made) → id x ≡ made + 1 → (e : X) → In e (xs ++ x ∷ []) → id e ≤ made + 1
@@ -126,8 +126,9 @@ root_counted = record {
 entry_counted : (s : Store) (entry : Entry) → AreCounted s → AreCounted (entry_store s entry)
 unfolding entry_store
 entry_counted s Session c = c
-entry_counted s (Made keys) c = root_counted
+entry_counted s (Made version keys) c = root_counted
 entry_counted s (Did request keys) c = effect_counted s request (first_key keys) c
+entry_counted s (Upgraded keys) c = c
 
 after_counted : (entries : List Entry) (at : Stand) → AreCounted at.store → AreCounted (stand_after at entries).store
 unfolding stand_after stand_then

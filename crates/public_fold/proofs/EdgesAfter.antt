@@ -16,7 +16,7 @@ use Rattle.cry_base.proofs.Finding.{node_found}
 use Rattle.cry_base.proofs.Members.{In-append, In-map, In-filter, filter-In}
 use Rattle.role_graph.specs.Edges.{edge_before, in_order, folder_edges, parent_edges, grant_edge, file_edge, edges, IsOwnEdge, IsParentEdge, IsGrantEdge, IsFileEdge, IsEdge}
 use Rattle.role_graph.proofs.Edging.{In-order, edges_told}
-use Rattle.move_plan.specs.Change.{Change, no_change, change_of, edges_at, edge_into_file, folder_of_file, parent_of_folder}
+use Rattle.move_plan.specs.Change.{Change, no_change, row_change, change_of, edges_at, edge_into_file, folder_of_file, parent_of_folder}
 use Rattle.move_plan.specs.Noting.{write_note, remove_note, rename_note, move_note, note_of}
 use Rattle.public_fold.specs.Journal.{Journal, store_of}
 use Rattle.public_fold.specs.KeyStep.{edges_then}
@@ -328,61 +328,61 @@ shift_folder_edges s x q c there own some r a e =
     )
 
 -- each command's note
-written_leads : (s : Store) (path bytes : List ℕ) (o : Option Node) → HasTree s → is_folder o ≡ false → Leads s (change_of s (write_note s o (id_of (node_at s (parent_path path))))) (with_bytes_at s o path bytes)
-unfolding write_note change_of no_change with_bytes_at with_new_file is_folder
+written_leads : (s : Store) (path bytes : List ℕ) (o : Option Node) → HasTree s → is_folder o ≡ false → Leads s (row_change s (write_note s o (id_of (node_at s (parent_path path))))) (with_bytes_at s o path bytes)
+unfolding write_note row_change no_change with_bytes_at with_new_file is_folder
 written_leads s path bytes None ok t =
     let n : FileEntry = record { id = s.files_made + 1; folder = id_of (node_at s (parent_path path)); name = last_name (names_of path); bytes = bytes } in
-    new_file_edges s n (with_new_file s n.folder n.name bytes) (change_of s (write_note s None n.folder)) refl refl refl
+    new_file_edges s n (with_new_file s n.folder n.name bytes) (row_change s (write_note s None n.folder)) refl refl refl
 written_leads s path bytes (Some (Folder f)) ok t = absurd (false≢true (sym t))
 written_leads s path bytes (Some (File x)) ok t =
-    unchanged s (with_file s x.0 (λ y. record y { bytes = bytes })) (change_of s (write_note s (Some (File x)) (id_of (node_at s (parent_path path))))) refl refl (same_files s x.0 (λ y. record y { bytes = bytes }) (λ y. refl) (λ y. refl))
+    unchanged s (with_file s x.0 (λ y. record y { bytes = bytes })) (row_change s (write_note s (Some (File x)) (id_of (node_at s (parent_path path))))) refl refl (same_files s x.0 (λ y. record y { bytes = bytes }) (λ y. refl) (λ y. refl))
 
 pub found_file : (s : Store) (x : ℕ) (w : FileEntry) → ((a b : FileEntry) → In a s.files → In b s.files → a.id ≡ b.id → a ≡ b) → In w s.files → w.id ≡ x → edge_into_file s x ≡ file_edge w.folder w.id
 unfolding edge_into_file folder_of_file
 found_file s x w own i q = ap (λ o. file_edge (elim o as (λ z. ℕ) [ None ↦ 0 | Some e ↦ e.folder ]) x) (file_alone s w x own i q) ∙ ap (file_edge w.folder) (sym q)
 
-removed_leads : (s : Store) (path : List ℕ) (o : Option Node) → HasTree s → node_at s path ≡ o → is_none o ≡ false → (is_folder o && has_child s (id_of o)) ≡ false → Leads s (change_of s (remove_note o)) (without_node s o)
-unfolding remove_note change_of no_change without_node is_folder id_of
+removed_leads : (s : Store) (path : List ℕ) (o : Option Node) → HasTree s → node_at s path ≡ o → is_none o ≡ false → (is_folder o && has_child s (id_of o)) ≡ false → Leads s (row_change s (remove_note o)) (without_node s o)
+unfolding remove_note row_change no_change without_node is_folder id_of
 removed_leads s path None ok e some t = absurd (false≢true (sym some))
 removed_leads s path (Some (Folder f)) ok e some t =
-    no_folder_edges s f.0 (change_of s (remove_note (Some (Folder f)))) (no_child s f.0 t) (no_inner s f.0 t) refl refl
+    no_folder_edges s f.0 (row_change s (remove_note (Some (Folder f)))) (no_child s f.0 t) (no_inner s f.0 t) refl refl
 removed_leads s path (Some (File x)) ok e some t =
     let w = node_stands s (File x) (node_found s path (File x) e).0 in
-    let c : Change = change_of s (remove_note (Some (File x))) in
+    let c : Change = row_change s (remove_note (Some (File x))) in
     subst (λ n. Leads s c (without_file s n)) w.2 (no_file_edges s w.0 c (λ y i q. ok.own_file y w.0 i w.1 q) (ap (λ d. d ∷ []) (found_file s x.0 w.0 ok.own_file w.1 w.2)) refl)
 
-renamed_leads : (s : Store) (name : List ℕ) (o : Option Node) → is_none o ≡ false → Leads s (change_of s (rename_note o)) (with_name s o name)
-unfolding rename_note change_of no_change with_name
+renamed_leads : (s : Store) (name : List ℕ) (o : Option Node) → is_none o ≡ false → Leads s (row_change s (rename_note o)) (with_name s o name)
+unfolding rename_note row_change no_change with_name
 renamed_leads s name None some = absurd (false≢true (sym some))
 renamed_leads s name (Some (Folder f)) some =
-    unchanged s (with_folder s f.0 (λ y. record y { name = name })) (change_of s (rename_note (Some (Folder f)))) refl refl (same_folders s f.0 (λ y. record y { name = name }) (λ y. refl) (λ y. refl))
+    unchanged s (with_folder s f.0 (λ y. record y { name = name })) (row_change s (rename_note (Some (Folder f)))) refl refl (same_folders s f.0 (λ y. record y { name = name }) (λ y. refl) (λ y. refl))
 renamed_leads s name (Some (File x)) some =
-    unchanged s (with_file s x.0 (λ y. record y { name = name })) (change_of s (rename_note (Some (File x)))) refl refl (same_files s x.0 (λ y. record y { name = name }) (λ y. refl) (λ y. refl))
+    unchanged s (with_file s x.0 (λ y. record y { name = name })) (row_change s (rename_note (Some (File x)))) refl refl (same_files s x.0 (λ y. record y { name = name }) (λ y. refl) (λ y. refl))
 
-moved_leads : (s : Store) (path : List ℕ) (o : Option Node) (q : ℕ) → HasTree s → node_at s path ≡ o → is_none o ≡ false → q ≢ 0 → Leads s (change_of s (move_note o q)) (moved s o q)
-unfolding move_note change_of no_change moved parent_of_folder
+moved_leads : (s : Store) (path : List ℕ) (o : Option Node) (q : ℕ) → HasTree s → node_at s path ≡ o → is_none o ≡ false → q ≢ 0 → Leads s (row_change s (move_note o q)) (moved s o q)
+unfolding move_note row_change no_change moved parent_of_folder
 moved_leads s path None q ok e some there = absurd (false≢true (sym some))
 moved_leads s path (Some (Folder f)) q ok e some there =
     let w = node_stands s (Folder f) (node_found s path (Folder f) e).0 in
-    let c : Change = change_of s (move_note (Some (Folder f)) q) in
+    let c : Change = row_change s (move_note (Some (Folder f)) q) in
     let parent : elim (folder_entry s f.0) [ None ↦ 0 | Some e ↦ e.parent ] ≡ w.0.parent = ap (λ o. elim o as (λ z. ℕ) [ None ↦ 0 | Some e ↦ e.parent ]) (folder_own s w.0 f.0 ok w.1 w.2) in
     subst (λ n. Leads s c (with_folder s n (λ y. record y { parent = q }))) w.2 (shift_folder_edges s w.0 q c w.1 (λ y i h. ok.numbered.own y w.0 i w.1 h) there
     (ap (parent_edges f.0) parent ∙ ap (λ n. parent_edges n w.0.parent) (sym w.2)) (ap (λ n. parent_edges n q) (sym w.2)))
 moved_leads s path (Some (File x)) q ok e some there =
     let w = node_stands s (File x) (node_found s path (File x) e).0 in
-    let c : Change = change_of s (move_note (Some (File x)) q) in
+    let c : Change = row_change s (move_note (Some (File x)) q) in
     subst (λ n. Leads s c (with_file s n (λ y. record y { folder = q }))) w.2 (shift_file_edges s w.0 q c w.1 (λ y i h. ok.own_file y w.0 i w.1 h)
     (ap (λ d. d ∷ []) (found_file s x.0 w.0 ok.own_file w.1 w.2)) (ap (λ n. file_edge q n ∷ []) (sym w.2)))
 
-pub leads : (s : Store) (r : Request) (key check : List ℕ) → HasTree s → IsAccepted s r → Leads s (change_of s (note_of s r check)) (effect s r key)
-unfolding note_of effect change_of no_change with_new_holder with_new_folder finds_no_path needs_folder writes_folder removes_children paths_of
+pub leads : (s : Store) (r : Request) (key check : List ℕ) → HasTree s → IsAccepted s r → Leads s (row_change s (note_of s r check)) (effect s r key)
+unfolding note_of effect row_change no_change with_new_holder with_new_folder finds_no_path needs_folder writes_folder removes_children paths_of
 leads s AddHolder key check ok a =
-    unchanged s (with_new_holder s key) (change_of s (note_of s AddHolder check)) refl refl (λ e. (λ w. w, λ w. w))
+    unchanged s (with_new_holder s key) (row_change s (note_of s AddHolder check)) refl refl (λ e. (λ w. w, λ w. w))
 leads s (MakeFolder path) key check ok a =
     let p = id_of (node_at s (parent_path path)) in
     let w = made_place s path ok a in
     let n : FolderEntry = record { id = s.folders_made + 1; parent = p; name = last_name (names_of path) } in
-    new_folder_edges s n (with_new_folder s p n.name) (change_of s (note_of s (MakeFolder path) check)) (level_positive w.level s.folders p ok.numbered w.stands) refl refl refl
+    new_folder_edges s n (with_new_folder s p n.name) (row_change s (note_of s (MakeFolder path) check)) (level_positive w.level s.folders p ok.numbered w.stands) refl refl refl
 leads s (WriteFile path bytes) key check ok a = written_leads s path bytes (node_at s path) ok a.writes_file
 leads s (Remove path) key check ok a = removed_leads s path (node_at s path) ok refl (or_parts (is_none (node_at s path)) false a.finds_path).0 a.childless
 leads s (Rename path name) key check ok a = renamed_leads s name (node_at s path) (or_parts (is_none (node_at s path)) false a.finds_path).0
@@ -392,14 +392,15 @@ leads s (Relocate path into) key check ok a =
     moved_leads s path (node_at s path) (id_of (node_at s into)) ok refl finds.0 (level_positive w.0 s.folders (id_of (node_at s into)) ok.numbered w.1)
 leads s (Grant h path) key check ok a =
     let n : GrantEntry = record { holder = h; folder = id_of (node_at s path) } in
-    new_grant_edges s n (effect s (Grant h path) key) (change_of s (note_of s (Grant h path) check)) refl refl refl
-leads s (Revoke h path) key check ok a = no_grant_edges s h (id_of (node_at s path)) (change_of s (note_of s (Revoke h path) check)) refl refl
+    new_grant_edges s n (effect s (Grant h path) key) (row_change s (note_of s (Grant h path) check)) refl refl refl
+leads s (Revoke h path) key check ok a = no_grant_edges s h (id_of (node_at s path)) (row_change s (note_of s (Revoke h path) check)) refl refl
 
 -- the edges of a step are the edges of the store after it
-pub edges_after : (m : Journal) → IsValid m → (r : Request) (key check : List ℕ) (n : ℕ) → refusal_of (store_of m) r n ≡ None → (e : Edge) → In e (edges_then (edges (store_of m)) (change_of (store_of m) (note_of (store_of m) r check))) ↔ In e (edges (effect (store_of m) r key))
-edges_after m v r key check n q e =
+pub edges_after : (strict : Bool) (m : Journal) → IsValid m → (r : Request) (key check : List ℕ) (n : ℕ) → refusal_of (store_of m) r n ≡ None → (e : Edge) → In e (edges_then (edges (store_of m)) (change_of strict (store_of m) (note_of (store_of m) r check))) ↔ In e (edges (effect (store_of m) r key))
+unfolding change_of
+edges_after strict m v r key check n q e =
     let s = store_of m in
-    let c : Change = change_of s (note_of s r check) in
+    let c : Change = change_of strict s (note_of s r check) in
     let told = then_told s c e in
     let on = leads s r key check (journal_tree m v) (accepted s r n q) e in
     let after = edges_told (effect s r key) e in (λ i. after.1 (on.0 (told.0 i)), λ i. told.1 (on.1 (after.0 i)))

@@ -19,10 +19,10 @@ use Rattle.role_graph.proofs.Comparing.{same_role_tells}
 use Rattle.role_graph.proofs.Edging.{In-order, edges_told}
 use Rattle.role_graph.proofs.Sifting.{filters_turn, kept_in_order}
 use Rattle.role_graph.proofs.AtEnds.{same_edge_tells, touches}
-use Rattle.move_plan.specs.Change.{Change, change_of, edge_into_file, folder_of_file, no_change, parent_of_folder}
+use Rattle.move_plan.specs.Change.{Change, change_of, row_change, edge_into_file, folder_of_file, no_change, parent_of_folder}
 use Rattle.move_plan.specs.Fitting.{file_stands, fits, folder_stands, has_depth_left, is_other_folder, may_go_into, needs_root, row_fits}
 use Rattle.record_format.specs.Noted.{Note}
-use Rattle.record_format.specs.Noted.Note.{Root, NewHolder, NewFolder, NewFile, Rewrite, NameFile, NameFolder, DropFile, DropFolder, ShiftFile, ShiftFolder, Give, Take}
+use Rattle.record_format.specs.Noted.Note.{Root, NewHolder, NewFolder, NewFile, Rewrite, NameFile, NameFolder, DropFile, DropFolder, ShiftFile, ShiftFolder, Give, Take, StrictRoot, Upgrade}
 use Rattle.public_fold.specs.KeyStep.{edges_left, edges_then, is_published, published_edges, without}
 use Rattle.public_fold.specs.Rooted.{IsRooted, MayStand}
 use Rattle.public_fold.specs.Standing.{PublicView, public_store_of}
@@ -105,39 +105,41 @@ folder_elsewhere s g q e ok other i w =
     (λ (h : IsGrantEdge s e). apart (is_parent_kind e) (grant_kind h.0.holder h.0.folder e h.2).2 kind)
     (λ (y : IsFileEdge s e). apart (is_parent_kind e) (file_kind y.0.folder y.0.id e y.2).2 kind) u) v) w
 
-row_of : (s : Store) (note : Note) → fits s note ≡ true → row_fits s note ≡ true
+row_of : (strict : Bool) (s : Store) (note : Note) → fits strict s note ≡ true → row_fits strict s note ≡ true
 unfolding fits
-row_of s note fit = (and_parts (row_fits s note) (not (needs_root note) || folder_stands s 1) fit).0
+row_of strict s note fit = (and_parts (row_fits strict s note) (not (needs_root note) || folder_stands s 1) fit).0
 
-shifted_file : (s : Store) (x g : ℕ) → fits s (ShiftFile x g) ≡ true → not (folder_of_file s x == g) ≡ true
+shifted_file : (strict : Bool) (s : Store) (x g : ℕ) → fits strict s (ShiftFile x g) ≡ true → not (folder_of_file s x == g) ≡ true
 unfolding row_fits
-shifted_file s x g fit = (and_parts (file_stands s x && has_depth_left s g) (not (folder_of_file s x == g)) (row_of s (ShiftFile x g) fit)).1
+shifted_file strict s x g fit = (and_parts (file_stands s x && has_depth_left s g) (not (folder_of_file s x == g)) (row_of strict s (ShiftFile x g) fit)).1
 
-shifted_folder : (s : Store) (g q : ℕ) → fits s (ShiftFolder g q) ≡ true → not (parent_of_folder s g == q) ≡ true
+shifted_folder : (strict : Bool) (s : Store) (g q : ℕ) → fits strict s (ShiftFolder g q) ≡ true → not (parent_of_folder s g == q) ≡ true
 unfolding row_fits may_go_into
-shifted_folder s g q fit =
-    let a = and_parts (is_other_folder s g && folder_stands s q && not (parent_of_folder s g == q) && not (is_within s q g)) (nat_le (depth_of s (folder_node q) + 1 + height_of s (Some (folder_node g))) 64) (row_of s (ShiftFolder g q) fit) in
+shifted_folder strict s g q fit =
+    let a = and_parts (is_other_folder s g && folder_stands s q && not (parent_of_folder s g == q) && not (is_within s q g)) (nat_le (depth_of s (folder_node q) + 1 + height_of s (Some (folder_node g))) 64) (row_of strict s (ShiftFolder g q) fit) in
     let b = and_parts (is_other_folder s g && folder_stands s q && not (parent_of_folder s g == q)) (not (is_within s q g)) a.0 in
     (and_parts (is_other_folder s g && folder_stands s q) (not (parent_of_folder s g == q)) b.0).1
 
 -- what comes has a new role at an end, or doesn't stand
-added_new : (s : Store) (note : Note) (e : Edge) → fits s note ≡ true → IsRooted s → In e (change_of s note).added → HasNewEnd (change_of s note) e ⊎ (IsEdge s e → ⊥)
-unfolding change_of no_change
-added_new s Root e fit ok i = inl (inr (own_new 1 e i))
-added_new s (NewHolder h check) e fit ok i = absurd i
-added_new s (NewFolder f p) e fit ok i = inl (⊎_elim (λ a. inr (own_new f e a)) (λ b. parent_new f p e b)
+added_new : (strict : Bool) (s : Store) (note : Note) (e : Edge) → fits strict s note ≡ true → IsRooted s → In e (row_change s note).added → HasNewEnd (row_change s note) e ⊎ (IsEdge s e → ⊥)
+unfolding row_change no_change
+added_new strict s Root e fit ok i = inl (inr (own_new 1 e i))
+added_new strict s (NewHolder h check) e fit ok i = absurd i
+added_new strict s (NewFolder f p) e fit ok i = inl (⊎_elim (λ a. inr (own_new f e a)) (λ b. parent_new f p e b)
     ((In-append Edge e (folder_edges f) (parent_edges f p)).0 ((In-order Edge edge_before e (folder_edges f ++ parent_edges f p)).0 i)))
-added_new s (NewFile x f) e fit ok i = inl (inr (file_new f x e i))
-added_new s (Rewrite x) e fit ok i = absurd i
-added_new s (NameFile x) e fit ok i = absurd i
-added_new s (NameFolder f) e fit ok i = absurd i
-added_new s (DropFile x) e fit ok i = absurd i
-added_new s (DropFolder f) e fit ok i = absurd i
-added_new s (ShiftFile x g) e fit ok i = inr (file_elsewhere s x g e ok (shifted_file s x g fit) (⊎_elim (λ q. q) (λ n. absurd n) i))
-added_new s (ShiftFolder g q) e fit ok i = inr (folder_elsewhere s g q e ok (shifted_folder s g q fit) i)
-added_new s (Give h f) e fit ok i = inr (λ w. not_granted s h f (not_given_yet s h f fit)
+added_new strict s (NewFile x f) e fit ok i = inl (inr (file_new f x e i))
+added_new strict s (Rewrite x) e fit ok i = absurd i
+added_new strict s (NameFile x) e fit ok i = absurd i
+added_new strict s (NameFolder f) e fit ok i = absurd i
+added_new strict s (DropFile x) e fit ok i = absurd i
+added_new strict s (DropFolder f) e fit ok i = absurd i
+added_new strict s (ShiftFile x g) e fit ok i = inr (file_elsewhere s x g e ok (shifted_file strict s x g fit) (⊎_elim (λ q. q) (λ n. absurd n) i))
+added_new strict s (ShiftFolder g q) e fit ok i = inr (folder_elsewhere s g q e ok (shifted_folder strict s g q fit) i)
+added_new strict s (Give h f) e fit ok i = inr (λ w. not_granted s h f (not_given_yet strict s h f fit)
     (⊎_elim (λ q. subst (λ z. In z (edges s)) q ((edges_told s e).1 w)) (λ n. absurd n) i))
-added_new s (Take h f) e fit ok i = absurd i
+added_new strict s (Take h f) e fit ok i = absurd i
+added_new strict s StrictRoot e fit ok i = inl (inr (own_new 1 e i))
+added_new strict s Upgrade e fit ok i = absurd i
 
 -- ---- tests of what is published
 
@@ -169,23 +171,24 @@ added_published c again = all_kept (is_published c again) c.added (λ e i.
     or_left (has same_edge c.added e || has same_role (again ++ c.fresh) e.from) (has same_role (again ++ c.fresh) e.to)
     (or_left (has same_edge c.added e) (has same_role (again ++ c.fresh) e.from) (in-has Edge same_edge same_edge_tells c.added e i)))
 
-module _ (s : Store) (note : Note) (fit : fits s note ≡ true) (stands : MayStand s) where
+module _ (strict : Bool) (s : Store) (note : Note) (fit : fits strict s note ≡ true) (stands : MayStand s) where
   -- an edge that stands has no new role at an end, and doesn't come
-  no_new_end : (e : Edge) → IsEdge s e → HasNewEnd (change_of s note) e → ⊥
+  no_new_end : (e : Edge) → IsEdge s e → HasNewEnd (change_of strict s note) e → ⊥
   no_new_end e w new =
-      let moves = note_moves s note fit stands in
+      let moves = note_moves strict s note fit stands in
       let ends = moves.ends_before e w in
       ⊎_elim (λ f. moves.fresh_is_new e.from f ends.0) (λ f. moves.fresh_is_new e.to f ends.1) new
 
-  not_added : (e : Edge) → IsEdge s e → In e (change_of s note).added → ⊥
+  not_added : (e : Edge) → IsEdge s e → In e (change_of strict s note).added → ⊥
+  unfolding change_of
   not_added e w a = ⊎_elim
       (λ (none : s ≡ no_store). no_edge e (subst (λ z. IsEdge z e) none w))
-      (λ ok. ⊎_elim (λ n. no_new_end e w n) (λ out. out w) (added_new s note e fit ok a)) stands
+      (λ ok. ⊎_elim (λ n. no_new_end e w n) (λ out. out w) (added_new strict s note e fit ok a)) stands
 
-  left_touches : (again : List Role) (e : Edge) → In e (edges_left (edges s) (change_of s note)) → is_published (change_of s note) again e ≡ touches again e
+  left_touches : (again : List Role) (e : Edge) → In e (edges_left (edges s) (change_of strict s note)) → is_published (change_of strict s note) again e ≡ touches again e
   unfolding is_published
   left_touches again e i =
-      let c = change_of s note in
+      let c = change_of strict s note in
       let w = (edges_told s e).0 ((left_told (edges s) c e).0 i).0 in
       let comes : has same_edge c.added e ≡ false = none_has Edge same_edge same_edge_tells c.added e (not_added e w) in
       let from : has same_role (again ++ c.fresh) e.from ≡ has same_role again e.from = has_first again c.fresh e.from (λ f. no_new_end e w (inl f)) in
@@ -193,10 +196,10 @@ module _ (s : Store) (note : Note) (fit : fits s note ≡ true) (stands : MaySta
       λ i. (comes i || from i) || to i
 
   pub found_edges : (again : List Role)
-      → in_order edge_before (without same_edge (change_of s note).removed (filter (touches again) (edges s)) ++ (change_of s note).added) ≡ published_edges (edges s) (change_of s note) again
+      → in_order edge_before (without same_edge (change_of strict s note).removed (filter (touches again) (edges s)) ++ (change_of strict s note).added) ≡ published_edges (edges s) (change_of strict s note) again
   unfolding published_edges edges_then edges_left without
   found_edges again =
-      let c = change_of s note in
+      let c = change_of strict s note in
       let left = edges_left (edges s) c in
       let stay : Edge → Bool = λ e. not (has same_edge c.removed e) in
       let kept : filter (is_published c again) left ≡ filter stay (filter (touches again) (edges s)) =
@@ -210,5 +213,5 @@ pub found_for : (v : PublicView) (c : Change) → MayStand (public_store_of v) �
 found_for v c stands told again =
     let s = public_store_of v in
     let here : in_order edge_before (without same_edge c.removed (filter (touches again) (edges s)) ++ c.added) ≡ published_edges (edges s) c again =
-    subst (λ (x : Change). in_order edge_before (without same_edge x.removed (filter (touches again) (edges s)) ++ x.added) ≡ published_edges (edges s) x again) (sym told.2) (found_edges s told.0 told.1 stands again) in
+    subst (λ (x : Change). in_order edge_before (without same_edge x.removed (filter (touches again) (edges s)) ++ x.added) ≡ published_edges (edges s) x again) (sym told.3) (found_edges told.1 s told.0 told.2 stands again) in
     subst (λ (es : List Edge). in_order edge_before (without same_edge c.removed (filter (touches again) es) ++ c.added) ≡ published_edges es c again) (sym (edges_seen v)) here

@@ -8,21 +8,25 @@ use Rattle.cry_base.specs.Sets.Path.{Here, On}
 use Rattle.cry_base.specs.Store.{Store, GrantEntry, has_grant}
 use Rattle.cry_base.specs.declared.roles.Edge.{Edge}
 use Rattle.cry_base.specs.declared.roles.Role.{Role}
-use Rattle.cry_base.proofs.Members.{In-map}
+use Rattle.cry_base.proofs.Members.{In-append, In-map}
 use Rattle.grant_book.proofs.Ordered.{any_grant_told}
 use Rattle.role_graph.specs.Ascending.{ascending}
 use Rattle.role_graph.specs.Edges.{Reaches, IsFileEdge, IsGrantEdge, IsOwnEdge, IsParentEdge, edge_before, edges, grant_edge, in_order, pairs_of, put_in_order, same_edge}
 use Rattle.role_graph.specs.Roles.{is_sealing_role}
 use Rattle.role_graph.proofs.Edging.{edges_told}
+use Rattle.role_graph.proofs.Rising.{ascending_told}
 use Rattle.role_graph.proofs.Typing.{typed}
 use Rattle.rekey_walk.specs.Dirty.{leads_to_any, plan}
+use Rattle.rekey_walk.specs.Strict.{strict_roles}
 use Rattle.rekey_walk.proofs.Marking.{plan_told}
+use Rattle.rekey_walk.proofs.Sources.{strict_told}
+use Rattle.record_format.specs.Noted.{Note}
 use Rattle.record_format.specs.Noted.Note.{Give}
-use Rattle.move_plan.specs.Change.{Change, change_of, no_change}
+use Rattle.move_plan.specs.Change.{Change, change_of, is_upgrade, no_change, row_change, strict_of}
 use Rattle.move_plan.specs.Fitting.{fits, folder_stands, needs_root, row_fits}
 use Rattle.public_fold.specs.Fitted.{told_step}
 use Rattle.public_fold.specs.Journal.{Stand, note_step}
-use Rattle.public_fold.specs.KeyStep.{KeyState, contents_from, edges_left, edges_then, given, is_published, key_step, link_of, links_from, next_serial, numbered, published, published_edges, renewed, step_with}
+use Rattle.public_fold.specs.KeyStep.{KeyState, contents_from, dirty_left, edges_left, is_strict, planned, edges_then, given, is_published, key_step, link_of, links_from, next_serial, numbered, published, published_edges, renewed, step_with}
 use Rattle.public_fold.specs.Records.{pieces_of}
 use Rattle.public_fold.proofs.EdgesThen.{apart, file_kind, grant_edge-ids, grant_kind, is_kind, left_told, own_no_grant, parent_no_grant}
 use Rattle.role_graph.proofs.AtEnds.{same_edge_tells}
@@ -41,11 +45,17 @@ no_way s es sub r _ t (On {b = b} {c = c} way step) =
 in_wanted : (r w : Role) (wanted : List Role) → r ≡ w → In w wanted → In r wanted
 in_wanted r w wanted same i = subst (λ z. In z wanted) (sym same) i
 
-pub sealing_wanted : (s : Store) (k : KeyState) (c : Change) (r : Role) → is_sealing_role r ≡ true → In r (renewed k (edges s) c) → In r c.wanted
-unfolding renewed
-sealing_wanted s k c r t i =
-    let told = (plan_told _ (edges_left (edges s) c) c.wanted r).0 i in
-    in_wanted r told.1.0 c.wanted (no_way s (edges_left (edges s) c) (λ e j. ((left_told (edges s) c e).0 j).0) r told.1.0 t told.1.2) told.1.1
+pub sealing_wanted : (s : Store) (k : KeyState) (c : Change) (r : Role) → is_sealing_role r ≡ true → (In r c.strict → ⊥) → In r (renewed k (edges s) c) → In r c.wanted
+unfolding renewed planned
+sealing_wanted s k c r t lazy i = ⊎_elim
+    (λ u. absurd (lazy u))
+    (λ p. let told = (plan_told _ (edges_left (edges s) c) c.wanted r).0 p in
+    in_wanted r told.1.0 c.wanted (no_way s (edges_left (edges s) c) (λ e j. ((left_told (edges s) c e).0 j).0) r told.1.0 t told.1.2) told.1.1)
+    ((In-append Role r c.strict _).0 ((ascending_told r _).0 i))
+
+no_roles : (rs : List Role) → ((r : Role) → In r rs → ⊥) → rs ≡ []
+no_roles [] none = refl
+no_roles (r ∷ rs) none = absurd (none r (inl refl))
 
 -- ---- a grant
 
@@ -106,47 +116,62 @@ is_one true t = refl
 is_one false t = t
 
 -- of the edges then, the new grant's alone is published
-new_alone : (s : Store) (h f : ℕ) → has_grant s h f ≡ false → (e : Edge) → In e (edges_left (edges s) (change_of s (Give h f))) → is_published (change_of s (Give h f)) [] e ≡ true → ⊥
-unfolding is_published has change_of no_change
+new_alone : (s : Store) (h f : ℕ) → has_grant s h f ≡ false → (e : Edge) → In e (edges_left (edges s) (row_change s (Give h f))) → is_published (row_change s (Give h f)) [] e ≡ true → ⊥
+unfolding is_published has row_change no_change
 new_alone s h f none e i t =
     let same : e ≡ grant_edge h f = (same_edge_tells e (grant_edge h f)).0 (is_one (same_edge e (grant_edge h f)) t) in
-    not_granted s h f none (subst (λ z. In z (edges s)) same ((left_told (edges s) (change_of s (Give h f)) e).0 i).0)
+    not_granted s h f none (subst (λ z. In z (edges s)) same ((left_told (edges s) (row_change s (Give h f)) e).0 i).0)
 
-new_itself : (s : Store) (h f : ℕ) → filter (is_published (change_of s (Give h f)) []) (grant_edge h f ∷ []) ≡ grant_edge h f ∷ []
-unfolding is_published has change_of no_change
+new_itself : (s : Store) (h f : ℕ) → filter (is_published (row_change s (Give h f)) []) (grant_edge h f ∷ []) ≡ grant_edge h f ∷ []
+unfolding is_published has row_change no_change
 new_itself s h f = ap (λ (b : Bool). cond (b || false || false || false) (grant_edge h f ∷ []) []) ((same_edge_tells (grant_edge h f) (grant_edge h f)).1 refl)
 
-one_edge : (s : Store) (h f : ℕ) → has_grant s h f ≡ false → length (published_edges (edges s) (change_of s (Give h f)) []) ≡ 1
-unfolding published_edges edges_then change_of no_change
+one_edge : (s : Store) (h f : ℕ) → has_grant s h f ≡ false → length (published_edges (edges s) (row_change s (Give h f)) []) ≡ 1
+unfolding published_edges edges_then row_change no_change
 one_edge s h f none =
-    let c = change_of s (Give h f) in
+    let c = row_change s (Give h f) in
     let left = edges_left (edges s) c in
     order_counts Edge edge_before (is_published c []) (left ++ grant_edge h f ∷ [])
     ∙ ap length (filter-append (is_published c []) left (grant_edge h f ∷ []) ∙ (λ j. no_one Edge (is_published c []) left (new_alone s h f none) j ++ new_itself s h f j))
 
-none_renewed : (k : KeyState) (s : Store) (h f : ℕ) → renewed k (edges s) (change_of s (Give h f)) ≡ []
-unfolding renewed change_of no_change
-none_renewed k s h f = none_lead _ _
+-- no role is strict for a grant, since no edge goes
+give_strict : (strict : Bool) (s : Store) (h f : ℕ) → (change_of strict s (Give h f)).strict ≡ []
+unfolding change_of strict_of is_upgrade row_change no_change
+give_strict true s h f = no_roles (strict_roles (edges s) [] []) (λ r i. ((strict_told (edges s) [] [] r).0 i).0.1)
+give_strict false s h f = refl
 
-pub not_given_yet : (s : Store) (h f : ℕ) → fits s (Give h f) ≡ true → has_grant s h f ≡ false
+none_renewed : (strict : Bool) (k : KeyState) (s : Store) (h f : ℕ) → renewed k (edges s) (change_of strict s (Give h f)) ≡ []
+unfolding renewed planned change_of row_change no_change ascending
+none_renewed strict k s h f =
+    let c = change_of strict s (Give h f) in
+    λ i. ascending (give_strict strict s h f i ++ none_lead (edges_left (edges s) c) (dirty_left k (edges s) c) i)
+
+pub not_given_yet : (strict : Bool) (s : Store) (h f : ℕ) → fits strict s (Give h f) ≡ true → has_grant s h f ≡ false
 unfolding fits row_fits
-not_given_yet s h f t = not-true (has_grant s h f) (and_parts _ (not (has_grant s h f)) (and_parts _ (not (needs_root (Give h f)) || folder_stands s 1) t).0).1
+not_given_yet strict s h f t = not-true (has_grant s h f) (and_parts _ (not (has_grant s h f)) (and_parts _ (not (needs_root (Give h f)) || folder_stands s 1) t).0).1
+
+-- strict roles change nothing of which edges are published for some roles
+pub published_as : (strict : Bool) (s : Store) (note : Note) (rs : List Role) → published_edges (edges s) (change_of strict s note) rs ≡ published_edges (edges s) (row_change s note) rs
+unfolding published_edges edges_then edges_left is_published change_of
+published_as strict s note rs = refl
 
 pub as_many_links : (keys : List (Role × ℕ)) (n : ℕ) (es : List Edge) → length (links_from keys n es) ≡ length es
 unfolding links_from
 as_many_links keys n es = length-map (numbered n es) (link_of keys) ∙ numbered-length Edge n es
 
 -- whatever stands, a grant that fits publishes its one link, and gives no key
-pub grant_step : (at : Stand) (h f : ℕ) → fits at.store (Give h f) ≡ true → (length (told_step at (Give h f)).links ≡ 1) × ((told_step at (Give h f)).given ≡ []) × ((told_step at (Give h f)).contents ≡ [])
-unfolding told_step note_step key_step step_with published given pieces_of contents_from numbered change_of no_change
+pub grant_step : (at : Stand) (h f : ℕ) → fits (is_strict at.keys) at.store (Give h f) ≡ true → (length (told_step at (Give h f)).links ≡ 1) × ((told_step at (Give h f)).given ≡ []) × ((told_step at (Give h f)).contents ≡ [])
+unfolding told_step note_step key_step step_with published given pieces_of contents_from numbered change_of row_change no_change
 grant_step at h f fit =
     let s = at.store in
     let k = at.keys in
-    let c = change_of s (Give h f) in
-    let none = none_renewed k s h f in (
+    let strict = is_strict k in
+    let c = change_of strict s (Give h f) in
+    let none = none_renewed strict k s h f in (
       as_many_links _ _ (published_edges (edges s) c (renewed k (edges s) c))
           ∙ ap (λ (l : List Role). length (published_edges (edges s) c l)) none
-          ∙ one_edge s h f (not_given_yet s h f fit),
+          ∙ ap length (published_as strict s (Give h f) [])
+          ∙ one_edge s h f (not_given_yet strict s h f fit),
       ap (λ (l : List Role). numbered (next_serial k) (l ++ [])) none,
       refl,
     )

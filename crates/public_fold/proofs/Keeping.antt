@@ -17,7 +17,7 @@ use Rattle.cry_base.proofs.Finding.{node_found}
 use Rattle.cry_base.proofs.Members.{In-map}
 use Rattle.public_fold.specs.Counted.{AreCounted}
 use Rattle.public_fold.specs.Journal.{Journal, Entry, Stand, nothing, first_key, entry_store, stand_then, stand_after, store_of}
-use Rattle.public_fold.specs.Journal.Entry.{Session, Made, Did}
+use Rattle.public_fold.specs.Journal.Entry.{Session, Made, Did, Upgraded}
 use Rattle.public_fold.specs.Valid.{FollowOn, BeginsWell, IsValid}
 use Rattle.public_fold.proofs.Counting.{effect_counted, root_counted}
 use Rattle.public_fold.specs.Tree.{AreNumbered, AtLevel}
@@ -246,19 +246,22 @@ after_tree : (entries : List Entry) (at : Stand) → AreCounted at.store → Has
 unfolding stand_after stand_then entry_store
 after_tree [] at c ok f = ok
 after_tree (Session ∷ entries) at c ok f = after_tree entries (stand_then at Session) c ok f.1
-after_tree (Made keys ∷ entries) at c ok f = absurd f.0
+after_tree (Made version keys ∷ entries) at c ok f = absurd f.0
 after_tree (Did request keys ∷ entries) at c ok f =
     after_tree entries (stand_then at (Did request keys)) (effect_counted at.store request (first_key keys) c) (effect_tree at.store request (first_key keys) (accepted at.store request most_file_bytes f.0.0) c ok) f.1
+after_tree (Upgraded keys ∷ entries) at c ok f = after_tree entries (stand_then at (Upgraded keys)) c ok f.1
 
 begun_tree : (m : Journal) → BeginsWell m → HasTree (stand_after nothing m).store
 unfolding stand_after stand_then entry_store
 begun_tree [] b = absurd b
 begun_tree (Session ∷ []) b = absurd b
 begun_tree (Session ∷ Session ∷ es) b = absurd b
-begun_tree (Session ∷ Made keys ∷ es) b = after_tree es (stand_then (stand_then nothing Session) (Made keys)) root_counted root_tree b.1
+begun_tree (Session ∷ Made version keys ∷ es) b = after_tree es (stand_then (stand_then nothing Session) (Made version keys)) root_counted root_tree b.1
 begun_tree (Session ∷ Did request keys ∷ es) b = absurd b
-begun_tree (Made keys ∷ es) b = absurd b
+begun_tree (Session ∷ Upgraded keys ∷ es) b = absurd b
+begun_tree (Made version keys ∷ es) b = absurd b
 begun_tree (Did request keys ∷ es) b = absurd b
+begun_tree (Upgraded keys ∷ es) b = absurd b
 
 pub journal_tree : (m : Journal) → IsValid m → HasTree (store_of m)
 unfolding store_of

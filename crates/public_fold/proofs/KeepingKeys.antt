@@ -9,17 +9,18 @@ use Rattle.cry_base.specs.declared.roles.Edge.{Edge}
 use Rattle.cry_base.specs.declared.roles.Role.{Role}
 use Rattle.cry_base.proofs.Members.{In-append, In-map, In-filter, filter-In}
 use Rattle.cry_base.proofs.Reaching.{has-in, in-has, Path-on}
-use Rattle.role_graph.specs.Roles.{same_role, is_root_role}
+use Rattle.role_graph.specs.Roles.{same_role, is_root_role, is_sealing_role}
 use Rattle.role_graph.specs.Edges.{Reaches, edges, pairs_of, same_edge, IsEdge}
 use Rattle.role_graph.proofs.Comparing.{same_role_tells}
 use Rattle.role_graph.proofs.Edging.{edges_told}
+use Rattle.role_graph.proofs.Rising.{ascending_told}
 use Rattle.role_graph.proofs.Typing.{typed}
 use Rattle.rekey_walk.specs.Dirty.{mark_all}
 use Rattle.rekey_walk.proofs.Marking.{mark_all_told, plan_told}
 use Rattle.move_plan.specs.Change.{Change}
 use Rattle.public_fold.specs.Keyed.{HasRole, KeysHold}
 use Rattle.public_fold.specs.Records.{Link, Piece}
-use Rattle.public_fold.specs.KeyStep.{KeyState, without, keys_without, edges_left, dirty_left, renewed, next_serial, numbered, given, keys_then, newest, present, edges_then, is_published, published_edges, link_of, links_from, published, step_with, key_step}
+use Rattle.public_fold.specs.KeyStep.{KeyState, without, keys_without, edges_left, dirty_left, planned, renewed, next_serial, numbered, given, keys_then, newest, present, edges_then, is_published, published_edges, link_of, links_from, published, step_with, key_step}
 use Rattle.public_fold.proofs.EdgesThen.{IsThen, left_told, then_told}
 use Rattle.role_graph.proofs.AtEnds.{same_edge_tells}
 
@@ -123,6 +124,9 @@ pub record IsMove (s : Store) (c : Change) (t : Store) : Type 0 where
   pub sources : (e : Edge) → In e c.added → (is_root_role e.from ≡ true) ⊎ (In e.from c.wanted ⊎ In e.from c.fresh)
   pub ends_before : (e : Edge) → IsEdge s e → HasRole s e.from × HasRole s e.to
   pub ends_after : (e : Edge) → IsEdge t e → HasRole t e.from × HasRole t e.to
+  pub strict_stand : (r : Role) → In r c.strict → HasRole s r × ((In r c.gone → ⊥) × (is_root_role r ≡ false))
+  pub strict_seals_none : (r : Role) → In r c.strict → is_sealing_role r ≡ false
+  pub strict_back : (e : Edge) → IsEdge s e → In e.to c.strict → is_root_role e.from ≡ false → (In e.from c.gone → ⊥) → In e.from c.strict
 
 module _ (s t : Store) (k : KeyState) (c : Change) (links : List Link) (mv : IsMove s c t) (ok : KeysHold s k links) where
   -- what stands after isn't gone
@@ -151,9 +155,34 @@ module _ (s t : Store) (k : KeyState) (c : Change) (links : List Link) (mv : IsM
   pub marked_no_root : (r : Role) → In r (dirty_left k (edges s) c) → is_root_role r ≡ false
   marked_no_root r i = marked_each (λ x. is_root_role x ≡ false) ok.no_root (λ e j. (typed s e j).0) r i
 
-  pub planned_told : (r : Role) → In r (renewed k (edges s) c) ↔ (In r (dirty_left k (edges s) c) × ((w : Role) × In w c.wanted × Reaches (edges_left (edges s) c) r w))
-  unfolding renewed
+  pub planned_told : (r : Role) → In r (planned k (edges s) c) ↔ (In r (dirty_left k (edges s) c) × ((w : Role) × In w c.wanted × Reaches (edges_left (edges s) c) r w))
+  unfolding planned
   planned_told r = plan_told (dirty_left k (edges s) c) (edges_left (edges s) c) c.wanted r
+
+  -- what is renewed is strict or in the plan, and so stands, stays and is no root
+  pub renewed_told : (r : Role) → In r (renewed k (edges s) c) ↔ (In r c.strict ⊎ In r (planned k (edges s) c))
+  unfolding renewed
+  renewed_told r =
+      let listed = ascending_told r (c.strict ++ planned k (edges s) c) in
+      let joined = In-append Role r c.strict (planned k (edges s) c) in
+      (λ i. joined.0 (listed.0 i), λ w. listed.1 (joined.1 w))
+
+  pub renewed_stands : (r : Role) → In r (renewed k (edges s) c) → HasRole s r × ((In r c.gone → ⊥) × (is_root_role r ≡ false))
+  renewed_stands r i = ⊎_elim
+      (λ u. mv.strict_stand r u)
+      (λ p. let d = ((planned_told r).0 p).0 in (marked_stands r d, (((marked_told r).0 d).1, marked_no_root r d)))
+      ((renewed_told r).0 i)
+
+  -- a dirty role that an edge which stays leads from to a renewed one is renewed, and so is a dirty one that is wanted
+  pub renewed_back : (e : Edge) → In e (edges_left (edges s) c) → In e.from (dirty_left k (edges s) c) → In e.to (renewed k (edges s) c) → In e.from (renewed k (edges s) c)
+  renewed_back e i from to = (renewed_told e.from).1 (⊎_elim
+      (λ u. inl (mv.strict_back e ((edges_told s e).0 ((left_told (edges s) c e).0 i).0) u (marked_no_root e.from from) ((marked_told e.from).0 from).1))
+      (λ p. let q = (planned_told e.to).0 p in
+      inr ((planned_told e.from).1 (from, (q.1.0, q.1.1, Path-on (On Here (edge_pair (edges_left (edges s) c) e i)) q.1.2))))
+      ((renewed_told e.to).0 to))
+
+  pub renewed_wanted : (r : Role) → In r (dirty_left k (edges s) c) → In r c.wanted → In r (renewed k (edges s) c)
+  renewed_wanted r d w = (renewed_told r).1 (inr ((planned_told r).1 (d, (r, w, Here))))
 
   -- before what is renewed is clean, edges that stay lead from dirty roles to dirty ones
   pub closed_before : (e : Edge) → In e (edges_left (edges s) c) → In e.from (dirty_left k (edges s) c) → In e.to (dirty_left k (edges s) c)
@@ -175,13 +204,12 @@ module _ (s t : Store) (k : KeyState) (c : Change) (links : List Link) (mv : IsM
               ((marked_told e.from).0 i).0,
           not_gone e.to (mv.ends_after e w).1,
         ),
-        λ p. let q = (planned_told e.to).0 p in
-            out ((planned_told e.from).1 (i, (q.1.0, q.1.1, Path-on (On Here (edge_pair (edges_left (edges s) c) e ((left_told (edges s) c e).1 (there, u.1)))) q.1.2))),
+        λ p. out (renewed_back e ((left_told (edges s) c e).1 (there, u.1)) i p),
       ))
       (λ a. ⊎_elim
       (λ root. absurd (false≢true (sym (marked_no_root e.from i) ∙ root)))
       (λ v. ⊎_elim
-      (λ wanted. absurd (out ((planned_told e.from).1 (i, (e.from, wanted, Here)))))
+      (λ wanted. absurd (out (renewed_wanted e.from i wanted)))
       (λ fresh. absurd (mv.fresh_is_new e.from fresh (marked_stands e.from i))) v)
       (mv.sources e a))
       ((mv.leads e).1 w)
@@ -227,7 +255,7 @@ module _ (s t : Store) (k : KeyState) (c : Change) (links : List Link) (mv : IsM
             (in_or r (p ++ c.fresh)),
         λ w. ⊎_elim
             (λ i. ⊎_elim
-            (λ a. let d = ((planned_told r).0 a).0 in (mv.roles r).1 (inl (marked_stands r d, ((marked_told r).0 d).1)))
+            (λ a. let told = renewed_stands r a in (mv.roles r).1 (inl (told.0, told.1.0)))
             (λ f. (mv.roles r).1 (inr f))
             ((In-append Role r p c.fresh).0 i))
             (λ out. ⊎_elim

@@ -1,5 +1,5 @@
 -- Each command is a move of edges and roles, so what holds of the keys holds in every valid journal.
-use Rattle.std.proofs.Common.{◌≡◌, ◌≢◌, ℕ, zero, suc, ◌+◌, ◌≤◌, true, false, not, ◌==◌, ◌&&◌, ◌||◌, ◌⊎◌, ◌↔◌, List, [], ◌∷◌, ◌++◌, Option, Some, None, inl, inr, ⊎_elim, refl, sym, ap, ◌∙◌, subst, arith, append_assoc, append-nil}
+use Rattle.std.proofs.Common.{◌≡◌, ◌≢◌, ℕ, zero, suc, ◌+◌, ◌≤◌, Bool, true, false, cond, not, ◌==◌, ◌&&◌, ◌||◌, ◌⊎◌, ◌↔◌, List, [], ◌∷◌, ◌++◌, Option, Some, None, inl, inr, ⊎_elim, refl, sym, ap, ◌∙◌, subst, arith, append_assoc, append-nil}
 use Rattle.std.specs.Prelude.{is_none}
 use Rattle.std.proofs.lemmas.Bool.{and_parts, and_from, or_parts, eqb-true, eq-eqb, not-false, false≢true}
 use Rattle.cry_base.specs.Limits.{most_file_bytes}
@@ -21,15 +21,15 @@ use Rattle.role_graph.specs.Roles.{holder_role, clear_of, sub_of, back_of, files
 use Rattle.role_graph.specs.Edges.{edge, edge_before, folder_edges, parent_edges, grant_edge, file_edge, IsOwnEdge, IsParentEdge, IsGrantEdge, IsFileEdge, IsEdge}
 use Rattle.role_graph.specs.RightsByReach.{HasFolder, IsSettled}
 use Rattle.role_graph.proofs.Edging.{In-order, edges_told}
-use Rattle.move_plan.specs.Change.{Change, no_change, change_of, edge_into_file, parent_of_folder}
+use Rattle.move_plan.specs.Change.{Change, no_change, root_change, row_change, change_of, edge_into_file, parent_of_folder}
 use Rattle.record_format.specs.Noted.{Note}
-use Rattle.record_format.specs.Noted.Note.{Root, NewHolder, NewFolder, NewFile, Rewrite, NameFile, NameFolder, DropFile, DropFolder, ShiftFile, ShiftFolder, Give, Take}
+use Rattle.record_format.specs.Noted.Note.{Root, NewHolder, NewFolder, NewFile, Rewrite, NameFile, NameFolder, DropFile, DropFolder, ShiftFile, ShiftFolder, Give, Take, StrictRoot, Upgrade}
 use Rattle.move_plan.specs.Noting.{write_note, remove_note, rename_note, move_note, note_of}
 use Rattle.public_fold.specs.Counted.{AreCounted}
-use Rattle.public_fold.specs.Journal.{Journal, Entry, Stand, nothing, first_key, note_step, entry_step, entry_store, stand_then, stand_after, steps_from, steps_of, store_of, keys_of}
-use Rattle.public_fold.specs.Journal.Entry.{Session, Made, Did}
+use Rattle.public_fold.specs.Journal.{Journal, Entry, Stand, nothing, first_key, note_step, root_note, entry_step, entry_store, stand_then, stand_after, steps_from, steps_of, store_of, keys_of}
+use Rattle.public_fold.specs.Journal.Entry.{Session, Made, Did, Upgraded}
 use Rattle.public_fold.specs.Keyed.{HasRole, KeysHold, links_of}
-use Rattle.public_fold.specs.KeyStep.{KeyState, no_keys, next_epoch, newest}
+use Rattle.public_fold.specs.KeyStep.{KeyState, is_strict, no_keys, next_epoch, newest}
 use Rattle.public_fold.specs.Records.{Link, pieces_of}
 use Rattle.public_fold.specs.Valid.{FollowOn, BeginsWell, IsValid}
 use Rattle.public_fold.proofs.Counting.{effect_counted, root_counted}
@@ -41,9 +41,10 @@ use Rattle.public_fold.proofs.Accepting.{IsAccepted, accepted, other_than_root}
 use Rattle.public_fold.proofs.Keeping.{HasTree, effect_tree, root_tree}
 use Rattle.public_fold.proofs.Settling.{effect_settled, root_settled}
 use Rattle.public_fold.proofs.EdgesThen.{at_told, IsThen}
-use Rattle.public_fold.proofs.EdgesAfter.{found_file, leads}
-use Rattle.public_fold.proofs.RolesAfter.{HasHolder, AreHeld, folder_has_role, role_has_folder, command_roles}
+use Rattle.public_fold.proofs.EdgesAfter.{found_file, leads, unchanged}
+use Rattle.public_fold.proofs.RolesAfter.{HasHolder, AreHeld, folder_has_role, role_has_folder, command_roles, same_roles}
 use Rattle.public_fold.proofs.KeepingKeys.{IsMove, keys_after}
+use Rattle.public_fold.proofs.StrictMoves.{IsRowMove, strict_moves}
 
 -- what holds of a store beside its keys
 pub record IsSound (s : Store) : Type 0 where
@@ -168,8 +169,8 @@ ends s ok e w = ⊎_elim
     (λ (x : IsFileEdge s e). file_ends s x.0 e x.1 (ok.file_folder x.0 x.1) x.2) u) v) w
 
 -- no note's roles both come and go
-pub fresh_stays : (s : Store) (note : Note) (r : Role) → In r (change_of s note).fresh → In r (change_of s note).gone → ⊥
-unfolding change_of no_change
+pub fresh_stays : (s : Store) (note : Note) (r : Role) → In r (row_change s note).fresh → In r (row_change s note).gone → ⊥
+unfolding row_change no_change
 fresh_stays s Root r f g = g
 fresh_stays s (NewHolder h check) r f g = g
 fresh_stays s (NewFolder x p) r f g = g
@@ -183,6 +184,8 @@ fresh_stays s (ShiftFile x p) r f g = g
 fresh_stays s (ShiftFolder x p) r f g = g
 fresh_stays s (Give h x) r f g = g
 fresh_stays s (Take h x) r f g = g
+fresh_stays s StrictRoot r f g = g
+fresh_stays s Upgrade r f g = g
 
 -- what a note adds leaves a root's key, one that must be clean, or a new one
 abbrev IsSource : Change → Role → Type 0
@@ -214,8 +217,8 @@ back_is_role : (f : ℕ) (r : Role) → r ≡ back_of f → In r (folder_roles f
 unfolding folder_roles
 back_is_role f r q = inr (inr (inl q))
 
-pub sources : (s : Store) (note : Note) (e : Edge) → In e (change_of s note).added → IsSource (change_of s note) e.from
-unfolding change_of no_change
+pub sources : (s : Store) (note : Note) (e : Edge) → In e (row_change s note).added → IsSource (row_change s note) e.from
+unfolding row_change no_change
 sources s Root e i = ⊎_elim (λ r. inl r) (λ f. inr (inr f)) (own_sources 1 e i)
 sources s (NewHolder h check) e i = absurd i
 sources s (NewFolder f p) e i = ⊎_elim
@@ -232,6 +235,8 @@ sources s (ShiftFile x g) e i = inr (inl (inl (one_source x g e i)))
 sources s (ShiftFolder g q) e i = ⊎_elim (λ h. inr (inl (inl h))) (λ h. inr (inl (inr (inl h)))) (parent_sources g q e i)
 sources s (Give h f) e i = inl (grant_source h f e i)
 sources s (Take h f) e i = absurd i
+sources s StrictRoot e i = ⊎_elim (λ r. inl r) (λ f. inr (inr f)) (own_sources 1 e i)
+sources s Upgrade e i = absurd i
 
 -- new roles are of numbers that were never given
 pub new_holder : (s : Store) (r : Role) → AreCounted s → In r (holder_role (s.holders_made + 1) ∷ []) → HasRole s r → ⊥
@@ -253,32 +258,32 @@ new_file s r c i h =
     let w : (e : FileEntry) × In e s.files × (e.id ≡ s.files_made + 1) = subst (HasRole s) q h in
     let low : w.0.id ≤ s.files_made = c.each_file w.0 w.1 in let same : w.0.id ≡ s.files_made + 1 = w.2 in omega arith
 
-written_new : (s : Store) (f : ℕ) (o : Option Node) (role : Role) → AreCounted s → is_folder o ≡ false → In role (change_of s (write_note s o f)).fresh → HasRole s role → ⊥
-unfolding write_note change_of no_change is_folder
+written_new : (s : Store) (f : ℕ) (o : Option Node) (role : Role) → AreCounted s → is_folder o ≡ false → In role (row_change s (write_note s o f)).fresh → HasRole s role → ⊥
+unfolding write_note row_change no_change is_folder
 written_new s f None role c t i h = new_file s role c i h
 written_new s f (Some (node.Folder g)) role c t i h = false≢true (sym t)
 written_new s f (Some (node.File x)) role c t i h = i
 
-removed_new : (s : Store) (o : Option Node) (role : Role) → is_none o ≡ false → In role (change_of s (remove_note o)).fresh → ⊥
-unfolding remove_note change_of no_change
+removed_new : (s : Store) (o : Option Node) (role : Role) → is_none o ≡ false → In role (row_change s (remove_note o)).fresh → ⊥
+unfolding remove_note row_change no_change
 removed_new s None role t i = false≢true (sym t)
 removed_new s (Some (node.Folder g)) role t i = i
 removed_new s (Some (node.File x)) role t i = i
 
-renamed_new : (s : Store) (o : Option Node) (role : Role) → is_none o ≡ false → In role (change_of s (rename_note o)).fresh → ⊥
-unfolding rename_note change_of no_change
+renamed_new : (s : Store) (o : Option Node) (role : Role) → is_none o ≡ false → In role (row_change s (rename_note o)).fresh → ⊥
+unfolding rename_note row_change no_change
 renamed_new s None role t i = false≢true (sym t)
 renamed_new s (Some (node.Folder g)) role t i = i
 renamed_new s (Some (node.File x)) role t i = i
 
-moved_new : (s : Store) (o : Option Node) (q : ℕ) (role : Role) → is_none o ≡ false → In role (change_of s (move_note o q)).fresh → ⊥
-unfolding move_note change_of no_change
+moved_new : (s : Store) (o : Option Node) (q : ℕ) (role : Role) → is_none o ≡ false → In role (row_change s (move_note o q)).fresh → ⊥
+unfolding move_note row_change no_change
 moved_new s None q role t i = false≢true (sym t)
 moved_new s (Some (node.Folder g)) q role t i = i
 moved_new s (Some (node.File x)) q role t i = i
 
-fresh_is_new : (s : Store) (r : Request) (check : List ℕ) (role : Role) → IsAccepted s r → AreCounted s → In role (change_of s (note_of s r check)).fresh → HasRole s role → ⊥
-unfolding note_of change_of no_change finds_no_path writes_folder paths_of
+fresh_is_new : (s : Store) (r : Request) (check : List ℕ) (role : Role) → IsAccepted s r → AreCounted s → In role (row_change s (note_of s r check)).fresh → HasRole s role → ⊥
+unfolding note_of row_change no_change finds_no_path writes_folder paths_of
 fresh_is_new s AddHolder check role a c i h = new_holder s role c i h
 fresh_is_new s (MakeFolder path) check role a c i h = new_folder s role c i h
 fresh_is_new s (WriteFile path bytes) check role a c i h = written_new s (id_of (node_at s (parent_path path))) (node_at s path) role c a.writes_file i h
@@ -294,26 +299,26 @@ into_stands s path x e ok q i =
     let w = node_stands s (node.File (record { 0 = x })) (node_found s path (node.File (record { 0 = x })) q).0 in
     inr (inr (inr (w.0, w.1, ⊎_elim (λ h. h) (λ z. absurd z) i ∙ found_file s x w.0 ok.own_file w.1 w.2)))
 
-written_stood : (s : Store) (f : ℕ) (o : Option Node) (e : Edge) → is_folder o ≡ false → In e (change_of s (write_note s o f)).removed → IsEdge s e
-unfolding write_note change_of no_change is_folder
+written_stood : (s : Store) (f : ℕ) (o : Option Node) (e : Edge) → is_folder o ≡ false → In e (row_change s (write_note s o f)).removed → IsEdge s e
+unfolding write_note row_change no_change is_folder
 written_stood s f None e t i = absurd i
 written_stood s f (Some (node.Folder g)) e t i = absurd i
 written_stood s f (Some (node.File x)) e t i = absurd i
 
-removed_stood : (s : Store) (path : List ℕ) (o : Option Node) (e : Edge) → HasTree s → node_at s path ≡ o → is_none o ≡ false → In e (change_of s (remove_note o)).removed → IsEdge s e
-unfolding remove_note change_of no_change
+removed_stood : (s : Store) (path : List ℕ) (o : Option Node) (e : Edge) → HasTree s → node_at s path ≡ o → is_none o ≡ false → In e (row_change s (remove_note o)).removed → IsEdge s e
+unfolding remove_note row_change no_change
 removed_stood s path None e ok q t i = absurd (false≢true (sym t))
 removed_stood s path (Some (node.Folder g)) e ok q t i = (edges_told s e).0 ((at_told s g.0 e).0 i).0
 removed_stood s path (Some (node.File x)) e ok q t i = into_stands s path x.0 e ok q i
 
-renamed_stood : (s : Store) (o : Option Node) (e : Edge) → is_none o ≡ false → In e (change_of s (rename_note o)).removed → IsEdge s e
-unfolding rename_note change_of no_change
+renamed_stood : (s : Store) (o : Option Node) (e : Edge) → is_none o ≡ false → In e (row_change s (rename_note o)).removed → IsEdge s e
+unfolding rename_note row_change no_change
 renamed_stood s None e t i = absurd i
 renamed_stood s (Some (node.Folder g)) e t i = absurd i
 renamed_stood s (Some (node.File x)) e t i = absurd i
 
-moved_stood : (s : Store) (path : List ℕ) (o : Option Node) (q : ℕ) (e : Edge) → HasTree s → node_at s path ≡ o → is_none o ≡ false → is_root_path path ≡ false → In e (change_of s (move_note o q)).removed → IsEdge s e
-unfolding move_note change_of no_change parent_of_folder folder_node
+moved_stood : (s : Store) (path : List ℕ) (o : Option Node) (q : ℕ) (e : Edge) → HasTree s → node_at s path ≡ o → is_none o ≡ false → is_root_path path ≡ false → In e (row_change s (move_note o q)).removed → IsEdge s e
+unfolding move_note row_change no_change parent_of_folder folder_node
 moved_stood s path None q e ok h t r i = absurd (false≢true (sym t))
 moved_stood s path (Some (node.Folder f)) q e ok h t r i =
     let w = node_stands s (node.Folder f) (node_found s path (node.Folder f) h).0 in
@@ -337,8 +342,8 @@ revoked_stood s h f e t i =
     let w = (In-any GrantEntry (λ g. g.holder == h && g.folder == f) P told s.grants).0 t in
     inr (inr (inl (w.0, w.1, ⊎_elim (λ q. q) (λ z. absurd z) i ∙ ap (λ n. grant_edge n f) (sym w.2.0) ∙ ap (grant_edge w.0.holder) (sym w.2.1))))
 
-removed_stand : (s : Store) (r : Request) (check : List ℕ) (e : Edge) → IsAccepted s r → HasTree s → In e (change_of s (note_of s r check)).removed → IsEdge s e
-unfolding note_of change_of no_change finds_no_path changes_root writes_folder revokes_nothing paths_of
+removed_stand : (s : Store) (r : Request) (check : List ℕ) (e : Edge) → IsAccepted s r → HasTree s → In e (row_change s (note_of s r check)).removed → IsEdge s e
+unfolding note_of row_change no_change finds_no_path changes_root writes_folder revokes_nothing paths_of
 removed_stand s AddHolder check e a ok i = absurd i
 removed_stand s (MakeFolder path) check e a ok i = absurd i
 removed_stand s (WriteFile path bytes) check e a ok i = written_stood s (id_of (node_at s (parent_path path))) (node_at s path) e a.writes_file i
@@ -348,9 +353,9 @@ removed_stand s (Relocate path into) check e a ok i = moved_stood s path (node_a
 removed_stand s (Grant k path) check e a ok i = absurd i
 removed_stand s (Revoke k path) check e a ok i = revoked_stood s k (id_of (node_at s path)) e (not-false (has_grant s k (id_of (node_at s path))) a.old_grant) i
 
-pub command_moves : (s : Store) (r : Request) (key check : List ℕ) (n : ℕ) → refusal_of s r n ≡ None → IsSound s → IsMove s (change_of s (note_of s r check)) (effect s r key)
-command_moves s r key check n q ok =
-    let a = accepted s r n q in record {
+pub command_moves : (strict : Bool) (s : Store) (r : Request) (key check : List ℕ) (n : ℕ) → refusal_of s r n ≡ None → IsSound s → IsMove s (change_of strict s (note_of s r check)) (effect s r key)
+command_moves strict s r key check n q ok =
+    let a = accepted s r n q in strict_moves strict s (effect s r key) (note_of s r check) (record {
       leads = leads s r key check ok.tree a;
       roles = command_roles s r key check a;
       removed_stand = λ e i. removed_stand s r check e a ok.tree i;
@@ -359,16 +364,33 @@ command_moves s r key check n q ok =
       sources = λ e i. sources s (note_of s r check) e i;
       ends_before = λ e w. ends s (rooted s ok) e w;
       ends_after = λ e w. ends (effect s r key) (rooted (effect s r key) (effect_sound s r key n q ok)) e w;
-    }
+    })
+
+-- so is an upgrade, which leaves all as it stands
+upgrade_row : (s : Store) → IsRooted s → IsRowMove s (row_change s Upgrade) s
+unfolding row_change no_change
+upgrade_row s ok = record {
+  leads = unchanged s s (row_change s Upgrade) refl refl (λ e. (λ w. w, λ w. w));
+  roles = same_roles s s (row_change s Upgrade) refl refl (λ h. (λ w. w, λ w. w)) (λ h. (λ w. w, λ w. w)) (λ h. (λ w. w, λ w. w));
+  removed_stand = λ e i. absurd i;
+  fresh_is_new = λ r i h. i;
+  fresh_stays = λ r f g. g;
+  sources = λ e i. absurd i;
+  ends_before = λ e w. ends s ok e w;
+  ends_after = λ e w. ends s ok e w;
+}
+
+pub upgrade_moves : (strict : Bool) (s : Store) → IsSound s → IsMove s (change_of strict s Upgrade) s
+upgrade_moves strict s ok = strict_moves strict s s Upgrade (upgrade_row s (rooted s ok))
 
 -- the root's making is a move from nothing
 pub no_edge : (e : Edge) → IsEdge no_store e → ⊥
 unfolding no_store
 no_edge e w = ⊎_elim (λ (o : IsOwnEdge no_store e). o.1) (λ v. ⊎_elim (λ (p : IsParentEdge no_store e). p.1) (λ u. ⊎_elim (λ (g : IsGrantEdge no_store e). g.1) (λ (x : IsFileEdge no_store e). x.1) u) v) w
 
-root_leads : (e : Edge) → IsThen no_store (change_of no_store Root) e ↔ IsEdge root_store e
-unfolding root_store no_store change_of no_change
-root_leads e =
+root_leads : (version : ℕ) (e : Edge) → IsThen no_store (root_change version) e ↔ IsEdge root_store e
+unfolding root_store no_store no_change
+root_leads version e =
     let root : FolderEntry = record { id = 1; parent = 0; name = [] } in (
       λ w. ⊎_elim (λ u. absurd (no_edge e (unfold no_store in u.0))) (λ i. inl (root, inl refl, i)) w,
       λ w. ⊎_elim
@@ -384,16 +406,16 @@ root_role_now f r i w =
     let root : FolderEntry = record { id = 1; parent = 0; name = [] } in
     ⊎_elim (λ (q : w.0 ≡ root). subst (λ n. In r (folder_roles n)) (sym w.2 ∙ ap (λ (e : FolderEntry). e.id) q) i) (λ z. absurd z) w.1
 
-root_roles : (r : Role) → HasRole root_store r → (HasRole no_store r × (In r (change_of no_store Root).gone → ⊥)) ⊎ In r (change_of no_store Root).fresh
-unfolding change_of no_change root_store no_store folder_roles clear_of sub_of back_of files_of data_of
-root_roles Owner h = inl (tt, λ z. z)
-root_roles (Holder k) h = absurd h.1
-root_roles (Clear f) h = inr (unfold root_store no_store in root_role_now f.0 (Clear f) (inl refl) h)
-root_roles (Sub f) h = inr (unfold root_store no_store in root_role_now f.0 (Sub f) (inr (inl refl)) h)
-root_roles (Back f) h = inr (unfold root_store no_store in root_role_now f.0 (Back f) (inr (inr (inl refl))) h)
-root_roles (Files f) h = inr (unfold root_store no_store in root_role_now f.0 (Files f) (inr (inr (inr (inl refl)))) h)
-root_roles (Data f) h = inr (unfold root_store no_store in root_role_now f.0 (Data f) (inr (inr (inr (inr (inl refl))))) h)
-root_roles (File x) h = absurd h.1
+root_roles : (version : ℕ) (r : Role) → HasRole root_store r → (HasRole no_store r × (In r (root_change version).gone → ⊥)) ⊎ In r (root_change version).fresh
+unfolding no_change root_store no_store folder_roles clear_of sub_of back_of files_of data_of
+root_roles version Owner h = inl (tt, λ z. z)
+root_roles version (Holder k) h = absurd h.1
+root_roles version (Clear f) h = inr (unfold root_store no_store in root_role_now f.0 (Clear f) (inl refl) h)
+root_roles version (Sub f) h = inr (unfold root_store no_store in root_role_now f.0 (Sub f) (inr (inl refl)) h)
+root_roles version (Back f) h = inr (unfold root_store no_store in root_role_now f.0 (Back f) (inr (inr (inl refl))) h)
+root_roles version (Files f) h = inr (unfold root_store no_store in root_role_now f.0 (Files f) (inr (inr (inr (inl refl)))) h)
+root_roles version (Data f) h = inr (unfold root_store no_store in root_role_now f.0 (Data f) (inr (inr (inr (inr (inl refl))))) h)
+root_roles version (File x) h = absurd h.1
 
 no_role : (r : Role) → HasRole no_store r → r ≡ Owner
 unfolding no_store
@@ -414,29 +436,42 @@ no_folder : (f : ℕ) → HasFolder no_store f → ⊥
 unfolding no_store
 no_folder f w = w.1
 
-root_gone : (r : Role) → In r (change_of no_store Root).gone → ⊥
-unfolding change_of no_change
-root_gone r i = i
+root_gone : (version : ℕ) (r : Role) → In r (root_change version).gone → ⊥
+unfolding no_change
+root_gone version r i = i
 
-root_fresh : (r : Role) → In r (change_of no_store Root).fresh → In r (folder_roles 1)
-unfolding change_of no_change
-root_fresh r i = i
+root_fresh : (version : ℕ) (r : Role) → In r (root_change version).fresh → In r (folder_roles 1)
+unfolding no_change
+root_fresh version r i = i
 
-root_removed : (e : Edge) → In e (change_of no_store Root).removed → ⊥
-unfolding change_of no_change
-root_removed e i = i
+root_removed : (version : ℕ) (e : Edge) → In e (root_change version).removed → ⊥
+unfolding no_change
+root_removed version e i = i
 
-pub root_moves : IsMove no_store (change_of no_store Root) root_store
-root_moves = record {
-  leads = root_leads;
-  roles = λ r. (λ h. root_roles r h, λ w. ⊎_elim (λ u. subst (HasRole root_store) (sym (no_role r u.0)) tt) (λ i. folder_has_role root_store 1 r (root_fresh r i) root_has) w);
-  removed_stand = λ e i. absurd (root_removed e i);
-  fresh_is_new = λ r i h. no_folder 1 (role_has_folder no_store 1 r (root_fresh r i) h);
-  fresh_stays = λ r f g. root_gone r g;
-  sources = λ e i. sources no_store Root e i;
+root_sources : (version : ℕ) (e : Edge) → In e (root_change version).added → IsSource (root_change version) e.from
+unfolding no_change
+root_sources version e i = ⊎_elim (λ r. inl r) (λ f. inr (inr f)) (own_sources 1 e i)
+
+pub root_row : (version : ℕ) → IsRowMove no_store (root_change version) root_store
+root_row version = record {
+  leads = root_leads version;
+  roles = λ r. (λ h. root_roles version r h, λ w. ⊎_elim (λ u. subst (HasRole root_store) (sym (no_role r u.0)) tt) (λ i. folder_has_role root_store 1 r (root_fresh version r i) root_has) w);
+  removed_stand = λ e i. absurd (root_removed version e i);
+  fresh_is_new = λ r i h. no_folder 1 (role_has_folder no_store 1 r (root_fresh version r i) h);
+  fresh_stays = λ r f g. root_gone version r g;
+  sources = λ e i. root_sources version e i;
   ends_before = λ e w. absurd (no_edge e w);
   ends_after = λ e w. ends root_store root_rooted e w;
 }
+
+either_root : (strict : Bool) → IsRowMove no_store (row_change no_store (cond strict StrictRoot Root)) root_store
+unfolding row_change
+either_root true = root_row 2
+either_root false = root_row 1
+
+pub root_moves : (version : ℕ) → IsMove no_store (change_of false no_store (root_note version)) root_store
+unfolding root_note
+root_moves version = strict_moves false no_store root_store (root_note version) (either_root (version == 2))
 
 -- before the first entry the owner's key alone is there
 no_keyed : (r : Role) → (n : ℕ) × (newest ((Owner, 0) ∷ []) r ≡ Some n) → HasRole no_store r
@@ -476,30 +511,42 @@ after_holds : (entries : List Entry) (at : Stand) (links : List Link) → IsSoun
 unfolding stand_after stand_then entry_store entry_step note_step steps_from links_of
 after_holds [] at links sound ok f = more_links at.store at.keys links (links ++ []) (sym (append-nil links)) ok
 after_holds (Session ∷ entries) at links sound ok f = after_holds entries (stand_then at Session) links sound (epoch_holds at.store at.keys links ok) f.1
-after_holds (Made keys ∷ entries) at links sound ok f = absurd f.0
+after_holds (Made version keys ∷ entries) at links sound ok f = absurd f.0
 after_holds (Did request keys ∷ entries) at links sound ok f =
     let s = at.store in
     let t = effect s request (first_key keys) in
     let note = note_of s request [] in
     let step = note_step at note t in
     let on = after_holds entries (stand_then at (Did request keys)) (links ++ step.links) (effect_sound s request (first_key keys) most_file_bytes f.0.0 sound)
-    (keys_after s t at.keys (change_of s note) links (command_moves s request (first_key keys) [] most_file_bytes f.0.0 sound) ok (pieces_of note t)) f.1 in
+    (keys_after s t at.keys (change_of (is_strict at.keys) s note) links (command_moves (is_strict at.keys) s request (first_key keys) [] most_file_bytes f.0.0 sound) ok (pieces_of note t)) f.1 in
     more_links (stand_after (stand_then at (Did request keys)) entries).store (stand_after (stand_then at (Did request keys)) entries).keys
     ((links ++ step.links) ++ links_of (steps_from (stand_then at (Did request keys)) entries)) (links ++ (step.links ++ links_of (steps_from (stand_then at (Did request keys)) entries)))
     (append_assoc links step.links (links_of (steps_from (stand_then at (Did request keys)) entries))) on
+after_holds (Upgraded keys ∷ entries) at links sound ok f =
+    let s = at.store in
+    let step = note_step at Upgrade s in
+    let next = stand_then at (Upgraded keys) in
+    let on = after_holds entries next (links ++ step.links) sound
+    (keys_after s s at.keys (change_of (is_strict at.keys) s Upgrade) links (upgrade_moves (is_strict at.keys) s sound) ok (pieces_of Upgrade s)) f.1 in
+    more_links (stand_after next entries).store (stand_after next entries).keys
+    ((links ++ step.links) ++ links_of (steps_from next entries)) (links ++ (step.links ++ links_of (steps_from next entries)))
+    (append_assoc links step.links (links_of (steps_from next entries))) on
 
 begun_holds : (m : Journal) → BeginsWell m → KeysHold (stand_after nothing m).store (stand_after nothing m).keys (links_of (steps_from nothing m))
-unfolding stand_after stand_then entry_store entry_step note_step steps_from links_of nothing
+unfolding stand_after stand_then entry_store entry_step note_step steps_from links_of nothing is_strict next_epoch no_keys
 begun_holds [] b = absurd b
 begun_holds (Session ∷ []) b = absurd b
 begun_holds (Session ∷ Session ∷ es) b = absurd b
-begun_holds (Session ∷ Made keys ∷ es) b =
-    let at = stand_then (stand_then nothing Session) (Made keys) in
-    let step = note_step (stand_then nothing Session) Root root_store in
-    after_holds es at step.links root_sound (keys_after no_store root_store (next_epoch no_keys) (change_of no_store Root) [] root_moves nothing_holds (pieces_of Root root_store)) b.1
+begun_holds (Session ∷ Made version keys ∷ es) b =
+    let at = stand_then (stand_then nothing Session) (Made version keys) in
+    let root = root_note version in
+    let step = note_step (stand_then nothing Session) root root_store in
+    after_holds es at step.links root_sound (keys_after no_store root_store (next_epoch no_keys) (change_of false no_store root) [] (root_moves version) nothing_holds (pieces_of root root_store)) b.1
 begun_holds (Session ∷ Did request keys ∷ es) b = absurd b
-begun_holds (Made keys ∷ es) b = absurd b
+begun_holds (Session ∷ Upgraded keys ∷ es) b = absurd b
+begun_holds (Made version keys ∷ es) b = absurd b
 begun_holds (Did request keys ∷ es) b = absurd b
+begun_holds (Upgraded keys ∷ es) b = absurd b
 
 pub journal_holds : (m : Journal) → IsValid m → KeysHold (store_of m) (keys_of m) (links_of (steps_of m))
 unfolding store_of keys_of steps_of

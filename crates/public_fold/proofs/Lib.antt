@@ -8,6 +8,7 @@ pub mod Growing
 pub mod Keeping
 pub mod HeldMarks
 pub mod KeepingKeys
+pub mod StrictMoves
 pub mod KeyMoves
 pub mod Levels
 pub mod NotesFit
@@ -43,3 +44,5 @@ pub mod KeyTabled
 pub mod FoundEdges
 pub mod StaysRooted
 pub mod StepLooked
+pub mod StrictLists
+pub mod NewKeyLinks

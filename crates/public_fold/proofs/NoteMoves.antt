@@ -1,5 +1,5 @@
 -- Each note that fits is a move of edges and roles, whichever command made it, and leaves the store rooted.
-use Rattle.std.proofs.Common.{◌≡◌, ◌≢◌, ℕ, ◌+◌, ◌≤◌, true, false, not, ◌==◌, ◌&&◌, ◌||◌, List, [], ◌∷◌, Some, None, inl, inr, ⊎_elim, refl, sym, ap, ◌∙◌, subst, arith}
+use Rattle.std.proofs.Common.{◌≡◌, ◌≢◌, ℕ, ◌+◌, ◌≤◌, ◌⊎◌, Bool, true, false, not, ◌==◌, ◌&&◌, ◌||◌, List, [], ◌∷◌, Some, None, inl, inr, ⊎_elim, refl, sym, ap, ◌∙◌, subst, arith}
 use Rattle.std.specs.Prelude.{is_some, nat_lt, nat_le}
 use Rattle.std.proofs.lemmas.Bool.{and_parts, eqb-true, eqb-false, not-true, false≢true, false_from_ne_true}
 use Rattle.cry_base.specs.Sets.{In}
@@ -11,10 +11,10 @@ use Rattle.cry_base.specs.declared.roles.Role.{Role}
 use Rattle.role_graph.specs.Edges.{parent_edges, file_edge, IsEdge}
 use Rattle.role_graph.specs.RightsByReach.{HasFolder}
 use Rattle.role_graph.proofs.Edging.{edges_told}
-use Rattle.move_plan.specs.Change.{Change, no_change, change_of, edge_into_file, folder_of_file, parent_of_folder}
+use Rattle.move_plan.specs.Change.{Change, no_change, row_change, change_of, edge_into_file, folder_of_file, parent_of_folder}
 use Rattle.move_plan.specs.Fitting.{folder_stands, has_depth_left, file_stands, is_other_folder, may_go_into, row_fits, needs_root, fits}
 use Rattle.record_format.specs.Noted.{Note}
-use Rattle.record_format.specs.Noted.Note.{Root, NewHolder, NewFolder, NewFile, Rewrite, NameFile, NameFolder, DropFile, DropFolder, ShiftFile, ShiftFolder, Give, Take}
+use Rattle.record_format.specs.Noted.Note.{Root, NewHolder, NewFolder, NewFile, Rewrite, NameFile, NameFolder, DropFile, DropFolder, ShiftFile, ShiftFolder, Give, Take, StrictRoot, Upgrade}
 use Rattle.public_fold.specs.Keyed.{HasRole}
 use Rattle.public_fold.specs.Rooted.{IsRooted, MayStand}
 use Rattle.public_fold.specs.Told.{told_store}
@@ -22,6 +22,7 @@ use Rattle.public_fold.proofs.Accepting.{no_child, no_inner}
 use Rattle.public_fold.proofs.EdgesAfter.{Leads, unchanged, new_folder_edges, new_file_edges, new_grant_edges, no_file_edges, no_grant_edges, no_folder_edges, shift_file_edges, shift_folder_edges, found_file}
 use Rattle.public_fold.proofs.EdgesThen.{at_told}
 use Rattle.public_fold.proofs.KeepingKeys.{IsMove}
+use Rattle.public_fold.proofs.StrictMoves.{IsRowMove, strict_moves}
 use Rattle.public_fold.proofs.KeyMoves as moves
 use Rattle.public_fold.proofs.Levels.{level_positive, find_own}
 use Rattle.public_fold.proofs.RolesAfter.{RolesMove, HasFile, HasHolder, same_roles, file_changed_roles, folder_changed_roles, new_holder_roles, new_folder_roles, new_file_roles, no_folder_roles, no_file_roles}
@@ -90,26 +91,32 @@ no_second s ok t =
     let low : r.0.id ≤ s.folders_made = ok.counted.each_folder r.0 r.1 in
     let one : r.0.id ≡ 1 = r.2 in let none : s.folders_made ≡ 0 = eqb-true s.folders_made 0 t in omega arith
 
-root_row : (s : Store) → row_fits s Root ≡ true → (s.folders_made == 0) ≡ true
+root_row : (strict : Bool) (s : Store) → row_fits strict s Root ≡ true → (s.folders_made == 0) ≡ true
 unfolding row_fits
-root_row s t = t
+root_row strict s t = t
+
+strict_root_row : (strict : Bool) (s : Store) → row_fits strict s StrictRoot ≡ true → (s.folders_made == 0) ≡ true
+unfolding row_fits
+strict_root_row strict s t = t
 
 -- the store stays rooted
-pub row_rooted : (s : Store) (note : Note) → row_fits s note ≡ true → IsRooted s → IsRooted (told_store s note)
+pub row_rooted : (strict : Bool) (s : Store) (note : Note) → row_fits strict s note ≡ true → IsRooted s → IsRooted (told_store s note)
 unfolding row_fits told_store
-row_rooted s Root t ok = absurd (no_second s ok t)
-row_rooted s (NewHolder h check) t ok = rooting.new_holder s ok
-row_rooted s (NewFolder f p) t ok = rooting.new_folder s p ok (number_told s (s.folders_made + 1) f p t).1
-row_rooted s (NewFile x f) t ok = rooting.new_file s f ok (number_told s (s.files_made + 1) x f t).1
-row_rooted s (Rewrite x) t ok = ok
-row_rooted s (NameFile x) t ok = ok
-row_rooted s (NameFolder f) t ok = ok
-row_rooted s (DropFile x) t ok = rooting.no_file s x ok
-row_rooted s (DropFolder f) t ok = let w = may_go s f t in rooting.no_folder s f ok w.other w.no_child w.no_inner
-row_rooted s (ShiftFile x g) t ok = rooting.shift_file s x g ok (file_shift_told s x g t).1
-row_rooted s (ShiftFolder g q) t ok = let w = may_move s g q t in rooting.shift_folder s g q ok w.other w.here w.there w.outside
-row_rooted s (Give h f) t ok = let w = give_told s h f t in rooting.give s h f ok w.0 w.1
-row_rooted s (Take h f) t ok = rooting.take s h f ok
+row_rooted strict s Root t ok = absurd (no_second s ok t)
+row_rooted strict s (NewHolder h check) t ok = rooting.new_holder s ok
+row_rooted strict s (NewFolder f p) t ok = rooting.new_folder s p ok (number_told s (s.folders_made + 1) f p t).1
+row_rooted strict s (NewFile x f) t ok = rooting.new_file s f ok (number_told s (s.files_made + 1) x f t).1
+row_rooted strict s (Rewrite x) t ok = ok
+row_rooted strict s (NameFile x) t ok = ok
+row_rooted strict s (NameFolder f) t ok = ok
+row_rooted strict s (DropFile x) t ok = rooting.no_file s x ok
+row_rooted strict s (DropFolder f) t ok = let w = may_go s f t in rooting.no_folder s f ok w.other w.no_child w.no_inner
+row_rooted strict s (ShiftFile x g) t ok = rooting.shift_file s x g ok (file_shift_told s x g t).1
+row_rooted strict s (ShiftFolder g q) t ok = let w = may_move s g q t in rooting.shift_folder s g q ok w.other w.here w.there w.outside
+row_rooted strict s (Give h f) t ok = let w = give_told s h f t in rooting.give s h f ok w.0 w.1
+row_rooted strict s (Take h f) t ok = rooting.take s h f ok
+row_rooted strict s StrictRoot t ok = absurd (no_second s ok t)
+row_rooted strict s Upgrade t ok = ok
 
 -- the edge into a file that stands, and those of a folder and its parent
 pub file_edge_told : (s : Store) (x : ℕ) → IsRooted s → (w : HasFile s x) → edge_into_file s x ≡ file_edge w.0.folder w.0.id
@@ -120,98 +127,102 @@ unfolding parent_of_folder folder_entry
 parent_told s g ok w = ap (λ o. elim o as (λ z. ℕ) [ None ↦ 0 | Some e ↦ e.parent ]) (find_own s.folders w.0 g ok.numbered w.1 w.2)
 
 -- the edges after it are those that its change leaves and adds
-new_folder_leads : (s : Store) (f p : ℕ) → IsRooted s → f ≡ s.folders_made + 1 → HasFolder s p → Leads s (change_of s (NewFolder f p)) (with_new_folder s p [])
-unfolding change_of no_change with_new_folder
+new_folder_leads : (s : Store) (f p : ℕ) → IsRooted s → f ≡ s.folders_made + 1 → HasFolder s p → Leads s (row_change s (NewFolder f p)) (with_new_folder s p [])
+unfolding row_change no_change with_new_folder
 new_folder_leads s f p ok q there =
     let n : FolderEntry = record { id = s.folders_made + 1; parent = p; name = [] } in
     let above = level_of s p ok there in
-    subst (λ m. Leads s (change_of s (NewFolder m p)) (with_new_folder s p [])) (sym q)
-    (new_folder_edges s n (with_new_folder s p []) (change_of s (NewFolder n.id p)) (level_positive above.0 s.folders p ok.numbered above.1) refl refl refl)
+    subst (λ m. Leads s (row_change s (NewFolder m p)) (with_new_folder s p [])) (sym q)
+    (new_folder_edges s n (with_new_folder s p []) (row_change s (NewFolder n.id p)) (level_positive above.0 s.folders p ok.numbered above.1) refl refl refl)
 
-new_file_leads : (s : Store) (x f : ℕ) → x ≡ s.files_made + 1 → Leads s (change_of s (NewFile x f)) (with_new_file s f [] [])
-unfolding change_of no_change with_new_file
+new_file_leads : (s : Store) (x f : ℕ) → x ≡ s.files_made + 1 → Leads s (row_change s (NewFile x f)) (with_new_file s f [] [])
+unfolding row_change no_change with_new_file
 new_file_leads s x f q =
     let n : FileEntry = record { id = s.files_made + 1; folder = f; name = []; bytes = [] } in
-    subst (λ m. Leads s (change_of s (NewFile m f)) (with_new_file s f [] [])) (sym q)
-    (new_file_edges s n (with_new_file s f [] []) (change_of s (NewFile n.id f)) refl refl refl)
+    subst (λ m. Leads s (row_change s (NewFile m f)) (with_new_file s f [] [])) (sym q)
+    (new_file_edges s n (with_new_file s f [] []) (row_change s (NewFile n.id f)) refl refl refl)
 
-no_file_leads : (s : Store) (x : ℕ) → IsRooted s → HasFile s x → Leads s (change_of s (DropFile x)) (without_file s x)
-unfolding change_of no_change
+no_file_leads : (s : Store) (x : ℕ) → IsRooted s → HasFile s x → Leads s (row_change s (DropFile x)) (without_file s x)
+unfolding row_change no_change
 no_file_leads s x ok w =
-    let c : Change = change_of s (DropFile x) in
+    let c : Change = row_change s (DropFile x) in
     subst (λ n. Leads s c (without_file s n)) w.2 (no_file_edges s w.0 c (λ y i q. ok.own_file y w.0 i w.1 q) (ap (λ d. d ∷ []) (file_edge_told s x ok w)) refl)
 
-shift_file_leads : (s : Store) (x g : ℕ) → IsRooted s → HasFile s x → Leads s (change_of s (ShiftFile x g)) (with_file s x (λ e. record e { folder = g }))
-unfolding change_of no_change
+shift_file_leads : (s : Store) (x g : ℕ) → IsRooted s → HasFile s x → Leads s (row_change s (ShiftFile x g)) (with_file s x (λ e. record e { folder = g }))
+unfolding row_change no_change
 shift_file_leads s x g ok w =
-    let c : Change = change_of s (ShiftFile x g) in
+    let c : Change = row_change s (ShiftFile x g) in
     subst (λ n. Leads s c (with_file s n (λ e. record e { folder = g }))) w.2
     (shift_file_edges s w.0 g c w.1 (λ y i q. ok.own_file y w.0 i w.1 q) (ap (λ d. d ∷ []) (file_edge_told s x ok w)) (ap (λ n. file_edge g n ∷ []) (sym w.2)))
 
-shift_folder_leads : (s : Store) (g q : ℕ) → IsRooted s → MayMove s g q → Leads s (change_of s (ShiftFolder g q)) (with_folder s g (λ e. record e { parent = q }))
-unfolding change_of no_change
+shift_folder_leads : (s : Store) (g q : ℕ) → IsRooted s → MayMove s g q → Leads s (row_change s (ShiftFolder g q)) (with_folder s g (λ e. record e { parent = q }))
+unfolding row_change no_change
 shift_folder_leads s g q ok m =
     let w = m.here in
     let into = level_of s q ok m.there in
-    let c : Change = change_of s (ShiftFolder g q) in
+    let c : Change = row_change s (ShiftFolder g q) in
     subst (λ n. Leads s c (with_folder s n (λ e. record e { parent = q }))) w.2
     (shift_folder_edges s w.0 q c w.1 (λ y i h. ok.numbered.own y w.0 i w.1 h) (level_positive into.0 s.folders q ok.numbered into.1)
     (ap (parent_edges g) (parent_told s g ok w) ∙ ap (λ n. parent_edges n w.0.parent) (sym w.2)) (ap (λ n. parent_edges n q) (sym w.2)))
 
-row_leads : (s : Store) (note : Note) → row_fits s note ≡ true → IsRooted s → Leads s (change_of s note) (told_store s note)
-unfolding row_fits change_of no_change told_store with_new_holder
-row_leads s Root t ok = absurd (no_second s ok t)
-row_leads s (NewHolder h check) t ok = unchanged s (with_new_holder s []) (change_of s (NewHolder h check)) refl refl (λ e. (λ w. w, λ w. w))
-row_leads s (NewFolder f p) t ok = let w = number_told s (s.folders_made + 1) f p t in new_folder_leads s f p ok w.0 w.1
-row_leads s (NewFile x f) t ok = new_file_leads s x f (number_told s (s.files_made + 1) x f t).0
-row_leads s (Rewrite x) t ok = unchanged s s (change_of s (Rewrite x)) refl refl (λ e. (λ w. w, λ w. w))
-row_leads s (NameFile x) t ok = unchanged s s (change_of s (NameFile x)) refl refl (λ e. (λ w. w, λ w. w))
-row_leads s (NameFolder f) t ok = unchanged s s (change_of s (NameFolder f)) refl refl (λ e. (λ w. w, λ w. w))
-row_leads s (DropFile x) t ok = no_file_leads s x ok (file_there s x t)
-row_leads s (DropFolder f) t ok = let w = may_go s f t in no_folder_edges s f (change_of s (DropFolder f)) w.no_child w.no_inner refl refl
-row_leads s (ShiftFile x g) t ok = shift_file_leads s x g ok (file_shift_told s x g t).0
-row_leads s (ShiftFolder g q) t ok = shift_folder_leads s g q ok (may_move s g q t)
-row_leads s (Give h f) t ok =
-    let n : GrantEntry = record { holder = h; folder = f } in new_grant_edges s n (told_store s (Give h f)) (change_of s (Give h f)) refl refl refl
-row_leads s (Take h f) t ok = no_grant_edges s h f (change_of s (Take h f)) refl refl
+row_leads : (strict : Bool) (s : Store) (note : Note) → row_fits strict s note ≡ true → IsRooted s → Leads s (row_change s note) (told_store s note)
+unfolding row_fits row_change no_change told_store with_new_holder
+row_leads strict s Root t ok = absurd (no_second s ok t)
+row_leads strict s (NewHolder h check) t ok = unchanged s (with_new_holder s []) (row_change s (NewHolder h check)) refl refl (λ e. (λ w. w, λ w. w))
+row_leads strict s (NewFolder f p) t ok = let w = number_told s (s.folders_made + 1) f p t in new_folder_leads s f p ok w.0 w.1
+row_leads strict s (NewFile x f) t ok = new_file_leads s x f (number_told s (s.files_made + 1) x f t).0
+row_leads strict s (Rewrite x) t ok = unchanged s s (row_change s (Rewrite x)) refl refl (λ e. (λ w. w, λ w. w))
+row_leads strict s (NameFile x) t ok = unchanged s s (row_change s (NameFile x)) refl refl (λ e. (λ w. w, λ w. w))
+row_leads strict s (NameFolder f) t ok = unchanged s s (row_change s (NameFolder f)) refl refl (λ e. (λ w. w, λ w. w))
+row_leads strict s (DropFile x) t ok = no_file_leads s x ok (file_there s x t)
+row_leads strict s (DropFolder f) t ok = let w = may_go s f t in no_folder_edges s f (row_change s (DropFolder f)) w.no_child w.no_inner refl refl
+row_leads strict s (ShiftFile x g) t ok = shift_file_leads s x g ok (file_shift_told s x g t).0
+row_leads strict s (ShiftFolder g q) t ok = shift_folder_leads s g q ok (may_move s g q t)
+row_leads strict s (Give h f) t ok =
+    let n : GrantEntry = record { holder = h; folder = f } in new_grant_edges s n (told_store s (Give h f)) (row_change s (Give h f)) refl refl refl
+row_leads strict s (Take h f) t ok = no_grant_edges s h f (row_change s (Take h f)) refl refl
+row_leads strict s StrictRoot t ok = absurd (no_second s ok t)
+row_leads strict s Upgrade t ok = unchanged s s (row_change s Upgrade) refl refl (λ e. (λ w. w, λ w. w))
 
 -- and the roles
-new_holder_moves : (s : Store) (h : ℕ) (check : List ℕ) → h ≡ s.holders_made + 1 → RolesMove s (change_of s (NewHolder h check)) (with_new_holder s [])
-unfolding change_of no_change with_new_holder
+new_holder_moves : (s : Store) (h : ℕ) (check : List ℕ) → h ≡ s.holders_made + 1 → RolesMove s (row_change s (NewHolder h check)) (with_new_holder s [])
+unfolding row_change no_change with_new_holder
 new_holder_moves s h check q =
     let n : HolderEntry = record { number = s.holders_made + 1; key = [] } in
-    subst (λ m. RolesMove s (change_of s (NewHolder m check)) (with_new_holder s [])) (sym q)
-    (new_holder_roles s n (with_new_holder s []) (change_of s (NewHolder n.number check)) refl refl refl)
+    subst (λ m. RolesMove s (row_change s (NewHolder m check)) (with_new_holder s [])) (sym q)
+    (new_holder_roles s n (with_new_holder s []) (row_change s (NewHolder n.number check)) refl refl refl)
 
-new_folder_moves : (s : Store) (f p : ℕ) → f ≡ s.folders_made + 1 → RolesMove s (change_of s (NewFolder f p)) (with_new_folder s p [])
-unfolding change_of no_change with_new_folder
+new_folder_moves : (s : Store) (f p : ℕ) → f ≡ s.folders_made + 1 → RolesMove s (row_change s (NewFolder f p)) (with_new_folder s p [])
+unfolding row_change no_change with_new_folder
 new_folder_moves s f p q =
     let n : FolderEntry = record { id = s.folders_made + 1; parent = p; name = [] } in
-    subst (λ m. RolesMove s (change_of s (NewFolder m p)) (with_new_folder s p [])) (sym q)
-    (new_folder_roles s n (with_new_folder s p []) (change_of s (NewFolder n.id p)) refl refl refl)
+    subst (λ m. RolesMove s (row_change s (NewFolder m p)) (with_new_folder s p [])) (sym q)
+    (new_folder_roles s n (with_new_folder s p []) (row_change s (NewFolder n.id p)) refl refl refl)
 
-new_file_moves : (s : Store) (x f : ℕ) → x ≡ s.files_made + 1 → RolesMove s (change_of s (NewFile x f)) (with_new_file s f [] [])
-unfolding change_of no_change with_new_file
+new_file_moves : (s : Store) (x f : ℕ) → x ≡ s.files_made + 1 → RolesMove s (row_change s (NewFile x f)) (with_new_file s f [] [])
+unfolding row_change no_change with_new_file
 new_file_moves s x f q =
     let n : FileEntry = record { id = s.files_made + 1; folder = f; name = []; bytes = [] } in
-    subst (λ m. RolesMove s (change_of s (NewFile m f)) (with_new_file s f [] [])) (sym q)
-    (new_file_roles s n (with_new_file s f [] []) (change_of s (NewFile n.id f)) refl refl refl)
+    subst (λ m. RolesMove s (row_change s (NewFile m f)) (with_new_file s f [] [])) (sym q)
+    (new_file_roles s n (with_new_file s f [] []) (row_change s (NewFile n.id f)) refl refl refl)
 
-row_roles : (s : Store) (note : Note) → row_fits s note ≡ true → IsRooted s → RolesMove s (change_of s note) (told_store s note)
-unfolding row_fits change_of no_change told_store without_grant
-row_roles s Root t ok = absurd (no_second s ok t)
-row_roles s (NewHolder h check) t ok = new_holder_moves s h check (eqb-true h (s.holders_made + 1) t)
-row_roles s (NewFolder f p) t ok = new_folder_moves s f p (number_told s (s.folders_made + 1) f p t).0
-row_roles s (NewFile x f) t ok = new_file_moves s x f (number_told s (s.files_made + 1) x f t).0
-row_roles s (Rewrite x) t ok = same_roles s s (change_of s (Rewrite x)) refl refl (λ h. (λ w. w, λ w. w)) (λ h. (λ w. w, λ w. w)) (λ h. (λ w. w, λ w. w))
-row_roles s (NameFile x) t ok = same_roles s s (change_of s (NameFile x)) refl refl (λ h. (λ w. w, λ w. w)) (λ h. (λ w. w, λ w. w)) (λ h. (λ w. w, λ w. w))
-row_roles s (NameFolder f) t ok = same_roles s s (change_of s (NameFolder f)) refl refl (λ h. (λ w. w, λ w. w)) (λ h. (λ w. w, λ w. w)) (λ h. (λ w. w, λ w. w))
-row_roles s (DropFile x) t ok = no_file_roles s x (change_of s (DropFile x)) refl refl
-row_roles s (DropFolder f) t ok = no_folder_roles s f (change_of s (DropFolder f)) refl refl
-row_roles s (ShiftFile x g) t ok = file_changed_roles s x (λ e. record e { folder = g }) (change_of s (ShiftFile x g)) (λ e. refl) refl refl
-row_roles s (ShiftFolder g q) t ok = folder_changed_roles s g (λ e. record e { parent = q }) (change_of s (ShiftFolder g q)) (λ e. refl) refl refl
-row_roles s (Give h f) t ok = same_roles s (told_store s (Give h f)) (change_of s (Give h f)) refl refl (λ h. (λ w. w, λ w. w)) (λ h. (λ w. w, λ w. w)) (λ h. (λ w. w, λ w. w))
-row_roles s (Take h f) t ok = same_roles s (told_store s (Take h f)) (change_of s (Take h f)) refl refl (λ h. (λ w. w, λ w. w)) (λ h. (λ w. w, λ w. w)) (λ h. (λ w. w, λ w. w))
+row_roles : (strict : Bool) (s : Store) (note : Note) → row_fits strict s note ≡ true → IsRooted s → RolesMove s (row_change s note) (told_store s note)
+unfolding row_fits row_change no_change told_store without_grant
+row_roles strict s Root t ok = absurd (no_second s ok t)
+row_roles strict s (NewHolder h check) t ok = new_holder_moves s h check (eqb-true h (s.holders_made + 1) t)
+row_roles strict s (NewFolder f p) t ok = new_folder_moves s f p (number_told s (s.folders_made + 1) f p t).0
+row_roles strict s (NewFile x f) t ok = new_file_moves s x f (number_told s (s.files_made + 1) x f t).0
+row_roles strict s (Rewrite x) t ok = same_roles s s (row_change s (Rewrite x)) refl refl (λ h. (λ w. w, λ w. w)) (λ h. (λ w. w, λ w. w)) (λ h. (λ w. w, λ w. w))
+row_roles strict s (NameFile x) t ok = same_roles s s (row_change s (NameFile x)) refl refl (λ h. (λ w. w, λ w. w)) (λ h. (λ w. w, λ w. w)) (λ h. (λ w. w, λ w. w))
+row_roles strict s (NameFolder f) t ok = same_roles s s (row_change s (NameFolder f)) refl refl (λ h. (λ w. w, λ w. w)) (λ h. (λ w. w, λ w. w)) (λ h. (λ w. w, λ w. w))
+row_roles strict s (DropFile x) t ok = no_file_roles s x (row_change s (DropFile x)) refl refl
+row_roles strict s (DropFolder f) t ok = no_folder_roles s f (row_change s (DropFolder f)) refl refl
+row_roles strict s (ShiftFile x g) t ok = file_changed_roles s x (λ e. record e { folder = g }) (row_change s (ShiftFile x g)) (λ e. refl) refl refl
+row_roles strict s (ShiftFolder g q) t ok = folder_changed_roles s g (λ e. record e { parent = q }) (row_change s (ShiftFolder g q)) (λ e. refl) refl refl
+row_roles strict s (Give h f) t ok = same_roles s (told_store s (Give h f)) (row_change s (Give h f)) refl refl (λ h. (λ w. w, λ w. w)) (λ h. (λ w. w, λ w. w)) (λ h. (λ w. w, λ w. w))
+row_roles strict s (Take h f) t ok = same_roles s (told_store s (Take h f)) (row_change s (Take h f)) refl refl (λ h. (λ w. w, λ w. w)) (λ h. (λ w. w, λ w. w)) (λ h. (λ w. w, λ w. w))
+row_roles strict s StrictRoot t ok = absurd (no_second s ok t)
+row_roles strict s Upgrade t ok = same_roles s s (row_change s Upgrade) refl refl (λ h. (λ w. w, λ w. w)) (λ h. (λ w. w, λ w. w)) (λ h. (λ w. w, λ w. w))
 
 -- what is removed stood
 into_stood : (s : Store) (x : ℕ) (e : Edge) → IsRooted s → HasFile s x → In e (edge_into_file s x ∷ []) → IsEdge s e
@@ -225,55 +236,59 @@ parent_stood s g e ok w other i = inr (inl (
   subst (λ n. In e (parent_edges n w.0.parent)) (sym w.2) (subst (λ n. In e (parent_edges g n)) (parent_told s g ok w) i),
 ))
 
-row_removes : (s : Store) (note : Note) (e : Edge) → row_fits s note ≡ true → IsRooted s → In e (change_of s note).removed → IsEdge s e
-unfolding row_fits change_of no_change
-row_removes s Root e t ok i = absurd i
-row_removes s (NewHolder h check) e t ok i = absurd i
-row_removes s (NewFolder f p) e t ok i = absurd i
-row_removes s (NewFile x f) e t ok i = absurd i
-row_removes s (Rewrite x) e t ok i = absurd i
-row_removes s (NameFile x) e t ok i = absurd i
-row_removes s (NameFolder f) e t ok i = absurd i
-row_removes s (DropFile x) e t ok i = into_stood s x e ok (file_there s x t) i
-row_removes s (DropFolder f) e t ok i = (edges_told s e).0 ((at_told s f e).0 i).0
-row_removes s (ShiftFile x g) e t ok i = into_stood s x e ok (file_shift_told s x g t).0 i
-row_removes s (ShiftFolder g q) e t ok i = let m = may_move s g q t in parent_stood s g e ok m.here m.other i
-row_removes s (Give h f) e t ok i = absurd i
-row_removes s (Take h f) e t ok i = moves.revoked_stood s h f e t i
+row_removes : (strict : Bool) (s : Store) (note : Note) (e : Edge) → row_fits strict s note ≡ true → IsRooted s → In e (row_change s note).removed → IsEdge s e
+unfolding row_fits row_change no_change
+row_removes strict s Root e t ok i = absurd i
+row_removes strict s (NewHolder h check) e t ok i = absurd i
+row_removes strict s (NewFolder f p) e t ok i = absurd i
+row_removes strict s (NewFile x f) e t ok i = absurd i
+row_removes strict s (Rewrite x) e t ok i = absurd i
+row_removes strict s (NameFile x) e t ok i = absurd i
+row_removes strict s (NameFolder f) e t ok i = absurd i
+row_removes strict s (DropFile x) e t ok i = into_stood s x e ok (file_there s x t) i
+row_removes strict s (DropFolder f) e t ok i = (edges_told s e).0 ((at_told s f e).0 i).0
+row_removes strict s (ShiftFile x g) e t ok i = into_stood s x e ok (file_shift_told s x g t).0 i
+row_removes strict s (ShiftFolder g q) e t ok i = let m = may_move s g q t in parent_stood s g e ok m.here m.other i
+row_removes strict s (Give h f) e t ok i = absurd i
+row_removes strict s (Take h f) e t ok i = moves.revoked_stood s h f e t i
+row_removes strict s StrictRoot e t ok i = absurd i
+row_removes strict s Upgrade e t ok i = absurd i
 
 -- a new role had no key before
-row_news : (s : Store) (note : Note) (r : Role) → row_fits s note ≡ true → IsRooted s → In r (change_of s note).fresh → HasRole s r → ⊥
-unfolding row_fits change_of no_change
-row_news s Root r t ok i h = no_second s ok t
-row_news s (NewHolder k check) r t ok i h = moves.new_holder s r ok.counted (subst (λ n. In r (change_of s (NewHolder n check)).fresh) (eqb-true k (s.holders_made + 1) t) i) h
-row_news s (NewFolder f p) r t ok i h = moves.new_folder s r ok.counted (subst (λ n. In r (change_of s (NewFolder n p)).fresh) (number_told s (s.folders_made + 1) f p t).0 i) h
-row_news s (NewFile x f) r t ok i h = moves.new_file s r ok.counted (subst (λ n. In r (change_of s (NewFile n f)).fresh) (number_told s (s.files_made + 1) x f t).0 i) h
-row_news s (Rewrite x) r t ok i h = i
-row_news s (NameFile x) r t ok i h = i
-row_news s (NameFolder f) r t ok i h = i
-row_news s (DropFile x) r t ok i h = i
-row_news s (DropFolder f) r t ok i h = i
-row_news s (ShiftFile x g) r t ok i h = i
-row_news s (ShiftFolder g q) r t ok i h = i
-row_news s (Give k f) r t ok i h = i
-row_news s (Take k f) r t ok i h = i
+row_news : (strict : Bool) (s : Store) (note : Note) (r : Role) → row_fits strict s note ≡ true → IsRooted s → In r (row_change s note).fresh → HasRole s r → ⊥
+unfolding row_fits row_change no_change
+row_news strict s Root r t ok i h = no_second s ok t
+row_news strict s (NewHolder k check) r t ok i h = moves.new_holder s r ok.counted (subst (λ n. In r (row_change s (NewHolder n check)).fresh) (eqb-true k (s.holders_made + 1) t) i) h
+row_news strict s (NewFolder f p) r t ok i h = moves.new_folder s r ok.counted (subst (λ n. In r (row_change s (NewFolder n p)).fresh) (number_told s (s.folders_made + 1) f p t).0 i) h
+row_news strict s (NewFile x f) r t ok i h = moves.new_file s r ok.counted (subst (λ n. In r (row_change s (NewFile n f)).fresh) (number_told s (s.files_made + 1) x f t).0 i) h
+row_news strict s (Rewrite x) r t ok i h = i
+row_news strict s (NameFile x) r t ok i h = i
+row_news strict s (NameFolder f) r t ok i h = i
+row_news strict s (DropFile x) r t ok i h = i
+row_news strict s (DropFolder f) r t ok i h = i
+row_news strict s (ShiftFile x g) r t ok i h = i
+row_news strict s (ShiftFolder g q) r t ok i h = i
+row_news strict s (Give k f) r t ok i h = i
+row_news strict s (Take k f) r t ok i h = i
+row_news strict s StrictRoot r t ok i h = no_second s ok t
+row_news strict s Upgrade r t ok i h = i
 
-row_moves : (s : Store) (note : Note) → row_fits s note ≡ true → IsRooted s → IsMove s (change_of s note) (told_store s note)
-row_moves s note t ok = record {
-  leads = row_leads s note t ok;
-  roles = row_roles s note t ok;
-  removed_stand = λ e i. row_removes s note e t ok i;
-  fresh_is_new = λ r i h. row_news s note r t ok i h;
+row_moves : (strict : Bool) (s : Store) (note : Note) → row_fits strict s note ≡ true → IsRooted s → IsRowMove s (row_change s note) (told_store s note)
+row_moves strict s note t ok = record {
+  leads = row_leads strict s note t ok;
+  roles = row_roles strict s note t ok;
+  removed_stand = λ e i. row_removes strict s note e t ok i;
+  fresh_is_new = λ r i h. row_news strict s note r t ok i h;
   fresh_stays = λ r f g. moves.fresh_stays s note r f g;
   sources = λ e i. moves.sources s note e i;
   ends_before = λ e w. moves.ends s ok e w;
-  ends_after = λ e w. moves.ends (told_store s note) (row_rooted s note t ok) e w;
+  ends_after = λ e w. moves.ends (told_store s note) (row_rooted strict s note t ok) e w;
 }
 
--- where nothing was ever made, the root alone fits
-root_alone : (note : Note) → (not (needs_root note) || folder_stands no_store 1) ≡ true → note ≡ Root
+-- where nothing was ever made, a note that makes the root alone fits
+root_alone : (note : Note) → (not (needs_root note) || folder_stands no_store 1) ≡ true → (note ≡ Root) ⊎ (note ≡ StrictRoot)
 unfolding needs_root folder_stands folder_entry no_store
-root_alone Root t = refl
+root_alone Root t = inl refl
 root_alone (NewHolder h check) t = absurd (false≢true t)
 root_alone (NewFolder f p) t = absurd (false≢true t)
 root_alone (NewFile x f) t = absurd (false≢true t)
@@ -286,32 +301,50 @@ root_alone (ShiftFile x g) t = absurd (false≢true t)
 root_alone (ShiftFolder g q) t = absurd (false≢true t)
 root_alone (Give h f) t = absurd (false≢true t)
 root_alone (Take h f) t = absurd (false≢true t)
+root_alone StrictRoot t = inr refl
+root_alone Upgrade t = absurd (false≢true t)
 
 -- so is each note that fits, whatever stands
-parts : (s : Store) (note : Note) → fits s note ≡ true → (row_fits s note ≡ true) × ((not (needs_root note) || folder_stands s 1) ≡ true)
+parts : (strict : Bool) (s : Store) (note : Note) → fits strict s note ≡ true
+    → (row_fits strict s note ≡ true) × ((not (needs_root note) || folder_stands s 1) ≡ true)
 unfolding fits
-parts s note t = and_parts (row_fits s note) (not (needs_root note) || folder_stands s 1) t
+parts strict s note t = and_parts (row_fits strict s note) (not (needs_root note) || folder_stands s 1) t
 
-pub first_is_root : (s : Store) (note : Note) → fits s note ≡ true → s ≡ no_store → note ≡ Root
-first_is_root s note t e = root_alone note (subst (λ z. (not (needs_root note) || folder_stands z 1) ≡ true) e (parts s note t).1)
+pub first_is_root : (strict : Bool) (s : Store) (note : Note) → fits strict s note ≡ true → s ≡ no_store → (note ≡ Root) ⊎ (note ≡ StrictRoot)
+first_is_root strict s note t e = root_alone note (subst (λ z. (not (needs_root note) || folder_stands z 1) ≡ true) e (parts strict s note t).1)
 
-pub root_once : (s : Store) → IsRooted s → fits s Root ≡ false
-root_once s ok = false_from_ne_true (fits s Root) (λ t. no_second s ok (root_row s (parts s Root t).0))
+pub root_once : (strict : Bool) (s : Store) → IsRooted s → fits strict s Root ≡ false
+root_once strict s ok = false_from_ne_true (fits strict s Root) (λ t. no_second s ok (root_row strict s (parts strict s Root t).0))
 
-root_told : (s : Store) → told_store s Root ≡ root_store
+pub strict_root_once : (strict : Bool) (s : Store) → IsRooted s → fits strict s StrictRoot ≡ false
+strict_root_once strict s ok = false_from_ne_true (fits strict s StrictRoot) (λ t. no_second s ok (strict_root_row strict s (parts strict s StrictRoot t).0))
+
+root_moves : (s : Store) → s ≡ no_store → IsRowMove s (row_change s Root) (told_store s Root)
+unfolding told_store row_change
+root_moves s e = subst (λ z. IsRowMove z (row_change z Root) root_store) (sym e) (moves.root_row 1)
+
+strict_root_moves : (s : Store) → s ≡ no_store → IsRowMove s (row_change s StrictRoot) (told_store s StrictRoot)
+unfolding told_store row_change
+strict_root_moves s e = subst (λ z. IsRowMove z (row_change z StrictRoot) root_store) (sym e) (moves.root_row 2)
+
+first_moves : (s : Store) (note : Note) → s ≡ no_store → (note ≡ Root) ⊎ (note ≡ StrictRoot) → IsRowMove s (row_change s note) (told_store s note)
+first_moves s note e which = ⊎_elim
+    (λ (q : note ≡ Root). subst (λ n. IsRowMove s (row_change s n) (told_store s n)) (sym q) (root_moves s e))
+    (λ (q : note ≡ StrictRoot). subst (λ n. IsRowMove s (row_change s n) (told_store s n)) (sym q) (strict_root_moves s e)) which
+
+pub note_moves : (strict : Bool) (s : Store) (note : Note) → fits strict s note ≡ true → MayStand s → IsMove s (change_of strict s note) (told_store s note)
+note_moves strict s note t ok = strict_moves strict s (told_store s note) note (⊎_elim
+    (λ e. first_moves s note e (first_is_root strict s note t e))
+    (λ rooted. row_moves strict s note (parts strict s note t).0 rooted) ok)
+
+root_told : (s : Store) → IsRooted (told_store s Root) × IsRooted (told_store s StrictRoot)
 unfolding told_store
-root_told s = refl
+root_told s = (moves.root_rooted, moves.root_rooted)
 
-root_moves : (s : Store) → s ≡ no_store → IsMove s (change_of s Root) (told_store s Root)
-unfolding told_store
-root_moves s e = subst (λ z. IsMove z (change_of z Root) root_store) (sym e) moves.root_moves
-
-pub note_moves : (s : Store) (note : Note) → fits s note ≡ true → MayStand s → IsMove s (change_of s note) (told_store s note)
-note_moves s note t ok = ⊎_elim
-    (λ e. subst (λ n. IsMove s (change_of s n) (told_store s n)) (sym (first_is_root s note t e)) (root_moves s e))
-    (λ rooted. row_moves s note (parts s note t).0 rooted) ok
-
-pub note_rooted : (s : Store) (note : Note) → fits s note ≡ true → MayStand s → IsRooted (told_store s note)
-note_rooted s note t ok = ⊎_elim
-    (λ e. subst (λ n. IsRooted (told_store s n)) (sym (first_is_root s note t e)) (subst IsRooted (sym (root_told s)) moves.root_rooted))
-    (λ rooted. row_rooted s note (parts s note t).0 rooted) ok
+pub note_rooted : (strict : Bool) (s : Store) (note : Note) → fits strict s note ≡ true → MayStand s → IsRooted (told_store s note)
+note_rooted strict s note t ok = ⊎_elim
+    (λ e. ⊎_elim
+    (λ (q : note ≡ Root). subst (λ n. IsRooted (told_store s n)) (sym q) (root_told s).0)
+    (λ (q : note ≡ StrictRoot). subst (λ n. IsRooted (told_store s n)) (sym q) (root_told s).1)
+    (first_is_root strict s note t e))
+    (λ rooted. row_rooted strict s note (parts strict s note t).0 rooted) ok

@@ -1,5 +1,5 @@
 -- The note of a command that isn't refused fits.
-use Rattle.std.proofs.Common.{◌≡◌, ℕ, suc, ◌+◌, ◌≤◌, true, false, not, ◌==◌, ◌&&◌, ◌||◌, List, [], Option, Some, None, refl, sym, ap, ◌∙◌, subst, arith}
+use Rattle.std.proofs.Common.{◌≡◌, ℕ, suc, ◌+◌, ◌≤◌, Bool, true, false, not, ◌==◌, ◌&&◌, ◌||◌, List, [], Option, Some, None, refl, sym, ap, ◌∙◌, subst, arith}
 use Rattle.std.specs.Prelude.{is_none, is_some, nat_lt, nat_le}
 use Rattle.std.proofs.lemmas.Bool.{and_from, or_right, or_parts, false≢true, not-false, not_from_false, ne_eqb, eq-eqb, lt-ltb, le-leb, ltb-false}
 use Rattle.cry_base.specs.Naming.{parent_path, is_root_path}
@@ -36,10 +36,10 @@ depth_left s n f ok l h =
     and_from (folder_stands s f) (nat_lt (depth_of s (folder_node f)) 64) (stands_at s n f ok l) (lt-ltb (depth_of s (folder_node f)) 64 (omega arith))
 
 -- where its row does, the root stands, and so the note fits
-pub rest_fits : (s : Store) (note : Note) → HasTree s → row_fits s note ≡ true → fits s note ≡ true
+pub rest_fits : (strict : Bool) (s : Store) (note : Note) → HasTree s → row_fits strict s note ≡ true → fits strict s note ≡ true
 unfolding fits
-rest_fits s note ok t =
-    and_from (row_fits s note) (not (needs_root note) || folder_stands s 1) t
+rest_fits strict s note ok t =
+    and_from (row_fits strict s note) (not (needs_root note) || folder_stands s 1) t
     (or_right (not (needs_root note)) (folder_stands s 1) (stands_at s 0 1 ok ok.root_stands))
 
 file_there : (s : Store) (path : List ℕ) (x : ℕ) (o : Option Node) → HasTree s → node_at s path ≡ o → o ≡ Some (File (record { 0 = x })) → file_stands s x ≡ true
@@ -55,33 +55,33 @@ other_folder s path f ok e r =
     and_from (is_some (folder_entry s f)) (not (f == 1)) (some_is (folder_entry s f) w.0 (folder_own s w.0 f ok w.1 w.2))
     (not_from_false (f == 1) (ne_eqb f 1 (other_than_root s path f ok (unfold folder_node in e) r)))
 
-written_fits : (s : Store) (path bytes : List ℕ) (o : Option Node) → HasTree s → IsAccepted s (WriteFile path bytes) → node_at s path ≡ o → is_folder o ≡ false → row_fits s (write_note s o (id_of (node_at s (parent_path path)))) ≡ true
+written_fits : (strict : Bool) (s : Store) (path bytes : List ℕ) (o : Option Node) → HasTree s → IsAccepted s (WriteFile path bytes) → node_at s path ≡ o → is_folder o ≡ false → row_fits strict s (write_note s o (id_of (node_at s (parent_path path)))) ≡ true
 unfolding write_note row_fits is_folder
-written_fits s path bytes None ok a e t =
+written_fits strict s path bytes None ok a e t =
     let w = written_place s path bytes ok a e in
     and_from (s.files_made + 1 == s.files_made + 1) (has_depth_left s (id_of (node_at s (parent_path path)))) (eq-eqb (s.files_made + 1) (s.files_made + 1) refl)
     (depth_left s w.level (id_of (node_at s (parent_path path))) ok w.stands w.below)
-written_fits s path bytes (Some (Folder f)) ok a e t = absurd (false≢true (sym t))
-written_fits s path bytes (Some (File x)) ok a e t = file_there s path x.0 (Some (File x)) ok e refl
+written_fits strict s path bytes (Some (Folder f)) ok a e t = absurd (false≢true (sym t))
+written_fits strict s path bytes (Some (File x)) ok a e t = file_there s path x.0 (Some (File x)) ok e refl
 
-removed_fits : (s : Store) (path : List ℕ) (o : Option Node) → HasTree s → node_at s path ≡ o → is_none o ≡ false → is_root_path path ≡ false → (is_folder o && has_child s (id_of o)) ≡ false → row_fits s (remove_note o) ≡ true
+removed_fits : (strict : Bool) (s : Store) (path : List ℕ) (o : Option Node) → HasTree s → node_at s path ≡ o → is_none o ≡ false → is_root_path path ≡ false → (is_folder o && has_child s (id_of o)) ≡ false → row_fits strict s (remove_note o) ≡ true
 unfolding remove_note row_fits is_folder id_of folder_node
-removed_fits s path None ok e some r t = absurd (false≢true (sym some))
-removed_fits s path (Some (Folder f)) ok e some r t =
+removed_fits strict s path None ok e some r t = absurd (false≢true (sym some))
+removed_fits strict s path (Some (Folder f)) ok e some r t =
     and_from (is_other_folder s f.0) (not (has_child s f.0)) (other_folder s path f.0 ok e r) (not_from_false (has_child s f.0) t)
-removed_fits s path (Some (File x)) ok e some r t = file_there s path x.0 (Some (File x)) ok e refl
+removed_fits strict s path (Some (File x)) ok e some r t = file_there s path x.0 (Some (File x)) ok e refl
 
-renamed_fits : (s : Store) (path : List ℕ) (o : Option Node) → HasTree s → node_at s path ≡ o → is_none o ≡ false → is_root_path path ≡ false → row_fits s (rename_note o) ≡ true
+renamed_fits : (strict : Bool) (s : Store) (path : List ℕ) (o : Option Node) → HasTree s → node_at s path ≡ o → is_none o ≡ false → is_root_path path ≡ false → row_fits strict s (rename_note o) ≡ true
 unfolding rename_note row_fits folder_node
-renamed_fits s path None ok e some r = absurd (false≢true (sym some))
-renamed_fits s path (Some (Folder f)) ok e some r = other_folder s path f.0 ok e r
-renamed_fits s path (Some (File x)) ok e some r = file_there s path x.0 (Some (File x)) ok e refl
+renamed_fits strict s path None ok e some r = absurd (false≢true (sym some))
+renamed_fits strict s path (Some (Folder f)) ok e some r = other_folder s path f.0 ok e r
+renamed_fits strict s path (Some (File x)) ok e some r = file_there s path x.0 (Some (File x)) ok e refl
 
 -- what is moved isn't in the folder already, since the name is free there
-moved_fits : (s : Store) (path : List ℕ) (o : Option Node) (q k : ℕ) → HasTree s → node_at s path ≡ o → is_none o ≡ false → is_root_path path ≡ false → AtLevel k s.folders q → holds_name s q (name_of s o) ≡ false → (is_folder o && is_within s q (id_of o)) ≡ false → k + 1 + height_of s o ≤ 64 → row_fits s (move_note o q) ≡ true
+moved_fits : (strict : Bool) (s : Store) (path : List ℕ) (o : Option Node) (q k : ℕ) → HasTree s → node_at s path ≡ o → is_none o ≡ false → is_root_path path ≡ false → AtLevel k s.folders q → holds_name s q (name_of s o) ≡ false → (is_folder o && is_within s q (id_of o)) ≡ false → k + 1 + height_of s o ≤ 64 → row_fits strict s (move_note o q) ≡ true
 unfolding move_note row_fits may_go_into name_of is_folder id_of folder_node folder_of_file parent_of_folder
-moved_fits s path None q k ok e some r at t outside limit = absurd (false≢true (sym some))
-moved_fits s path (Some (Folder f)) q k ok e some r at t outside limit =
+moved_fits strict s path None q k ok e some r at t outside limit = absurd (false≢true (sym some))
+moved_fits strict s path (Some (Folder f)) q k ok e some r at t outside limit =
     let w = node_stands s (Folder f) (node_found s path (Folder f) e).0 in
     let entry = folder_own s w.0 f.0 ok w.1 w.2 in
     let parent : elim (folder_entry s f.0) [ None ↦ 0 | Some e ↦ e.parent ] ≡ w.0.parent = ap (λ o. elim o as (λ z. ℕ) [ None ↦ 0 | Some e ↦ e.parent ]) entry in
@@ -96,7 +96,7 @@ moved_fits s path (Some (Folder f)) q k ok e some r at t outside limit =
     (not_from_false (parent_of_folder s f.0 == q) other))
     (not_from_false (is_within s q f.0) outside))
     (le-leb (depth_of s (folder_node q) + 1 + height_of s (Some (folder_node f.0))) 64 (subst (λ d. d + 1 + height_of s (Some (folder_node f.0)) ≤ 64) (sym depth) low))
-moved_fits s path (Some (File x)) q k ok e some r at t outside limit =
+moved_fits strict s path (Some (File x)) q k ok e some r at t outside limit =
     let w = node_stands s (File x) (node_found s path (File x) e).0 in
     let entry = file_own s w.0 x.0 ok w.1 w.2 in
     let folder : folder_of_file s x.0 ≡ w.0.folder = ap (λ o. elim o as (λ z. ℕ) [ None ↦ 0 | Some e ↦ e.folder ]) entry in
@@ -111,29 +111,29 @@ some_from : {X : Type 0} (o : Option X) → is_none o ≡ false → is_some o �
 some_from None t = absurd (false≢true (sym t))
 some_from (Some x) t = refl
 
-pub note_fits : (s : Store) (r : Request) (check : List ℕ) → HasTree s → IsAccepted s r → row_fits s (note_of s r check) ≡ true
+pub note_fits : (strict : Bool) (s : Store) (r : Request) (check : List ℕ) → HasTree s → IsAccepted s r → row_fits strict s (note_of s r check) ≡ true
 unfolding note_of row_fits finds_no_path changes_root needs_folder writes_folder finds_name_taken removes_children moves_into_itself goes_too_deep depth_at finds_no_holder grants_again revokes_nothing paths_of
-note_fits s AddHolder check ok a = eq-eqb (s.holders_made + 1) (s.holders_made + 1) refl
-note_fits s (MakeFolder path) check ok a =
+note_fits strict s AddHolder check ok a = eq-eqb (s.holders_made + 1) (s.holders_made + 1) refl
+note_fits strict s (MakeFolder path) check ok a =
     let w = made_place s path ok a in
     and_from (s.folders_made + 1 == s.folders_made + 1) (has_depth_left s (id_of (node_at s (parent_path path)))) (eq-eqb (s.folders_made + 1) (s.folders_made + 1) refl)
     (depth_left s w.level (id_of (node_at s (parent_path path))) ok w.stands w.below)
-note_fits s (WriteFile path bytes) check ok a = written_fits s path bytes (node_at s path) ok a refl a.writes_file
-note_fits s (Remove path) check ok a = removed_fits s path (node_at s path) ok refl (or_parts (is_none (node_at s path)) false a.finds_path).0 a.other_root a.childless
-note_fits s (Rename path name) check ok a = renamed_fits s path (node_at s path) ok refl (or_parts (is_none (node_at s path)) false a.finds_path).0 a.other_root
-note_fits s (Relocate path into) check ok a =
+note_fits strict s (WriteFile path bytes) check ok a = written_fits strict s path bytes (node_at s path) ok a refl a.writes_file
+note_fits strict s (Remove path) check ok a = removed_fits strict s path (node_at s path) ok refl (or_parts (is_none (node_at s path)) false a.finds_path).0 a.other_root a.childless
+note_fits strict s (Rename path name) check ok a = renamed_fits strict s path (node_at s path) ok refl (or_parts (is_none (node_at s path)) false a.finds_path).0 a.other_root
+note_fits strict s (Relocate path into) check ok a =
     let finds = or_parts (is_none (node_at s path)) (is_none (node_at s into) || false) a.finds_path in
     let w = into_level s into (node_at s into) ok refl (or_parts (is_none (node_at s into)) false finds.1).0 a.in_folder in
     let deep : depth_at s into + 1 + height_of s (node_at s path) ≤ 64 = ltb-false 64 (depth_at s into + 1 + height_of s (node_at s path)) a.not_deep in
     let level : depth_at s into ≡ w.0 = w.2 in
-    moved_fits s path (node_at s path) (id_of (node_at s into)) w.0 ok refl finds.0 a.other_root w.1 a.finds_free a.outside (omega arith)
-note_fits s (Grant h path) check ok a =
+    moved_fits strict s path (node_at s path) (id_of (node_at s into)) w.0 ok refl finds.0 a.other_root w.1 a.finds_free a.outside (omega arith)
+note_fits strict s (Grant h path) check ok a =
     let w = into_level s path (node_at s path) ok refl (or_parts (is_none (node_at s path)) false a.finds_path).0 a.in_folder in
     and_from (is_some (holder_entry s h) && folder_stands s (id_of (node_at s path))) (not (has_grant s h (id_of (node_at s path))))
     (and_from (is_some (holder_entry s h)) (folder_stands s (id_of (node_at s path))) (some_from (holder_entry s h) a.holder) (stands_at s w.0 (id_of (node_at s path)) ok w.1))
     (not_from_false (has_grant s h (id_of (node_at s path))) a.new_grant)
-note_fits s (Revoke h path) check ok a = not-false (has_grant s h (id_of (node_at s path))) a.old_grant
+note_fits strict s (Revoke h path) check ok a = not-false (has_grant s h (id_of (node_at s path))) a.old_grant
 
-pub journal_fits : (m : Journal) → IsValid m → (r : Request) (check : List ℕ) (n : ℕ) → refusal_of (store_of m) r n ≡ None → fits (store_of m) (note_of (store_of m) r check) ≡ true
-journal_fits m v r check n e =
-    let ok = journal_tree m v in rest_fits (store_of m) (note_of (store_of m) r check) ok (note_fits (store_of m) r check ok (accepted (store_of m) r n e))
+pub journal_fits : (strict : Bool) (m : Journal) → IsValid m → (r : Request) (check : List ℕ) (n : ℕ) → refusal_of (store_of m) r n ≡ None → fits strict (store_of m) (note_of (store_of m) r check) ≡ true
+journal_fits strict m v r check n e =
+    let ok = journal_tree m v in rest_fits strict (store_of m) (note_of (store_of m) r check) ok (note_fits strict (store_of m) r check ok (accepted (store_of m) r n e))

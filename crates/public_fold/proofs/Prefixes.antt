@@ -5,7 +5,7 @@ use Rattle.std.proofs.lemmas.List.Sums.{sum_by-append}
 use Rattle.cry_base.specs.Layout.{batch_len, header_len}
 use Rattle.cry_base.specs.Limits.{most_store_bytes}
 use Rattle.public_fold.specs.Journal.{Entry, Journal, Stand, nothing, entry_step, stand_then, stand_after, steps_from, steps_of}
-use Rattle.public_fold.specs.Journal.Entry.{Session, Made, Did}
+use Rattle.public_fold.specs.Journal.Entry.{Session, Made, Did, Upgraded}
 use Rattle.public_fold.specs.Lengths.{entry_payload, payloads_from, end_of}
 use Rattle.public_fold.specs.Valid.{FollowOn, BeginsWell, IsValid}
 
@@ -46,9 +46,11 @@ begins_front : (m more : Journal) → 2 ≤ length m → BeginsWell (m ++ more) 
 begins_front [] more h b = absurd (omega arith)
 begins_front (Session ∷ []) more h b = absurd (omega arith)
 begins_front (Session ∷ Session ∷ es) more h b = b
-begins_front (Session ∷ Made keys ∷ es) more h b = (b.0, follow_front (stand_then (stand_then nothing Session) (Made keys)) es more b.1)
+begins_front (Session ∷ Made version keys ∷ es) more h b = (b.0, follow_front (stand_then (stand_then nothing Session) (Made version keys)) es more b.1, b.2)
 begins_front (Session ∷ Did request keys ∷ es) more h b = b
-begins_front (Made keys ∷ es) more h b = b
+begins_front (Session ∷ Upgraded keys ∷ es) more h b = b
+begins_front (Made version keys ∷ es) more h b = b
+begins_front (Upgraded keys ∷ es) more h b = b
 begins_front (Did request keys ∷ es) more h b = b
 
 pub prefix_valid : (m more : Journal) → 2 ≤ length m → IsValid (m ++ more) → IsValid m

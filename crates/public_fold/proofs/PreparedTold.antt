@@ -6,13 +6,13 @@ use Rattle.cry_base.specs.Store.{Store, GrantEntry}
 use Rattle.record_format.specs.Told.{told_note}
 use Rattle.record_format.specs.declared.note.Note.{Note as Declared}
 use Rattle.record_format.specs.declared.note.Note.TheVariants as declared
-use Rattle.move_plan.specs.Change.{change_of}
+use Rattle.move_plan.specs.Change.{change_of, is_upgrade, row_change, strict_of}
 use Rattle.move_plan.specs.Fitting.{fits, needs_root, row_fits}
 use Rattle.move_plan.specs.Seen.{keyless, seen_store}
 use Rattle.public_fold.specs.Changing.{checks_then, pairs_then, tree_then}
 use Rattle.public_fold.specs.Fitted.{told_stand, told_step}
 use Rattle.public_fold.specs.Journal.{Stand, note_step}
-use Rattle.public_fold.specs.KeyStep.{KeyState}
+use Rattle.public_fold.specs.KeyStep.{KeyState, is_strict}
 use Rattle.public_fold.specs.Preparing.{CanSettle, PreparedView, begun, begun_keys, begun_view, root_made, settled, with_check}
 use Rattle.public_fold.specs.Records.{pieces_of}
 use Rattle.public_fold.specs.Standing.{IsPublicOf, IsSeenAs, PublicView, public_store_of}
@@ -22,21 +22,23 @@ pub begun_seen : (new : Bool) (v : PublicView) (at : Stand) → IsSeenAs v at �
 begun_seen new v at sees = record { store = sees.store; grants = sees.grants; keys = ap (begun_keys new) sees.keys }
 
 -- whether the note fits hangs on no check
-pub check_fits : (s : Store) (n : Declared) (check : List ℕ) → fits s (told_note (with_check n check)) ≡ fits s (told_note n)
+pub check_fits : (strict : Bool) (s : Store) (n : Declared) (check : List ℕ) → fits strict s (told_note (with_check n check)) ≡ fits strict s (told_note n)
 unfolding told_note fits row_fits needs_root
-check_fits s (declared.NewHolder holder old) check = refl
-check_fits s declared.Root check = refl
-check_fits s (declared.NewFolder folder parent) check = refl
-check_fits s (declared.NewFile file folder) check = refl
-check_fits s (declared.Rewrite file) check = refl
-check_fits s (declared.NameFile file) check = refl
-check_fits s (declared.NameFolder folder) check = refl
-check_fits s (declared.DropFile file) check = refl
-check_fits s (declared.DropFolder folder) check = refl
-check_fits s (declared.ShiftFile file into) check = refl
-check_fits s (declared.ShiftFolder folder into) check = refl
-check_fits s (declared.Give holder folder) check = refl
-check_fits s (declared.Take holder folder) check = refl
+check_fits strict s (declared.NewHolder holder old) check = refl
+check_fits strict s declared.Root check = refl
+check_fits strict s (declared.NewFolder folder parent) check = refl
+check_fits strict s (declared.NewFile file folder) check = refl
+check_fits strict s (declared.Rewrite file) check = refl
+check_fits strict s (declared.NameFile file) check = refl
+check_fits strict s (declared.NameFolder folder) check = refl
+check_fits strict s (declared.DropFile file) check = refl
+check_fits strict s (declared.DropFolder folder) check = refl
+check_fits strict s (declared.ShiftFile file into) check = refl
+check_fits strict s (declared.ShiftFolder folder into) check = refl
+check_fits strict s (declared.Give holder folder) check = refl
+check_fits strict s (declared.Take holder folder) check = refl
+check_fits strict s declared.StrictRoot check = refl
+check_fits strict s declared.Upgrade check = refl
 
 pub check_root : (n : Declared) (check : List ℕ) → root_made (told_note n) ≡ root_made (told_note (with_check n check))
 unfolding told_note
@@ -53,10 +55,12 @@ check_root (declared.ShiftFile file into) check = refl
 check_root (declared.ShiftFolder folder into) check = refl
 check_root (declared.Give holder folder) check = refl
 check_root (declared.Take holder folder) check = refl
+check_root declared.StrictRoot check = refl
+check_root declared.Upgrade check = refl
 
 -- nor does what stands after it
 pub check_told : (n : Declared) (check : List ℕ) (at : Stand) → told_stand at (told_note (with_check n check)) ≡ told_stand at (told_note n)
-unfolding told_note told_stand told_step note_step told_store change_of pieces_of
+unfolding told_note told_stand told_step note_step told_store change_of row_change strict_of is_upgrade pieces_of
 check_told (declared.NewHolder holder old) check at = refl
 check_told declared.Root check at = refl
 check_told (declared.NewFolder folder parent) check at = refl
@@ -70,6 +74,8 @@ check_told (declared.ShiftFile file into) check at = refl
 check_told (declared.ShiftFolder folder into) check at = refl
 check_told (declared.Give holder folder) check at = refl
 check_told (declared.Take holder folder) check at = refl
+check_told declared.StrictRoot check at = refl
+check_told declared.Upgrade check at = refl
 
 -- the store as everyone may see it after a note
 abbrev pub seen_then : PublicView → Declared → Store
@@ -99,9 +105,11 @@ check_seen v (declared.ShiftFile file into) check k at sees = sees
 check_seen v (declared.ShiftFolder folder into) check k at sees = sees
 check_seen v (declared.Give holder folder) check k at sees = sees
 check_seen v (declared.Take holder folder) check k at sees = sees
+check_seen v declared.StrictRoot check k at sees = sees
+check_seen v declared.Upgrade check k at sees = sees
 
 -- what can be made with one note can be made with another that fits alike, and leaves the same
-pub can_with : (v : PublicView) (old new : PreparedView) → fits (public_store_of v) (told_note new.note) ≡ fits (public_store_of v) (told_note old.note)
+pub can_with : (v : PublicView) (old new : PreparedView) → fits (is_strict v.keys) (public_store_of v) (told_note new.note) ≡ fits (is_strict v.keys) (public_store_of v) (told_note old.note)
     → ((at : Stand) → told_stand at (told_note new.note) ≡ told_stand at (told_note old.note)) → ((at : Stand) → IsSeenAs (settled v old) at → IsSeenAs (settled v new) at)
     → CanSettle v old → CanSettle v new
 can_with v old new fit told seen can = record {

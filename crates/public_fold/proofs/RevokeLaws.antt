@@ -9,23 +9,24 @@ use Rattle.cry_base.specs.Stepping.{without_grant}
 use Rattle.cry_base.specs.Store.{Store, FolderEntry, FileEntry, GrantEntry}
 use Rattle.cry_base.specs.declared.roles.Edge.{Edge}
 use Rattle.cry_base.specs.declared.roles.Role.{Role}
-use Rattle.cry_base.proofs.Members.{In-filter, In-map, filter-In}
+use Rattle.cry_base.proofs.Members.{In-append, In-filter, In-map, filter-In}
 use Rattle.role_graph.specs.Ascending.{IsAscending}
 use Rattle.role_graph.specs.Edges.{Reaches, edge, edge_before, edges, file_edge, folder_edges, grant_edge, in_order, pairs_of, parent_edges, same_edge}
 use Rattle.role_graph.specs.Roles.{back_of, clear_of, data_of, file_role, files_of, holder_role, is_clear_role, is_root_role, role_id, same_role, sub_of, variant_of}
-use Rattle.role_graph.proofs.Rising.{ascending_ascends, same_list}
+use Rattle.role_graph.proofs.Rising.{ascending_ascends, ascending_told, same_list}
 use Rattle.role_graph.proofs.Typing.{typed}
 use Rattle.rekey_walk.specs.Dirty.{mark_all, plan}
 use Rattle.rekey_walk.proofs.Marking.{mark_all_told, plan_told}
+use Rattle.rekey_walk.proofs.Sources.{strict_told}
 use Rattle.record_format.specs.Noted.Note.{Take}
-use Rattle.move_plan.specs.Change.{change_of, no_change}
+use Rattle.move_plan.specs.Change.{change_of, is_upgrade, no_change, row_change, strict_of}
 use Rattle.public_fold.specs.Fitted.{told_step}
 use Rattle.public_fold.specs.Journal.{Stand, note_step}
-use Rattle.public_fold.specs.KeyStep.{KeyState, contents_from, dirty_left, edges_left, edges_then, given, is_published, key_step, next_serial, numbered, published, published_edges, renewed, step_with, without}
+use Rattle.public_fold.specs.KeyStep.{KeyState, contents_from, dirty_left, edges_left, edges_then, given, is_published, is_strict, key_step, planned, next_serial, numbered, published, published_edges, renewed, step_with, without}
 use Rattle.public_fold.specs.Records.{pieces_of}
 use Rattle.public_fold.specs.Told.{told_store}
 use Rattle.public_fold.proofs.EdgesThen.{left_told}
-use Rattle.public_fold.proofs.GrantLaws.{as_many_links, order_counts}
+use Rattle.public_fold.proofs.GrantLaws.{as_many_links, order_counts, published_as}
 use Rattle.public_fold.proofs.SameOrder.{edge_of_grant, filter_made}
 
 -- ---- one key is renewed
@@ -61,36 +62,60 @@ clear_is_clear : (f : ℕ) → is_clear_role (clear_of f) ≡ true
 unfolding is_clear_role variant_of clear_of
 clear_is_clear f = refl
 
-module _ (s : Store) (k : KeyState) (h f : ℕ) (clean : (r : Role) → In r k.dirty → is_root_role r ≡ false) where
-  left_no_root : (r : Role) → In r (dirty_left k (edges s) (change_of s (Take h f))) → is_root_role r ≡ false
-  unfolding dirty_left without change_of no_change grant_edge edge
+-- nothing but a root leads to a root, so no role is strict for a revocation
+roots_alone : (s : Store) (r x : Role) → is_root_role x ≡ true → Reaches (edges s) r x → is_root_role r ≡ true
+unfolding pairs_of
+roots_alone s r _ t Here = t
+roots_alone s r _ t (On {b = b} {c = c} way step) =
+    let w = (In-map Edge (Role × Role) (λ (e : Edge). (e.from, e.to)) (b, c) (edges s)).0 step in
+    absurd (false≢true (sym (typed s w.0 w.1).0 ∙ subst (λ z. is_root_role z ≡ true) (ap (λ (p : Role × Role). p.1) w.2) t))
+
+holder_is_root : (h f : ℕ) (e : Edge) → In e (grant_edge h f ∷ []) → is_root_role e.from ≡ true
+unfolding grant_edge edge holder_role is_root_role variant_of
+holder_is_root h f e i = ⊎_elim (λ q. ap (λ (x : Edge). is_root_role x.from) q) (λ n. absurd n) i
+
+take_strict : (strict : Bool) (s : Store) (h f : ℕ) (r : Role) → In r (change_of strict s (Take h f)).strict → ⊥
+unfolding change_of strict_of is_upgrade row_change no_change
+take_strict true s h f r i =
+    let w = (strict_told (edges s) (grant_edge h f ∷ []) [] r).0 i in
+    false≢true (sym w.1.0 ∙ roots_alone s r w.0.0.from (holder_is_root h f w.0.0 w.0.1) w.0.2)
+take_strict false s h f r i = i
+
+module _ (strict : Bool) (s : Store) (k : KeyState) (h f : ℕ) (clean : (r : Role) → In r k.dirty → is_root_role r ≡ false) where
+  left_no_root : (r : Role) → In r (dirty_left k (edges s) (change_of strict s (Take h f))) → is_root_role r ≡ false
+  unfolding dirty_left without change_of row_change no_change grant_edge edge
   left_no_root r i =
       let marked = (In-filter Role (λ x. not (has same_role [] x)) r (mark_all k.dirty (edges s) (clear_of f ∷ [])) i).0 in
       ⊎_elim (λ d. clean r d)
       (λ w. stays_no_root s w.0 r (⊎_elim (λ (e : w.0 ≡ clear_of f). subst (λ z. is_root_role z ≡ false) (sym e) (clear_no_root f)) (λ n. absurd n) w.1) w.2)
       ((mark_all_told k.dirty (edges s) (clear_of f ∷ []) r).0 marked)
 
-  clear_left : In (clear_of f) (dirty_left k (edges s) (change_of s (Take h f)))
-  unfolding dirty_left without change_of no_change grant_edge edge has
+  clear_left : In (clear_of f) (dirty_left k (edges s) (change_of strict s (Take h f)))
+  unfolding dirty_left without change_of row_change no_change grant_edge edge has
   clear_left =
       filter-In Role (λ x. not (has same_role [] x)) (clear_of f) (mark_all k.dirty (edges s) (clear_of f ∷ []))
       ((mark_all_told k.dirty (edges s) (clear_of f ∷ []) (clear_of f)).1 (inr (clear_of f, inl refl, Here))) refl
 
-  renewed_rises : IsAscending (renewed k (edges s) (change_of s (Take h f)))
-  unfolding renewed plan
+  renewed_rises : IsAscending (renewed k (edges s) (change_of strict s (Take h f)))
+  unfolding renewed
   renewed_rises = ascending_ascends _
 
-  pub one_renewed : renewed k (edges s) (change_of s (Take h f)) ≡ clear_of f ∷ []
-  unfolding renewed change_of no_change
+  pub one_renewed : renewed k (edges s) (change_of strict s (Take h f)) ≡ clear_of f ∷ []
+  unfolding renewed planned change_of row_change no_change
   one_renewed =
-      let c = change_of s (Take h f) in
+      let c = change_of strict s (Take h f) in
       let dirty = dirty_left k (edges s) c in
       let left = edges_left (edges s) c in
+      let all = plan dirty left (clear_of f ∷ []) in
       same_list (renewed k (edges s) c) (clear_of f ∷ []) renewed_rises (λ q i. absurd i, tt)
-      (λ r i. let told = (plan_told dirty left (clear_of f ∷ []) r).0 i in
+      (λ r i. ⊎_elim
+      (λ u. absurd (take_strict strict s h f r u))
+      (λ p. let told = (plan_told dirty left (clear_of f ∷ []) r).0 p in
       let w : told.1.0 ≡ clear_of f = ⊎_elim (λ e. e) (λ n. absurd n) told.1.1 in
       inl (from_roots s left (λ e j. ((left_told (edges s) c e).0 j).0) r told.1.0 (subst (λ z. is_clear_role z ≡ true) (sym w) (clear_is_clear f)) (left_no_root r told.0) told.1.2 ∙ w))
-      (λ r i. ⊎_elim (λ (e : r ≡ clear_of f). subst (λ z. In z (plan dirty left (clear_of f ∷ []))) (sym e) ((plan_told dirty left (clear_of f ∷ []) (clear_of f)).1 (clear_left, (clear_of f, inl refl, Here)))) (λ n. absurd n) i)
+      ((In-append Role r c.strict all).0 ((ascending_told r (c.strict ++ all)).0 i)))
+      (λ r i. (ascending_told r (c.strict ++ all)).1 ((In-append Role r c.strict all).1 (inr (⊎_elim
+      (λ (e : r ≡ clear_of f). subst (λ z. In z all) (sym e) ((plan_told dirty left (clear_of f ∷ []) (clear_of f)).1 (clear_left, (clear_of f, inl refl, Here)))) (λ n. absurd n) i))))
 
 -- ---- which edges are published
 
@@ -104,17 +129,17 @@ filter_both X p n (x ∷ xs) = elim (n x) as (λ b. filter p (cond b (x ∷ filt
 module _ (s : Store) (h f : ℕ) where
   -- an edge that is left, and has the renewed key at an end
   counts : Edge → Bool
-  counts e = not (has same_edge (grant_edge h f ∷ []) e) && is_published (change_of s (Take h f)) (clear_of f ∷ []) e
+  counts e = not (has same_edge (grant_edge h f ∷ []) e) && is_published (row_change s (Take h f)) (clear_of f ∷ []) e
 
   own_two : (n : ℕ) → length (filter counts (folder_edges n)) ≡ cond (n == f) 2 0
-  unfolding counts folder_edges edge is_published has same_edge same_role variant_of role_id clear_of sub_of back_of files_of data_of holder_role grant_edge change_of no_change
+  unfolding counts folder_edges edge is_published has same_edge same_role variant_of role_id clear_of sub_of back_of files_of data_of holder_role grant_edge row_change no_change
   own_two n = (elim (n == f) as (λ b. n == f ≡ b → length (filter counts (folder_edges n)) ≡ cond b 2 0) [
     | true ↦ λ t. rw t refl
     | false ↦ λ t. rw t refl
   ]) refl
 
   parents_none : (fs : List FolderEntry) → filter counts (flat_map (λ e. cond (e.parent == 0) [] (parent_edges e.id e.parent)) fs) ≡ []
-  unfolding counts parent_edges edge is_published has same_edge same_role variant_of role_id clear_of sub_of back_of holder_role grant_edge change_of no_change
+  unfolding counts parent_edges edge is_published has same_edge same_role variant_of role_id clear_of sub_of back_of holder_role grant_edge row_change no_change
   parents_none [] = refl
   parents_none (e ∷ es) = elim (e.parent == 0) as (λ b. filter counts (cond b [] (parent_edges e.id e.parent) ++ flat_map (λ (x : FolderEntry). cond (x.parent == 0) [] (parent_edges x.id x.parent)) es) ≡ []) [
     | true ↦ parents_none es
@@ -122,12 +147,12 @@ module _ (s : Store) (h f : ℕ) where
   ]
 
   files_none : (xs : List FileEntry) → filter counts (map (λ (e : FileEntry). file_edge e.folder e.id) xs) ≡ []
-  unfolding counts file_edge edge is_published has same_edge same_role variant_of role_id clear_of files_of file_role holder_role grant_edge change_of no_change
+  unfolding counts file_edge edge is_published has same_edge same_role variant_of role_id clear_of files_of file_role holder_role grant_edge row_change no_change
   files_none [] = refl
   files_none (e ∷ es) = files_none es
 
   grant_counts : (g : GrantEntry) → counts (edge_of_grant g) ≡ (not (g.holder == h && g.folder == f) && g.folder == f)
-  unfolding counts edge is_published has same_edge same_role variant_of role_id clear_of holder_role grant_edge change_of no_change
+  unfolding counts edge is_published has same_edge same_role variant_of role_id clear_of holder_role grant_edge row_change no_change
   grant_counts g = (elim (g.holder == h) as (λ a. g.holder == h ≡ a → counts (edge_of_grant g) ≡ (not (a && g.folder == f) && g.folder == f)) [
     | true ↦ λ t. (elim (g.folder == f) as (λ b. g.folder == f ≡ b → counts (edge_of_grant g) ≡ (not b && b)) [
       | true ↦ λ u. rw (t, u) refl
@@ -176,11 +201,11 @@ module _ (s : Store) (h f : ℕ) where
       ∙ length-append (filter counts own) (filter counts grants)
       ∙ (λ i. own_count s.folders i + grants_count s.grants i)
 
-  pub edges_count : length (published_edges (edges s) (change_of s (Take h f)) (clear_of f ∷ []))
+  pub edges_count : length (published_edges (edges s) (row_change s (Take h f)) (clear_of f ∷ []))
       ≡ length (filter (λ e. e.id == f) s.folders) + length (filter (λ e. e.id == f) s.folders) + length (filter (λ g. g.folder == f) (filter (λ g. not (g.holder == h && g.folder == f)) s.grants))
-  unfolding published_edges edges_then edges_left without edges change_of no_change counts
+  unfolding published_edges edges_then edges_left without edges row_change no_change counts
   edges_count =
-      let p = is_published (change_of s (Take h f)) (clear_of f ∷ []) in
+      let p = is_published (row_change s (Take h f)) (clear_of f ∷ []) in
       let n : Edge → Bool = λ e. not (has same_edge (grant_edge h f ∷ []) e) in
       let own = flat_map (λ (e : FolderEntry). folder_edges e.id) s.folders in
       let parents = flat_map (λ (e : FolderEntry). cond (e.parent == 0) [] (parent_edges e.id e.parent)) s.folders in
@@ -196,14 +221,16 @@ module _ (s : Store) (h f : ℕ) where
 pub revoke_step : (at : Stand) (h f : ℕ) → ((r : Role) → In r at.keys.dirty → is_root_role r ≡ false) → length (filter (λ e. e.id == f) at.store.folders) ≡ 1
     → (length (told_step at (Take h f)).links ≡ 2 + length (filter (λ g. g.folder == f) (told_store at.store (Take h f)).grants))
     × ((told_step at (Take h f)).given ≡ (clear_of f, next_serial at.keys) ∷ []) × ((told_step at (Take h f)).contents ≡ [])
-unfolding told_step note_step key_step step_with published given pieces_of contents_from numbered told_store without_grant change_of no_change
+unfolding told_step note_step key_step step_with published given pieces_of contents_from numbered told_store without_grant change_of row_change no_change
 revoke_step at h f clean once =
     let s = at.store in
     let k = at.keys in
-    let c = change_of s (Take h f) in
-    let one = one_renewed s k h f clean in (
+    let strict = is_strict k in
+    let c = change_of strict s (Take h f) in
+    let one = one_renewed strict s k h f clean in (
       as_many_links _ _ (published_edges (edges s) c (renewed k (edges s) c))
           ∙ ap (λ (l : List Role). length (published_edges (edges s) c l)) one
+          ∙ ap length (published_as strict s (Take h f) (clear_of f ∷ []))
           ∙ edges_count s h f
           ∙ (λ i. once i + once i + length (filter (λ (g : GrantEntry). g.folder == f) (filter (λ (g : GrantEntry). not (g.holder == h && g.folder == f)) s.grants))),
       ap (λ (l : List Role). numbered (next_serial k) (l ++ [])) one,

@@ -16,7 +16,7 @@ use Rattle.cry_base.specs.declared.roles.Role.TheVariants.{Owner, Holder, Clear,
 use Rattle.cry_base.proofs.Members.{In-map, In-filter, filter-In}
 use Rattle.role_graph.specs.Roles.{holder_role, clear_of, sub_of, back_of, files_of, data_of, file_role, folder_roles}
 use Rattle.role_graph.specs.RightsByReach.{HasFolder}
-use Rattle.move_plan.specs.Change.{Change, no_change, change_of}
+use Rattle.move_plan.specs.Change.{Change, no_change, row_change}
 use Rattle.move_plan.specs.Noting.{write_note, remove_note, rename_note, move_note, note_of}
 use Rattle.public_fold.specs.Keyed.{HasRole}
 use Rattle.public_fold.proofs.Levels.{last_or, earlier, last_in}
@@ -242,43 +242,43 @@ no_file_roles s x c g n =
     })
 
 -- each command's roles
-written_roles : (s : Store) (path bytes : List ℕ) (o : Option Node) → is_folder o ≡ false → RolesMove s (change_of s (write_note s o (id_of (node_at s (parent_path path))))) (with_bytes_at s o path bytes)
-unfolding write_note change_of no_change with_bytes_at with_new_file is_folder
+written_roles : (s : Store) (path bytes : List ℕ) (o : Option Node) → is_folder o ≡ false → RolesMove s (row_change s (write_note s o (id_of (node_at s (parent_path path))))) (with_bytes_at s o path bytes)
+unfolding write_note row_change no_change with_bytes_at with_new_file is_folder
 written_roles s path bytes None t =
     let n : FileEntry = record { id = s.files_made + 1; folder = id_of (node_at s (parent_path path)); name = last_name (names_of path); bytes = bytes } in
-    new_file_roles s n (with_new_file s n.folder n.name bytes) (change_of s (write_note s None n.folder)) refl refl refl
+    new_file_roles s n (with_new_file s n.folder n.name bytes) (row_change s (write_note s None n.folder)) refl refl refl
 written_roles s path bytes (Some (node.Folder f)) t = absurd (false≢true (sym t))
-written_roles s path bytes (Some (node.File x)) t = file_changed_roles s x.0 (λ y. record y { bytes = bytes }) (change_of s (write_note s (Some (node.File x)) (id_of (node_at s (parent_path path))))) (λ y. refl) refl refl
+written_roles s path bytes (Some (node.File x)) t = file_changed_roles s x.0 (λ y. record y { bytes = bytes }) (row_change s (write_note s (Some (node.File x)) (id_of (node_at s (parent_path path))))) (λ y. refl) refl refl
 
-removed_roles : (s : Store) (o : Option Node) → is_none o ≡ false → RolesMove s (change_of s (remove_note o)) (without_node s o)
-unfolding remove_note change_of no_change without_node
+removed_roles : (s : Store) (o : Option Node) → is_none o ≡ false → RolesMove s (row_change s (remove_note o)) (without_node s o)
+unfolding remove_note row_change no_change without_node
 removed_roles s None some = absurd (false≢true (sym some))
-removed_roles s (Some (node.Folder f)) some = no_folder_roles s f.0 (change_of s (remove_note (Some (node.Folder f)))) refl refl
-removed_roles s (Some (node.File x)) some = no_file_roles s x.0 (change_of s (remove_note (Some (node.File x)))) refl refl
+removed_roles s (Some (node.Folder f)) some = no_folder_roles s f.0 (row_change s (remove_note (Some (node.Folder f)))) refl refl
+removed_roles s (Some (node.File x)) some = no_file_roles s x.0 (row_change s (remove_note (Some (node.File x)))) refl refl
 
-renamed_roles : (s : Store) (name : List ℕ) (o : Option Node) → is_none o ≡ false → RolesMove s (change_of s (rename_note o)) (with_name s o name)
-unfolding rename_note change_of no_change with_name
+renamed_roles : (s : Store) (name : List ℕ) (o : Option Node) → is_none o ≡ false → RolesMove s (row_change s (rename_note o)) (with_name s o name)
+unfolding rename_note row_change no_change with_name
 renamed_roles s name None some = absurd (false≢true (sym some))
-renamed_roles s name (Some (node.Folder f)) some = folder_changed_roles s f.0 (λ y. record y { name = name }) (change_of s (rename_note (Some (node.Folder f)))) (λ y. refl) refl refl
-renamed_roles s name (Some (node.File x)) some = file_changed_roles s x.0 (λ y. record y { name = name }) (change_of s (rename_note (Some (node.File x)))) (λ y. refl) refl refl
+renamed_roles s name (Some (node.Folder f)) some = folder_changed_roles s f.0 (λ y. record y { name = name }) (row_change s (rename_note (Some (node.Folder f)))) (λ y. refl) refl refl
+renamed_roles s name (Some (node.File x)) some = file_changed_roles s x.0 (λ y. record y { name = name }) (row_change s (rename_note (Some (node.File x)))) (λ y. refl) refl refl
 
-moved_roles : (s : Store) (o : Option Node) (q : ℕ) → is_none o ≡ false → RolesMove s (change_of s (move_note o q)) (moved s o q)
-unfolding move_note change_of no_change moved
+moved_roles : (s : Store) (o : Option Node) (q : ℕ) → is_none o ≡ false → RolesMove s (row_change s (move_note o q)) (moved s o q)
+unfolding move_note row_change no_change moved
 moved_roles s None q some = absurd (false≢true (sym some))
-moved_roles s (Some (node.Folder f)) q some = folder_changed_roles s f.0 (λ y. record y { parent = q }) (change_of s (move_note (Some (node.Folder f)) q)) (λ y. refl) refl refl
-moved_roles s (Some (node.File x)) q some = file_changed_roles s x.0 (λ y. record y { folder = q }) (change_of s (move_note (Some (node.File x)) q)) (λ y. refl) refl refl
+moved_roles s (Some (node.Folder f)) q some = folder_changed_roles s f.0 (λ y. record y { parent = q }) (row_change s (move_note (Some (node.Folder f)) q)) (λ y. refl) refl refl
+moved_roles s (Some (node.File x)) q some = file_changed_roles s x.0 (λ y. record y { folder = q }) (row_change s (move_note (Some (node.File x)) q)) (λ y. refl) refl refl
 
-pub command_roles : (s : Store) (r : Request) (key check : List ℕ) → IsAccepted s r → RolesMove s (change_of s (note_of s r check)) (effect s r key)
-unfolding note_of effect change_of no_change with_new_holder with_new_folder without_grant finds_no_path writes_folder paths_of
+pub command_roles : (s : Store) (r : Request) (key check : List ℕ) → IsAccepted s r → RolesMove s (row_change s (note_of s r check)) (effect s r key)
+unfolding note_of effect row_change no_change with_new_holder with_new_folder without_grant finds_no_path writes_folder paths_of
 command_roles s AddHolder key check a =
     let n : HolderEntry = record { number = s.holders_made + 1; key = key } in
-    new_holder_roles s n (with_new_holder s key) (change_of s (note_of s AddHolder check)) refl refl refl
+    new_holder_roles s n (with_new_holder s key) (row_change s (note_of s AddHolder check)) refl refl refl
 command_roles s (MakeFolder path) key check a =
     let n : FolderEntry = record { id = s.folders_made + 1; parent = id_of (node_at s (parent_path path)); name = last_name (names_of path) } in
-    new_folder_roles s n (with_new_folder s n.parent n.name) (change_of s (note_of s (MakeFolder path) check)) refl refl refl
+    new_folder_roles s n (with_new_folder s n.parent n.name) (row_change s (note_of s (MakeFolder path) check)) refl refl refl
 command_roles s (WriteFile path bytes) key check a = written_roles s path bytes (node_at s path) a.writes_file
 command_roles s (Remove path) key check a = removed_roles s (node_at s path) (or_parts (is_none (node_at s path)) false a.finds_path).0
 command_roles s (Rename path name) key check a = renamed_roles s name (node_at s path) (or_parts (is_none (node_at s path)) false a.finds_path).0
 command_roles s (Relocate path into) key check a = moved_roles s (node_at s path) (id_of (node_at s into)) (or_parts (is_none (node_at s path)) (is_none (node_at s into) || false) a.finds_path).0
-command_roles s (Grant h path) key check a = same_roles s (effect s (Grant h path) key) (change_of s (note_of s (Grant h path) check)) refl refl (λ h. (λ w. w, λ w. w)) (λ h. (λ w. w, λ w. w)) (λ h. (λ w. w, λ w. w))
-command_roles s (Revoke h path) key check a = same_roles s (effect s (Revoke h path) key) (change_of s (note_of s (Revoke h path) check)) refl refl (λ h. (λ w. w, λ w. w)) (λ h. (λ w. w, λ w. w)) (λ h. (λ w. w, λ w. w))
+command_roles s (Grant h path) key check a = same_roles s (effect s (Grant h path) key) (row_change s (note_of s (Grant h path) check)) refl refl (λ h. (λ w. w, λ w. w)) (λ h. (λ w. w, λ w. w)) (λ h. (λ w. w, λ w. w))
+command_roles s (Revoke h path) key check a = same_roles s (effect s (Revoke h path) key) (row_change s (note_of s (Revoke h path) check)) refl refl (λ h. (λ w. w, λ w. w)) (λ h. (λ w. w, λ w. w)) (λ h. (λ w. w, λ w. w))

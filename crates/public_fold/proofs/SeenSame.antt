@@ -1,6 +1,6 @@
 -- What fits a stand, and its key step, hang on what everyone may see of it, and not on the order of its grants.
-use Rattle.std.proofs.Common.{◌≡◌, ℕ, cond, not, ◌==◌, ◌&&◌, ◌||◌, List, [], ◌++◌, map, flat_map, filter, refl, sym, ap, ◌∙◌}
-use Rattle.std.specs.Prelude.{nat_lt, is_some}
+use Rattle.std.proofs.Common.{◌≡◌, ℕ, Bool, cond, not, ◌==◌, ◌&&◌, ◌||◌, List, [], ◌++◌, map, flat_map, filter, refl, sym, ap, ◌∙◌}
+use Rattle.std.specs.Prelude.{nat_lt, is_some, None}
 use Rattle.std.proofs.lemmas.Bool.Decides.{same_from_decides}
 use Rattle.cry_base.specs.Sets.{In, has}
 use Rattle.cry_base.specs.Refusing.{deepest, has_child, height_of, is_node_within}
@@ -11,15 +11,16 @@ use Rattle.grant_book.specs.Granted.{grant_of}
 use Rattle.grant_book.proofs.Ordered.{any_grant_told}
 use Rattle.role_graph.specs.Edges.{folder_edges, parent_edges, file_edge, edges}
 use Rattle.role_graph.specs.Roles.{same_role, folder_roles}
+use Rattle.rekey_walk.specs.Strict.{strict_roles}
 use Rattle.record_format.specs.Noted.{Note}
-use Rattle.record_format.specs.Noted.Note.{Root, NewHolder, NewFolder, NewFile, Rewrite, NameFile, NameFolder, DropFile, DropFolder, ShiftFile, ShiftFolder, Give, Take}
+use Rattle.record_format.specs.Noted.Note.{Root, NewHolder, NewFolder, NewFile, Rewrite, NameFile, NameFolder, DropFile, DropFolder, ShiftFile, ShiftFolder, Give, Take, StrictRoot, Upgrade}
 use Rattle.record_format.specs.Plain.{PlainPayload}
 use Rattle.record_format.specs.Told.{told_note}
-use Rattle.move_plan.specs.Change.{no_change, change_of, edges_at, edge_into_file, folder_of_file, parent_of_folder}
+use Rattle.move_plan.specs.Change.{no_change, change_of, inner_roles, is_upgrade, row_change, strict_of, edges_at, edge_into_file, folder_of_file, parent_of_folder}
 use Rattle.move_plan.specs.Fitting.{file_stands, fits, folder_stands, has_depth_left, is_other_folder, may_go_into, needs_root, row_fits}
 use Rattle.public_fold.specs.Fitted.{fits_step, has_heads, payload_fits, told_step}
 use Rattle.public_fold.specs.Journal.{Stand, note_step}
-use Rattle.public_fold.specs.KeyStep.{KeyState, key_step}
+use Rattle.public_fold.specs.KeyStep.{KeyState, is_strict, key_step}
 use Rattle.public_fold.specs.Records.{folder_piece, file_piece, holder_piece, pieces_of}
 use Rattle.public_fold.specs.StandFits.{has_count, note_fits}
 use Rattle.public_fold.specs.Standing.{AreSameGrants, IsSeenAs, PublicView, public_store_of, stand_of}
@@ -44,47 +45,61 @@ module _ (s : Store) (gs hs : List GrantEntry) (are : AreSameGrants gs hs) where
       let parents = flat_map (λ (e : FolderEntry). cond (e.parent == 0) [] (parent_edges e.id e.parent)) s.folders in
       same_order (own ++ parents) (map (λ (e : FileEntry). file_edge e.folder e.id) s.files) gs hs are
 
-  row_same : (note : Note) → row_fits (granting s gs) note ≡ row_fits (granting s hs) note
+  row_same : (strict : Bool) (note : Note) → row_fits strict (granting s gs) note ≡ row_fits strict (granting s hs) note
   unfolding row_fits folder_stands has_depth_left file_stands is_other_folder may_go_into folder_entry file_entry holder_entry has_child folder_of_file parent_of_folder is_within depth_of folder_node node_names folder_names file_names way_to_root height_of deepest is_node_within nodes_of
-  row_same Root = refl
-  row_same (NewHolder h check) = refl
-  row_same (NewFolder f p) = refl
-  row_same (NewFile x f) = refl
-  row_same (Rewrite x) = refl
-  row_same (NameFile x) = refl
-  row_same (NameFolder f) = refl
-  row_same (DropFile x) = refl
-  row_same (DropFolder f) = refl
-  row_same (ShiftFile x g) = refl
-  row_same (ShiftFolder g q) = refl
-  row_same (Give h f) = ap (λ b. is_some (holder_entry s h) && folder_stands s f && not b) (grant_same h f)
-  row_same (Take h f) = grant_same h f
+  row_same strict Root = refl
+  row_same strict (NewHolder h check) = refl
+  row_same strict (NewFolder f p) = refl
+  row_same strict (NewFile x f) = refl
+  row_same strict (Rewrite x) = refl
+  row_same strict (NameFile x) = refl
+  row_same strict (NameFolder f) = refl
+  row_same strict (DropFile x) = refl
+  row_same strict (DropFolder f) = refl
+  row_same strict (ShiftFile x g) = refl
+  row_same strict (ShiftFolder g q) = refl
+  row_same strict (Give h f) = ap (λ b. is_some (holder_entry s h) && folder_stands s f && not b) (grant_same h f)
+  row_same strict (Take h f) = grant_same h f
+  row_same strict StrictRoot = refl
+  row_same strict Upgrade = refl
 
-  pub fits_same : (note : Note) → fits (granting s gs) note ≡ fits (granting s hs) note
+  pub fits_same : (strict : Bool) (note : Note) → fits strict (granting s gs) note ≡ fits strict (granting s hs) note
   unfolding fits folder_stands folder_entry
-  fits_same note = ap (λ b. b && (not (needs_root note) || folder_stands s 1)) (row_same note)
+  fits_same strict note = ap (λ b. b && (not (needs_root note) || folder_stands s 1)) (row_same strict note)
 
-  change_same : (note : Note) → change_of (granting s gs) note ≡ change_of (granting s hs) note
-  unfolding change_of no_change edges_at edge_into_file folder_of_file parent_of_folder file_entry folder_entry
-  change_same Root = refl
-  change_same (NewHolder h check) = refl
-  change_same (NewFolder f p) = refl
-  change_same (NewFile x f) = refl
-  change_same (Rewrite x) = refl
-  change_same (NameFile x) = refl
-  change_same (NameFolder f) = refl
-  change_same (DropFile x) = refl
-  change_same (DropFolder f) = λ i. record {
+  changed_same : (note : Note) → row_change (granting s gs) note ≡ row_change (granting s hs) note
+  unfolding row_change no_change edges_at edge_into_file folder_of_file parent_of_folder file_entry folder_entry
+  changed_same Root = refl
+  changed_same (NewHolder h check) = refl
+  changed_same (NewFolder f p) = refl
+  changed_same (NewFile x f) = refl
+  changed_same (Rewrite x) = refl
+  changed_same (NameFile x) = refl
+  changed_same (NameFolder f) = refl
+  changed_same (DropFile x) = refl
+  changed_same (DropFolder f) = λ i. record {
     removed = filter (λ (e : Edge). has same_role (folder_roles f) e.from || has same_role (folder_roles f) e.to) (edges_same i);
     gone = folder_roles f;
     wanted = [];
+    strict = [];
     fresh = [];
     added = [];
+    version = None;
   }
-  change_same (ShiftFile x g) = refl
-  change_same (ShiftFolder g q) = refl
-  change_same (Give h f) = refl
-  change_same (Take h f) = refl
+  changed_same (ShiftFile x g) = refl
+  changed_same (ShiftFolder g q) = refl
+  changed_same (Give h f) = refl
+  changed_same (Take h f) = refl
+  changed_same StrictRoot = refl
+  changed_same Upgrade = refl
+
+  change_same : (strict : Bool) (note : Note) → change_of strict (granting s gs) note ≡ change_of strict (granting s hs) note
+  unfolding change_of strict_of inner_roles
+  change_same strict note =
+      let row = changed_same note in
+      λ i. record (row i) {
+        strict = cond (is_upgrade note) (inner_roles s) (cond strict (strict_roles (edges_same i) (row i).removed (row i).gone) []);
+      }
 
   pieces_same : (note : Note) → pieces_of note (told_store (granting s gs) note) ≡ pieces_of note (told_store (granting s hs) note)
   unfolding pieces_of told_store folder_piece file_piece holder_piece folder_entry file_entry holder_entry with_new_holder with_new_folder with_new_file
@@ -101,10 +116,12 @@ module _ (s : Store) (gs hs : List GrantEntry) (are : AreSameGrants gs hs) where
   pieces_same (ShiftFolder g q) = refl
   pieces_same (Give h f) = refl
   pieces_same (Take h f) = refl
+  pieces_same StrictRoot = refl
+  pieces_same Upgrade = refl
 
   pub step_same : (k : KeyState) (note : Note) → told_step (record { store = granting s gs; keys = k }) note ≡ told_step (record { store = granting s hs; keys = k }) note
   unfolding told_step note_step
-  step_same k note = λ i. key_step k (edges_same i) (change_same note i) (pieces_same note i)
+  step_same k note = λ i. key_step k (edges_same i) (change_same (is_strict k) note i) (pieces_same note i)
 
 -- the stand with the grants in the order of the state
 as_seen : (v : PublicView) (at : Stand) → IsSeenAs v at → at ≡ record { store = granting (public_store_of v) at.store.grants; keys = v.keys }
@@ -114,9 +131,9 @@ pub seen_step : (v : PublicView) (at : Stand) (note : Note) → IsSeenAs v at �
 seen_step v at note seen =
     ap (λ (z : Stand). told_step z note) (as_seen v at seen) ∙ sym (step_same (public_store_of v) v.pairs at.store.grants seen.grants v.keys note)
 
-fits_seen : (v : PublicView) (at : Stand) (note : Note) → IsSeenAs v at → fits at.store note ≡ fits (public_store_of v) note
+fits_seen : (v : PublicView) (at : Stand) (note : Note) → IsSeenAs v at → fits (is_strict at.keys) at.store note ≡ fits (is_strict v.keys) (public_store_of v) note
 fits_seen v at note seen =
-    ap (λ (z : Store). fits z note) seen.store ∙ sym (fits_same (public_store_of v) v.pairs at.store.grants seen.grants note)
+    (λ i. fits (is_strict (seen.keys i)) (seen.store i) note) ∙ sym (fits_same (public_store_of v) v.pairs at.store.grants seen.grants (is_strict v.keys) note)
 
 pub seen_fits : (v : PublicView) (at : Stand) (note : Note) → IsSeenAs v at → note_fits at note (told_step at note) ≡ note_fits (stand_of v) note (told_step (stand_of v) note)
 unfolding note_fits

@@ -20,23 +20,22 @@ use Rattle.role_graph.specs.Edges.{edge, edges, same_edge, folder_edges, file_ed
 use Rattle.role_graph.specs.RightsByReach.{HasFolder}
 use Rattle.role_graph.proofs.Comparing.{same_role_tells}
 use Rattle.role_graph.specs.Ascending.{with_role, ascending}
-use Rattle.rekey_walk.specs.Dirty.{plan}
-use Rattle.move_plan.specs.Change.{Change, no_change, change_of}
+use Rattle.move_plan.specs.Change.{Change, no_change, row_change, change_of}
 use Rattle.record_format.specs.Noted.{Note}
-use Rattle.record_format.specs.Noted.Note.{Root, NewHolder, NewFolder, NewFile, Rewrite, NameFile, NameFolder, DropFile, DropFolder, ShiftFile, ShiftFolder, Give, Take}
+use Rattle.record_format.specs.Noted.Note.{Root, NewHolder, NewFolder, NewFile, Rewrite, NameFile, NameFolder, DropFile, DropFolder, ShiftFile, ShiftFolder, Give, Take, StrictRoot, Upgrade}
 use Rattle.move_plan.specs.Noting.{note_of}
-use Rattle.public_fold.specs.Journal.{Journal, Entry, Stand, nothing, first_key, note_step, entry_step, entry_store, stand_then, stand_after, keys_of}
-use Rattle.public_fold.specs.Journal.Entry.{Session, Made, Did}
+use Rattle.public_fold.specs.Journal.{Journal, Entry, Stand, nothing, first_key, note_step, root_note, entry_step, entry_store, stand_then, stand_after, keys_of}
+use Rattle.public_fold.specs.Journal.Entry.{Session, Made, Did, Upgraded}
 use Rattle.public_fold.specs.Keyed.{HasRole, KeysHold, SerialsHold}
-use Rattle.public_fold.specs.KeyStep.{KeyState, Stepped, no_keys, next_epoch, renewed, next_serial, numbered, given, keys_then, keys_without, newest, edges_then, published_edges, is_published, links_from, contents_from, published, step_with, key_step}
+use Rattle.public_fold.specs.KeyStep.{KeyState, Stepped, is_strict, no_keys, next_epoch, renewed, next_serial, numbered, given, keys_then, keys_without, newest, edges_then, published_edges, is_published, links_from, contents_from, published, step_with, key_step}
 use Rattle.public_fold.specs.Lengths.{content_len, payload_len, entry_payload, payloads_from, end_of}
 use Rattle.public_fold.specs.Records.{Link, Piece, Content, pieces_of}
 use Rattle.public_fold.specs.Valid.{FollowOn, BeginsWell, IsValid}
 use Rattle.public_fold.proofs.Levels.{filter_shorter}
 use Rattle.public_fold.proofs.Serials.{numbered-between, numbered-length}
 use Rattle.public_fold.proofs.EdgesThen.{then_told}
-use Rattle.public_fold.proofs.KeepingKeys.{IsMove, newest-first, numbered-some, marked_told, marked_stands, planned_told, marked_no_root, same_key, no_key, in_or, keys_after}
-use Rattle.public_fold.proofs.KeyMoves.{IsSound, effect_sound, root_sound, command_moves, root_moves, nothing_holds, epoch_holds}
+use Rattle.public_fold.proofs.KeepingKeys.{IsMove, newest-first, numbered-some, renewed_stands, same_key, no_key, in_or, keys_after}
+use Rattle.public_fold.proofs.KeyMoves.{IsSound, effect_sound, root_sound, command_moves, root_moves, upgrade_moves, nothing_holds, epoch_holds}
 
 -- the key that is found is among the keys
 newest-in : (keys : List (Role × ℕ)) (r : Role) (n : ℕ) → newest keys r ≡ Some n → (q : Role × ℕ) × In q keys × (q.1 ≡ n)
@@ -186,33 +185,39 @@ sum_content (c ∷ cs) =
     let sum : sum_by content_len (c ∷ cs) ≡ content_len c + sum_by content_len cs = sum_by-cons content_len c cs in omega arith
 
 -- no note brings more than five roles
-pub few_fresh : (s : Store) (note : Note) → length (change_of s note).fresh ≤ 5
-unfolding change_of no_change folder_roles
-few_fresh s Root = omega arith
-few_fresh s (NewHolder h check) = omega arith
-few_fresh s (NewFolder f p) = omega arith
-few_fresh s (NewFile x f) = omega arith
-few_fresh s (Rewrite x) = omega arith
-few_fresh s (NameFile x) = omega arith
-few_fresh s (NameFolder f) = omega arith
-few_fresh s (DropFile x) = omega arith
-few_fresh s (DropFolder f) = omega arith
-few_fresh s (ShiftFile x g) = omega arith
-few_fresh s (ShiftFolder g q) = omega arith
-few_fresh s (Give h f) = omega arith
-few_fresh s (Take h f) = omega arith
+few_row : (s : Store) (note : Note) → length (row_change s note).fresh ≤ 5
+unfolding row_change no_change folder_roles
+few_row s Root = omega arith
+few_row s (NewHolder h check) = omega arith
+few_row s (NewFolder f p) = omega arith
+few_row s (NewFile x f) = omega arith
+few_row s (Rewrite x) = omega arith
+few_row s (NameFile x) = omega arith
+few_row s (NameFolder f) = omega arith
+few_row s (DropFile x) = omega arith
+few_row s (DropFolder f) = omega arith
+few_row s (ShiftFile x g) = omega arith
+few_row s (ShiftFolder g q) = omega arith
+few_row s (Give h f) = omega arith
+few_row s (Take h f) = omega arith
+few_row s StrictRoot = omega arith
+few_row s Upgrade = omega arith
+
+pub few_fresh : (strict : Bool) (s : Store) (note : Note) → length (change_of strict s note).fresh ≤ 5
+unfolding change_of
+few_fresh strict s note = few_row s note
 
 module _ (s t : Store) (k : KeyState) (c : Change) (links : List Link) (mv : IsMove s c t) (ok : KeysHold s k links) where
   -- each renewed role is the end of an edge that is published
-  plan_short : length (renewed k (edges s) c) ≤ length (published_edges (edges s) c (renewed k (edges s) c))
-  unfolding renewed plan published_edges is_published
+  pub plan_short : length (renewed k (edges s) c) ≤ length (published_edges (edges s) c (renewed k (edges s) c))
+  unfolding renewed published_edges is_published
   plan_short =
       let p = renewed k (edges s) c in
       ends_cover p (published_edges (edges s) c p) (ascending_rises _)
       (λ r i.
-      let d = ((planned_told s t k c links mv ok r).0 i).0 in
-      let stands = (mv.roles r).1 (inl (marked_stands s t k c links mv ok r d, ((marked_told s t k c links mv ok r).0 d).1)) in
-      let e = led_to t r stands (marked_no_root s t k c links mv ok r d) in (
+      let told = renewed_stands s t k c links mv ok r i in
+      let stands = (mv.roles r).1 (inl (told.0, told.1.0)) in
+      let e = led_to t r stands told.1.1 in (
         e.0,
         filter-In Edge (is_published c p) e.0 (edges_then (edges s) c) ((then_told s c e.0).1 ((mv.leads e.0).1 e.1))
             (or_right (has same_edge c.added e.0 || has same_role (p ++ c.fresh) e.0.from) (has same_role (p ++ c.fresh) e.0.to)
@@ -295,20 +300,31 @@ after_serials (Session ∷ entries) at links sound ok serials low f =
     let sum : spent (0 ∷ rest) ≡ (batch_len + 0) + spent rest = sum_by-cons (λ len. batch_len + len) 0 rest in
     let all : at.keys.count + spent (0 ∷ rest) ≤ most_store_bytes = low in
     after_serials entries (stand_then at Session) links sound (epoch_holds at.store at.keys links ok) (serials_epoch at.keys (omega arith) serials) (omega arith) f.1
-after_serials (Made keys ∷ entries) at links sound ok serials low f = absurd f.0
+after_serials (Made version keys ∷ entries) at links sound ok serials low f = absurd f.0
 after_serials (Did request keys ∷ entries) at links sound ok serials low f =
     let s = at.store in
     let t = effect s request (first_key keys) in
     let note = note_of s request [] in
-    let c = change_of s note in
-    let mv = command_moves s request (first_key keys) [] most_file_bytes f.0.0 sound in
+    let c = change_of (is_strict at.keys) s note in
+    let mv = command_moves (is_strict at.keys) s request (first_key keys) [] most_file_bytes f.0.0 sound in
     let step : Stepped = note_step at note t in
     let rest = payloads_from (stand_then at (Did request keys)) entries in
     let sum : spent (payload_len note step ∷ rest) ≡ (batch_len + payload_len note step) + spent rest = sum_by-cons (λ len. batch_len + len) (payload_len note step) rest in
     let all : at.keys.count + spent (payload_len note step ∷ rest) ≤ most_store_bytes = low in
-    let more : step.after.count ≤ at.keys.count + (batch_len + payload_len note step) = count_after s t at.keys c links mv ok note (pieces_of note t) (few_fresh s note) in
+    let more : step.after.count ≤ at.keys.count + (batch_len + payload_len note step) = count_after s t at.keys c links mv ok note (pieces_of note t) (few_fresh (is_strict at.keys) s note) in
     after_serials entries (stand_then at (Did request keys)) (links ++ step.links) (effect_sound s request (first_key keys) most_file_bytes f.0.0 sound)
     (keys_after s t at.keys c links mv ok (pieces_of note t)) (serials_after s t at.keys c links mv ok (pieces_of note t) serials) (omega arith) f.1
+after_serials (Upgraded keys ∷ entries) at links sound ok serials low f =
+    let s = at.store in
+    let c = change_of (is_strict at.keys) s Upgrade in
+    let mv = upgrade_moves (is_strict at.keys) s sound in
+    let step : Stepped = note_step at Upgrade s in
+    let rest = payloads_from (stand_then at (Upgraded keys)) entries in
+    let sum : spent (payload_len Upgrade step ∷ rest) ≡ (batch_len + payload_len Upgrade step) + spent rest = sum_by-cons (λ len. batch_len + len) (payload_len Upgrade step) rest in
+    let all : at.keys.count + spent (payload_len Upgrade step ∷ rest) ≤ most_store_bytes = low in
+    let more : step.after.count ≤ at.keys.count + (batch_len + payload_len Upgrade step) = count_after s s at.keys c links mv ok Upgrade (pieces_of Upgrade s) (few_fresh (is_strict at.keys) s Upgrade) in
+    after_serials entries (stand_then at (Upgraded keys)) (links ++ step.links) sound
+    (keys_after s s at.keys c links mv ok (pieces_of Upgrade s)) (serials_after s s at.keys c links mv ok (pieces_of Upgrade s) serials) (omega arith) f.1
 
 -- the first epoch has the owner's key alone
 owner_alone : (r : Role) (n : ℕ) → newest ((Owner, 0) ∷ []) r ≡ Some n → (Owner ≡ r) × (n ≡ 0)
@@ -327,25 +343,28 @@ first_serials = record {
 }
 
 begun_serials : (m : Journal) → BeginsWell m → end_of m ≤ most_store_bytes → SerialsHold (stand_after nothing m).keys × ((stand_after nothing m).keys.count ≤ most_store_bytes)
-unfolding stand_after stand_then entry_store entry_step note_step payloads_from entry_payload next_epoch nothing no_keys end_of
+unfolding stand_after stand_then entry_store entry_step note_step payloads_from entry_payload next_epoch nothing no_keys end_of is_strict
 begun_serials [] b low = absurd b
 begun_serials (Session ∷ []) b low = absurd b
 begun_serials (Session ∷ Session ∷ es) b low = absurd b
-begun_serials (Session ∷ Made keys ∷ es) b low =
-    let at = stand_then (stand_then nothing Session) (Made keys) in
-    let step : Stepped = note_step (stand_then nothing Session) Root root_store in
+begun_serials (Session ∷ Made version keys ∷ es) b low =
+    let at = stand_then (stand_then nothing Session) (Made version keys) in
+    let root = root_note version in
+    let step : Stepped = note_step (stand_then nothing Session) root root_store in
     let k : KeyState = next_epoch no_keys in
-    let c = change_of no_store Root in
+    let c = change_of false no_store root in
     let rest = payloads_from at es in
-    let first : spent (0 ∷ payload_len Root step ∷ rest) ≡ (batch_len + 0) + spent (payload_len Root step ∷ rest) = sum_by-cons (λ len. batch_len + len) 0 (payload_len Root step ∷ rest) in
-    let sum : spent (payload_len Root step ∷ rest) ≡ (batch_len + payload_len Root step) + spent rest = sum_by-cons (λ len. batch_len + len) (payload_len Root step) rest in
-    let all : header_len + spent (0 ∷ payload_len Root step ∷ rest) ≤ most_store_bytes = low in
-    let more : step.after.count ≤ k.count + (batch_len + payload_len Root step) = count_after no_store root_store k c [] root_moves nothing_holds Root (pieces_of Root root_store) (few_fresh no_store Root) in
-    after_serials es at step.links root_sound (keys_after no_store root_store k c [] root_moves nothing_holds (pieces_of Root root_store))
-    (serials_after no_store root_store k c [] root_moves nothing_holds (pieces_of Root root_store) first_serials) (omega arith) b.1
+    let first : spent (0 ∷ payload_len root step ∷ rest) ≡ (batch_len + 0) + spent (payload_len root step ∷ rest) = sum_by-cons (λ len. batch_len + len) 0 (payload_len root step ∷ rest) in
+    let sum : spent (payload_len root step ∷ rest) ≡ (batch_len + payload_len root step) + spent rest = sum_by-cons (λ len. batch_len + len) (payload_len root step) rest in
+    let all : header_len + spent (0 ∷ payload_len root step ∷ rest) ≤ most_store_bytes = low in
+    let more : step.after.count ≤ k.count + (batch_len + payload_len root step) = count_after no_store root_store k c [] (root_moves version) nothing_holds root (pieces_of root root_store) (few_fresh false no_store root) in
+    after_serials es at step.links root_sound (keys_after no_store root_store k c [] (root_moves version) nothing_holds (pieces_of root root_store))
+    (serials_after no_store root_store k c [] (root_moves version) nothing_holds (pieces_of root root_store) first_serials) (omega arith) b.1
 begun_serials (Session ∷ Did request keys ∷ es) b low = absurd b
-begun_serials (Made keys ∷ es) b low = absurd b
+begun_serials (Session ∷ Upgraded keys ∷ es) b low = absurd b
+begun_serials (Made version keys ∷ es) b low = absurd b
 begun_serials (Did request keys ∷ es) b low = absurd b
+begun_serials (Upgraded keys ∷ es) b low = absurd b
 
 pub journal_serials : (m : Journal) → IsValid m → SerialsHold (keys_of m)
 unfolding keys_of

@@ -20,7 +20,7 @@ use Rattle.cry_base.proofs.Members.{In-append, In-map, In-filter, filter-In}
 use Rattle.role_graph.specs.RightsByReach.{HasFolder, IsSettled}
 use Rattle.public_fold.specs.Counted.{AreCounted}
 use Rattle.public_fold.specs.Journal.{Entry, Journal, Stand, nothing, first_key, entry_store, stand_then, stand_after, store_of}
-use Rattle.public_fold.specs.Journal.Entry.{Session, Made, Did}
+use Rattle.public_fold.specs.Journal.Entry.{Session, Made, Did, Upgraded}
 use Rattle.public_fold.specs.Valid.{FollowOn, BeginsWell, IsValid}
 use Rattle.public_fold.proofs.Counting.{effect_counted, root_counted}
 
@@ -203,19 +203,22 @@ after_settled : (entries : List Entry) (at : Stand) → AreCounted at.store → 
 unfolding stand_after stand_then entry_store
 after_settled [] at c ok f = ok
 after_settled (Session ∷ entries) at c ok f = after_settled entries (stand_then at Session) c ok f.1
-after_settled (Made keys ∷ entries) at c ok f = absurd f.0
+after_settled (Made version keys ∷ entries) at c ok f = absurd f.0
 after_settled (Did request keys ∷ entries) at c ok f =
     after_settled entries (stand_then at (Did request keys)) (effect_counted at.store request (first_key keys) c) (effect_settled at.store request (first_key keys) most_file_bytes f.0.0 c ok) f.1
+after_settled (Upgraded keys ∷ entries) at c ok f = after_settled entries (stand_then at (Upgraded keys)) c ok f.1
 
 begun_settled : (m : Journal) → BeginsWell m → IsSettled (stand_after nothing m).store
 unfolding stand_after stand_then entry_store
 begun_settled [] b = absurd b
 begun_settled (Session ∷ []) b = absurd b
 begun_settled (Session ∷ Session ∷ es) b = absurd b
-begun_settled (Session ∷ Made keys ∷ es) b = after_settled es (stand_then (stand_then nothing Session) (Made keys)) root_counted root_settled b.1
+begun_settled (Session ∷ Made version keys ∷ es) b = after_settled es (stand_then (stand_then nothing Session) (Made version keys)) root_counted root_settled b.1
 begun_settled (Session ∷ Did request keys ∷ es) b = absurd b
-begun_settled (Made keys ∷ es) b = absurd b
+begun_settled (Session ∷ Upgraded keys ∷ es) b = absurd b
+begun_settled (Made version keys ∷ es) b = absurd b
 begun_settled (Did request keys ∷ es) b = absurd b
+begun_settled (Upgraded keys ∷ es) b = absurd b
 
 pub journal_settled : (m : Journal) → IsValid m → IsSettled (store_of m)
 unfolding store_of

@@ -1,12 +1,12 @@
 -- What everyone may see stays rooted through a note that fits.
-use Rattle.std.proofs.Common.{◌≡◌, ℕ, true, List, subst}
+use Rattle.std.proofs.Common.{◌≡◌, ℕ, Bool, true, List, subst}
 use Rattle.cry_base.specs.Sets.{In}
 use Rattle.cry_base.specs.Stepping.{with_new_holder, with_new_folder, with_new_file, with_folder, with_file, without_folder, without_file, without_grant}
 use Rattle.cry_base.specs.Store.{Store, GrantEntry, no_store, root_store}
 use Rattle.grant_book.specs.Granted.{grant_of}
 use Rattle.grant_book.proofs.Matched.{granted_more}
 use Rattle.record_format.specs.Noted.{Note}
-use Rattle.record_format.specs.Noted.Note.{Root, NewHolder, NewFolder, NewFile, Rewrite, NameFile, NameFolder, DropFile, DropFolder, ShiftFile, ShiftFolder, Give, Take}
+use Rattle.record_format.specs.Noted.Note.{Root, NewHolder, NewFolder, NewFile, Rewrite, NameFile, NameFolder, DropFile, DropFolder, ShiftFile, ShiftFolder, Give, Take, StrictRoot, Upgrade}
 use Rattle.move_plan.specs.Fitting.{fits}
 use Rattle.public_fold.specs.Changing.{checks_then, pairs_then, tree_then}
 use Rattle.public_fold.specs.Rooted.{IsRooted, MayStand}
@@ -44,10 +44,12 @@ pair_granted t checks pairs (ShiftFile x q) g i = i
 pair_granted t checks pairs (ShiftFolder f q) g i = i
 pair_granted t checks pairs (Give h f) g i = (granted_more pairs pairs (grant_of h f) (λ e. (λ j. j, λ j. j)) g).0 i
 pair_granted t checks pairs (Take h f) g i = i
+pair_granted t checks pairs StrictRoot g i = i
+pair_granted t checks pairs Upgrade g i = i
 
-pub seen_rooted : (t : Store) (checks : List (List ℕ)) (pairs : List GrantEntry) (note : Note) → MayStand (seen t checks pairs) → fits (seen t checks pairs) note ≡ true
+pub seen_rooted : (strict : Bool) (t : Store) (checks : List (List ℕ)) (pairs : List GrantEntry) (note : Note) → MayStand (seen t checks pairs) → fits strict (seen t checks pairs) note ≡ true
     → IsRooted (seen (tree_then t note) (checks_then checks note) (pairs_then pairs note))
-seen_rooted t checks pairs note ok fit =
+seen_rooted strict t checks pairs note ok fit =
     let told = told_store (seen t checks pairs) note in
-    let after : IsRooted (seen (tree_then t note) (checks_then checks note) told.grants) = subst IsRooted (store_after t checks pairs note) (note_rooted (seen t checks pairs) note fit ok) in
+    let after : IsRooted (seen (tree_then t note) (checks_then checks note) told.grants) = subst IsRooted (store_after t checks pairs note) (note_rooted strict (seen t checks pairs) note fit ok) in
     fewer_rooted (seen (tree_then t note) (checks_then checks note) told.grants) (pairs_then pairs note) (pair_granted t checks pairs note) after

@@ -1,6 +1,6 @@
 -- The step that the code makes is that of the definitions.
 use Rattle.std.proofs.Common.{◌≡◌, ℕ, suc, ◌+◌, Bool, true, false, not, ◌==◌, List, [], ◌∷◌, ◌++◌, map, length, Option, Some, None, refl, sym, ap, ◌∙◌}
-use Rattle.std.specs.Prelude.{is_some, find}
+use Rattle.std.specs.Prelude.{is_some, find, unwrap_or}
 use Rattle.std.specs.List.{list_any}
 use Rattle.std.proofs.lemmas.Bool.{and_parts, eqb-true, eq-eqb, false≢true, or_left, or_right}
 use Rattle.cry_base.specs.Store.{Store, FolderEntry, FileEntry, HolderEntry, no_store, root_store, folder_entry, file_entry, holder_entry}
@@ -9,11 +9,11 @@ use Rattle.cry_base.specs.declared.roles.Edge.{Edge}
 use Rattle.cry_base.specs.declared.roles.Role.{Role}
 use Rattle.grant_book.proofs.Lists.{is_some-find}
 use Rattle.record_format.specs.Noted.{Note}
-use Rattle.record_format.specs.Noted.Note.{Root, NewHolder, NewFolder, NewFile, Rewrite, NameFile, NameFolder, DropFile, DropFolder, ShiftFile, ShiftFolder, Give, Take}
+use Rattle.record_format.specs.Noted.Note.{Root, NewHolder, NewFolder, NewFile, Rewrite, NameFile, NameFolder, DropFile, DropFolder, ShiftFile, ShiftFolder, Give, Take, StrictRoot, Upgrade}
 use Rattle.move_plan.specs.Change.{Change}
 use Rattle.move_plan.specs.Fitting.{file_stands, fits, folder_stands, has_depth_left, is_other_folder, row_fits}
 use Rattle.public_fold.specs.Heads.{content_head, due_of, textless}
-use Rattle.public_fold.specs.KeyStep.{KeyState, content_of, contents_from, given, key_step, keys_then, keys_without, links_from, next_serial, numbered, published, published_edges, renewed, step_with}
+use Rattle.public_fold.specs.KeyStep.{KeyState, content_of, contents_from, given, key_step, keys_then, keys_without, links_from, next_serial, numbered, published, published_edges, renewed, step_with, version_then}
 use Rattle.public_fold.specs.Records.{Piece, file_piece, folder_piece, holder_piece, pieces_of, sealing_role}
 use Rattle.public_fold.specs.Stepping.{IsDue, IsNumbered, IsStep, counted, keyed_of, keys_left}
 use Rattle.public_fold.specs.Told.{told_store}
@@ -49,28 +49,30 @@ found_behind X p xs x t = is_some-find X p (xs ++ x ∷ []) ∙ any_behind X p x
 turned : (a b : ℕ) → (a == b) ≡ true → (b == a) ≡ true
 turned a b t = eq-eqb b a (sym (eqb-true a b t))
 
-row_due : (s : Store) (note : Note) → row_fits s note ≡ true → map bare (pieces_of note (told_store s note)) ≡ due_of note
+row_due : (strict : Bool) (s : Store) (note : Note) → row_fits strict s note ≡ true → map bare (pieces_of note (told_store s note)) ≡ due_of note
 unfolding row_fits pieces_of told_store due_of folder_piece file_piece holder_piece folder_entry file_entry holder_entry folder_stands file_stands is_other_folder with_new_holder with_new_folder with_new_file root_store no_store
-row_due s Root t = refl
-row_due s (NewHolder h check) t = holder_due (find (λ e. e.number == h) (s.holders ++ record { number = s.holders_made + 1; key = [] } ∷ [])) h
+row_due strict s Root t = refl
+row_due strict s (NewHolder h check) t = holder_due (find (λ e. e.number == h) (s.holders ++ record { number = s.holders_made + 1; key = [] } ∷ [])) h
     (found_behind HolderEntry (λ e. e.number == h) s.holders (record { number = s.holders_made + 1; key = [] }) (turned h (s.holders_made + 1) t))
-row_due s (NewFolder f p) t = folder_due (find (λ e. e.id == f) (s.folders ++ record { id = s.folders_made + 1; parent = p; name = [] } ∷ [])) f
+row_due strict s (NewFolder f p) t = folder_due (find (λ e. e.id == f) (s.folders ++ record { id = s.folders_made + 1; parent = p; name = [] } ∷ [])) f
     (found_behind FolderEntry (λ e. e.id == f) s.folders (record { id = s.folders_made + 1; parent = p; name = [] }) (turned f (s.folders_made + 1) (and_parts (f == s.folders_made + 1) (has_depth_left s p) t).0))
-row_due s (NewFile x f) t = file_due (find (λ e. e.id == x) (s.files ++ record { id = s.files_made + 1; folder = f; name = []; bytes = [] } ∷ [])) x
+row_due strict s (NewFile x f) t = file_due (find (λ e. e.id == x) (s.files ++ record { id = s.files_made + 1; folder = f; name = []; bytes = [] } ∷ [])) x
     (found_behind FileEntry (λ e. e.id == x) s.files (record { id = s.files_made + 1; folder = f; name = []; bytes = [] }) (turned x (s.files_made + 1) (and_parts (x == s.files_made + 1) (has_depth_left s f) t).0))
-row_due s (Rewrite x) t = file_due (find (λ e. e.id == x) s.files) x t
-row_due s (NameFile x) t = file_due (find (λ e. e.id == x) s.files) x t
-row_due s (NameFolder f) t = folder_due (find (λ e. e.id == f) s.folders) f (and_parts (is_some (find (λ e. e.id == f) s.folders)) (not (f == 1)) t).0
-row_due s (DropFile x) t = refl
-row_due s (DropFolder f) t = refl
-row_due s (ShiftFile x g) t = refl
-row_due s (ShiftFolder g q) t = refl
-row_due s (Give h f) t = refl
-row_due s (Take h f) t = refl
+row_due strict s (Rewrite x) t = file_due (find (λ e. e.id == x) s.files) x t
+row_due strict s (NameFile x) t = file_due (find (λ e. e.id == x) s.files) x t
+row_due strict s (NameFolder f) t = folder_due (find (λ e. e.id == f) s.folders) f (and_parts (is_some (find (λ e. e.id == f) s.folders)) (not (f == 1)) t).0
+row_due strict s (DropFile x) t = refl
+row_due strict s (DropFolder f) t = refl
+row_due strict s (ShiftFile x g) t = refl
+row_due strict s (ShiftFolder g q) t = refl
+row_due strict s (Give h f) t = refl
+row_due strict s (Take h f) t = refl
+row_due strict s StrictRoot t = refl
+row_due strict s Upgrade t = refl
 
-pub pieces_due : (s : Store) (note : Note) → fits s note ≡ true → map bare (pieces_of note (told_store s note)) ≡ due_of note
+pub pieces_due : (strict : Bool) (s : Store) (note : Note) → fits strict s note ≡ true → map bare (pieces_of note (told_store s note)) ≡ due_of note
 unfolding fits
-pieces_due s note t = row_due s note (and_parts (row_fits s note) _ t).0
+pieces_due strict s note t = row_due strict s note (and_parts (row_fits strict s note) _ t).0
 
 -- heads hang on no text
 heads_bare : (keys : List (Role × ℕ)) (n : ℕ) (ps : List Piece) → map content_head (contents_from keys n ps) ≡ map content_head (contents_from keys n (map bare ps))
@@ -104,8 +106,8 @@ module _ (k : KeyState) (before : List Edge) (c : Change) (note : Note) (pieces 
         ∙ (λ i. map content_head (contents_from (new_keys i) (next_serial k + keyed_len i + length (is.edges i)) (sym due i)))
         ∙ sym (heads_bare (keys_then k c (renewed k before c)) (next_serial k + length (given k c (renewed k before c)) + length (published_edges before c (renewed k before c))) pieces)
 
-    pub is_step : IsStep k.keys (key_step k before c pieces) s
-    unfolding key_step step_with published given
+    pub is_step : IsStep k (key_step k before c pieces) s
+    unfolding key_step step_with published given version_then
     is_step = record {
       skeleton = record {
         keys = n.given ∙ ap (numbered (next_serial k)) is.keyed;
@@ -114,6 +116,7 @@ module _ (k : KeyState) (before : List Edge) (c : Change) (note : Note) (pieces 
       };
       keys = new_keys;
       dirty = n.dirty ∙ is.dirty;
+      version = ap (λ o. unwrap_or o k.version) (n.version ∙ is.version);
       epoch = n.epoch;
       count = n.count ∙ sym step_count;
     }

@@ -14,7 +14,7 @@ use Rattle.public_fold.specs.Faults.{fault_of}
 use Rattle.public_fold.specs.Fitted.{fits_step, has_heads, payload_fits, told_step}
 use Rattle.public_fold.specs.declared.fault.FoldFault.TheVariants as fold
 use Rattle.public_fold.specs.Journal.{Stand, note_step}
-use Rattle.public_fold.specs.KeyStep.{Stepped}
+use Rattle.public_fold.specs.KeyStep.{Stepped, is_strict}
 use Rattle.public_fold.specs.Records.{pieces_of}
 use Rattle.public_fold.specs.StandFits.{has_count, note_fits}
 use Rattle.public_fold.specs.Standing.{PublicView, public_store_of, stand_of}
@@ -33,17 +33,17 @@ fits_at v note = note_fits (stand_of v) note (step_at v note)
 
 pub not_begun : (v : PublicView) (note : Note) → v.keys.epoch ≡ 0 → fits_at v note ≡ false
 unfolding note_fits
-not_begun v note e = and_left (nat_lt 0 v.keys.epoch) (fits (public_store_of v) note && has_count (step_at v note)) (ap (λ n. nat_lt 0 n) e)
+not_begun v note e = and_left (nat_lt 0 v.keys.epoch) (fits (is_strict v.keys) (public_store_of v) note && has_count (step_at v note)) (ap (λ n. nat_lt 0 n) e)
 
-pub not_fitting : (v : PublicView) (note : Note) → fits (public_store_of v) note ≡ false → fits_at v note ≡ false
+pub not_fitting : (v : PublicView) (note : Note) → fits (is_strict v.keys) (public_store_of v) note ≡ false → fits_at v note ≡ false
 unfolding note_fits
 not_fitting v note e =
-    and_right (nat_lt 0 v.keys.epoch) (fits (public_store_of v) note && has_count (step_at v note)) (and_left (fits (public_store_of v) note) (has_count (step_at v note)) e)
+    and_right (nat_lt 0 v.keys.epoch) (fits (is_strict v.keys) (public_store_of v) note && has_count (step_at v note)) (and_left (fits (is_strict v.keys) (public_store_of v) note) (has_count (step_at v note)) e)
 
-pub fit_of : (v : PublicView) (note : Note) → fits_at v note ≡ true → fits (public_store_of v) note ≡ true
+pub fit_of : (v : PublicView) (note : Note) → fits_at v note ≡ true → fits (is_strict v.keys) (public_store_of v) note ≡ true
 unfolding note_fits
 fit_of v note e =
-    (and_parts (fits (public_store_of v) note) (has_count (step_at v note)) (and_parts (nat_lt 0 v.keys.epoch) (fits (public_store_of v) note && has_count (step_at v note)) e).1).0
+    (and_parts (fits (is_strict v.keys) (public_store_of v) note) (has_count (step_at v note)) (and_parts (nat_lt 0 v.keys.epoch) (fits (is_strict v.keys) (public_store_of v) note && has_count (step_at v note)) e).1).0
 
 -- holders don't show in edges
 pub edges_seen : (v : PublicView) → edges (public_store v.tree v.pairs) ≡ edges (public_store_of v)
@@ -67,29 +67,29 @@ pub payload_fit : (at : Stand) (p : PlainPayload) → note_fits at (told_note p.
 unfolding payload_fits fits_step
 payload_fit at p f h = and_from (note_fits at (told_note p.note) (told_step at (told_note p.note))) (has_heads (told_step at (told_note p.note)) p) f h
 
-module _ (v : PublicView) (note : Note) (c : Change) (d : Due) (fit : fits (public_store_of v) note ≡ true) (same : c ≡ change_of (public_store_of v) note) (is : IsDue v.keys (edges (public_store_of v)) c d) where
-  due : IsDue v.keys (edges (public_store_of v)) (change_of (public_store_of v) note) d
+module _ (v : PublicView) (note : Note) (c : Change) (d : Due) (fit : fits (is_strict v.keys) (public_store_of v) note ≡ true) (same : c ≡ change_of (is_strict v.keys) (public_store_of v) note) (is : IsDue v.keys (edges (public_store_of v)) c d) where
+  due : IsDue v.keys (edges (public_store_of v)) (change_of (is_strict v.keys) (public_store_of v) note) d
   due = subst (λ x. IsDue v.keys (edges (public_store_of v)) x d) same is
 
   count_told : (step_at v note).after.count ≡ counted v.keys note d
   unfolding told_step note_step
-  count_told = step_count v.keys (edges (public_store_of v)) (change_of (public_store_of v) note) note (pieces_of note (told_store (public_store_of v) note)) d (pieces_due (public_store_of v) note fit) due
+  count_told = step_count v.keys (edges (public_store_of v)) (change_of (is_strict v.keys) (public_store_of v) note) note (pieces_of note (told_store (public_store_of v) note)) d (pieces_due (is_strict v.keys) (public_store_of v) note fit) due
 
   pub no_count : 4294967295 ≤ counted v.keys note d → fits_at v note ≡ false
   unfolding note_fits has_count
   no_count h =
-      and_right (nat_lt 0 v.keys.epoch) (fits (public_store_of v) note && nat_lt (step_at v note).after.count 4294967295)
-      (and_right (fits (public_store_of v) note) (nat_lt (step_at v note).after.count 4294967295) (le-ltb (step_at v note).after.count 4294967295 (subst (λ n. 4294967295 ≤ n) (sym count_told) h)))
+      and_right (nat_lt 0 v.keys.epoch) (fits (is_strict v.keys) (public_store_of v) note && nat_lt (step_at v note).after.count 4294967295)
+      (and_right (fits (is_strict v.keys) (public_store_of v) note) (nat_lt (step_at v note).after.count 4294967295) (le-ltb (step_at v note).after.count 4294967295 (subst (λ n. 4294967295 ≤ n) (sym count_told) h)))
 
   module _ (s : Step) (n : IsNumbered v.keys note d s) where
-    pub step_told : IsStep v.keys.keys (step_at v note) s
+    pub step_told : IsStep v.keys (step_at v note) s
     unfolding told_step note_step
-    step_told = is_step v.keys (edges (public_store_of v)) (change_of (public_store_of v) note) note (pieces_of note (told_store (public_store_of v) note)) d (pieces_due (public_store_of v) note fit) due s n
+    step_told = is_step v.keys (edges (public_store_of v)) (change_of (is_strict v.keys) (public_store_of v) note) note (pieces_of note (told_store (public_store_of v) note)) d (pieces_due (is_strict v.keys) (public_store_of v) note fit) due s n
 
     pub fits_told : (v.keys.epoch ≡ 0 → ⊥) → fits_at v note ≡ true
     unfolding note_fits has_count
     fits_told begun =
-        and_from (nat_lt 0 v.keys.epoch) (fits (public_store_of v) note && nat_lt (step_at v note).after.count 4294967295)
+        and_from (nat_lt 0 v.keys.epoch) (fits (is_strict v.keys) (public_store_of v) note && nat_lt (step_at v note).after.count 4294967295)
         (lt-ltb 0 v.keys.epoch (omega arith))
-        (and_from (fits (public_store_of v) note) (nat_lt (step_at v note).after.count 4294967295) fit
+        (and_from (fits (is_strict v.keys) (public_store_of v) note) (nat_lt (step_at v note).after.count 4294967295) fit
         (lt-ltb (step_at v note).after.count 4294967295 (subst (λ m. m < 4294967295) (n.count ∙ sym count_told) n.below)))

@@ -9,13 +9,13 @@ use Rattle.cry_base.proofs.Members.{In-append}
 use Rattle.role_graph.specs.Edges.{edges}
 use Rattle.role_graph.specs.RightsByReach.{HasFolder}
 use Rattle.role_graph.specs.Roles.{holder_role, clear_of, sub_of, back_of, files_of, data_of, file_role, folder_roles, variant_of, role_id}
-use Rattle.move_plan.specs.Change.{no_change, change_of}
+use Rattle.move_plan.specs.Change.{no_change, row_change, change_of}
 use Rattle.move_plan.specs.Fitting.{fits}
 use Rattle.record_format.specs.Noted.{Note}
-use Rattle.record_format.specs.Noted.Note.{Root, NewHolder, NewFolder, NewFile, Rewrite, NameFile, NameFolder, DropFile, DropFolder, ShiftFile, ShiftFolder, Give, Take}
+use Rattle.record_format.specs.Noted.Note.{Root, NewHolder, NewFolder, NewFile, Rewrite, NameFile, NameFolder, DropFile, DropFolder, ShiftFile, ShiftFolder, Give, Take, StrictRoot, Upgrade}
 use Rattle.public_fold.specs.Fitted.{told_stand, told_step}
 use Rattle.public_fold.specs.Journal.{Stand, note_step}
-use Rattle.public_fold.specs.KeyStep.{next_serial, numbered, present, renewed, given, keys_then, published_edges, content_of, contents_from, published, step_with, key_step}
+use Rattle.public_fold.specs.KeyStep.{is_strict, next_serial, numbered, present, renewed, given, keys_then, published_edges, content_of, contents_from, published, step_with, key_step}
 use Rattle.public_fold.specs.Records.{Piece, Content, folder_piece, file_piece, holder_piece, pieces_of, sealing_role}
 use Rattle.public_fold.specs.Rooted.{MayStand}
 use Rattle.public_fold.specs.Texts.{HasContent, AreWritten}
@@ -79,8 +79,8 @@ other_role : (a b : Role) → (variant_of a == variant_of b) ≡ false → In a 
 other_role a b t i = false≢true (sym t ∙ eq-eqb (variant_of a) (variant_of b) (one_role a b i).0)
 
 -- what comes is sealed
-fresh_folder : (s t : Store) (note : Note) (f : ℕ) → In (data_of f) (change_of s note).fresh → pieces_of note t ≡ folder_piece t f
-unfolding change_of no_change pieces_of data_of holder_role file_role variant_of
+fresh_folder : (s t : Store) (note : Note) (f : ℕ) → In (data_of f) (row_change s note).fresh → pieces_of note t ≡ folder_piece t f
+unfolding row_change no_change pieces_of data_of holder_role file_role variant_of
 fresh_folder s t Root f i = ap (folder_piece t) (sym (data_in 1 f i))
 fresh_folder s t (NewHolder h check) f i = absurd (other_role (data_of f) (holder_role h) refl i)
 fresh_folder s t (NewFolder n p) f i = ap (folder_piece t) (sym (data_in n f i))
@@ -94,9 +94,11 @@ fresh_folder s t (ShiftFile x g) f i = absurd i
 fresh_folder s t (ShiftFolder g q) f i = absurd i
 fresh_folder s t (Give h g) f i = absurd i
 fresh_folder s t (Take h g) f i = absurd i
+fresh_folder s t StrictRoot f i = ap (folder_piece t) (sym (data_in 1 f i))
+fresh_folder s t Upgrade f i = absurd i
 
-fresh_file : (s t : Store) (note : Note) (x : ℕ) → In (file_role x) (change_of s note).fresh → pieces_of note t ≡ file_piece t x
-unfolding change_of no_change pieces_of holder_role file_role variant_of role_id
+fresh_file : (s t : Store) (note : Note) (x : ℕ) → In (file_role x) (row_change s note).fresh → pieces_of note t ≡ file_piece t x
+unfolding row_change no_change pieces_of holder_role file_role variant_of role_id
 fresh_file s t Root x i = absurd (file_out 1 x i)
 fresh_file s t (NewHolder h check) x i = absurd (other_role (file_role x) (holder_role h) refl i)
 fresh_file s t (NewFolder n p) x i = absurd (file_out n x i)
@@ -110,9 +112,11 @@ fresh_file s t (ShiftFile y g) x i = absurd i
 fresh_file s t (ShiftFolder g q) x i = absurd i
 fresh_file s t (Give h g) x i = absurd i
 fresh_file s t (Take h g) x i = absurd i
+fresh_file s t StrictRoot x i = absurd (file_out 1 x i)
+fresh_file s t Upgrade x i = absurd i
 
-fresh_holder : (s t : Store) (note : Note) (h : ℕ) → In (holder_role h) (change_of s note).fresh → pieces_of note t ≡ holder_piece t h
-unfolding change_of no_change pieces_of holder_role file_role variant_of role_id
+fresh_holder : (s t : Store) (note : Note) (h : ℕ) → In (holder_role h) (row_change s note).fresh → pieces_of note t ≡ holder_piece t h
+unfolding row_change no_change pieces_of holder_role file_role variant_of role_id
 fresh_holder s t Root h i = absurd (holder_out 1 h i)
 fresh_holder s t (NewHolder k check) h i = ap (holder_piece t) (sym (one_role (holder_role h) (holder_role k) i).1)
 fresh_holder s t (NewFolder n p) h i = absurd (holder_out n h i)
@@ -126,6 +130,8 @@ fresh_holder s t (ShiftFile y g) h i = absurd i
 fresh_holder s t (ShiftFolder g q) h i = absurd i
 fresh_holder s t (Give k g) h i = absurd i
 fresh_holder s t (Take k g) h i = absurd i
+fresh_holder s t StrictRoot h i = absurd (holder_out 1 h i)
+fresh_holder s t Upgrade h i = absurd i
 
 -- a piece that is due has its content
 piece_content : (keys : List (Role × ℕ)) (n : ℕ) (pieces : List Piece) (kind object : ℕ) → IsPiece pieces kind object → HasContent (contents_from keys n pieces) kind object
@@ -137,7 +143,7 @@ piece_content keys n pieces kind object w =
 step_content : (at : Stand) (note : Note) (kind object : ℕ) → IsPiece (pieces_of note (told_store at.store note)) kind object → HasContent (told_step at note).contents kind object
 unfolding told_step note_step key_step step_with published
 step_content at note kind object w =
-    let c = change_of at.store note in
+    let c = change_of (is_strict at.keys) at.store note in
     let p = renewed at.keys (edges at.store) c in
     piece_content (keys_then at.keys c p) (next_serial at.keys + length (given at.keys c p) + length (published_edges (edges at.store) c p)) (pieces_of note (told_store at.store note)) kind object w
 
@@ -147,9 +153,9 @@ earlier_content xs ys kind object w = (w.0, (In-append Content w.0 xs ys).1 (inl
 later_content : (xs ys : List Content) (kind object : ℕ) → HasContent ys kind object → HasContent (xs ++ ys) kind object
 later_content xs ys kind object w = (w.0, (In-append Content w.0 xs ys).1 (inr w.1), w.2, w.3)
 
-module _ (at : Stand) (note : Note) (contents : List Content) (mv : IsMove at.store (change_of at.store note) (told_store at.store note)) (ok : AreWritten at.store contents) where
+module _ (at : Stand) (note : Note) (contents : List Content) (mv : IsMove at.store (change_of (is_strict at.keys) at.store note) (told_store at.store note)) (ok : AreWritten at.store contents) where
   folder_written : (f : ℕ) → HasFolder (told_store at.store note) f → HasContent (contents ++ (told_step at note).contents) 1 f
-  unfolding data_of
+  unfolding data_of change_of
   folder_written f w = ⊎_elim
       (λ u. let old : HasFolder at.store f = u.0 in
       earlier_content contents (told_step at note).contents 1 f (subst (HasContent contents 1) old.2 (ok.folders old.0 old.1)))
@@ -158,7 +164,7 @@ module _ (at : Stand) (note : Note) (contents : List Content) (mv : IsMove at.st
       ((mv.roles (data_of f)).0 w)
 
   file_written : (x : ℕ) → HasFile (told_store at.store note) x → HasContent (contents ++ (told_step at note).contents) 2 x
-  unfolding file_role
+  unfolding file_role change_of
   file_written x w = ⊎_elim
       (λ u. let old : HasFile at.store x = u.0 in
       earlier_content contents (told_step at note).contents 2 x (subst (HasContent contents 2) old.2 (ok.files old.0 old.1)))
@@ -167,7 +173,7 @@ module _ (at : Stand) (note : Note) (contents : List Content) (mv : IsMove at.st
       ((mv.roles (file_role x)).0 w)
 
   holder_written : (h : ℕ) → HasHolder (told_store at.store note) h → HasContent (contents ++ (told_step at note).contents) 3 h
-  unfolding holder_role
+  unfolding holder_role change_of
   holder_written h w = ⊎_elim
       (λ u. let old : HasHolder at.store h = u.0 in
       earlier_content contents (told_step at note).contents 3 h (subst (HasContent contents 3) old.2 (ok.holders old.0 old.1)))
@@ -182,6 +188,6 @@ module _ (at : Stand) (note : Note) (contents : List Content) (mv : IsMove at.st
     holders = λ h i. holder_written h.number (h, i, refl);
   }
 
-pub note_written : (at : Stand) (note : Note) (contents : List Content) → fits at.store note ≡ true → MayStand at.store → AreWritten at.store contents → AreWritten (told_stand at note).store (contents ++ (told_step at note).contents)
+pub note_written : (at : Stand) (note : Note) (contents : List Content) → fits (is_strict at.keys) at.store note ≡ true → MayStand at.store → AreWritten at.store contents → AreWritten (told_stand at note).store (contents ++ (told_step at note).contents)
 unfolding told_stand
-note_written at note contents t ok written = all_written at note contents (note_moves at.store note t ok) written
+note_written at note contents t ok written = all_written at note contents (note_moves (is_strict at.keys) at.store note t ok) written

@@ -11,7 +11,7 @@ use Rattle.record_format.specs.Told.{told_note}
 use Rattle.public_fold.specs.Fitted.{has_heads, fits_step, payload_fits, told_stand, told_step}
 use Rattle.public_fold.specs.Journal.{Stand, nothing, note_step}
 use Rattle.public_fold.specs.Keyed.{KeysHold, SerialsHold, LeavesClean}
-use Rattle.public_fold.specs.KeyStep.{no_keys, next_epoch}
+use Rattle.public_fold.specs.KeyStep.{is_strict, no_keys, next_epoch}
 use Rattle.public_fold.specs.Records.{Link, pieces_of}
 use Rattle.public_fold.specs.Rooted.{MayStand}
 use Rattle.public_fold.specs.StandFits.{has_count, note_fits}
@@ -25,34 +25,34 @@ use Rattle.public_fold.proofs.NoteMoves.{note_moves, note_rooted}
 use Rattle.public_fold.proofs.SerialsKept.{serials_after, serials_epoch, first_serials}
 
 -- the parts of a note's fit
-pub fit_told : (at : Stand) (note : Note) → note_fits at note (told_step at note) ≡ true → (fits at.store note ≡ true) × (has_count (told_step at note) ≡ true)
+pub fit_told : (at : Stand) (note : Note) → note_fits at note (told_step at note) ≡ true → (fits (is_strict at.keys) at.store note ≡ true) × (has_count (told_step at note) ≡ true)
 unfolding note_fits
 fit_told at note t =
-    let rest = and_parts (nat_lt 0 at.keys.epoch) (fits at.store note && has_count (told_step at note)) t in
-    and_parts (fits at.store note) (has_count (told_step at note)) rest.1
+    let rest = and_parts (nat_lt 0 at.keys.epoch) (fits (is_strict at.keys) at.store note && has_count (told_step at note)) t in
+    and_parts (fits (is_strict at.keys) at.store note) (has_count (told_step at note)) rest.1
 
 -- a step of a note keeps what holds of a stand
-pub note_store : (at : Stand) (note : Note) → fits at.store note ≡ true → MayStand at.store → MayStand (told_stand at note).store
+pub note_store : (at : Stand) (note : Note) → fits (is_strict at.keys) at.store note ≡ true → MayStand at.store → MayStand (told_stand at note).store
 unfolding told_stand
-note_store at note t ok = inr (note_rooted at.store note t ok)
+note_store at note t ok = inr (note_rooted (is_strict at.keys) at.store note t ok)
 
-pub note_keys : (at : Stand) (note : Note) (links : List Link) → fits at.store note ≡ true → MayStand at.store → KeysHold at.store at.keys links → KeysHold (told_stand at note).store (told_stand at note).keys (links ++ (told_step at note).links)
+pub note_keys : (at : Stand) (note : Note) (links : List Link) → fits (is_strict at.keys) at.store note ≡ true → MayStand at.store → KeysHold at.store at.keys links → KeysHold (told_stand at note).store (told_stand at note).keys (links ++ (told_step at note).links)
 unfolding told_stand told_step note_step
 note_keys at note links t ok keys =
     let after = told_store at.store note in
-    keys_after at.store after at.keys (change_of at.store note) links (note_moves at.store note t ok) keys (pieces_of note after)
+    keys_after at.store after at.keys (change_of (is_strict at.keys) at.store note) links (note_moves (is_strict at.keys) at.store note t ok) keys (pieces_of note after)
 
-pub note_serials : (at : Stand) (note : Note) (links : List Link) → fits at.store note ≡ true → MayStand at.store → KeysHold at.store at.keys links → SerialsHold at.keys → SerialsHold (told_stand at note).keys
+pub note_serials : (at : Stand) (note : Note) (links : List Link) → fits (is_strict at.keys) at.store note ≡ true → MayStand at.store → KeysHold at.store at.keys links → SerialsHold at.keys → SerialsHold (told_stand at note).keys
 unfolding told_stand told_step note_step
 note_serials at note links t ok keys serials =
     let after = told_store at.store note in
-    serials_after at.store after at.keys (change_of at.store note) links (note_moves at.store note t ok) keys (pieces_of note after) serials
+    serials_after at.store after at.keys (change_of (is_strict at.keys) at.store note) links (note_moves (is_strict at.keys) at.store note t ok) keys (pieces_of note after) serials
 
-pub note_clean : (at : Stand) (note : Note) (links : List Link) → fits at.store note ≡ true → MayStand at.store → KeysHold at.store at.keys links → LeavesClean (told_step at note)
+pub note_clean : (at : Stand) (note : Note) (links : List Link) → fits (is_strict at.keys) at.store note ≡ true → MayStand at.store → KeysHold at.store at.keys links → LeavesClean (told_step at note)
 unfolding told_step note_step
 note_clean at note links t ok keys =
     let after = told_store at.store note in
-    links_clean at.store after at.keys (change_of at.store note) links (note_moves at.store note t ok) keys (pieces_of note after)
+    links_clean at.store after at.keys (change_of (is_strict at.keys) at.store note) links (note_moves (is_strict at.keys) at.store note t ok) keys (pieces_of note after)
 
 note_count : (at : Stand) (note : Note) → has_count (told_step at note) ≡ true → (told_stand at note).keys.count < 2 ^ 32
 unfolding has_count told_stand
@@ -118,7 +118,7 @@ first_stands = unfold turn_stand nothing in first_holds
 
 pub first_note : (note : Note) → note_fits nothing note (told_step nothing note) ≡ true → ⊥
 unfolding note_fits nothing no_keys
-first_note note t = false≢true (and_parts (nat_lt 0 0) (fits no_store note && has_count (told_step nothing note)) t).0
+first_note note t = false≢true (and_parts (nat_lt 0 0) (fits (is_strict nothing.keys) no_store note && has_count (told_step nothing note)) t).0
 
 pub first_fits : (p : PlainPayload) → payload_fits nothing p ≡ true → ⊥
 first_fits p t = first_note (told_note p.note) (payload_told nothing p t)

@@ -8,7 +8,7 @@ use Rattle.folder_nodes.specs.Changing.{CanShift, HasPlace}
 use Rattle.grant_book.specs.Granted.{IsHolder, grant_of, with_pair, without_pair, without_pairs_on}
 use Rattle.record_format.specs.Noted.{Note}
 use Rattle.record_format.specs.Noted.Note.{Root, NewHolder, NewFolder, NewFile, Rewrite, NameFile, NameFolder, DropFile, DropFolder}
-use Rattle.record_format.specs.Noted.Note.{ShiftFile, ShiftFolder, Give, Take}
+use Rattle.record_format.specs.Noted.Note.{ShiftFile, ShiftFolder, Give, Take, StrictRoot, Upgrade}
 
 -- the tree after a note
 unfoldable pub tree_then : Store → Note → Store
@@ -25,6 +25,8 @@ tree_then t (ShiftFile x g) = with_file t x (λ e. record e { folder = g })
 tree_then t (ShiftFolder g q) = with_folder t g (λ e. record e { parent = q })
 tree_then t (Give h f) = t
 tree_then t (Take h f) = t
+tree_then t StrictRoot = root_store
+tree_then t Upgrade = t
 
 -- the grants after a note, by holder and then by folder
 unfoldable pub pairs_then : List GrantEntry → Note → List GrantEntry
@@ -41,16 +43,20 @@ pairs_then pairs (ShiftFile x g) = pairs
 pairs_then pairs (ShiftFolder g q) = pairs
 pairs_then pairs (Give h f) = with_pair pairs (grant_of h f)
 pairs_then pairs (Take h f) = without_pair pairs h f
+pairs_then pairs StrictRoot = []
+pairs_then pairs Upgrade = pairs
 
 -- the checks after a note: a new holder's comes behind the others
 unfoldable pub checks_then : List (List ℕ) → Note → List (List ℕ)
 checks_then checks Root = []
+checks_then checks StrictRoot = []
 checks_then checks (NewHolder h check) = checks ++ check ∷ []
 checks_then checks note = checks
 
 -- the tree lets a note change it: what goes or moves stands, and there is a place for what comes
 abbrev pub CanChangeTree : Store → Note → Type 0
 CanChangeTree t Root = ⊥
+CanChangeTree t StrictRoot = ⊥
 CanChangeTree t (NewFolder f p) = (f ≡ t.folders_made + 1) × HasPlace t p
 CanChangeTree t (NewFile x f) = (x ≡ t.files_made + 1) × HasPlace t f
 CanChangeTree t (DropFile x) = IsSome (file_entry t x)
@@ -62,6 +68,7 @@ CanChangeTree t note = Unit {0}
 -- so do the holders and the grants: a holder is the next one, a grant is one that isn't given yet, or one that was given
 abbrev pub CanChangeGrants : List (List ℕ) → List GrantEntry → Note → Type 0
 CanChangeGrants checks pairs Root = ⊥
+CanChangeGrants checks pairs StrictRoot = ⊥
 CanChangeGrants checks pairs (NewHolder h check) = h ≡ length checks + 1
 CanChangeGrants checks pairs (Give h f) = IsHolder checks h × ¬ In (grant_of h f) pairs
 CanChangeGrants checks pairs (Take h f) = In (grant_of h f) pairs

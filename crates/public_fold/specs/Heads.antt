@@ -2,7 +2,7 @@
 use Rattle.std.specs.Prelude.{◌≡◌, ℕ, Bool, ◌&&◌, ◌==◌, List, [], ◌∷◌, map}
 use Rattle.record_format.specs.Noted.{Note}
 use Rattle.record_format.specs.Noted.Note.{Root, NewHolder, NewFolder, NewFile, Rewrite, NameFile, NameFolder, DropFile, DropFolder}
-use Rattle.record_format.specs.Noted.Note.{ShiftFile, ShiftFolder, Give, Take}
+use Rattle.record_format.specs.Noted.Note.{ShiftFile, ShiftFolder, Give, Take, StrictRoot, Upgrade}
 use Rattle.record_format.specs.Plain.{PlainContent}
 use Rattle.public_fold.specs.Fitted.{has_length}
 use Rattle.public_fold.specs.Records.{Piece, Content}
@@ -33,6 +33,8 @@ due_of (ShiftFile x g) = []
 due_of (ShiftFolder g q) = []
 due_of (Give h f) = []
 due_of (Take h f) = []
+due_of StrictRoot = textless 1 1 ∷ []
+due_of Upgrade = []
 
 -- the keys that the step gives, and the heads of what it publishes
 pub record IsSkeleton (step : Stepped) (s : Skeleton) : Type 0 where

@@ -1,26 +1,32 @@
 -- How a command changes the keys, and what it publishes. This project's own, docs/FORMAT.md, "The key step".
-use Rattle.std.specs.Prelude.{ℕ, ◌+◌, ◌*◌, ◌^◌, Bool, cond, not, ◌||◌, List, [], ◌∷◌, ◌++◌, map, filter, length, Option, Some, None}
+use Rattle.std.specs.Prelude.{ℕ, ◌+◌, ◌*◌, ◌^◌, Bool, cond, not, ◌||◌, ◌==◌, List, [], ◌∷◌, ◌++◌, map, filter, length, Option, Some, None}
 use Rattle.std.specs.Prelude.{unwrap_or}
 use Rattle.cry_base.specs.Sets.{has}
 use Rattle.cry_base.specs.declared.roles.Edge.{Edge}
 use Rattle.cry_base.specs.declared.roles.Role.{Role}
 use Rattle.cry_base.specs.declared.roles.Role.TheVariants.{Owner}
+use Rattle.role_graph.specs.Ascending.{ascending}
 use Rattle.role_graph.specs.Roles.{same_role}
 use Rattle.role_graph.specs.Edges.{same_edge, edge_before, in_order}
 use Rattle.rekey_walk.specs.Dirty.{mark_all, plan}
 use Rattle.move_plan.specs.Change.{Change}
 use Rattle.public_fold.specs.Records.{Link, Piece, Content, sealing_role}
 
--- the serial of each role's newest key, the dirty roles, and where the counter of serials stands
+-- the serial of each role's newest key, the dirty roles, where the counter of serials stands, and the version: 0 before the root is made
 pub record KeyState : Type 0 where
   pub keys : List (Role × ℕ)
   pub dirty : List Role
   pub epoch : ℕ
   pub count : ℕ
+  pub version : ℕ
 
 -- before the first epoch there is the owner's key alone, of serial 0
 unfoldable pub no_keys : KeyState
-no_keys = record { keys = (Owner, 0) ∷ []; dirty = []; epoch = 0; count = 0 }
+no_keys = record { keys = (Owner, 0) ∷ []; dirty = []; epoch = 0; count = 0; version = 0 }
+
+-- a store of version 2 is strict: what left a folder is closed to whoever comes later
+unfoldable pub is_strict : KeyState → Bool
+is_strict k = k.version == 2
 
 -- a session begins the next epoch, and counts from 0
 unfoldable pub next_epoch : KeyState → KeyState
@@ -41,9 +47,12 @@ edges_left before c = without same_edge c.removed before
 unfoldable pub dirty_left : KeyState → List Edge → Change → List Role
 dirty_left k before c = without same_role c.gone (mark_all k.dirty before (map (λ e. e.to) c.removed))
 
--- 3: the roles that are renewed
+-- 3: the plan of what is wanted; the roles that are renewed: the strict ones and those of the plan, in their order, each once
+unfoldable pub planned : KeyState → List Edge → Change → List Role
+planned k before c = plan (dirty_left k before c) (edges_left before c) c.wanted
+
 unfoldable pub renewed : KeyState → List Edge → Change → List Role
-renewed k before c = plan (dirty_left k before c) (edges_left before c) c.wanted
+renewed k before c = ascending (c.strict ++ planned k before c)
 
 -- the serial that the counter gives next, and the items numbered from a serial on
 unfoldable pub next_serial : KeyState → ℕ
@@ -93,6 +102,10 @@ content_of keys p = record { piece = p.0; key_serial = present keys (sealing_rol
 unfoldable pub contents_from : List (Role × ℕ) → ℕ → List Piece → List Content
 contents_from keys n pieces = map (content_of keys) (numbered n pieces)
 
+-- the version then
+unfoldable pub version_then : KeyState → Change → ℕ
+version_then k c = unwrap_or c.version k.version
+
 -- what a command leaves and publishes
 pub record Stepped : Type 0 where
   pub after : KeyState
@@ -102,14 +115,15 @@ pub record Stepped : Type 0 where
   pub contents : List Content
 
 -- the step once the keys are numbered: keys first, then the links' nonces, then the contents'
-unfoldable pub published : KeyState → List Role → List Role → List (Role × ℕ) → List (Role × ℕ) → List Edge → List Piece → Stepped
-published k dirty plan new keys es pieces = record {
+unfoldable pub published : ℕ → KeyState → List Role → List Role → List (Role × ℕ) → List (Role × ℕ) → List Edge → List Piece → Stepped
+published version k dirty plan new keys es pieces = record {
   after = record {
     keys = keys;
     dirty = without same_role plan dirty;
     epoch = k.epoch;
     count = k.count + length new + length es + length
         pieces;
+    version = version;
   };
   renewals = plan;
   given = new;
@@ -120,7 +134,7 @@ published k dirty plan new keys es pieces = record {
 -- the step with its plan
 unfoldable pub step_with : KeyState → List Edge → Change → List Piece → List Role → Stepped
 step_with k before c pieces plan =
-    published k (dirty_left k before c) plan (given k c plan) (keys_then k c plan) (published_edges before c plan) pieces
+    published (version_then k c) k (dirty_left k before c) plan (given k c plan) (keys_then k c plan) (published_edges before c plan) pieces
 
 -- the key step: from the keys, the edges before, the change and what is due to be sealed
 unfoldable pub key_step : KeyState → List Edge → Change → List Piece → Stepped

@@ -42,7 +42,7 @@ pub record KeysHold (s : Store) (k : KeyState) (links : List Link) : Type 0 wher
 pub record IsKept (s : Store) (keys : List (Role × ℕ)) (dirty : List Role) : Type 0 where
   pub stands : MayStand s
   pub links : List Link
-  pub hold : KeysHold s (record { keys = keys; dirty = dirty; epoch = 0; count = 0 }) links
+  pub hold : KeysHold s (record { keys = keys; dirty = dirty; epoch = 0; count = 0; version = 0 }) links
 
 -- present keys have serials of their own, all below the next one
 pub record SerialsHold (k : KeyState) : Type 0 where

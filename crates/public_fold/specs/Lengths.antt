@@ -3,12 +3,12 @@ use Rattle.std.specs.Prelude.{ℕ, ◌+◌, ◌*◌, List, [], ◌∷◌, length
 use Rattle.cry_base.specs.Layout.{batch_len, header_len}
 use Rattle.record_format.specs.Noted.{Note}
 use Rattle.record_format.specs.Noted.Note.{Root, NewHolder, NewFolder, NewFile, Rewrite, NameFile, NameFolder, DropFile, DropFolder}
-use Rattle.record_format.specs.Noted.Note.{ShiftFile, ShiftFolder, Give, Take}
+use Rattle.record_format.specs.Noted.Note.{ShiftFile, ShiftFolder, Give, Take, StrictRoot, Upgrade}
 use Rattle.move_plan.specs.Noting.{note_of}
 use Rattle.public_fold.specs.Records.{Content, text_of}
 use Rattle.public_fold.specs.KeyStep.{Stepped}
-use Rattle.public_fold.specs.Journal.{Entry, Journal, Stand, nothing, entry_step, stand_then}
-use Rattle.public_fold.specs.Journal.Entry.{Session, Made, Did}
+use Rattle.public_fold.specs.Journal.{Entry, Journal, Stand, nothing, root_note, entry_step, stand_then}
+use Rattle.public_fold.specs.Journal.Entry.{Session, Made, Did, Upgraded}
 
 -- the bytes of a note: its code, four for each number, 32 for a holder's check
 unfoldable pub note_len : Note → ℕ
@@ -25,6 +25,8 @@ note_len (ShiftFile x g) = 9
 note_len (ShiftFolder g q) = 9
 note_len (Give h f) = 9
 note_len (Take h f) = 9
+note_len StrictRoot = 1
+note_len Upgrade = 1
 
 -- a content has 58 bytes beside its text, a link has 98
 unfoldable pub content_len : Content → ℕ
@@ -37,8 +39,9 @@ payload_len note step = note_len note + 8 + 98 * length step.links + sum_by cont
 -- an epoch's payload is empty
 unfoldable pub entry_payload : Stand → Entry → ℕ
 entry_payload at Session = 0
-entry_payload at (Made keys) = payload_len Root (entry_step at (Made keys))
+entry_payload at (Made version keys) = payload_len (root_note version) (entry_step at (Made version keys))
 entry_payload at (Did request keys) = payload_len (note_of at.store request []) (entry_step at (Did request keys))
+entry_payload at (Upgraded keys) = payload_len Upgrade (entry_step at (Upgraded keys))
 
 -- the payloads' lengths, one after another
 unfoldable pub payloads_from : Stand → List Entry → List ℕ

@@ -1,5 +1,6 @@
 pub mod Records
 pub mod KeyStep
+pub mod AtKeys
 pub mod KeyTables
 pub mod KeysAfter
 pub mod Journal

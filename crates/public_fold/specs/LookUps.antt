@@ -8,7 +8,7 @@ use Rattle.role_graph.specs.PublicStore.{public_store}
 use Rattle.move_plan.specs.Change.{Change, change_of}
 use Rattle.move_plan.specs.LookUps.{change_look_ups}
 use Rattle.record_format.specs.Noted.{Note}
-use Rattle.public_fold.specs.KeyStep.{KeyState, renewed}
+use Rattle.public_fold.specs.KeyStep.{KeyState, is_strict, planned, renewed}
 use Rattle.public_fold.specs.Standing.{PublicView, public_store_of}
 
 -- to mark from each of the roles: two for each edge out of a role that is marked from it, and one more
@@ -16,7 +16,7 @@ unfoldable pub mark_look_ups : List Edge → List Role → ℕ
 mark_look_ups es [] = 0
 mark_look_ups es (target ∷ targets) = 2 * count_from es (reach_along es (target ∷ [])) + 1 + mark_look_ups es targets
 
--- to plan: two for each edge into a role that is renewed, and one for each wanted role
+-- to plan: two for each edge into a role of the plan, and one for each wanted role
 unfoldable pub plan_look_ups : List Edge → List Role → List Role → ℕ
 plan_look_ups es wanted plan = 2 * count_into es plan + length wanted
 
@@ -27,10 +27,12 @@ publish_look_ups es plan = length (at_roles es plan) + 2 * length plan
 -- all three
 unfoldable pub step_look_ups : KeyState → List Edge → Change → ℕ
 step_look_ups k before c =
-    mark_look_ups before (map (λ e. e.to) c.removed) + plan_look_ups before c.wanted (renewed k before c) + publish_look_ups before (renewed k before c)
+    mark_look_ups before (map (λ e. e.to) c.removed)
+    + plan_look_ups before c.wanted (planned k before c)
+    + publish_look_ups before (renewed k before c)
 
 -- to make the note's change and its step of a public state
 abbrev pub note_look_ups : PublicView → Note → ℕ
 note_look_ups v note =
-    change_look_ups (edges (public_store v.tree v.pairs)) note
-    + step_look_ups v.keys (edges (public_store v.tree v.pairs)) (change_of (public_store_of v) note)
+    change_look_ups (is_strict v.keys) (public_store_of v) note
+    + step_look_ups v.keys (edges (public_store v.tree v.pairs)) (change_of (is_strict v.keys) (public_store_of v) note)

@@ -1,9 +1,9 @@
 -- A change that is prepared on a state, and made later.
-use Rattle.std.specs.Prelude.{◌≡◌, ℕ, ◌≤◌, Bool, true, false, List, ◌++◌, length, Option, Some, None}
+use Rattle.std.specs.Prelude.{◌≡◌, ℕ, ◌≤◌, Bool, true, false, List, ◌++◌, length, Option, Some, None, unwrap_or}
 use Rattle.cry_base.specs.Store.{Store, root_store}
 use Rattle.cry_base.specs.declared.roles.Role.{Role}
 use Rattle.record_format.specs.Noted.{Note}
-use Rattle.record_format.specs.Noted.Note.{Root}
+use Rattle.record_format.specs.Noted.Note.{Root, StrictRoot}
 use Rattle.record_format.specs.Told.{told_note}
 use Rattle.record_format.specs.declared.note.Note.{Note as Declared}
 use Rattle.record_format.specs.declared.note.Note.TheVariants as declared
@@ -11,11 +11,12 @@ use Rattle.move_plan.specs.Fitting.{fits}
 use Rattle.public_fold.specs.Changing.{checks_then, pairs_then, tree_then}
 use Rattle.public_fold.specs.Fitted.{told_stand}
 use Rattle.public_fold.specs.Journal.{Stand}
-use Rattle.public_fold.specs.KeyStep.{KeyState, keys_without, next_epoch}
+use Rattle.public_fold.specs.KeyStep.{KeyState, is_strict, keys_without, next_epoch}
 use Rattle.public_fold.specs.Standing.{IsSeenAs, PublicView, public_store_of}
 use Rattle.public_fold.specs.declared.heads.Skeleton.{Skeleton}
 
--- the note and its skeleton; the roles whose old keys go; the dirty roles then; the epoch then, and how many serials were given in it
+-- the note and its skeleton; the roles whose old keys go; the dirty roles then; the epoch then, and how many serials were
+-- given in it; the version then, where the note says one
 pub record PreparedView : Type 0 where
   pub note : Declared
   pub skeleton : Skeleton
@@ -23,10 +24,17 @@ pub record PreparedView : Type 0 where
   pub dirty : List Role
   pub epoch : ℕ
   pub count : ℕ
+  pub version : Option ℕ
 
 -- the keys once the change is made: those given, and behind them the old ones whose role isn't gone
 abbrev pub keys_settled : KeyState → PreparedView → KeyState
-keys_settled k p = record { keys = p.skeleton.keys.items ++ keys_without p.gone k.keys; dirty = p.dirty; epoch = p.epoch; count = p.count }
+keys_settled k p = record {
+  keys = p.skeleton.keys.items ++ keys_without p.gone k.keys;
+  dirty = p.dirty;
+  epoch = p.epoch;
+  count = p.count;
+  version = unwrap_or p.version k.version;
+}
 
 -- the state once the change is made
 abbrev pub settled : PublicView → PreparedView → PublicView
@@ -57,13 +65,14 @@ begun new at = record at { keys = begun_keys new at.keys }
 -- the change may be made on the state: its note fits, and it was prepared on a state that is seen as this one, with an epoch begun before
 -- it or not, so that it leaves what the note makes of it
 pub record CanSettle (v : PublicView) (p : PreparedView) : Type 0 where
-  pub note_fits : fits (public_store_of v) (told_note p.note) ≡ true
+  pub note_fits : fits (is_strict v.keys) (public_store_of v) (told_note p.note) ≡ true
   pub begins : Bool
   pub leaves : (at : Stand) → IsSeenAs v at → IsSeenAs (settled v p) (told_stand (begun begins at) (told_note p.note))
 
 -- the tree that the note makes whole: that of the root alone, where it makes the root
 abbrev pub root_made : Note → Option Store
 root_made Root = Some root_store
+root_made StrictRoot = Some root_store
 root_made note = None
 
 -- whether the note makes a holder, and the same note with another check

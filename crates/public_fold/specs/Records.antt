@@ -7,7 +7,7 @@ use Rattle.cry_base.specs.declared.roles.Role.TheVariants.{Owner}
 use Rattle.role_graph.specs.Roles.{data_of, file_role}
 use Rattle.record_format.specs.Noted.{Note}
 use Rattle.record_format.specs.Noted.Note.{Root, NewHolder, NewFolder, NewFile, Rewrite, NameFile, NameFolder, DropFile, DropFolder}
-use Rattle.record_format.specs.Noted.Note.{ShiftFile, ShiftFolder, Give, Take}
+use Rattle.record_format.specs.Noted.Note.{ShiftFile, ShiftFolder, Give, Take, StrictRoot, Upgrade}
 
 -- the key of to_serial sealed under the key of from_serial
 pub record Link : Type 0 where
@@ -54,6 +54,8 @@ pieces_of (ShiftFile x g) s = []
 pieces_of (ShiftFolder g q) s = []
 pieces_of (Give h f) s = []
 pieces_of (Take h f) s = []
+pieces_of StrictRoot s = folder_piece s 1
+pieces_of Upgrade s = []
 
 -- the role whose key seals a piece
 unfoldable pub sealing_role : Piece → Role

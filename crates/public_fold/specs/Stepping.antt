@@ -1,5 +1,5 @@
 -- What the code makes of a step on its way. This project's own, docs/FORMAT.md, "The key step".
-use Rattle.std.specs.Prelude.{◌≡◌, ℕ, ◌+◌, ◌<◌, true, List, [], ◌++◌, length, map}
+use Rattle.std.specs.Prelude.{◌≡◌, ℕ, ◌+◌, ◌<◌, Bool, true, List, [], ◌++◌, length, map, unwrap_or}
 use Rattle.cry_base.specs.Store.{Store}
 use Rattle.cry_base.specs.declared.roles.Edge.{Edge}
 use Rattle.cry_base.specs.declared.roles.Role.{Role}
@@ -17,9 +17,9 @@ use Rattle.public_fold.specs.declared.counter.SerialCount.{SerialCount}
 use Rattle.public_fold.specs.declared.step.Due.{Due}
 use Rattle.public_fold.specs.declared.step.Step.{Step}
 
--- the change is that of a note that fits the store
+-- the change is that of a note that fits the store, be it strict or not
 abbrev pub IsOfFittingNote : Store → Change → Type 0
-IsOfFittingNote s c = (note : Note) × (fits s note ≡ true) × (c ≡ change_of s note)
+IsOfFittingNote s c = (note : Note) × (strict : Bool) × (fits strict s note ≡ true) × (c ≡ change_of strict s note)
 
 -- the roles that get keys: those that are renewed, and then those that come
 abbrev pub keyed_of : Due → List Role
@@ -31,6 +31,7 @@ pub record IsDue (k : KeyState) (before : List Edge) (c : Change) (d : Due) : Ty
   pub gone : d.gone.items ≡ renewed k before c ++ c.gone
   pub dirty : d.dirty ≡ without same_role (renewed k before c) (dirty_left k before c)
   pub edges : d.edges.items ≡ published_edges before c (renewed k before c)
+  pub version : d.version ≡ c.version
 
 -- what is asked of the roles that a step is looked up at: they are those of a public state, with these marks, and the change is that
 -- of a note that fits it
@@ -43,7 +44,7 @@ pub record IsDueAt (s : Store) (dirty : List Role) (c : Change) : Type 0 where
 
 -- no keys, with these marks: what is due hangs on no more of the keys
 abbrev pub marks_alone : List Role → KeyState
-marks_alone dirty = record { keys = []; dirty = dirty; epoch = 0; count = 0 }
+marks_alone dirty = record { keys = []; dirty = dirty; epoch = 0; count = 0; version = 0 }
 
 -- the keys that a step leaves
 abbrev pub keys_left : List (Role × ℕ) → Step → List (Role × ℕ)
@@ -51,7 +52,7 @@ keys_left keys s = s.skeleton.keys.items ++ keys_without s.left.gone.items keys
 
 -- these keys, where the counter stands there and nothing is dirty
 abbrev pub keys_at : List (Role × ℕ) → SerialCount → KeyState
-keys_at keys from = record { keys = keys; dirty = []; epoch = from.epoch; count = from.count }
+keys_at keys from = record { keys = keys; dirty = []; epoch = from.epoch; count = from.count; version = 0 }
 
 -- where the counter stands once keys, links and contents took their serials
 abbrev pub counted : KeyState → Note → Due → ℕ
@@ -68,11 +69,13 @@ pub record IsNumbered (k : KeyState) (note : Note) (d : Due) (s : Step) : Type 0
   pub epoch : s.left.epoch ≡ k.epoch
   pub count : s.left.count ≡ counted k note d
   pub below : s.left.count < 4294967295
+  pub version : s.left.version ≡ d.version
 
 -- what the step gives, publishes and leaves, from the keys before it
-pub record IsStep (before : List (Role × ℕ)) (step : Stepped) (s : Step) : Type 0 where
+pub record IsStep (before : KeyState) (step : Stepped) (s : Step) : Type 0 where
   pub skeleton : IsSkeleton step s.skeleton
-  pub keys : keys_left before s ≡ step.after.keys
+  pub keys : keys_left before.keys s ≡ step.after.keys
   pub dirty : s.left.dirty ≡ step.after.dirty
   pub epoch : s.left.epoch ≡ step.after.epoch
   pub count : s.left.count ≡ step.after.count
+  pub version : unwrap_or s.left.version before.version ≡ step.after.version

@@ -5,7 +5,7 @@ use Rattle.cry_base.specs.Stepping.{with_new_holder, with_new_folder, with_new_f
 use Rattle.cry_base.specs.Stepping.{without_grant}
 use Rattle.record_format.specs.Noted.{Note}
 use Rattle.record_format.specs.Noted.Note.{Root, NewHolder, NewFolder, NewFile, Rewrite, NameFile, NameFolder, DropFile, DropFolder}
-use Rattle.record_format.specs.Noted.Note.{ShiftFile, ShiftFolder, Give, Take}
+use Rattle.record_format.specs.Noted.Note.{ShiftFile, ShiftFolder, Give, Take, StrictRoot, Upgrade}
 
 -- the store after a note, as everyone may see it: no name, no byte of a file, no holder's key
 unfoldable pub told_store : Store → Note → Store
@@ -22,3 +22,5 @@ told_store s (ShiftFile x g) = with_file s x (λ e. record e { folder = g })
 told_store s (ShiftFolder g q) = with_folder s g (λ e. record e { parent = q })
 told_store s (Give h f) = record s { grants = s.grants ++ record { holder = h; folder = f } ∷ [] }
 told_store s (Take h f) = without_grant s h f
+told_store s StrictRoot = root_store
+told_store s Upgrade = s

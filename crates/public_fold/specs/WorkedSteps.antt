@@ -6,18 +6,19 @@ use Rattle.cry_base.specs.Requests.Request.{AddHolder, MakeFolder, WriteFile, Gr
 use Rattle.cry_base.specs.declared.roles.Role.{Role}
 use Rattle.std.specs.Cmp.Lexicographic.{pointwise}
 use Rattle.role_graph.specs.Edges.{edges, same_edge}
-use Rattle.record_format.specs.Noted.Note.{Root}
+use Rattle.record_format.specs.Noted.Note.{Upgrade}
 use Rattle.move_plan.specs.Noting.{note_of}
 use Rattle.move_plan.specs.Change.{Change, no_change, change_of}
 use Rattle.rekey_walk.specs.WorkedMarks.{marks}
 use Rattle.move_plan.specs.WorkedChanges.{changes}
 use Rattle.public_fold.specs.Records.{folder_piece, file_piece, holder_piece, pieces_of, sealing_role, text_of}
-use Rattle.public_fold.specs.KeyStep.{Stepped, no_keys, next_epoch, without, keys_without, edges_left, dirty_left, renewed, next_serial}
+use Rattle.public_fold.specs.KeyStep.{Stepped, no_keys, is_strict, next_epoch, without, keys_without, edges_left, dirty_left, planned}
+use Rattle.public_fold.specs.KeyStep.{renewed, next_serial, version_then}
 use Rattle.public_fold.specs.KeyStep.{numbered, given, keys_then, newest, present, edges_then, is_published, published_edges, link_of}
 use Rattle.public_fold.specs.KeyStep.{links_from, content_of, contents_from, published, step_with, key_step}
-use Rattle.public_fold.specs.Journal.{Entry, Journal, Stand, nothing, first_key, note_step, entry_step, entry_store, stand_then}
+use Rattle.public_fold.specs.Journal.{Entry, Journal, Stand, nothing, first_key, note_step, root_note, entry_step, entry_store, stand_then}
 use Rattle.public_fold.specs.Journal.{stand_after, store_of, keys_of, steps_from, steps_of}
-use Rattle.public_fold.specs.Journal.Entry.{Session, Made, Did}
+use Rattle.public_fold.specs.Journal.Entry.{Session, Made, Did, Upgraded}
 use Rattle.public_fold.specs.Lengths.{note_len, content_len, payload_len, entry_payload, payloads_from, end_of}
 use Rattle.public_fold.specs.StandFits.{has_count, note_fits, entry_fits, all_fit}
 
@@ -29,9 +30,9 @@ some_keys n = replicate n (replicate 32 1)
 unfoldable pub does : ℕ → Request → Entry
 does n r = Did r (some_keys n)
 
--- a fresh store
+-- a fresh store of version 1
 unfoldable pub fresh : Journal
-fresh = Session ∷ Made (some_keys 5) ∷ []
+fresh = Session ∷ Made 1 (some_keys 5) ∷ []
 
 -- the rows "tree and rename" and "empty rewrite in a second session"
 unfoldable pub renaming : Journal
@@ -79,6 +80,30 @@ unfoldable pub dropping : Journal
 dropping = granting ++ (Session ∷ does 0 (Relocate (codes "/a/x") (codes "/")) ∷ does 5 (MakeFolder (codes "/a/b"))
     ∷ does 0 (Grant 1 (codes "/a/b")) ∷ does 0 (Remove (codes "/a/b")) ∷ does 0 (Remove (codes "/x")) ∷ [])
 
+-- a fresh store of version 2
+unfoldable pub fresh_strict : Journal
+fresh_strict = Session ∷ Made 2 (some_keys 5) ∷ []
+
+-- the rows "strict move" and "strict departure"
+unfoldable pub moving_strictly : Journal
+moving_strictly = fresh_strict ++ (Session ∷ does 5 (MakeFolder (codes "/s")) ∷ does 5 (MakeFolder (codes "/p"))
+    ∷ does 5 (MakeFolder (codes "/s/d")) ∷ does 1 (WriteFile (codes "/s/d/f") (1 ∷ []))
+    ∷ does 1 AddHolder ∷ does 0 (Grant 1 (codes "/s")) ∷ does 7 (Relocate (codes "/s/d") (codes "/p"))
+    ∷ does 2 (WriteFile (codes "/p/d/f") (2 ∷ [])) ∷ [])
+
+unfoldable pub departing_strictly : Journal
+departing_strictly = fresh_strict ++ (Session ∷ does 5 (MakeFolder (codes "/a")) ∷ does 5 (MakeFolder (codes "/b"))
+    ∷ does 1 (WriteFile (codes "/a/x") (0 ∷ [])) ∷ does 5 (Relocate (codes "/a/x") (codes "/b")) ∷ does 1 AddHolder
+    ∷ does 0 (Grant 1 (codes "/a")) ∷ [])
+
+-- the row "upgraded": after "grant" the store is made strict, and a file leaves the folder
+unfoldable pub upgrading : Journal
+upgrading = granting ++ (Session ∷ Upgraded (some_keys 8) ∷ [])
+
+unfoldable pub departing_after_it : Journal
+departing_after_it = upgrading ++ (Session ∷ does 5 (MakeFolder (codes "/b")) ∷ does 5 (Relocate (codes "/a/x") (codes "/b"))
+    ∷ does 1 (WriteFile (codes "/b/x") (2 ∷ [])) ∷ [])
+
 -- the step of batch n, from 1
 unfoldable pub step_at : Journal → ℕ → List Stepped
 step_at m zero = []
@@ -97,8 +122,9 @@ contents_at m n = map (λ s. length s.contents) (step_at m n)
 -- the change of an entry, and whether the edges that it leaves are those of the store after it
 unfoldable pub entry_change : Stand → Entry → Change
 entry_change at Session = no_change
-entry_change at (Made keys) = change_of at.store Root
-entry_change at (Did request keys) = change_of at.store (note_of at.store request [])
+entry_change at (Made version keys) = change_of (is_strict at.keys) at.store (root_note version)
+entry_change at (Did request keys) = change_of (is_strict at.keys) at.store (note_of at.store request [])
+entry_change at (Upgraded keys) = change_of (is_strict at.keys) at.store Upgrade
 
 unfoldable pub edges_agree_at : Stand → Entry → Bool
 edges_agree_at at entry = pointwise same_edge (edges_then (edges at.store) (entry_change at entry)) (edges (entry_store at.store entry))
@@ -111,9 +137,10 @@ edges_agree at (entry ∷ entries) = edges_agree_at at entry ∷ edges_agree (st
 -- every word of a journal
 unfoldable pub journals : Unit {0}
 unfolding has_count note_fits entry_fits all_fit digits entry_change edges_agree_at edges_agree marks changes folder_piece file_piece
-    holder_piece pieces_of sealing_role text_of no_keys next_epoch without keys_without edges_left dirty_left renewed next_serial numbered
-    given keys_then newest present edges_then is_published published_edges link_of links_from content_of contents_from published step_with
-    key_step nothing first_key note_step entry_step entry_store stand_then stand_after store_of keys_of steps_from steps_of note_len
-    content_len payload_len entry_payload payloads_from end_of some_keys does fresh renaming rewriting granting revoking writing_again
-    renaming_again moving_away making_again dropping step_at renewals_at links_at contents_at
+    holder_piece pieces_of sealing_role text_of no_keys is_strict next_epoch without keys_without edges_left dirty_left planned
+    renewed version_then next_serial numbered given keys_then newest present edges_then is_published published_edges link_of
+    links_from content_of contents_from published step_with key_step nothing first_key note_step root_note entry_step entry_store
+    stand_then stand_after store_of keys_of steps_from steps_of note_len content_len payload_len entry_payload payloads_from end_of
+    some_keys does fresh renaming rewriting granting revoking writing_again renaming_again moving_away making_again dropping
+    fresh_strict moving_strictly departing_strictly upgrading departing_after_it step_at renewals_at links_at contents_at
 journals = tt

@@ -1,5 +1,5 @@
 //! What a note changes in the tree, the holders and the grants.
-ghost use Rattle.std.specs.Prelude.{◌≡◌, ◌<◌, ◌≤◌, true, IfOk, option_map};
+ghost use Rattle.std.specs.Prelude.{◌≡◌, ◌<◌, ◌≤◌, Bool, true, IfOk, option_map};
 ghost use Rattle.cry_base.specs.Store.{root_store};
 ghost use Rattle.move_plan.specs.Fitting.{fits as fits_store};
 ghost use Rattle.move_plan.specs.Seen.{seen_store};
@@ -21,7 +21,7 @@ pub(crate) fn change_store(
     note: &Note,
     root: Option<Box<Shape>>,
 )
-    requires fits { fits_store (seen_store shape.old.tree grants.old) (told_note note.now) ≡ true }
+    requires fits { (strict : Bool) × (fits_store strict (seen_store shape.old.tree grants.old) (told_note note.now) ≡ true) }
     requires may_stand { MayStand (seen_store shape.old.tree grants.old) }
     requires root { option_map (λ b. b.value.tree) root ≡ root_made (told_note note.now) }
     requires shape_room { 1 ≤ shape.old.spare }
@@ -70,6 +70,8 @@ fn change_shape(shape: &mut Shape, note: &Note)
         Note::ShiftFile { file, into } => shape.relocate(Node::File(file), into),
         Note::ShiftFolder { folder, into } => shape.relocate(Node::Folder(folder), into),
         Note::Root
+        | Note::StrictRoot
+        | Note::Upgrade
         | Note::NewHolder { .. }
         | Note::Rewrite { .. }
         | Note::NameFile { .. }
@@ -96,6 +98,8 @@ fn change_grants(grants: &mut Grants, note: &Note)
         Note::Give { holder, folder } => grants.grant(holder, folder),
         Note::Take { holder, folder } => grants.revoke(holder, folder),
         Note::Root
+        | Note::StrictRoot
+        | Note::Upgrade
         | Note::NewFolder { .. }
         | Note::NewFile { .. }
         | Note::Rewrite { .. }

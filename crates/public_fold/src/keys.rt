@@ -6,8 +6,8 @@ ghost use Rattle.public_fold.specs.KeysAfter.{keys_then_of};
 use crate::KeyHead;
 use crate::by_kind::{KeysByKind, remove_keys, set_keys};
 use crate::key_order::KeyOrder;
-use crate::lists::{has_role, is_same_role};
 use cry_base::{Mem, Role, Serial};
+use rekey_walk::{has_role, is_same_role};
 use std::alloc::Global;
 use std::marker::Model;
 

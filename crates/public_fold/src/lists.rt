@@ -1,28 +1,25 @@
 //! Roles and edges in lists: which stand there, and which are left.
 ghost use Rattle.std.specs.Prelude.{◌≡◌, ◌++◌, IfOk, OnOk};
-ghost use Rattle.cry_base.specs.Sets.{has};
+ghost use Rattle.role_graph.specs.Ascending.{IsAscending, ascending};
 ghost use Rattle.role_graph.specs.Edges.{same_edge};
-ghost use Rattle.role_graph.specs.Roles.{same_role};
 ghost use Rattle.public_fold.specs.KeyStep.{without};
 
 use cry_base::{Edge, List, Mem, Role};
-use role_graph::has_edge;
+use role_graph::{RoleSet, has_edge};
 use std::alloc::Global;
 
-/// Whether the two are one role.
-#[tactic(auto, unfolding(role_graph::specs::Roles::same_role, role_graph::specs::Roles::variant_of, role_graph::specs::Roles::role_id))]
-pub(crate) fn is_same_role(a: Role, b: Role) -> bool
-    ensures { result ≡ same_role a b }
+/// The strict roles and those of the plan, in their order, each once. It takes no memory where none is strict.
+pub(crate) fn with_strict(alloc: Global, strict: &[Role], planned: List<Role>) -> Mem<List<Role>>
+    requires { IsAscending planned.items }
+    ensures { IfOk result (λ l. l.items ≡ ascending (strict.now ++ planned.items)) }
 {
-    a == b
-}
-
-/// Whether the role is one of these.
-#[tactic(auto, unfolding(cry_base::specs::Sets::has))]
-pub(crate) fn has_role(roles: &[Role], role: Role) -> bool
-    ensures { result ≡ has same_role roles.now role }
-{
-    roles.iter().any(|other| is_same_role(role, *other))
+    if strict.is_empty() {
+        return Ok(planned);
+    }
+    let mut all = RoleSet::new(alloc);
+    all.extend(strict)?;
+    all.extend(planned.as_slice())?;
+    all.to_list()
 }
 
 /// The one list, and behind it the other, which takes no memory where the one is empty: so it is in most steps.

@@ -42,6 +42,7 @@ impl Model for Prepared {
       dirty = p.left.dirty;
       epoch = p.left.epoch;
       count = p.left.count;
+      version = p.left.version;
     } };
 
     ghost invariant = { λ p. option_map (λ b. b.value.tree) p.root ≡ root_made (told_note p.note) };
@@ -76,6 +77,8 @@ fn note_with(note: Note, check: [u8; 32]) -> Note
     match note {
         Note::NewHolder { holder, .. } => Note::NewHolder { holder, check },
         Note::Root
+        | Note::StrictRoot
+        | Note::Upgrade
         | Note::NewFolder { .. }
         | Note::NewFile { .. }
         | Note::Rewrite { .. }
@@ -153,6 +156,7 @@ impl PublicState {
         self.dirty = left.dirty;
         self.epoch = left.epoch;
         self.count = left.count;
+        self.version = left.version.unwrap_or(self.version);
     }
 }
 
@@ -162,7 +166,7 @@ fn root_for(alloc: Global, note: &Note) -> Mem<Option<Box<Shape>>>
     ensures { IfOk result (λ root. option_map (λ b. b.value.tree) root ≡ root_made (told_note note.now)) }
 {
     match note {
-        Note::Root => {
+        Note::Root | Note::StrictRoot => {
             let root = root_shape(alloc)?;
             Ok(Some(Box::new(alloc, root)?))
         }
@@ -177,6 +181,7 @@ fn root_for(alloc: Global, note: &Note) -> Mem<Option<Box<Shape>>>
         | Note::ShiftFile { .. }
         | Note::ShiftFolder { .. }
         | Note::Give { .. }
-        | Note::Take { .. } => Ok(None),
+        | Note::Take { .. }
+        | Note::Upgrade => Ok(None),
     }
 }

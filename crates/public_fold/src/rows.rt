@@ -6,8 +6,9 @@ ghost use Rattle.public_fold.specs.Journal.{nothing};
 ghost use Rattle.public_fold.specs.Lengths.{end_of};
 ghost use Rattle.public_fold.specs.StandFits.{all_fit};
 ghost use Rattle.public_fold.specs.Valid.{IsValid};
-ghost use Rattle.public_fold.specs.WorkedSteps.{edges_agree, fresh, renaming, rewriting, granting, revoking, writing_again, renaming_again};
-ghost use Rattle.public_fold.specs.WorkedSteps.{moving_away, making_again, dropping, step_at, renewals_at, links_at, contents_at};
+ghost use Rattle.public_fold.specs.WorkedSteps.{edges_agree, fresh, renaming, rewriting, granting, revoking, writing_again};
+ghost use Rattle.public_fold.specs.WorkedSteps.{moving_away, making_again, dropping, fresh_strict, moving_strictly, departing_strictly};
+ghost use Rattle.public_fold.specs.WorkedSteps.{renaming_again, upgrading, departing_after_it, step_at, renewals_at, links_at, contents_at};
 
 /// A fresh store has 819 bytes. Its keys, links and content are numbered in one row.
 #[tactic(auto, unfolding(crate::specs::WorkedSteps::journals))]
@@ -89,6 +90,8 @@ pub fn steps_leave_the_edges_of_the_store()
     ensures moving_away { edges_agree nothing moving_away ≡ replicate 11 true }
     ensures making_again { edges_agree nothing making_again ≡ replicate 19 true }
     ensures dropping { edges_agree nothing dropping ≡ replicate 13 true }
+    ensures moving_strictly { edges_agree nothing moving_strictly ≡ replicate 11 true }
+    ensures departing_after_it { edges_agree nothing departing_after_it ≡ replicate 13 true }
 {}
 
 /// The journals of these rows are valid, and each of their notes fits where it comes.
@@ -99,6 +102,9 @@ pub fn worked_journals_are_valid()
     ensures moved { IsValid moving_away }
     ensures made_again { IsValid making_again }
     ensures dropped { IsValid dropping }
+    ensures moved_strictly { IsValid moving_strictly }
+    ensures departed_strictly { IsValid departing_strictly }
+    ensures departed_after_it { IsValid departing_after_it }
     ensures fit { map (all_fit nothing) (rewriting ∷ writing_again ∷ renaming_again ∷ moving_away ∷ making_again ∷ dropping ∷ []) ≡ true
         ∷ true ∷ true ∷ true ∷ true ∷ true ∷ [] }
 {}
@@ -110,4 +116,37 @@ pub fn made_after_revocation()
     ensures folder_made { renewals_at making_again 15 ≡ (sub_of 2 ∷ []) ∷ [] }
     ensures file_made { renewals_at making_again 18 ≡ (sub_of 2 ∷ files_of 2 ∷ []) ∷ [] }
     ensures renamed { renewals_at making_again 19 ≡ (sub_of 3 ∷ back_of 2 ∷ back_of 3 ∷ data_of 2 ∷ []) ∷ [] }
+{}
+
+/// A fresh store of version 2 is as long as one of version 1.
+#[tactic(auto, unfolding(crate::specs::WorkedSteps::journals))]
+pub fn fresh_strict_store()
+    ensures length { end_of fresh_strict ≡ 819 }
+{}
+
+/// A folder that leaves a granted one in a store of version 2 renews what led through the edges that go: above it and at it.
+#[tactic(auto, unfolding(crate::specs::WorkedSteps::journals))]
+pub fn strict_move()
+    ensures length { end_of moving_strictly ≡ 6572 }
+    ensures renewed { renewals_at moving_strictly 10
+        ≡ (clear_of 1 ∷ clear_of 2 ∷ clear_of 4 ∷ sub_of 1 ∷ sub_of 2 ∷ sub_of 4 ∷ back_of 4 ∷ []) ∷ [] }
+    ensures links { links_at moving_strictly 10 ≡ 18 ∷ [] }
+    ensures renewed_by_the_write { renewals_at moving_strictly 11 ≡ (files_of 4 ∷ file_role 1 ∷ []) ∷ [] }
+    ensures links_of_the_write { links_at moving_strictly 11 ≡ 2 ∷ [] }
+{}
+
+/// A file that leaves a folder in a store of version 2: five keys are drawn, and whoever is granted the folder later has no way to it.
+#[tactic(auto, unfolding(crate::specs::WorkedSteps::journals))]
+pub fn strict_departure()
+    ensures length { end_of departing_strictly ≡ 4634 }
+    ensures renewed { renewals_at departing_strictly 7 ≡ (clear_of 1 ∷ clear_of 2 ∷ sub_of 1 ∷ sub_of 2 ∷ files_of 2 ∷ []) ∷ [] }
+    ensures links { links_at departing_strictly 7 ≡ 11 ∷ [] }
+{}
+
+/// An upgrade renews every key that may lead on, and from then on departures are strict.
+#[tactic(auto, unfolding(crate::specs::WorkedSteps::journals))]
+pub fn upgraded()
+    ensures length { end_of upgrading ≡ 4159 }
+    ensures length_after { end_of departing_after_it ≡ 6726 }
+    ensures links { links_at upgrading 9 ≡ 14 ∷ [] }
 {}

@@ -19,6 +19,7 @@ pub(crate) fn content_count(note: &Note) -> usize
 {
     match note {
         Note::Root
+        | Note::StrictRoot
         | Note::NewHolder { .. }
         | Note::NewFolder { .. }
         | Note::NewFile { .. }
@@ -40,7 +41,7 @@ pub(crate) fn content_heads(
     ensures { IfOk result (λ l. l.items ≡ map content_head (contents_from (keys_then_of keys.now) nonce (due_of (told_note note.now)))) }
 {
     match *note {
-        Note::Root => one_head(alloc, keys, FOLDER_NAME, ROOT.0, nonce),
+        Note::Root | Note::StrictRoot => one_head(alloc, keys, FOLDER_NAME, ROOT.0, nonce),
         Note::NewHolder { holder, .. } => one_head(alloc, keys, HOLDER_KEY, holder.0, nonce),
         Note::NewFolder { folder, .. } => one_head(alloc, keys, FOLDER_NAME, folder.0, nonce),
         Note::NewFile { file, .. } => one_head(alloc, keys, FILE_TEXT, file.0, nonce),
@@ -52,7 +53,8 @@ pub(crate) fn content_heads(
         | Note::ShiftFile { .. }
         | Note::ShiftFolder { .. }
         | Note::Give { .. }
-        | Note::Take { .. } => Ok(List::new(alloc)),
+        | Note::Take { .. }
+        | Note::Upgrade => Ok(List::new(alloc)),
     }
 }
 

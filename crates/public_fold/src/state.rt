@@ -1,7 +1,7 @@
 //! The public state: what everyone who has read the payloads so far knows of the tree, the grants and the keys.
 ghost use Rattle.std.specs.Prelude.{◌≡◌, ◌<◌, true, IfOk, option_map};
 ghost use Rattle.public_fold.specs.Journal.{nothing};
-ghost use Rattle.public_fold.specs.KeyStep.{newest, next_epoch};
+ghost use Rattle.public_fold.specs.KeyStep.{is_strict as is_strict_state, newest, next_epoch};
 ghost use Rattle.public_fold.specs.Preparing.{begun_keys};
 ghost use Rattle.public_fold.specs.Standing.{IsSeenAs, stand_of, with_room_of};
 
@@ -15,8 +15,8 @@ use rekey_walk::Dirty;
 use std::alloc::Global;
 use std::marker::Model;
 
-/// The tree without names, the holders and the grants, each role's newest serial, the dirty roles, and where the counter
-/// of serials stands. No secret is in it. All that edges lead to from a dirty role is dirty. `spare` is how many changes of
+/// The tree without names, the holders and the grants, each role's newest serial, the dirty roles, where the counter of
+/// serials stands, and the version. No secret is in it. All that edges lead to from a dirty role is dirty. `spare` is how many changes of
 /// tree, holders and grants have their memory, and `key_spare` how many keys more; either may be more than was asked for.
 #[derive(Drop)]
 pub struct PublicState {
@@ -26,6 +26,7 @@ pub struct PublicState {
     pub(crate) dirty: Dirty,
     pub(crate) epoch: u32,
     pub(crate) count: u32,
+    pub(crate) version: u8,
 }
 
 impl Model for PublicState {
@@ -40,7 +41,7 @@ impl Model for PublicState {
       tree = s.shape.tree;
       checks = s.grants.checks;
       pairs = s.grants.pairs;
-      keys = record { keys = s.keys.keys; dirty = s.dirty; epoch = s.epoch; count = s.count };
+      keys = record { keys = s.keys.keys; dirty = s.dirty; epoch = s.epoch; count = s.count; version = s.version };
       spare = min s.shape.spare s.grants.spare;
       key_spare = s.keys.spare;
     } };
@@ -68,6 +69,7 @@ impl PublicState {
             dirty: Dirty::new(alloc),
             epoch: 0,
             count: 0,
+            version: 0,
         })
     }
 
@@ -114,6 +116,22 @@ impl PublicState {
         Epoch(self.epoch)
     }
 
+    /// The version: 0 before the root is made, and then 1 or 2. In a store of version 2 what leaves a folder is closed to whoever comes
+    /// later.
+    pub fn version(&self) -> u8
+        ensures { result ≡ self.now.keys.version }
+    {
+        self.version
+    }
+
+    /// Whether what leaves a folder is closed to whoever comes later: so it is in version 2.
+    #[tactic(auto, unfolding(crate::specs::KeyStep::is_strict))]
+    pub(crate) fn is_strict(&self) -> bool
+        ensures { result ≡ is_strict_state self.now.keys }
+    {
+        self.version == 2
+    }
+
     /// Begins the next epoch: serials are counted from 0 in it. It takes no memory.
     #[tactic(auto, unfolding(crate::specs::KeyStep::next_epoch))]
     pub fn next_epoch(&mut self)
@@ -157,6 +175,7 @@ impl PublicState {
             dirty,
             epoch: self.epoch,
             count: self.count,
+            version: self.version,
         })
     }
 }

@@ -7,6 +7,7 @@ ghost use Rattle.record_format.specs.Told.{told_note};
 ghost use Rattle.role_graph.specs.Edges.{edges as edges_of};
 ghost use Rattle.role_graph.specs.PublicStore.{public_store};
 ghost use Rattle.public_fold.specs.Fitted.{told_step};
+ghost use Rattle.public_fold.specs.KeyStep.{is_strict};
 ghost use Rattle.public_fold.specs.LookUps.{note_look_ups, step_look_ups};
 ghost use Rattle.public_fold.specs.StandFits.{note_fits};
 ghost use Rattle.public_fold.specs.Preparing.{begun_view};
@@ -15,7 +16,7 @@ ghost use Rattle.public_fold.specs.Stepping.{IsDue, IsDueAt, IsNumbered, IsStep,
 
 use crate::counter::{SerialCount, count_after, next_serial};
 use crate::keys::{KeyTable, KeysThen};
-use crate::lists::joined;
+use crate::lists::{joined, with_strict};
 use crate::marks::{clean, dirty_left};
 use crate::numbering::{given_keys, link_heads};
 use crate::publishing::published;
@@ -42,6 +43,8 @@ pub(crate) struct Due {
     pub(crate) dirty: Dirty,
     /// The edges that are published.
     pub(crate) edges: Vec<Edge>,
+    /// The version that the store comes to have, where the note says one.
+    pub(crate) version: Option<u8>,
 }
 
 /// What a note's step gives and publishes, and what it leaves.
@@ -59,6 +62,8 @@ pub(crate) struct Left {
     pub(crate) dirty: Dirty,
     pub(crate) epoch: u32,
     pub(crate) count: u32,
+    /// The version that the store comes to have, where the note says one.
+    pub(crate) version: Option<u8>,
 }
 
 /// The step of a note that fits the state, once the next epoch is begun where one is wanted. Its look-ups of edges are counted.
@@ -72,7 +77,7 @@ pub(crate) fn step_of(
     requires { new_epoch ≡ true → state.now.keys.epoch < 4294967295 }
     ensures fits { IfOk result (λ s. note_fits (stand_of (begun_view new_epoch state.now)) (told_note note.now)
         (told_step (stand_of (begun_view new_epoch state.now)) (told_note note.now)) ≡ true) }
-    ensures step { IfOk result (IsStep state.now.keys.keys (told_step (stand_of (begun_view new_epoch state.now)) (told_note note.now))) }
+    ensures step { IfOk result (IsStep state.now.keys (told_step (stand_of (begun_view new_epoch state.now)) (told_note note.now))) }
     ensures unfit { result ≡ Err FoldFault.Unfit
         → note_fits (stand_of (begun_view new_epoch state.now)) (told_note note.now)
         (told_step (stand_of (begun_view new_epoch state.now)) (told_note note.now)) ≡ false }
@@ -93,10 +98,11 @@ fn due_counted(
     note: &Note,
     steps: &mut Steps,
 ) -> Result<Due, FoldFault>
-    ensures fits { IfOk result (λ _. fits_store (public_store_of state.now) (told_note note.now) ≡ true) }
+    ensures fits { IfOk result (λ _. fits_store (is_strict state.now.keys) (public_store_of state.now) (told_note note.now) ≡ true) }
     ensures due { IfOk result (λ d. IsDue state.now.keys (edges_of (public_store state.now.tree state.now.pairs))
-        (change_of_note (public_store_of state.now) (told_note note.now)) d) }
-    ensures unfit { result ≡ Err FoldFault.Unfit → fits_store (public_store_of state.now) (told_note note.now) ≡ false }
+        (change_of_note (is_strict state.now.keys) (public_store_of state.now) (told_note note.now)) d) }
+    ensures unfit { result ≡ Err FoldFault.Unfit
+        → fits_store (is_strict state.now.keys) (public_store_of state.now) (told_note note.now) ≡ false }
     ensures look_ups { steps.new ≤ steps.old + note_look_ups state.now (told_note note.now) }
 {
     let taken = mem::replace(steps, Steps::new());
@@ -114,13 +120,15 @@ fn due_of<R: Adjacent>(
     note: &Note,
 ) -> Result<Due, FoldFault>
     requires { R.store roles.old ≡ public_store state.now.tree state.now.pairs }
-    ensures fits { IfOk result (λ _. fits_store (public_store_of state.now) (told_note note.now) ≡ true) }
+    ensures fits { IfOk result (λ _. fits_store (is_strict state.now.keys) (public_store_of state.now) (told_note note.now) ≡ true) }
     ensures due { IfOk result (λ d. IsDue state.now.keys (edges_of (public_store state.now.tree state.now.pairs))
-        (change_of_note (public_store_of state.now) (told_note note.now)) d) }
-    ensures unfit { result ≡ Err FoldFault.Unfit → fits_store (public_store_of state.now) (told_note note.now) ≡ false }
+        (change_of_note (is_strict state.now.keys) (public_store_of state.now) (told_note note.now)) d) }
+    ensures unfit { result ≡ Err FoldFault.Unfit
+        → fits_store (is_strict state.now.keys) (public_store_of state.now) (told_note note.now) ≡ false }
     ensures look_ups { R.steps roles.new ≤ R.steps roles.old + note_look_ups state.now (told_note note.now) }
 {
-    let change = change_of(alloc, &state.shape, &state.grants, roles, note)?;
+    let strict = state.is_strict();
+    let change = change_of(alloc, strict, &state.shape, &state.grants, roles, note)?;
     Ok(due_step(alloc, &state.dirty, roles, change)?)
 }
 
@@ -137,12 +145,15 @@ fn due_step<R: Adjacent>(alloc: Global, dirty: &Dirty, roles: &mut R, change: Ch
         removed,
         gone,
         wanted,
+        strict,
         fresh,
         added,
+        version,
     } = change;
     let removed = removed.as_slice();
     let wanted = wanted.as_slice();
-    let renewed = plan_closed(alloc, &left, roles, removed, wanted)?;
+    let planned = plan_closed(alloc, &left, roles, removed, wanted)?;
+    let renewed = with_strict(alloc, strict.as_slice(), planned)?;
     let again = renewed.as_slice();
     let edges = published(alloc, roles, removed, added, again)?;
     let gone = joined(alloc, again, gone)?;
@@ -153,6 +164,7 @@ fn due_step<R: Adjacent>(alloc: Global, dirty: &Dirty, roles: &mut R, change: Ch
         gone,
         dirty: left,
         edges,
+        version,
     })
 }
 
@@ -197,6 +209,7 @@ fn numbered_step(
             dirty: due.dirty,
             epoch: from.epoch,
             count,
+            version: due.version,
         },
     })
 }

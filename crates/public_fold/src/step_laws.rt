@@ -1,28 +1,37 @@
 //! Laws of what each note publishes, and of which keys are renewed for it, whatever stands.
-ghost use Rattle.std.specs.Prelude.{◌≡◌, ℕ, ◌+◌, ◌==◌, true, false, [], ◌∷◌, filter, length};
+ghost use Rattle.std.specs.Prelude.{◌≡◌, ◌⊎◌, ◌↔◌, ℕ, ◌+◌, ◌==◌, true, false, IsTrue, List, [], ◌∷◌, ◌++◌, filter, length, map};
 ghost use Rattle.cry_base.specs.Sets.{In};
 ghost use Rattle.cry_base.specs.Store.{Store};
+ghost use Rattle.cry_base.specs.declared.roles.Edge.{Edge};
 ghost use Rattle.cry_base.specs.declared.roles.Role.{Role};
+ghost use Rattle.record_format.specs.Noted.{Note};
 ghost use Rattle.record_format.specs.Noted.Note.{Give, Take};
 ghost use Rattle.role_graph.specs.Edges.{edges};
 ghost use Rattle.role_graph.specs.Roles.{clear_of, is_root_role, is_sealing_role};
-ghost use Rattle.move_plan.specs.Change.{Change};
+ghost use Rattle.move_plan.specs.Change.{Change, change_of};
 ghost use Rattle.move_plan.specs.Fitting.{fits};
+ghost use Rattle.public_fold.specs.AtKeys.{comes_or_has_key, roles_of};
 ghost use Rattle.public_fold.specs.Fitted.{told_step};
 ghost use Rattle.public_fold.specs.Journal.{Stand};
-ghost use Rattle.public_fold.specs.KeyStep.{KeyState, next_serial, renewed};
+ghost use Rattle.public_fold.specs.KeyStep.{KeyState, edges_then, is_strict, key_step, next_serial, planned, renewed};
+ghost use Rattle.public_fold.specs.Records.{Link, Piece};
+ghost use Rattle.public_fold.specs.Rooted.{MayStand};
 ghost use Rattle.public_fold.specs.Told.{told_store};
 
 /// A grant that fits publishes its one link and nothing else, and gives no key.
 pub fn grants_publish_one_link()
-    ensures links { (at : Stand) (h f : ℕ) → fits at.store (Give h f) ≡ true → length (told_step at (Give h f)).links ≡ 1 }
-    ensures given { (at : Stand) (h f : ℕ) → fits at.store (Give h f) ≡ true → (told_step at (Give h f)).given ≡ [] }
-    ensures contents { (at : Stand) (h f : ℕ) → fits at.store (Give h f) ≡ true → (told_step at (Give h f)).contents ≡ [] }
+    ensures links { (at : Stand) (h f : ℕ) → fits (is_strict at.keys) at.store (Give h f) ≡ true
+        → length (told_step at (Give h f)).links ≡ 1 }
+    ensures given { (at : Stand) (h f : ℕ) → fits (is_strict at.keys) at.store (Give h f) ≡ true
+        → (told_step at (Give h f)).given ≡ [] }
+    ensures contents { (at : Stand) (h f : ℕ) → fits (is_strict at.keys) at.store (Give h f) ≡ true
+        → (told_step at (Give h f)).contents ≡ [] }
 {}
 
-/// A key that seals a name or a file is renewed only where it is wanted, and so where what it seals is written anew.
+/// A key that seals a name or a file, and isn't strict, is renewed only where it is wanted, and so where what it seals is written anew.
 pub fn sealing_keys_are_renewed_where_wanted()
-    ensures { (s : Store) (k : KeyState) (c : Change) (r : Role) → is_sealing_role r ≡ true → In r (renewed k (edges s) c) → In r c.wanted }
+    ensures { (s : Store) (k : KeyState) (c : Change) (r : Role) → is_sealing_role r ≡ true → (In r c.strict → ⊥)
+        → In r (renewed k (edges s) c) → In r c.wanted }
 {}
 
 /// A grant that is taken back, where no root is dirty and the folder stands once, gives the folder's clearance key anew and
@@ -38,4 +47,19 @@ pub fn revocations_publish_a_link_for_each_grant_left()
     ensures contents { (at : Stand) (h f : ℕ) → ((r : Role) → In r at.keys.dirty → is_root_role r ≡ false)
         → length (filter (λ e. e.id == f) at.store.folders) ≡ 1
         → (told_step at (Take h f)).contents ≡ [] }
+{}
+
+/// A step gives one key to each role that is strict or in the plan, and then one to each that comes. It publishes one link for
+/// each edge that stands after it and comes with it, or has a role that got a key at an end, and no more. Where the note fits,
+/// the edges that stand after it are those of the store after it.
+pub fn steps_publish_a_link_for_each_edge_at_a_new_key()
+    ensures renewed { (k : KeyState) (before : List Edge) (c : Change) (r : Role)
+        → In r (renewed k before c) ↔ (In r c.strict ⊎ In r (planned k before c)) }
+    ensures keys { (k : KeyState) (before : List Edge) (c : Change) (pieces : List Piece)
+        → roles_of (key_step k before c pieces).given ≡ renewed k before c ++ c.fresh }
+    ensures links { (k : KeyState) (before : List Edge) (c : Change) (pieces : List Piece)
+        → map (λ (l : Link). l.edge) (key_step k before c pieces).links
+        ≡ filter (comes_or_has_key c (key_step k before c pieces).given) (edges_then before c) }
+    ensures edges { (at : Stand) (note : Note) → IsTrue (fits (is_strict at.keys) at.store note) → MayStand at.store → (e : Edge)
+        → In e (edges_then (edges at.store) (change_of (is_strict at.keys) at.store note)) ↔ In e (edges (told_store at.store note)) }
 {}

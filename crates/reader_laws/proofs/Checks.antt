@@ -17,16 +17,17 @@ use Rattle.cry_base.specs.declared.roles.Node.TheVariants.{Folder, File}
 use Rattle.log_visits.specs.Judging.{body_check, check_in, published_check}
 use Rattle.move_plan.specs.Noting.{move_note, note_of, remove_note, rename_note, write_note}
 use Rattle.record_format.specs.Noted.{Note}
-use Rattle.record_format.specs.Noted.Note.{Root, NewHolder, NewFolder, NewFile, Rewrite, NameFile, NameFolder, DropFile, DropFolder, ShiftFile, ShiftFolder, Give, Take}
+use Rattle.record_format.specs.Noted.Note.{Root, NewHolder, NewFolder, NewFile, Rewrite, NameFile, NameFolder, DropFile, DropFolder, ShiftFile, ShiftFolder, Give, Take, StrictRoot, Upgrade}
 use Rattle.record_format.specs.Told.{told_note}
 use Rattle.public_fold.specs.Journal.{Entry, Journal, Stand, entry_store, first_key, nothing, stand_after, stand_then, store_of}
-use Rattle.public_fold.specs.Journal.Entry.{Session, Made, Did}
+use Rattle.public_fold.specs.Journal.Entry.{Session, Made, Did, Upgraded}
 use Rattle.public_fold.specs.Valid.{BeginsWell, FollowOn, IsValid}
 use Rattle.journal_bytes.specs.Bytes as bytes
 use Rattle.journal_bytes.specs.Bytes.{bodies_from, bodies_of, entry_body, step_payload}
 use Rattle.journal_bytes.specs.Folds.{log_of}
 use Rattle.journal_bytes.specs.Keys.{owner_parts}
 use Rattle.journal_bytes.specs.Notes.{declared_note}
+use Rattle.journal_bytes.proofs.RootNotes.{of_root}
 
 -- the first of two that is there
 abbrev pub first_of : {X : Type 0} → Option X → Option X → Option X
@@ -112,6 +113,18 @@ told_declared (ShiftFile file into) = refl
 told_declared (ShiftFolder folder into) = refl
 told_declared (Give holder folder) = refl
 told_declared (Take holder folder) = refl
+told_declared StrictRoot = refl
+told_declared Upgrade = refl
+
+-- neither a session nor what makes the root publishes a check, and there is no holder yet
+session_checked : (keys : List KeyParts) (at : Stand) (h : ℕ) → body_check h (entry_body keys at Session) ≡ None
+unfolding entry_body body_check
+session_checked keys at h = refl
+
+made_checked : (keys : List KeyParts) (at : Stand) (version : ℕ) (drawn : List (List ℕ)) (h : ℕ)
+    → body_check h (entry_body keys at (Made version drawn)) ≡ holder_check (stand_then at (Made version drawn)).store h
+unfolding entry_body body_check step_payload told_note declared_note check_in stand_then entry_store root_store holder_entry no_store
+made_checked keys at version drawn h = of_root (λ note. check_in h (told_note (declared_note note)) ≡ None) refl refl version
 
 did_checked : (keys : List KeyParts) (at : Stand) (r : Request) (drawn : List (List ℕ)) (h : ℕ)
     → first_of (holder_check at.store h) (body_check h (entry_body (bytes.keys_then keys at (Did r drawn)) at (Did r drawn))) ≡ holder_check (stand_then at (Did r drawn)).store h
@@ -119,6 +132,11 @@ unfolding entry_body body_check step_payload stand_then entry_store
 did_checked keys at r drawn h =
     ap (λ note. first_of (holder_check at.store h) (check_in h note)) (told_declared (note_of at.store r (check_of (first_key drawn))))
     ∙ command_checked at.store r (first_key drawn) h
+
+upgraded_checked : (keys : List KeyParts) (at : Stand) (drawn : List (List ℕ)) (h : ℕ)
+    → first_of (holder_check at.store h) (body_check h (entry_body keys at (Upgraded drawn))) ≡ holder_check (stand_then at (Upgraded drawn)).store h
+unfolding entry_body body_check step_payload told_note declared_note check_in stand_then entry_store
+upgraded_checked keys at drawn h = no_check at.store h
 
 -- some entries
 after_checked : (entries : List Entry) (keys : List KeyParts) (at : Stand) (place number epoch h : ℕ) → FollowOn at entries
@@ -129,7 +147,7 @@ after_checked (Session ∷ entries) keys at place number epoch h follow =
     let later = bytes.keys_then keys at Session in
     let batch = batch_of number epoch NewEpoch in
     after_checked entries later (stand_then at Session) (place + (batch_len + length batch.payload)) batch.number batch.epoch h follow.1
-after_checked (Made drawn ∷ entries) keys at place number epoch h follow = absurd follow.0
+after_checked (Made version drawn ∷ entries) keys at place number epoch h follow = absurd follow.0
 after_checked (Did r drawn ∷ entries) keys at place number epoch h follow =
     let later = bytes.keys_then keys at (Did r drawn) in
     let body = entry_body later at (Did r drawn) in
@@ -139,23 +157,37 @@ after_checked (Did r drawn ∷ entries) keys at place number epoch h follow =
     first_on (List ℕ) (holder_check at.store h) (body_check h body) rest
     ∙ ap (λ o. first_of o rest) (did_checked keys at r drawn h)
     ∙ after_checked entries later next (place + (batch_len + length batch.payload)) batch.number batch.epoch h follow.1
+after_checked (Upgraded drawn ∷ entries) keys at place number epoch h follow =
+    let later = bytes.keys_then keys at (Upgraded drawn) in
+    let body = entry_body later at (Upgraded drawn) in
+    let batch = batch_of number epoch body in
+    let next = stand_then at (Upgraded drawn) in
+    let rest : Option (List ℕ) = published_check h (placed_from (place + (batch_len + length batch.payload)) batch.number batch.epoch (bodies_from later next entries)) in
+    first_on (List ℕ) (holder_check at.store h) (body_check h body) rest
+    ∙ ap (λ o. first_of o rest) (upgraded_checked later at drawn h)
+    ∙ after_checked entries later next (place + (batch_len + length batch.payload)) batch.number batch.epoch h follow.1
 
 begun_checked : (owner : List ℕ) (m : Journal) (h : ℕ) → BeginsWell m → published_check h (placed_from header_len 0 0 (bodies_from (owner_parts owner ∷ []) nothing m)) ≡ holder_check (stand_after nothing m).store h
 unfolding published_check bodies_from stand_after no_store
 begun_checked owner [] h begins = absurd begins
 begun_checked owner (Session ∷ []) h begins = absurd begins
 begun_checked owner (Session ∷ Session ∷ es) h begins = absurd begins
-begun_checked owner (Session ∷ Made drawn ∷ es) h begins =
+begun_checked owner (Session ∷ Made version drawn ∷ es) h begins =
     let begun = stand_then nothing Session in
     let first = bytes.keys_then (owner_parts owner ∷ []) nothing Session in
-    let later = bytes.keys_then first begun (Made drawn) in
+    let later = bytes.keys_then first begun (Made version drawn) in
     let one = batch_of 0 0 (entry_body first nothing Session) in
-    let two = batch_of one.number one.epoch (entry_body later begun (Made drawn)) in
-    unfold entry_body body_check step_payload told_note check_in stand_then entry_store root_store holder_entry in
-    after_checked es later (stand_then begun (Made drawn)) (header_len + (batch_len + length one.payload) + (batch_len + length two.payload)) two.number two.epoch h begins.1
+    let two = batch_of one.number one.epoch (entry_body later begun (Made version drawn)) in
+    let rest : Option (List ℕ) =
+    published_check h (placed_from (header_len + (batch_len + length one.payload) + (batch_len + length two.payload)) two.number two.epoch (bodies_from later (stand_then begun (Made version drawn)) es)) in
+    ap (λ (o : Option (List ℕ)). first_of o (first_of (body_check h (entry_body later begun (Made version drawn))) rest)) (session_checked first nothing h)
+    ∙ ap (λ (o : Option (List ℕ)). first_of o rest) (made_checked later begun version drawn h)
+    ∙ after_checked es later (stand_then begun (Made version drawn)) (header_len + (batch_len + length one.payload) + (batch_len + length two.payload)) two.number two.epoch h begins.1
 begun_checked owner (Session ∷ Did r drawn ∷ es) h begins = absurd begins
-begun_checked owner (Made drawn ∷ es) h begins = absurd begins
+begun_checked owner (Session ∷ Upgraded drawn ∷ es) h begins = absurd begins
+begun_checked owner (Made version drawn ∷ es) h begins = absurd begins
 begun_checked owner (Did r drawn ∷ es) h begins = absurd begins
+begun_checked owner (Upgraded drawn ∷ es) h begins = absurd begins
 
 -- the check that a journal publishes is that of the holder's key
 pub journal_checked : (owner : List ℕ) (m : Journal) (h : ℕ) → IsValid m → published_check h (log_of owner m) ≡ option_map (λ (e : HolderEntry). check_of e.key) (holder_entry (store_of m) h)

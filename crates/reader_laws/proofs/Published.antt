@@ -3,7 +3,7 @@ use Rattle.std.proofs.Common.{◌≡◌, ◌⊎◌, inl, inr, ℕ, ◌≤◌, tr
 use Rattle.std.proofs.lemmas.List.Elements.{All-cons, All-head, All-nil, All-tail}
 use Rattle.commit_journal.specs.Publishing.{is_last_published, last_slot, published_of, without_last}
 use Rattle.public_fold.specs.Journal.{Entry, Journal}
-use Rattle.public_fold.specs.Journal.Entry.{Session, Made, Did}
+use Rattle.public_fold.specs.Journal.Entry.{Session, Made, Did, Upgraded}
 use Rattle.public_fold.specs.Valid.{IsValid}
 use Rattle.public_fold.proofs.Prefixes.{prefix_valid}
 use Rattle.journal_bytes.specs.Bytes.{batches_of}
@@ -34,17 +34,19 @@ unfolding without_last
 cut owner [] valid whole = absurd valid.0
 cut owner (Session ∷ []) valid whole = absurd valid.0
 cut owner (Session ∷ Session ∷ es) valid whole = absurd valid.0
-cut owner (Session ∷ Made drawn ∷ []) valid whole = inr refl
-cut owner (Session ∷ Made drawn ∷ e ∷ es) valid whole =
-    let m : Journal = Session ∷ Made drawn ∷ e ∷ es in
-    let split = split_last Entry Session (Made drawn ∷ e ∷ es) in
+cut owner (Session ∷ Made version drawn ∷ []) valid whole = inr refl
+cut owner (Session ∷ Made version drawn ∷ e ∷ es) valid whole =
+    let m : Journal = Session ∷ Made version drawn ∷ e ∷ es in
+    let split = split_last Entry Session (Made version drawn ∷ e ∷ es) in
     inl (
-      prefix_valid (without_last m) (split.0 ∷ []) (two_left Session (Made drawn) e es) (subst IsValid (sym split.1) valid),
+      prefix_valid (without_last m) (split.0 ∷ []) (two_left Session (Made version drawn) e es) (subst IsValid (sym split.1) valid),
       record { owner_size = whole.owner_size; drawn_sizes = all_without Entry (λ entry. All (λ (key : List ℕ). length key ≡ 32) (drawn_by entry)) m whole.drawn_sizes },
     )
 cut owner (Session ∷ Did r drawn ∷ es) valid whole = absurd valid.0
-cut owner (Made drawn ∷ es) valid whole = absurd valid.0
+cut owner (Session ∷ Upgraded drawn ∷ es) valid whole = absurd valid.0
+cut owner (Made version drawn ∷ es) valid whole = absurd valid.0
 cut owner (Did r drawn ∷ es) valid whole = absurd valid.0
+cut owner (Upgraded drawn ∷ es) valid whole = absurd valid.0
 
 pub may_publish : (owner bytes : List ℕ) (m : Journal) → IsValid m → AreWhole owner m → MayPublish owner (published_journal owner bytes m)
 unfolding published_journal published_of

@@ -1,6 +1,6 @@
 -- A log that folds has a content for each folder, file and holder that stands then.
 use Rattle.std.proofs.Common.{◌≡◌, ⊎_elim, inl, inr, ℕ, ◌+◌, Bool, true, false, ◌==◌, ◌&&◌, List, [], ◌∷◌, ◌++◌, Option, Some, None, Result, Ok, Err, refl, sym, ap, subst, ◌∙◌, append_assoc, append-nil}
-use Rattle.std.specs.Prelude.{if◌then◌else◌, is_some, nat_lt}
+use Rattle.std.specs.Prelude.{if◌then◌else◌, is_some}
 use Rattle.std.proofs.lemmas.Bool.{and_from, and_parts, false≢true}
 use Rattle.commit_journal.specs.Answering.{Fault, Damaged, and_then}
 use Rattle.commit_journal.specs.Placed.{PlainBody, Commands, NewEpoch, PlainPlaced}
@@ -15,14 +15,14 @@ use Rattle.public_fold.specs.Fitted.{are_due, fits_step, has_content_head, has_h
 use Rattle.public_fold.specs.Journal.{Stand, nothing}
 use Rattle.public_fold.specs.KeyStep.{Stepped, next_epoch}
 use Rattle.public_fold.specs.Records.{Content, Link}
-use Rattle.public_fold.specs.StandFits.{has_count, note_fits}
+use Rattle.public_fold.specs.StandFits.{note_fits}
 use Rattle.public_fold.specs.Texts.{AreWritten, HasContent}
 use Rattle.public_fold.specs.Turns.{StandHolds}
 use Rattle.public_fold.proofs.TextsWritten.{note_written}
 use Rattle.public_fold.proofs.TurnsHold.{epoch_stands, first_fits, first_stands, payload_holds}
-use Rattle.move_plan.specs.Fitting.{fits}
 use Rattle.log_visits.specs.Folding.{folded, stand_behind}
 use Rattle.log_visits.specs.Placing.{PlacedContent, body_contents, content_for, contents_at, last_one, log_contents}
+use Rattle.log_visits.proofs.OwnerKey.{payload_fit}
 
 -- what is due is there
 due_found : (X Y : Type 0) (is_due : X → Y → Bool) (xs : List X) (ys : List Y) (x : X) → are_due is_due xs ys ≡ true → In x xs → (y : Y) × In y ys × (is_due x y ≡ true)
@@ -71,14 +71,6 @@ more_records xs ys ps qs a b c i = ⊎_elim
     (λ u. let w = b c u in (w.0, (In-append PlacedContent w.0 ps qs).1 (inr w.1), w.2))
     ((In-append Content c xs ys).0 i)
 
-note_fitting : (at : Stand) (q : PlainPayload) → payload_fits at q ≡ true → fits at.store (told_note q.note) ≡ true
-unfolding payload_fits fits_step note_fits
-note_fitting at q t =
-    let note = told_note q.note in
-    let step : Stepped = told_step at note in
-    let fit = and_parts (nat_lt 0 at.keys.epoch && (fits at.store note && has_count step)) (has_heads step q) t in
-    (and_parts (fits at.store note) (has_count step) (and_parts (nat_lt 0 at.keys.epoch) (fits at.store note && has_count step) fit.0).1).0
-
 payload_texts : (at : Stand) (q : PlainPayload) (batch place : ℕ) (before : List PlacedContent) → payload_fits at q ≡ true → HoldsTexts at before → HoldsTexts (told_stand at (told_note q.note)) (before ++ body_contents batch place (Commands q))
 payload_texts at q batch place before t w =
     let note = told_note q.note in
@@ -86,7 +78,7 @@ payload_texts at q batch place before t w =
       links = w.links ++ step.links;
       stands = payload_holds at q w.links t w.stands;
       contents = w.contents ++ step.contents;
-      written = note_written at note w.contents (note_fitting at q t) w.stands.store w.written;
+      written = note_written at note w.contents (payload_fit at q t) w.stands.store w.written;
       records = more_records w.contents step.contents before (body_contents batch place (Commands q)) w.records (payload_records at q batch place t);
     }
 

@@ -7,7 +7,7 @@ use Rattle.std.proofs.lemmas.List.Sums.{sum_by-cons, sum_by_more_le}
 use Rattle.record_format.specs.declared.content.ContentRecord.{ContentRecord}
 use Rattle.record_format.specs.declared.link.LinkRecord.{LinkRecord}
 use Rattle.record_format.specs.declared.note.Note.{Note}
-use Rattle.record_format.specs.declared.note.Note.TheVariants.{Root, NewHolder, NewFolder, NewFile, Rewrite, NameFile, NameFolder, DropFile, DropFolder, ShiftFile, ShiftFolder, Give, Take}
+use Rattle.record_format.specs.declared.note.Note.TheVariants.{Root, NewHolder, NewFolder, NewFile, Rewrite, NameFile, NameFolder, DropFile, DropFolder, ShiftFile, ShiftFolder, Give, Take, StrictRoot, Upgrade}
 use Rattle.record_format.specs.Plain.{PlainContent, PlainPayload, plain_content}
 use Rattle.record_format.specs.Spelling.{be32, be64, link_head, spell_link, content_head, spell_content, spell_note, spell_payload}
 use Rattle.record_format.specs.Sizes.{note_size, content_size, payload_size}
@@ -53,6 +53,8 @@ length-spell_note (ShiftFile file into) fits = simp (length-append, length-be32)
 length-spell_note (ShiftFolder folder into) fits = simp (length-append, length-be32)
 length-spell_note (Give holder folder) fits = simp (length-append, length-be32)
 length-spell_note (Take holder folder) fits = simp (length-append, length-be32)
+length-spell_note StrictRoot fits = refl
+length-spell_note Upgrade fits = refl
 
 pub note_size_most : (note : Note) → note_size note ≤ 37
 note_size_most Root = lit≤ tt
@@ -68,6 +70,8 @@ note_size_most (ShiftFile file into) = lit≤ tt
 note_size_most (ShiftFolder folder into) = lit≤ tt
 note_size_most (Give holder folder) = lit≤ tt
 note_size_most (Take holder folder) = lit≤ tt
+note_size_most StrictRoot = lit≤ tt
+note_size_most Upgrade = lit≤ tt
 
 pub length-links : (links : List LinkRecord) → All IsLink links → length (flat_map spell_link links) ≡ 98 * length links
 length-links [] fits = refl

@@ -5,7 +5,7 @@ use Rattle.std.specs.Int.{w32, w64, from_be_bytes}
 use Rattle.std.proofs.lemmas.Bool.{cases_lt}
 use Rattle.std.proofs.lemmas.List.{length-replicate, get_or-replicate, get_or_past}
 use Rattle.std.proofs.lemmas.List.Elements.{All-nil, All-cons}
-use Rattle.record_format.specs.declared.note.Note.TheVariants.{Root, NewHolder}
+use Rattle.record_format.specs.declared.note.Note.TheVariants.{Root, NewHolder, StrictRoot, Upgrade}
 use Rattle.record_format.specs.Fields.{Read, byte_between, bytes_at, number_at, number_between, repeat_at}
 use Rattle.record_format.specs.Reading.{note_of_one, note_of_two, new_holder_at, one_id_at, two_ids_at, note_fields_at, note_at, link_at, content_at, payload_at}
 use Rattle.record_format.specs.Spelling.{be32, be64}
@@ -177,7 +177,7 @@ two_stoppable code fit =
     stoppable_then field32 stoppable32 _ (λ second f2.
     done_stoppable (note_of_two code first second) (fit first second f1 f2)))
 
-fields_stoppable : (code : ℕ) → 1 ≤ code → code ≤ 13 → IsStoppable (note_fields_at code) IsNote
+fields_stoppable : (code : ℕ) → 1 ≤ code → code ≤ 15 → IsStoppable (note_fields_at code) IsNote
 unfolding note_fields_at
 fields_stoppable zero from to = absurd (omega arith)
 fields_stoppable (suc zero) from to = done_stoppable Root tt
@@ -193,11 +193,13 @@ fields_stoppable (suc (suc (suc (suc (suc (suc (suc (suc (suc (suc zero)))))))))
 fields_stoppable (suc (suc (suc (suc (suc (suc (suc (suc (suc (suc (suc zero))))))))))) from to = two_stoppable 11 (λ a b p q. (p, q))
 fields_stoppable (suc (suc (suc (suc (suc (suc (suc (suc (suc (suc (suc (suc zero)))))))))))) from to = two_stoppable 12 (λ a b p q. (p, q))
 fields_stoppable (suc (suc (suc (suc (suc (suc (suc (suc (suc (suc (suc (suc (suc zero))))))))))))) from to = two_stoppable 13 (λ a b p q. (p, q))
-fields_stoppable (suc (suc (suc (suc (suc (suc (suc (suc (suc (suc (suc (suc (suc (suc code)))))))))))))) from to = absurd (omega arith)
+fields_stoppable (suc (suc (suc (suc (suc (suc (suc (suc (suc (suc (suc (suc (suc (suc zero)))))))))))))) from to = done_stoppable StrictRoot tt
+fields_stoppable (suc (suc (suc (suc (suc (suc (suc (suc (suc (suc (suc (suc (suc (suc (suc zero))))))))))))))) from to = done_stoppable Upgrade tt
+fields_stoppable (suc (suc (suc (suc (suc (suc (suc (suc (suc (suc (suc (suc (suc (suc (suc (suc code)))))))))))))))) from to = absurd (omega arith)
 
 note_stoppable : IsStoppable note_at IsNote
 unfolding note_at
-note_stoppable = stoppable_then (byte_field 1 13) (byte_stoppable 1 13 (lit≤ tt) (lit< tt)) _ (λ code f1. fields_stoppable code f1.0 f1.1)
+note_stoppable = stoppable_then (byte_field 1 15) (byte_stoppable 1 15 (lit≤ tt) (lit< tt)) _ (λ code f1. fields_stoppable code f1.0 f1.1)
 
 -- ---- a payload
 

@@ -2,7 +2,7 @@
 -- This project's own, docs/FORMAT.md, "Notes and payloads".
 use Rattle.std.specs.Prelude.{ℕ, List}
 
--- the thirteen notes, in the order of their codes from 1
+-- the fifteen notes, in the order of their codes from 1
 pub data Note : Type 0 where
   Root : Note
   NewHolder : (holder : ℕ) → (check : List ℕ) → Note
@@ -17,3 +17,5 @@ pub data Note : Type 0 where
   ShiftFolder : (folder into : ℕ) → Note
   Give : (holder folder : ℕ) → Note
   Take : (holder folder : ℕ) → Note
+  StrictRoot : Note
+  Upgrade : Note

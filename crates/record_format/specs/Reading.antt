@@ -1,6 +1,6 @@
 -- The payload that bytes spell, or the place of the first field that is cut short or has a value that isn't allowed:
 -- this project's own, docs/FORMAT.md, "Notes and payloads".
-use Rattle.std.specs.Prelude.{ℕ, ◌≡◌, ◌≤◌, ◌-◌, List, ◌++◌, length, take, Result, Ok, Err, ◌==◌, ◌&&◌, nat_le, if◌then◌else◌}
+use Rattle.std.specs.Prelude.{ℕ, ◌≡◌, ◌≤◌, ◌-◌, List, ◌++◌, length, take, Result, Ok, Err, ◌==◌, ◌&&◌, ◌||◌, nat_le, if◌then◌else◌}
 use Rattle.std.specs.Int.{w32, w64}
 use Rattle.record_format.specs.declared.fault.PayloadFault.{PayloadFault}
 use Rattle.record_format.specs.declared.fault.PayloadFault.TheVariants as faults
@@ -9,7 +9,7 @@ use Rattle.record_format.specs.declared.fault.Stop.TheVariants as stops
 use Rattle.record_format.specs.declared.link.LinkRecord.{LinkRecord}
 use Rattle.record_format.specs.declared.note.Note.{Note}
 use Rattle.record_format.specs.declared.note.Note.TheVariants.{Root, NewHolder, NewFolder, NewFile, Rewrite, NameFile, NameFolder, DropFile}
-use Rattle.record_format.specs.declared.note.Note.TheVariants.{DropFolder, ShiftFile, ShiftFolder, Give, Take}
+use Rattle.record_format.specs.declared.note.Note.TheVariants.{DropFolder, ShiftFile, ShiftFolder, Give, Take, StrictRoot, Upgrade}
 use Rattle.record_format.specs.declared.payload.Payload.{Payload}
 use Rattle.record_format.specs.Fields.{Read, ◌>>=◌, byte_between, bytes_at, number_at, number_between, repeat_at}
 use Rattle.record_format.specs.Plain.{PlainContent, PlainPayload, plain_payload}
@@ -52,16 +52,20 @@ two_ids_at code bytes = do
   second ← number_at w32 first.1
   Ok (note_of_two code first.0 second.0, second.1)
 
+-- the note of a code without fields: 1, 14 or 15
+abbrev pub note_of_none : ℕ → Note
+note_of_none code = if code == 1 then Root else (if code == 14 then StrictRoot else Upgrade)
+
 -- the fields of the note of this code
 unfoldable pub note_fields_at : ℕ → List ℕ → Read Note
 note_fields_at code bytes =
-    if code == 1 then Ok (Root, bytes)
+    if (code == 1) || nat_le 14 code then Ok (note_of_none code, bytes)
     else (if code == 2 then new_holder_at bytes
     else (if nat_le 5 code && nat_le code 9 then one_id_at code bytes else two_ids_at code bytes))
 
 unfoldable pub note_at : List ℕ → Read Note
 note_at bytes = do
-  code ← byte_between 1 13 bytes
+  code ← byte_between 1 15 bytes
   note_fields_at code.0 code.1
 
 -- a link of its fields, in their order

@@ -3,7 +3,7 @@ use Rattle.std.specs.Prelude.{ℕ, ◌+◌, ◌*◌, length}
 use Rattle.std.specs.List.{sum_by}
 use Rattle.record_format.specs.declared.note.Note.{Note}
 use Rattle.record_format.specs.declared.note.Note.TheVariants.{Root, NewHolder, NewFolder, NewFile, Rewrite, NameFile, NameFolder, DropFile}
-use Rattle.record_format.specs.declared.note.Note.TheVariants.{DropFolder, ShiftFile, ShiftFolder, Give, Take}
+use Rattle.record_format.specs.declared.note.Note.TheVariants.{DropFolder, ShiftFile, ShiftFolder, Give, Take, StrictRoot, Upgrade}
 use Rattle.record_format.specs.Plain.{PlainContent, PlainPayload}
 
 -- a code of one byte, ids of four, a check of 32
@@ -21,6 +21,8 @@ note_size (ShiftFile file into) = 9
 note_size (ShiftFolder folder into) = 9
 note_size (Give holder folder) = 9
 note_size (Take holder folder) = 9
+note_size StrictRoot = 1
+note_size Upgrade = 1
 
 -- a head of 26 bytes, the text, a tag of 32
 abbrev pub content_size : PlainContent → ℕ

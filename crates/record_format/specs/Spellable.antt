@@ -4,7 +4,7 @@ use Rattle.cry_base.specs.Limits.{most_name_bytes, most_text_bytes}
 use Rattle.record_format.specs.declared.link.LinkRecord.{LinkRecord}
 use Rattle.record_format.specs.declared.note.Note.{Note}
 use Rattle.record_format.specs.declared.note.Note.TheVariants.{Root, NewHolder, NewFolder, NewFile, Rewrite, NameFile, NameFolder, DropFile}
-use Rattle.record_format.specs.declared.note.Note.TheVariants.{DropFolder, ShiftFile, ShiftFolder, Give, Take}
+use Rattle.record_format.specs.declared.note.Note.TheVariants.{DropFolder, ShiftFile, ShiftFolder, Give, Take, StrictRoot, Upgrade}
 use Rattle.record_format.specs.Plain.{PlainContent, PlainPayload}
 
 -- the fewest bytes that the text of a content of this kind has: 2 a file, 3 a holder's key, else a folder's name
@@ -57,6 +57,8 @@ IsNote (ShiftFile file into) = AreIds file.0 into.0
 IsNote (ShiftFolder folder into) = AreIds folder.0 into.0
 IsNote (Give holder folder) = AreIds holder.0 folder.0
 IsNote (Take holder folder) = AreIds holder.0 folder.0
+IsNote StrictRoot = Unit {0}
+IsNote Upgrade = Unit {0}
 
 -- a payload with a spelling: each of its parts has one, and its counts fit four bytes
 pub record IsSpellable (p : PlainPayload) : Type 0 where

@@ -6,7 +6,7 @@ use Rattle.std.specs.Int.{w32, w64, to_be_bytes}
 use Rattle.record_format.specs.declared.link.LinkRecord.{LinkRecord}
 use Rattle.record_format.specs.declared.note.Note.{Note}
 use Rattle.record_format.specs.declared.note.Note.TheVariants.{Root, NewHolder, NewFolder, NewFile, Rewrite, NameFile, NameFolder, DropFile}
-use Rattle.record_format.specs.declared.note.Note.TheVariants.{DropFolder, ShiftFile, ShiftFolder, Give, Take}
+use Rattle.record_format.specs.declared.note.Note.TheVariants.{DropFolder, ShiftFile, ShiftFolder, Give, Take, StrictRoot, Upgrade}
 use Rattle.record_format.specs.Plain.{PlainContent, PlainPayload}
 
 -- a number as four bytes, the highest first
@@ -49,6 +49,8 @@ spell_note (ShiftFile file into) = 10 ∷ (be32 file.0 ++ be32 into.0)
 spell_note (ShiftFolder folder into) = 11 ∷ (be32 folder.0 ++ be32 into.0)
 spell_note (Give holder folder) = 12 ∷ (be32 holder.0 ++ be32 folder.0)
 spell_note (Take holder folder) = 13 ∷ (be32 holder.0 ++ be32 folder.0)
+spell_note StrictRoot = 14 ∷ []
+spell_note Upgrade = 15 ∷ []
 
 -- a payload: the note, how many links and contents there are, the links, the contents
 unfoldable pub spell_payload : PlainPayload → List ℕ

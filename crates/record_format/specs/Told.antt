@@ -1,7 +1,7 @@
 -- What a payload's note tells everyone. This project's own, docs/FORMAT.md, "Notes and payloads".
 use Rattle.record_format.specs.Noted.{Note}
 use Rattle.record_format.specs.Noted.Note.{Root, NewHolder, NewFolder, NewFile, Rewrite, NameFile, NameFolder, DropFile, DropFolder}
-use Rattle.record_format.specs.Noted.Note.{ShiftFile, ShiftFolder, Give, Take}
+use Rattle.record_format.specs.Noted.Note.{ShiftFile, ShiftFolder, Give, Take, StrictRoot, Upgrade}
 use Rattle.record_format.specs.declared.note.Note.{Note as Declared}
 use Rattle.record_format.specs.declared.note.Note.TheVariants as declared
 
@@ -20,3 +20,5 @@ told_note (declared.ShiftFile file into) = ShiftFile file.0 into.0
 told_note (declared.ShiftFolder folder into) = ShiftFolder folder.0 into.0
 told_note (declared.Give holder folder) = Give holder.0 folder.0
 told_note (declared.Take holder folder) = Take holder.0 folder.0
+told_note declared.StrictRoot = StrictRoot
+told_note declared.Upgrade = Upgrade

@@ -15,6 +15,8 @@
 //!   11  ShiftFolder  folder, into
 //!   12  Give         holder, folder
 //!   13  Take         holder, folder
+//!   14  StrictRoot   none
+//!   15  Upgrade      none
 //! ```
 use cry_base::{FileId, FolderId, HolderId};
 
@@ -47,4 +49,8 @@ pub enum Note {
     Give { holder: HolderId, folder: FolderId },
     /// Takes a holder's grant on a folder away.
     Take { holder: HolderId, folder: FolderId },
+    /// Makes the root folder of a store of version 2, in which what leaves a folder is closed to whoever comes later.
+    StrictRoot,
+    /// Makes a store of version 1 one of version 2.
+    Upgrade,
 }

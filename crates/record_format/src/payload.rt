@@ -24,7 +24,7 @@ fn note_len(note: &Note) -> u64
     ensures { result ≡ note_size note.now }
 {
     match note {
-        Note::Root => 1,
+        Note::Root | Note::StrictRoot | Note::Upgrade => 1,
         Note::NewHolder { .. } => 37,
         Note::Rewrite { .. }
         | Note::NameFile { .. }

@@ -2,7 +2,7 @@
 ghost use Rattle.std.specs.Prelude.{◌≡◌, ◌≤◌, [], map, Ok, IfOk, IfErr};
 ghost use Rattle.record_format.specs.Fields.{repeat_at};
 ghost use Rattle.record_format.specs.Plain.{PlainPayload, plain_content, plain_payload};
-ghost use Rattle.record_format.specs.Reading.{Gives, Answers, note_of_one, note_of_two, new_holder_at, one_id_at, two_ids_at, note_at};
+ghost use Rattle.record_format.specs.Reading.{Gives, Answers, note_of_none, note_of_one, note_of_two, new_holder_at, one_id_at, two_ids_at, note_at};
 ghost use Rattle.record_format.specs.Reading.{link_at, content_at, payload_at, whole_payload, payload_or_place, IsPlaceIn, EndsABeginning};
 ghost use Rattle.record_format.specs.Spellable.{IsSpellable};
 ghost use Rattle.record_format.specs.Spelling.{spell_payload};
@@ -14,6 +14,16 @@ use crate::link::LINK_LEN;
 use crate::{ContentRecord, LinkRecord, Note, Payload, PayloadFault};
 use cry_base::{FileId, FolderId, HolderId, List, Mem, Serial, Text};
 use std::alloc::Global;
+
+fn without_fields(code: u8) -> Note
+    ensures { result ≡ note_of_none code }
+{
+    match code {
+        1 => Note::Root,
+        14 => Note::StrictRoot,
+        _ => Note::Upgrade,
+    }
+}
 
 fn with_one_id(code: u8, id: u32) -> Note
     ensures { result ≡ note_of_one code id }
@@ -98,9 +108,9 @@ fn two_ids_of(code: u8, bytes: &[u8]) -> Result<(Note, &[u8]), Stop>
 fn note_of(bytes: &[u8]) -> Result<(Note, &[u8]), Stop>
     ensures { Gives (λ x. (x.0, x.1.now)) result (note_at bytes.now) }
 {
-    let (code, rest) = byte_of(1, 13, bytes)?;
+    let (code, rest) = byte_of(1, 15, bytes)?;
     match code {
-        1 => Ok((Note::Root, rest)),
+        1 | 14.. => Ok((without_fields(code), rest)),
         2 => new_holder_of(rest),
         5..=9 => one_id_of(code, rest),
         _ => two_ids_of(code, rest),

@@ -59,6 +59,8 @@ fn put_note(note: &Note, out: &mut Text)
         Note::ShiftFolder { folder, into } => put_two(11, folder.0, into.0, out),
         Note::Give { holder, folder } => put_two(12, holder.0, folder.0, out),
         Note::Take { holder, folder } => put_two(13, holder.0, folder.0, out),
+        Note::StrictRoot => out.put(14),
+        Note::Upgrade => out.put(15),
     }
 }
 

@@ -52,7 +52,7 @@ into_within (e ∷ es) rs = let rest = into_within es rs in
       | false ↦ omega (arith, rest)
     ]
 
-none_but : (es : List Edge) → edges_but [] es ≡ es
+pub none_but : (es : List Edge) → edges_but [] es ≡ es
 unfolding edges_but has
 none_but [] = refl
 none_but (e ∷ es) = ap (λ l. e ∷ l) (none_but es)
@@ -110,7 +110,7 @@ module _ (s : Store) (removed : List Edge) (wanted set : List Role) (told : (r :
       ∙ plan_same dirty (edges_but removed (unordered s)) (edges_but removed (edges s)) wanted
       (but_in removed (unordered s) (edges s) (in_edges s)) (but_in removed (edges s) (unordered s) (in_unordered s))
 
-  same_leading : HaveSame set (reach_along (turned (edges_but removed (edges s))) wanted)
+  pub same_leading : HaveSame set (reach_along (turned (edges_but removed (edges s))) wanted)
   same_leading r =
       let us = edges_but removed (unordered s) in
       let es = edges_but removed (edges s) in

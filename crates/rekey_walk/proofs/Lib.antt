@@ -3,3 +3,4 @@ pub mod Closed
 pub mod Marking
 pub mod Planning
 pub mod Reordered
+pub mod Sources

@@ -31,7 +31,7 @@ marked_is dirty es target reached new up told kept added all = same_list new (ma
     (λ r i. (mark_told dirty es target r).1 (⊎_elim (λ d. inl d) (λ u. inr ((told r).0 u)) (added r i)))
     (λ r i. ⊎_elim (λ d. kept r d) (λ way. all r ((told r).1 way)) ((mark_told dirty es target r).0 i))
 
-filter_ascends : (p : Role → Bool) (rs : List Role) → IsAscending rs → IsAscending (filter p rs)
+pub filter_ascends : (p : Role → Bool) (rs : List Role) → IsAscending rs → IsAscending (filter p rs)
 filter_ascends p [] up = tt
 filter_ascends p (x ∷ xs) up = elim (p x) as (λ b. IsAscending (cond b (x ∷ filter p xs) (filter p xs))) [
   | true ↦ (λ y i. up.0 y (In-filter Role p y xs i).0, filter_ascends p xs up.1)

@@ -1,2 +1,3 @@
 pub mod Dirty
 pub mod WorkedMarks
+pub mod Strict

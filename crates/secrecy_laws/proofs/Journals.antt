@@ -20,16 +20,16 @@ use Rattle.move_plan.specs.Change.{Change, change_of}
 use Rattle.move_plan.specs.Fitting.{fits}
 use Rattle.move_plan.specs.Noting.{note_of}
 use Rattle.record_format.specs.Noted.{Note}
-use Rattle.record_format.specs.Noted.Note.{Root}
-use Rattle.public_fold.specs.Journal.{Entry, Stand, nothing, first_key, note_step, entry_step, entry_store, stand_then, stand_after}
-use Rattle.public_fold.specs.Journal.Entry.{Session, Made, Did}
+use Rattle.record_format.specs.Noted.Note.{Upgrade}
+use Rattle.public_fold.specs.Journal.{Entry, Stand, nothing, first_key, note_step, root_note, entry_step, entry_store, stand_then, stand_after}
+use Rattle.public_fold.specs.Journal.Entry.{Session, Made, Did, Upgraded}
 use Rattle.public_fold.specs.Keyed.{KeysHold}
-use Rattle.public_fold.specs.KeyStep.{KeyState, Stepped, no_keys, next_epoch, newest, next_serial, key_step}
+use Rattle.public_fold.specs.KeyStep.{KeyState, Stepped, is_strict, no_keys, next_epoch, newest, next_serial, key_step}
 use Rattle.public_fold.specs.Records.{Piece, pieces_of}
 use Rattle.public_fold.specs.StandFits.{has_count, note_fits, entry_fits, all_fit}
 use Rattle.public_fold.specs.Valid.{FollowOn}
 use Rattle.public_fold.proofs.KeepingKeys.{IsMove, keys_after}
-use Rattle.public_fold.proofs.KeyMoves.{IsSound, effect_sound, root_sound, command_moves, root_moves, nothing_holds, epoch_holds}
+use Rattle.public_fold.proofs.KeyMoves.{IsSound, effect_sound, root_sound, command_moves, root_moves, upgrade_moves, nothing_holds, epoch_holds}
 use Rattle.closure_laws.specs.Gains.{IsGain}
 use Rattle.secrecy_laws.specs.States.{IsStep, Fits}
 use Rattle.secrecy_laws.specs.Holding.{Holds, Opens, Brings, OpensAnew}
@@ -73,7 +73,7 @@ no_pair : (q : Role × Role) → In q (pairs_of (edges no_store)) → ⊥
 unfolding pairs_of
 no_pair q i = let w = (In-map Edge (Role × Role) (λ e. (e.from, e.to)) q (edges no_store)).0 i in no_edge w.0 w.1
 
-owner_alone : (r : Role) (n : ℕ) → newest ((Owner, 0) ∷ []) r ≡ Some n → (Owner ≡ r) × (n ≡ 0)
+pub owner_alone : (r : Role) (n : ℕ) → newest ((Owner, 0) ∷ []) r ≡ Some n → (Owner ≡ r) × (n ≡ 0)
 unfolding newest
 owner_alone r n =
     (elim (same_role Owner r) as (λ b. same_role Owner r ≡ b → cond b (Some 0) None ≡ Some n → (Owner ≡ r) × (n ≡ 0)) [
@@ -107,11 +107,11 @@ unfolding next_epoch no_keys no_past next_serial
 first_below key i = ⊎_elim (λ (e : key ≡ (Owner, 0)). let z : key.1 ≡ 0 = ap (λ (z : Role × ℕ). z.1) e in omega arith) (λ n. absurd n) i
 
 -- the stand that the first two entries leave
-abbrev pub made_stand : List (List ℕ) → Stand
-made_stand keys = stand_then (stand_then nothing Session) (Made keys)
+abbrev pub made_stand : ℕ → List (List ℕ) → Stand
+made_stand version keys = stand_then (stand_then nothing Session) (Made version keys)
 
-abbrev pub made_past : List (List ℕ) → Past
-made_past keys = past_entry (stand_then nothing Session) no_past (Made keys)
+abbrev pub made_past : ℕ → List (List ℕ) → Past
+made_past version keys = past_entry (stand_then nothing Session) no_past (Made version keys)
 
 count_small : (step : Stepped) → has_count step ≡ true → step.after.count < 2 ^ 32
 unfolding has_count
@@ -119,12 +119,12 @@ count_small step t = let low : step.after.count < 2 ^ 32 - 1 = ltb-true step.aft
 
 pub fits_count : (at : Stand) (note : Note) (step : Stepped) → note_fits at note step ≡ true → step.after.count < 2 ^ 32
 unfolding note_fits
-fits_count at note step t = count_small step (and_parts (fits at.store note) (has_count step) (and_parts (nat_lt 0 at.keys.epoch) (fits at.store note && has_count step) t).1).1
+fits_count at note step t = count_small step (and_parts (fits (is_strict at.keys) at.store note) (has_count step) (and_parts (nat_lt 0 at.keys.epoch) (fits (is_strict at.keys) at.store note && has_count step) t).1).1
 
-pub made_kept : (keys : List (List ℕ)) → (entry_step (stand_then nothing Session) (Made keys)).after.count < 2 ^ 32 → Kept (made_stand keys) (made_past keys)
-unfolding stand_then entry_store entry_step note_step nothing past_entry
-made_kept keys count =
-    step_kept no_store root_store (next_epoch no_keys) (change_of no_store Root) no_past (pieces_of Root root_store) root_moves
+pub made_kept : (version : ℕ) (keys : List (List ℕ)) → (entry_step (stand_then nothing Session) (Made version keys)).after.count < 2 ^ 32 → Kept (made_stand version keys) (made_past version keys)
+unfolding stand_then entry_store entry_step note_step nothing past_entry is_strict next_epoch no_keys
+made_kept version keys count =
+    step_kept no_store root_store (next_epoch no_keys) (change_of false no_store (root_note version)) no_past (pieces_of (root_note version) root_store) (root_moves version)
     (unfold no_past in nothing_holds) first_below first_holds root_sound count
 
 pub session_kept : (at : Stand) (p : Past) → Kept at p → Kept (stand_then at Session) (past_entry at p Session)
@@ -139,8 +139,8 @@ session_kept at p ok = record {
 
 -- an accepted command moves edges and roles
 pub moves : (at : Stand) (request : Request) (keys : List (List ℕ)) → IsSound at.store → refusal_of at.store request most_file_bytes ≡ None
-    → IsMove at.store (change_of at.store (note_of at.store request [])) (effect at.store request (first_key keys))
-moves at request keys sound e = command_moves at.store request (first_key keys) [] most_file_bytes e sound
+    → IsMove at.store (change_of (is_strict at.keys) at.store (note_of at.store request [])) (effect at.store request (first_key keys))
+moves at request keys sound e = command_moves (is_strict at.keys) at.store request (first_key keys) [] most_file_bytes e sound
 
 pub did_kept : (at : Stand) (p : Past) (request : Request) (keys : List (List ℕ)) → Kept at p → refusal_of at.store request most_file_bytes ≡ None → (entry_step at (Did request keys)).after.count < 2 ^ 32
     → Kept (stand_then at (Did request keys)) (past_entry at p (Did request keys))
@@ -149,25 +149,47 @@ did_kept at p request keys ok e count =
     let s = at.store in
     let t = effect s request (first_key keys) in
     let note = note_of s request [] in
-    step_kept s t at.keys (change_of s note) p (pieces_of note t) (moves at request keys ok.sound e) ok.keys ok.below ok.holds (effect_sound s request (first_key keys) most_file_bytes e ok.sound) count
+    step_kept s t at.keys (change_of (is_strict at.keys) s note) p (pieces_of note t) (moves at request keys ok.sound e) ok.keys ok.below ok.holds (effect_sound s request (first_key keys) most_file_bytes e ok.sound) count
 
-did_step : (at : Stand) (p : Past) (request : Request) (keys : List (List ℕ)) → Kept at p → refusal_of at.store request most_file_bytes ≡ None
-    → IsStep (state_of at p) (move_of (edges at.store) (change_of at.store (note_of at.store request [])) (entry_step at (Did request keys))) (state_of (stand_then at (Did request keys)) (past_entry at p (Did request keys)))
+pub did_step : (at : Stand) (p : Past) (request : Request) (keys : List (List ℕ)) → Kept at p → refusal_of at.store request most_file_bytes ≡ None
+    → IsStep (state_of at p) (move_of (edges at.store) (change_of (is_strict at.keys) at.store (note_of at.store request [])) (entry_step at (Did request keys))) (state_of (stand_then at (Did request keys)) (past_entry at p (Did request keys)))
 unfolding stand_then entry_store entry_step note_step past_entry
 did_step at p request keys ok e =
     let s = at.store in
     let t = effect s request (first_key keys) in
     let note = note_of s request [] in
-    is_step s t at.keys (change_of s note) p (pieces_of note t) (moves at request keys ok.sound e) ok.keys ok.below
+    is_step s t at.keys (change_of (is_strict at.keys) s note) p (pieces_of note t) (moves at request keys ok.sound e) ok.keys ok.below
 
-did_fits : (at : Stand) (p : Past) (request : Request) (keys : List (List ℕ)) → Kept at p → refusal_of at.store request most_file_bytes ≡ None
-    → Fits is_root_role (state_of at p) (move_of (edges at.store) (change_of at.store (note_of at.store request [])) (entry_step at (Did request keys))) (state_of (stand_then at (Did request keys)) (past_entry at p (Did request keys)))
+pub did_fits : (at : Stand) (p : Past) (request : Request) (keys : List (List ℕ)) → Kept at p → refusal_of at.store request most_file_bytes ≡ None
+    → Fits is_root_role (state_of at p) (move_of (edges at.store) (change_of (is_strict at.keys) at.store (note_of at.store request [])) (entry_step at (Did request keys))) (state_of (stand_then at (Did request keys)) (past_entry at p (Did request keys)))
 unfolding stand_then entry_store entry_step note_step past_entry
 did_fits at p request keys ok e =
     let s = at.store in
     let t = effect s request (first_key keys) in
     let note = note_of s request [] in
-    fits_step s t at.keys (change_of s note) p (pieces_of note t) (moves at request keys ok.sound e) ok.keys ok.below
+    fits_step s t at.keys (change_of (is_strict at.keys) s note) p (pieces_of note t) (moves at request keys ok.sound e) ok.keys ok.below
+
+-- so is a store that is made strict
+pub upgraded_kept : (at : Stand) (p : Past) (keys : List (List ℕ)) → Kept at p → (entry_step at (Upgraded keys)).after.count < 2 ^ 32
+    → Kept (stand_then at (Upgraded keys)) (past_entry at p (Upgraded keys))
+unfolding stand_then entry_store entry_step note_step past_entry
+upgraded_kept at p keys ok count =
+    let s = at.store in
+    step_kept s s at.keys (change_of (is_strict at.keys) s Upgrade) p (pieces_of Upgrade s) (upgrade_moves (is_strict at.keys) s ok.sound) ok.keys ok.below ok.holds ok.sound count
+
+pub upgraded_step : (at : Stand) (p : Past) (keys : List (List ℕ)) → Kept at p
+    → IsStep (state_of at p) (move_of (edges at.store) (change_of (is_strict at.keys) at.store Upgrade) (entry_step at (Upgraded keys))) (state_of (stand_then at (Upgraded keys)) (past_entry at p (Upgraded keys)))
+unfolding stand_then entry_store entry_step note_step past_entry
+upgraded_step at p keys ok =
+    let s = at.store in
+    is_step s s at.keys (change_of (is_strict at.keys) s Upgrade) p (pieces_of Upgrade s) (upgrade_moves (is_strict at.keys) s ok.sound) ok.keys ok.below
+
+pub upgraded_fits : (at : Stand) (p : Past) (keys : List (List ℕ)) → Kept at p
+    → Fits is_root_role (state_of at p) (move_of (edges at.store) (change_of (is_strict at.keys) at.store Upgrade) (entry_step at (Upgraded keys))) (state_of (stand_then at (Upgraded keys)) (past_entry at p (Upgraded keys)))
+unfolding stand_then entry_store entry_step note_step past_entry
+upgraded_fits at p keys ok =
+    let s = at.store in
+    fits_step s s at.keys (change_of (is_strict at.keys) s Upgrade) p (pieces_of Upgrade s) (upgrade_moves (is_strict at.keys) s ok.sound) ok.keys ok.below
 
 -- the counts of entries that fit
 pub did_count : (at : Stand) (request : Request) (keys : List (List ℕ)) (entries : List Entry) → all_fit at (Did request keys ∷ entries) ≡ true
@@ -178,6 +200,24 @@ did_count at request keys entries t =
     let note = note_of at.store request [] in
     let both = and_parts (note_fits at note step) (all_fit (stand_then at (Did request keys)) entries) t in
     (fits_count at note step both.0, both.1)
+
+pub upgraded_count : (at : Stand) (keys : List (List ℕ)) (entries : List Entry) → all_fit at (Upgraded keys ∷ entries) ≡ true
+    → ((entry_step at (Upgraded keys)).after.count < 2 ^ 32) × (all_fit (stand_then at (Upgraded keys)) entries ≡ true)
+unfolding all_fit entry_fits
+upgraded_count at keys entries t =
+    let step = entry_step at (Upgraded keys) in
+    let both = and_parts (note_fits at Upgrade step) (all_fit (stand_then at (Upgraded keys)) entries) t in
+    (fits_count at Upgrade step both.0, both.1)
+
+-- what the first two entries leave
+pub made_fit : (version : ℕ) (keys : List (List ℕ)) (entries : List Entry) → all_fit nothing (Session ∷ Made version keys ∷ entries) ≡ true
+    → ((entry_step (stand_then nothing Session) (Made version keys)).after.count < 2 ^ 32) × (all_fit (made_stand version keys) entries ≡ true)
+unfolding all_fit entry_fits
+made_fit version keys entries t =
+    let at = stand_then nothing Session in
+    let step = entry_step at (Made version keys) in
+    let both = and_parts (note_fits at (root_note version) step) (all_fit (made_stand version keys) entries) (and_parts (entry_fits nothing Session) (all_fit at (Made version keys ∷ entries)) t).1 in
+    (fits_count at (root_note version) step both.0, both.1)
 
 pub session_fit : (at : Stand) (entries : List Entry) → all_fit at (Session ∷ entries) ≡ true → all_fit (stand_then at Session) entries ≡ true
 unfolding all_fit
@@ -194,15 +234,21 @@ are_steps (Session ∷ entries) at p ok f t = session_steps (are_steps entries (
 
     session_steps : AreSteps is_root_role (state_of (stand_then at Session) p) (turns_of (stand_then at Session) p entries) → AreSteps is_root_role (state_of at p) (turns_of (stand_then at Session) p entries)
     session_steps k = unfold stand_then entry_store entry_step next_epoch in k
-are_steps (Made keys ∷ entries) at p ok f t = absurd f.0
+are_steps (Made version keys ∷ entries) at p ok f t = absurd f.0
 are_steps (Did request keys ∷ entries) at p ok f t =
     let w = did_count at request keys entries t in (
       did_step at p request keys ok f.0.0,
       did_fits at p request keys ok f.0.0,
       are_steps entries (stand_then at (Did request keys)) (past_entry at p (Did request keys)) (did_kept at p request keys ok f.0.0 w.0) f.1 w.1,
     )
+are_steps (Upgraded keys ∷ entries) at p ok f t =
+    let w = upgraded_count at keys entries t in (
+      upgraded_step at p keys ok,
+      upgraded_fits at p keys ok,
+      are_steps entries (stand_then at (Upgraded keys)) (past_entry at p (Upgraded keys)) (upgraded_kept at p keys ok w.0) f.1 w.1,
+    )
 
-session_state : (at : Stand) (p : Past) → state_of (stand_then at Session) p ≡ state_of at p
+pub session_state : (at : Stand) (p : Past) → state_of (stand_then at Session) p ≡ state_of at p
 unfolding stand_then entry_store entry_step next_epoch
 session_state at p = refl
 
@@ -211,8 +257,9 @@ unfolding turns_of state_after stand_after past_after past_entry
 states_are [] at p f = refl
 states_are (Session ∷ entries) at p f =
     ap (λ s. state_after s (turns_of (stand_then at Session) p entries)) (sym (session_state at p)) ∙ states_are entries (stand_then at Session) p f.1
-states_are (Made keys ∷ entries) at p f = absurd f.0
+states_are (Made version keys ∷ entries) at p f = absurd f.0
 states_are (Did request keys ∷ entries) at p f = states_are entries (stand_then at (Did request keys)) (past_entry at p (Did request keys)) f.1
+states_are (Upgraded keys ∷ entries) at p f = states_are entries (stand_then at (Upgraded keys)) (past_entry at p (Upgraded keys)) f.1
 
 -- an entry that brings a role into reach is a gain
 did_gains : (at : Stand) (p : Past) (request : Request) (keys : List (List ℕ)) (h : ℕ) (r : Role) → Kept at p → refusal_of at.store request most_file_bytes ≡ None
@@ -223,6 +270,11 @@ did_gains at p request keys h r ok e b =
     let t = effect s request (first_key keys) in
     brings_gain s t h ok.sound.settled (effect_sound s request (first_key keys) most_file_bytes e ok.sound) (moves at request keys ok.sound e).ends_after request (first_key keys) refl r
     ((ok.keys.keyed r).1 b.0) b.1 b.2
+
+-- an upgrade leaves the edges, and so brings nothing
+pub upgraded_brings : (at : Stand) (p : Past) (keys : List (List ℕ)) (h r : Role) → Brings (state_of at p) (state_of (stand_then at (Upgraded keys)) (past_entry at p (Upgraded keys))) h r → ⊥
+unfolding stand_then entry_store
+upgraded_brings at p keys h r b = b.2 b.1
 
 -- the entry is a gain for the holder, and lets the holder open the key of the serial; and some entry of those that follow does
 abbrev pub OpensAt : Stand → Past → Entry → ℕ → ℕ → Type 0
@@ -239,13 +291,17 @@ opened_later [] at p h k ok f t g = g
 opened_later (Session ∷ entries) at p h k ok f t g =
     inr (opened_later entries (stand_then at Session) p h k (session_kept at p ok) f.1 (session_fit at entries t)
     (subst (λ s. IsOpened (holder_role h) k s (turns_of (stand_then at Session) p entries)) (sym (session_state at p)) g))
-opened_later (Made keys ∷ entries) at p h k ok f t g = absurd f.0
+opened_later (Made version keys ∷ entries) at p h k ok f t g = absurd f.0
 opened_later (Did request keys ∷ entries) at p h k ok f t g =
     let w = did_count at request keys entries t in ⊎_elim
     (λ u. inl (did_gains at p request keys h u.brought.0 ok f.0.0 u.brought.1, u))
     (λ u. inr (opened_later entries (stand_then at (Did request keys)) (past_entry at p (Did request keys)) h k (did_kept at p request keys ok f.0.0 w.0) f.1 w.1 u)) g
+opened_later (Upgraded keys ∷ entries) at p h k ok f t g =
+    let w = upgraded_count at keys entries t in ⊎_elim
+    (λ u. absurd (upgraded_brings at p keys (holder_role h) u.brought.0 u.brought.1))
+    (λ u. inr (opened_later entries (stand_then at (Upgraded keys)) (past_entry at p (Upgraded keys)) h k (upgraded_kept at p keys ok w.0) f.1 w.1 u)) g
 
-holder_is_root : (h : ℕ) → is_root_role (holder_role h) ≡ true
+pub holder_is_root : (h : ℕ) → is_root_role (holder_role h) ≡ true
 unfolding is_root_role holder_role Rattle.role_graph.specs.Roles.variant_of
 holder_is_root h = refl
 

@@ -3,12 +3,11 @@ use Rattle.std.proofs.Common.{◌≡◌, ℕ, ◌+◌, ◌*◌, ◌^◌, ◌<◌
 use Rattle.std.specs.Prelude.{unwrap_or}
 use Rattle.std.proofs.lemmas.Bool.{or_cases, or_left, or_right, false≢true}
 use Rattle.cry_base.specs.Sets.{In, Path, has}
-use Rattle.cry_base.specs.Sets.Path.{Here, On}
 use Rattle.cry_base.specs.Store.{Store}
 use Rattle.cry_base.specs.declared.roles.Edge.{Edge}
 use Rattle.cry_base.specs.declared.roles.Role.{Role}
 use Rattle.cry_base.proofs.Members.{In-append, In-map, In-filter, filter-In}
-use Rattle.cry_base.proofs.Reaching.{has-in, in-has, Path-on}
+use Rattle.cry_base.proofs.Reaching.{has-in, in-has}
 use Rattle.role_graph.specs.Roles.{same_role, is_root_role}
 use Rattle.role_graph.specs.Edges.{Reaches, edges, pairs_of, same_edge, IsEdge}
 use Rattle.role_graph.proofs.Comparing.{same_role_tells}
@@ -21,21 +20,21 @@ use Rattle.public_fold.specs.KeyStep.{KeyState, Stepped, without, edges_left, di
 use Rattle.public_fold.specs.Records.{Link, Piece}
 use Rattle.public_fold.proofs.EdgesThen.{left_told, then_told}
 use Rattle.role_graph.proofs.AtEnds.{same_edge_tells}
-use Rattle.public_fold.proofs.KeepingKeys.{IsMove, newest-first, numbered-some, without_told, marked_told, marked_stands, marked_no_root, planned_told, same_key, no_key, keys_after}
+use Rattle.public_fold.proofs.KeepingKeys.{IsMove, newest-first, numbered-some, without_told, marked_told, marked_stands, marked_no_root, renewed_back, renewed_stands, renewed_wanted, same_key, no_key, keys_after}
 use Rattle.public_fold.proofs.Serials.{numbered-between, keys_between}
 use Rattle.secrecy_laws.specs.States.{State, Move, IsStep, Fits}
 use Rattle.secrecy_laws.specs.Pasts.{Past, marks_of, serials_of, past_then, ends_of, state_of, move_of}
 use Rattle.secrecy_laws.proofs.Steps.{member}
 
 -- pairs and their edges
-pair_told : (es : List Edge) (q : Role × Role) → In q (pairs_of es) ↔ ((e : Edge) × In e es × (q ≡ (e.from, e.to)))
+pub pair_told : (es : List Edge) (q : Role × Role) → In q (pairs_of es) ↔ ((e : Edge) × In e es × (q ≡ (e.from, e.to)))
 unfolding pairs_of
 pair_told es q = In-map Edge (Role × Role) (λ e. (e.from, e.to)) q es
 
 pub pair_in : (es : List Edge) (e : Edge) → In e es → In {X = Role × Role} (e.from, e.to) (pairs_of es)
 pair_in es e i = (pair_told es (e.from, e.to)).1 (e, i, refl)
 
-source_is : (q : Role × Role) (e : Edge) → q ≡ (e.from, e.to) → q.0 ≡ e.from
+pub source_is : (q : Role × Role) (e : Edge) → q ≡ (e.from, e.to) → q.0 ≡ e.from
 source_is q e s = ap (λ (z : Role × Role). z.0) s
 
 target_is : (q : Role × Role) (e : Edge) → q ≡ (e.from, e.to) → q.1 ≡ e.to
@@ -328,8 +327,11 @@ module _ (s t : Store) (k : KeyState) (c : Change) (p : Past) (pieces : List Pie
 
   renews_back : (q : Role × Role) → In q (pairs_of (edges_left (edges s) c)) → In q.0 k.dirty ⊎ In q.0 (marks_of (edges s) c) → In q.1 (renewed k (edges s) c) → In q.0 (renewed k (edges s) c)
   renews_back q i d rn =
-      let w = (planned_told s t k c p.links mv ok q.1).0 rn in
-      (planned_told s t k c p.links mv ok q.0).1 ((dirty_told q.0).1 (d, (left_ends q i).0), (w.1.0, w.1.1, Path-on (On Here i) w.1.2))
+      let w = (pair_told (edges_left (edges s) c) q).0 i in
+      let dirty = (dirty_told q.0).1 (d, (left_ends q i).0) in
+      subst (λ r. In r (renewed k (edges s) c)) (sym (source_is q w.0 w.2)) (renewed_back s t k c p.links mv ok w.0 w.1
+      (subst (λ r. In r (dirty_left k (edges s) c)) (source_is q w.0 w.2) dirty)
+      (subst (λ r. In r (renewed k (edges s) c)) (target_is q w.0 w.2) rn))
 
   -- a root, a wanted role and a new one are clean after the step
   pub source_clean : (r : Role) → (is_root_role r ≡ true) ⊎ (In r c.wanted ⊎ In r c.fresh) → In r (without same_role (renewed k (edges s) c) (dirty_left k (edges s) c)) → ⊥
@@ -338,7 +340,7 @@ module _ (s t : Store) (k : KeyState) (c : Change) (p : Past) (pieces : List Pie
       ⊎_elim
       (λ root. false≢true (sym (marked_no_root s t k c p.links mv ok r u.0) ∙ root))
       (λ v. ⊎_elim
-      (λ wanted. u.1 ((planned_told s t k c p.links mv ok r).1 (u.0, (r, wanted, Here))))
+      (λ wanted. u.1 (renewed_wanted s t k c p.links mv ok r u.0 wanted))
       (λ fresh. mv.fresh_is_new r fresh (marked_stands s t k c p.links mv ok r u.0)) v)
       due
 
@@ -369,7 +371,7 @@ module _ (s t : Store) (k : KeyState) (c : Change) (p : Past) (pieces : List Pie
   serials_differ r q j a b = numbered-own (next_serial k) (renewed k (edges s) c ++ c.fresh) r q j a b
 
   roots_stay : (r : Role) → In r (renewed k (edges s) c) → is_root_role r ≡ true → ⊥
-  roots_stay r i root = false≢true (sym (marked_no_root s t k c p.links mv ok r ((planned_told s t k c p.links mv ok r).0 i).0) ∙ root)
+  roots_stay r i root = false≢true (sym (renewed_stands s t k c p.links mv ok r i).1.1 ∙ root)
 
   none_into : (q : Role × Role) → In q (pairs_of (edges t)) → is_root_role q.1 ≡ true → ⊥
   none_into q i root =

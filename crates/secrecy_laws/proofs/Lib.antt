@@ -4,7 +4,10 @@ pub mod KeySteps
 pub mod Bringing
 pub mod Sealing
 pub mod Journals
+pub mod Leading
+pub mod Departing
 pub mod Secrets
+pub mod Departed
 pub mod Computed
 pub mod NoteSteps
 pub mod Unseen

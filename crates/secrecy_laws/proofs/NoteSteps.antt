@@ -12,7 +12,7 @@ use Rattle.record_format.specs.Noted.{Note}
 use Rattle.public_fold.specs.Fitted.{told_step, told_stand}
 use Rattle.public_fold.specs.Journal.{Stand, nothing, note_step}
 use Rattle.public_fold.specs.Keyed.{KeysHold}
-use Rattle.public_fold.specs.KeyStep.{next_epoch, next_serial}
+use Rattle.public_fold.specs.KeyStep.{is_strict, next_epoch, next_serial}
 use Rattle.public_fold.specs.Records.{pieces_of}
 use Rattle.public_fold.specs.Rooted.{MayStand}
 use Rattle.public_fold.specs.StandFits.{note_fits}
@@ -29,28 +29,28 @@ use Rattle.secrecy_laws.proofs.Steps.{stays_held}
 use Rattle.secrecy_laws.proofs.KeySteps.{is_step, fits_step, below_after}
 use Rattle.secrecy_laws.proofs.Journals.{first_holds, first_below}
 
-pub note_step_is : (at : Stand) (note : Note) (p : Past) → fits at.store note ≡ true → MayStand at.store → KeysHold at.store at.keys p.links
+pub note_step_is : (at : Stand) (note : Note) (p : Past) → fits (is_strict at.keys) at.store note ≡ true → MayStand at.store → KeysHold at.store at.keys p.links
     → ((key : Role × ℕ) → In key p.made → key.1 < next_serial at.keys)
-    → IsStep (state_of at p) (move_of (edges at.store) (change_of at.store note) (told_step at note)) (state_of (told_stand at note) (past_note at p note))
+    → IsStep (state_of at p) (move_of (edges at.store) (change_of (is_strict at.keys) at.store note) (told_step at note)) (state_of (told_stand at note) (past_note at p note))
 unfolding told_stand told_step note_step past_note
 note_step_is at note p t stands ok below =
     let after = told_store at.store note in
-    is_step at.store after at.keys (change_of at.store note) p (pieces_of note after) (note_moves at.store note t stands) ok below
+    is_step at.store after at.keys (change_of (is_strict at.keys) at.store note) p (pieces_of note after) (note_moves (is_strict at.keys) at.store note t stands) ok below
 
-pub note_step_fits : (at : Stand) (note : Note) (p : Past) → fits at.store note ≡ true → MayStand at.store → KeysHold at.store at.keys p.links
+pub note_step_fits : (at : Stand) (note : Note) (p : Past) → fits (is_strict at.keys) at.store note ≡ true → MayStand at.store → KeysHold at.store at.keys p.links
     → ((key : Role × ℕ) → In key p.made → key.1 < next_serial at.keys)
-    → Fits is_root_role (state_of at p) (move_of (edges at.store) (change_of at.store note) (told_step at note)) (state_of (told_stand at note) (past_note at p note))
+    → Fits is_root_role (state_of at p) (move_of (edges at.store) (change_of (is_strict at.keys) at.store note) (told_step at note)) (state_of (told_stand at note) (past_note at p note))
 unfolding told_stand told_step note_step past_note
 note_step_fits at note p t stands ok below =
     let after = told_store at.store note in
-    fits_step at.store after at.keys (change_of at.store note) p (pieces_of note after) (note_moves at.store note t stands) ok below
+    fits_step at.store after at.keys (change_of (is_strict at.keys) at.store note) p (pieces_of note after) (note_moves (is_strict at.keys) at.store note t stands) ok below
 
-note_below : (at : Stand) (note : Note) (p : Past) → fits at.store note ≡ true → MayStand at.store → KeysHold at.store at.keys p.links
+note_below : (at : Stand) (note : Note) (p : Past) → fits (is_strict at.keys) at.store note ≡ true → MayStand at.store → KeysHold at.store at.keys p.links
     → ((key : Role × ℕ) → In key p.made → key.1 < next_serial at.keys) → (key : Role × ℕ) → In key (past_note at p note).made → key.1 < next_serial (told_stand at note).keys
 unfolding told_stand told_step note_step past_note
 note_below at note p t stands ok below =
     let after = told_store at.store note in
-    below_after at.store after at.keys (change_of at.store note) p (pieces_of note after) (note_moves at.store note t stands) ok below
+    below_after at.store after at.keys (change_of (is_strict at.keys) at.store note) p (pieces_of note after) (note_moves (is_strict at.keys) at.store note t stands) ok below
 
 -- what holds of a stand with its past
 record KeptNotes (at : Stand) (p : Past) : Type 0 where
@@ -68,7 +68,7 @@ note_kept at p note t ok =
       stands = note_links at p note t ok.stands;
       below = note_below at note p w.0 ok.stands.store ok.stands.keys ok.below;
       holds = stays_held same_role same_role_tells is_root_role (state_of at p)
-          (move_of (edges at.store) (change_of at.store note) (told_step at note)) (state_of (told_stand at note) (past_note at p note))
+          (move_of (edges at.store) (change_of (is_strict at.keys) at.store note) (told_step at note)) (state_of (told_stand at note) (past_note at p note))
           ok.holds (note_step_is at note p w.0 ok.stands.store ok.stands.keys ok.below) (note_step_fits at note p w.0 ok.stands.store ok.stands.keys ok.below);
     }
 

@@ -1,24 +1,26 @@
 -- What a note seals is sealed under the present key of a clean role, which a holder reaches only where it is shown.
-use Rattle.std.proofs.Common.{◌≡◌, ℕ, ◌+◌, List, [], ◌∷◌, Some, None, inl, inr, ◌⊎◌, ⊎_elim, refl, sym, ap, ◌∙◌, subst}
+use Rattle.std.proofs.Common.{◌≡◌, ℕ, ◌+◌, Bool, true, List, [], ◌∷◌, Some, None, inl, inr, ◌⊎◌, ⊎_elim, refl, sym, ap, ◌∙◌, subst}
+use Rattle.std.proofs.lemmas.Bool.{false≢true}
 use Rattle.cry_base.specs.Sets.{In}
 use Rattle.cry_base.specs.Store.{Store, FolderEntry, FileEntry, HolderEntry, folder_node, file_node, folder_entry, file_entry, holder_entry}
+use Rattle.cry_base.specs.declared.roles.Edge.{Edge}
 use Rattle.cry_base.specs.declared.roles.Role.{Role}
 use Rattle.cry_base.specs.declared.roles.Role.TheVariants.{Owner}
 use Rattle.cry_base.proofs.Members.{In-map}
-use Rattle.role_graph.specs.Edges.{Reaches, edges}
-use Rattle.role_graph.specs.RightsByReach.{IsRightful}
-use Rattle.role_graph.specs.Roles.{holder_role, data_of, file_role, folder_roles}
+use Rattle.role_graph.specs.Edges.{IsEdge, Reaches, edges}
+use Rattle.role_graph.specs.RightsByReach.{HasFolder, IsRightful}
+use Rattle.role_graph.specs.Roles.{holder_role, data_of, file_role, folder_roles, is_sealing_role, variant_of}
 use Rattle.role_graph.proofs.Rightful.{rights_by_reach}
-use Rattle.move_plan.specs.Change.{Change, no_change, change_of}
+use Rattle.move_plan.specs.Change.{Change, no_change, row_change, change_of}
 use Rattle.record_format.specs.Noted.{Note}
-use Rattle.record_format.specs.Noted.Note.{Root, NewHolder, NewFolder, NewFile, Rewrite, NameFile, NameFolder, DropFile, DropFolder, ShiftFile, ShiftFolder, Give, Take}
+use Rattle.record_format.specs.Noted.Note.{Root, NewHolder, NewFolder, NewFile, Rewrite, NameFile, NameFolder, DropFile, DropFolder, ShiftFile, ShiftFolder, Give, Take, StrictRoot, Upgrade}
 use Rattle.public_fold.specs.Keyed.{HasRole}
 use Rattle.public_fold.specs.KeyStep.{numbered, present, content_of, contents_from}
 use Rattle.public_fold.specs.Records.{Content, Piece, folder_piece, file_piece, holder_piece, pieces_of, sealing_role}
 use Rattle.public_fold.proofs.KeyMoves.{IsSound}
-use Rattle.public_fold.proofs.Treeing.{file_own}
+use Rattle.public_fold.proofs.Treeing.{file_own, folder_own}
 use Rattle.closure_laws.specs.Secrecy.{IsShownNode, node_of_piece}
-use Rattle.secrecy_laws.proofs.Bringing.{standing, found_file, found_folder}
+use Rattle.secrecy_laws.proofs.Bringing.{reached_end, standing, found_file, found_folder}
 
 -- a folder's name, a file, a holder's key
 pub record IsFolderPiece (t : Store) (piece : Piece) (f : ℕ) : Type 0 where
@@ -87,6 +89,8 @@ pieces_sealed t (ShiftFile x g) piece i = absurd i
 pieces_sealed t (ShiftFolder g q) piece i = absurd i
 pieces_sealed t (Give h f) piece i = absurd i
 pieces_sealed t (Take h f) piece i = absurd i
+pieces_sealed t StrictRoot piece i = inl (1, folder_sealed t piece 1 i)
+pieces_sealed t Upgrade piece i = absurd i
 
 -- the sealing role is the owner's, or is wanted or new
 abbrev pub IsDueRole : Change → Role → Type 0
@@ -96,21 +100,27 @@ data_is_new : (r : Role) (f : ℕ) → r ≡ data_of f → In r (folder_roles f)
 unfolding folder_roles
 data_is_new r f q = inr (inr (inr (inr (inl q))))
 
-pub sealed_due : (s t : Store) (note : Note) (piece : Piece) → In piece (pieces_of note t) → IsDueRole (change_of s note) (sealing_role piece)
-unfolding pieces_of change_of no_change
-sealed_due s t Root piece i = inr (inr (data_is_new (sealing_role piece) 1 (folder_sealed t piece 1 i).role))
-sealed_due s t (NewHolder h check) piece i = inl (holder_sealed t piece h i)
-sealed_due s t (NewFolder f p) piece i = inr (inr (data_is_new (sealing_role piece) f (folder_sealed t piece f i).role))
-sealed_due s t (NewFile x f) piece i = inr (inr (inl (file_sealed t piece x i).role))
-sealed_due s t (Rewrite x) piece i = inr (inl (inl (file_sealed t piece x i).role))
-sealed_due s t (NameFile x) piece i = inr (inl (inl (file_sealed t piece x i).role))
-sealed_due s t (NameFolder f) piece i = inr (inl (inl (folder_sealed t piece f i).role))
-sealed_due s t (DropFile x) piece i = absurd i
-sealed_due s t (DropFolder f) piece i = absurd i
-sealed_due s t (ShiftFile x g) piece i = absurd i
-sealed_due s t (ShiftFolder g q) piece i = absurd i
-sealed_due s t (Give h f) piece i = absurd i
-sealed_due s t (Take h f) piece i = absurd i
+row_due : (s t : Store) (note : Note) (piece : Piece) → In piece (pieces_of note t) → IsDueRole (row_change s note) (sealing_role piece)
+unfolding pieces_of row_change no_change
+row_due s t Root piece i = inr (inr (data_is_new (sealing_role piece) 1 (folder_sealed t piece 1 i).role))
+row_due s t (NewHolder h check) piece i = inl (holder_sealed t piece h i)
+row_due s t (NewFolder f p) piece i = inr (inr (data_is_new (sealing_role piece) f (folder_sealed t piece f i).role))
+row_due s t (NewFile x f) piece i = inr (inr (inl (file_sealed t piece x i).role))
+row_due s t (Rewrite x) piece i = inr (inl (inl (file_sealed t piece x i).role))
+row_due s t (NameFile x) piece i = inr (inl (inl (file_sealed t piece x i).role))
+row_due s t (NameFolder f) piece i = inr (inl (inl (folder_sealed t piece f i).role))
+row_due s t (DropFile x) piece i = absurd i
+row_due s t (DropFolder f) piece i = absurd i
+row_due s t (ShiftFile x g) piece i = absurd i
+row_due s t (ShiftFolder g q) piece i = absurd i
+row_due s t (Give h f) piece i = absurd i
+row_due s t (Take h f) piece i = absurd i
+row_due s t StrictRoot piece i = inr (inr (data_is_new (sealing_role piece) 1 (folder_sealed t piece 1 i).role))
+row_due s t Upgrade piece i = absurd i
+
+pub sealed_due : (strict : Bool) (s t : Store) (note : Note) (piece : Piece) → In piece (pieces_of note t) → IsDueRole (change_of strict s note) (sealing_role piece)
+unfolding change_of
+sealed_due strict s t note piece i = row_due s t note piece i
 
 -- it stands
 pub sealed_stands : (t : Store) (piece : Piece) → IsSealedPiece t piece → HasRole t (sealing_role piece)
@@ -132,6 +142,26 @@ reached_shown t h piece ok w way =
     (λ u. let allowed = subst (IsRightful t h) u.1.role right in
     subst (IsShownNode t h) (sym u.1.node) (allowed.0, file_own t allowed.0 u.0 ok.tree allowed.1 allowed.2, allowed.3))
     (λ q. absurd (subst (IsRightful t h) q right)) v) w
+
+-- a role that seals stands where a holder reaches it
+seals_standing : (t : Store) (h : ℕ) (r : Role) → ((e : Edge) → IsEdge t e → HasRole t e.from × HasRole t e.to) → is_sealing_role r ≡ true → Reaches (edges t) (holder_role h) r → HasRole t r
+unfolding holder_role is_sealing_role variant_of
+seals_standing t h r ends seals way = ⊎_elim
+    (λ (e : r ≡ holder_role h). absurd (false≢true (sym (ap is_sealing_role e) ∙ seals)))
+    (λ stands. stands)
+    (reached_end t ends (holder_role h) r way)
+
+-- so a piece that was sealed in one store is one of a store where its role is in reach
+pub sealed_later : (s t : Store) (h : ℕ) (piece : Piece) → IsSound t → ((e : Edge) → IsEdge t e → HasRole t e.from × HasRole t e.to) → IsSealedPiece s piece
+    → Reaches (edges t) (holder_role h) (sealing_role piece) → IsSealedPiece t piece
+unfolding data_of file_role is_sealing_role variant_of
+sealed_later s t h piece ok ends w way = ⊎_elim
+    (λ u. let has : HasFolder t u.0 = subst (HasRole t) u.1.role (seals_standing t h (sealing_role piece) ends (ap is_sealing_role u.1.role) way) in
+    inl (u.0, record { entry = has.0; stands = folder_own t has.0 u.0 ok.tree has.1 has.2; role = u.1.role; node = u.1.node }))
+    (λ v. inr (⊎_elim
+    (λ u. let has : (e : FileEntry) × In e t.files × (e.id ≡ u.0) = subst (HasRole t) u.1.role (seals_standing t h (sealing_role piece) ends (ap is_sealing_role u.1.role) way) in
+    inl (u.0, record { entry = has.0; stands = file_own t has.0 u.0 ok.tree has.1 has.2; role = u.1.role; node = u.1.node }))
+    (λ q. inr q) v)) w
 
 -- a content is of a piece, under the present key of its role
 pieces_numbered : (n : ℕ) (ps : List Piece) (q : Piece × ℕ) → In q (numbered n ps) → In q.0 ps

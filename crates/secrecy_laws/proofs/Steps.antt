@@ -45,7 +45,7 @@ module _ {R : Type 0} (same : R → R → Bool) (tells : Tells same) (root : R �
       (member same tells r m.renewed)
 
   -- a present key was given now, or was there
-  key_from : (r : R) (k : ℕ) → new.key r ≡ Some k → (IsTouched m r × In {X = R × ℕ} (r, k) m.given) ⊎ ((old.key r ≡ Some k) × (In r m.gone → ⊥) × (IsTouched m r → ⊥))
+  pub key_from : (r : R) (k : ℕ) → new.key r ≡ Some k → (IsTouched m r × In {X = R × ℕ} (r, k) m.given) ⊎ ((old.key r ≡ Some k) × (In r m.gone → ⊥) × (IsTouched m r → ⊥))
   key_from r k e = ⊎_elim
       (λ t. let w = step.new_key r t in inl (t, subst (λ z. In {X = R × ℕ} (r, z) m.given) (one_value (new.key r) w.0 k w.1 e) w.2))
       (λ out. ⊎_elim

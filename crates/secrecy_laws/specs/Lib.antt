@@ -4,5 +4,6 @@ pub mod Runs
 pub mod Pasts
 pub mod NotedPasts
 pub mod Revocation
+pub mod Departures
 pub mod Sights
 pub mod WorkedSecrets

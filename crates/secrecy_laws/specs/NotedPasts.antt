@@ -5,13 +5,14 @@ use Rattle.move_plan.specs.Change.{change_of}
 use Rattle.record_format.specs.Noted.{Note}
 use Rattle.public_fold.specs.Fitted.{told_step}
 use Rattle.public_fold.specs.Journal.{Stand}
+use Rattle.public_fold.specs.KeyStep.{is_strict}
 use Rattle.public_fold.specs.Turns.{Turn, turn_stand}
 use Rattle.public_fold.specs.Turns.Turn.{Began, Noted}
 use Rattle.secrecy_laws.specs.Pasts.{Past, past_then}
 
 -- after one note
 unfoldable pub past_note : Stand → Past → Note → Past
-past_note at p note = past_then p (edges at.store) (change_of at.store note) (told_step at note)
+past_note at p note = past_then p (edges at.store) (change_of (is_strict at.keys) at.store note) (told_step at note)
 
 -- and after any turns
 unfoldable pub past_turns : Stand → Past → List Turn → Past

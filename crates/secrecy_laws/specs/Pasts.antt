@@ -9,10 +9,10 @@ use Rattle.role_graph.specs.Roles.{same_role}
 use Rattle.rekey_walk.specs.Dirty.{mark_all}
 use Rattle.move_plan.specs.Change.{Change, change_of}
 use Rattle.move_plan.specs.Noting.{note_of}
-use Rattle.record_format.specs.Noted.Note.{Root}
-use Rattle.public_fold.specs.Journal.{Entry, Journal, Stand, nothing, entry_step, stand_then}
-use Rattle.public_fold.specs.Journal.Entry.{Session, Made, Did}
-use Rattle.public_fold.specs.KeyStep.{Stepped, newest, edges_left}
+use Rattle.record_format.specs.Noted.Note.{Upgrade}
+use Rattle.public_fold.specs.Journal.{Entry, Journal, Stand, nothing, root_note, entry_step, stand_then}
+use Rattle.public_fold.specs.Journal.Entry.{Session, Made, Did, Upgraded}
+use Rattle.public_fold.specs.KeyStep.{Stepped, is_strict, newest, edges_left}
 use Rattle.public_fold.specs.Records.{Link}
 use Rattle.secrecy_laws.specs.States.{State, Move}
 use Rattle.secrecy_laws.specs.Runs.{Turn}
@@ -46,9 +46,12 @@ past_then p before c step = record {
 -- and after an entry of a journal, and some
 unfoldable pub past_entry : Stand → Past → Entry → Past
 past_entry at p Session = p
-past_entry at p (Made keys) = past_then p (edges at.store) (change_of at.store Root) (entry_step at (Made keys))
+past_entry at p (Made version keys) =
+    past_then p (edges at.store) (change_of (is_strict at.keys) at.store (root_note version)) (entry_step at (Made version keys))
 past_entry at p (Did request keys) =
-    past_then p (edges at.store) (change_of at.store (note_of at.store request [])) (entry_step at (Did request keys))
+    past_then p (edges at.store) (change_of (is_strict at.keys) at.store (note_of at.store request [])) (entry_step at (Did request keys))
+past_entry at p (Upgraded keys) =
+    past_then p (edges at.store) (change_of (is_strict at.keys) at.store Upgrade) (entry_step at (Upgraded keys))
 
 unfoldable pub past_after : Stand → Past → List Entry → Past
 past_after at p [] = p
@@ -90,9 +93,14 @@ move_of before c step = record {
 unfoldable pub turns_of : Stand → Past → List Entry → List (Turn Role)
 turns_of at p [] = []
 turns_of at p (Session ∷ entries) = turns_of (stand_then at Session) p entries
-turns_of at p (Made keys ∷ entries) = []
+turns_of at p (Made version keys ∷ entries) = []
 turns_of at p (Did request keys ∷ entries) =
     record {
-      move = move_of (edges at.store) (change_of at.store (note_of at.store request [])) (entry_step at (Did request keys));
+      move = move_of (edges at.store) (change_of (is_strict at.keys) at.store (note_of at.store request [])) (entry_step at (Did request keys));
       after = state_of (stand_then at (Did request keys)) (past_entry at p (Did request keys));
     } ∷ turns_of (stand_then at (Did request keys)) (past_entry at p (Did request keys)) entries
+turns_of at p (Upgraded keys ∷ entries) =
+    record {
+      move = move_of (edges at.store) (change_of (is_strict at.keys) at.store Upgrade) (entry_step at (Upgraded keys));
+      after = state_of (stand_then at (Upgraded keys)) (past_entry at p (Upgraded keys));
+    } ∷ turns_of (stand_then at (Upgraded keys)) (past_entry at p (Upgraded keys)) entries

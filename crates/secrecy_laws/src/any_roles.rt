@@ -2,6 +2,7 @@
 ghost use Rattle.std.specs.Prelude.{◌≡◌, ℕ, Bool, true, List, Some, ◌⊎◌};
 ghost use Rattle.cry_base.specs.Sets.{In, Path, Tells};
 ghost use Rattle.secrecy_laws.specs.States.{State, Move, IsStep, Fits};
+ghost use Rattle.secrecy_laws.specs.Departures.{LeadAlongEdges, RenewsAllThatLead, RenewsWhatLed};
 ghost use Rattle.secrecy_laws.specs.Holding.{Holds, Opens, Brings};
 ghost use Rattle.secrecy_laws.specs.Runs.{Turn, state_after, AreSteps, BringNothing, AreOpenedByGain};
 
@@ -44,4 +45,15 @@ pub fn any_roles_keep_secrets<R>()
 pub fn clean_keys_are_opened_in_reach<R>()
     ensures { (root : R → Bool) (s : State R) (h r : R) (k : ℕ)
         → Holds root s → s.key r ≡ Some k → (In r s.dirty → ⊥) → Opens s h k → Path s.edges h r }
+{}
+
+/// Where a step renews all but roots that led to a removed edge, the present keys of roles that are no roots go on leading along edges
+/// alone; and they begin to where it gives new keys to all of them from which links lead on.
+pub fn strict_steps_lead_along_edges<R>()
+    ensures strict { (same : R → R → Bool) (root : R → Bool) (old : State R) (m : Move R) (new : State R)
+        → Tells same → Holds root old → IsStep old m new → Fits root old m new
+        → LeadAlongEdges root old → RenewsWhatLed root old m → LeadAlongEdges root new }
+    ensures whole { (same : R → R → Bool) (root : R → Bool) (old : State R) (m : Move R) (new : State R)
+        → Tells same → Holds root old → IsStep old m new → Fits root old m new
+        → RenewsAllThatLead root old m → LeadAlongEdges root new }
 {}

@@ -2,6 +2,7 @@
 #![tactic(auto)]
 
 pub mod any_roles;
+pub mod departure_laws;
 pub mod journal_laws;
 pub mod note_laws;
 pub mod rows;

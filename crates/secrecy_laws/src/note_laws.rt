@@ -10,7 +10,7 @@ ghost use Rattle.record_format.specs.Noted.{Note};
 ghost use Rattle.public_fold.specs.Fitted.{told_stand, told_step};
 ghost use Rattle.public_fold.specs.Journal.{Stand, nothing};
 ghost use Rattle.public_fold.specs.Keyed.{KeysHold};
-ghost use Rattle.public_fold.specs.KeyStep.{next_serial};
+ghost use Rattle.public_fold.specs.KeyStep.{is_strict, next_serial};
 ghost use Rattle.public_fold.specs.Rooted.{MayStand};
 ghost use Rattle.public_fold.specs.Turns.{Turn, turns_fit, turns_stand};
 ghost use Rattle.secrecy_laws.specs.Holding.{Holds};
@@ -21,14 +21,14 @@ ghost use Rattle.secrecy_laws.specs.States.{Fits, IsStep};
 /// The key step of a note that fits is a step of the laws over any roles, and keeps to what a step has to.
 pub fn fitting_notes_are_steps()
     ensures step { (at : Stand) (note : Note) (p : Past)
-        → IsTrue (fits at.store note) → MayStand at.store → KeysHold at.store at.keys p.links
+        → IsTrue (fits (is_strict at.keys) at.store note) → MayStand at.store → KeysHold at.store at.keys p.links
         → ((key : Role × ℕ) → In key p.made → key.1 < next_serial at.keys)
-        → IsStep (state_of at p) (move_of (edges at.store) (change_of at.store note) (told_step at note))
+        → IsStep (state_of at p) (move_of (edges at.store) (change_of (is_strict at.keys) at.store note) (told_step at note))
         (state_of (told_stand at note) (past_note at p note)) }
     ensures fits { (at : Stand) (note : Note) (p : Past)
-        → IsTrue (fits at.store note) → MayStand at.store → KeysHold at.store at.keys p.links
+        → IsTrue (fits (is_strict at.keys) at.store note) → MayStand at.store → KeysHold at.store at.keys p.links
         → ((key : Role × ℕ) → In key p.made → key.1 < next_serial at.keys)
-        → Fits is_root_role (state_of at p) (move_of (edges at.store) (change_of at.store note) (told_step at note))
+        → Fits is_root_role (state_of at p) (move_of (edges at.store) (change_of (is_strict at.keys) at.store note) (told_step at note))
         (state_of (told_stand at note) (past_note at p note)) }
 {}
 

@@ -4,10 +4,10 @@ ghost use Rattle.cry_base.specs.Requests.Request.{Grant, MakeFolder, Relocate};
 ghost use Rattle.closure_laws.specs.Gains.{gains_from};
 ghost use Rattle.closure_laws.specs.Secrecy.{keeps_secret};
 ghost use Rattle.public_fold.specs.Journal.{nothing, stand_after};
-ghost use Rattle.public_fold.specs.WorkedSteps.{does, granting, revoking, writing_again};
+ghost use Rattle.public_fold.specs.WorkedSteps.{departing_strictly, does, granting, moving_strictly, revoking, writing_again};
 ghost use Rattle.role_graph.specs.Roles.{clear_of};
 ghost use Rattle.secrecy_laws.specs.Revocation.{brings_role, derived_unseen, gain_opens};
-ghost use Rattle.secrecy_laws.specs.WorkedSecrets.{file_leaked, file_written, other_granted, the_contents, the_grant, the_leak};
+ghost use Rattle.secrecy_laws.specs.WorkedSecrets.{departing_lazily, file_leaked, file_written, other_granted, the_contents, the_grant, the_leak};
 
 /// A grant opens what was written in its folder before: the root's name, the folder's and the file. A revocation adds nothing to it,
 /// and what is written after it is opened to the next holder alone, by a grant on the root.
@@ -47,4 +47,13 @@ pub fn gain_of_another_folder_explains_no_leak()
 pub fn grants_open_by_what_was_published_by_then()
     ensures own { map (gain_opens file_written (does 0 (Grant 1 (codes "/a")) ∷ []) 1) the_contents ≡ true ∷ [] }
     ensures root { map (gain_opens file_written (does 0 (Grant 1 (codes "/")) ∷ []) 1) the_contents ≡ true ∷ [] }
+{}
+
+/// Whoever is granted a folder derives what left it before in a store of version 1; in one of version 2 not so: the file was never shown.
+/// Nor is what a holder was shown taken away by a strict move.
+#[tactic(auto, unfolding(crate::specs::WorkedSecrets::secrets))]
+pub fn departures_are_closed_in_version_two()
+    ensures lazy { map (λ c. c.piece.name) (derived_unseen departing_lazily 1) ≡ [] ∷ codes "a" ∷ codes "x" ∷ [] }
+    ensures strict { map (λ c. c.piece.name) (derived_unseen departing_strictly 1) ≡ [] ∷ codes "a" ∷ [] }
+    ensures moved { map (λ c. c.piece.name) (derived_unseen moving_strictly 1) ≡ [] ∷ codes "s" ∷ codes "d" ∷ codes "f" ∷ [] }
 {}

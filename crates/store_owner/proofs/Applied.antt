@@ -12,7 +12,7 @@ use Rattle.cry_io.specs.Told.{WhereBothTold}
 use Rattle.cry_io.proofs.ToldLemmas.{told_again}
 use Rattle.move_plan.specs.Noting.{note_of}
 use Rattle.record_format.specs.Noted.{Note}
-use Rattle.record_format.specs.Noted.Note.{Root, NewHolder, NewFolder, NewFile, Rewrite, NameFile, NameFolder, DropFile, DropFolder, ShiftFile, ShiftFolder, Give, Take}
+use Rattle.record_format.specs.Noted.Note.{Root, NewHolder, NewFolder, NewFile, Rewrite, NameFile, NameFolder, DropFile, DropFolder, ShiftFile, ShiftFolder, Give, Take, StrictRoot, Upgrade}
 use Rattle.record_format.specs.Told.{told_note}
 use Rattle.record_format.specs.declared.note.Note.{Note as Declared}
 use Rattle.record_format.specs.declared.note.Note.TheVariants as declared
@@ -48,6 +48,8 @@ reply_told (declared.ShiftFile x g) drawn = refl
 reply_told (declared.ShiftFolder g q) drawn = refl
 reply_told (declared.Give h f) drawn = refl
 reply_told (declared.Take h f) drawn = refl
+reply_told declared.StrictRoot drawn = refl
+reply_told declared.Upgrade drawn = refl
 
 no_reply : (note : Note) (drawn : List (List ℕ)) → is_holder note ≡ false → reply_of note drawn ≡ replies.Done
 no_reply Root drawn f = refl
@@ -63,6 +65,8 @@ no_reply (ShiftFile x g) drawn f = refl
 no_reply (ShiftFolder g q) drawn f = refl
 no_reply (Give h e) drawn f = refl
 no_reply (Take h e) drawn f = refl
+no_reply StrictRoot drawn f = refl
+no_reply Upgrade drawn f = refl
 
 reply_asked : (m : Journal) (r : Request) (check : List ℕ) (drawn : List (List ℕ)) → reply_of (note_of (store_of m) r check) drawn ≡ done_reply m r drawn
 unfolding note_of done_reply store_of
@@ -97,6 +101,8 @@ done_answer (declared.ShiftFile x g) drawn m r old new left_before left_after wa
 done_answer (declared.ShiftFolder g q) drawn m r old new left_before left_after was shows might may since d = d
 done_answer (declared.Give h f) drawn m r old new left_before left_after was shows might may since d = d
 done_answer (declared.Take h f) drawn m r old new left_before left_after was shows might may since d = d
+done_answer declared.StrictRoot drawn m r old new left_before left_after was shows might may since d = d
+done_answer declared.Upgrade drawn m r old new left_before left_after was shows might may since d = d
 
 pub all_ok : (result : Result Reply ApplyFault) (A B C : Type 0) → OnOk result A → OnOk result B → OnOk result C → OnOk result (A × B × C)
 all_ok (Ok reply) A B C a b c = (a, b, c)

@@ -10,7 +10,7 @@ use Rattle.record_format.specs.Noted.{Note}
 use Rattle.public_fold.specs.Fitted.{told_step}
 use Rattle.public_fold.specs.Heads.{IsSkeleton}
 use Rattle.public_fold.specs.Journal.{Stand, note_step, nothing}
-use Rattle.public_fold.specs.KeyStep.{published_edges, renewed}
+use Rattle.public_fold.specs.KeyStep.{is_strict, published_edges, renewed}
 use Rattle.public_fold.specs.Lengths.{note_len}
 use Rattle.public_fold.specs.Preparing.{begun}
 use Rattle.public_fold.specs.Records.{Link, pieces_of}
@@ -20,10 +20,9 @@ use Rattle.public_fold.specs.Told.{told_store}
 use Rattle.public_fold.specs.Turns.{StandHolds, turns_stand}
 use Rattle.public_fold.specs.declared.heads.Skeleton.{Skeleton}
 use Rattle.public_fold.proofs.NoteMoves.{note_moves}
-use Rattle.public_fold.proofs.SerialsKept.{few_fresh}
+use Rattle.public_fold.proofs.SerialsKept.{few_fresh, plan_short}
 use Rattle.public_fold.proofs.TurnsHold.{fit_told}
 use Rattle.journal_bytes.specs.Sealing.{skeleton_size}
-use Rattle.journal_bytes.proofs.FewDraws.{plan_short}
 use Rattle.journal_bytes.proofs.NextEntry.{given_many, links_many}
 use Rattle.journal_bytes.proofs.SoundSteps.{begun_holds}
 use Rattle.store_owner.specs.Owned.{OwnerView}
@@ -35,13 +34,13 @@ few_given : (at : Stand) (links : List Link) (note : Note) (s : Skeleton) → St
 unfolding told_step note_step
 few_given at links note s holds f is =
     let after = told_store at.store note in
-    let c = change_of at.store note in
+    let c = change_of (is_strict at.keys) at.store note in
     let p = renewed at.keys (edges at.store) c in
     let short : length p ≤ length (published_edges (edges at.store) c p) =
-    plan_short at.store after at.keys c links (note_moves at.store note (unfold told_step note_step in (fit_told at note f).0) holds.store) holds.keys
+    plan_short at.store after at.keys c links (note_moves (is_strict at.keys) at.store note (unfold told_step note_step in (fit_told at note f).0) holds.store) holds.keys
     in
     let joined : length (p ++ c.fresh) ≡ length p + length c.fresh = length-append p c.fresh in
-    let fresh = few_fresh at.store note in
+    let fresh = few_fresh (is_strict at.keys) at.store note in
     let many = given_many at.keys (edges at.store) c (pieces_of note after) in
     let linked = links_many at.keys (edges at.store) c (pieces_of note after) in
     let keys = ap length is.keys in

@@ -8,7 +8,6 @@ use Rattle.cry_base.specs.Listed.{Listed}
 use Rattle.cry_base.specs.declared.limits.Limits.{Limits}
 use Rattle.cry_io.specs.Told.{WhereBothTold, WhereTold}
 use Rattle.key_links.specs.Fresh.{fresh_draw_len, fresh_image, piece}
-use Rattle.public_fold.specs.Journal.Entry.{Made, Session}
 use Rattle.journal_bytes.specs.Bytes.{image_of}
 use Rattle.store_owner.specs.declared.apply_fault.ApplyFault.{ApplyFault}
 use Rattle.store_owner.specs.declared.apply_fault.ApplyFault.TheVariants as answers
@@ -131,7 +130,7 @@ module _ (owner : List ℕ) (rest keys : List (List ℕ)) (six : length keys ≡
     counted = counted;
   }
 
-  pub shows_fresh : image_of (piece (joined keys) 0) (Session ∷ Made (root_keys (joined keys)) ∷ []) ++ 0 ∷ [] ≡ fresh_image (joined keys)
+  pub shows_fresh : image_of (piece (joined keys) 0) (made_with (root_keys (joined keys))) ++ 0 ∷ [] ≡ fresh_image (joined keys)
       → image owner (made_batches (root_payload owner rest)) ++ 0 ∷ [] ≡ fresh_image (joined keys)
   unfolding image_of
   shows_fresh fresh =

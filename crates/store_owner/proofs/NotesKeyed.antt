@@ -7,10 +7,10 @@ use Rattle.cry_base.specs.Requests.Request.{AddHolder, MakeFolder, WriteFile, Re
 use Rattle.cry_base.specs.Store.{Store, node_at}
 use Rattle.cry_base.specs.declared.roles.Node.{Node}
 use Rattle.cry_base.specs.declared.roles.Node.TheVariants.{Folder, File}
-use Rattle.move_plan.specs.Change.{change_of, no_change}
+use Rattle.move_plan.specs.Change.{change_of, no_change, row_change}
 use Rattle.move_plan.specs.Noting.{note_of, write_note, remove_note, rename_note, move_note}
 use Rattle.record_format.specs.Noted.{Note}
-use Rattle.record_format.specs.Noted.Note.{Root, NewHolder, NewFolder, NewFile, Rewrite, NameFile, NameFolder, DropFile, DropFolder, ShiftFile, ShiftFolder, Give, Take}
+use Rattle.record_format.specs.Noted.Note.{Root, NewHolder, NewFolder, NewFile, Rewrite, NameFile, NameFolder, DropFile, DropFolder, ShiftFile, ShiftFolder, Give, Take, StrictRoot, Upgrade}
 use Rattle.record_format.specs.Told.{told_note}
 use Rattle.record_format.specs.declared.note.Note.{Note as Declared}
 use Rattle.record_format.specs.declared.note.Note.TheVariants as declared
@@ -18,7 +18,7 @@ use Rattle.role_graph.specs.Roles.{holder_role}
 use Rattle.public_fold.specs.Fitted.{told_step}
 use Rattle.public_fold.specs.Heads.{IsSkeleton}
 use Rattle.public_fold.specs.Journal.{Stand, first_key, note_step}
-use Rattle.public_fold.specs.KeyStep.{given, key_step, next_serial, published, renewed, step_with}
+use Rattle.public_fold.specs.KeyStep.{given, is_strict, key_step, next_serial, published, renewed, step_with}
 use Rattle.public_fold.specs.Lengths.{note_len}
 use Rattle.public_fold.specs.Preparing.{is_new_holder, with_check}
 use Rattle.public_fold.specs.declared.heads.Skeleton.{Skeleton}
@@ -54,6 +54,8 @@ holder_told (declared.ShiftFile x g) = refl
 holder_told (declared.ShiftFolder g q) = refl
 holder_told (declared.Give h f) = refl
 holder_told (declared.Take h f) = refl
+holder_told declared.StrictRoot = refl
+holder_told declared.Upgrade = refl
 
 pub write_no_holder : (s : Store) (found : Option Node) (n : ℕ) → is_holder (write_note s found n) ≡ false
 unfolding write_note
@@ -127,6 +129,8 @@ checked_told (declared.ShiftFile x g) check = refl
 checked_told (declared.ShiftFolder g q) check = refl
 checked_told (declared.Give h f) check = refl
 checked_told (declared.Take h f) check = refl
+checked_told declared.StrictRoot check = refl
+checked_told declared.Upgrade check = refl
 
 unchecked : (note : Note) (check : List ℕ) → is_holder note ≡ false → checked note check ≡ note
 unchecked Root check f = refl
@@ -142,6 +146,8 @@ unchecked (ShiftFile x g) check e = refl
 unchecked (ShiftFolder g q) check e = refl
 unchecked (Give h f) check e = refl
 unchecked (Take h f) check e = refl
+unchecked StrictRoot check f = refl
+unchecked Upgrade check e = refl
 
 checked_asked : (s : Store) (r : Request) (old check : List ℕ) → checked (note_of s r old) check ≡ note_of s r check
 unfolding note_of
@@ -173,6 +179,8 @@ holder_key_is (declared.ShiftFile x g) drawn = refl
 holder_key_is (declared.ShiftFolder g q) drawn = refl
 holder_key_is (declared.Give h f) drawn = refl
 holder_key_is (declared.Take h f) drawn = refl
+holder_key_is declared.StrictRoot drawn = refl
+holder_key_is declared.Upgrade drawn = refl
 
 due_key_is : (r : Request) (key : List ℕ) → due_key r key ≡ cond (is_adding r) key []
 unfolding due_key
@@ -199,10 +207,10 @@ same_long false key zeros h = refl
 
 -- the step of a new holder's note gives a key
 gives : (at : Stand) (note : Note) → is_holder note ≡ true → 1 ≤ length (told_step at note).given
-unfolding told_step note_step key_step step_with published given change_of no_change
+unfolding told_step note_step key_step step_with published given change_of row_change no_change
 gives at (NewHolder h check) t =
     let k = at.keys in
-    let c = change_of at.store (NewHolder h check) in
+    let c = change_of (is_strict k) at.store (NewHolder h check) in
     let plan = renewed k (edges at.store) c in
     let long = numbered-length _ (next_serial k) (plan ++ holder_role h ∷ []) in
     let sum = length-append plan (holder_role h ∷ []) in omega (arith, long, sum)
@@ -218,6 +226,8 @@ gives at (ShiftFile x g) t = absurd (false≢true t)
 gives at (ShiftFolder g q) t = absurd (false≢true t)
 gives at (Give h f) t = absurd (false≢true t)
 gives at (Take h f) t = absurd (false≢true t)
+gives at StrictRoot t = absurd (false≢true t)
+gives at Upgrade t = absurd (false≢true t)
 
 pub holder_drawn : (at : Stand) (note : Declared) (s : Skeleton) (drawn : List (List ℕ)) → IsSkeleton (told_step at (told_note note)) s → length drawn ≡ length s.keys.items → is_new_holder note ≡ true → 1 ≤ length drawn
 holder_drawn at note s drawn skeleton long is =
@@ -246,6 +256,8 @@ checked_len (ShiftFile x g) check = refl
 checked_len (ShiftFolder g q) check = refl
 checked_len (Give h f) check = refl
 checked_len (Take h f) check = refl
+checked_len StrictRoot check = refl
+checked_len Upgrade check = refl
 
 pub keyed_size : (note new : Declared) (check : List ℕ) (s : Skeleton) (n m : ℕ) → new ≡ with_check note check → n ≡ m → skeleton_size (told_note new) s n ≡ skeleton_size (told_note note) s m
 keyed_size note new check s n m is same =

@@ -9,9 +9,7 @@ use Rattle.cry_base.specs.declared.roles.Role.TheVariants.{Owner}
 use Rattle.key_links.specs.Ringed.{Ringed, found, key_of, parts_of}
 use Rattle.std.specs.Option.{option_map}
 use Rattle.key_links.specs.Fresh.{root_payload_len}
-use Rattle.record_format.specs.Noted.Note.{Root}
 use Rattle.record_format.specs.Spellable.{longest_text, shortest_text}
-use Rattle.record_format.specs.declared.note.Note.TheVariants as declared
 use Rattle.role_graph.specs.Roles.{role_id, same_role}
 use Rattle.role_graph.proofs.Comparing.{same_role_tells}
 use Rattle.role_graph.specs.Edges.{edges}
@@ -21,7 +19,7 @@ use Rattle.record_format.specs.Plain.{PlainPayload}
 use Rattle.public_fold.specs.Fitted.{told_step}
 use Rattle.public_fold.specs.Heads.{IsSkeleton}
 use Rattle.public_fold.specs.Journal.{Stand, entry_step, entry_store, keys_of, note_step, nothing, stand_after, stand_then}
-use Rattle.public_fold.specs.KeyStep.{KeyState, Stepped, newest, next_epoch, next_serial, no_keys}
+use Rattle.public_fold.specs.KeyStep.{KeyState, Stepped, is_strict, newest, next_epoch, next_serial, no_keys}
 use Rattle.public_fold.specs.Lengths.{payload_len}
 use Rattle.public_fold.specs.Preparing.{begun_keys}
 use Rattle.public_fold.specs.Records.{Content, pieces_of, text_of}
@@ -32,11 +30,12 @@ use Rattle.public_fold.specs.Turns.Turn.{Began}
 use Rattle.public_fold.specs.declared.heads.Skeleton.{Skeleton}
 use Rattle.journal_bytes.specs.Bytes.{step_payload}
 use Rattle.journal_bytes.specs.Keys.{all_keys, bytes_in, bytes_of, drawn_by, entry_keys, keys_from, owner_parts, with_bytes}
+use Rattle.journal_bytes.specs.Notes.{declared_note}
 use Rattle.journal_bytes.specs.Sealing.{CanSeal, HasLength, HoldsKeys, IsSealable, IsTold, keys_with}
 use Rattle.journal_bytes.specs.WorkedBytes.{journal_bytes}
 use Rattle.journal_bytes.proofs.Ready.{can_seal}
 use Rattle.journal_bytes.proofs.SoundSteps.{turns_sealable}
-use Rattle.store_owner.specs.Making.{first_stand, made_with, root_payload, root_step}
+use Rattle.store_owner.specs.Making.{first_stand, made_note, made_with, root_payload, root_step}
 use Rattle.store_owner.specs.Owned.{counting}
 
 -- ---- the owner's key
@@ -86,7 +85,7 @@ same_keys a b role e = ap (λ keys. option_map parts_of (found keys role)) e
 
 -- ---- the root's step
 
-told_root : told_step first_stand Root ≡ root_step
+told_root : told_step first_stand made_note ≡ root_step
 unfolding journal_bytes told_step told_store begun_keys
 told_root = refl
 
@@ -106,17 +105,17 @@ pub root_length : HasLength root_step []
 unfolding journal_bytes begun_keys
 root_length = λ c i. ⊎_elim (λ e. subst (λ (x : Content). (shortest_text x.piece.kind ≤ 0) × (0 ≤ longest_text x.piece.kind)) (sym e) (omega arith, omega arith)) (λ no. absurd no) i
 
-pub root_fits : note_fits first_stand Root (told_step first_stand Root) ≡ true
+pub root_fits : note_fits first_stand made_note (told_step first_stand made_note) ≡ true
 unfolding journal_bytes told_step told_store begun_keys fits
 root_fits = refl
 
 root_sealable : IsSealable root_step
 root_sealable =
     subst (λ (step : Stepped). IsSealable step) told_root
-    (subst (λ (a : Stand). IsSealable (told_step a Root)) begun_once
-    (turns_sealable (Began ∷ []) Root once_fits (subst (λ (a : Stand). note_fits a Root (told_step a Root) ≡ true) (sym begun_once) root_fits)))
+    (subst (λ (a : Stand). IsSealable (told_step a made_note)) begun_once
+    (turns_sealable (Began ∷ []) made_note once_fits (subst (λ (a : Stand). note_fits a made_note (told_step a made_note) ≡ true) (sym begun_once) root_fits)))
 
-pub root_size : payload_len Root root_step ≡ root_payload_len
+pub root_size : payload_len made_note root_step ≡ root_payload_len
 unfolding journal_bytes begun_keys
 root_size = refl
 
@@ -140,7 +139,7 @@ keys_after drawn = refl
 
 module _ (owner : List ℕ) (ring : Ringed) (counter : Counting) (s : Skeleton) (drawn : List (List ℕ)) (text : List ℕ)
     (here : key_of ring Owner ≡ Some (record { id = 0; serial = 0; bytes = owner })) (starts : counter ≡ record { epoch = 1; count = 0 }) (no_text : text ≡ [])
-    (is : IsSkeleton (told_step first_stand Root) s) where
+    (is : IsSkeleton (told_step first_stand made_note) s) where
   pub held_now : HoldsKeys (alone owner) first_stand.keys ring counter
   unfolding owner_parts
   held_now = subst (HoldsKeys (alone owner) first_stand.keys ring) (sym starts) (first_holds owner ring here)
@@ -156,7 +155,7 @@ module _ (owner : List ℕ) (ring : Ringed) (counter : Counting) (s : Skeleton) 
   can_now long room =
       let many : length s.keys.items ≡ 5 = ap length skeleton_now.keys ∙ root_given in
       subst (CanSeal ring counter s drawn) (sym no_text)
-      (can_seal (alone owner) first_stand.keys (edges first_stand.store) (change_of first_stand.store Root) (pieces_of Root root_store) ring counter s []
+      (can_seal (alone owner) first_stand.keys (edges first_stand.store) (change_of (is_strict first_stand.keys) first_stand.store made_note) (pieces_of made_note root_store) ring counter s []
       held_now root_sealable skeleton_now drawn root_count (long ∙ sym many) (omega (arith, many, room)) root_length)
 
   pub held_then : (after : Ringed) (ends : Counting) → HoldsKeys (keys_with (alone owner) root_step drawn) root_step.after after ends
@@ -166,5 +165,5 @@ module _ (owner : List ℕ) (ring : Ringed) (counter : Counting) (s : Skeleton) 
       (subst (λ (k : KeyState). HoldsKeys (keys_with (alone owner) root_step drawn) k after ends) (keys_after drawn) held) in
       subst (HoldsKeys (all_keys owner (made_with drawn)) (keys_of (made_with drawn)) after) whole.is_counted whole
 
-  pub payload_now : (payload : PlainPayload) → payload ≡ step_payload (keys_with (alone owner) root_step drawn) declared.Root root_step → payload ≡ root_payload owner drawn
-  payload_now payload e = e ∙ ap (λ keys. step_payload keys declared.Root root_step) (keys_are owner drawn)
+  pub payload_now : (payload : PlainPayload) → payload ≡ step_payload (keys_with (alone owner) root_step drawn) (declared_note made_note) root_step → payload ≡ root_payload owner drawn
+  payload_now payload e = e ∙ ap (λ keys. step_payload keys (declared_note made_note) root_step) (keys_are owner drawn)

@@ -12,7 +12,7 @@ use Rattle.cry_base.specs.Store.{Store}
 use Rattle.cry_base.specs.declared.roles.Role.{Role}
 use Rattle.folder_nodes.specs.Titles.{tree_store}
 use Rattle.key_links.specs.Ringed.{Ringed, key_of}
-use Rattle.move_plan.specs.Change.{change_of, no_change}
+use Rattle.move_plan.specs.Change.{change_of, no_change, row_change}
 use Rattle.move_plan.specs.Noting.{note_of}
 use Rattle.record_format.specs.Noted.{Note}
 use Rattle.record_format.specs.Noted.Note.{NewHolder}
@@ -21,7 +21,7 @@ use Rattle.role_graph.specs.Roles.{holder_role}
 use Rattle.public_fold.specs.Fitted.{told_step}
 use Rattle.public_fold.specs.Heads.{IsSkeleton}
 use Rattle.public_fold.specs.Journal.{Stand, first_key, note_step, nothing}
-use Rattle.public_fold.specs.KeyStep.{KeyState, given, key_step, keys_then, next_epoch, next_serial, no_keys, published, published_edges, renewed, step_with}
+use Rattle.public_fold.specs.KeyStep.{KeyState, given, is_strict, key_step, keys_then, next_epoch, next_serial, no_keys, published, published_edges, renewed, step_with}
 use Rattle.public_fold.specs.Preparing.{begun, begun_keys}
 use Rattle.public_fold.specs.Records.{pieces_of}
 use Rattle.public_fold.specs.StandFits.{has_count, note_fits}
@@ -81,9 +81,9 @@ is_drawn [] n m long more sizes = absurd (omega (arith, long, more))
 is_drawn (key ∷ drawn) n m long more sizes = All-head (λ (k : List ℕ). length k ≡ 32) key drawn sizes
 
 holder_given : (at : Stand) (h : ℕ) (check : List ℕ) → (m : ℕ) × (length (told_step at (NewHolder h check)).given ≡ m + 1)
-unfolding told_step note_step key_step step_with published given change_of no_change
+unfolding told_step note_step key_step step_with published given change_of row_change no_change
 holder_given at h check =
-    let c = change_of at.store (NewHolder h check) in
+    let c = change_of (is_strict at.keys) at.store (NewHolder h check) in
     let plan = renewed at.keys (edges at.store) c in
     (length plan, numbered-length Role (next_serial at.keys) (plan ++ holder_role h ∷ []) ∙ length-append plan (holder_role h ∷ []))
 
@@ -106,7 +106,7 @@ lengths at s r key check n small good none sized is x i =
     let note = note_of s r check in
     let after = told_store at.store note in
     let k = at.keys in
-    let c = change_of at.store note in
+    let c = change_of (is_strict k) at.store note in
     let plan = renewed k (edges at.store) c in
     due_fits s after r key check n small good none sized is x.piece
     (content_from (keys_then k c plan) (next_serial k + length (given k c plan) + length (published_edges (edges at.store) c plan)) (pieces_of note after) x i).0
@@ -123,7 +123,7 @@ sealing : (keys : List KeyParts) (at : Stand) (note : Note) (ring : Ringed) (cou
     → HasLength (told_step at note) text → CanSeal ring counter s drawn text
 unfolding told_step note_step
 sealing keys at note ring counter s text drawn holds can skeleton small long room sizes =
-    can_seal keys at.keys (edges at.store) (change_of at.store note) (pieces_of note (told_store at.store note)) ring counter s text holds can skeleton drawn small long room sizes
+    can_seal keys at.keys (edges at.store) (change_of (is_strict at.keys) at.store note) (pieces_of note (told_store at.store note)) ring counter s text holds can skeleton drawn small long room sizes
 
 pub sound_seals : (o : OwnerView) (r : Request) (drawn : List (List ℕ)) (s : Skeleton) (ring : Ringed) (counter : Counting) → IsSound o → has_bad_name r ≡ false
     → refusal_of (own_store o) r o.file_bytes ≡ None

@@ -20,7 +20,7 @@ use Rattle.folder_nodes.specs.Titles.{Title, Titles, bytes_in, is_node, new_titl
 use Rattle.folder_nodes.proofs.Named.{named_file}
 use Rattle.move_plan.specs.Noting.{move_note, note_of, remove_note, rename_note, write_note}
 use Rattle.record_format.specs.Noted.{Note}
-use Rattle.record_format.specs.Noted.Note.{Root, NewHolder, NewFolder, NewFile, Rewrite, NameFile, NameFolder, DropFile, DropFolder, ShiftFile, ShiftFolder, Give, Take}
+use Rattle.record_format.specs.Noted.Note.{Root, NewHolder, NewFolder, NewFile, Rewrite, NameFile, NameFolder, DropFile, DropFolder, ShiftFile, ShiftFolder, Give, Take, StrictRoot, Upgrade}
 use Rattle.public_fold.specs.Fitted.{told_stand, told_step}
 use Rattle.public_fold.specs.Heads.{IsSkeleton}
 use Rattle.public_fold.specs.Journal.{Stand, note_step, nothing}
@@ -158,6 +158,8 @@ MakesFile (ShiftFile x g) = ⊥
 MakesFile (ShiftFolder g q) = ⊥
 MakesFile (Give h f) = ⊥
 MakesFile (Take h f) = ⊥
+MakesFile StrictRoot = ⊥
+MakesFile Upgrade = ⊥
 
 -- a file with the number stood before, or the note has made it
 abbrev StoodOrMade : Store → Note → FileEntry → Type 0
@@ -188,6 +190,8 @@ files_after s (ShiftFile n g) x i =
 files_after s (ShiftFolder g q) x i = stood s (ShiftFolder g q) x i
 files_after s (Give h f) x i = stood s (Give h f) x i
 files_after s (Take h f) x i = stood s (Take h f) x i
+files_after s StrictRoot x i = absurd i
+files_after s Upgrade x i = stood s Upgrade x i
 
 written_makes : (s : Store) (o : Option Node) (f : ℕ) (old new : Titles) (name bytes : List ℕ) → MakesFile (write_note s o f) → IsWritten s.files_made old new o name bytes → length bytes ≤ most_file_bytes → IsSizedAt new (s.files_made + 1)
 unfolding write_note

@@ -7,7 +7,7 @@ use Rattle.cry_base.specs.Stepping.{with_new_holder, with_new_folder, with_new_f
 use Rattle.cry_base.specs.Store.{Store, no_store, root_store}
 use Rattle.folder_nodes.specs.Titles.{tree_store}
 use Rattle.record_format.specs.Noted.{Note}
-use Rattle.record_format.specs.Noted.Note.{Root, NewHolder, NewFolder, NewFile, Rewrite, NameFile, NameFolder, DropFile, DropFolder, ShiftFile, ShiftFolder, Give, Take}
+use Rattle.record_format.specs.Noted.Note.{Root, NewHolder, NewFolder, NewFile, Rewrite, NameFile, NameFolder, DropFile, DropFolder, ShiftFile, ShiftFolder, Give, Take, StrictRoot, Upgrade}
 use Rattle.public_fold.specs.Fitted.{told_stand, told_step}
 use Rattle.public_fold.specs.Journal.{Stand, note_step, nothing}
 use Rattle.public_fold.specs.KeyStep.{key_step, next_epoch, no_keys, published, step_with}
@@ -50,6 +50,8 @@ one_more s (ShiftFile x g) = record { folders = omega arith; files = omega arith
 one_more s (ShiftFolder g q) = record { folders = omega arith; files = omega arith; holders = omega arith }
 one_more s (Give h f) = record { folders = omega arith; files = omega arith; holders = omega arith }
 one_more s (Take h f) = record { folders = omega arith; files = omega arith; holders = omega arith }
+one_more s StrictRoot = record { folders = omega arith; files = omega arith; holders = omega arith }
+one_more s Upgrade = as_many s
 
 -- so many turns make so many of each kind at most, and begin so many epochs
 pub record AreWithin (n : ℕ) (before after : Stand) : Type 0 where

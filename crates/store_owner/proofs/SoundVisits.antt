@@ -22,7 +22,7 @@ use Rattle.log_visits.specs.Visits.Visit.{ToKey, ToName, ToFile, ToHolder}
 use Rattle.move_plan.specs.Change.{folder_of_file}
 use Rattle.move_plan.specs.Fitting.{folder_stands}
 use Rattle.record_format.specs.Noted.{Note}
-use Rattle.record_format.specs.Noted.Note.{Root, NewHolder, NewFolder, NewFile, Rewrite, NameFile, NameFolder, DropFile, DropFolder, ShiftFile, ShiftFolder, Give, Take}
+use Rattle.record_format.specs.Noted.Note.{Root, NewHolder, NewFolder, NewFile, Rewrite, NameFile, NameFolder, DropFile, DropFolder, ShiftFile, ShiftFolder, Give, Take, StrictRoot, Upgrade}
 use Rattle.role_graph.specs.Edges.{edge, file_edge}
 use Rattle.role_graph.specs.Rights.{allowed_to, named_to}
 use Rattle.role_graph.specs.Rights.Who.{TheOwner}
@@ -315,6 +315,8 @@ told_sized s (ShiftFile n g) sized x i =
 told_sized s (ShiftFolder g q) sized x i = sized x i
 told_sized s (Give h f) sized x i = sized x i
 told_sized s (Take h f) sized x i = sized x i
+told_sized s StrictRoot sized x i = absurd i
+told_sized s Upgrade sized x i = sized x i
 
 turns_sized : (turns : List Turn) (at : Stand) → AreSized at.store → AreSized (turns_stand at turns).store
 unfolding turns_stand turn_stand told_stand

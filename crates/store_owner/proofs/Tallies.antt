@@ -173,6 +173,8 @@ done_counts (declared.ShiftFile x g) drawn r old new d = d
 done_counts (declared.ShiftFolder g q) drawn r old new d = d
 done_counts (declared.Give h f) drawn r old new d = d
 done_counts (declared.Take h f) drawn r old new d = d
+done_counts declared.StrictRoot drawn r old new d = d
+done_counts declared.Upgrade drawn r old new d = d
 
 pub carried_counts : (result : Result Reply ApplyFault) (note : Declared) (drawn : List (List ℕ)) (r : Request) (old mid new : OwnerView) (p : Change) → HasOtherRoom old mid → IsDrafted r mid p
     → IfOk result (λ reply. reply ≡ reply_for note drawn) → OnOk result (new.tally ≡ counted_with mid.tally p.ready.skeleton) → OnErr result (new.tally ≡ mid.tally) → CountsCommand result r old new

@@ -6,35 +6,39 @@ use Rattle.commit_journal.specs.Journals.{JournalState, command_batch, epoch_bat
 use Rattle.cry_base.specs.Store.{root_store}
 use Rattle.cry_base.specs.declared.limits.Limits.{Limits}
 use Rattle.cry_io.specs.Told.{WhereBothTold, WhereTold}
-use Rattle.key_links.specs.Fresh.{fresh_draw_len, fresh_image, fresh_store_len, piece}
-use Rattle.record_format.specs.Noted.Note.{Root}
-use Rattle.record_format.specs.declared.note.Note.TheVariants as declared
+use Rattle.key_links.specs.Fresh.{fresh_draw_len, fresh_image, fresh_store_len, made_version, piece}
+use Rattle.record_format.specs.Noted.{Note}
 use Rattle.record_format.specs.Plain.{PlainPayload}
 use Rattle.record_format.specs.Spelling.{spell_payload}
-use Rattle.public_fold.specs.Journal.{Journal, Stand, note_step, nothing}
+use Rattle.public_fold.specs.Journal.{Journal, Stand, note_step, nothing, root_note}
 use Rattle.public_fold.specs.Journal.Entry.{Made, Session}
 use Rattle.public_fold.specs.KeyStep.{Stepped}
 use Rattle.public_fold.specs.Preparing.{begun}
 use Rattle.journal_bytes.specs.Bytes.{step_payload}
 use Rattle.journal_bytes.specs.Keys.{all_keys}
+use Rattle.journal_bytes.specs.Notes.{declared_note}
 use Rattle.store_owner.specs.Counted.{root_counted}
 use Rattle.store_owner.specs.Owned.{IsOwnerOf, OwnerView}
 use Rattle.store_owner.specs.Stopping.{ShowsWritten}
 
 -- the journal that makes a store under five keys
 abbrev pub made_with : List (List ℕ) → Journal
-made_with keys = Session ∷ Made keys ∷ []
+made_with keys = Session ∷ Made made_version keys ∷ []
+
+-- the note that makes the root
+abbrev pub made_note : Note
+made_note = root_note made_version
 
 -- where the root is made, in the first epoch, and its step
 abbrev pub first_stand : Stand
 first_stand = begun true nothing
 
 abbrev pub root_step : Stepped
-root_step = note_step first_stand Root root_store
+root_step = note_step first_stand made_note root_store
 
 -- what is committed then, and the batches of it
 abbrev pub root_payload : List ℕ → List (List ℕ) → PlainPayload
-root_payload owner keys = step_payload (all_keys owner (made_with keys)) declared.Root root_step
+root_payload owner keys = step_payload (all_keys owner (made_with keys)) (declared_note made_note) root_step
 
 abbrev pub made_batches : PlainPayload → List Batch
 made_batches payload = epoch_batch 1 1 ∷ command_batch 2 1 (spell_payload payload) ∷ []

@@ -8,7 +8,7 @@ use Rattle.cry_base.specs.declared.commands.Reply.TheVariants as replies
 use Rattle.move_plan.specs.Noting.{note_of}
 use Rattle.public_fold.specs.Fitted.{told_step}
 use Rattle.public_fold.specs.Journal.{Entry, Journal, Stand, keys_of, steps_of}
-use Rattle.public_fold.specs.Journal.Entry.{Session, Made, Did}
+use Rattle.public_fold.specs.Journal.Entry.{Session, Made, Did, Upgraded}
 use Rattle.public_fold.specs.Keyed.{links_of}
 use Rattle.public_fold.specs.KeyStep.{Stepped}
 use Rattle.public_fold.specs.Lengths.{end_of}
@@ -26,8 +26,9 @@ use Rattle.store_owner.specs.declared.tally.Tally.{Tally}
 
 abbrev pub is_command : Entry → Bool
 is_command Session = false
-is_command (Made keys) = false
+is_command (Made version keys) = false
 is_command (Did request keys) = true
+is_command (Upgraded keys) = false
 
 -- its commands, and all links and contents that its entries publish
 unfoldable pub counted_in : Journal → Counted

@@ -17,7 +17,6 @@ ghost use Rattle.key_links.specs.Ringed.{key_of};
 ghost use Rattle.record_format.specs.Plain.{plain_payload};
 ghost use Rattle.record_format.specs.Sizes.{payload_size};
 ghost use Rattle.record_format.specs.Spellable.{IsSpellable};
-ghost use Rattle.record_format.specs.Noted.Note.{Root};
 ghost use Rattle.public_fold.specs.Fitted.{told_stand, told_step};
 ghost use Rattle.public_fold.specs.Heads.{IsSkeleton};
 ghost use Rattle.public_fold.specs.Journal.{keys_of, nothing};
@@ -27,8 +26,8 @@ ghost use Rattle.journal_bytes.specs.Keys.{all_keys};
 ghost use Rattle.journal_bytes.specs.Sealing.{HoldsKeys, IsSpaceFor};
 ghost use Rattle.store_owner.specs.Counted.{root_counted};
 ghost use Rattle.store_owner.specs.Drawing.{AreKeys, FillsByCount, joined};
-ghost use Rattle.store_owner.specs.Making.{HandsFresh, IsMade, IsMadeJournal, Makes, first_stand, fresh_writes, made_batches, made_with};
-ghost use Rattle.store_owner.specs.Making.{made_writes, root_payload};
+ghost use Rattle.store_owner.specs.Making.{HandsFresh, IsMade, IsMadeJournal, Makes, first_stand, fresh_writes, made_batches, made_note};
+ghost use Rattle.store_owner.specs.Making.{made_with, made_writes, root_payload};
 ghost use Rattle.store_owner.specs.Owned.{counting, owner_at};
 ghost use Rattle.store_owner.specs.Sound.{IsSound};
 ghost use Rattle.store_owner.specs.Stopping.{ShowsWritten};
@@ -56,6 +55,9 @@ const ROOT_PAYLOAD_LEN: u64 = 557;
 const KEYS: usize = 6;
 
 const FIRST_EPOCH: Epoch = Epoch(1);
+
+/// What makes the root: a store that is made has version 2.
+const ROOT_NOTE: Note = Note::StrictRoot;
 
 /// What an owner keeps before there are keys: a journal of no store, the state before anything was made, no names, and a ring that
 /// has zeros in the place of the owner's key.
@@ -126,9 +128,9 @@ impl Blank {
         room: StepRoom,
     ) -> Result<(), ApplyFault>
         requires blank { D.size_of disk.old ≡ 0 }
-        requires skeleton { IsSkeleton (told_step first_stand Root) ready.skeleton }
+        requires skeleton { IsSkeleton (told_step first_stand made_note) ready.skeleton }
         requires can { CanSettle self.old.state ready }
-        requires seen { IsSeenAs (settled self.old.state ready) (told_stand first_stand Root) }
+        requires seen { IsSeenAs (settled self.old.state ready) (told_stand first_stand made_note) }
         requires state_room { HasRoomFor self.old.state ready }
         requires no_key { (role : AnyRole) → role ≢ OwnerRole → key_of self.old.ring role ≡ None }
         requires ring_room { 6 ≤ self.old.ring.spare }
@@ -139,7 +141,7 @@ impl Blank {
         requires five { length keys.now ≡ 5 }
         ensures stands { OnOk result (IsJournalOf (made_batches (root_payload owner.now keys.now)) self.new.journal) }
         ensures journal { OnOk result (IsMadeJournal owner.now self.old.journal.limit self.new.journal) }
-        ensures seen { OnOk result (IsSeenAs self.new.state (told_stand first_stand Root)) }
+        ensures seen { OnOk result (IsSeenAs self.new.state (told_stand first_stand made_note)) }
         ensures root { OnOk result (title_at self.new.names.folders 1 ≡ Some (record { id = 1; name = []; bytes = [] })) }
         ensures held { OnOk result (HoldsKeys (all_keys owner.now (made_with keys.now)) (keys_of (made_with keys.now)) self.new.ring
             (counting (keys_of (made_with keys.now)))) }
@@ -186,9 +188,9 @@ impl Making {
     /// Prepares it, with all its memory but that of the keys.
     fn prepare(alloc: Global, limits: Limits) -> Mem<Making>
         requires known { limits.store_bytes ≤ most_store_bytes }
-        ensures skeleton { IfOk result (λ making. IsSkeleton (told_step first_stand Root) making.ready.skeleton) }
+        ensures skeleton { IfOk result (λ making. IsSkeleton (told_step first_stand made_note) making.ready.skeleton) }
         ensures can { IfOk result (λ making. CanSettle making.blank.state making.ready) }
-        ensures seen { IfOk result (λ making. IsSeenAs (settled making.blank.state making.ready) (told_stand first_stand Root)) }
+        ensures seen { IfOk result (λ making. IsSeenAs (settled making.blank.state making.ready) (told_stand first_stand made_note)) }
         ensures state_room { IfOk result (λ making. HasRoomFor making.blank.state making.ready) }
         ensures no_key { IfOk result (λ making. (role : AnyRole) → role ≢ OwnerRole → key_of making.blank.ring role ≡ None) }
         ensures ring_room { IfOk result (λ making. 6 ≤ making.blank.ring.spare) }
@@ -205,13 +207,13 @@ impl Making {
 
 /// Takes the memory for a change that is prepared.
 fn with_room(alloc: Global, mut blank: Blank, ready: Prepared) -> Mem<Making>
-    requires skeleton { IsSkeleton (told_step first_stand Root) ready.skeleton }
+    requires skeleton { IsSkeleton (told_step first_stand made_note) ready.skeleton }
     requires can { CanSettle blank.state ready }
-    requires seen { IsSeenAs (settled blank.state ready) (told_stand first_stand Root) }
+    requires seen { IsSeenAs (settled blank.state ready) (told_stand first_stand made_note) }
     requires no_key { (role : AnyRole) → role ≢ OwnerRole → key_of blank.ring role ≡ None }
-    ensures skeleton { IfOk result (λ making. IsSkeleton (told_step first_stand Root) making.ready.skeleton) }
+    ensures skeleton { IfOk result (λ making. IsSkeleton (told_step first_stand made_note) making.ready.skeleton) }
     ensures can { IfOk result (λ making. CanSettle making.blank.state making.ready) }
-    ensures seen { IfOk result (λ making. IsSeenAs (settled making.blank.state making.ready) (told_stand first_stand Root)) }
+    ensures seen { IfOk result (λ making. IsSeenAs (settled making.blank.state making.ready) (told_stand first_stand made_note)) }
     ensures state_room { IfOk result (λ making. HasRoomFor making.blank.state making.ready) }
     ensures no_key { IfOk result (λ making. (role : AnyRole) → role ≢ OwnerRole → key_of making.blank.ring role ≡ None) }
     ensures ring_room { IfOk result (λ making. 6 ≤ making.blank.ring.spare) }
@@ -235,9 +237,9 @@ fn made<D: Disk>(
     limits: Limits,
 ) -> Result<Owner, ApplyFault>
     requires blank { D.size_of disk.old ≡ 0 }
-    requires skeleton { IsSkeleton (told_step first_stand Root) making.ready.skeleton }
+    requires skeleton { IsSkeleton (told_step first_stand made_note) making.ready.skeleton }
     requires can { CanSettle making.blank.state making.ready }
-    requires seen { IsSeenAs (settled making.blank.state making.ready) (told_stand first_stand Root) }
+    requires seen { IsSeenAs (settled making.blank.state making.ready) (told_stand first_stand made_note) }
     requires state_room { HasRoomFor making.blank.state making.ready }
     requires no_key { (role : AnyRole) → role ≢ OwnerRole → key_of making.blank.ring role ≡ None }
     requires ring_room { 6 ≤ making.blank.ring.spare }
@@ -336,11 +338,11 @@ impl Owner {
 #[tactic(auto, unfolding(record_format::specs::Told::told_note, public_fold::specs::Journal::nothing, public_fold::specs::KeyStep::no_keys))]
 fn prepared(alloc: Global, state: &PublicState) -> Mem<Prepared>
     requires { IsSeenAs state.now nothing }
-    ensures skeleton { IfOk result (λ ready. IsSkeleton (told_step first_stand Root) ready.skeleton) }
+    ensures skeleton { IfOk result (λ ready. IsSkeleton (told_step first_stand made_note) ready.skeleton) }
     ensures can { IfOk result (CanSettle state.now) }
-    ensures after { IfOk result (λ ready. IsSeenAs (settled state.now ready) (told_stand first_stand Root)) }
+    ensures after { IfOk result (λ ready. IsSeenAs (settled state.now ready) (told_stand first_stand made_note)) }
 {
-    let Ok(ready) = state.prepare(alloc, &Note::Root, true, &mut Steps::new()) else {
+    let Ok(ready) = state.prepare(alloc, &ROOT_NOTE, true, &mut Steps::new()) else {
         return Err(OutOfMemory);
     };
     Ok(ready)
@@ -357,7 +359,7 @@ fn seal_root(
 ) -> Payload
     requires no_key { (role : AnyRole) → role ≢ OwnerRole → key_of ring.old role ≡ None }
     requires ring_room { 6 ≤ ring.old.spare }
-    requires skeleton { IsSkeleton (told_step first_stand Root) skeleton.now }
+    requires skeleton { IsSkeleton (told_step first_stand made_note) skeleton.now }
     requires records_room { IsSpaceFor room skeleton.now }
     requires five { length keys.now ≡ 5 }
     ensures payload { plain_payload result ≡ root_payload owner.now keys.now }
@@ -369,7 +371,7 @@ fn seal_root(
     ring.adopt_owner(Key::owner(*owner));
     let mut counter = Counter::new(FIRST_EPOCH);
     let name = List::new(alloc);
-    let payload = seal_step(ring, &mut counter, Note::Root, skeleton, keys, name, room);
+    let payload = seal_step(ring, &mut counter, ROOT_NOTE, skeleton, keys, name, room);
     payload
 }
 

@@ -18,7 +18,7 @@ use Rattle.journal_bytes.proofs.LogsWalked.{journal_walked}
 use Rattle.key_links.specs.Sealed.{sealed_link}
 use Rattle.key_links.proofs.SealedLemmas.{opens_link}
 use Rattle.public_fold.specs.Journal.{Entry, Journal, Stand, entry_step, nothing, stand_then, steps_from, steps_of}
-use Rattle.public_fold.specs.Journal.Entry.{Session, Made, Did}
+use Rattle.public_fold.specs.Journal.Entry.{Session, Made, Did, Upgraded}
 use Rattle.public_fold.specs.Records.{Link}
 use Rattle.record_format.specs.declared.link.LinkRecord.{LinkRecord}
 use Rattle.role_graph.specs.Roles.{role_id}
@@ -43,8 +43,9 @@ no_serials at = refl
 body_serials : (keys : List KeyParts) (at : Stand) (entry : Entry) (batch place : ℕ) → serials_of (body_links batch place (entry_body keys at entry)) ≡ map (λ (l : Link). (l.from_serial, l.to_serial)) (entry_step at entry).links
 unfolding entry_body body_links step_payload
 body_serials keys at Session batch place = no_serials at
-body_serials keys at (Made drawn) batch place = placed_serials batch _ keys (entry_step at (Made drawn)).links
+body_serials keys at (Made version drawn) batch place = placed_serials batch _ keys (entry_step at (Made version drawn)).links
 body_serials keys at (Did request drawn) batch place = placed_serials batch _ keys (entry_step at (Did request drawn)).links
+body_serials keys at (Upgraded drawn) batch place = placed_serials batch _ keys (entry_step at (Upgraded drawn)).links
 
 log_serials : (keys : List KeyParts) (at : Stand) (entries : List Entry) (place number epoch n : ℕ) →
     serials_of (log_links (placed_from place number epoch (bodies_from keys at entries))) ≡ trails (published_from n (steps_from at entries))

@@ -26,7 +26,7 @@ use Rattle.journal_bytes.proofs.Weighed.{AreFed, begins_fed}
 use Rattle.key_links.specs.Sealed.{sealed_content}
 use Rattle.key_links.proofs.SealedLemmas.{opens_content}
 use Rattle.public_fold.specs.Journal.{Entry, Journal, Stand, entry_step, note_step, nothing, stand_then, steps_from, steps_of}
-use Rattle.public_fold.specs.Journal.Entry.{Session, Made, Did}
+use Rattle.public_fold.specs.Journal.Entry.{Session, Made, Did, Upgraded}
 use Rattle.public_fold.specs.KeyStep.{KeyState, key_step, newest, present, published, step_with}
 use Rattle.public_fold.specs.Records.{Content, Piece, sealing_role, text_of}
 use Rattle.public_fold.specs.Valid.{IsValid}
@@ -54,10 +54,12 @@ serial_there keys k r have = serial_by keys k r have (newest k.keys r) refl
 content_there : (keys : List KeyParts) (at : Stand) (entry : Entry) → HaveKeys keys (entry_step at entry).after → (x : Content) → In x (entry_step at entry).contents → HasSerial keys x.key_serial
 unfolding entry_step note_step key_step step_with published
 content_there keys at Session have x i = absurd i
-content_there keys at (Made drawn) have x i =
-    subst (HasSerial keys) (sym (content_from _ _ _ x i).1) (serial_there keys (entry_step at (Made drawn)).after (sealing_role x.piece) have)
+content_there keys at (Made version drawn) have x i =
+    subst (HasSerial keys) (sym (content_from _ _ _ x i).1) (serial_there keys (entry_step at (Made version drawn)).after (sealing_role x.piece) have)
 content_there keys at (Did request drawn) have x i =
     subst (HasSerial keys) (sym (content_from _ _ _ x i).1) (serial_there keys (entry_step at (Did request drawn)).after (sealing_role x.piece) have)
+content_there keys at (Upgraded drawn) have x i =
+    subst (HasSerial keys) (sym (content_from _ _ _ x i).1) (serial_there keys (entry_step at (Upgraded drawn)).after (sealing_role x.piece) have)
 
 -- ---- the contents of the log are those of the history
 
@@ -78,8 +80,9 @@ body_content : (keys : List KeyParts) (at : Stand) (entry : Entry) (batch place 
     (x : Content) × In x (entry_step at entry).contents × (p.content ≡ content_record keys x) × (p.batch ≡ batch)
 unfolding entry_body body_contents step_payload
 body_content keys at Session batch place p i = absurd i
-body_content keys at (Made drawn) batch place p i = step_content keys batch _ (entry_step at (Made drawn)).contents p i
+body_content keys at (Made version drawn) batch place p i = step_content keys batch _ (entry_step at (Made version drawn)).contents p i
 body_content keys at (Did request drawn) batch place p i = step_content keys batch _ (entry_step at (Did request drawn)).contents p i
+body_content keys at (Upgraded drawn) batch place p i = step_content keys batch _ (entry_step at (Upgraded drawn)).contents p i
 
 -- a content of a log is that of a batch of the history, sealed under the key that has its serial
 abbrev pub IsOfHistory : List KeyParts → List Published → PlacedContent → Type 0

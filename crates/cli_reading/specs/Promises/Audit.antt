@@ -1,10 +1,11 @@
 -- What `audit` promises, beside what each such command does. It prints all that the key leads to in the store's history; of the store any
 -- bad record's failure is told. On a disk that shows a journal it answers what its history derives, to a reader whose key is right, and
--- to a holder nothing but what was shown when it was written, or what a later gain opened; another key is told so. Whatever the disk
--- shows, whoever has a key of a journal is shown what the journal once wrote, or a forged record stands there.
+-- to a holder nothing but what was shown when it was written, or what a later gain opened; another key is told so. In a store of version 2
+-- a holder is answered nothing that wasn't shown since it was written, save what was derived before the store had that version. Whatever
+-- the disk shows, whoever has a key of a journal is shown what the journal once wrote, or a forged record stands there.
 use Rattle.std.specs.Prelude.{◌≡◌, ℕ, List, Option, Result, Ok, Err, false}
 use Rattle.std.specs.List.{flat_map}
-use Rattle.audit_laws.specs.Audited.{AreFairlySeen, audit_answer}
+use Rattle.audit_laws.specs.Audited.{AreFairlySeen, AreStrictlySeen, audit_answer}
 use Rattle.cry_base.specs.Sets.{In}
 use Rattle.cry_base.specs.declared.client.Bundle.{Bundle}
 use Rattle.cry_base.specs.declared.client.Bundle.TheVariants.{Holder}
@@ -14,7 +15,7 @@ use Rattle.journal_bytes.specs.Journals.{StandsForJournal, published_journal}
 use Rattle.log_visits.specs.Asking.{audited}
 use Rattle.log_visits.specs.Judging.{Failure}
 use Rattle.log_visits.specs.Visiting.{Reading}
-use Rattle.public_fold.specs.Journal.{Journal}
+use Rattle.public_fold.specs.Journal.{Journal, keys_of}
 use Rattle.script_text.specs.SeenLines.{seen_line}
 use Rattle.trail_audit.specs.Auditing.{MayFail}
 use Rattle.trail_audit.specs.Derived.{Passes, PlainSeen}
@@ -41,11 +42,15 @@ abbrev pub sights_of : Journal → Bundle → Result (List ℕ) Status
 sights_of m bundle = answer_as seen_text (audit_answer m bundle)
 
 -- So it is answered. All that it so answers a holder was shown to the holder when it was written, or a later gain for the holder opened
--- it.
+-- it. In a store of version 2 it was shown to the holder at some moment since, or the holder derived it before the store came to have
+-- that version.
 pub record AuditsJournal (status : Status) (typed image : List ℕ) (before after : Option (List ℕ)) : Type 0 where
   pub answers : AnswersJournal sights_of status typed image before after
   pub fair : (owner : List ℕ) (m : Journal) (h : HolderId) (key : List ℕ) (seen : List PlainSeen) → StandsForJournal owner m image
       → audit_answer (published_journal owner image m) (Holder h key) ≡ Ok seen → AreFairlySeen (published_journal owner image m) h.0 seen
+  pub strict : (owner : List ℕ) (m : Journal) (h : HolderId) (key : List ℕ) (seen : List PlainSeen) → StandsForJournal owner m image
+      → (keys_of (published_journal owner image m)).version ≡ 2
+      → audit_answer (published_journal owner image m) (Holder h key) ≡ Ok seen → AreStrictlySeen (published_journal owner image m) h.0 seen
 
 -- a text that is printed is that of what the journal wrote; of how the program ends without one it says nothing
 abbrev pub AreSightsOf : Journal → Bundle → List ℕ → Result (List ℕ) Status → Type 0

@@ -1,7 +1,7 @@
 use Rattle.std.proofs.Common.{◌≡◌, refl}
 use Rattle.record_format.specs.Told.{told_note}
 use Rattle.record_format.specs.Noted.{Note}
-use Rattle.record_format.specs.Noted.Note.{Root, NewHolder, NewFolder, NewFile, Rewrite, NameFile, NameFolder, DropFile, DropFolder, ShiftFile, ShiftFolder, Give, Take}
+use Rattle.record_format.specs.Noted.Note.{Root, NewHolder, NewFolder, NewFile, Rewrite, NameFile, NameFolder, DropFile, DropFolder, ShiftFile, ShiftFolder, Give, Take, StrictRoot, Upgrade}
 use Rattle.journal_bytes.specs.Notes.{declared_note}
 use Rattle.journal_bytes.proofs.NotesDeclared.{told_back}
 use Rattle.journal_bytes.proofs.folding.notes_are_told_as_declared.Goals as goal
@@ -21,6 +21,8 @@ told (ShiftFile file into) = refl
 told (ShiftFolder folder into) = refl
 told (Give holder folder) = refl
 told (Take holder folder) = refl
+told StrictRoot = refl
+told Upgrade = refl
 
 pub returns : goal.returns
 returns c = record { told = told; declared = told_back }

@@ -1,85 +1,29 @@
-use Rattle.std.proofs.Common.{◌≡◌, ◌≤◌, ◌+◌, ap, sym, ◌∙◌, subst}
-use Rattle.std.specs.Prelude.{IfOk}
-use Rattle.role_graph.specs.Edges.{edges}
-use Rattle.move_plan.specs.Change.{change_of, folder_of_file, parent_of_folder}
-use Rattle.move_plan.specs.LookUps.{change_look_ups}
-use Rattle.move_plan.specs.Seen.{plain_change, seen_store}
-use Rattle.record_format.specs.Noted.Note.{Root, NewHolder, NewFolder, NewFile, Rewrite, NameFile, NameFolder, DropFile, DropFolder, ShiftFile, ShiftFolder, Give, Take}
+use Rattle.cry_base.specs.Store.{Store}
 use Rattle.record_format.specs.Told.{told_note}
-use Rattle.move_plan.proofs.Noting.{holder_of, in_store, in_store_where, in_this_store}
-use Rattle.move_plan.proofs.Seeing.{dropped_seen, folder_seen, parent_seen}
+use Rattle.move_plan.specs.Seen.{plain_row, seen_store}
+use Rattle.move_plan.proofs.Inside.{change_is, row_within, strict_within}
 use Rattle.move_plan.proofs.change.change_by.Goals as goal
 
-pub returns-in-Root-clause-change : goal.returns-in-Root-clause-change
-unfolding told_note
-returns-in-Root-clause-change g c = in_store c.make_root.result (seen_store c.args.shape.now.tree c.args.grants.now) (told_note c.args.note.now) Root (ap told_note c.in-Root.is) c.make_root.ensures
+pub returns-in_err-row-clause-steps : goal.returns-in_err-row-clause-steps
+returns-in_err-row-clause-steps g c =
+    row_within c.args.strict c.args.shape.now.tree c.args.grants.now (g.R.Adjacent.store c.args.roles.now) (told_note c.args.note.now)
+    (g.R.Adjacent.steps c.args.roles.now) (g.R.Adjacent.steps c.row_of.new.roles) c.requires c.row_of.ensures.steps
 
-pub returns-in-NewFolder-clause-change : goal.returns-in-NewFolder-clause-change
-unfolding told_note
-returns-in-NewFolder-clause-change g c = in_store c.make_folder.result (seen_store c.args.shape.now.tree c.args.grants.now) (told_note c.args.note.now) (NewFolder c.in-NewFolder.folder.0 c.in-NewFolder.parent.0) (ap told_note c.in-NewFolder.is) c.make_folder.ensures
+pub returns-in_err-renewed-clause-steps : goal.returns-in_err-renewed-clause-steps
+returns-in_err-renewed-clause-steps g c =
+    strict_within c.args.strict c.args.shape.now.tree c.args.grants.now (g.R.Adjacent.store c.args.roles.now) (told_note c.args.note.now)
+    (g.R.Adjacent.steps c.args.roles.now) (g.R.Adjacent.steps c.row_of.new.roles) c.requires c.row_of.ensures.steps
+    (g.R.Adjacent.store c.row_of.new.roles) (plain_row c.in_ok-row.row) (g.R.Adjacent.steps c.strict_of.new.roles) c.row_of.ensures.same
+    c.in_ok-row.ensures.row c.strict_of.ensures.steps
 
-pub returns-in-NewFile-clause-change : goal.returns-in-NewFile-clause-change
-unfolding told_note
-returns-in-NewFile-clause-change g c = in_store c.make_file.result (seen_store c.args.shape.now.tree c.args.grants.now) (told_note c.args.note.now) (NewFile c.in-NewFile.file.0 c.in-NewFile.folder.0) (ap told_note c.in-NewFile.is) c.make_file.ensures
+pub returns-clause-steps : goal.returns-clause-steps
+returns-clause-steps g c =
+    strict_within c.args.strict c.args.shape.now.tree c.args.grants.now (g.R.Adjacent.store c.args.roles.now) (told_note c.args.note.now)
+    (g.R.Adjacent.steps c.args.roles.now) (g.R.Adjacent.steps c.row_of.new.roles) c.requires c.row_of.ensures.steps
+    (g.R.Adjacent.store c.row_of.new.roles) (plain_row c.in_ok-row.row) (g.R.Adjacent.steps c.strict_of.new.roles) c.row_of.ensures.same
+    c.in_ok-row.ensures.row c.strict_of.ensures.steps
 
-pub returns-in-Rewrite-clause-change : goal.returns-in-Rewrite-clause-change
-unfolding told_note
-returns-in-Rewrite-clause-change g c = in_store c.rewrite.result (seen_store c.args.shape.now.tree c.args.grants.now) (told_note c.args.note.now) (Rewrite c.in-Rewrite.file.0) (ap told_note c.in-Rewrite.is) c.rewrite.ensures
-
-pub returns-in-NameFile-clause-change : goal.returns-in-NameFile-clause-change
-unfolding told_note
-returns-in-NameFile-clause-change g c = in_store c.name_file.result (seen_store c.args.shape.now.tree c.args.grants.now) (told_note c.args.note.now) (NameFile c.in-NameFile.file.0) (ap told_note c.in-NameFile.is) c.name_file.ensures
-
-pub returns-in-NameFolder-clause-change : goal.returns-in-NameFolder-clause-change
-unfolding told_note
-returns-in-NameFolder-clause-change g c = in_store c.name_folder.result (seen_store c.args.shape.now.tree c.args.grants.now) (told_note c.args.note.now) (NameFolder c.in-NameFolder.folder.0) (ap told_note c.in-NameFolder.is) c.name_folder.ensures
-
-pub returns-in-Give-clause-change : goal.returns-in-Give-clause-change
-unfolding told_note
-returns-in-Give-clause-change g c = in_store c.give.result (seen_store c.args.shape.now.tree c.args.grants.now) (told_note c.args.note.now) (Give c.in-Give.holder.0 c.in-Give.folder.0) (ap told_note c.in-Give.is) c.give.ensures
-
-pub returns-in-Take-clause-change : goal.returns-in-Take-clause-change
-unfolding told_note
-returns-in-Take-clause-change g c = in_store c.take.result (seen_store c.args.shape.now.tree c.args.grants.now) (told_note c.args.note.now) (Take c.in-Take.holder.0 c.in-Take.folder.0) (ap told_note c.in-Take.is) c.take.ensures
-
-pub returns-in-NewHolder-clause-change : goal.returns-in-NewHolder-clause-change
-unfolding told_note
-returns-in-NewHolder-clause-change g c =
-    let note = NewHolder c.in-NewHolder.holder.0 c.in-NewHolder.check in
-    in_store c.make_holder.result (seen_store c.args.shape.now.tree c.args.grants.now) (told_note c.args.note.now) note (ap told_note c.in-NewHolder.is)
-    (holder_of c.make_holder.result c.in-NewHolder.holder.0 c.in-NewHolder.check c.make_holder.ensures)
-
-pub returns-in-DropFolder-clause-change : goal.returns-in-DropFolder-clause-change
-unfolding told_note
-returns-in-DropFolder-clause-change g c =
-    let t = c.args.shape.now.tree in
-    let given = c.args.grants.now in
-    let f = c.in-DropFolder.folder.0 in
-    in_this_store c.drop_folder.result (seen_store t given) (told_note c.args.note.now) (DropFolder f) (ap told_note c.in-DropFolder.is)
-    (subst (λ x. IfOk c.drop_folder.result (λ r. plain_change r ≡ x)) (ap (λ s. change_of s (DropFolder f)) c.requires ∙ dropped_seen t given f) c.drop_folder.ensures.change)
-
-pub returns-in-DropFolder-clause-steps : goal.returns-in-DropFolder-clause-steps
-unfolding told_note
-returns-in-DropFolder-clause-steps g c =
-    subst (λ n. g.R.Adjacent.steps c.drop_folder.new.roles ≤ g.R.Adjacent.steps c.args.roles.now + change_look_ups (edges (g.R.Adjacent.store c.args.roles.now)) n) (sym (ap told_note c.in-DropFolder.is)) c.drop_folder.ensures.steps
-
-pub returns-in-DropFile-clause-change : goal.returns-in-DropFile-clause-change
-unfolding told_note
-returns-in-DropFile-clause-change g c =
-    let x = c.in-DropFile.file.0 in
-    in_store_where c.drop_file.result (seen_store c.args.shape.now.tree c.args.grants.now) (λ s. c.folder_of-folder.result.0 ≡ folder_of_file s x) (told_note c.args.note.now) (DropFile c.in-DropFile.file.0) (ap told_note c.in-DropFile.is)
-    (c.folder_of-folder.ensures ∙ sym (folder_seen c.args.shape.now.tree c.args.grants.now x)) c.drop_file.ensures
-
-pub returns-in-ShiftFile-clause-change : goal.returns-in-ShiftFile-clause-change
-unfolding told_note
-returns-in-ShiftFile-clause-change g c =
-    let x = c.in-ShiftFile.file.0 in
-    in_store_where c.move_file.result (seen_store c.args.shape.now.tree c.args.grants.now) (λ s. c.folder_of-from.result.0 ≡ folder_of_file s x) (told_note c.args.note.now) (ShiftFile c.in-ShiftFile.file.0 c.in-ShiftFile.into.0) (ap told_note c.in-ShiftFile.is)
-    (c.folder_of-from.ensures ∙ sym (folder_seen c.args.shape.now.tree c.args.grants.now x)) c.move_file.ensures
-
-pub returns-in-ShiftFolder-clause-change : goal.returns-in-ShiftFolder-clause-change
-unfolding told_note
-returns-in-ShiftFolder-clause-change g c =
-    let f = c.in-ShiftFolder.folder.0 in
-    in_store_where c.move_folder.result (seen_store c.args.shape.now.tree c.args.grants.now) (λ s. c.parent_of-parent.result.0 ≡ parent_of_folder s f) (told_note c.args.note.now) (ShiftFolder c.in-ShiftFolder.folder.0 c.in-ShiftFolder.into.0) (ap told_note c.in-ShiftFolder.is)
-    (c.parent_of-parent.ensures ∙ sym (parent_seen c.args.shape.now.tree c.args.grants.now f)) c.move_folder.ensures
+pub returns-clause-change : goal.returns-clause-change
+returns-clause-change g c =
+    let s : Store = seen_store c.args.shape.now.tree c.args.grants.now in
+    change_is c.args.strict s (told_note c.args.note.now) (plain_row c.in_ok-row.row) c.in_ok-renewed.renewed.items c.in_ok-row.ensures.row c.in_ok-renewed.ensures.roles

@@ -1,4 +1,4 @@
-use Rattle.std.proofs.Common.{◌≡◌, ◌∙◌, ◌+◌, ◌&&◌, ◌==◌, not, sym, ap}
+use Rattle.std.proofs.Common.{◌≡◌, refl, ◌∙◌, ◌+◌, ◌&&◌, ◌==◌, not, sym, ap}
 use Rattle.std.specs.Prelude.{nat_le, Some}
 use Rattle.cry_base.specs.Refusing.{height_of}
 use Rattle.cry_base.specs.Store.{depth_of, folder_node, is_within}
@@ -95,3 +95,11 @@ pub returns-in-Take : goal.returns-in-Take
 unfolding row_fits told_note
 returns-in-Take c =
     rw c.in-Take.is (c.has.ensures.value ∙ sym (grant_seen c.args.shape.now.tree c.args.grants.now c.in-Take.holder.0 c.in-Take.folder.0))
+
+pub returns-in-StrictRoot : goal.returns-in-StrictRoot
+unfolding row_fits told_note
+returns-in-StrictRoot c = rw c.in-StrictRoot.is c.may_make_root-in-StrictRoot.ensures
+
+pub returns-in-Upgrade : goal.returns-in-Upgrade
+unfolding row_fits told_note
+returns-in-Upgrade c = rw c.in-Upgrade.is refl

@@ -7,6 +7,7 @@ use Rattle.move_plan.specs.Change.{change_of}
 use Rattle.record_format.specs.Plain.{plain_content}
 use Rattle.role_graph.specs.Edges.{edges}
 use Rattle.public_fold.specs.Journal.{note_step}
+use Rattle.public_fold.specs.KeyStep.{is_strict}
 use Rattle.public_fold.specs.Records.{pieces_of}
 use Rattle.journal_bytes.specs.Ringing.{key_after}
 use Rattle.journal_bytes.proofs.StepSealed.{between_told, contents_count, contents_told, gets_key, holds_after, last_told, links_count, links_told, payload_is, payload_weighs, skeleton_weighs}
@@ -45,7 +46,7 @@ returns-clause-payload c = λ keys at told after holds is.
     c.give_keys.ensures.counter c.as_slice-keys.ensures c.put_links.ensures.counter c.as_slice-edges.ensures in
     let contents = contents_told c.give_keys.new.ring c.args.counter.now c.put_links.new.counter (length c.args.skeleton.now.keys.items) (length c.args.skeleton.now.links.items) c.args.text.items
     (map plain_content c.put_contents.new.contents.items) c.as_slice-heads.result.now c.args.skeleton.now.contents.items c.put_contents.ensures.contents c.as_slice-heads.ensures between in
-    payload_is keys at.keys (edges at.store) (change_of at.store told) (pieces_of told after) c.args.drawn.now c.args.ring.now c.give_keys.new.ring c.args.counter.now c.args.skeleton.now
+    payload_is keys at.keys (edges at.store) (change_of (is_strict at.keys) at.store told) (pieces_of told after) c.args.drawn.now c.args.ring.now c.give_keys.new.ring c.args.counter.now c.args.skeleton.now
     holds is.can_be_sealed is.is_skeleton c.requires.can_seal.enough_drawn made c.args.text.items is.is_text c.args.note c.put_links.new.links.items (map plain_content c.put_contents.new.contents.items) links contents
 
 pub returns-clause-keys : goal.returns-clause-keys
@@ -56,7 +57,7 @@ returns-clause-keys c = λ keys at told after holds can shape.
     c.give_keys.ensures.counter c.as_slice-keys.ensures c.put_links.ensures.counter c.as_slice-edges.ensures in
     let last = last_told c.args.counter.now c.put_links.new.counter c.put_contents.new.counter _ (length c.args.skeleton.now.keys.items) (length c.args.skeleton.now.links.items) c.as_slice-heads.result.now
     c.args.skeleton.now.contents.items between c.put_contents.ensures.counter c.as_slice-heads.ensures in
-    holds_after keys at.keys (edges at.store) (change_of at.store told) (pieces_of told after) c.args.drawn.now c.args.ring.now c.give_keys.new.ring c.args.counter.now c.args.skeleton.now
+    holds_after keys at.keys (edges at.store) (change_of (is_strict at.keys) at.store told) (pieces_of told after) c.args.drawn.now c.args.ring.now c.give_keys.new.ring c.args.counter.now c.args.skeleton.now
     holds can shape c.requires.can_seal.enough_drawn made c.put_contents.new.counter last
 
 pub returns-clause-has : goal.returns-clause-has

@@ -3,6 +3,7 @@ use Rattle.record_format.specs.Told.{told_note}
 use Rattle.record_format.specs.declared.note.Note.{Note}
 use Rattle.move_plan.specs.Fitting.{fits}
 use Rattle.public_fold.specs.Fitted.{told_stand}
+use Rattle.public_fold.specs.KeyStep.{is_strict}
 use Rattle.public_fold.specs.Preparing.{PreparedView, keys_settled, root_made, settled}
 use Rattle.public_fold.specs.Standing.{IsPublicOf, IsSeenAs, public_store_of}
 use Rattle.public_fold.proofs.PreparedTold.{can_with, check_fits, check_root, check_seen, check_told, seen_then}
@@ -29,6 +30,7 @@ returns-clause-seen c = λ v at sees.
       dirty = c.self.inside.left.dirty;
       epoch = c.self.inside.left.epoch;
       count = c.self.inside.left.count;
+      version = c.self.inside.left.version;
     } in
     subst (λ (n : Note). IsPublicOf (seen_then v n) (keys_settled v.keys old) at) (sym c.note_with-self-inside.ensures)
     (check_seen v c.self.inside.note c.args.check (keys_settled v.keys old) at (subst (λ (p : PreparedView). IsSeenAs (settled v p) at) (sym c.self.view_is) sees))
@@ -36,7 +38,7 @@ returns-clause-seen c = λ v at sees.
 pub returns-clause-can : goal.returns-clause-can
 returns-clause-can c = λ v can.
     can_with v _ _
-    (ap (λ (n : Note). fits (public_store_of v) (told_note n)) c.note_with-self-inside.ensures
-    ∙ check_fits (public_store_of v) c.self.inside.note c.args.check
-    ∙ ap (λ (p : PreparedView). fits (public_store_of v) (told_note p.note)) c.self.view_is)
+    (ap (λ (n : Note). fits (is_strict v.keys) (public_store_of v) (told_note n)) c.note_with-self-inside.ensures
+    ∙ check_fits (is_strict v.keys) (public_store_of v) c.self.inside.note c.args.check
+    ∙ ap (λ (p : PreparedView). fits (is_strict v.keys) (public_store_of v) (told_note p.note)) c.self.view_is)
     (returns-clause-told c) (returns-clause-seen c v) can

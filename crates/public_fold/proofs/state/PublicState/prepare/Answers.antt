@@ -2,10 +2,13 @@ use Rattle.std.proofs.Common.{◌≡◌, Result, Err, sym, ap, ◌∙◌, subst}
 use Rattle.std.proofs.lemmas.Result.{err_from_is_err_and}
 use Rattle.record_format.specs.Told.{told_note}
 use Rattle.public_fold.specs.Heads.{IsSkeleton}
-use Rattle.public_fold.specs.KeyStep.{Stepped}
+use Rattle.public_fold.specs.KeyStep.{Stepped, is_strict}
 use Rattle.public_fold.specs.Preparing.{begun, begun_view}
 use Rattle.public_fold.specs.declared.fault.FoldFault.{FoldFault}
 use Rattle.public_fold.specs.declared.fault.FoldFault.TheVariants as fold
+use Rattle.move_plan.specs.Fitting.{fits}
+use Rattle.public_fold.specs.Standing.{public_store_of}
+use Rattle.public_fold.proofs.HeldMarks.{begun_strict}
 use Rattle.public_fold.proofs.PreparedTold.{begun_seen}
 use Rattle.public_fold.proofs.SeenAfter.{seen_after}
 use Rattle.public_fold.proofs.SeenSame.{seen_fits, seen_step}
@@ -34,12 +37,13 @@ pub returns-clause-after : goal.returns-clause-after
 returns-clause-after c =
     let note = told_note c.args.note.now in
     let v = begun_view c.args.new_epoch c.args.self.now in
-    λ at sees. seen_after v c.args.self.now.keys.keys note c.in_ok-step.step (fit_of v note c.in_ok-step.ensures.fits) c.in_ok-step.ensures.step
+    λ at sees. seen_after (is_strict v.keys) v c.args.self.now.keys note c.in_ok-step.step (fit_of v note c.in_ok-step.ensures.fits) c.in_ok-step.ensures.step
     (begun c.args.new_epoch at) (begun_seen c.args.new_epoch c.args.self.now at sees)
 
 pub returns-clause-can : goal.returns-clause-can
 returns-clause-can c = record {
-  note_fits = fit_of (begun_view c.args.new_epoch c.args.self.now) (told_note c.args.note.now) c.in_ok-step.ensures.fits;
+  note_fits = ap (λ b. fits b (public_store_of c.args.self.now) (told_note c.args.note.now)) (sym (begun_strict c.args.new_epoch c.args.self.now.keys))
+      ∙ fit_of (begun_view c.args.new_epoch c.args.self.now) (told_note c.args.note.now) c.in_ok-step.ensures.fits;
   begins = c.args.new_epoch;
   leaves = returns-clause-after c;
 }

@@ -2,11 +2,10 @@ use Rattle.std.proofs.Common.{[], ◌∷◌, ◌++◌, ap, subst, sym, ◌∙◌
 use Rattle.commit_journal.specs.Handing.{Hands}
 use Rattle.commit_journal.specs.Image.{image}
 use Rattle.commit_journal.specs.Journals.{IsJournalOf}
-use Rattle.record_format.specs.Noted.Note.{Root}
 use Rattle.record_format.specs.Plain.{PlainPayload}
 use Rattle.public_fold.specs.Fitted.{told_stand}
 use Rattle.public_fold.specs.Standing.{IsSeenAs}
-use Rattle.store_owner.specs.Making.{first_stand, made_batches, made_writes}
+use Rattle.store_owner.specs.Making.{first_stand, made_batches, made_note, made_writes}
 use Rattle.store_owner.specs.Stopping.{ShowsWritten}
 use Rattle.store_owner.proofs.making.Blank.write.Goals as goal
 
@@ -14,7 +13,7 @@ pub returns-clause-stands : goal.returns-clause-stands
 returns-clause-stands g c = subst (λ (p : PlainPayload). IsJournalOf (made_batches p) c.write_store.new.journal) c.seal_root-payload.ensures.payload c.in-Ok.ensures.stands
 
 pub returns-clause-seen : goal.returns-clause-seen
-returns-clause-seen g c = subst (λ v. IsSeenAs v (told_stand first_stand Root)) (sym c.settle.ensures) c.requires.seen
+returns-clause-seen g c = subst (λ v. IsSeenAs v (told_stand first_stand made_note)) (sym c.settle.ensures) c.requires.seen
 
 pub returns-clause-shows : goal.returns-clause-shows
 returns-clause-shows g c = λ s is.
