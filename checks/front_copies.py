@@ -21,7 +21,8 @@ from folder_store import progress     # noqa: E402 (the package stands beside th
 def all_copies(check):
     restored(check)
     lost_keys(check)
-    taken_in(check)
+    for version in check.each_version():
+        taken_in(check, version)
     holders_taken_in(check)
     followed_grants(check)
     full(check)
@@ -85,20 +86,19 @@ def lost_keys(check):
     done(check, "a holder of the new one", front(check, new, "holder", "add", "ann", keys=elsewhere))
 
 
-def taken_in(check):
-    """A store that the program made alone, taken in by its owner's key."""
-    store = check.put("core.store", b"")
+def taken_in(check, version):
+    """A store of this version that was made without the front end, taken in by its owner's key."""
+    store, line = check.make(f"version{version}.store", os.urandom(192), version)
     os.chmod(store, 0o600)
-    line = check.call([store, "/dev/urandom", "make"])[1]
     key, holder = check.put("core.owner", line), check.put("core.holder", check.call([store, "/dev/urandom", "run"], line + b"holder\n")[1])
-    keys = os.path.join(check.folder, "core_keys")
+    keys = os.path.join(check.folder, f"keys_of_version{version}")
     expect_told(check, "adopt without a key", front(check, store, "adopt", keys=keys), 2, "--key FILE")
     os.chmod(key, 0o644)
     expect_told(check, "a key that others read", front(check, store, "adopt", "--key", key, keys=keys), 1, "chmod 600")
     os.chmod(key, 0o600)
     os.chmod(holder, 0o600)
     expect_told(check, "a holder's key", front(check, store, "adopt", "--key", holder, keys=keys), 1, "a holder's key")
-    other = fresh(check, "core.other")
+    other = fresh(check, f"version{version}.other")
     expect_told(check, "another's key", front(check, other, "adopt", "--key", key, keys=keys), 1, "not one of")
     expect_told(check, "not taken in yet", front(check, store, "who", keys=keys), 1, "no owner's key")
     check.expect("nothing was made", glob.glob(keys + "/*"), [])
@@ -106,6 +106,21 @@ def taken_in(check):
     check.expect("the key that was taken in", (read(key_file_in(keys, store)), modes(keys)), (line, {0o700, 0o600}))
     expect_told(check, "adopt twice", front(check, store, "adopt", "--key", key, keys=keys), 1, "in the key folder already")
     done(check, "it's written", front(check, store, "holder", "add", "ann", keys=keys))
+    of_any_version(check, store, keys)
+
+
+def of_any_version(check, store, keys):
+    """A folder put into a store, a file of it taken away, and the rest got back."""
+    there, back = (os.path.join(check.folder, os.path.basename(store) + name) for name in (".in", ".out"))
+    os.makedirs(os.path.join(there, "b"))
+    for name in ("x", "b/y"):
+        with open(os.path.join(there, name), "wb") as file:
+            file.write(name.encode())
+    check.expect("a folder", front(check, store, "put", there, "/a", keys=keys)[0], 0)
+    os.remove(os.path.join(there, "x"))
+    check.expect("a file that left it", front(check, store, "put", there, "/a", keys=keys)[0], 0)
+    check.expect("the rest", front(check, store, "get", "/a", back, keys=keys)[0], 0)
+    check.expect("what is left of it", (os.listdir(back), read(os.path.join(back, "b", "y"))), (["b"], b"b/y"))
 
 
 def key_file_in(keys, store):

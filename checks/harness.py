@@ -6,7 +6,11 @@ import subprocess
 import sys
 import tempfile
 
-from store_reader import bundle_line
+from store_reader import Bundle, bundle_line
+from store_writer import Writer
+
+MADE_VERSION = 2  # of the stores that the program makes
+READ_VERSIONS = (1, 2)  # of those that it reads and writes
 
 
 class Check:
@@ -15,7 +19,14 @@ class Check:
     def __init__(self, program, folder):
         self.program, self.folder = os.path.abspath(program), folder
         self.pool = concurrent.futures.ThreadPoolExecutor(os.cpu_count())
-        self.count, self.wrong = 0, []
+        self.count, self.wrong, self.about = 0, [], ""
+
+    def each_version(self):
+        """Each version that the program reads, told before what is asked meanwhile."""
+        for version in READ_VERSIONS:
+            self.about = f"version {version}, "
+            yield version
+        self.about = ""
 
     def put(self, name, data):
         """The path of a file of this name with these bytes."""
@@ -23,6 +34,15 @@ class Check:
         with open(path, "wb") as file:
             file.write(data)
         return path
+
+    def make(self, name, random, version=MADE_VERSION):
+        """The path of a store of this version, of these random bytes, and its owner's line: made by the program, or where it makes no such
+        store by store_writer.py."""
+        if version == MADE_VERSION:
+            store = self.put(name, b"")
+            return store, self.call([store, self.put(f"random of {name}", random), "make"])[1]
+        writer = Writer(random[:192], version)
+        return self.put(name, writer.image), bundle_line(Bundle(0, writer.owner))
 
     def call(self, words, typed=b"", under=None):
         """How the program ends with these words and this input: its status, what it prints and what it says. One of faults.py may be what
@@ -49,7 +69,7 @@ class Check:
     def expect_one_of(self, what, came, dues):
         self.count += 1
         if came not in dues:
-            self.wrong.append(f"{str(what)[:200]}: due {' or '.join(map(str, dues))[:200]}, came {str(came)[:200]}")
+            self.wrong.append(f"{self.about}{str(what)[:200]}: due {' or '.join(map(str, dues))[:200]}, came {str(came)[:200]}")
 
     def expect_all(self, cases):
         """Cases of what is asked, a function that asks it, and the answer due; they are asked beside one another."""

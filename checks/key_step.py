@@ -1,4 +1,5 @@
-"""The key step of docs/FORMAT.md: what everybody can see of a store, which notes fit, and which keys and records each of them gives.
+"""The key step of docs/FORMAT.md: what everybody can see of a store, which notes fit, and which keys and records each of them gives. The
+store's version is part of what everybody can see.
 
 A role is a pair of one of the kinds below and an id; an edge is a link's kind with the ids of its source and its target.
 """
@@ -12,9 +13,10 @@ LINKS = {1: (OWNER, CLEAR), 2: (HOLDER, CLEAR), 3: (CLEAR, SUB), 4: (SUB, BACK),
          8: (BACK, BACK), 9: (FILES, FILE)}
 CONTENTS = {1: (DATA, 0, 64), 2: (FILE, 2, FILE_LIMIT + 65), 3: (OWNER, 32, 32)}  # what seals it, the lengths that its text may have
 NAME_OF_FOLDER, BYTES_OF_FILE, KEY_OF_HOLDER = CONTENTS
-NOTES = range(1, 14)
+NOTES = range(1, 16)
 (ROOT, NEW_HOLDER, NEW_FOLDER, NEW_FILE, REWRITE, NAME_FILE, NAME_FOLDER, DROP_FILE, DROP_FOLDER, SHIFT_FILE, SHIFT_FOLDER, GIVE,
- TAKE) = NOTES
+ TAKE, STRICT_ROOT, UPGRADE) = NOTES
+VERSIONS = {ROOT: 1, STRICT_ROOT: 2, UPGRADE: 2}  # that a store has behind these notes
 
 # what a note does: the edges removed, the roles gone, wanted and new, the edges added, the content's kind and id
 Change = namedtuple("Change", "removed gone wanted new added content", defaults=((), (), (), (), (), None))
@@ -47,10 +49,11 @@ def closure(begun, edges, near, far):
 
 
 class State:
-    """Folders with their parents, files with their folders, the checks of the holders, the grants; of the keys the present serials, the
-    edges between their roles and the dirty ones."""
+    """The version; folders with their parents, files with their folders, the checks of the holders, the grants; of the keys the present
+    serials, the edges between their roles and the dirty ones."""
 
     def __init__(self):
+        self.version = None
         self.parents, self.homes, self.checks, self.grants = {}, {}, [], set()
         self.folders_made = self.files_made = 0
         self.serials, self.edges, self.dirty = {(OWNER, 0): 0}, set(), set()
@@ -65,6 +68,12 @@ class State:
             folder = self.parents[folder]
             yield folder
 
+    def rights(self, holder):
+        """The entry folders of a holder, or for 0 of the owner, and the folders that are allowed and that are named to them."""
+        entries = {folder for folder in self.parents if not holder or (holder, folder) in self.grants}
+        allowed = {folder for folder in self.parents if folder in entries or not entries.isdisjoint(self.ancestors(folder))}
+        return entries, allowed, allowed.union(*map(self.ancestors, entries))
+
     def depth(self, folder):
         return len(list(self.ancestors(folder)))
 
@@ -74,10 +83,12 @@ class State:
 
     def fits(self, code, fields):
         """Whether the note with this code and these fields fits."""
-        if code == ROOT:
+        if code in (ROOT, STRICT_ROOT):
             return self.folders_made == 0
         if 1 not in self.parents:
             return False
+        if code == UPGRADE:
+            return self.version == 1
         first, second = fields[0], fields[-1]
         if code == NEW_HOLDER:
             return first == len(self.checks) + 1
@@ -111,8 +122,10 @@ class State:
         five = [(role, first) for role in FOLDER_ROLES]
         own = [(1, 0, first)] + [(kind, first, first) for kind in (3, 4, 5, 7)]
         around = [(6, second, first), (8, first, second)]
-        if code == ROOT:
+        if code in (ROOT, STRICT_ROOT):
             return Change(new=five, added=own, content=(NAME_OF_FOLDER, first))
+        if code == UPGRADE:
+            return Change()
         if code == NEW_HOLDER:
             return Change(new=[(HOLDER, first)], content=(KEY_OF_HOLDER, first))
         if code == NEW_FOLDER:
@@ -136,16 +149,26 @@ class State:
             return Change(added=[(2, first, second)])
         return Change(removed=[(2, first, second)], wanted=[(CLEAR, second)])
 
+    def strict(self, code, change):
+        """The roles that get new keys whether or not they are dirty, by the edges from before the command."""
+        if code == UPGRADE:
+            return {(role, folder) for folder in self.parents for role in (CLEAR, SUB, BACK, FILES)}
+        if self.version != 2:
+            return set()
+        leading = closure([source(edge) for edge in change.removed], self.edges, target, source)
+        return {role for role in leading if role[0] not in (OWNER, HOLDER)}.difference(change.gone)
+
     def take(self, code, fields):
         """Follows a note that fits: the roles that get keys, in their order, and the heads of all links and contents published."""
         change = self.change(code, fields)
+        strict = self.strict(code, change)
         if change.removed:
             self.dirty |= closure([target(edge) for edge in change.removed], self.edges, source, target)
         self.edges.difference_update(change.removed)
         self.forget(change.gone)
         plan = self.dirty & closure(change.wanted, self.edges, target, source) if self.dirty else set()
-        self.dirty -= plan
-        given = sorted(plan) + sorted(change.new)
+        given = sorted(plan | strict) + sorted(change.new)
+        self.dirty.difference_update(given)
         for role in given:
             self.serials[role] = self.next_serial()
         self.edges.update(change.added)
@@ -170,7 +193,8 @@ class State:
         return (self.epoch << 32) + self.count - 1
 
     def change_tree(self, code, fields):
-        if code == ROOT:
+        self.version = VERSIONS.get(code, self.version)
+        if code in (ROOT, STRICT_ROOT):
             self.parents[1], self.folders_made = None, 1
         elif code == NEW_HOLDER:
             self.checks.append(fields[1])

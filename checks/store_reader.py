@@ -28,11 +28,12 @@ import sys
 from collections import defaultdict, namedtuple
 
 from key_step import (BYTES_OF_FILE, CONTENTS, FILE_LIMIT, GIVE, HOLDER, KEY_OF_HOLDER, LINKS, NAME_OF_FOLDER, NEW_FILE, NEW_FOLDER,
-                      NEW_HOLDER, NOTES, OWNER, ROOT, SHIFT_FILE, SHIFT_FOLDER, TAKE, Head, State, sealing_role, source, target)
+                      NEW_HOLDER, NOTES, OWNER, ROOT, SHIFT_FILE, SHIFT_FOLDER, STRICT_ROOT, TAKE, UPGRADE, Head, State, sealing_role,
+                      source, target)
 
 STORE_LIMIT, HEADER, FRAME = 268_435_456, 42, 110
 NAME = re.compile(rb"(?!\.\.?\Z)[A-Za-z0-9._-]{1,64}")
-FIELDS = {ROOT: (), NEW_HOLDER: (4, 32)}  # of the others two or one of 4 bytes
+FIELDS = dict.fromkeys((ROOT, STRICT_ROOT, UPGRADE), ()) | {NEW_HOLDER: (4, 32)}  # of the others two or one of 4 bytes
 FIELDS |= dict.fromkeys((NEW_FOLDER, NEW_FILE, SHIFT_FILE, SHIFT_FOLDER, GIVE, TAKE), (4, 4))
 
 Bundle = namedtuple("Bundle", "holder key")  # the owner's has holder 0
@@ -279,14 +280,8 @@ class Reading:
         self.state, self.links, self.contents = state, links, contents
         self.keys, self.names = {(HOLDER, bundle.holder) if bundle.holder else (OWNER, 0): bundle.key}, {}
         self.texts = {}  # what was opened, by its kind and id
-        entries = [folder for folder in state.parents if not bundle.holder or (bundle.holder, folder) in state.grants]
-        above = {one for folder in entries for one in state.ancestors(folder)}
-        self.allowed = {folder for folder in state.parents if folder in entries or self.is_under(folder, entries)}
-        self.named = self.allowed | above
+        entries, self.allowed, self.named = state.rights(bundle.holder)
         self.open_folders(bundle.holder, sorted(entries))
-
-    def is_under(self, folder, entries):
-        return any(above in entries for above in self.state.ancestors(folder))
 
     def open_folders(self, holder, entries):
         parents, depth = self.state.parents, self.state.depth

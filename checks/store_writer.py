@@ -1,21 +1,24 @@
-"""Writes a store as docs/FORMAT.md says it, from given random bytes: a second writer beside the one that is proved, for the values of
-docs/vectors.json. It takes accepted commands alone, and shares the key step and the sealing with store_reader.py.
+"""Writes a store of either version as docs/FORMAT.md says it, from given random bytes: a second writer beside the one that is proved, for
+the values of docs/vectors.json, and for stores that the program reads and doesn't make. It takes accepted commands alone, and shares the
+key step and the sealing with store_reader.py.
 """
 from collections import namedtuple
 
 from key_step import (BYTES_OF_FILE, DROP_FILE, DROP_FOLDER, GIVE, HOLDER, KEY_OF_HOLDER, NAME_FILE, NAME_FOLDER, NEW_FILE, NEW_FOLDER,
-                      NEW_HOLDER, OWNER, REWRITE, ROOT, SHIFT_FILE, SHIFT_FOLDER, TAKE, State, sealing_role, source, target)
-from store_reader import be32, mac, owner_tag, xored
+                      NEW_HOLDER, OWNER, REWRITE, ROOT, SHIFT_FILE, SHIFT_FOLDER, STRICT_ROOT, TAKE, UPGRADE, State, sealing_role, source,
+                      target)
+from store_reader import Bundle, Reading, be32, followed, log, mac, owner_tag, xored
 
 COMMAND, EPOCH = 1, 2  # the types of batches
+ROOTS = {1: ROOT, 2: STRICT_ROOT}  # the note of `make`, by the version
 Node = namedtuple("Node", "is_folder number")
 Written = namedtuple("Written", "line place code keys links contents payload")  # a command's batch, its payload without a mask
 
 
 class Writer:
-    """A store that was made of these random bytes, whose next session is still to begin."""
+    """A store of this version that was made of these random bytes, whose next session is still to begin."""
 
-    def __init__(self, random):
+    def __init__(self, random, version):
         self.random = bytes(random)
         self.state, self.epoch, self.number, self.begun = State(), 0, 0, False
         self.owner = self.drawn(1)[0]
@@ -26,7 +29,24 @@ class Writer:
         self.batches = []
         self.begin_epoch()
         self.names[Node(True, 1)] = b""
-        self.publish("make", ROOT, [])
+        self.publish("make", ROOTS[version], [])
+
+    @classmethod
+    def over(cls, image, owner):
+        """A writer over a store that was written before, whose next session is still to begin."""
+        writer, batches = cls.__new__(cls), log(image, owner, writing=True)
+        reading = Reading(*followed(batches), Bundle(0, owner))
+        reading.list()
+        holders = {(HOLDER, number): reading.text(KEY_OF_HOLDER, number) for number in range(1, len(reading.state.checks) + 1)}
+        files = {Node(False, number): text for (kind, number), text in reading.texts.items() if kind == BYTES_OF_FILE}
+        last, _ = batches[-1]
+        writer.state, writer.owner, writer.keys = reading.state, owner, reading.keys | holders
+        writer.names = {Node(True, folder): name for folder, name in reading.names.items()}
+        writer.names |= {node: text[1:1 + text[0]] for node, text in files.items()}
+        writer.texts = {node: text[1 + text[0]:] for node, text in files.items()}
+        writer.epoch, writer.number, writer.tag, writer.image = reading.state.epoch, last.number, last.tag, image[:last.end]
+        writer.batches = []
+        return writer
 
     def drawn(self, count):
         """So many keys, the next 32 bytes each."""
@@ -88,6 +108,10 @@ class Writer:
 
     def revoke(self, line, number, path):
         return self.publish(line, TAKE, [int(number), self.find(path).number])
+
+    def upgrade(self, line):
+        """No line of the program's: nothing writes this note yet."""
+        return self.publish(line, UPGRADE, [])
 
     # paths
 

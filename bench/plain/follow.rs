@@ -34,7 +34,8 @@ pub struct Folder {
 /// What a note does with edges and keys.
 #[derive(Default)]
 struct Change {
-    cut: Vec<Role>, // the targets of the edges removed
+    cut: Vec<Role>,  // the targets of the edges removed
+    left: Vec<Role>, // their sources, but for roots and what goes
     gone: Vec<Role>,
     wanted: Vec<Role>,
     new: Vec<Role>,
@@ -45,6 +46,7 @@ struct Change {
 /// Folders and files by their ids, each list with a place 0 for none.
 #[derive(Default)]
 pub struct State {
+    version: u8,
     pub folders: Vec<Folder>,
     pub homes: Vec<u32>, // the folder of each file, 0 where it is gone
     pub holders: u32,
@@ -76,11 +78,12 @@ impl State {
     /// Follows the payload that stands at this place; `None` where it doesn't fit.
     pub fn take(&mut self, payload: &[u8], place: usize) -> Option<()> {
         let code = payload[0];
-        let fields = [0, 0, 36, 8, 8, 4, 4, 4, 4, 4, 8, 8, 8, 8][code as usize];
+        let fields = [0, 0, 36, 8, 8, 4, 4, 4, 4, 4, 8, 8, 8, 8, 0, 0][code as usize];
         let a = if fields > 0 { be32(&payload[1..]) } else { 1 };
         let b = if fields == 8 { be32(&payload[5..]) } else { 0 };
         self.fits(code, a, b).then_some(())?;
-        let Change { cut, gone, wanted, new, added: mut due, content } = self.change(code, a, b);
+        let Change { cut, left, gone, wanted, new, added: mut due, content } = self.change(code, a, b);
+        let strict = self.strict(code, left, &gone);
         self.dirty.extend(closure(cut, |role| self.edges_from(role), |(kind, _, target)| (ENDS[kind as usize].1, target)));
         self.detach(code, a, b);
         gone.iter().for_each(|role| _ = self.dirty.remove(role));
@@ -88,7 +91,9 @@ impl State {
         if !self.dirty.is_empty() {
             plan = closure(wanted, |role| self.edges_into(role), |(kind, source, _)| (ENDS[kind as usize].0, source));
             plan.retain(|role| self.dirty.remove(role));
+            strict.iter().for_each(|role| _ = self.dirty.remove(role));
         }
+        plan.extend(strict);
         for role in plan.iter().chain(&new) {
             let serial = self.serial();
             put(&mut self.serials[role.0 as usize], role.1, serial);
@@ -152,8 +157,9 @@ impl State {
         let is_inner = self.is_folder(a) && a != 1;
         let has_room = |more: usize| self.is_folder(b) && self.up(b).count() + more <= DEPTH;
         match code {
-            1 => self.folders.len() == 1,
+            1 | 14 => self.folders.len() == 1,
             _ if !self.is_folder(1) => false,
+            15 => self.version == 1,
             2 => a == self.holders + 1,
             3 => a as usize == self.folders.len() && has_room(0),
             4 => a as usize == self.homes.len() && has_room(0),
@@ -171,7 +177,9 @@ impl State {
         let five = || (CLEAR..=DATA).map(|kind| (kind, a)).collect();
         let none = Change::default();
         match code {
-            1 => Change { new: five(), added: vec![(1, 0, a), (3, a, a), (4, a, a), (5, a, a), (7, a, a)], content: Some((1, a)), ..none },
+            1 | 14 => {
+                Change { new: five(), added: vec![(1, 0, a), (3, a, a), (4, a, a), (5, a, a), (7, a, a)], content: Some((1, a)), ..none }
+            }
             2 => Change { new: vec![(HOLDER, a)], content: Some((3, a)), ..none },
             3 => {
                 let added = vec![(1, 0, a), (3, a, a), (4, a, a), (5, a, a), (6, b, a), (7, a, a), (8, a, b)];
@@ -180,16 +188,35 @@ impl State {
             4 => Change { wanted: vec![(FILES, b)], new: vec![(FILE, a)], added: vec![(9, b, a)], content: Some((2, a)), ..none },
             5 | 6 => Change { wanted: vec![(FILE, a)], content: Some((2, a)), ..none },
             7 => Change { wanted: vec![(DATA, a)], content: Some((1, a)), ..none },
-            8 => Change { cut: vec![(FILE, a)], gone: vec![(FILE, a)], ..none },
-            9 => Change { cut: vec![(CLEAR, a), (SUB, a)], gone: five(), ..none },
-            10 => Change { cut: vec![(FILE, a)], wanted: vec![(FILES, b)], added: vec![(9, b, a)], ..none },
+            8 => Change { cut: vec![(FILE, a)], left: vec![(FILES, self.homes[a as usize])], gone: vec![(FILE, a)], ..none },
+            9 => Change { cut: vec![(CLEAR, a), (SUB, a)], left: vec![(SUB, self.folder(a).parent)], gone: five(), ..none },
+            10 => {
+                let left = vec![(FILES, self.homes[a as usize])];
+                Change { cut: vec![(FILE, a)], left, wanted: vec![(FILES, b)], added: vec![(9, b, a)], ..none }
+            }
             11 => {
-                let cut = vec![(SUB, a), (BACK, self.folder(a).parent)];
-                Change { cut, wanted: vec![(BACK, a), (SUB, b)], added: vec![(6, b, a), (8, a, b)], ..none }
+                let parent = self.folder(a).parent;
+                let (cut, left) = (vec![(SUB, a), (BACK, parent)], vec![(SUB, parent), (BACK, a)]);
+                Change { cut, left, wanted: vec![(BACK, a), (SUB, b)], added: vec![(6, b, a), (8, a, b)], ..none }
             }
             12 => Change { added: vec![(2, a, b)], ..none },
+            15 => none,
             _ => Change { cut: vec![(CLEAR, b)], wanted: vec![(CLEAR, b)], ..none },
         }
+    }
+
+    /// The roles that get new keys whether or not they are dirty.
+    fn strict(&self, code: u8, left: Vec<Role>, gone: &[Role]) -> BTreeSet<Role> {
+        if code == 15 {
+            let standing = (1..self.folders.len() as u32).filter(|id| self.is_folder(*id));
+            return standing.flat_map(|id| (CLEAR..=FILES).map(move |kind| (kind, id))).collect();
+        }
+        let mut found = BTreeSet::new();
+        if self.version == 2 {
+            found = closure(left, |role| self.edges_into(role), |(kind, source, _)| (ENDS[kind as usize].0, source));
+            found.retain(|role| role.0 > HOLDER && !gone.contains(role));
+        }
+        found
     }
 
     /// Takes away what the note takes away.
@@ -213,7 +240,10 @@ impl State {
 
     /// Adds what the note adds.
     fn attach(&mut self, code: u8, a: u32, b: u32) {
-        if matches!(code, 1 | 3) {
+        if matches!(code, 1 | 14 | 15) {
+            self.version = if code == 1 { 1 } else { 2 };
+        }
+        if matches!(code, 1 | 3 | 14) {
             self.folders.push(Folder { stands: true, ..Folder::default() });
         }
         match code {

@@ -81,8 +81,8 @@ impl Form<'_> {
     }
 
     fn test(mut self) -> Result<(), usize> {
-        match self.number(1, 1, 13)? {
-            1 => {}
+        match self.number(1, 1, 15)? {
+            1 | 14 | 15 => {}
             2 => self.all(&[4, 32])?,
             3 | 4 | 10.. => self.all(&[4, 4])?,
             _ => self.all(&[4])?,
