@@ -4,7 +4,7 @@ use Rattle.std.specs.Fmt.{decimal}
 use Rattle.cli_base.specs.declared.status.Status.{Status}
 use Rattle.cli_base.specs.declared.status.Status.TheVariants.{Done, Usage, BadScript, ReadFault, WriteFault, DiskFault, RandomFault}
 use Rattle.cli_base.specs.declared.status.Status.TheVariants.{RandomShort, NotAStore, Damaged, WrongKey, Tampered, OutOfMemory}
-use Rattle.cli_base.specs.declared.status.Status.TheVariants.{NotBlank, NoHolder, Unseen, Behind, BadProof}
+use Rattle.cli_base.specs.declared.status.Status.TheVariants.{NotBlank, NoHolder, Unseen, Behind, Forked, BadProof}
 
 -- the exit status
 abbrev pub code_of : Status → ℕ
@@ -25,6 +25,7 @@ code_of NotBlank = 14
 code_of (NoHolder known) = 15
 code_of Unseen = 16
 code_of (Behind have want) = 19
+code_of (Forked batches) = 20
 code_of BadProof = 21
 
 -- a text as a whole line of standard error
@@ -50,6 +51,7 @@ line_of NotBlank = told_line (codes "not blank")
 line_of (NoHolder known) = codes "cryptree: no holder, " ++ (decimal known ++ (codes " known" ++ 10 ∷ []))
 line_of Unseen = told_line (codes "unseen")
 line_of (Behind have want) = codes "cryptree: behind, " ++ (decimal have ++ (codes " of " ++ (decimal want ++ 10 ∷ [])))
+line_of (Forked batches) = codes "cryptree: forked at " ++ (decimal batches ++ 10 ∷ [])
 line_of BadProof = told_line (codes "bad proof")
 
 -- how the program ends before it draws
@@ -88,5 +90,6 @@ is_before_print DiskFault = true
 is_before_print (NoHolder known) = true
 is_before_print Unseen = true
 is_before_print (Behind have want) = true
+is_before_print (Forked batches) = true
 is_before_print BadProof = true
 is_before_print status = is_before_write status

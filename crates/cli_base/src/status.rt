@@ -43,6 +43,8 @@ pub enum Status {
     Unseen,
     /// The log has fewer batches than a head names: `have` of the `want`.
     Behind { have: u32, want: u32 },
+    /// The log doesn't begin with the batches that a head over `batches` of them names.
+    Forked { batches: u32 },
     /// A proof doesn't lead from one head to the other.
     BadProof,
 }
@@ -70,6 +72,7 @@ impl Status {
             Status::NoHolder { .. } => 15,
             Status::Unseen => 16,
             Status::Behind { .. } => 19,
+            Status::Forked { .. } => 20,
             Status::BadProof => 21,
         }
     }
@@ -103,6 +106,7 @@ pub fn fault_line(alloc: Global, status: &Status, out: &mut Text) -> Mem<()>
         Status::NoHolder { known } => out.append(no_holder_line(alloc, *known)?.as_bytes()),
         Status::Unseen => out.append(b"cryptree: unseen\n"),
         Status::Behind { have, want } => out.append(behind_line(alloc, *have, *want)?.as_bytes()),
+        Status::Forked { batches } => out.append(forked_line(alloc, *batches)?.as_bytes()),
         Status::BadProof => out.append(b"cryptree: bad proof\n"),
     }
 }
@@ -117,6 +121,12 @@ fn behind_line(alloc: Global, have: u32, want: u32) -> Mem<String>
     ensures { IfOk result (λ line. string_bytes line ≡ line_of (Status.Behind have want)) }
 {
     Ok(format!(in alloc; "cryptree: behind, {have} of {want}\n")?)
+}
+
+fn forked_line(alloc: Global, batches: u32) -> Mem<String>
+    ensures { IfOk result (λ line. string_bytes line ≡ line_of (Status.Forked batches)) }
+{
+    Ok(format!(in alloc; "cryptree: forked at {batches}\n")?)
 }
 
 fn bad_script_line(alloc: Global, line: u64) -> Mem<String>

@@ -2,3 +2,4 @@ pub mod AskLemmas
 pub mod CheckLemmas
 pub mod NodeLemmas
 pub mod Telling
+pub mod TestLemmas

@@ -9,8 +9,8 @@ use Rattle.log_heads.specs.Published.{hashes_in}
 use Rattle.script_text.specs.Printing.{head_line, node_line}
 use Rattle.cli_base.specs.declared.status.Status.{Status}
 use Rattle.cli_base.specs.declared.status.Status.TheVariants as statuses
-use Rattle.cli_heads.specs.declared.asking.Asked.{Asked}
-use Rattle.cli_heads.specs.declared.asking.Asked.TheVariants.{Head, Proof}
+use Rattle.cli_heads.specs.Asked.{Asked}
+use Rattle.cli_heads.specs.Asked.Asked.{TheHead, TheProof}
 use Rattle.cli_heads.specs.Statuses.{fault_status}
 
 -- the head over all leaves, as it is printed
@@ -23,8 +23,8 @@ proof_text batches hashes = flat_map node_line (tree_proof (batches + 1) hashes)
 
 -- what is answered of a log with these hashes of its leaves, of which there is one more than there are batches
 abbrev pub told_of : Asked → List (List ℕ) → Result (List ℕ) Status
-told_of Head hashes = Ok (head_text hashes)
-told_of (Proof batches) hashes =
+told_of TheHead hashes = Ok (head_text hashes)
+told_of (TheProof batches) hashes =
     if nat_lt batches (length hashes) then Ok (proof_text batches hashes) else Err (statuses.Behind (length hashes - 1) batches)
 
 -- or where a test of the log fails

@@ -33,6 +33,7 @@ CheckGives old new typed (Err statuses.NotBlank) = ⊥
 CheckGives old new typed (Err (statuses.NoHolder known)) = ⊥
 CheckGives old new typed (Err statuses.Unseen) = ⊥
 CheckGives old new typed (Err (statuses.Behind have want)) = ⊥
+CheckGives old new typed (Err (statuses.Forked batches)) = ⊥
 
 -- what was taken of the input: all of it where a proof was judged; little behind a bad line; and no bad line before the source failed
 abbrev pub TakesProof : Status → List ℕ → List ℕ → Type 0
@@ -54,3 +55,4 @@ TakesProof statuses.NotBlank typed left = ⊥
 TakesProof (statuses.NoHolder known) typed left = ⊥
 TakesProof statuses.Unseen typed left = ⊥
 TakesProof (statuses.Behind have want) typed left = ⊥
+TakesProof (statuses.Forked batches) typed left = ⊥

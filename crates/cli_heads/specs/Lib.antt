@@ -1,5 +1,7 @@
+pub mod Asked
 pub mod Asking
 pub mod Checking
 pub mod Promises
 pub mod ProofLines
 pub mod Statuses
+pub mod Testing

@@ -3,5 +3,7 @@
 
 pub mod asking;
 pub mod checking;
+pub mod laws;
 mod proof_lines;
 pub mod statuses;
+pub mod testing;

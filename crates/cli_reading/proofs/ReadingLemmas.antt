@@ -1,7 +1,6 @@
--- How a command ends that only reads a store: where its input hands in no bundle, where the store shows nothing, and where it shows
--- something.
-use Rattle.std.proofs.Common.{inl, inr, refl, ◌≡◌, ◌⊎◌, ℕ, List, [], ◌++◌, arith, Option, Some, Result, Ok, Err, sym, ap, ◌∙◌, subst}
-use Rattle.std.specs.Prelude.{is_ok, is_some}
+-- How a command ends that only reads a store: where its input hands in no bundle, where nothing is shown, and where something is.
+use Rattle.std.proofs.Common.{inl, inr, refl, ◌≡◌, ◌⊎◌, ℕ, Bool, true, false, List, [], ◌++◌, arith, Option, Some, Result, Ok, Err, sym, ap, ◌∙◌, subst}
+use Rattle.std.specs.Prelude.{IsTrue, is_ok, is_some}
 use Rattle.std.proofs.lemmas.List.{append-nil}
 use Rattle.cry_base.specs.declared.client.Bundle.{Bundle}
 use Rattle.cry_io.proofs.OnlyRead.{only_read_still}
@@ -9,16 +8,14 @@ use Rattle.cry_io.proofs.ToldLemmas.{told_again}
 use Rattle.cry_io.specs.Reading.{IsOnlyRead}
 use Rattle.cry_io.specs.Told.{WhereTold, WhereBothTold}
 use Rattle.cry_io.specs.declared.disk.Disk as disk
-use Rattle.log_visits.specs.declared.fault.ClientFault.{ClientFault}
-use Rattle.log_visits.specs.declared.fault.ClientFault.TheVariants as clients
 use Rattle.cli_base.specs.Input.{ReadsInput, TakesLines, input_answer}
 use Rattle.cli_base.specs.Outside.{PrintsAll, PrintsFront}
 use Rattle.cli_base.specs.declared.input.InputFault.{InputFault}
 use Rattle.cli_base.specs.declared.input.InputFault.TheVariants.{BadLine, Failed, OutOfMemory}
 use Rattle.cli_base.specs.declared.status.Status.{Status}
 use Rattle.cli_base.specs.declared.status.Status.TheVariants as statuses
-use Rattle.cli_reading.specs.Reading.{AnswersAs, AnswersBy, AnswersFor, GivesText, InputDecides, Reads, TakesInput}
-use Rattle.cli_reading.specs.Statuses.{client_status, input_status}
+use Rattle.cli_reading.specs.Reading.{AnswersAs, AnswersBy, AnswersFor, InputDecides, Reads, TakesInput, TellsText}
+use Rattle.cli_reading.specs.Statuses.{input_status, is_unprinted}
 
 -- what may be answered to a bundle
 abbrev Shows : Type 1
@@ -62,29 +59,7 @@ reads_no_bundle {D} Gives disks fault status typed left still before is told rea
       reads_only = only_read_still disks still;
     })
 
--- ---- where the store shows nothing
-
-decided_then : (fault : ClientFault) (bundle : Bundle) (input : Result Bundle ℕ) → input ≡ Ok bundle
-    → InputDecides (client_status fault) input
-decided_then clients.NotAStore bundle input is = ap is_ok is
-decided_then clients.WrongKey bundle input is = ap is_ok is
-decided_then (clients.Damaged at) bundle input is = ap is_ok is
-decided_then (clients.Tampered batch at) bundle input is = ap is_ok is
-decided_then (clients.NoHolder known) bundle input is = ap is_ok is
-decided_then clients.Unseen bundle input is = ap is_ok is
-decided_then clients.DiskFault bundle input is = ap is_ok is
-decided_then clients.OutOfMemory bundle input is = tt
-
-answered_now : (May : Result (List ℕ) Status → Type 0) (fault : ClientFault) (before after : Option (List ℕ)) → GivesText (Err fault) May
-    → AnswersAs (client_status fault) May before after
-answered_now May clients.NotAStore before after gives = gives
-answered_now May clients.WrongKey before after gives = gives
-answered_now May (clients.Damaged at) before after gives = gives
-answered_now May (clients.Tampered batch at) before after gives = gives
-answered_now May (clients.NoHolder known) before after gives = gives
-answered_now May clients.Unseen before after gives = gives
-answered_now May clients.DiskFault before after gives = tt
-answered_now May clients.OutOfMemory before after gives = tt
+-- ---- where nothing is shown
 
 -- an input that was read to its end
 all_taken : (bundle : Bundle) (typed left : List ℕ) → ReadsInput (Ok bundle) typed left → TakesLines 1 typed left
@@ -96,35 +71,64 @@ all_taken bundle typed left reads = record {
   few = omega arith;
 }
 
-taken_then : (fault : ClientFault) (typed left : List ℕ) → TakesLines 1 typed left → TakesInput (client_status fault) typed left
-taken_then clients.NotAStore typed left takes = takes
-taken_then clients.WrongKey typed left takes = takes
-taken_then (clients.Damaged at) typed left takes = takes
-taken_then (clients.Tampered batch at) typed left takes = takes
-taken_then (clients.NoHolder known) typed left takes = takes
-taken_then clients.Unseen typed left takes = takes
-taken_then clients.DiskFault typed left takes = takes
-taken_then clients.OutOfMemory typed left takes = tt
+-- how it ends behind an input that hands in a bundle
+record EndsBehind (status : Status) (input : Result Bundle ℕ) (typed left : List ℕ) : Type 1 where
+  decided : InputDecides status input
+  answered : (May : Result (List ℕ) Status → Type 0) (before : Option (List ℕ)) → TellsText (Err status) May → AnswersAs status May before before
+  takes : TakesInput status typed left
 
-pub reads_nothing : {D : Type 0} (Gives : ShowsOf) (disks : disk.Ghosts D) (bundle : Bundle) (fault : ClientFault) (status : Status)
-    (typed left : Option (List ℕ)) (old new : D) (before : Option (List ℕ)) → status ≡ client_status fault → is_some left ≡ is_some typed
-    → WhereBothTold typed left (ReadsInput (Ok bundle)) → WhereTold (disks.shown old) (λ image. GivesText (Err fault) (Gives bundle image))
-    → IsOnlyRead disks old new → Reads Gives disks status typed left old new before before
-reads_nothing {D} Gives disks bundle fault status typed left old new before is told reads gives only =
-    subst (λ s. Reads Gives disks s typed left old new before before) (sym is) (record {
+ends_behind : (unseen head : Bool) (status : Status) (input : Result Bundle ℕ) (typed left : List ℕ) → IsTrue (is_unprinted unseen head status)
+    → IsTrue (is_ok input) → TakesLines 1 typed left → EndsBehind status input typed left
+ends_behind unseen head statuses.Done input typed left told is takes = absurd (let no : false ≡ true = told in cc)
+ends_behind unseen head statuses.Usage input typed left told is takes = absurd (let no : false ≡ true = told in cc)
+ends_behind unseen head (statuses.BadScript line) input typed left told is takes = absurd (let no : false ≡ true = told in cc)
+ends_behind unseen head statuses.ReadFault input typed left told is takes = absurd (let no : false ≡ true = told in cc)
+ends_behind unseen head statuses.WriteFault input typed left told is takes = absurd (let no : false ≡ true = told in cc)
+ends_behind unseen head statuses.RandomFault input typed left told is takes = absurd (let no : false ≡ true = told in cc)
+ends_behind unseen head (statuses.RandomShort short need) input typed left told is takes = absurd (let no : false ≡ true = told in cc)
+ends_behind unseen head statuses.NotBlank input typed left told is takes = absurd (let no : false ≡ true = told in cc)
+ends_behind unseen head statuses.BadProof input typed left told is takes = absurd (let no : false ≡ true = told in cc)
+ends_behind unseen head statuses.OutOfMemory input typed left told is takes = record { decided = tt; answered = λ May before tells. tt; takes = tt }
+ends_behind unseen head statuses.DiskFault input typed left told is takes = record { decided = is; answered = λ May before tells. tt; takes = takes }
+ends_behind unseen head statuses.NotAStore input typed left told is takes =
+    record { decided = is; answered = λ May before tells. tells; takes = takes }
+ends_behind unseen head (statuses.Damaged at) input typed left told is takes =
+    record { decided = is; answered = λ May before tells. tells; takes = takes }
+ends_behind unseen head statuses.WrongKey input typed left told is takes =
+    record { decided = is; answered = λ May before tells. tells; takes = takes }
+ends_behind unseen head (statuses.Tampered batch at) input typed left told is takes =
+    record { decided = is; answered = λ May before tells. tells; takes = takes }
+ends_behind unseen head (statuses.NoHolder known) input typed left told is takes =
+    record { decided = is; answered = λ May before tells. tells; takes = takes }
+ends_behind unseen head statuses.Unseen input typed left told is takes =
+    record { decided = is; answered = λ May before tells. tells; takes = takes }
+ends_behind unseen head (statuses.Behind have want) input typed left told is takes =
+    record { decided = is; answered = λ May before tells. tells; takes = takes }
+ends_behind unseen head (statuses.Forked batches) input typed left told is takes =
+    record { decided = is; answered = λ May before tells. tells; takes = takes }
+
+pub reads_nothing : {D : Type 0} (Gives : ShowsOf) (disks : disk.Ghosts D) (bundle : Bundle) (unseen head : Bool) (status : Status)
+    (typed left : Option (List ℕ)) (old new : D) (before : Option (List ℕ)) → IsTrue (is_unprinted unseen head status)
+    → is_some left ≡ is_some typed → WhereBothTold typed left (ReadsInput (Ok bundle))
+    → WhereTold (disks.shown old) (λ image. TellsText (Err status) (Gives bundle image)) → IsOnlyRead disks old new
+    → Reads Gives disks status typed left old new before before
+reads_nothing {D} Gives disks bundle unseen head status typed left old new before ends told reads gives only =
+    let behind : (x y : List ℕ) → typed ≡ Some x → left ≡ Some y → EndsBehind status (Ok bundle) x y =
+    λ x y was now. ends_behind unseen head status (Ok bundle) x y ends refl (all_taken bundle x y (reads x y was now))
+    in
+    record {
       decided = λ x was.
           let again = told_again typed left x told was in
-          decided_then fault bundle (input_answer x) (reads x again.0 was again.1).0;
+          subst (InputDecides status) (sym (reads x again.0 was again.1).0) (behind x again.0 was again.1).decided;
       answered = λ x was image now.
           let again = told_again typed left x told was in
-          let hands = sym (reads x again.0 was again.1).0 in
-          subst (λ input. AnswersAs (client_status fault) (AnswersFor (λ b. Gives b image) input) before before) hands
-          (answered_now (Gives bundle image) fault before before (gives image now));
-      takes = λ x y was now. taken_then fault x y (all_taken bundle x y (reads x y was now));
+          subst (λ input. AnswersAs status (AnswersFor (λ b. Gives b image) input) before before) (sym (reads x again.0 was again.1).0)
+          ((behind x again.0 was again.1).answered (Gives bundle image) before (gives image now));
+      takes = λ x y was now. (behind x y was now).takes;
       reads_only = only;
-    })
+    }
 
--- ---- where it shows something
+-- ---- where something is shown
 
 -- a text was printed, or a front of it
 abbrev Tells : Status → Option (List ℕ) → Option (List ℕ) → List ℕ → Type 0

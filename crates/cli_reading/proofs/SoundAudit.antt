@@ -24,7 +24,7 @@ use Rattle.trail_audit.specs.Derived.{MayAnswer, Passes, PlainSeen, plain_seen}
 use Rattle.cli_base.specs.declared.status.Status.{Status}
 use Rattle.cli_reading.specs.Promises.Audit.{AreSightsOf, AuditGives, of_audit, seen_text, sights_of}
 use Rattle.cli_reading.specs.Reading.{IsExactly, answer_as}
-use Rattle.cli_reading.proofs.Sound.{IsSound, as_journal, as_written}
+use Rattle.cli_reading.proofs.Sound.{IsSound, as_journal}
 
 -- a list that says so
 abbrev listed : List ℕ → Listed ℕ
@@ -85,6 +85,6 @@ audit_sound = record {
     fair = λ owner m h key seen stands is. answer_fair owner m image h key seen stands is;
     strict = λ owner m h key seen stands two is. answer_strict owner m image h key seen stands two is;
   };
-  written = λ status typed image before after. as_written AuditGives status typed image before after AreSightsOf
-      (λ owner m bundle are valid whole has. written_so owner m image bundle are valid whole has);
+  written = λ owner m image bundle are valid whole has. written_so owner m image bundle are valid whole has;
+  quiet = λ m bundle image status. tt;
 }

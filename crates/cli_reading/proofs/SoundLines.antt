@@ -17,7 +17,7 @@ use Rattle.cli_reading.specs.Changed.{AreLinesOf}
 use Rattle.cli_reading.specs.Promises.List.{ListGives, of_list, view_of}
 use Rattle.cli_reading.specs.Promises.Open.{OpenGives, line_of, of_open, spell_alone}
 use Rattle.cli_reading.specs.Reading.{IsExactly, answer_as}
-use Rattle.cli_reading.proofs.Sound.{IsSound, as_journal, as_written}
+use Rattle.cli_reading.proofs.Sound.{IsSound, as_journal}
 
 same_text : (xs ys : List ℕ) → (let r : Result (List ℕ) Status = Ok xs in r) ≡ Ok ys → xs ≡ ys
 same_text xs ys e = cc
@@ -41,10 +41,10 @@ list_sound = record {
   journal = λ status typed image before after. as_journal ListGives status typed image before after view_of
       (λ owner m bundle stands honest right. same_as spell_view _ _ (bytes_shown owner m image bundle stands honest right))
       (λ owner m bundle stands honest wrong. same_as spell_view _ _ (wrong_view owner m image bundle stands honest wrong));
-  written = λ status typed image before after. as_written ListGives status typed image before after AreLinesOf
-      (λ owner m bundle are valid whole has.
+  written = λ owner m image bundle are valid whole has.
       printed_or (λ lines. lines) m bundle image (HasForged owner m image) (shown_with bundle image)
-      (λ lines is. lines_listed owner m image bundle lines valid whole are has is));
+      (λ lines is. lines_listed owner m image bundle lines valid whole are has is);
+  quiet = λ m bundle image status. tt;
 }
 
 pub open_sound : (path : List ℕ) → IsSound (of_open path)
@@ -52,8 +52,8 @@ open_sound path = record {
   journal = λ status typed image before after. as_journal (OpenGives path) status typed image before after (line_of path)
       (λ owner m bundle stands honest right. same_as spell_alone _ _ (line_of_bytes owner m image bundle path stands honest right))
       (λ owner m bundle stands honest wrong. same_as spell_alone _ _ (wrong_line owner m image bundle stands honest wrong path));
-  written = λ status typed image before after. as_written (OpenGives path) status typed image before after AreLinesOf
-      (λ owner m bundle are valid whole has.
+  written = λ owner m image bundle are valid whole has.
       printed_or (λ line. line ∷ []) m bundle image (HasForged owner m image) (line_shown bundle path image)
-      (λ line is. line_opened owner m image bundle path line valid whole are has is));
+      (λ line is. line_opened owner m image bundle path line valid whole are has is);
+  quiet = λ m bundle image status. tt;
 }

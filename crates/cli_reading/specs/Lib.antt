@@ -1,4 +1,5 @@
 pub mod Changed
+pub mod Held
 pub mod Journals
 pub mod Promises
 pub mod Reading

@@ -12,6 +12,7 @@ pub use Rattle.cli_base.specs.Answering.{AnswersAs, IsExactly}
 use Rattle.cli_base.specs.declared.status.Status.{Status}
 use Rattle.cli_base.specs.declared.status.Status.TheVariants as statuses
 use Rattle.cli_base.specs.Input.{IsUnjudged, TakesLines, input_answer}
+use Rattle.cli_heads.specs.Statuses.{EndsAs}
 use Rattle.cli_reading.specs.Statuses.{failure_status}
 
 -- ---- what may be answered: a text that is printed, or how the program ends
@@ -36,6 +37,11 @@ AnswersBy Gives typed image = AnswersFor (λ bundle. Gives bundle image) (input_
 abbrev pub GivesText : Result (Listed ℕ) ClientFault → (Result (List ℕ) Status → Type 0) → Type 0
 GivesText (Ok text) May = May (Ok text.items)
 GivesText (Err fault) May = IsToldOf (λ failure. May (Err (failure_status failure))) fault
+
+-- so with a status in the fault's place
+abbrev pub TellsText : Result (Listed ℕ) Status → (Result (List ℕ) Status → Type 0) → Type 0
+TellsText (Ok text) May = May (Ok text.items)
+TellsText (Err status) May = EndsAs (λ s. May (Err s)) status
 
 -- what the input decides, whatever the disk shows: a bad line is told, where it has one, unless it failed or memory was wanting first
 abbrev pub InputDecides : Status → Result Bundle ℕ → Type 0

@@ -28,29 +28,38 @@ client_status clients.Unseen = statuses.Unseen
 client_status clients.DiskFault = statuses.DiskFault
 client_status clients.OutOfMemory = statuses.OutOfMemory
 
--- how it may end, for a command that may tell "unseen" or one that doesn't
-abbrev pub is_reading_answer : Bool → Status → Bool
-is_reading_answer tells_unseen statuses.Done = true
-is_reading_answer tells_unseen statuses.Usage = false
-is_reading_answer tells_unseen (statuses.BadScript line) = true
-is_reading_answer tells_unseen statuses.ReadFault = true
-is_reading_answer tells_unseen statuses.WriteFault = true
-is_reading_answer tells_unseen statuses.DiskFault = true
-is_reading_answer tells_unseen statuses.RandomFault = false
-is_reading_answer tells_unseen (statuses.RandomShort left need) = false
-is_reading_answer tells_unseen statuses.NotAStore = true
-is_reading_answer tells_unseen (statuses.Damaged at) = true
-is_reading_answer tells_unseen statuses.WrongKey = true
-is_reading_answer tells_unseen (statuses.Tampered batch at) = true
-is_reading_answer tells_unseen statuses.OutOfMemory = true
-is_reading_answer tells_unseen statuses.NotBlank = false
-is_reading_answer tells_unseen (statuses.NoHolder known) = true
-is_reading_answer tells_unseen statuses.Unseen = tells_unseen
-is_reading_answer tells_unseen (statuses.Behind have want) = false
-is_reading_answer tells_unseen statuses.BadProof = false
+-- how it may end, for a command that may tell "unseen" or one that doesn't, and for words that name a head or none
+abbrev pub is_reading_answer : Bool → Bool → Status → Bool
+is_reading_answer tells_unseen tells_head statuses.Done = true
+is_reading_answer tells_unseen tells_head statuses.Usage = false
+is_reading_answer tells_unseen tells_head (statuses.BadScript line) = true
+is_reading_answer tells_unseen tells_head statuses.ReadFault = true
+is_reading_answer tells_unseen tells_head statuses.WriteFault = true
+is_reading_answer tells_unseen tells_head statuses.DiskFault = true
+is_reading_answer tells_unseen tells_head statuses.RandomFault = false
+is_reading_answer tells_unseen tells_head (statuses.RandomShort left need) = false
+is_reading_answer tells_unseen tells_head statuses.NotAStore = true
+is_reading_answer tells_unseen tells_head (statuses.Damaged at) = true
+is_reading_answer tells_unseen tells_head statuses.WrongKey = true
+is_reading_answer tells_unseen tells_head (statuses.Tampered batch at) = true
+is_reading_answer tells_unseen tells_head statuses.OutOfMemory = true
+is_reading_answer tells_unseen tells_head statuses.NotBlank = false
+is_reading_answer tells_unseen tells_head (statuses.NoHolder known) = true
+is_reading_answer tells_unseen tells_head statuses.Unseen = tells_unseen
+is_reading_answer tells_unseen tells_head (statuses.Behind have want) = tells_head
+is_reading_answer tells_unseen tells_head (statuses.Forked batches) = tells_head
+is_reading_answer tells_unseen tells_head statuses.BadProof = false
 
 -- how it ends before it reads the disk
 abbrev pub is_before_read : Status → Bool
 is_before_read (statuses.BadScript line) = true
 is_before_read statuses.ReadFault = true
 is_before_read _ = false
+
+-- how it ends where it reads the disk and has nothing to print
+abbrev pub is_unprinted : Bool → Bool → Status → Bool
+is_unprinted tells_unseen tells_head statuses.Done = false
+is_unprinted tells_unseen tells_head statuses.WriteFault = false
+is_unprinted tells_unseen tells_head statuses.ReadFault = false
+is_unprinted tells_unseen tells_head (statuses.BadScript line) = false
+is_unprinted tells_unseen tells_head status = is_reading_answer tells_unseen tells_head status

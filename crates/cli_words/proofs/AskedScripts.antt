@@ -2,7 +2,8 @@
 use Rattle.std.proofs.Common.{◌≡◌, ℕ, Option, Some, sym, subst, ◌∙◌}
 use Rattle.head_tree.specs.declared.head.Head.{Head}
 use Rattle.cli_words.specs.declared.words.Form.{Form}
-use Rattle.cli_words.specs.declared.words.Form.TheVariants.{Gen, Prove, Check}
+use Rattle.cli_words.specs.declared.words.Form.TheVariants.{Audit, Gen, Open, Prove, Check}
+use Rattle.cli_words.specs.declared.words.Form.TheVariants as forms
 
 pub of_asked : (P : ℕ → ℕ → Type 0) (own_seed own_count seed count : ℕ) (form : Option Form) → form ≡ Some (Gen own_seed own_count) → form ≡ Some (Gen seed count)
     → P own_seed own_count → P seed count
@@ -25,3 +26,24 @@ of_asked_check P own_old own_new old new form own asked is =
     let same_old : own_old ≡ old = cc in
     let same_new : own_new ≡ new = cc in
     subst (λ head. P head new) same_old (subst (λ head. P own_old head) same_new is)
+
+pub of_asked_list : (P : Option Head → Type 0) (own head : Option Head) (form : Option Form) → form ≡ Some (forms.List own) → form ≡ Some (forms.List head)
+    → P own → P head
+of_asked_list P own head form is asked said =
+    let both : Some (forms.List own) ≡ Some (forms.List head) = sym is ∙ asked in
+    let same : own ≡ head = cc in
+    subst P same said
+
+pub of_asked_open : (P : Option Head → Type 0) (own head : Option Head) (form : Option Form) → form ≡ Some (Open own) → form ≡ Some (Open head)
+    → P own → P head
+of_asked_open P own head form is asked said =
+    let both : Some (Open own) ≡ Some (Open head) = sym is ∙ asked in
+    let same : own ≡ head = cc in
+    subst P same said
+
+pub of_asked_audit : (P : Option Head → Type 0) (own head : Option Head) (form : Option Form) → form ≡ Some (Audit own) → form ≡ Some (Audit head)
+    → P own → P head
+of_asked_audit P own head form is asked said =
+    let both : Some (Audit own) ≡ Some (Audit head) = sym is ∙ asked in
+    let same : own ≡ head = cc in
+    subst P same said

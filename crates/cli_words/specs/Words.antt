@@ -26,7 +26,7 @@ abbrev pub command_form : Listed ℕ → Option Form
 command_form word =
     if is_word word (codes "make") then Some Make
     else (if is_word word (codes "run") then Some Run
-    else (if is_word word (codes "list") then Some forms.List else (if is_word word (codes "audit") then Some Audit
+    else (if is_word word (codes "list") then Some (forms.List None) else (if is_word word (codes "audit") then Some (Audit None)
     else (if is_word word (codes "head") then Some forms.Head else None))))
 
 -- the word spells this number in decimal digits, without a sign or leading zeros
@@ -60,14 +60,6 @@ few_batches count = if nat_lt count 4294967295 then Some count else None
 unfoldable pub batches_of : List ℕ → Option ℕ
 batches_of word = option_and_then few_batches (number_of word)
 
--- STORE RANDOM COMMAND PATH, and STORE RANDOM COMMAND M
-unfoldable pub proof_form : Listed ℕ → Option Form
-proof_form batches = option_map Prove (batches_of batches.items)
-
-abbrev pub longer_command_form : Listed ℕ → Listed ℕ → Option Form
-longer_command_form word more =
-    if is_word word (codes "open") then Some Open else (if is_word word (codes "prove") then proof_form more else None)
-
 -- a head: `N:HEX64`, a number of batches and a root
 unfoldable pub head_of : List ℕ → Option Head
 head_of word =
@@ -76,12 +68,29 @@ head_of word =
     (batches_of (take colon word)))
     (position (λ byte. byte == 58) word)
 
+-- STORE RANDOM COMMAND M
+unfoldable pub proof_form : Listed ℕ → Option Form
+proof_form batches = option_map Prove (batches_of batches.items)
+
+-- a command that may have HEAD as its last word
+unfoldable pub head_form : (Option Head → Form) → Listed ℕ → Option Form
+head_form asks word = option_map (λ head. asks (Some head)) (head_of word.items)
+
+-- STORE RANDOM COMMAND PATH, STORE RANDOM COMMAND M and STORE RANDOM COMMAND HEAD
+abbrev pub longer_command_form : Listed ℕ → Listed ℕ → Option Form
+longer_command_form word more =
+    if is_word word (codes "open") then Some (Open None) else (if is_word word (codes "prove") then proof_form more
+    else (if is_word word (codes "list") then head_form forms.List more else (if is_word word (codes "audit") then head_form Audit more else None)))
+
 -- STORE RANDOM COMMAND OLD NEW
 unfoldable pub heads_form : Listed ℕ → Listed ℕ → Option Form
 heads_form old new = option_and_then (λ first. option_map (Check first) (head_of new.items)) (head_of old.items)
 
+-- and STORE RANDOM COMMAND PATH HEAD
 abbrev pub longest_command_form : Listed ℕ → Listed ℕ → Listed ℕ → Option Form
-longest_command_form word one other = if is_word word (codes "check") then heads_form one other else script_form word one other
+longest_command_form word one other =
+    if is_word word (codes "check") then heads_form one other
+    else (if is_word word (codes "open") then head_form Open other else script_form word one other)
 
 -- a form that asks for lines asks for no more than the most
 abbrev pub HasFewLines : Form → Type 0
@@ -99,6 +108,7 @@ form_of_words _ = None
 -- the path that they name
 abbrev pub path_in_words : List (Listed ℕ) → List ℕ
 path_in_words (store ∷ random ∷ command ∷ path ∷ []) = path.items
+path_in_words (store ∷ random ∷ command ∷ path ∷ head ∷ []) = path.items
 path_in_words _ = []
 
 -- ---- what the words ask for
@@ -115,17 +125,17 @@ AsksGen words seed count = form_of_words words ≡ Some (Gen seed count)
 abbrev pub IsRun : List (Listed ℕ) → Type 0
 IsRun words = form_of_words words ≡ Some Run
 
--- the words ask for a key's view
-abbrev pub IsList : List (Listed ℕ) → Type 0
-IsList words = form_of_words words ≡ Some forms.List
+-- the words ask for a key's view, of a log that goes on from this head where they name one
+abbrev pub AsksList : List (Listed ℕ) → Option Head → Type 0
+AsksList words head = form_of_words words ≡ Some (forms.List head)
 
 -- or for the one line of it that has a path
-abbrev pub IsOpen : List (Listed ℕ) → Type 0
-IsOpen words = form_of_words words ≡ Some Open
+abbrev pub AsksOpen : List (Listed ℕ) → Option Head → Type 0
+AsksOpen words head = form_of_words words ≡ Some (Open head)
 
 -- or for all that it leads to
-abbrev pub IsAudit : List (Listed ℕ) → Type 0
-IsAudit words = form_of_words words ≡ Some Audit
+abbrev pub AsksAudit : List (Listed ℕ) → Option Head → Type 0
+AsksAudit words head = form_of_words words ≡ Some (Audit head)
 
 -- the words ask for the head of a log
 abbrev pub IsHead : List (Listed ℕ) → Type 0

@@ -12,6 +12,8 @@ cryptree keeps shared folders in one store file, on a disk that nobody has to tr
                                     prints it, or a holder's, as run answers holder
   cryptree STORE RANDOM open PATH   print the one line of it that has this path
   cryptree STORE RANDOM audit       print every name and file that a key leads to, old ones too, with the batch that wrote it
+  cryptree STORE RANDOM list HEAD   the same as list, unless the store doesn't go on from this head; open PATH and audit take one as
+                                    their last word too
   cryptree STORE RANDOM gen N COUNT make a store as make does, apply the script of the number N to it, with COUNT lines behind its opening,
                                     and print its owner's key and its figures: the same script for everybody, to measure with
   cryptree STORE RANDOM head        print the head of the store's log, N:HEX, which needs no key: keep it, and you notice where an
@@ -32,7 +34,8 @@ a holder can't check the owner's tags: whoever writes the disk can hide things f
 exit status: 0 done, 2 usage, 3 bad line of input, 4 read fault, 5 write fault, 6 disk fault, 7 random fault,
              8 random too short, 9 not a store, 10 damaged, 11 wrong key, 12 tampered, 13 out of memory,
              14 the store's file isn't empty, 15 no such holder, 16 nothing that the key opens has the path,
-             19 behind: an older store was put back, or another copy was read,
+             19 behind: an older store was put back, or another copy was read; ask for the newest copy, and write on neither,
+             20 forked: somebody wrote another history than the one that the head is of,
              21 bad proof: between these two heads somebody wrote another history
 more: README.md, and docs/FORMAT.md for every byte of a store
 ";

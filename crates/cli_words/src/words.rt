@@ -15,12 +15,12 @@ pub enum Form {
     Make,
     /// `STORE RANDOM run`
     Run,
-    /// `STORE RANDOM list`
-    List,
-    /// `STORE RANDOM audit`
-    Audit,
-    /// `STORE RANDOM open PATH`, where any word stands for a path
-    Open,
+    /// `STORE RANDOM list`, or with a head behind it
+    List { head: Option<Head> },
+    /// `STORE RANDOM audit`, or with a head behind it
+    Audit { head: Option<Head> },
+    /// `STORE RANDOM open PATH`, where any word stands for a path, or with a head behind it
+    Open { head: Option<Head> },
     /// `STORE RANDOM gen NUMBER COUNT`
     Gen { seed: u64, count: u32 },
     /// `STORE RANDOM head`
@@ -52,12 +52,13 @@ pub fn form_of(words: &List<Text>) -> Option<Form>
     }
 }
 
-/// The path that `STORE RANDOM open PATH` names, and no bytes where the words name none.
+/// The path that `STORE RANDOM open PATH` names, with a head behind it or without, and no bytes where the words name none.
 pub fn path_in(words: &List<Text>) -> &[u8]
     ensures { result.now ≡ path_in_words words.now.items }
 {
     match words.as_slice() {
         [_store, _random, _command, path] => path.as_slice(),
+        [_store, _random, _command, path, _head] => path.as_slice(),
         _ => &[],
     }
 }
@@ -84,9 +85,9 @@ fn command_of(word: &Text) -> Option<Form>
     } else if word.as_slice() == b"run".as_slice() {
         Some(Form::Run)
     } else if word.as_slice() == b"list".as_slice() {
-        Some(Form::List)
+        Some(Form::List { head: None })
     } else if word.as_slice() == b"audit".as_slice() {
-        Some(Form::Audit)
+        Some(Form::Audit { head: None })
     } else if word.as_slice() == b"head".as_slice() {
         Some(Form::Head)
     } else {
@@ -95,28 +96,38 @@ fn command_of(word: &Text) -> Option<Form>
 }
 
 /// The command that takes one word more.
-#[tactic(auto, unfolding(crate::specs::Words::proof_form))]
+#[tactic(auto, unfolding(crate::specs::Words::proof_form, crate::specs::Words::head_form))]
 fn longer_command_of(word: &Text, more: &Text) -> Option<Form>
     ensures form { result ≡ longer_command_form word.now more.now }
     ensures few_lines { IfSome result HasFewLines }
 {
     if word.as_slice() == b"open".as_slice() {
-        Some(Form::Open)
+        Some(Form::Open { head: None })
     } else if word.as_slice() == b"prove".as_slice() {
         let batches = batches_in(more.as_slice())?;
         Some(Form::Prove { batches })
+    } else if word.as_slice() == b"list".as_slice() {
+        let head = head_in(more.as_slice())?;
+        Some(Form::List { head: Some(head) })
+    } else if word.as_slice() == b"audit".as_slice() {
+        let head = head_in(more.as_slice())?;
+        Some(Form::Audit { head: Some(head) })
     } else {
         None
     }
 }
 
 /// The command that takes two words more.
+#[tactic(auto, unfolding(crate::specs::Words::head_form))]
 fn longest_command_of(word: &Text, one: &Text, other: &Text) -> Option<Form>
     ensures form { result ≡ longest_command_form word.now one.now other.now }
     ensures few_lines { IfSome result HasFewLines }
 {
     if word.as_slice() == b"check".as_slice() {
         heads_of(one, other)
+    } else if word.as_slice() == b"open".as_slice() {
+        let head = head_in(other.as_slice())?;
+        Some(Form::Open { head: Some(head) })
     } else {
         script_of(word, one, other)
     }

@@ -22,9 +22,8 @@ impl Access {
         match form {
             Form::Make | Form::Gen { .. } => Some(Access::Make),
             Form::Run => Some(Access::Write),
-            Form::List | Form::Open | Form::Audit | Form::Head | Form::Prove { .. } => {
-                Some(Access::Read)
-            }
+            Form::List { .. } | Form::Open { .. } | Form::Audit { .. } => Some(Access::Read),
+            Form::Head | Form::Prove { .. } => Some(Access::Read),
             Form::Check { .. } | Form::Help | Form::Version => None,
         }
     }

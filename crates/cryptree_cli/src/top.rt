@@ -1,10 +1,10 @@
 //! The call that the program makes.
-ghost use Rattle.std.specs.Prelude.{◌≡◌, ◌↔◌, ℕ, None};
+ghost use Rattle.std.specs.Prelude.{◌≡◌, ◌↔◌, ℕ, Option, None};
 ghost use Rattle.cry_io.specs.Told.{WhereTold};
 ghost use Rattle.cli_base.specs.Promises.Any.{AnyEnds};
 ghost use Rattle.cli_heads.specs.Promises.Asking.{AskingEnds};
 ghost use Rattle.cli_heads.specs.Promises.Checking.{CheckEnds};
-ghost use Rattle.cli_heads.specs.declared.asking.Asked.TheVariants as asked;
+ghost use Rattle.cli_heads.specs.Asked.Asked.{TheHead, TheProof};
 ghost use Rattle.cli_reading.specs.Promises.Audit.{AuditEnds};
 ghost use Rattle.cli_making.specs.Promises.Gen.{GenEnds};
 ghost use Rattle.cli_reading.specs.Promises.List.{ListEnds};
@@ -14,12 +14,12 @@ ghost use Rattle.cli_running.specs.Promises.Run.{RunEnds};
 ghost use Rattle.cli_base.specs.Promises.Text.{TextEnds};
 ghost use Rattle.cli_base.specs.World.{senses_of, world_of};
 ghost use Rattle.head_tree.specs.declared.head.Head.{Head};
-ghost use Rattle.cli_words.specs.Words.{AsksCheck, AsksGen, AsksProof, IsAudit, IsHead, IsList, IsMake, IsOpen, IsRun, form_of_words};
-ghost use Rattle.cli_words.specs.Words.{path_in_words, text_of};
+ghost use Rattle.cli_words.specs.Words.{AsksAudit, AsksCheck, AsksGen, AsksList, AsksOpen, AsksProof, IsHead, IsMake, IsRun};
+ghost use Rattle.cli_words.specs.Words.{form_of_words, path_in_words, text_of};
 
 use cli_base::outside::tell;
 use cli_base::status::Status;
-use cli_heads::asking::{Asked, ask_log};
+use cli_heads::asking::{ask_head, ask_proof};
 use cli_heads::checking::check;
 use cli_making::generating::generate_store;
 use cli_making::make::make;
@@ -39,8 +39,8 @@ use std::alloc::Global;
 ///
 /// Where two causes of an answer hold, the one met first is given; for `make`: words, size, memory, draw, disk, output; for
 /// `gen` the same, and before the output for each line of the script memory, draw, disk; for `run`: words, the first line, the store,
-/// and then for each line its form, memory, draw, disk, output; for `list`, `open` and `audit`: words, the input, the store, output; for
-/// `head` and `prove`: words, the store, output; for `check`: words, the input, the proof, output.
+/// and then for each line its form, memory, draw, disk, output; for `list`, `open` and `audit`: words, the input, the head, the store,
+/// output; for `head` and `prove`: words, the store, output; for `check`: words, the input, the proof, output.
 /// Want of memory comes at its place in this order, and no clause says when.
 pub fn top<S: Source, R: Source, D: Disk, W: Sink>(
     alloc: Global,
@@ -62,15 +62,15 @@ pub fn top<S: Source, R: Source, D: Disk, W: Sink>(
         (world_of input.old random.old disk.old out.old) (world_of input.new random.new disk.new out.new) seed count }
     ensures runs { IsRun words.now.items → RunEnds (senses_of S.Source R.Source D.Disk W.Sink) result
         (world_of input.old random.old disk.old out.old) (world_of input.new random.new disk.new out.new) }
-    ensures lists { IsList words.now.items → ListEnds (senses_of S.Source R.Source D.Disk W.Sink) result
+    ensures lists { (head : Option Head) → AsksList words.now.items head → ListEnds head (senses_of S.Source R.Source D.Disk W.Sink) result
         (world_of input.old random.old disk.old out.old) (world_of input.new random.new disk.new out.new) }
-    ensures opens { IsOpen words.now.items → OpenEnds (senses_of S.Source R.Source D.Disk W.Sink) result
+    ensures opens { (head : Option Head) → AsksOpen words.now.items head → OpenEnds head (senses_of S.Source R.Source D.Disk W.Sink) result
         (world_of input.old random.old disk.old out.old) (world_of input.new random.new disk.new out.new) (path_in_words words.now.items) }
-    ensures audits { IsAudit words.now.items → AuditEnds (senses_of S.Source R.Source D.Disk W.Sink) result
+    ensures audits { (head : Option Head) → AsksAudit words.now.items head → AuditEnds head (senses_of S.Source R.Source D.Disk W.Sink) result
         (world_of input.old random.old disk.old out.old) (world_of input.new random.new disk.new out.new) }
-    ensures heads { IsHead words.now.items → AskingEnds asked.Head (senses_of S.Source R.Source D.Disk W.Sink) result
+    ensures heads { IsHead words.now.items → AskingEnds TheHead (senses_of S.Source R.Source D.Disk W.Sink) result
         (world_of input.old random.old disk.old out.old) (world_of input.new random.new disk.new out.new) }
-    ensures proves { (batches : ℕ) → AsksProof words.now.items batches → AskingEnds (asked.Proof batches)
+    ensures proves { (batches : ℕ) → AsksProof words.now.items batches → AskingEnds (TheProof batches)
         (senses_of S.Source R.Source D.Disk W.Sink) result
         (world_of input.old random.old disk.old out.old) (world_of input.new random.new disk.new out.new) }
     ensures checks { (old new : Head) → AsksCheck words.now.items old new → CheckEnds old new
@@ -88,16 +88,16 @@ pub fn top<S: Source, R: Source, D: Disk, W: Sink>(
         Some(Form::Make) => make(alloc, random, disk, out),
         Some(Form::Gen { seed, count }) => generate_store(alloc, seed, count, random, disk, out),
         Some(Form::Run) => run(alloc, input, random, disk, out),
-        Some(Form::List) => read_and_print(alloc, &Listing, input, disk, out),
-        Some(Form::Audit) => read_and_print(alloc, &Auditing, input, disk, out),
-        Some(Form::Open) => {
+        Some(Form::List { head }) => read_and_print(alloc, head, &Listing, input, disk, out),
+        Some(Form::Audit { head }) => read_and_print(alloc, head, &Auditing, input, disk, out),
+        Some(Form::Open { head }) => {
             let opening = Opening {
                 path: path_in(words),
             };
-            read_and_print(alloc, &opening, input, disk, out)
+            read_and_print(alloc, head, &opening, input, disk, out)
         }
-        Some(Form::Head) => ask_log(alloc, Asked::Head, disk, out),
-        Some(Form::Prove { batches }) => ask_log(alloc, Asked::Proof { batches }, disk, out),
+        Some(Form::Head) => ask_head(alloc, disk, out),
+        Some(Form::Prove { batches }) => ask_proof(alloc, batches, disk, out),
         Some(Form::Check { old, new }) => check(alloc, &old, &new, input, out),
         Some(Form::Help) => tell(HELP, out),
         Some(Form::Version) => tell(VERSION, out),

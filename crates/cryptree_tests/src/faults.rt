@@ -24,6 +24,36 @@ const LIST: Call = Call {
     step: 45,
 };
 
+/// With the head of a fresh store, which RFC 6962 gives.
+const LIST_HEAD: Call = Call {
+    command: &[
+        b"list",
+        b"2:254ae311731a9b759cf8f47d61d1edf276632fa4d1673a13c6c51b2872a8533c",
+    ],
+    input: OWNER_LINE,
+    step: 45,
+};
+
+/// With another of as many batches.
+const LIST_OTHER_HEAD: Call = Call {
+    command: &[
+        b"list",
+        b"2:ad571791f5ba419ef6d1e270fff40e33dc85f5bfd427cc30533c30a98a0b555a",
+    ],
+    input: OWNER_LINE,
+    step: 45,
+};
+
+/// With that of a store that went on from it.
+const LIST_LATER_HEAD: Call = Call {
+    command: &[
+        b"list",
+        b"7:ad571791f5ba419ef6d1e270fff40e33dc85f5bfd427cc30533c30a98a0b555a",
+    ],
+    input: OWNER_LINE,
+    step: 45,
+};
+
 /// The owner's line and two commands, of which the second read ends in the last.
 const RUN: Call = Call {
     command: &[b"run"],
@@ -103,10 +133,26 @@ const MADE: [Row; 5] = [
 ];
 
 /// Calls over a fresh store, which has 1,801 bytes with the folder and 2,088 with the file in it.
-const OVER_FRESH: [Row; 18] = [
+const OVER_FRESH: [Row; 22] = [
     (LIST, Fault::Nothing, Status::Done, b"folder /\n", 819),
     (LIST, Fault::Input(1), Status::ReadFault, b"", 819),
     (LIST, Fault::Room(4), Status::WriteFault, b"fold", 819),
+    (LIST_HEAD, Fault::Nothing, Status::Done, b"folder /\n", 819),
+    (LIST_HEAD, Fault::Input(1), Status::ReadFault, b"", 819),
+    (
+        LIST_OTHER_HEAD,
+        Fault::Nothing,
+        Status::Forked { batches: 2 },
+        b"",
+        819,
+    ),
+    (
+        LIST_LATER_HEAD,
+        Fault::Nothing,
+        Status::Behind { have: 2, want: 7 },
+        b"",
+        819,
+    ),
     (AUDIT, Fault::Nothing, Status::Done, b"folder 2 1 \n", 819),
     (AUDIT, Fault::Input(1), Status::ReadFault, b"", 819),
     (AUDIT, Fault::Room(4), Status::WriteFault, b"fold", 819),
@@ -197,6 +243,8 @@ fn each_call_of_the_disk_may_fail(rt: HostRuntime) -> Result<(), Fail> {
     assert_eq!(rt; disk_calls(alloc, MAKE, &[])?, (14, Status::Done));
     // The header, and two reads for each of two batches; `list` reads the batch of the root's name once more.
     assert_eq!(rt; disk_calls(alloc, LIST, image)?, (7, Status::Done));
+    // The test of a head reads what an audit reads.
+    assert_eq!(rt; disk_calls(alloc, LIST_HEAD, image)?, (12, Status::Done));
     assert_eq!(rt; disk_calls(alloc, AUDIT, image)?, (5, Status::Done));
     assert_eq!(rt; disk_calls(alloc, FOLDER, image)?, (18, Status::Done));
     Ok(())

@@ -1,5 +1,5 @@
 -- What `gen` unveils from the moment on at which its store stood.
-use Rattle.std.proofs.Common.{◌≡◌, ⊎_elim, inl, inr, ℕ, List, [], ◌∷◌, ◌++◌, length, Option, Some, arith, refl, sym, ◌∙◌}
+use Rattle.std.proofs.Common.{◌≡◌, ⊎_elim, inl, inr, ℕ, List, [], ◌∷◌, ◌++◌, Option, Some, arith, refl, sym, ◌∙◌}
 use Rattle.batch_log.proofs.InOrder.{on_maps}
 use Rattle.commit_journal.specs.Standing.{StandsWhole}
 use Rattle.cry_io.specs.declared.disk.Disk as disk
@@ -11,20 +11,17 @@ use Rattle.cli_sessions.specs.Stopping.{LinesKeepUpTo}
 use Rattle.journal_bytes.specs.Bytes.{batches_of, image_of}
 use Rattle.journal_bytes.specs.Journals.{StandsForJournal}
 use Rattle.journal_bytes.specs.WorkedBytes.{journal_bytes}
-use Rattle.key_links.specs.Fresh.{fresh_image, piece}
+use Rattle.key_links.specs.Fresh.{fresh_image, made_version, piece}
 use Rattle.public_fold.specs.Journal.{Journal}
 use Rattle.public_fold.specs.Valid.{IsValid}
 use Rattle.store_gen.specs.Rule.{requests}
 use Rattle.store_owner.specs.Making.{made_with, root_keys}
 use Rattle.store_owner.specs.Published.{HasPublished}
+use Rattle.store_owner.proofs.MadeOwner.{made_valid}
 use Rattle.handed_laws.specs.Unveiled.{KeepsUnveiled, ScriptUnveils}
 use Rattle.handed_laws.proofs.Handed.{joins_shown}
 use Rattle.handed_laws.proofs.Runs.{Reaches, settled, stopped_by}
 use Rattle.handed_laws.proofs.Unmasked.{kept_now}
-
-made_valid : (keys : List (List ℕ)) → length keys ≡ 5 → IsValid (made_with keys)
-unfolding journal_bytes
-made_valid keys five = ((five, tt, inr refl), omega arith)
 
 -- what a script reached
 filled_by : (status : Status) (seed count : ℕ) (key : List ℕ) (m : Journal) (seen : Seen) (may_leave : List ℕ → Type 0) (KeepsTo : Journal → Type 0) (before after : Option (List ℕ))
@@ -52,6 +49,7 @@ filled_by statuses.NotBlank seed count key m seen may_leave KeepsTo before after
 filled_by (statuses.NoHolder known) seed count key m seen may_leave KeepsTo before after valid run = absurd run
 filled_by statuses.Unseen seed count key m seen may_leave KeepsTo before after valid run = absurd run
 filled_by (statuses.Behind have want) seed count key m seen may_leave KeepsTo before after valid run = absurd run
+filled_by (statuses.Forked batches) seed count key m seen may_leave KeepsTo before after valid run = absurd run
 filled_by statuses.BadProof seed count key m seen may_leave KeepsTo before after valid run = absurd run
 
 -- a fresh store stands for its journal
@@ -76,7 +74,7 @@ script_unveils {D} disks status seed count left_before left_after before after w
     let m = made_with (root_keys made.drawn) in
     let since = disks.since after (disks.moment made.start) in
     let to = filled_by status seed count key m (unheard made.behind left_after (disks.shown after)) (disks.may_leave after)
-    (LinesKeepUpTo key m (disks.shown made.start) (disks.shown after) since) written_before written_after (made_valid (root_keys made.drawn) refl) (made.fills y is_y) in
+    (LinesKeepUpTo key m (disks.shown made.start) (disks.shown after) since) written_before written_after (made_valid made_version (root_keys made.drawn) (inr refl) refl) (made.fills y is_y) in
     let whole = fresh_stands made.drawn x (made.stands.shows x is_x) in
     let reached : Journal = to.reached in (
       reached,

@@ -140,6 +140,7 @@ module _ (key : List ℕ) (m : Journal) (m_valid : IsValid m) (lines : List Inpu
   reached_by keys (statuses.NoHolder known) asked run = absurd run
   reached_by keys statuses.Unseen asked run = absurd run
   reached_by keys (statuses.Behind have want) asked run = absurd run
+  reached_by keys (statuses.Forked batches) asked run = absurd run
   reached_by keys statuses.BadProof asked run = absurd run
 
   -- by what `gen` says of a script that stopped
@@ -161,4 +162,5 @@ module _ (key : List ℕ) (m : Journal) (m_valid : IsValid m) (lines : List Inpu
   stopped_by (statuses.NoHolder known) run = absurd run
   stopped_by statuses.Unseen run = absurd run
   stopped_by (statuses.Behind have want) run = absurd run
+  stopped_by (statuses.Forked batches) run = absurd run
   stopped_by statuses.BadProof run = absurd run

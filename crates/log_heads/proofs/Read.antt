@@ -1,8 +1,8 @@
 -- The hashes of a log's leaves, one batch after another.
-use Rattle.std.proofs.Common.{◌≡◌, ℕ, List, [], ◌∷◌, ◌++◌, map, Result, Ok, Err, refl, ap, sym, ◌∙◌}
+use Rattle.std.proofs.Common.{◌≡◌, ℕ, List, [], ◌∷◌, ◌++◌, map, Ok, refl, ap, sym, ◌∙◌}
 use Rattle.std.proofs.lemmas.List.{map_push}
 use Rattle.commit_journal.specs.declared.fault.OpenFault.{OpenFault}
-use Rattle.commit_journal.specs.Answering.{Fault, IsFault, and_then}
+use Rattle.commit_journal.specs.Answering.{IsFault, and_then}
 use Rattle.commit_journal.specs.Leaves.{front_of, leaf_of, leaves_of}
 use Rattle.commit_journal.specs.Logs.{holder_log}
 use Rattle.commit_journal.specs.Placed.{PlainPlaced}

@@ -2,5 +2,8 @@
 #![tactic(auto)]
 
 mod published;
+mod reading;
+mod so_far;
 
 pub use published::PublishedTree;
+pub use reading::Heads;

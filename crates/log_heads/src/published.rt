@@ -3,18 +3,17 @@ ghost use Rattle.std.specs.Prelude.{◌≡◌, ◌≢◌, ◌<◌, ◌≤◌, �
 ghost use Rattle.commit_journal.specs.Answering.{Answers};
 ghost use Rattle.cry_io.specs.Reading.{IsOnlyRead};
 ghost use Rattle.cry_io.specs.Told.{WhereTold};
-ghost use Rattle.head_tree.specs.Heads.{IsHead};
 ghost use Rattle.head_tree.specs.Proving.{tree_proof};
 ghost use Rattle.log_heads.specs.Published.{hashes_in};
 
 use commit_journal::{OpenFault, PublicLog};
 use cry_base::{List, Mem};
 use cry_io::Disk;
-use head_tree::{Head, LogTree, leaf_hash};
+use head_tree::{LogTree, leaf_hash};
 use std::alloc::Global;
 use std::marker::Model;
 
-/// The tree over the leaves of a log's published batches. It keeps the hash of each leaf: 32 bytes a batch.
+/// The tree over the leaves of a log's published batches, for proofs. It keeps the hash of each leaf: 32 bytes a batch.
 #[derive(Drop)]
 pub struct PublishedTree {
     tree: LogTree,
@@ -59,14 +58,6 @@ impl PublishedTree {
         ensures { length self.now ≡ result + 1 }
     {
         self.batches
-    }
-
-    /// The head over the first batches of the log.
-    pub fn head(&self, batches: u32) -> Head
-        requires { batches < length self.now }
-        ensures { IsHead result batches self.now }
-    {
-        self.tree.head(batches)
     }
 
     /// The proof that the log begins with its first batches, for one who has the head over these.

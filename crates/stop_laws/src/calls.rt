@@ -1,5 +1,5 @@
 //! Laws: what each call of the program is in a list of calls: a run by the store's owner, or one that leaves the store as it is.
-ghost use Rattle.std.specs.Prelude.{◌≡◌, ℕ, List, Some};
+ghost use Rattle.std.specs.Prelude.{◌≡◌, ℕ, List, Option, Some};
 ghost use Rattle.cli_base.specs.Promises.Any.{AnyEnds};
 ghost use Rattle.cli_reading.specs.Promises.Audit.{AuditEnds};
 ghost use Rattle.cli_making.specs.Promises.Gen.{GenEnds};
@@ -10,6 +10,7 @@ ghost use Rattle.cli_running.specs.Promises.Run.{RunEnds};
 ghost use Rattle.cli_running.specs.Running.{key_in_lines, lines_in};
 ghost use Rattle.cli_base.specs.World.{World, senses_of};
 ghost use Rattle.cli_base.specs.declared.status.Status.{Status};
+ghost use Rattle.head_tree.specs.declared.head.Head.{Head};
 ghost use Rattle.journal_bytes.specs.Journals.{ShowsJournal};
 ghost use Rattle.public_fold.specs.Journal.{Journal};
 ghost use Rattle.stop_laws.specs.Others.{IsByOther};
@@ -46,14 +47,14 @@ pub fn generating_leaves_a_store<S: Source, R: Source, D: Disk, W: Sink>()
         GenEnds (senses_of S.Source R.Source D.Disk W.Sink) status before after seed count → LeavesStore D.Disk before.disk after.disk }
 {}
 
-/// Law: `list`, `open`, for any path, and `audit`, over any disk.
+/// Law: `list`, `open`, for any path, and `audit`, with a head or without, over any disk.
 pub fn reading_leaves_the_store<S: Source, R: Source, D: Disk, W: Sink>()
-    ensures list { (status : Status) (before after : World S R D W) →
-        ListEnds (senses_of S.Source R.Source D.Disk W.Sink) status before after → LeavesStore D.Disk before.disk after.disk }
-    ensures open { (status : Status) (path : List ℕ) (before after : World S R D W) →
-        OpenEnds (senses_of S.Source R.Source D.Disk W.Sink) status before after path → LeavesStore D.Disk before.disk after.disk }
-    ensures audit { (status : Status) (before after : World S R D W) →
-        AuditEnds (senses_of S.Source R.Source D.Disk W.Sink) status before after → LeavesStore D.Disk before.disk after.disk }
+    ensures list { (head : Option Head) (status : Status) (before after : World S R D W) →
+        ListEnds head (senses_of S.Source R.Source D.Disk W.Sink) status before after → LeavesStore D.Disk before.disk after.disk }
+    ensures open { (head : Option Head) (status : Status) (path : List ℕ) (before after : World S R D W) →
+        OpenEnds head (senses_of S.Source R.Source D.Disk W.Sink) status before after path → LeavesStore D.Disk before.disk after.disk }
+    ensures audit { (head : Option Head) (status : Status) (before after : World S R D W) →
+        AuditEnds head (senses_of S.Source R.Source D.Disk W.Sink) status before after → LeavesStore D.Disk before.disk after.disk }
 {}
 
 /// Law: a call that touches nothing of the disk, as one whose words have no form, or ask for a text.

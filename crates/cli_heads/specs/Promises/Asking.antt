@@ -10,7 +10,7 @@ use Rattle.cli_base.specs.World.{Senses, World}
 use Rattle.cli_base.specs.declared.status.Status.{Status}
 use Rattle.cli_heads.specs.Asking.{answer_of}
 use Rattle.cli_heads.specs.Statuses.{is_log_answer}
-use Rattle.cli_heads.specs.declared.asking.Asked.{Asked}
+use Rattle.cli_heads.specs.Asked.{Asked}
 
 -- how such a call ends
 pub record AskingEnds (asked : Asked) {S R D W : Type 0} (see : Senses S R D W) (status : Status) (before after : World S R D W)

@@ -11,6 +11,7 @@ use Rattle.cry_base.specs.declared.client.Bundle.{Bundle}
 use Rattle.cry_base.specs.declared.client.Bundle.TheVariants.{Holder}
 use Rattle.cry_base.specs.declared.ids.HolderId.{HolderId}
 use Rattle.forgery_laws.specs.Written.{IsWrittenSeen}
+use Rattle.head_tree.specs.declared.head.Head.{Head}
 use Rattle.journal_bytes.specs.Journals.{StandsForJournal, published_journal}
 use Rattle.log_visits.specs.Asking.{audited}
 use Rattle.log_visits.specs.Judging.{Failure}
@@ -61,6 +62,6 @@ AreSightsOf m bundle image (Err status) = Unit {0}
 abbrev pub of_audit : Difference
 of_audit = record { tells_unseen = false; Gives = AuditGives; OfJournal = AuditsJournal; AreOf = AreSightsOf }
 
--- how a call of `audit` ends
-abbrev pub AuditEnds : {S R D W : Type 0} → Senses S R D W → Status → World S R D W → World S R D W → Type 0
-AuditEnds = ReadingEnds of_audit
+-- how a call of `audit` ends, whose words name this head or none
+abbrev pub AuditEnds : Option Head → {S R D W : Type 0} → Senses S R D W → Status → World S R D W → World S R D W → Type 0
+AuditEnds head = ReadingEnds of_audit head

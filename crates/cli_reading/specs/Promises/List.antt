@@ -2,8 +2,9 @@
 -- exactly where the image has it. On a disk that shows a journal it answers what its store shows, to a reader whose key is right; another
 -- key is told so. Whatever the disk shows, whoever has a key of a journal is shown what the journal once wrote, each name and each file
 -- for the very folder or file, or a forged record stands there: one with a right tag under a key of the journal that it did not publish.
-use Rattle.std.specs.Prelude.{ℕ, List, Result, false}
+use Rattle.std.specs.Prelude.{ℕ, List, Option, Result, false}
 use Rattle.cry_base.specs.declared.client.Bundle.{Bundle}
+use Rattle.head_tree.specs.declared.head.Head.{Head}
 use Rattle.log_visits.specs.Judging.{shown_with}
 use Rattle.log_visits.specs.View.{spell_view}
 use Rattle.public_fold.specs.Journal.{Journal, store_of}
@@ -26,6 +27,6 @@ view_of m bundle = answer_as spell_view (shown_of (store_of m) bundle)
 abbrev pub of_list : Difference
 of_list = record { tells_unseen = false; Gives = ListGives; OfJournal = AnswersJournal view_of; AreOf = AreLinesOf }
 
--- how a call of `list` ends
-abbrev pub ListEnds : {S R D W : Type 0} → Senses S R D W → Status → World S R D W → World S R D W → Type 0
-ListEnds = ReadingEnds of_list
+-- how a call of `list` ends, whose words name this head or none
+abbrev pub ListEnds : Option Head → {S R D W : Type 0} → Senses S R D W → Status → World S R D W → World S R D W → Type 0
+ListEnds head = ReadingEnds of_list head

@@ -1,8 +1,9 @@
 -- What `open` promises, beside what each such command does. It prints the one line of the path of what the key opens of the store;
 -- "unseen" is told exactly where no line has that path. All else is as for `list`: the store's failure, the store's view where the disk
 -- shows a journal, and nothing but what the journal once wrote, or a forged record stands there.
-use Rattle.std.specs.Prelude.{ℕ, List, [], ◌∷◌, Result, true}
+use Rattle.std.specs.Prelude.{ℕ, List, [], ◌∷◌, Option, Result, true}
 use Rattle.cry_base.specs.declared.client.Bundle.{Bundle}
+use Rattle.head_tree.specs.declared.head.Head.{Head}
 use Rattle.log_visits.specs.Asking.{line_shown}
 use Rattle.log_visits.specs.View.{Line, spell_view}
 use Rattle.public_fold.specs.Journal.{Journal, store_of}
@@ -29,6 +30,6 @@ line_of path m bundle = answer_as spell_alone (line_shown_of (store_of m) bundle
 abbrev pub of_open : List ℕ → Difference
 of_open path = record { tells_unseen = true; Gives = OpenGives path; OfJournal = AnswersJournal (line_of path); AreOf = AreLinesOf }
 
--- how a call of `open` ends
-abbrev pub OpenEnds : {S R D W : Type 0} → Senses S R D W → Status → World S R D W → World S R D W → List ℕ → Type 0
-OpenEnds see status before after path = ReadingEnds (of_open path) see status before after
+-- how a call of `open` ends, whose words name this head or none
+abbrev pub OpenEnds : Option Head → {S R D W : Type 0} → Senses S R D W → Status → World S R D W → World S R D W → List ℕ → Type 0
+OpenEnds head see status before after path = ReadingEnds (of_open path) head see status before after

@@ -5,16 +5,16 @@ use Rattle.cli_words.specs.declared.texts.TheConstants.{HELP, VERSION}
 use Rattle.cli_words.specs.declared.words.Form.TheVariants.{Help, Version}
 use Rattle.cli_words.specs.declared.words.Form.{Form}
 use Rattle.cli_making.specs.Promises.Gen.{GenEnds}
-use Rattle.cli_reading.specs.Promises.Audit.{of_audit}
-use Rattle.cli_reading.specs.Promises.List.{of_list}
+use Rattle.cli_reading.specs.Promises.Audit.{AuditEnds, of_audit}
+use Rattle.cli_reading.specs.Promises.List.{ListEnds, of_list}
 use Rattle.cli_reading.specs.Promises.Open.{OpenEnds, of_open}
 use Rattle.cli_base.specs.Promises.Text.{TextEnds}
 use Rattle.cli_base.specs.World.{senses_of, world_of}
 use Rattle.cli_heads.specs.Promises.Asking.{AskingEnds}
 use Rattle.cli_heads.specs.Promises.Checking.{CheckEnds}
-use Rattle.cli_heads.specs.declared.asking.Asked.TheVariants.{Proof}
-use Rattle.cli_words.specs.Words.{HasFewLines, form_of_words, text_of}
-use Rattle.cli_words.proofs.AskedScripts.{of_asked, of_asked_check, of_asked_proof}
+use Rattle.cli_heads.specs.Asked.Asked.{TheProof}
+use Rattle.cli_words.specs.Words.{HasFewLines, form_of_words, path_in_words, text_of}
+use Rattle.cli_words.proofs.AskedScripts.{of_asked, of_asked_audit, of_asked_check, of_asked_list, of_asked_open, of_asked_proof}
 use Rattle.cli_making.proofs.MakeLemmas.{done_or_no_memory}
 use Rattle.cli_reading.proofs.Sound.{reading_ends}
 use Rattle.cli_reading.proofs.SoundAudit.{audit_sound}
@@ -117,46 +117,57 @@ returns-in-Some-Gen-clause-generates g c = λ seed count asked.
 -- ---- `list`, `open` and `audit`
 
 pub returns-in-Some-List-clause-lists : goal.returns-in-Some-List-clause-lists
-returns-in-Some-List-clause-lists g c = λ is.
+returns-in-Some-List-clause-lists g c = λ head asked.
     let read = c.read_and_print in
-    let moments = read_throughout g.D.Disk (λ d s left at. g.met.D.Disk.only_now d s left at)
-    (λ d t s left early shows leaves. g.met.D.Disk.counts_now d t s left early shows leaves)
-    c.args.disk.now read.new.disk read.ensures.reads.reads_only in
-    reading_ends of_list list_sound (senses_of g.S.Source g.R.Source g.D.Disk g.W.Sink) read.result
-    (world_of c.args.input.now c.args.random.now c.args.disk.now c.args.out.now)
-    (world_of read.new.input c.args.random.now read.new.disk read.new.out)
-    refl read.ensures.answers read.ensures.reads moments read.ensures.disk_unread read.ensures.out_kept
-
-pub returns-in-Some-Open-clause-opens : goal.returns-in-Some-Open-clause-opens
-returns-in-Some-Open-clause-opens g c = λ is.
-    let read = c.read_and_print-in-Some-Open in
-    let path = c.path_in.result.now in
     let see = senses_of g.S.Source g.R.Source g.D.Disk g.W.Sink in
     let before = world_of c.args.input.now c.args.random.now c.args.disk.now c.args.out.now in
     let after = world_of read.new.input c.args.random.now read.new.disk read.new.out in
     let moments = read_throughout g.D.Disk (λ d s left at. g.met.D.Disk.only_now d s left at)
     (λ d t s left early shows leaves. g.met.D.Disk.counts_now d t s left early shows leaves)
     c.args.disk.now read.new.disk read.ensures.reads.reads_only in
-    subst (λ named. OpenEnds see read.result before after named) c.path_in.ensures
-    (reading_ends (of_open path) (open_sound path) see read.result before after refl read.ensures.answers read.ensures.reads moments read.ensures.disk_unread
-    read.ensures.out_kept)
+    let own = c.in-Some-List.head in
+    of_asked_list (λ h. ListEnds h see read.result before after) own head (form_of_words c.args.words.now.items)
+    (sym c.form_of.ensures.form ∙ c.in-Some-List.is ∙ ap (λ f. Some f) c.in-Some-List.field-0-is) asked
+    (reading_ends of_list list_sound own see read.result before after refl read.ensures.answers read.ensures.reads read.ensures.held
+    moments read.ensures.disk_unread read.ensures.out_kept)
 
-pub returns-in-Some-Audit-clause-audits : goal.returns-in-Some-Audit-clause-audits
-returns-in-Some-Audit-clause-audits g c = λ is.
-    let read = c.read_and_print-in-Some-Audit in
+pub returns-in-Some-Open-clause-opens : goal.returns-in-Some-Open-clause-opens
+returns-in-Some-Open-clause-opens g c = λ head asked.
+    let read = c.read_and_print-in-Some-Open in
+    let see = senses_of g.S.Source g.R.Source g.D.Disk g.W.Sink in
+    let before = world_of c.args.input.now c.args.random.now c.args.disk.now c.args.out.now in
+    let after = world_of read.new.input c.args.random.now read.new.disk read.new.out in
     let moments = read_throughout g.D.Disk (λ d s left at. g.met.D.Disk.only_now d s left at)
     (λ d t s left early shows leaves. g.met.D.Disk.counts_now d t s left early shows leaves)
     c.args.disk.now read.new.disk read.ensures.reads.reads_only in
-    reading_ends of_audit audit_sound (senses_of g.S.Source g.R.Source g.D.Disk g.W.Sink) read.result
-    (world_of c.args.input.now c.args.random.now c.args.disk.now c.args.out.now)
-    (world_of read.new.input c.args.random.now read.new.disk read.new.out)
-    refl read.ensures.answers read.ensures.reads moments read.ensures.disk_unread read.ensures.out_kept
+    let own = c.in-Some-Open.head in
+    let path = c.path_in.result.now in
+    of_asked_open (λ h. OpenEnds h see read.result before after (path_in_words c.args.words.now.items)) own head (form_of_words c.args.words.now.items)
+    (sym c.form_of.ensures.form ∙ c.in-Some-Open.is ∙ ap (λ f. Some f) c.in-Some-Open.field-0-is) asked
+    (subst (λ named. OpenEnds own see read.result before after named) c.path_in.ensures
+    (reading_ends (of_open path) (open_sound path) own see read.result before after refl read.ensures.answers read.ensures.reads read.ensures.held
+    moments read.ensures.disk_unread read.ensures.out_kept))
+
+pub returns-in-Some-Audit-clause-audits : goal.returns-in-Some-Audit-clause-audits
+returns-in-Some-Audit-clause-audits g c = λ head asked.
+    let read = c.read_and_print-in-Some-Audit in
+    let see = senses_of g.S.Source g.R.Source g.D.Disk g.W.Sink in
+    let before = world_of c.args.input.now c.args.random.now c.args.disk.now c.args.out.now in
+    let after = world_of read.new.input c.args.random.now read.new.disk read.new.out in
+    let moments = read_throughout g.D.Disk (λ d s left at. g.met.D.Disk.only_now d s left at)
+    (λ d t s left early shows leaves. g.met.D.Disk.counts_now d t s left early shows leaves)
+    c.args.disk.now read.new.disk read.ensures.reads.reads_only in
+    let own = c.in-Some-Audit.head in
+    of_asked_audit (λ h. AuditEnds h see read.result before after) own head (form_of_words c.args.words.now.items)
+    (sym c.form_of.ensures.form ∙ c.in-Some-Audit.is ∙ ap (λ f. Some f) c.in-Some-Audit.field-0-is) asked
+    (reading_ends of_audit audit_sound own see read.result before after refl read.ensures.answers read.ensures.reads read.ensures.held
+    moments read.ensures.disk_unread read.ensures.out_kept)
 
 -- ---- `head` and `prove`
 
 pub returns-in-Some-Head-clause-heads : goal.returns-in-Some-Head-clause-heads
 returns-in-Some-Head-clause-heads g c = λ is.
-    let ask = c.ask_log in
+    let ask = c.ask_head in
     let moments = read_throughout g.D.Disk (λ d s left at. g.met.D.Disk.only_now d s left at)
     (λ d t s left early shows leaves. g.met.D.Disk.counts_now d t s left early shows leaves)
     c.args.disk.now ask.new.disk ask.ensures.read_only in
@@ -170,11 +181,11 @@ returns-in-Some-Head-clause-heads g c = λ is.
 
 pub returns-in-Some-Prove-clause-proves : goal.returns-in-Some-Prove-clause-proves
 returns-in-Some-Prove-clause-proves g c = λ batches asked.
-    let ask = c.ask_log-in-Some-Prove in
+    let ask = c.ask_proof in
     let moments = read_throughout g.D.Disk (λ d s left at. g.met.D.Disk.only_now d s left at)
     (λ d t s left early shows leaves. g.met.D.Disk.counts_now d t s left early shows leaves)
     c.args.disk.now ask.new.disk ask.ensures.read_only in
-    of_asked_proof (λ n. AskingEnds (Proof n) (senses_of g.S.Source g.R.Source g.D.Disk g.W.Sink) ask.result
+    of_asked_proof (λ n. AskingEnds (TheProof n) (senses_of g.S.Source g.R.Source g.D.Disk g.W.Sink) ask.result
     (world_of c.args.input.now c.args.random.now c.args.disk.now c.args.out.now)
     (world_of c.args.input.now c.args.random.now ask.new.disk ask.new.out))
     c.in-Some-Prove.batches batches (form_of_words c.args.words.now.items)
