@@ -1,5 +1,6 @@
 pub mod EndsMapped
 pub mod FaultedRuns
+pub mod HeldRuns
 pub mod LinesRun
 pub mod PublishedRuns
 pub mod ReadFaults

@@ -1,5 +1,5 @@
 -- How a run ends at its first line, and where the store is opened or isn't.
-use Rattle.std.proofs.Common.{◌≡◌, ℕ, List, [], false, Option, None, Some, Result, Ok, Err, inl, ⊎_elim, ◌⊎◌, refl, sym, ap, subst, ◌∙◌}
+use Rattle.std.proofs.Common.{◌≡◌, ℕ, IsTrue, List, [], false, Option, None, Some, Result, Ok, Err, inl, ⊎_elim, ◌⊎◌, refl, sym, ap, subst, ◌∙◌}
 use Rattle.std.proofs.lemmas.Bool.{false≢true}
 use Rattle.commit_journal.specs.declared.fault.OpenFault.{OpenFault}
 use Rattle.commit_journal.specs.declared.fault.OpenFault.TheVariants as opening
@@ -8,7 +8,13 @@ use Rattle.cry_base.specs.declared.limits.Limits.{Limits}
 use Rattle.journal_bytes.specs.Journals.{IsSettled, ShowsJournal}
 use Rattle.journal_bytes.specs.Script.{opened}
 use Rattle.cli_base.specs.Lines.{InputLine, LineState, lines_ahead}
-use Rattle.cli_running.specs.Running.{FirstIsBad, GivesOwner, Judges, is_before_opening, key_in_lines, lines_in, open_status}
+use Rattle.cry_io.specs.declared.streams.Source as source
+use Rattle.std.specs.Prelude.{is_some}
+use Rattle.cry_io.specs.Told.{WhereBothTold}
+use Rattle.cli_sessions.specs.Taking.{TakesOne}
+use Rattle.cli_running.specs.FirstLine.{HandedIn}
+use Rattle.cli_running.specs.Running.{CountsOwner, FirstIsBad, GivesOwner, Judges, is_after_opening, is_before_opening, is_run_answer, key_in_lines, lines_in, open_status}
+use Rattle.cli_sessions.proofs.RunEnds.{still_told}
 use Rattle.cli_sessions.specs.Sessions.{Ends, IsUnopened, Seen, script_status, version_limits}
 use Rattle.cli_sessions.specs.Script.{IsReading}
 use Rattle.cli_sessions.specs.declared.script.ScriptFault.{ScriptFault}
@@ -54,6 +60,14 @@ seen_unopened left was shown written = record { left_before = left; left_after =
 unopened : (key : List ℕ) (m : Journal) (left was shown written : Option (List ℕ)) (KeepsTo : Journal → Type 0) → ShowsJournal key m shown → KeepsTo m
     → IsUnopened key m (seen_unopened left was shown written) KeepsTo
 unopened key m left was shown written KeepsTo shows kept = record { undrawn = refl; shows_still = shows; unprinted = refl; kept = kept }
+
+-- the same, whether or not the input tells of itself
+pub first_line_is_bad : (fault : ScriptFault) → IsReading fault → (old new : ℕ) → CountsOwner (Err fault) old new → FirstIsBad (script_status fault)
+first_line_is_bad (BadLine line) reading old new count = count
+first_line_is_bad ReadFault reading old new count = tt
+first_line_is_bad OutOfMemory reading old new count = tt
+first_line_is_bad WriteFault reading old new count = absurd reading
+first_line_is_bad (Applying fault) reading old new count = absurd reading
 
 pub first_ends : (fault : ScriptFault) → IsReading fault → (before after : List InputLine) → GivesOwner (Err fault) before after
     → (key : List ℕ) → key_in_lines before ≡ Some key → (limits : Limits) (m : Journal) (lines : List InputLine) (left was shown written : Option (List ℕ)) (may_leave : List ℕ → Type 0)
@@ -146,3 +160,58 @@ unopened_draws_none (opening.Damaged at) left need is = absurd cc
 unopened_draws_none (opening.Tampered batch at) left need is = absurd cc
 unopened_draws_none opening.DiskFault left need is = absurd cc
 unopened_draws_none opening.OutOfMemory left need is = absurd cc
+
+-- ---- the first line was taken before
+
+pub handed : {S : Type 0} (inputs : source.Ghosts S) (key : List ℕ) (begun reader : LineState) (first now : S) → begun ≡ fresh_reader
+    → is_some (inputs.left now) ≡ is_some (inputs.left first)
+    → WhereBothTold (inputs.left first) (inputs.left now) (λ before after. GivesOwner (Ok key) (lines_ahead begun before) (lines_ahead reader after))
+    → WhereBothTold (inputs.left first) (inputs.left now) (TakesOne (Ok key) begun reader) → HandedIn inputs key reader first now
+handed inputs key begun reader first now fresh told gives takes = record {
+  told = told;
+  gives = subst (λ (r : LineState). WhereBothTold (inputs.left first) (inputs.left now)
+      (λ before after. GivesOwner (Ok key) (lines_ahead r before) (lines_ahead reader after))) fresh gives;
+  takes = subst (λ (r : LineState). WhereBothTold (inputs.left first) (inputs.left now) (TakesOne (Ok key) r reader)) fresh takes;
+}
+
+pub handed_lines : {S : Type 0} (inputs : source.Ghosts S) (key : List ℕ) (reader : LineState) (first now : S) → HandedIn inputs key reader first now
+    → (x : List ℕ) → inputs.left first ≡ Some x → (y : List ℕ) × (inputs.left now ≡ Some y) × GivesOwner (Ok key) (lines_in x) (lines_ahead reader y)
+handed_lines inputs key reader first now handed x was =
+    let after = still_told (inputs.left now) (inputs.left first) x handed.told was in
+    (after.0, after.1, handed.gives x after.0 was after.1)
+
+-- a store that isn't opened ends a run so
+pub unopened_answers : (fault : OpenFault) → IsTrue (is_run_answer (open_status fault))
+unopened_answers opening.NotAStore = refl
+unopened_answers opening.WrongKey = refl
+unopened_answers (opening.Damaged at) = refl
+unopened_answers (opening.Tampered batch at) = refl
+unopened_answers opening.DiskFault = refl
+unopened_answers opening.OutOfMemory = refl
+
+pub unopened_isnt_done : {P : Type 0} (fault : OpenFault) → open_status fault ≡ statuses.Done → P
+unopened_isnt_done opening.NotAStore is = absurd cc
+unopened_isnt_done opening.WrongKey is = absurd cc
+unopened_isnt_done (opening.Damaged at) is = absurd cc
+unopened_isnt_done (opening.Tampered batch at) is = absurd cc
+unopened_isnt_done opening.DiskFault is = absurd cc
+unopened_isnt_done opening.OutOfMemory is = absurd cc
+
+pub unopened_isnt_behind : {P : Type 0} (fault : OpenFault) → IsTrue (is_after_opening (open_status fault)) → P
+unopened_isnt_behind opening.NotAStore is = absurd (false≢true is)
+unopened_isnt_behind opening.WrongKey is = absurd (false≢true is)
+unopened_isnt_behind (opening.Damaged at) is = absurd (false≢true is)
+unopened_isnt_behind (opening.Tampered batch at) is = absurd (false≢true is)
+unopened_isnt_behind opening.DiskFault is = absurd (false≢true is)
+unopened_isnt_behind opening.OutOfMemory is = absurd (false≢true is)
+
+pub unopened_isnt_first : {P : Type 0} (fault : OpenFault) → IsTrue (is_before_opening (open_status fault)) → P
+unopened_isnt_first opening.NotAStore is = absurd (false≢true is)
+unopened_isnt_first opening.WrongKey is = absurd (false≢true is)
+unopened_isnt_first (opening.Damaged at) is = absurd (false≢true is)
+unopened_isnt_first (opening.Tampered batch at) is = absurd (false≢true is)
+unopened_isnt_first opening.DiskFault is = absurd (false≢true is)
+unopened_isnt_first opening.OutOfMemory is = absurd (false≢true is)
+
+pub not_first : {P : Type 0} (status : Status) → is_before_opening status ≡ false → IsTrue (is_before_opening status) → P
+not_first status behind is = absurd (false≢true (sym behind ∙ is))

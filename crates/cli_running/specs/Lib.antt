@@ -1,3 +1,4 @@
+pub mod FirstLine
 pub mod KeyLine
 pub mod Promises
 pub mod Published

@@ -1,1 +1,2 @@
+pub mod HeldRun
 pub mod Run

@@ -15,6 +15,8 @@ ghost use Rattle.store_owner.specs.Sessions.{StandsAt};
 ghost use Rattle.cli_base.specs.Lines.{IsUnended, bytes_ahead, lines_ahead};
 ghost use Rattle.cli_base.specs.World.{senses_of, world_of};
 ghost use Rattle.cli_sessions.specs.Published.{LinesPublish};
+ghost use Rattle.cli_running.specs.FirstLine.{HandedIn};
+ghost use Rattle.cli_running.specs.Promises.Run.{RunEnds};
 ghost use Rattle.cli_running.specs.Published.{PublishesTyped};
 ghost use Rattle.cli_running.specs.Running as running;
 ghost use Rattle.cli_running.specs.Running.{CountsOwner, EndsTyped, FirstIsBad, GivesOwner, HasBadLine, Judges, JudgesTyped, RanLines};
@@ -91,6 +93,37 @@ pub fn run<S: Source, R: Source, D: Disk, W: Sink>(
         Ok(key) => key,
         Err(fault) => return script_status(fault),
     };
+    open_and_apply(alloc, key, reader, input, random, disk, out)
+}
+
+/// Opens the store with the key that the first line handed in, and applies the commands of the lines that are still to come.
+pub(crate) fn open_and_apply<S: Source, R: Source, D: Disk, W: Sink>(
+    alloc: Global,
+    key: [u8; 32],
+    reader: LineReader,
+    input: &mut S,
+    random: &mut R,
+    disk: &mut D,
+    out: &mut W,
+) -> Status
+    requires second { reader.given ≡ 1 }
+    // Together with the first line it is a run.
+    ensures runs { (first : S) → HandedIn S.Source key reader first input.old → RunEnds (senses_of S.Source R.Source D.Disk W.Sink) result
+        (world_of first random.old disk.old out.old) (world_of input.new random.new disk.new out.new) }
+    ensures not_first { is_before_opening result ≡ false }
+    ensures read_fault { result ≡ Status.ReadFault → S.faults input.old < S.faults input.new }
+    ensures random_fault { result ≡ Status.RandomFault → R.faults random.old < R.faults random.new }
+    ensures disk_fault { result ≡ Status.DiskFault → D.faults disk.old < D.faults disk.new }
+    ensures write_fault { result ≡ Status.WriteFault → W.faults out.old < W.faults out.new }
+    ensures input_told { is_some (S.left input.new) ≡ is_some (S.left input.old) }
+    ensures random_told { is_some (R.left random.new) ≡ is_some (R.left random.old) }
+    ensures disk_told { is_some (D.shown disk.new) ≡ is_some (D.shown disk.old) }
+    ensures out_told { is_some (W.written out.new) ≡ is_some (W.written out.old) }
+    ensures input_counts { S.faults input.old ≤ S.faults input.new }
+    ensures random_counts { R.faults random.old ≤ R.faults random.new }
+    ensures disk_counts { D.faults disk.old ≤ D.faults disk.new }
+    ensures out_counts { W.faults out.old ≤ W.faults out.new }
+{
     match Owner::open_store(alloc, disk, key, LIMITS) {
         Ok(owner) => apply_lines(alloc, reader, input, owner, random, disk, out),
         Err(fault) => open_status(fault),
@@ -98,7 +131,7 @@ pub fn run<S: Source, R: Source, D: Disk, W: Sink>(
 }
 
 /// The owner's key that the first line hands in. Any other line is bad, and so is an empty input's first.
-fn first_owner<S: Source>(
+pub(crate) fn first_owner<S: Source>(
     alloc: Global,
     reader: &mut LineReader,
     input: &mut S,

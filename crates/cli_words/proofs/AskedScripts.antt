@@ -2,7 +2,7 @@
 use Rattle.std.proofs.Common.{◌≡◌, ℕ, Option, Some, sym, subst, ◌∙◌}
 use Rattle.head_tree.specs.declared.head.Head.{Head}
 use Rattle.cli_words.specs.declared.words.Form.{Form}
-use Rattle.cli_words.specs.declared.words.Form.TheVariants.{Audit, Gen, Open, Prove, Check}
+use Rattle.cli_words.specs.declared.words.Form.TheVariants.{Audit, Gen, Open, Prove, Run, Check}
 use Rattle.cli_words.specs.declared.words.Form.TheVariants as forms
 
 pub of_asked : (P : ℕ → ℕ → Type 0) (own_seed own_count seed count : ℕ) (form : Option Form) → form ≡ Some (Gen own_seed own_count) → form ≡ Some (Gen seed count)
@@ -26,6 +26,13 @@ of_asked_check P own_old own_new old new form own asked is =
     let same_old : own_old ≡ old = cc in
     let same_new : own_new ≡ new = cc in
     subst (λ head. P head new) same_old (subst (λ head. P own_old head) same_new is)
+
+pub of_asked_run : (P : Option Head → Type 0) (own head : Option Head) (form : Option Form) → form ≡ Some (Run own) → form ≡ Some (Run head)
+    → P own → P head
+of_asked_run P own head form is asked said =
+    let both : Some (Run own) ≡ Some (Run head) = sym is ∙ asked in
+    let same : own ≡ head = cc in
+    subst P same said
 
 pub of_asked_list : (P : Option Head → Type 0) (own head : Option Head) (form : Option Form) → form ≡ Some (forms.List own) → form ≡ Some (forms.List head)
     → P own → P head

@@ -25,7 +25,7 @@ option_form word =
 abbrev pub command_form : Listed ℕ → Option Form
 command_form word =
     if is_word word (codes "make") then Some Make
-    else (if is_word word (codes "run") then Some Run
+    else (if is_word word (codes "run") then Some (Run None)
     else (if is_word word (codes "list") then Some (forms.List None) else (if is_word word (codes "audit") then Some (Audit None)
     else (if is_word word (codes "head") then Some forms.Head else None))))
 
@@ -80,7 +80,8 @@ head_form asks word = option_map (λ head. asks (Some head)) (head_of word.items
 abbrev pub longer_command_form : Listed ℕ → Listed ℕ → Option Form
 longer_command_form word more =
     if is_word word (codes "open") then Some (Open None) else (if is_word word (codes "prove") then proof_form more
-    else (if is_word word (codes "list") then head_form forms.List more else (if is_word word (codes "audit") then head_form Audit more else None)))
+    else (if is_word word (codes "run") then head_form Run more else (if is_word word (codes "list") then head_form forms.List more
+    else (if is_word word (codes "audit") then head_form Audit more else None))))
 
 -- STORE RANDOM COMMAND OLD NEW
 unfoldable pub heads_form : Listed ℕ → Listed ℕ → Option Form
@@ -121,9 +122,9 @@ IsMake words = form_of_words words ≡ Some Make
 abbrev pub AsksGen : List (Listed ℕ) → ℕ → ℕ → Type 0
 AsksGen words seed count = form_of_words words ≡ Some (Gen seed count)
 
--- the words ask for commands to be applied
-abbrev pub IsRun : List (Listed ℕ) → Type 0
-IsRun words = form_of_words words ≡ Some Run
+-- the words ask for commands to be applied, to a store whose log goes on from this head where they name one
+abbrev pub AsksRun : List (Listed ℕ) → Option Head → Type 0
+AsksRun words head = form_of_words words ≡ Some (Run head)
 
 -- the words ask for a key's view, of a log that goes on from this head where they name one
 abbrev pub AsksList : List (Listed ℕ) → Option Head → Type 0

@@ -13,8 +13,8 @@ use head_tree::Head;
 pub enum Form {
     /// `STORE RANDOM make`
     Make,
-    /// `STORE RANDOM run`
-    Run,
+    /// `STORE RANDOM run`, or with a head behind it
+    Run { head: Option<Head> },
     /// `STORE RANDOM list`, or with a head behind it
     List { head: Option<Head> },
     /// `STORE RANDOM audit`, or with a head behind it
@@ -83,7 +83,7 @@ fn command_of(word: &Text) -> Option<Form>
     if word.as_slice() == b"make".as_slice() {
         Some(Form::Make)
     } else if word.as_slice() == b"run".as_slice() {
-        Some(Form::Run)
+        Some(Form::Run { head: None })
     } else if word.as_slice() == b"list".as_slice() {
         Some(Form::List { head: None })
     } else if word.as_slice() == b"audit".as_slice() {
@@ -106,6 +106,9 @@ fn longer_command_of(word: &Text, more: &Text) -> Option<Form>
     } else if word.as_slice() == b"prove".as_slice() {
         let batches = batches_in(more.as_slice())?;
         Some(Form::Prove { batches })
+    } else if word.as_slice() == b"run".as_slice() {
+        let head = head_in(more.as_slice())?;
+        Some(Form::Run { head: Some(head) })
     } else if word.as_slice() == b"list".as_slice() {
         let head = head_in(more.as_slice())?;
         Some(Form::List { head: Some(head) })

@@ -27,7 +27,7 @@ impl Progress<'_> {
     pub(crate) fn of(rt: &HostRuntime, form: Form) -> Option<Progress<'_>> {
         let is_silent = match form {
             Form::Gen { .. } => true,
-            Form::Run => !rt.stdout().is_terminal(),
+            Form::Run { .. } => !rt.stdout().is_terminal(),
             _ => false,
         };
         if is_silent && rt.stderr().is_terminal() {

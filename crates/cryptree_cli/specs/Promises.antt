@@ -10,6 +10,7 @@ pub use Rattle.cli_heads.specs.Promises.Asking
 pub use Rattle.cli_heads.specs.Promises.Checking
 pub use Rattle.cli_reading.specs.Promises.Audit
 pub use Rattle.cli_making.specs.Promises.Gen
+pub use Rattle.cli_running.specs.Promises.HeldRun
 pub use Rattle.cli_reading.specs.Promises.List
 pub use Rattle.cli_making.specs.Promises.Make
 pub use Rattle.cli_reading.specs.Promises.Open

@@ -41,13 +41,13 @@ all_front P [] ys all = All-nil P
 all_front P (x ∷ xs) ys all = All-cons P x xs (All-head P x (xs ++ ys) all) (all_front P xs ys (All-tail P x (xs ++ ys) all))
 
 -- one that begins with a valid one, and begins a valid one
-front_valid : (m now held : Journal) → IsValid m → IsPrefix m now → IsPrefix now held → IsValid held → IsValid now
+pub front_valid : (m now held : Journal) → IsValid m → IsPrefix m now → IsPrefix now held → IsValid held → IsValid now
 front_valid m now held valid longer to held_valid =
     let least = two_at_least m valid.0 in
     let long : length m + length longer.0 ≡ length now = sym (length-append m longer.0) ∙ ap (λ (l : Journal). length l) longer.1 in
     prefix_valid now to.0 (omega (arith, least, long)) (subst IsValid (sym to.1) held_valid)
 
-front_whole : (key : List ℕ) (now held : Journal) → IsPrefix now held → AreWhole key held → AreWhole key now
+pub front_whole : (key : List ℕ) (now held : Journal) → IsPrefix now held → AreWhole key held → AreWhole key now
 front_whole key now held to whole =
     let sized : Entry → Type 0 = λ entry. All (λ (k : List ℕ). length k ≡ 32) (drawn_by entry) in
     record { owner_size = whole.owner_size; drawn_sizes = all_front sized now to.0 (subst (All sized) (sym to.1) whole.drawn_sizes) }
@@ -60,7 +60,7 @@ accepted (Some why) full is = absurd (let no : ⊥ = cc in no)
 accepted None true is = absurd (let no : ⊥ = cc in no)
 accepted None false is = (refl, refl)
 
-not_refused : (m : Journal) (b : Bool) (r : Request) → answer version_limits m b r ≡ None → (refusal_of (store_of m) r most_file_bytes ≡ None) × (due_end m b r ≤ most_store_bytes)
+pub not_refused : (m : Journal) (b : Bool) (r : Request) → answer version_limits m b r ≡ None → (refusal_of (store_of m) r most_file_bytes ≡ None) × (due_end m b r ≤ most_store_bytes)
 unfolding answer store_of
 not_refused m b r is =
     let both = accepted (refusal_of (stand_after nothing m).store r most_file_bytes) (nat_lt most_store_bytes (due_end m b r)) is in

@@ -21,7 +21,6 @@ use Rattle.cry_base.specs.Layout.{first_gate_offset, header_len, magic_len}
 use Rattle.cry_base.specs.Limits.{most_store_bytes}
 use Rattle.cry_io.specs.Reading.{IsOnlyRead}
 use Rattle.cry_io.specs.declared.disk.Disk as disk
-use Rattle.cli_base.specs.Promises.Any.{AnyEnds}
 use Rattle.cli_making.specs.Promises.Gen.{GenEnds}
 use Rattle.cli_making.specs.Promises.Make.{MakeEnds}
 use Rattle.cli_running.specs.Promises.Run.{RunEnds}
@@ -209,9 +208,9 @@ module _ {S R D W : Type 0} (see : Senses S R D W)
         let no : None ≡ Some (OfBytes WrongKey) = sym passes.2 ∙ refused_verdict passes.0 x wrong in
         absurd cc
 
-    pub run_leaves_store : RunEnds see status before after → AnyEnds see status before after → LeavesDisk
-    run_leaves_store run any =
-        same_leaves see.disks counted present may_be_left before.disk after.disk shows.0 shows.1 run.later run.time any.disk_told
+    pub run_leaves_store : RunEnds see status before after → is_some (see.disks.shown after.disk) ≡ is_some (see.disks.shown before.disk) → LeavesDisk
+    run_leaves_store run stays_told =
+        same_leaves see.disks counted present may_be_left before.disk after.disk shows.0 shows.1 run.later run.time stays_told
         (λ s c at. ⊎_elim (λ left. unopened_same left s c at) (λ opened. never_opened opened s c at) run.opening)
 
   -- over a store that stands `make` and `gen` answer that the disk isn't blank

@@ -1,4 +1,5 @@
 pub mod CallLemmas
+pub mod HeldCalls
 pub mod Kept
 pub mod Lasting
 pub mod Left

@@ -6,6 +6,7 @@ ghost use Rattle.cli_making.specs.Promises.Gen.{GenEnds};
 ghost use Rattle.cli_reading.specs.Promises.List.{ListEnds};
 ghost use Rattle.cli_making.specs.Promises.Make.{MakeEnds};
 ghost use Rattle.cli_reading.specs.Promises.Open.{OpenEnds};
+ghost use Rattle.cli_running.specs.Promises.HeldRun.{HeldRunEnds};
 ghost use Rattle.cli_running.specs.Promises.Run.{RunEnds};
 ghost use Rattle.cli_running.specs.Running.{key_in_lines, lines_in};
 ghost use Rattle.cli_base.specs.World.{World, senses_of};
@@ -13,8 +14,9 @@ ghost use Rattle.cli_base.specs.declared.status.Status.{Status};
 ghost use Rattle.head_tree.specs.declared.head.Head.{Head};
 ghost use Rattle.journal_bytes.specs.Journals.{ShowsJournal};
 ghost use Rattle.public_fold.specs.Journal.{Journal};
+ghost use Rattle.stop_laws.specs.Held.{HeldCallOver};
 ghost use Rattle.stop_laws.specs.Others.{IsByOther};
-ghost use Rattle.stop_laws.specs.Runs.{LeavesStore, RunOver};
+ghost use Rattle.stop_laws.specs.Runs.{IsLeft, LeavesStore, RunOver, Runs};
 
 use cry_io::{Disk, Sink, Source};
 
@@ -31,6 +33,32 @@ pub fn runs_of_others_leave_the_store<S: Source, R: Source, D: Disk, W: Sink>()
         S.left before.input ≡ Some typed → ShowsJournal owner m (D.shown before.disk) → IsByOther owner typed →
         RunEnds (senses_of S.Source R.Source D.Disk W.Sink) status before after →
         AnyEnds (senses_of S.Source R.Source D.Disk W.Sink) status before after → LeavesStore D.Disk before.disk after.disk }
+{}
+
+/// Law: a run with a head whose first line hands in the owner's key.
+pub fn held_runs_of_the_owner_are_told<S: Source, R: Source, D: Disk, W: Sink>()
+    ensures { (head : Head) (owner typed : List ℕ) (status : Status) (before after : World S R D W) →
+        S.left before.input ≡ Some typed → key_in_lines (lines_in typed) ≡ Some owner →
+        HeldRunEnds head (senses_of S.Source R.Source D.Disk W.Sink) status before after → HeldCallOver D.Disk owner before.disk after.disk }
+{}
+
+/// Law: a run with a head whose first line hands in no key, or one with another check than the owner's, over a disk that shows the owner's
+/// journal.
+pub fn held_runs_of_others_leave_the_store<S: Source, R: Source, D: Disk, W: Sink>()
+    ensures { (head : Head) (owner : List ℕ) (m : Journal) (typed : List ℕ) (status : Status) (before after : World S R D W) →
+        S.left before.input ≡ Some typed → ShowsJournal owner m (D.shown before.disk) → IsByOther owner typed →
+        HeldRunEnds head (senses_of S.Source R.Source D.Disk W.Sink) status before after →
+        AnyEnds (senses_of S.Source R.Source D.Disk W.Sink) status before after → LeavesStore D.Disk before.disk after.disk }
+{}
+
+/// Law: a list of calls goes on with a run with a head, as with three calls of which only the second writes; and with a stop at any moment of
+/// it.
+pub fn held_runs_are_runs<D: Disk>(start: &D, before: &D, after: &D, next: &D)
+    ensures ends { (key : List ℕ) → Runs D.Disk key start.now before.now → HeldCallOver D.Disk key before.now after.now →
+        Runs D.Disk key start.now after.now }
+    ensures stops { (key : List ℕ) → Runs D.Disk key start.now before.now → HeldCallOver D.Disk key before.now after.now →
+        (shown left : List ℕ) → D.since after.now (D.moment before.now) shown left → IsLeft D.Disk left next.now →
+        Runs D.Disk key start.now next.now }
 {}
 
 /// Law: `make` over a disk that shows a journal.

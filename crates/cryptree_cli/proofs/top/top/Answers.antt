@@ -2,7 +2,7 @@ use Rattle.std.proofs.Common.{◌≡◌, List, ℕ, Option, Some, arith, refl, s
 use Rattle.std.specs.Prelude.{IfSome}
 use Rattle.commit_journal.proofs.OpenedMoments.{read_throughout}
 use Rattle.cli_words.specs.declared.texts.TheConstants.{HELP, VERSION}
-use Rattle.cli_words.specs.declared.words.Form.TheVariants.{Help, Version}
+use Rattle.cli_words.specs.declared.words.Form.TheVariants.{Help, Run, Version}
 use Rattle.cli_words.specs.declared.words.Form.{Form}
 use Rattle.cli_making.specs.Promises.Gen.{GenEnds}
 use Rattle.cli_reading.specs.Promises.Audit.{AuditEnds, of_audit}
@@ -14,7 +14,9 @@ use Rattle.cli_heads.specs.Promises.Asking.{AskingEnds}
 use Rattle.cli_heads.specs.Promises.Checking.{CheckEnds}
 use Rattle.cli_heads.specs.Asked.Asked.{TheProof}
 use Rattle.cli_words.specs.Words.{HasFewLines, form_of_words, path_in_words, text_of}
-use Rattle.cli_words.proofs.AskedScripts.{of_asked, of_asked_audit, of_asked_check, of_asked_list, of_asked_open, of_asked_proof}
+use Rattle.cli_running.specs.Promises.HeldRun.{HeldRunEnds}
+use Rattle.head_tree.specs.declared.head.Head.{Head}
+use Rattle.cli_words.proofs.AskedScripts.{of_asked, of_asked_audit, of_asked_check, of_asked_list, of_asked_open, of_asked_proof, of_asked_run}
 use Rattle.cli_making.proofs.MakeLemmas.{done_or_no_memory}
 use Rattle.cli_reading.proofs.Sound.{reading_ends}
 use Rattle.cli_reading.proofs.SoundAudit.{audit_sound}
@@ -51,8 +53,8 @@ returns-in-Some-Make-clause-makes g c = λ is.
 
 -- ---- `run`
 
-pub returns-in-Some-Run-clause-runs : goal.returns-in-Some-Run-clause-runs
-returns-in-Some-Run-clause-runs g c = λ is.
+pub returns-in-Some-Run-None-clause-runs : goal.returns-in-Some-Run-None-clause-runs
+returns-in-Some-Run-None-clause-runs g c = λ is.
     let run = c.run.ensures in
     record {
       answers = run.answers;
@@ -78,6 +80,16 @@ returns-in-Some-Run-clause-runs g c = λ is.
           ∙ ap (λ disk. world_of c.run.new.input c.args.random.now disk c.run.new.out) kept.1
           ∙ ap (λ out. world_of c.run.new.input c.args.random.now c.args.disk.now out) kept.2;
     }
+
+pub returns-in-Some-Run-Some-clause-runs_held : goal.returns-in-Some-Run-Some-clause-runs_held
+returns-in-Some-Run-Some-clause-runs_held g c = λ head asked.
+    let see = senses_of g.S.Source g.R.Source g.D.Disk g.W.Sink in
+    let before = world_of c.args.input.now c.args.random.now c.args.disk.now c.args.out.now in
+    let after = world_of c.run_held.new.input c.run_held.new.random c.run_held.new.disk c.run_held.new.out in
+    let asks = c.in-Some-Run-Some in
+    of_asked_run (λ (o : Option Head). IfSome o (λ h. HeldRunEnds h see c.run_held.result before after)) (Some asks.head) (Some head)
+    (form_of_words c.args.words.now.items)
+    (sym c.form_of.ensures.form ∙ asks.is ∙ ap (λ f. Some f) (asks.field-0-is ∙ ap (λ h. Run h) asks.field-0-0-is)) asked c.run_held.ensures.ends
 
 -- ---- `gen`
 

@@ -1,0 +1,26 @@
+//! Laws: when a run with a head tells that the log is another one, and what it leaves then.
+ghost use Rattle.std.specs.Prelude.{◌≡◌, ◌⊎◌, ℕ, IsTrue, List, Some};
+ghost use Rattle.cli_base.specs.World.{World, senses_of};
+ghost use Rattle.cli_base.specs.declared.status.Status.{Status};
+ghost use Rattle.cli_heads.specs.Testing.{IsHeld};
+ghost use Rattle.cli_running.specs.Promises.HeldRun.{EndsAtFirst, EndsAtHead, HeldRunEnds, tells_other_log};
+ghost use Rattle.head_tree.specs.declared.head.Head.{Head};
+ghost use Rattle.log_heads.specs.Published.{hashes_in};
+
+use cry_io::{Disk, Sink, Source};
+
+/// Law: where `behind` or `forked` is answered, the run ended at the test of the head, and so left the store as it was.
+pub fn other_logs_are_told_by_the_test<S: Source, R: Source, D: Disk, W: Sink>()
+    ensures { (head : Head) (status : Status) (before after : World S R D W) →
+        HeldRunEnds head (senses_of S.Source R.Source D.Disk W.Sink) status before after → IsTrue (tells_other_log status) →
+        EndsAtHead head (senses_of S.Source R.Source D.Disk W.Sink) status before after }
+{}
+
+/// Law: over a log that doesn't begin with the batches that the head names, a run ends at its first line or at the test of the head.
+pub fn other_logs_are_never_written<S: Source, R: Source, D: Disk, W: Sink>()
+    ensures { (head : Head) (image : List ℕ) (status : Status) (before after : World S R D W) →
+        D.shown before.disk ≡ Some image → (IsHeld head (hashes_in image) → ⊥) →
+        HeldRunEnds head (senses_of S.Source R.Source D.Disk W.Sink) status before after →
+        EndsAtFirst (senses_of S.Source R.Source D.Disk W.Sink) status before after
+        ⊎ EndsAtHead head (senses_of S.Source R.Source D.Disk W.Sink) status before after }
+{}
