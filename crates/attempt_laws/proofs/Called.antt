@@ -255,7 +255,7 @@ module _ (c : Course) (r : Request) (old : OwnerView) (was shows : Option (List 
 -- ---- what the disk is handed
 
 -- the writes by which one entry joins its journal are those of its trial
-entry_writes : (key : List ℕ) (m : Journal) (entry : Entry)
+pub entry_writes : (key : List ℕ) (m : Journal) (entry : Entry)
     → journal_writes key m (m ++ entry ∷ []) ≡ log_writes key (batches_of key m) (batch_in key (record { behind = m; entry = entry }) ∷ [])
 entry_writes key m entry = journal_writes_are key m (m ++ entry ∷ []) (batch_in key (record { behind = m; entry = entry }) ∷ []) (entered_is key m entry)
 

@@ -39,17 +39,17 @@ abbrev pub Rises : {X : Type 0} → (X → ℕ) → List X → ℕ → ℕ → T
 Rises number [] low high = low ≤ high
 Rises number (x ∷ xs) low high = (low ≤ number x) × Rises number xs (number x + 1) high
 
-rises_from : (X : Type 0) (number : X → ℕ) (xs : List X) (low next high : ℕ) → low ≤ next → Rises number xs next high
+pub rises_from : (X : Type 0) (number : X → ℕ) (xs : List X) (low next high : ℕ) → low ≤ next → Rises number xs next high
     → Rises number xs low high
 rises_from X number [] low next high h r = omega (arith, h, r)
 rises_from X number (x ∷ xs) low next high h r = let first : next ≤ number x = r.0 in (omega (arith, h, first), r.1)
 
-rises_to : (X : Type 0) (number : X → ℕ) (xs : List X) (low next high : ℕ) → next ≤ high → Rises number xs low next
+pub rises_to : (X : Type 0) (number : X → ℕ) (xs : List X) (low next high : ℕ) → next ≤ high → Rises number xs low next
     → Rises number xs low high
 rises_to X number [] low next high h r = omega (arith, h, r)
 rises_to X number (x ∷ xs) low next high h r = (r.0, rises_to X number xs (number x + 1) next high h r.1)
 
-rises-append : (X : Type 0) (number : X → ℕ) (xs ys : List X) (low next high : ℕ) → Rises number xs low next
+pub rises-append : (X : Type 0) (number : X → ℕ) (xs ys : List X) (low next high : ℕ) → Rises number xs low next
     → Rises number ys next high → Rises number (xs ++ ys) low high
 rises-append X number [] ys low next high r s = rises_from X number ys low next high r s
 rises-append X number (x ∷ xs) ys low next high r s = (r.0, rises-append X number xs ys (number x + 1) next high r.1 s)
@@ -149,12 +149,12 @@ module _ (k : KeyState) (before : List Edge) (c : Change) (pieces : List Piece) 
       subst (λ n. Rises number_of (keys ++ links ++ contents) (next_serial k) n) (sym after_is)
       (rises-append Spender number_of (keys ++ links) contents (next_serial k) first_content last both contents_rise)
 
-abbrev next_in : Journal → ℕ
+abbrev pub next_in : Journal → ℕ
 next_in m = next_serial (keys_of m)
 
 -- ---- what is written behind a journal
 
-command_rises : (m : Journal) (r : Request) (keys : List (List ℕ))
+pub command_rises : (m : Journal) (r : Request) (keys : List (List ℕ))
     → Rises number_of (spenders_in (held (stand_after nothing m) (Did r keys))) (next_in m) (next_in (m ++ Did r keys ∷ []))
 unfolding held keys_of entry_step note_step
 command_rises m r keys =
@@ -189,7 +189,7 @@ begins_alike m r keys =
     ∙ ap (λ n. (n + 1) * 2 ^ 32 + 0) (epoch_command m r keys)
     ∙ sym (ap next_serial (keys_session m))
 
-count_low : (m : Journal) → IsValid m → (keys_of m).count ≤ 4294967296
+pub count_low : (m : Journal) → IsValid m → (keys_of m).count ≤ 4294967296
 count_low m valid = let low : (keys_of m).count ≤ most_store_bytes = journal_count m valid in omega (arith, low)
 
 -- the next number for a session: that of the epoch that it begins, where it has begun none
@@ -213,7 +213,7 @@ low_ended m true valid =
 abbrev pub spent : List Trial → List Spender
 spent ts = all_spenders (map attempt_of ts)
 
-spent-append : (xs ys : List Trial) → spent (xs ++ ys) ≡ spent xs ++ spent ys
+pub spent-append : (xs ys : List Trial) → spent (xs ++ ys) ≡ spent xs ++ spent ys
 unfolding all_spenders
 spent-append [] ys = refl
 spent-append (x ∷ xs) ys =
