@@ -1,5 +1,5 @@
 -- A run with a head in a list of runs under heads.
-use Rattle.std.proofs.Common.{◌≡◌, ◌≤◌, ◌⊎◌, ⊎_elim, inl, inr, ℕ, List, Some, refl, sym, ap, ◌∙◌}
+use Rattle.std.proofs.Common.{◌≡◌, ◌≤◌, ◌⊎◌, ⊎_elim, inl, inr, ℕ, List, Some, refl, ap, ◌∙◌}
 use Rattle.cry_io.specs.Stops.{IsDurable}
 use Rattle.cli_base.specs.World.{Senses, World}
 use Rattle.cli_base.specs.declared.status.Status.{Status}
