@@ -1,5 +1,5 @@
 -- A run with a head in a list of calls: a call that only reads, a run, and a call that only reads.
-use Rattle.std.proofs.Common.{◌≡◌, ◌≤◌, ◌⊎◌, ⊎_elim, inl, inr, ℕ, List, Some, arith, refl, sym, ap, subst, ◌∙◌}
+use Rattle.std.proofs.Common.{◌≡◌, ◌≤◌, ◌⊎◌, ⊎_elim, inl, inr, ℕ, List, Some, arith, sym, ap, ◌∙◌}
 use Rattle.std.specs.Prelude.{is_some}
 use Rattle.batch_log.proofs.Moments.{goes_on_then, in_both}
 use Rattle.cli_base.specs.World.{Senses, World}
