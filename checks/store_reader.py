@@ -31,7 +31,7 @@ from key_step import (BYTES_OF_FILE, CONTENTS, FILE_LIMIT, GIVE, HOLDER, KEY_OF_
                       NEW_HOLDER, NOTES, OWNER, ROOT, SHIFT_FILE, SHIFT_FOLDER, STRICT_ROOT, TAKE, UPGRADE, Head, State, sealing_role,
                       source, target)
 
-STORE_LIMIT, HEADER, FRAME = 268_435_456, 42, 110
+STORE_LIMIT, HEADER, FRAME = 1_073_741_824, 42, 110
 NAME = re.compile(rb"(?!\.\.?\Z)[A-Za-z0-9._-]{1,64}")
 FIELDS = dict.fromkeys((ROOT, STRICT_ROOT, UPGRADE), ()) | {NEW_HOLDER: (4, 32)}  # of the others two or one of 4 bytes
 FIELDS |= dict.fromkeys((NEW_FOLDER, NEW_FILE, SHIFT_FILE, SHIFT_FOLDER, GIVE, TAKE), (4, 4))

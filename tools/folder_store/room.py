@@ -4,7 +4,7 @@ import collections
 from folder_store import last
 from folder_store.faults import Full, warn
 
-LIMIT = 268_435_456     # bytes of a store
+LIMIT = 1_073_741_824     # bytes of a store
 WARNED_AT = 80          # in 100
 COMMAND = 2048          # bytes, more than a command is likely to take beside a file's bytes and the links of a departure
 OWN_LINKS = 4           # of a folder whose keys are renewed, beside those into what is in it and those from holders

@@ -47,8 +47,8 @@ pub fn courses_leave_valid_journals()
         → IsValid (course_after (made_course version keys) later).journal }
 {}
 
-/// Every nonce is spent once: whatever can happen to a store of either version, no two of all attempts' keys and records have one number, those of
-/// the making of the store included.
+/// Every nonce is spent once: whatever can happen to a store of either version, no two of all attempts' keys and records have one number,
+/// those of the making of the store included.
 pub fn numbers_are_spent_once()
     ensures { (limits : Limits) (version : ℕ) (keys : List (List ℕ)) (later : List Happening)
         → limits.store_bytes ≤ most_store_bytes → limits.file_bytes ≤ most_file_bytes

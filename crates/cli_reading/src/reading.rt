@@ -43,8 +43,8 @@ pub trait ReadingCommand {
         ensures disk_fault { result ≡ Err ClientFault.DiskFault → D.faults disk.old < D.faults disk.new };
 }
 
-/// Prints what the key that the input hands in is shown of the store, where its log begins with the batches that the head names, if there is
-/// one.
+/// Prints what the key that the input hands in is shown of the store, where its log begins with the batches that the head names, if there
+/// is one.
 pub fn read_and_print<C: ReadingCommand, S: Source, D: Disk, W: Sink>(
     alloc: Global,
     head: Option<Head>,

@@ -6,8 +6,8 @@ use Rattle.cli_base.specs.Lines.{AreOfLines, LineState, bytes_ahead, lines_ahead
 use Rattle.cli_running.specs.Running.{GivesOwner, lines_in}
 use Rattle.cli_sessions.specs.Taking.{HoldsFew}
 
--- The first line of an input handed in this key: the input was `first` before that line was taken, and is `now` behind it. The reader stands
--- behind the line, and holds little of what comes.
+-- The first line of an input handed in this key: the input was `first` before that line was taken, and is `now` behind it. The reader
+-- stands behind the line, and holds little of what comes.
 pub record HandedIn {S : Type 0} (inputs : source.Ghosts S) (key : List ℕ) (reader : LineState) (first now : S) : Type 0 where
   pub told : is_some (inputs.left now) ≡ is_some (inputs.left first)
   pub gives : WhereBothTold (inputs.left first) (inputs.left now)

@@ -202,7 +202,7 @@ abbrev pub ended_status : Result (Unit {0}) ScriptFault → Status
 ended_status (Ok _) = statuses.Done
 ended_status (Err fault) = script_status fault
 
--- the sizes of the one version of stores that there is
+-- the sizes of the version of stores that is written
 abbrev pub version_limits : Limits
 version_limits = record { store_bytes = most_store_bytes; file_bytes = most_file_bytes }
 

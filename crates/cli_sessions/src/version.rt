@@ -1,4 +1,4 @@
-//! The one version of stores that there is.
+//! The version of stores that is written.
 use cry_base::{FILE_BYTES, Limits, STORE_BYTES};
 
 /// The sizes of its stores and files, in bytes.

@@ -114,7 +114,7 @@ pub fn worked_journals_keep_secrets()
 /// keys, and no link leaves a dirty key.
 #[tactic(auto, unfolding(crate::specs::WorkedHistories::histories))]
 pub fn worked_journals_keep_their_keys()
-    ensures lazy { map invariants_hold (rewriting ∷ writing_again ∷ renaming_again ∷ moving_away ∷ making_again ∷ dropping ∷ []) ≡ true ∷ true
-        ∷ true ∷ true ∷ true ∷ true ∷ [] }
+    ensures lazy { map invariants_hold (rewriting ∷ writing_again ∷ renaming_again ∷ moving_away ∷ making_again ∷ dropping ∷ [])
+        ≡ true ∷ true ∷ true ∷ true ∷ true ∷ true ∷ [] }
     ensures strict { map invariants_hold (moving_strictly ∷ departing_strictly ∷ departing_after_it ∷ []) ≡ true ∷ true ∷ true ∷ [] }
 {}

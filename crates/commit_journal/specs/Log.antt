@@ -31,7 +31,7 @@ fits_epoch past head =
     if head.type_byte == 2 then (head.size == 0) && (head.epoch.0 == past.epoch.0 + 1)
     else (head.type_byte == 1) && (nat_le 1 past.epoch.0 && (head.epoch.0 == past.epoch.0))
 
--- a batch with this head may stand there, where so many bytes are left. A store has at most 268,435,456 bytes
+-- a batch with this head may stand there, where so many bytes are left. A store has at most 1,073,741,824 bytes
 unfoldable pub is_batch : Past → Head → ℕ → Bool
 is_batch past head left =
     nat_le (batch_len + head.size) left

@@ -2,9 +2,13 @@
 use Rattle.std.specs.Prelude.{ℕ, Option, Some, None, ◌==◌, if◌then◌else◌}
 use Rattle.cry_base.specs.declared.limits.Limits.{Limits}
 
--- the most bytes that a store file of version 1 may have
+-- the most bytes that a store file may have
 abbrev pub most_store_bytes : ℕ
-most_store_bytes = 268435456
+most_store_bytes = 1073741824
+
+-- the most bytes that a store file of version 1 may have
+abbrev pub most_first_bytes : ℕ
+most_first_bytes = 268435456
 
 -- the most bytes that one file in it may have
 abbrev pub most_file_bytes : ℕ
@@ -30,7 +34,9 @@ way_turns = 66
 abbrev pub most_text_bytes : ℕ
 most_text_bytes = 1048641
 
--- the limits of version 1, the one version there is
+-- the limits of a version
 abbrev pub limits_of_version : ℕ → Option Limits
 limits_of_version version =
-    if version == 1 then Some (record { store_bytes = most_store_bytes; file_bytes = most_file_bytes }) else None
+    if version == 1 then Some (record { store_bytes = most_first_bytes; file_bytes = most_file_bytes })
+    else if version == 2 then Some (record { store_bytes = most_store_bytes; file_bytes = most_file_bytes })
+    else None

@@ -1,9 +1,12 @@
-//! How large a store of version 1, its files, its names and its tree may grow.
+//! How large a store, its files, its names and its tree may grow.
 ghost use Rattle.std.specs.Prelude.{◌≡◌};
 ghost use Rattle.cry_base.specs.Limits.{limits_of_version};
 
 /// The most bytes that a store file may have.
-pub const STORE_BYTES: u64 = 268_435_456;
+pub const STORE_BYTES: u64 = 1_073_741_824;
+
+/// The most bytes that a store file of version 1 may have.
+pub const FIRST_STORE_BYTES: u64 = 268_435_456;
 
 /// The most bytes that one file in a store may have.
 pub const FILE_BYTES: u32 = 1_048_576;
@@ -29,6 +32,10 @@ pub fn limits_of(version: u8) -> Option<Limits>
 {
     match version {
         1 => Some(Limits {
+            store_bytes: FIRST_STORE_BYTES,
+            file_bytes: FILE_BYTES,
+        }),
+        2 => Some(Limits {
             store_bytes: STORE_BYTES,
             file_bytes: FILE_BYTES,
         }),

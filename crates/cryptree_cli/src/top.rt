@@ -71,7 +71,8 @@ pub fn top<S: Source, R: Source, D: Disk, W: Sink>(
         (world_of input.old random.old disk.old out.old) (world_of input.new random.new disk.new out.new) }
     ensures opens { (head : Option Head) → AsksOpen words.now.items head → OpenEnds head (senses_of S.Source R.Source D.Disk W.Sink) result
         (world_of input.old random.old disk.old out.old) (world_of input.new random.new disk.new out.new) (path_in_words words.now.items) }
-    ensures audits { (head : Option Head) → AsksAudit words.now.items head → AuditEnds head (senses_of S.Source R.Source D.Disk W.Sink) result
+    ensures audits { (head : Option Head) → AsksAudit words.now.items head
+        → AuditEnds head (senses_of S.Source R.Source D.Disk W.Sink) result
         (world_of input.old random.old disk.old out.old) (world_of input.new random.new disk.new out.new) }
     ensures heads { IsHead words.now.items → AskingEnds TheHead (senses_of S.Source R.Source D.Disk W.Sink) result
         (world_of input.old random.old disk.old out.old) (world_of input.new random.new disk.new out.new) }

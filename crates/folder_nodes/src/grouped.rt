@@ -1,5 +1,6 @@
 //! Rows that are found by their numbers, and all those of a group together.
-ghost use Rattle.std.specs.Prelude.{◌≡◌, ℕ, ◌+◌, ◌≤◌, ◌<◌, ◌==◌, ◌&&◌, [], All, filter, length, map, nat_le, None, IsOk, IsSome, OnOk, IfOk};
+ghost use Rattle.std.specs.Prelude.{◌≡◌, ℕ, ◌+◌, ◌≤◌, ◌<◌, ◌==◌, ◌&&◌, [], All, filter, length, map, nat_le, None};
+ghost use Rattle.std.specs.Prelude.{IsOk, IsSome, OnOk, IfOk};
 ghost use Rattle.std.specs.List.{list_any};
 ghost use Rattle.std.specs.Option.{option_copied};
 ghost use Rattle.cry_base.specs.Sets.{In};

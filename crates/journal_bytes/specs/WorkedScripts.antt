@@ -25,12 +25,12 @@ unfoldable pub down_from : ℕ → ℕ → List ℕ
 down_from b zero = []
 down_from b (suc n) = b ∷ down_from (b - 1) n
 
--- the limits of the one version, and limits with another end of the store
+-- the limits of version 2, and limits with another end of the store
 unfoldable pub limited : ℕ → Limits
 limited store_bytes = record { store_bytes = store_bytes; file_bytes = 1048576 }
 
 unfoldable pub limits_now : Limits
-limits_now = limited 268435456
+limits_now = limited 1073741824
 
 -- every word of scripts and attempts
 unfoldable pub scripts : Unit {0}

@@ -19,7 +19,7 @@ pub(crate) struct FreshStore {
 #[tactic(auto, unfolding(cry_io::specs::Leaving::shown_of))]
 pub(crate) fn make_store(alloc: Global, store_bytes: u64) -> Result<FreshStore, Fail>
     requires least { 819 ≤ store_bytes }
-    requires known { store_bytes ≤ 268435456 }
+    requires known { store_bytes ≤ 1073741824 }
     ensures inside { IfOk result (λ store. store.owner.journal.end ≤ length (shown_of store.disk.events)) }
 {
     let mut disk = blank(alloc)?;

@@ -16,7 +16,7 @@ const REPLIES: [Reply; 9] = [
     Reply::Done,
 ];
 
-const STORE_BYTES: u64 = 268_435_456;
+const STORE_BYTES: u64 = 1_073_741_824;
 
 #[test]
 fn a_command_without_memory_is_applied_once_more(rt: HostRuntime) -> Result<(), Fail> {

@@ -38,7 +38,7 @@ pub(crate) fn outcome(
     lines: &[&[u8]],
 ) -> Result<(List<Reply>, Text), Fail>
     requires least { 819 ≤ limit }
-    requires known { limit ≤ 268435456 }
+    requires known { limit ≤ 1073741824 }
 {
     let mut store = make_store(alloc, limit)?;
     let replies = replies(alloc, &mut store, lines)?;

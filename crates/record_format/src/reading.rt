@@ -2,7 +2,8 @@
 ghost use Rattle.std.specs.Prelude.{◌≡◌, ◌≤◌, [], map, Ok, IfOk, IfErr};
 ghost use Rattle.record_format.specs.Fields.{repeat_at};
 ghost use Rattle.record_format.specs.Plain.{PlainPayload, plain_content, plain_payload};
-ghost use Rattle.record_format.specs.Reading.{Gives, Answers, note_of_none, note_of_one, note_of_two, new_holder_at, one_id_at, two_ids_at, note_at};
+ghost use Rattle.record_format.specs.Reading.{Gives, Answers, note_of_none, note_of_one, note_of_two, new_holder_at, one_id_at};
+ghost use Rattle.record_format.specs.Reading.{two_ids_at, note_at};
 ghost use Rattle.record_format.specs.Reading.{link_at, content_at, payload_at, whole_payload, payload_or_place, IsPlaceIn, EndsABeginning};
 ghost use Rattle.record_format.specs.Spellable.{IsSpellable};
 ghost use Rattle.record_format.specs.Spelling.{spell_payload};

@@ -2,7 +2,8 @@
 ghost use Rattle.std.specs.Prelude.{◌≡◌, ◌↔◌, ◌+◌, ◌*◌, ◌≤◌, [], length, map, option_copied, Some, IfOk, OnOk};
 ghost use Rattle.cry_base.specs.Sets.{In, has};
 ghost use Rattle.cry_base.specs.declared.roles.Role.{Role as AnyRole};
-ghost use Rattle.role_graph.specs.Adjacent.{HaveSame, as_walked, count_from, edges_but, ending_in, ends_from, grown_by, out_of, roles_in, with_new};
+ghost use Rattle.role_graph.specs.Adjacent.{HaveSame, as_walked, count_from, edges_but, ending_in, ends_from};
+ghost use Rattle.role_graph.specs.Adjacent.{grown_by, out_of, roles_in, with_new};
 ghost use Rattle.role_graph.specs.Closing.{IsReached};
 ghost use Rattle.role_graph.specs.Edges.{reach_along, same_edge, unordered};
 
@@ -47,7 +48,8 @@ pub fn walk_within<R: Adjacent>(
         ↔ IsReached (ending_in (Some within.now) (as_walked way
         (edges_but removed.now (unordered (R.store roles.old))))) from.now r) }
     ensures steps { let es = unordered (R.store roles.old) in R.steps roles.new ≤ R.steps roles.old
-        + 2 * count_from (as_walked way es) (reach_along (ending_in (Some within.now) (as_walked way (edges_but removed.now es))) from.now) + length from.now }
+        + 2 * count_from (as_walked way es) (reach_along (ending_in (Some within.now) (as_walked way (edges_but removed.now es))) from.now)
+        + length from.now }
     ensures same { R.store roles.new ≡ R.store roles.old }
 {
     walk_on(alloc, roles, way, removed, Some(within), from)
@@ -66,7 +68,9 @@ fn walk_on<R: Adjacent>(
         ↔ IsReached (ending_in (option_copied within.entry) (as_walked way
         (edges_but removed.now (unordered (R.store roles.old))))) from.now r) }
     ensures steps { let es = unordered (R.store roles.old) in R.steps roles.new ≤ R.steps roles.old
-        + 2 * count_from (as_walked way es) (reach_along (ending_in (option_copied within.entry) (as_walked way (edges_but removed.now es))) from.now) + length from.now }
+        + 2 * count_from (as_walked way es)
+        (reach_along (ending_in (option_copied within.entry) (as_walked way (edges_but removed.now es))) from.now)
+        + length from.now }
     ensures same { R.store roles.new ≡ R.store roles.old }
 {
     let mut found = List::new(alloc);

@@ -31,7 +31,8 @@ pub fn journals_keep_departures()
 
 /// So it is with each name and file that an audit shows a holder of such a store.
 pub fn audits_of_strict_stores_show_what_was_shown()
-    ensures { (m : Journal) → IsValid m → (keys_of m).version ≡ 2 → (h : ℕ) (x : Sight) → In x (seen m (TheHolder h)) → IsStrictlySeen m h x }
+    ensures { (m : Journal) → IsValid m → (keys_of m).version ≡ 2 → (h : ℕ) (x : Sight) → In x (seen m (TheHolder h))
+        → IsStrictlySeen m h x }
 {}
 
 /// In a store that was made with version 2 all was shown.

@@ -7,7 +7,8 @@ ghost use Rattle.public_fold.specs.Journal.{nothing, stand_after};
 ghost use Rattle.public_fold.specs.WorkedSteps.{departing_strictly, does, granting, moving_strictly, revoking, writing_again};
 ghost use Rattle.role_graph.specs.Roles.{clear_of};
 ghost use Rattle.secrecy_laws.specs.Revocation.{brings_role, derived_unseen, gain_opens};
-ghost use Rattle.secrecy_laws.specs.WorkedSecrets.{departing_lazily, file_leaked, file_written, other_granted, the_contents, the_grant, the_leak};
+ghost use Rattle.secrecy_laws.specs.WorkedSecrets.{departing_lazily, file_leaked, file_written, other_granted, the_contents};
+ghost use Rattle.secrecy_laws.specs.WorkedSecrets.{the_grant, the_leak};
 
 /// A grant opens what was written in its folder before: the root's name, the folder's and the file. A revocation adds nothing to it,
 /// and what is written after it is opened to the next holder alone, by a grant on the root.

@@ -1,5 +1,6 @@
 //! Rows in ascending order of their ranks, in blocks: one that comes or goes moves no rows but those of its block.
-ghost use Rattle.std.specs.Prelude.{◌≡◌, ◌+◌, ◌-◌, ◌*◌, ◌/◌, ◌^◌, min, ◌<◌, ◌≤◌, ◌&&◌, [], length, vec_len, vec_capacity, All, nat_le, filter, IsOk, IsSome, OnOk, IfOk, MatchOption};
+ghost use Rattle.std.specs.Prelude.{◌≡◌, ◌+◌, ◌-◌, ◌*◌, ◌/◌, ◌^◌, min, ◌<◌, ◌≤◌, ◌&&◌, [], length, vec_len, vec_capacity, All};
+ghost use Rattle.std.specs.Prelude.{nat_le, filter, IsOk, IsSome, OnOk, IfOk, MatchOption};
 ghost use Rattle.std.specs.Prelude.{◌≢◌, None, AllPairs, IsTrue};
 ghost use Rattle.std.specs.List.Sorted.{IsPermutation};
 ghost use Rattle.std.specs.Option.{option_copied};

@@ -1,7 +1,7 @@
 -- A run with a head in a list of calls. This project's own, docs/MODEL.md.
 --
--- It is a call that only reads the store, for the test of the head; a run; and a call that only reads it again, for the last head. So a list
--- of calls with such a run in it is a list of calls, and what is said of all lists of calls is said of it.
+-- It is a call that only reads the store, for the test of the head; a run; and a call that only reads it again, for the last head. So a
+-- list of calls with such a run in it is a list of calls, and what is said of all lists of calls is said of it.
 use Rattle.std.specs.Prelude.{◌⊎◌, ℕ, List}
 use Rattle.commit_journal.specs.Holding.{GoesOn}
 use Rattle.cry_io.specs.declared.disk.Disk as disk

@@ -39,7 +39,8 @@ pub fn runs_of_others_leave_the_store<S: Source, R: Source, D: Disk, W: Sink>()
 pub fn held_runs_of_the_owner_are_told<S: Source, R: Source, D: Disk, W: Sink>()
     ensures { (head : Head) (owner typed : List ℕ) (status : Status) (before after : World S R D W) →
         S.left before.input ≡ Some typed → key_in_lines (lines_in typed) ≡ Some owner →
-        HeldRunEnds head (senses_of S.Source R.Source D.Disk W.Sink) status before after → HeldCallOver D.Disk owner before.disk after.disk }
+        HeldRunEnds head (senses_of S.Source R.Source D.Disk W.Sink) status before after
+        → HeldCallOver D.Disk owner before.disk after.disk }
 {}
 
 /// Law: a run with a head whose first line hands in no key, or one with another check than the owner's, over a disk that shows the owner's
@@ -51,8 +52,8 @@ pub fn held_runs_of_others_leave_the_store<S: Source, R: Source, D: Disk, W: Sin
         AnyEnds (senses_of S.Source R.Source D.Disk W.Sink) status before after → LeavesStore D.Disk before.disk after.disk }
 {}
 
-/// Law: a list of calls goes on with a run with a head, as with three calls of which only the second writes; and with a stop at any moment of
-/// it.
+/// Law: a list of calls goes on with a run with a head, as with three calls of which only the second writes; and with a stop at any moment
+/// of it.
 pub fn held_runs_are_runs<D: Disk>(start: &D, before: &D, after: &D, next: &D)
     ensures ends { (key : List ℕ) → Runs D.Disk key start.now before.now → HeldCallOver D.Disk key before.now after.now →
         Runs D.Disk key start.now after.now }
