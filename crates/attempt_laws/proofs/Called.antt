@@ -29,6 +29,7 @@ use Rattle.store_owner.specs.Drawing.{AreKeys}
 use Rattle.store_owner.specs.Making.{IsMade, fresh_writes, made_batches, made_writes, root_keys, root_payload}
 use Rattle.store_owner.proofs.MadeOwner.{batches_are}
 use Rattle.store_owner.specs.Opened.{IsFresh}
+use Rattle.store_owner.specs.Deeds.Deed.{Commanded}
 use Rattle.store_owner.specs.Owned.{IsOwnerOf, OwnerView, limits_in}
 use Rattle.store_owner.specs.Stopping.{ComesToRest, RestsAt, StopsBetween, journal_writes}
 use Rattle.store_owner.proofs.HandedBatches.{journal_writes_are, no_writes, writes_both}
@@ -96,7 +97,7 @@ refused_goes_on c r why old new stands is same = (
 )
 
 done_goes_on : (c : Course) (r : Request) (reply : Reply) (old new : OwnerView) (left_before left_after was shows : Option (List ℕ)) (might may : List ℕ → Type 0) (since : List ℕ → List ℕ → Type 0)
-    → StandsOn c old → IsDone c.journal r reply old new left_before left_after was shows might may since → GoesOn (limits_in old) c r new
+    → StandsOn c old → IsDone c.journal (Commanded r) reply old new left_before left_after was shows might may since → GoesOn (limits_in old) c r new
 unfolding course_after course_behind course_then begun_journal
 done_goes_on c r reply old new left_before left_after was shows might may since stands is =
     let accepted = subst (λ b. answer (limits_in old) c.journal b r ≡ None) stands.has_begun is.accepted in (
@@ -108,7 +109,7 @@ done_goes_on c r reply old new left_before left_after was shows might may since 
     )
 
 pub goes_on_at : (c : Course) (r : Request) (result : Result Reply ApplyFault) (old new : OwnerView) (left_before left_after was shows : Option (List ℕ)) (might may : List ℕ → Type 0)
-    (since : List ℕ → List ℕ → Type 0) → StandsOn c old → Answers result c.journal r old new left_before left_after was shows might may since → GoesOnAt result c r old new
+    (since : List ℕ → List ℕ → Type 0) → StandsOn c old → Answers result c.journal (Commanded r) old new left_before left_after was shows might may since → GoesOnAt result c r old new
 goes_on_at c r (Ok (replies.Refused why)) old new left_before left_after was shows might may since stands is = refused_goes_on c r why old new stands is.0 is.1
 goes_on_at c r (Ok replies.Done) old new left_before left_after was shows might may since stands is =
     done_goes_on c r replies.Done old new left_before left_after was shows might may since stands is
@@ -242,7 +243,7 @@ module _ (c : Course) (r : Request) (old : OwnerView) (was shows : Option (List 
         λ bytes left. let k = (there.holds rests).leaves bytes left in here k.held bytes k.from k.to k.stands_for,
       )
 
-  pub left_by : (result : Result Reply ApplyFault) (new : OwnerView) (left_before left_after : Option (List ℕ)) → Answers result c.journal r old new left_before left_after was shows might may since → Both
+  pub left_by : (result : Result Reply ApplyFault) (new : OwnerView) (left_before left_after : Option (List ℕ)) → Answers result c.journal (Commanded r) old new left_before left_after was shows might may since → Both
   left_by (Ok (replies.Refused why)) new left_before left_after is = at_rest is.2
   left_by (Ok replies.Done) new left_before left_after is = in_command is.drawn is.accepted is.drawn_count is.drawn_sizes is.comes_to_rest.stops
   left_by (Ok (replies.Made holder key)) new left_before left_after is = in_command is.drawn is.accepted is.drawn_count is.drawn_sizes is.comes_to_rest.stops
@@ -292,7 +293,7 @@ module _ (c : Course) (r : Request) (old : OwnerView) (was shows : Option (List 
         subst (λ (ws : List Write). Hands ws (Unit {0}) was shows since) (command_writes old.key c.journal r drawn c.begun) there.hands,
       )
 
-  pub handed_by : (result : Result Reply ApplyFault) (new : OwnerView) (left_before left_after : Option (List ℕ)) → Answers result c.journal r old new left_before left_after was shows might may since → HandsHere
+  pub handed_by : (result : Result Reply ApplyFault) (new : OwnerView) (left_before left_after : Option (List ℕ)) → Answers result c.journal (Commanded r) old new left_before left_after was shows might may since → HandsHere
   handed_by (Ok (replies.Refused why)) new left_before left_after is = hands_none is.2
   handed_by (Ok replies.Done) new left_before left_after is = hands_command is.drawn is.accepted is.drawn_count is.drawn_sizes is.comes_to_rest.stops
   handed_by (Ok (replies.Made holder key)) new left_before left_after is = hands_command is.drawn is.accepted is.drawn_count is.drawn_sizes is.comes_to_rest.stops

@@ -18,6 +18,7 @@ ghost use Rattle.key_links.specs.Fresh.{made_version, piece};
 ghost use Rattle.store_owner.specs.Applying.{Answers};
 ghost use Rattle.store_owner.specs.Making.{IsMade, fresh_writes, root_keys};
 ghost use Rattle.store_owner.specs.Opened.{IsFresh};
+ghost use Rattle.store_owner.specs.Deeds.Deed.{Commanded};
 ghost use Rattle.store_owner.specs.Owned.{IsOwnerOf, OwnerView, limits_in};
 ghost use Rattle.store_owner.specs.Stopping.{RestsAt};
 ghost use Rattle.store_owner.specs.declared.apply_fault.ApplyFault.{ApplyFault};
@@ -60,17 +61,17 @@ pub fn opened_stores_reopen()
 pub fn applied_commands_are_attempts<D: Disk>(before: &D, after: &D)
     ensures goes_on { (c : Course) (r : Request) (result : Result Reply ApplyFault) (old new : OwnerView)
         (left_before left_after : Option (List ℕ)) → StandsOn c old →
-        Answers result c.journal r old new left_before left_after (D.shown before.now) (D.shown after.now)
+        Answers result c.journal (Commanded r) old new left_before left_after (D.shown before.now) (D.shown after.now)
         (D.may_leave before.now) (D.may_leave after.now) (D.since after.now (D.moment before.now)) → GoesOnAt result c r old new }
     ensures moments { (c : Course) (r : Request) (result : Result Reply ApplyFault) (old new : OwnerView)
         (left_before left_after : Option (List ℕ)) → StandsOn c old →
-        Answers result c.journal r old new left_before left_after (D.shown before.now) (D.shown after.now)
+        Answers result c.journal (Commanded r) old new left_before left_after (D.shown before.now) (D.shown after.now)
         (D.may_leave before.now) (D.may_leave after.now) (D.since after.now (D.moment before.now)) →
         RestsAt old.key c.journal (D.shown before.now) (D.may_leave before.now) →
         (s bytes : List ℕ) → D.since after.now (D.moment before.now) s bytes → LeavesCourse (limits_in old) old.key c r bytes }
     ensures left { (c : Course) (r : Request) (result : Result Reply ApplyFault) (old new : OwnerView)
         (left_before left_after : Option (List ℕ)) → StandsOn c old →
-        Answers result c.journal r old new left_before left_after (D.shown before.now) (D.shown after.now)
+        Answers result c.journal (Commanded r) old new left_before left_after (D.shown before.now) (D.shown after.now)
         (D.may_leave before.now) (D.may_leave after.now) (D.since after.now (D.moment before.now)) →
         RestsAt old.key c.journal (D.shown before.now) (D.may_leave before.now) →
         (bytes : List ℕ) → D.may_leave after.now bytes → LeavesCourse (limits_in old) old.key c r bytes }
@@ -81,7 +82,7 @@ pub fn applied_commands_are_attempts<D: Disk>(before: &D, after: &D)
 pub fn applied_commands_hand_over_attempts<D: Disk>(before: &D, after: &D)
     ensures { (c : Course) (r : Request) (result : Result Reply ApplyFault) (old new : OwnerView)
         (left_before left_after : Option (List ℕ)) → StandsOn c old →
-        Answers result c.journal r old new left_before left_after (D.shown before.now) (D.shown after.now)
+        Answers result c.journal (Commanded r) old new left_before left_after (D.shown before.now) (D.shown after.now)
         (D.may_leave before.now) (D.may_leave after.now) (D.since after.now (D.moment before.now)) →
         HandsTrials (limits_in old) old.key c r (D.shown before.now) (D.shown after.now) (D.since after.now (D.moment before.now)) }
 {}
