@@ -47,6 +47,7 @@ is_run_answer statuses.Usage = false
 is_run_answer statuses.NotBlank = false
 is_run_answer (statuses.NoHolder known) = false
 is_run_answer statuses.Unseen = false
+is_run_answer statuses.AlreadyNew = false
 is_run_answer (statuses.Behind have want) = false
 is_run_answer (statuses.Forked batches) = false
 is_run_answer statuses.BadProof = false
