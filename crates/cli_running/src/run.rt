@@ -32,9 +32,9 @@ use crate::key_line::read_owner;
 use cli_base::lines::{LineReader, Next, NextFault};
 use cli_base::status::Status;
 use cli_sessions::ends::script_status;
+use cli_sessions::opening::open_status;
 use cli_sessions::script::{ScriptFault, run_lines};
-use cli_sessions::version::LIMITS;
-use commit_journal::OpenFault;
+use cli_sessions::version::{LIMITS, OLD_VERSION};
 use cry_io::{Disk, Sink, Source};
 use std::alloc::Global;
 use std::mem;
@@ -42,7 +42,7 @@ use store_owner::Owner;
 
 /// Opens the store with the owner's key, which the first line hands in, and applies the commands of the other lines, each answered before
 /// the next is read. At `Done` all were; `BadScript` has the number of the line that is bad. `NotAStore`, `WrongKey`, `Damaged` and
-/// `Tampered` tell why the store wasn't opened. `RandomShort` has how many random bytes were left of those that a command needs.
+/// `Tampered` tell why the store wasn't opened; `NeedsUpgrade` that it was, and is of version 1. `RandomShort` has how many random bytes were left of those that a command needs.
 /// `ReadFault`, `RandomFault`, `DiskFault` and `WriteFault` tell what failed, and `OutOfMemory` that memory was wanting; what was
 /// answered stands.
 pub fn run<S: Source, R: Source, D: Disk, W: Sink>(
@@ -157,7 +157,7 @@ pub(crate) fn first_owner<S: Source>(
     }
 }
 
-/// Applies the commands of the lines that are still to come, by the owner of the store that was opened.
+/// Applies the commands of the lines that are still to come, by the owner of the store that was opened. One of version 1 takes none.
 fn apply_lines<S: Source, R: Source, D: Disk, W: Sink>(
     alloc: Global,
     mut reader: LineReader,
@@ -205,24 +205,15 @@ fn apply_lines<S: Source, R: Source, D: Disk, W: Sink>(
     ensures disk_counts { D.faults disk.old ≤ D.faults disk.new }
     ensures out_counts { W.faults out.old ≤ W.faults out.new }
 {
+    if owner.version() == OLD_VERSION {
+        mem::forget(owner);
+        return Status::NeedsUpgrade;
+    }
     let ran = run_lines(alloc, &mut reader, input, &mut owner, random, disk, out);
     // The program ends behind this: the system takes all memory back at once, and not a key and a name at a time.
     mem::forget(owner);
     match ran {
         Ok(()) => Status::Done,
         Err(fault) => script_status(fault),
-    }
-}
-
-fn open_status(fault: OpenFault) -> Status
-    ensures { result ≡ running.open_status fault }
-{
-    match fault {
-        OpenFault::NotAStore => Status::NotAStore,
-        OpenFault::WrongKey => Status::WrongKey,
-        OpenFault::Damaged { at } => Status::Damaged { at },
-        OpenFault::Tampered { batch, at } => Status::Tampered { batch, at },
-        OpenFault::DiskFault => Status::DiskFault,
-        OpenFault::OutOfMemory => Status::OutOfMemory,
     }
 }

@@ -30,6 +30,7 @@ use cli_reading::open::Opening;
 use cli_reading::reading::read_and_print;
 use cli_running::held::run_held;
 use cli_running::run::run;
+use cli_upgrading::upgrade::upgrade;
 use cli_words::texts::{HELP, VERSION};
 use cli_words::words::{Form, form_of, path_in};
 use cry_base::{List, Text};
@@ -95,6 +96,7 @@ pub fn top<S: Source, R: Source, D: Disk, W: Sink>(
         Some(Form::Gen { seed, count }) => generate_store(alloc, seed, count, random, disk, out),
         Some(Form::Run { head: None }) => run(alloc, input, random, disk, out),
         Some(Form::Run { head: Some(head) }) => run_held(alloc, &head, input, random, disk, out),
+        Some(Form::Upgrade) => upgrade(alloc, input, random, disk, out),
         Some(Form::List { head }) => read_and_print(alloc, head, &Listing, input, disk, out),
         Some(Form::Audit { head }) => read_and_print(alloc, head, &Auditing, input, disk, out),
         Some(Form::Open { head }) => {

@@ -1,0 +1,4 @@
+//! The command `upgrade`, over any source of input and of random bytes, any disk and any sink.
+#![tactic(auto)]
+
+pub mod upgrade;
