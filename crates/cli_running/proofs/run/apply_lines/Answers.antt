@@ -3,7 +3,8 @@ use Rattle.cry_base.specs.Requests.{Request}
 use Rattle.cry_io.specs.Told.{WhereBothTold}
 use Rattle.cli_base.specs.Lines.{bytes_ahead, lines_ahead}
 use Rattle.cli_sessions.specs.Sessions.{Ends, version_limits}
-use Rattle.cli_running.specs.Running.{Judges, RanLines, TakesBehindFirst, is_before_opening, is_run_answer, line_ended}
+use Rattle.cli_running.specs.Running.{RanLines, TakesBehindFirst, is_before_opening, is_run_answer, line_ended}
+use Rattle.cli_sessions.specs.Opening.{Judges}
 use Rattle.cli_sessions.specs.Stopping.{LinesKeepUpTo}
 use Rattle.cli_running.proofs.FaultedRuns.{after_no_disk_fault, faulted_answers, faulted_behind, faulted_judges, faulted_reads, faulted_undone, faulted_writes}
 use Rattle.cli_running.proofs.LinesRun.{ran_lines, ran_taken}
@@ -161,7 +162,7 @@ returns-in-Ok-clause-lines g c =
           c.args.reader c.run_lines-ran.new.reader (g.S.Source.left c.args.input.now) (g.S.Source.left c.run_lines-ran.new.input)
           (g.W.Sink.written c.args.out.now) (g.W.Sink.written c.run_lines-ran.new.out)
           c.in-Ok.ensures.input_told (Ok tt) c.in-Ok.ensures.ran c.requires.second,
-      ran_taken (OwnerView × g.row.R.Denot × g.row.D.Denot)
+      λ few. ran_taken (OwnerView × g.row.R.Denot × g.row.D.Denot)
           (Step g.row.R.Denot g.row.D.Denot g.R.Source.left g.R.Source.faults g.D.Disk.shown g.D.Disk.faults g.D.Disk.may_leave g.D.Disk.moment g.D.Disk.since)
           (Fails g.row.R.Denot g.row.D.Denot g.R.Source.left g.R.Source.faults g.D.Disk.shown g.D.Disk.faults g.D.Disk.may_leave g.D.Disk.moment g.D.Disk.since)
           (c.args.owner, c.args.random.now, c.args.disk.now) (c.run_lines-ran.new.owner, c.run_lines-ran.new.random, c.run_lines-ran.new.disk)
@@ -198,7 +199,7 @@ returns-clause-lines g c =
           c.args.reader c.run_lines-ran.new.reader (g.S.Source.left c.args.input.now) (g.S.Source.left c.run_lines-ran.new.input)
           (g.W.Sink.written c.args.out.now) (g.W.Sink.written c.run_lines-ran.new.out)
           c.in-Err.ensures.input_told (Err c.in-Err.fault) c.in-Err.ensures.ran c.requires.second),
-      subst (λ status. WhereBothTold (g.S.Source.left c.args.input.now) (g.S.Source.left c.run_lines-ran.new.input) (TakesBehindFirst (bytes_ahead c.args.reader) (line_ended status (length asked)))) (sym c.script_status.ensures)
+      λ few. subst (λ status. WhereBothTold (g.S.Source.left c.args.input.now) (g.S.Source.left c.run_lines-ran.new.input) (TakesBehindFirst (bytes_ahead c.args.reader) (line_ended status (length asked)))) (sym c.script_status.ensures)
           (ran_taken (OwnerView × g.row.R.Denot × g.row.D.Denot)
           (Step g.row.R.Denot g.row.D.Denot g.R.Source.left g.R.Source.faults g.D.Disk.shown g.D.Disk.faults g.D.Disk.may_leave g.D.Disk.moment g.D.Disk.since)
           (Fails g.row.R.Denot g.row.D.Denot g.R.Source.left g.R.Source.faults g.D.Disk.shown g.D.Disk.faults g.D.Disk.may_leave g.D.Disk.moment g.D.Disk.since)

@@ -2,15 +2,17 @@ use Rattle.std.proofs.Common.{inl, [], Err, refl, sym, ap, subst, ◌∙◌}
 use Rattle.cry_io.specs.Told.{WhereBothTold}
 use Rattle.cli_base.specs.Lines.{lines_ahead}
 use Rattle.cli_sessions.specs.Sessions.{Ends, version_limits}
-use Rattle.cli_running.specs.Running.{FirstIsBad, Judges, RanLines, TakesTo, line_ended, lines_behind, lines_in, lines_typed}
+use Rattle.cli_running.specs.Running.{FirstIsBad, RanLines, TakesTo, line_ended, lines_behind, lines_in, lines_typed}
+use Rattle.cli_sessions.specs.Opening.{Judges}
 use Rattle.cli_running.proofs.LinesRun.{bad_is_never_done, unread_lines, unread_taken}
-use Rattle.cli_running.proofs.PublishedRuns.{unread_publishes}
+use Rattle.cli_sessions.proofs.OpenedPublishing.{unread_publishes}
 use Rattle.cli_running.proofs.ReadFaults.{cut_first}
 use Rattle.cli_sessions.proofs.RunEnds.{still_told}
 use Rattle.cli_sessions.specs.Stopping.{KeepsUpTo}
 use Rattle.cli_sessions.proofs.StopLemmas.{kept_unread, time_still}
 use Rattle.public_fold.specs.Journal.{Journal}
-use Rattle.cli_running.proofs.RunOpening.{handed, bad_first_is_unjudged, first_alone, first_ends, first_is_bad, gives_first, reading_draws_none, seen_unopened}
+use Rattle.cli_running.proofs.RunOpening.{handed, bad_first_is_unjudged, first_alone, first_ends, first_is_bad, gives_first, reading_draws_none}
+use Rattle.cli_sessions.proofs.StoreOpening.{seen_unopened}
 use Rattle.log_visits.specs.Asking.{verdict}
 use Rattle.log_visits.specs.Asking.Asking.{ToWrite}
 use Rattle.cli_running.proofs.run.run.Goals as goal
