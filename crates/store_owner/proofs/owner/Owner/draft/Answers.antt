@@ -1,4 +1,4 @@
-use Rattle.std.proofs.Common.{◌≡◌, ◌∙◌, ap, refl, rules, sym, subst}
+use Rattle.std.proofs.Common.{rules}
 use Rattle.folder_nodes.specs.Titles.{tree_store}
 use Rattle.store_owner.proofs.owner.Owner.draft.Goals as goal
 
