@@ -5,7 +5,7 @@ use Rattle.public_fold.specs.WorkedSteps.{some_keys}
 use Rattle.journal_bytes.specs.Attempts.Event.{IsRefused, Enters, IsAbandoned, LosesEpoch, Ends, Reopens}
 use Rattle.journal_bytes.specs.WorkedScripts.{scripts}
 use Rattle.attempt_laws.specs.Spent.{number_of, spenders_in, all_spenders}
-use Rattle.attempt_laws.specs.Trials.{Happening, Befalls, BeginsEpoch, epoch_trial, command_trial, trials_at, course_behind, trials}
+use Rattle.attempt_laws.specs.Trials.{Happening, Befalls, BeginsEpoch, epoch_trial, deed_trial, trials_with, trials_at, course_behind, trials}
 use Rattle.attempt_laws.specs.Trials.{made_course, all_trials, held, attempt_of}
 
 -- a stop cuts a grant short, the next session loses its epoch's batch, the one after it begins that epoch and does nothing, and then
@@ -19,6 +19,6 @@ happened =
 
 -- every word of it
 unfoldable pub everything : Unit {0}
-unfolding scripts happened number_of spenders_in all_spenders epoch_trial command_trial trials_at course_behind trials made_course
+unfolding scripts happened number_of spenders_in all_spenders epoch_trial deed_trial trials_with trials_at course_behind trials made_course
     all_trials held attempt_of
 everything = tt
