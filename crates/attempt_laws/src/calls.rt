@@ -76,9 +76,9 @@ pub fn deeds_are_attempts<D: Disk>(before: &D, after: &D)
         (bytes : List ℕ) → D.may_leave after.now bytes → LeavesCourse (limits_in old) old.key c d bytes }
 {}
 
-/// A call of `Owner::apply` or `Owner::upgrade`, whatever it answers, hands the disk the batches of one event of its command or upgrade that
-/// can happen there, or none, and nothing else: each staged, opened and published. So what the laws say of all attempts they say of all that
-/// the disk was handed.
+/// A call of `Owner::apply` or `Owner::upgrade`, whatever it answers, hands the disk the batches of one event of its command or upgrade
+/// that can happen there, or none, and nothing else: each staged, opened and published. So what the laws say of all attempts they say of
+/// all that the disk was handed.
 pub fn deeds_hand_over_attempts<D: Disk>(before: &D, after: &D)
     ensures { (c : Course) (d : Deed) (result : Result Reply ApplyFault) (old new : OwnerView)
         (left_before left_after : Option (List ℕ)) → StandsOn c old → Suits old.state.keys d →
