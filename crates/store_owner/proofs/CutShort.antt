@@ -9,7 +9,7 @@ use Rattle.commit_journal.specs.Journals.{IsJournalOf, JournalState, MayJoin, ne
 use Rattle.commit_journal.specs.Standing.{StandsFor, StandsWhole}
 use Rattle.record_format.specs.Spelling.{spell_payload}
 use Rattle.public_fold.specs.Journal.{Journal}
-use Rattle.public_fold.specs.Journal.Entry.{Did, Session}
+use Rattle.public_fold.specs.Journal.Entry.{Session}
 use Rattle.journal_bytes.specs.Bytes.{batches_of, entry_body}
 use Rattle.journal_bytes.specs.Journals.{StandsForJournal}
 use Rattle.journal_bytes.proofs.NextBatches.{batches_then}

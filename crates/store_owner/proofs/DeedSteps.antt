@@ -1,43 +1,35 @@
 -- What the laws of journals say of a command and of an upgrade alike.
-use Rattle.std.proofs.Common.{◌≡◌, ℕ, ◌≤◌, Bool, true, false, cond, not, List, [], ◌∷◌, ◌++◌, length, All, None, refl, sym, ap, subst, ◌∙◌}
+use Rattle.std.proofs.Common.{◌≡◌, ℕ, ◌≤◌, Bool, not, List, [], length, All, None, refl, sym, ap, subst, ◌∙◌}
 use Rattle.chacha_seal.specs.Keys.{KeyParts}
 use Rattle.chacha_seal.specs.Sealing.{check_of}
 use Rattle.commit_journal.specs.Placed.{Commands}
 use Rattle.cry_base.specs.Limits.{most_file_bytes, most_store_bytes}
-use Rattle.cry_base.specs.Sets.{In}
-use Rattle.cry_base.specs.Stepping.{effect}
 use Rattle.cry_base.specs.Store.{Store}
 use Rattle.folder_nodes.specs.Titles.{Titles, tree_store}
 use Rattle.public_fold.proofs.Treeing.{IsTree}
 use Rattle.log_visits.proofs.ToldLemmas.{accepted_told}
 use Rattle.move_plan.specs.Fitting.{public_of}
-use Rattle.move_plan.specs.Noting.{note_of}
-use Rattle.role_graph.specs.Edges.{edges}
-use Rattle.move_plan.specs.Change.{change_of}
 use Rattle.public_fold.specs.Changing.{tree_then}
 use Rattle.public_fold.specs.Fitted.{told_step}
-use Rattle.public_fold.specs.Journal.{Entry, Journal, Stand, entry_step, entry_store, first_key, keys_of, note_step, nothing, stand_after, store_of}
-use Rattle.public_fold.specs.KeyStep.{Stepped, is_strict}
+use Rattle.public_fold.specs.Journal.{Journal, Stand, entry_step, entry_store, first_key, keys_of, note_step, nothing, stand_after, store_of}
+use Rattle.public_fold.specs.KeyStep.{Stepped}
 use Rattle.public_fold.specs.Preparing.{begun}
-use Rattle.public_fold.specs.Records.{Content, pieces_of, text_of}
 use Rattle.public_fold.specs.Told.{told_store}
 use Rattle.public_fold.specs.Valid.{IsValid}
 use Rattle.public_fold.proofs.Accepting.{accepted}
-use Rattle.public_fold.proofs.Counting.{journal_counted}
-use Rattle.public_fold.proofs.Keeping.{journal_tree}
 use Rattle.journal_bytes.specs.Bytes.{entry_body, step_payload}
 use Rattle.journal_bytes.specs.Keys.{AreWhole, all_keys, drawn_by}
 use Rattle.journal_bytes.specs.Notes.{declared_note}
 use Rattle.journal_bytes.specs.Owning.{IsTreeOf}
 use Rattle.journal_bytes.specs.Sealing.{IsSealable, keys_with}
 use Rattle.journal_bytes.specs.Upgrading.{upgrade_end, upgrade_payload}
-use Rattle.journal_bytes.proofs.DueTexts.{due_same, sealed}
+use Rattle.journal_bytes.proofs.DueTexts.{due_same}
 use Rattle.journal_bytes.proofs.NewTitles.{AreBelow}
 use Rattle.journal_bytes.proofs.NextBatches.{keys_drawn}
 use Rattle.journal_bytes.proofs.NextEntry.{between}
-use Rattle.journal_bytes.proofs.NextUpgrade.{no_contents, told_whole, upgrade_sealable, upgraded_valid}
+use Rattle.journal_bytes.proofs.NextUpgrade.{told_whole, upgrade_sealable, upgraded_valid}
 use Rattle.journal_bytes.proofs.NextValid.{begun_valid, entered_whole, next_valid, session_valid}
-use Rattle.journal_bytes.proofs.Sealable.{command_sealable, content_from}
+use Rattle.journal_bytes.proofs.Sealable.{command_sealable}
 use Rattle.journal_bytes.proofs.TitlesAfter.{joined, kept}
 use Rattle.journal_bytes.proofs.ToldSkeleton.{told_keys}
 use Rattle.store_owner.specs.Deeds.{AreDeedTitles, Deed, deed_draws, deed_end, deed_entry, deed_note, deed_refusal, deed_text, deed_then, Suits}

@@ -20,7 +20,6 @@ use Rattle.cry_base.specs.declared.commands.Refusal.{Refusal}
 use Rattle.cry_base.proofs.Members.{In-map}
 use Rattle.cry_base.specs.declared.roles.Edge.{Edge}
 use Rattle.folder_nodes.specs.Titles.{tree_store}
-use Rattle.log_visits.proofs.ToldLemmas.{accepted_told}
 use Rattle.key_links.specs.Ringed.{Ringed}
 use Rattle.move_plan.specs.Change.{Change}
 use Rattle.move_plan.specs.Fitting.{public_of}
@@ -48,15 +47,14 @@ use Rattle.journal_bytes.specs.Notes.{declared_note}
 use Rattle.journal_bytes.specs.Owning.{IsTreeOf}
 use Rattle.journal_bytes.specs.Script.{answer, answer_with, due_end}
 use Rattle.journal_bytes.specs.Sealing.{HoldsKeys, IsSealable, IsTold, keys_with}
-use Rattle.journal_bytes.proofs.DueTexts.{due_same, sealed}
+use Rattle.journal_bytes.proofs.DueTexts.{sealed}
 use Rattle.journal_bytes.proofs.NewTitles.{AreBelow}
 use Rattle.journal_bytes.proofs.NextBatches.{batches_then, epoch_of}
 use Rattle.journal_bytes.proofs.NextEntry.{between, stand_between}
 use Rattle.journal_bytes.proofs.NotesDeclared.{told_back}
 use Rattle.journal_bytes.proofs.Ready.{next_holds}
-use Rattle.journal_bytes.proofs.Sealable.{command_sealable, content_from}
-use Rattle.journal_bytes.proofs.TitlesAfter.{joined, titled_tree, told_tree, tree_back, tree_on}
-use Rattle.journal_bytes.proofs.ToldSkeleton.{told_keys}
+use Rattle.journal_bytes.proofs.Sealable.{content_from}
+use Rattle.journal_bytes.proofs.TitlesAfter.{titled_tree, told_tree, tree_back, tree_on}
 use Rattle.cry_base.specs.Requests.{Request}
 use Rattle.move_plan.specs.Noting.{note_of}
 use Rattle.cry_base.specs.Refusing.{refusal_of}

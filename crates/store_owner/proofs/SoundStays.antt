@@ -5,7 +5,7 @@ use Rattle.std.proofs.lemmas.Bool.{and_from, and_parts, eq-eqb, eqb-true}
 use Rattle.chacha_seal.specs.Keys.{KeyParts}
 use Rattle.chacha_seal.specs.Serials.{Counting}
 use Rattle.cry_base.specs.Limits.{most_file_bytes}
-use Rattle.cry_base.specs.Refusing.{has_bad_name, id_of, refusal_of}
+use Rattle.cry_base.specs.Refusing.{id_of, refusal_of}
 use Rattle.cry_base.specs.Requests.{Request}
 use Rattle.cry_base.specs.Requests.Request.{AddHolder, MakeFolder, WriteFile, Remove, Rename, Relocate, Grant, Revoke}
 use Rattle.cry_base.specs.Naming.{parent_path}

@@ -18,7 +18,7 @@ use Rattle.commit_journal.proofs.KeptLemmas.{between_wider, kept_starts, kept_th
 use Rattle.commit_journal.proofs.Standings.{whole_stands}
 use Rattle.record_format.specs.Spelling.{spell_payload}
 use Rattle.public_fold.specs.Journal.{Journal}
-use Rattle.public_fold.specs.Journal.Entry.{Did, Session}
+use Rattle.public_fold.specs.Journal.Entry.{Session}
 use Rattle.public_fold.specs.Valid.{IsValid}
 use Rattle.journal_bytes.specs.Bytes.{batches_of, entry_body}
 use Rattle.journal_bytes.specs.Journals.{HoldsBetween, IsSettled, Kept, StandsForJournal, StandsWholeForJournal}

@@ -14,7 +14,7 @@ use Rattle.record_format.specs.declared.note.Note.TheVariants as declared
 use Rattle.public_fold.specs.Fitted.{told_step}
 use Rattle.public_fold.specs.Heads.{IsSkeleton, content_head}
 use Rattle.public_fold.specs.Journal.{Entry, Journal, Stand, entry_step, keys_of, nothing, stand_after, steps_from, steps_of, store_of}
-use Rattle.public_fold.specs.Journal.Entry.{Session, Did}
+use Rattle.public_fold.specs.Journal.Entry.{Session}
 use Rattle.public_fold.specs.KeyStep.{Stepped}
 use Rattle.public_fold.specs.Keyed.{links_of}
 use Rattle.public_fold.specs.Lengths.{end_of}

@@ -21,7 +21,8 @@ ghost use Rattle.journal_bytes.specs.Folds.{public_stand};
 ghost use Rattle.journal_bytes.specs.Journals.{StandsForJournal};
 ghost use Rattle.journal_bytes.specs.Script.{Going};
 ghost use Rattle.journal_bytes.specs.Sealing.{skeleton_size};
-ghost use Rattle.store_owner.specs.Deeds.{Deed, deed_answer, deed_draws, deed_end, deed_key, deed_note, deed_payload, deed_refusal, deed_text, deed_then, Suits};
+ghost use Rattle.store_owner.specs.Deeds.{Deed, Suits, deed_answer, deed_draws, deed_end, deed_key, deed_note, deed_payload};
+ghost use Rattle.store_owner.specs.Deeds.{deed_refusal, deed_text, deed_then};
 ghost use Rattle.store_owner.specs.Applying.{Answers, IsCarriedOut, IsInterrupted};
 ghost use Rattle.cry_base.specs.Requests.{Request};
 ghost use Rattle.store_owner.specs.Deeds.Deed.{Commanded};
@@ -37,10 +38,12 @@ use cry_io::Disk;
 pub fn owners_go_on()
     ensures owner { (m : Journal) (d : Deed) (drawn : List (List ℕ)) (old new : OwnerView) (was shows : Option (List ℕ))
         → IsOwnerOf m old
-        → old.journal.limit ≤ most_store_bytes → old.file_bytes ≤ most_file_bytes → deed_answer (limits_in old) m old.journal.has_epoch d ≡ None → Suits old.state.keys d
+        → old.journal.limit ≤ most_store_bytes → old.file_bytes ≤ most_file_bytes
+        → deed_answer (limits_in old) m old.journal.has_epoch d ≡ None → Suits old.state.keys d
         → IsCarriedOut d drawn old new was shows → IsOwnerOf (deed_then m old.journal.has_epoch d drawn) new }
     ensures disk { (m : Journal) (d : Deed) (drawn : List (List ℕ)) (old new : OwnerView) (was shows : Option (List ℕ)) → IsOwnerOf m old
-        → old.journal.limit ≤ most_store_bytes → old.file_bytes ≤ most_file_bytes → deed_answer (limits_in old) m old.journal.has_epoch d ≡ None → Suits old.state.keys d
+        → old.journal.limit ≤ most_store_bytes → old.file_bytes ≤ most_file_bytes
+        → deed_answer (limits_in old) m old.journal.has_epoch d ≡ None → Suits old.state.keys d
         → IsCarriedOut d drawn old new was shows
         → WhereBothTold was shows (λ x y. StandsWhole old.key (batches_of old.key m) x
         → StandsWhole old.key (batches_of old.key (deed_then m old.journal.has_epoch d drawn)) y) }
@@ -49,7 +52,8 @@ pub fn owners_go_on()
         → old.journal.end ≤ new.journal.end }
     ensures behind { (m : Journal) (d : Deed) (drawn : List (List ℕ)) (old new : OwnerView) (was shows : Option (List ℕ))
         → IsOwnerOf m old
-        → old.journal.limit ≤ most_store_bytes → old.file_bytes ≤ most_file_bytes → deed_answer (limits_in old) m old.journal.has_epoch d ≡ None → Suits old.state.keys d
+        → old.journal.limit ≤ most_store_bytes → old.file_bytes ≤ most_file_bytes
+        → deed_answer (limits_in old) m old.journal.has_epoch d ≡ None → Suits old.state.keys d
         → IsCarriedOut d drawn old new was shows
         → WhereBothTold was shows (λ x y. StandsWhole old.key (batches_of old.key m) x → drop new.journal.end y ≡ drop new.journal.end x) }
 {}
@@ -58,7 +62,8 @@ pub fn owners_go_on()
 /// whole of the journal, it shows bytes that stand for the journal, or for it with the session begun, or with the command too.
 pub fn interrupted_commands_leave_a_journal()
     ensures { (m : Journal) (d : Deed) (drawn : List (List ℕ)) (old : OwnerView) (was shows : Option (List ℕ)) → IsOwnerOf m old
-        → old.journal.limit ≤ most_store_bytes → old.file_bytes ≤ most_file_bytes → deed_answer (limits_in old) m old.journal.has_epoch d ≡ None → Suits old.state.keys d
+        → old.journal.limit ≤ most_store_bytes → old.file_bytes ≤ most_file_bytes
+        → deed_answer (limits_in old) m old.journal.has_epoch d ≡ None → Suits old.state.keys d
         → IsInterrupted d drawn old was shows
         → WhereBothTold was shows (λ x y. StandsWhole old.key (batches_of old.key m) x
         → IsBetween (StandsForJournal old.key) m (deed_then m old.journal.has_epoch d drawn) y) }

@@ -1,6 +1,6 @@
 //! The owner of a store, and what the owner's commands do to it.
-ghost use Rattle.std.specs.Prelude.{◌≡◌, ◌≢◌, ◌<◌, ◌≤◌, ◌+◌, ◌↔◌, ℕ, [], ◌∷◌, None, Some, Err, IfErr, IfOk, IsTrue, OnErr, OnOk, false, is_some};
-ghost use Rattle.std.specs.Prelude.{length, replicate};
+ghost use Rattle.std.specs.Prelude.{◌≡◌, ◌≢◌, ◌<◌, ◌≤◌, ◌+◌, ◌↔◌, ℕ, [], ◌∷◌, None, Some, Err, IfErr, IfOk, IsTrue, OnErr, OnOk};
+ghost use Rattle.std.specs.Prelude.{false, is_some, length, replicate};
 ghost use Rattle.batch_log.specs.Moments.{FromThenOn};
 ghost use Rattle.commit_journal.specs.Holding.{GoesOn};
 ghost use Rattle.commit_journal.specs.Journals.{IsBehind, Joins, next_command, MayJoin, next_epoch};
@@ -387,7 +387,12 @@ impl Owner {
     }
 
     /// What is sealed and changed for what is asked. `Unfit` comes only where its note doesn't fit.
-    fn draft(&self, alloc: Global, asked: &Asked<'_>, steps: &mut Steps) -> Result<Change, FoldFault>
+    fn draft(
+        &self,
+        alloc: Global,
+        asked: &Asked<'_>,
+        steps: &mut Steps,
+    ) -> Result<Change, FoldFault>
         requires open { self.now.journal.is_closed ≡ false }
         requires found { IsFound (tree_store self.now.state.tree self.now.names) asked.now }
         ensures drafted { IfOk result (IsDrafted (deed_of asked.now) self.now) }

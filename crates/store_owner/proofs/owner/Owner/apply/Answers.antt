@@ -1,4 +1,4 @@
-use Rattle.std.proofs.Common.{◌≡◌, ◌∙◌, ap, refl, sym}
+use Rattle.std.proofs.Common.{◌∙◌, ap, refl, sym}
 use Rattle.cry_base.specs.Requests.{request_of}
 use Rattle.folder_nodes.specs.Targets.{why_of}
 use Rattle.public_fold.specs.Journal.{store_of}

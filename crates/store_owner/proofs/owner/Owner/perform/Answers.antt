@@ -1,4 +1,4 @@
-use Rattle.std.proofs.Common.{◌≡◌, ◌<◌, ◌≤◌, ◌*◌, ◌^◌, ◌++◌, ◌∙◌, List, Ok, ap, length, refl, replicate, subst, sym, ℕ}
+use Rattle.std.proofs.Common.{◌≡◌, ◌<◌, ◌≤◌, ◌*◌, ◌^◌, ◌++◌, ◌∙◌, List, Ok, ap, length, replicate, subst, sym, ℕ}
 use Rattle.batch_log.specs.Moments.{FromThenOn}
 use Rattle.cry_base.specs.Limits.{most_file_bytes, most_store_bytes}
 use Rattle.cry_base.specs.declared.memory.OutOfMemory.{OutOfMemory}
@@ -33,9 +33,9 @@ returns-in-Err-fill-clause-answers g c = λ m is.
     let planned : AnswersPlan {E = OutOfMemory} (Ok (verdicts.Planned c.in-Ok-Planned.change c.in-Ok-Planned.room)) r o c.plan.new.self =
     subst (λ (v : Verdict). AnswersPlan {E = OutOfMemory} (Ok v) r o c.plan.new.self) c.in-Ok-Planned.field-0-is c.in-Ok-Planned.ensures.answers in
     let draws = planned.3 m is in
-    undrawn_answer c.in-Err-fill.fault c.in-Ok-reserve.keys m r o c.plan.new.self (g.R.Source.left c.args.random.now) (g.R.Source.left c.fill.new.random) (g.D.Disk.shown c.args.disk.now) (g.D.Disk.shown c.args.disk.now)
+    undrawn_answer c.in-Err-fill.fault c.in-Ok.keys m r o c.plan.new.self (g.R.Source.left c.args.random.now) (g.R.Source.left c.fill.new.random) (g.D.Disk.shown c.args.disk.now) (g.D.Disk.shown c.args.disk.now)
     (g.D.Disk.may_leave c.args.disk.now) (g.D.Disk.may_leave c.args.disk.now) (g.D.Disk.since c.args.disk.now (g.D.Disk.moment c.args.disk.now))
-    (planned.2 m is) c.plan.ensures.room (c.in-Ok-reserve.ensures ∙ ap length c.as_slice-count.ensures ∙ ap (λ (s : Skeleton). length s.keys.items) c.skeleton.ensures ∙ draws.0) draws.1
+    (planned.2 m is) c.plan.ensures.room (c.in-Ok.ensures ∙ ap length c.as_slice-count.ensures ∙ ap (λ (s : Skeleton). length s.keys.items) c.skeleton.ensures ∙ draws.0) draws.1
     c.in-Err-fill.ensures.faults c.in-Err-fill.ensures.bytes c.in-Err-fill.ensures.told (c.disk_stands_still.ensures.rests o.key m)
 
 pub returns-in-Ok-Full-clause-answers : goal.returns-in-Ok-Full-clause-answers
@@ -45,8 +45,8 @@ returns-in-Ok-Full-clause-answers g c = λ m is.
     subst (λ (v : Verdict). AnswersPlan {E = OutOfMemory} (Ok v) (deed_of c.args.asked.now) o c.plan.new.self) c.in-Ok-Full.field-0-is c.in-Ok-Full.ensures.answers in
     (full.1 m is, full.0, c.disk_stands_still.ensures.rests o.key m)
 
-pub returns-in-Err-plan-clause-answers : goal.returns-in-Err-plan-clause-answers
-returns-in-Err-plan-clause-answers g c = λ m is. (c.plan.ensures.room, c.disk_stands_still.ensures.rests c.args.self.now.key m)
+pub returns-in-Err-clause-answers : goal.returns-in-Err-clause-answers
+returns-in-Err-clause-answers g c = λ m is. (c.plan.ensures.room, c.disk_stands_still.ensures.rests c.args.self.now.key m)
 
 pub returns-in_default-clause-answers : goal.returns-in_default-clause-answers
 returns-in_default-clause-answers g c = λ m is. (c.plan.ensures.room, c.disk_stands_still.ensures.rests c.args.self.now.key m)
@@ -109,7 +109,7 @@ returns-clause-answers g c = λ m is.
     } in
     let left : IsInterrupted r drawn mid was shows → IsCutShort m r o before after was shows might may since = λ h. record {
       drawn = drawn;
-      drawn_count = ap length c.as_slice.ensures ∙ c.in-Ok-fill.ensures.count ∙ c.in-Ok-reserve.ensures ∙ ap length c.as_slice-count.ensures
+      drawn_count = ap length c.as_slice.ensures ∙ c.in-Ok-fill.ensures.count ∙ c.in-Ok.ensures ∙ ap length c.as_slice-count.ensures
           ∙ ap (λ (s : Skeleton). length s.keys.items) c.skeleton.ensures ∙ (planned.3 m is).0;
       drawn_sizes = subst AreKeys (sym c.as_slice.ensures) c.in-Ok-fill.ensures.sizes;
       next_bytes = λ x y a b. c.in-Ok-fill.ensures.bytes x y a b ∙ ap (λ (d : List (List ℕ)). joined d ++ y) (sym c.as_slice.ensures);
@@ -135,7 +135,7 @@ returns-in-Ok-Full-clause-draws g c = takes_none (g.R.Source.left c.args.random.
 
 pub returns-clause-draws : goal.returns-clause-draws
 returns-clause-draws g c =
-    takes_filled c.carry_out.result c.in-Ok-reserve.keys c.in-Ok-fill.drawn (g.R.Source.left c.args.random.now) (g.R.Source.left c.fill.new.random) c.in-Ok-fill.ensures.sizes c.in-Ok-fill.ensures.bytes
+    takes_filled c.carry_out.result c.in-Ok.keys c.in-Ok-fill.drawn (g.R.Source.left c.args.random.now) (g.R.Source.left c.fill.new.random) c.in-Ok-fill.ensures.sizes c.in-Ok-fill.ensures.bytes
 
 pub returns-clause-short : goal.returns-clause-short
 returns-clause-short g c = λ left need is. never_short c.carry_out.result left need c.carry_out.ensures.fault is
@@ -154,13 +154,13 @@ returns-in-Err-fill-clause-short g c = λ left need is.
     (sound_still o mid c.plan.ensures.room sound) (limit_still o mid c.plan.ensures.room most_store_bytes limit)
     planned.0.is_skeleton planned.0.fits planned.1.ends_within
     in
-    let count : c.in-Ok-reserve.keys ≡ length p.ready.skeleton.keys.items =
-    c.in-Ok-reserve.ensures ∙ ap length c.as_slice-count.ensures ∙ ap (λ (s : Skeleton). length s.keys.items) c.skeleton.ensures
+    let count : c.in-Ok.keys ≡ length p.ready.skeleton.keys.items =
+    c.in-Ok.ensures ∙ ap length c.as_slice-count.ensures ∙ ap (λ (s : Skeleton). length s.keys.items) c.skeleton.ensures
     in
     let store = c.sound_owners_keep_a_store.ensures.store o in
     let accepted = c.requires.accepted (own_store o) store in
     let plan = are_planned o mid r p c.plan.ensures.room store planned.0 in
-    falls_short o r c.in-Ok-reserve.keys (g.R.Source.left c.args.random.now) (g.R.Source.left c.fill.new.random) sound accepted
+    falls_short o r c.in-Ok.keys (g.R.Source.left c.args.random.now) (g.R.Source.left c.fill.new.random) sound accepted
     (λ at seen. count ∙ plan at seen) (subst (λ n. 32 * n < 2 ^ 32) (sym count) few) c.in-Err-fill.ensures.told
     c.in-Err-fill.fault left need c.in-Err-fill.ensures.faults c.in-Err-fill.ensures.bytes (err_is c.in-Err-fill.fault (faults.RandomShort left need) is)
 
@@ -169,8 +169,8 @@ returns-in-Err-fill-clause-short g c = λ left need is.
 pub returns-in-Ok-Full-clause-published : goal.returns-in-Ok-Full-clause-published
 returns-in-Ok-Full-clause-published g c = λ m is rests. c.disk_stands_still.ensures.published c.args.self.now.key m rests
 
-pub returns-in-Err-plan-clause-published : goal.returns-in-Err-plan-clause-published
-returns-in-Err-plan-clause-published g c = λ m is rests. c.disk_stands_still.ensures.published c.args.self.now.key m rests
+pub returns-in-Err-clause-published : goal.returns-in-Err-clause-published
+returns-in-Err-clause-published g c = λ m is rests. c.disk_stands_still.ensures.published c.args.self.now.key m rests
 
 pub returns-in-Err-fill-clause-published : goal.returns-in-Err-fill-clause-published
 returns-in-Err-fill-clause-published g c = λ m is rests. c.disk_stands_still.ensures.published c.args.self.now.key m rests

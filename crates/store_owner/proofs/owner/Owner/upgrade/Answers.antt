@@ -1,4 +1,4 @@
-use Rattle.std.proofs.Common.{◌≡◌, ◌∙◌, ap, refl, sym}
+use Rattle.std.proofs.Common.{◌∙◌, ap, refl, sym}
 use Rattle.store_owner.specs.Owned.{OwnerView}
 use Rattle.store_owner.proofs.owner.Owner.upgrade.Goals as goal
 
