@@ -139,6 +139,7 @@ module _ (key : List ℕ) (m : Journal) (first_shown : Option (List ℕ)) (old n
   done_rests reply is = subst (λ j. ComesToRest key m j was shows might may since) (begun_then is.drawn) (keyed_rest _ is.comes_to_rest)
 
   done_behind : (reply : Reply) (is : Done reply) → KeepsBehind key m (then is.drawn) first_shown shows
+  unfolding opened
   done_behind reply is =
       let low = length (image_of key m) in
       let end = owner_end key (then is.drawn) new (is.same_key ∙ stands.has_key) (subst (λ j. IsOwnerOf j new) (begun_then is.drawn) is.owner_is) in
@@ -198,13 +199,13 @@ module _ (key : List ℕ) (m : Journal) (first_shown : Option (List ℕ)) (old n
   pub stopped : (fault : ApplyFault) → Answers (Err fault) m Upgrading old new left_before left_after was shows might may since
       → (IsTrue old.journal.is_closed → ⊥) → (fault ≢ faults.DiskFault → shows ≡ was) → (fault ≡ faults.OutOfMemory → left_after ≡ left_before)
       → Ended (apply_status fault)
-  stopped faults.RandomFault is open same undrawn = (rested is.2 (same (λ e. absurd cc)), limited None is.0)
-  stopped (faults.RandomShort left need) is open same undrawn = (
+  stopped faults.RandomFault is unclosed same undrawn = (rested is.2 (same (λ e. absurd cc)), limited None is.0)
+  stopped (faults.RandomShort left need) is unclosed same undrawn = (
     rested is.6 (same (λ e. absurd cc)),
     limited None is.0,
     record { is_need = is.2; is_short = is.3; were_left = is.4; nothing_left = is.5 },
   )
-  stopped faults.DiskFault is open same undrawn =
+  stopped faults.DiskFault is unclosed same undrawn =
       let cut = is.2 in
       let high = then cut.drawn in
       let stops : StopsBetween key m high was shows might may since =
@@ -220,8 +221,8 @@ module _ (key : List ℕ) (m : Journal) (first_shown : Option (List ℕ)) (old n
         holds = stops.holds rests;
         kept = record { grown = grown cut.drawn; kept = stops.kept rests; hands = stops.hands };
       })
-  stopped faults.Closed is open same undrawn = absurd (open is.0)
-  stopped faults.OutOfMemory is open same undrawn = inr (inl (rested is.1 (same (λ e. absurd cc)), undrawn refl))
+  stopped faults.Closed is unclosed same undrawn = absurd (unclosed is.0)
+  stopped faults.OutOfMemory is unclosed same undrawn = inr (inl (rested is.1 (same (λ e. absurd cc)), undrawn refl))
 
 -- the owner stands for the journal, in whatever words
 pub stands_for : (key : List ℕ) (m : Journal) (o : OwnerView) (was : Option (List ℕ)) → StandsAt version_limits key (opened m []) o was → IsOwnerOf m o

@@ -19,7 +19,8 @@ pub returns-then-version-ne-OLD_VERSION-clause-ends : goal.returns-then-version-
 returns-then-version-ne-OLD_VERSION-clause-ends g c = λ key m was stands kept.
     let disk = c.args.disk.now in
     rested_new key m was c.args.owner (g.R.Source.left c.args.random.now) (g.D.Disk.shown disk) (g.W.Sink.written c.args.out.now) (g.D.Disk.may_leave disk)
-    (g.D.Disk.moment disk) (g.D.Disk.since disk) stands c.requires.durable kept (λ s left at. g.met.D.Disk.only_now disk s left at) ?
+    (g.D.Disk.moment disk) (g.D.Disk.since disk) stands c.requires.durable kept (λ s left at. g.met.D.Disk.only_now disk s left at)
+    (λ one. c.if-version-ne-OLD_VERSION.true (c.version.ensures ∙ one))
 
 pub returns-then-version-ne-OLD_VERSION-clause-published : goal.returns-then-version-ne-OLD_VERSION-clause-published
 returns-then-version-ne-OLD_VERSION-clause-published g c = λ key m stands.
@@ -35,7 +36,8 @@ returns-then-version-ne-OLD_VERSION-clause-published g c = λ key m stands.
 
 pub returns-in-Ok-clause-ends : goal.returns-in-Ok-clause-ends
 returns-in-Ok-clause-ends g c = λ key m was stands kept.
-    let one = first_version key m c.args.owner (g.D.Disk.shown c.args.disk.now) stands ? in
+    let one = first_version key m c.args.owner (g.D.Disk.shown c.args.disk.now) stands
+    (sym c.version.ensures ∙ c.if-version-ne-OLD_VERSION.false) in
     let so = answered key m was c.args.owner c.upgrade-upgraded.new.self (g.R.Source.left c.args.random.now) (g.R.Source.left c.upgrade-upgraded.new.random)
     (g.D.Disk.shown c.args.disk.now) (g.D.Disk.shown c.upgrade-upgraded.new.disk) (g.W.Sink.written c.args.out.now) (g.W.Sink.written c.tell_reply.new.out)
     (g.D.Disk.may_leave c.args.disk.now) (g.D.Disk.may_leave c.upgrade-upgraded.new.disk)
@@ -63,7 +65,8 @@ returns-in-Ok-clause-published g c = λ key m stands.
 
 pub returns-in-Err-clause-ends : goal.returns-in-Err-clause-ends
 returns-in-Err-clause-ends g c = λ key m was stands kept.
-    let one = first_version key m c.args.owner (g.D.Disk.shown c.args.disk.now) stands ? in
+    let one = first_version key m c.args.owner (g.D.Disk.shown c.args.disk.now) stands
+    (sym c.version.ensures ∙ c.if-version-ne-OLD_VERSION.false) in
     let written = g.W.Sink.written c.args.out.now in
     subst (λ status. EndsUpgrade status key m
     (seen_from (g.R.Source.left c.args.random.now) (g.R.Source.left c.upgrade-upgraded.new.random) was (g.D.Disk.shown c.upgrade-upgraded.new.disk) written written)
