@@ -55,6 +55,15 @@ unread_ends (BadLine line) typed left key m random shown written may KeepsTo rea
 unread_ends Failed typed left key m random shown written may KeepsTo reads hands shows kept = unopened key m random shown shown written KeepsTo shows kept
 unread_ends OutOfMemory typed left key m random shown written may KeepsTo reads hands shows kept = inl (unopened key m random shown shown written KeepsTo shows kept)
 
+-- no other answer than these
+pub undone_input : {P : Type 0} (fault : InputFault) (status : Status) → ((line : ℕ) → statuses.BadScript line ≡ status → P) → (statuses.ReadFault ≡ status → P)
+    → (statuses.OutOfMemory ≡ status → P) → input_status fault ≡ status → P
+undone_input {P} fault status bad failed memory is = input_cases (λ s. s ≡ status → P) bad failed memory fault is
+
+-- the input hands in one key
+pub same_owner : (typed own key : List ℕ) → owner_answer typed ≡ Ok own → HandsInAlone typed key → own ≡ key
+same_owner typed own key is hands = let both = sym is ∙ hands in cc
+
 -- nothing is printed
 pub unprinted : (status : Status) (written : Option (List ℕ)) (reply : Reply) → ((x y : List ℕ) → y ≡ x → PrintsReply status reply x y)
     → WhereBothTold written written (PrintsReply status reply)
@@ -72,6 +81,11 @@ unopened_ends fault why key m left was shown written may KeepsTo shows kept =
     (λ (e : fault ≡ opening.OutOfMemory). subst (λ (f : OpenFault). EndsUpgrade (open_status f) key m (seen_unopened left was shown written) may KeepsTo) (sym e)
     (inl (unopened key m left was shown written KeepsTo shows kept)))
     why
+
+pub unopened_is_no_draw : {P : Type 0} (fault : OpenFault) (left need : ℕ) → open_status fault ≡ statuses.RandomShort left need → P
+unopened_is_no_draw {P} fault left need =
+    each_unopened (λ s. s ≡ statuses.RandomShort left need → P) (λ e. absurd cc) (λ e. absurd cc) (λ at e. absurd cc) (λ batch at e. absurd cc)
+    (λ e. absurd cc) (λ e. absurd cc) fault
 
 -- ---- behind the opening
 
