@@ -8,6 +8,8 @@ use Rattle.public_fold.specs.KeyStep.{KeyState, key_step, next_epoch, published,
 use Rattle.public_fold.proofs.Prefixes.{stand_after-append}
 use Rattle.journal_bytes.specs.Attempts.{Course}
 use Rattle.journal_bytes.proofs.NextEntry.{between}
+use Rattle.store_owner.specs.Deeds.{Deed, deed_entry}
+use Rattle.store_owner.specs.Deeds.Deed.{Commanded, Upgrading}
 
 -- a session over a journal, whether it has begun its epoch
 abbrev pub course : Journal → Bool → Course
@@ -40,6 +42,10 @@ epoch_made m version keys = ap (λ (k : KeyState). k.epoch) (keys_more m (Made v
 pub epoch_upgraded : (m : Journal) (keys : List (List ℕ)) → epoch_in (m ++ Upgraded keys ∷ []) ≡ epoch_in m
 unfolding entry_step note_step key_step step_with published keys_of
 epoch_upgraded m keys = ap (λ (k : KeyState). k.epoch) (keys_more m (Upgraded keys))
+
+pub epoch_deed : (m : Journal) (d : Deed) (keys : List (List ℕ)) → epoch_in (m ++ deed_entry d keys ∷ []) ≡ epoch_in m
+epoch_deed m (Commanded r) keys = epoch_command m r keys
+epoch_deed m Upgrading keys = epoch_upgraded m keys
 
 pub epoch_between : (m : Journal) (b : Bool) → epoch_in (between m b) ≡ epoch_in m + cond b 0 1
 epoch_between m true = ap epoch_in (append-nil m) ∙ omega arith

@@ -3,16 +3,18 @@ use Rattle.std.proofs.Common.{◌≡◌, ◌<◌, ◌≤◌, ℕ, zero, suc, ◌
 use Rattle.std.specs.Prelude.{slice_index_or}
 use Rattle.std.proofs.lemmas.List.{length-append}
 use Rattle.std.proofs.lemmas.Bool.{false≢true}
-use Rattle.cry_base.specs.Requests.{Request}
 use Rattle.cry_base.specs.Sets.{In}
 use Rattle.cry_base.proofs.Members.{In-append}
 use Rattle.public_fold.specs.Journal.{Journal}
-use Rattle.public_fold.specs.Journal.Entry.{Session, Made, Did}
+use Rattle.public_fold.specs.Journal.Entry.{Session, Made, Did, Upgraded}
 use Rattle.journal_bytes.specs.Attempts.{Course, begun_journal, course_then}
 use Rattle.journal_bytes.specs.Attempts.Event.{IsRefused, Enters, IsAbandoned, LosesEpoch, Ends, Reopens}
 use Rattle.journal_bytes.proofs.NextEntry.{between}
-use Rattle.attempt_laws.specs.Trials.{Befalls, BeginsEpoch, Happening, ShareVeil, ShareWithThemselves, Trial, all_trials, attempt_of, command_trial, course_behind, epoch_trial, made_course, trials, trials_at}
-use Rattle.attempt_laws.proofs.Epochs.{course, epoch_between, epoch_command, epoch_in, epoch_made, epoch_session, length_between}
+use Rattle.store_owner.specs.Deeds.{Deed, deed_entry}
+use Rattle.store_owner.specs.Deeds.Deed.{Commanded, Upgrading}
+use Rattle.attempt_laws.specs.Trials.{Befalls, BeginsEpoch, Happening, ShareVeil, ShareWithThemselves, Trial, UpgradeEnters, UpgradeIsAbandoned, UpgradeIsRefused}
+use Rattle.attempt_laws.specs.Trials.{all_trials, attempt_of, course_behind, deed_trial, epoch_trial, made_course, trials, trials_at, trials_with}
+use Rattle.attempt_laws.proofs.Epochs.{course, epoch_between, epoch_deed, epoch_in, epoch_made, epoch_session, length_between}
 
 -- an epoch and a number, as one: both rise, and where neither does, this doesn't
 abbrev pub rank : Trial → ℕ
@@ -25,8 +27,8 @@ next_rank m b = epoch_in (between m b) + (length m + 1)
 abbrev session_behind : Journal → Trial
 session_behind m = record { behind = m; entry = Session }
 
-abbrev command_behind : Journal → Request → List (List ℕ) → Trial
-command_behind m r keys = record { behind = m; entry = Did r keys }
+abbrev deed_behind : Journal → Deed → List (List ℕ) → Trial
+deed_behind m d keys = record { behind = m; entry = deed_entry d keys }
 
 -- a batch that is written from here on: where it has the next rank and no epoch is begun, it is the epoch's
 abbrev IsAhead : Journal → Bool → Trial → Type 0
@@ -56,20 +58,20 @@ apart-append (x ∷ xs) ys a b cross = (
 
 -- ---- the ranks of what is written
 
-command_rank : (m : Journal) (b : Bool) (r : Request) (keys : List (List ℕ))
-    → rank (command_behind (between m b) r keys) ≡ next_rank m b + cond b 0 1
-command_rank m b r keys =
-    let same : epoch_in (between m b ++ Did r keys ∷ []) ≡ epoch_in (between m b) = epoch_command (between m b) r keys in
+deed_rank : (m : Journal) (b : Bool) (d : Deed) (keys : List (List ℕ))
+    → rank (deed_behind (between m b) d keys) ≡ next_rank m b + cond b 0 1
+deed_rank m b d keys =
+    let same : epoch_in (between m b ++ deed_entry d keys ∷ []) ≡ epoch_in (between m b) = epoch_deed (between m b) d keys in
     let long : length (between m b) ≡ length m + cond b 0 1 = length_between m b in
     omega (arith, same, long)
 
-entered_rank : (m : Journal) (b : Bool) (r : Request) (keys : List (List ℕ))
-    → next_rank (between m b ++ Did r keys ∷ []) true ≡ next_rank m b + cond b 0 1 + 1
-entered_rank m b r keys =
-    let n = between m b ++ Did r keys ∷ [] in
+entered_rank : (m : Journal) (b : Bool) (d : Deed) (keys : List (List ℕ))
+    → next_rank (between m b ++ deed_entry d keys ∷ []) true ≡ next_rank m b + cond b 0 1 + 1
+entered_rank m b d keys =
+    let n = between m b ++ deed_entry d keys ∷ [] in
     let nil : epoch_in (n ++ []) ≡ epoch_in n = ap epoch_in (append-nil n) in
-    let same : epoch_in (between m b ++ Did r keys ∷ []) ≡ epoch_in (between m b) = epoch_command (between m b) r keys in
-    let more : length (between m b ++ Did r keys ∷ []) ≡ length (between m b) + 1 = length-append (between m b) (Did r keys ∷ []) in
+    let same : epoch_in (between m b ++ deed_entry d keys ∷ []) ≡ epoch_in (between m b) = epoch_deed (between m b) d keys in
+    let more : length (between m b ++ deed_entry d keys ∷ []) ≡ length (between m b) + 1 = length-append (between m b) (deed_entry d keys ∷ []) in
     let long : length (between m b) ≡ length m + cond b 0 1 = length_between m b in
     omega (arith, nil, same, more, long)
 
@@ -92,49 +94,49 @@ ended_rank m =
     omega (arith, a, b)
 
 -- ---- what is written at one happening
--- the epoch's batch and a command's, as they are written together
-abbrev written_both : Journal → Bool → Request → List (List ℕ) → List Trial
-written_both m b r keys = epoch_trial (course m b) ++ command_trial (course m b) r keys ∷ []
+-- the epoch's batch and that of a command or an upgrade, as they are written together
+abbrev trials_both : Journal → Bool → Deed → List (List ℕ) → List Trial
+trials_both m b d keys = epoch_trial (course m b) ++ deed_trial (course m b) d keys ∷ []
 
 epoch_is : (m : Journal) (b : Bool) (t : Trial) → In t (epoch_trial (course m b)) → (b ≡ false) × (t ≡ session_behind m)
 unfolding epoch_trial
 epoch_is m true t i = absurd i
 epoch_is m false t i = ⊎_elim (λ (e : t ≡ session_behind m). (refl, e)) (λ n. absurd n) i
 
-both_are : (m : Journal) (b : Bool) (r : Request) (keys : List (List ℕ)) (t : Trial) → In t (written_both m b r keys)
-    → ((b ≡ false) × (t ≡ session_behind m)) ⊎ (t ≡ command_behind (between m b) r keys)
-unfolding command_trial begun_journal
-both_are m b r keys t i = ⊎_elim
+both_are : (m : Journal) (b : Bool) (d : Deed) (keys : List (List ℕ)) (t : Trial) → In t (trials_both m b d keys)
+    → ((b ≡ false) × (t ≡ session_behind m)) ⊎ (t ≡ deed_behind (between m b) d keys)
+unfolding deed_trial begun_journal
+both_are m b d keys t i = ⊎_elim
     (λ l. inl (epoch_is m b t l))
-    (λ s. ⊎_elim (λ (e : t ≡ command_behind (between m b) r keys). inr e) (λ n. absurd n) s)
-    ((In-append Trial t (epoch_trial (course m b)) (command_trial (course m b) r keys ∷ [])).0 i)
+    (λ s. ⊎_elim (λ (e : t ≡ deed_behind (between m b) d keys). inr e) (λ n. absurd n) s)
+    ((In-append Trial t (epoch_trial (course m b)) (deed_trial (course m b) d keys ∷ [])).0 i)
 
 session_ahead : (m : Journal) (b : Bool) (t : Trial) → b ≡ false → t ≡ session_behind m → IsAhead m b t
 session_ahead m true t h e = absurd (false≢true (sym h))
 session_ahead m false t h e = inr (sym (ap rank e), λ _. e)
 
-command_ahead : (m : Journal) (b : Bool) (r : Request) (keys : List (List ℕ)) → IsAhead m b (command_behind (between m b) r keys)
-command_ahead m true r keys =
-    let same : rank (command_behind (between m true) r keys) ≡ next_rank m true + 0 = command_rank m true r keys in
-    let told : next_rank m true ≡ rank (command_behind (between m true) r keys) = omega (arith, same) in
+deed_ahead : (m : Journal) (b : Bool) (d : Deed) (keys : List (List ℕ)) → IsAhead m b (deed_behind (between m b) d keys)
+deed_ahead m true d keys =
+    let same : rank (deed_behind (between m true) d keys) ≡ next_rank m true + 0 = deed_rank m true d keys in
+    let told : next_rank m true ≡ rank (deed_behind (between m true) d keys) = omega (arith, same) in
     inr (told, λ h. absurd (false≢true (sym h)))
-command_ahead m false r keys =
-    let same : rank (command_behind (between m false) r keys) ≡ next_rank m false + 1 = command_rank m false r keys in
-    let told : next_rank m false < rank (command_behind (between m false) r keys) = omega (arith, same) in inl told
+deed_ahead m false d keys =
+    let same : rank (deed_behind (between m false) d keys) ≡ next_rank m false + 1 = deed_rank m false d keys in
+    let told : next_rank m false < rank (deed_behind (between m false) d keys) = omega (arith, same) in inl told
 
-both_ahead : (m : Journal) (b : Bool) (r : Request) (keys : List (List ℕ)) (t : Trial) → In t (written_both m b r keys) → IsAhead m b t
-both_ahead m b r keys t i = ⊎_elim
+both_ahead : (m : Journal) (b : Bool) (d : Deed) (keys : List (List ℕ)) (t : Trial) → In t (trials_both m b d keys) → IsAhead m b t
+both_ahead m b d keys t i = ⊎_elim
     (λ l. session_ahead m b t l.0 l.1)
-    (λ (e : t ≡ command_behind (between m b) r keys). subst (λ z. IsAhead m b z) (sym e) (command_ahead m b r keys))
-    (both_are m b r keys t i)
+    (λ (e : t ≡ deed_behind (between m b) d keys). subst (λ z. IsAhead m b z) (sym e) (deed_ahead m b d keys))
+    (both_are m b d keys t i)
 
-both_low : (m : Journal) (b : Bool) (r : Request) (keys : List (List ℕ)) (t : Trial) → In t (written_both m b r keys)
+both_low : (m : Journal) (b : Bool) (d : Deed) (keys : List (List ℕ)) (t : Trial) → In t (trials_both m b d keys)
     → rank t ≤ next_rank m b + cond b 0 1
-both_low m b r keys t i = ⊎_elim
+both_low m b d keys t i = ⊎_elim
     (λ l. session_low b l.0 l.1)
-    (λ (e : t ≡ command_behind (between m b) r keys).
-    let same : rank t ≡ next_rank m b + cond b 0 1 = ap rank e ∙ command_rank m b r keys in omega (arith, same))
-    (both_are m b r keys t i)
+    (λ (e : t ≡ deed_behind (between m b) d keys).
+    let same : rank t ≡ next_rank m b + cond b 0 1 = ap rank e ∙ deed_rank m b d keys in omega (arith, same))
+    (both_are m b d keys t i)
   where
     session_low : (b : Bool) → b ≡ false → t ≡ session_behind m → rank t ≤ next_rank m b + cond b 0 1
     session_low true h e = absurd (false≢true (sym h))
@@ -145,13 +147,13 @@ unfolding epoch_trial
 epoch_apart m true = tt
 epoch_apart m false = (λ u i e. absurd i, tt)
 
-both_apart : (m : Journal) (b : Bool) (r : Request) (keys : List (List ℕ)) → AreApart (written_both m b r keys)
-unfolding command_trial begun_journal
-both_apart m b r keys =
-    apart-append (epoch_trial (course m b)) (command_trial (course m b) r keys ∷ []) (epoch_apart m b) (λ u i e. absurd i, tt)
+both_apart : (m : Journal) (b : Bool) (d : Deed) (keys : List (List ℕ)) → AreApart (trials_both m b d keys)
+unfolding deed_trial begun_journal
+both_apart m b d keys =
+    apart-append (epoch_trial (course m b)) (deed_trial (course m b) d keys ∷ []) (epoch_apart m b) (λ u i e. absurd i, tt)
     (λ t u i j e. ⊎_elim
-    (λ (s : u ≡ command_behind (between m b) r keys).
-    let is = epoch_is m b t i in absurd (differ b is.0 is.1 (e ∙ ap rank s ∙ command_rank m b r keys)))
+    (λ (s : u ≡ deed_behind (between m b) d keys).
+    let is = epoch_is m b t i in absurd (differ b is.0 is.1 (e ∙ ap rank s ∙ deed_rank m b d keys)))
     (λ n. absurd n) j)
   where
     differ : {t : Trial} (b : Bool) → b ≡ false → t ≡ session_behind m → rank t ≡ next_rank m b + cond b 0 1 → ⊥
@@ -180,11 +182,11 @@ begun_ahead m true u h =
     let told : next_rank m true ≡ rank u = omega (arith, same, more) in inr (told, λ g. absurd (false≢true (sym g))))
     h
 
-entered_ahead : (m : Journal) (b : Bool) (r : Request) (keys : List (List ℕ)) (u : Trial)
-    → IsAhead (between m b ++ Did r keys ∷ []) true u → IsAhead m b u
-entered_ahead m b r keys u h =
-    let low : next_rank (between m b ++ Did r keys ∷ []) true ≤ rank u = ahead_low (between m b ++ Did r keys ∷ []) true u h in
-    let more : next_rank (between m b ++ Did r keys ∷ []) true ≡ next_rank m b + cond b 0 1 + 1 = entered_rank m b r keys in
+entered_ahead : (m : Journal) (b : Bool) (d : Deed) (keys : List (List ℕ)) (u : Trial)
+    → IsAhead (between m b ++ deed_entry d keys ∷ []) true u → IsAhead m b u
+entered_ahead m b d keys u h =
+    let low : next_rank (between m b ++ deed_entry d keys ∷ []) true ≤ rank u = ahead_low (between m b ++ deed_entry d keys ∷ []) true u h in
+    let more : next_rank (between m b ++ deed_entry d keys ∷ []) true ≡ next_rank m b + cond b 0 1 + 1 = entered_rank m b d keys in
     let told : next_rank m b < rank u = omega (arith, low, more) in inl told
 
 abandoned_ahead : (m : Journal) (b : Bool) (u : Trial) → IsAhead (between m b) false u → IsAhead m b u
@@ -197,34 +199,43 @@ abbrev IsBehind : Course → Trial → Type 0
 IsBehind c u = IsAhead c.journal c.begun u
 
 written_ahead : (m : Journal) (b : Bool) (now : Happening) (t : Trial) → In t (trials_at (course m b) now) → IsAhead m b t
-unfolding trials_at
+unfolding trials_at trials_with
 written_ahead m b (Befalls (IsRefused r)) t i = absurd i
-written_ahead m b (Befalls (Enters r keys)) t i = both_ahead m b r keys t i
-written_ahead m b (Befalls (IsAbandoned r keys)) t i = both_ahead m b r keys t i
+written_ahead m b (Befalls (Enters r keys)) t i = both_ahead m b (Commanded r) keys t i
+written_ahead m b (Befalls (IsAbandoned r keys)) t i = both_ahead m b (Commanded r) keys t i
 written_ahead m b (Befalls LosesEpoch) t i = session_ahead m b t (epoch_is m b t i).0 (epoch_is m b t i).1
 written_ahead m b (Befalls Ends) t i = absurd i
 written_ahead m b (Befalls Reopens) t i = absurd i
 written_ahead m b BeginsEpoch t i = session_ahead m b t (epoch_is m b t i).0 (epoch_is m b t i).1
+written_ahead m b UpgradeIsRefused t i = absurd i
+written_ahead m b (UpgradeEnters keys) t i = both_ahead m b Upgrading keys t i
+written_ahead m b (UpgradeIsAbandoned keys) t i = both_ahead m b Upgrading keys t i
 
 later_ahead : (m : Journal) (b : Bool) (now : Happening) (u : Trial) → IsBehind (course_behind (course m b) now) u → IsAhead m b u
 unfolding course_behind course_then begun_journal
 later_ahead m b (Befalls (IsRefused r)) u h = h
-later_ahead m b (Befalls (Enters r keys)) u h = entered_ahead m b r keys u h
+later_ahead m b (Befalls (Enters r keys)) u h = entered_ahead m b (Commanded r) keys u h
 later_ahead m b (Befalls (IsAbandoned r keys)) u h = abandoned_ahead m b u h
 later_ahead m b (Befalls LosesEpoch) u h = ended_ahead m b u h
 later_ahead m b (Befalls Ends) u h = ended_ahead m b u h
 later_ahead m b (Befalls Reopens) u h = ended_ahead m b u h
 later_ahead m b BeginsEpoch u h = begun_ahead m b u h
+later_ahead m b UpgradeIsRefused u h = h
+later_ahead m b (UpgradeEnters keys) u h = entered_ahead m b Upgrading keys u h
+later_ahead m b (UpgradeIsAbandoned keys) u h = abandoned_ahead m b u h
 
 now_apart : (m : Journal) (b : Bool) (now : Happening) → AreApart (trials_at (course m b) now)
-unfolding trials_at
+unfolding trials_at trials_with
 now_apart m b (Befalls (IsRefused r)) = tt
-now_apart m b (Befalls (Enters r keys)) = both_apart m b r keys
-now_apart m b (Befalls (IsAbandoned r keys)) = both_apart m b r keys
+now_apart m b (Befalls (Enters r keys)) = both_apart m b (Commanded r) keys
+now_apart m b (Befalls (IsAbandoned r keys)) = both_apart m b (Commanded r) keys
 now_apart m b (Befalls LosesEpoch) = epoch_apart m b
 now_apart m b (Befalls Ends) = tt
 now_apart m b (Befalls Reopens) = tt
 now_apart m b BeginsEpoch = epoch_apart m b
+now_apart m b UpgradeIsRefused = tt
+now_apart m b (UpgradeEnters keys) = both_apart m b Upgrading keys
+now_apart m b (UpgradeIsAbandoned keys) = both_apart m b Upgrading keys
 
 -- an epoch that was lost is attempted again as it was
 lost_again : (m : Journal) (b : Bool) (t u : Trial) → In t (epoch_trial (course m b)) → IsAhead m false u → rank t ≡ rank u → AreOne t u
@@ -244,24 +255,30 @@ begun_once m false t u i h e =
     let more : next_rank (between m false) true ≡ next_rank m false + 1 = begun_rank m false in
     absurd (omega (arith, same, low, more, e))
 
-command_once : (m : Journal) (b : Bool) (r : Request) (keys : List (List ℕ)) (t u : Trial) → In t (written_both m b r keys)
+deed_once : (m : Journal) (b : Bool) (d : Deed) (keys : List (List ℕ)) (t u : Trial) → In t (trials_both m b d keys)
     → next_rank m b + cond b 0 1 + 1 ≤ rank u → rank t ≡ rank u → AreOne t u
-command_once m b r keys t u i low e =
-    let top : rank t ≤ next_rank m b + cond b 0 1 = both_low m b r keys t i in absurd (omega (arith, top, low, e))
+deed_once m b d keys t u i low e =
+    let top : rank t ≤ next_rank m b + cond b 0 1 = both_low m b d keys t i in absurd (omega (arith, top, low, e))
 
 now_once : (m : Journal) (b : Bool) (now : Happening) (t u : Trial) → In t (trials_at (course m b) now)
     → IsBehind (course_behind (course m b) now) u → rank t ≡ rank u → AreOne t u
-unfolding trials_at course_behind course_then begun_journal
+unfolding trials_at trials_with course_behind course_then begun_journal
 now_once m b (Befalls (IsRefused r)) t u i h e = absurd i
 now_once m b (Befalls (Enters r keys)) t u i h e =
     let low = ahead_low (between m b ++ Did r keys ∷ []) true u h in
-    command_once m b r keys t u i (subst (λ n. n ≤ rank u) (entered_rank m b r keys) low) e
+    deed_once m b (Commanded r) keys t u i (subst (λ n. n ≤ rank u) (entered_rank m b (Commanded r) keys) low) e
 now_once m b (Befalls (IsAbandoned r keys)) t u i h e =
-    command_once m b r keys t u i (subst (λ n. n ≤ rank u) (abandoned_rank m b) (ahead_low (between m b) false u h)) e
+    deed_once m b (Commanded r) keys t u i (subst (λ n. n ≤ rank u) (abandoned_rank m b) (ahead_low (between m b) false u h)) e
 now_once m b (Befalls LosesEpoch) t u i h e = lost_again m b t u i h e
 now_once m b (Befalls Ends) t u i h e = absurd i
 now_once m b (Befalls Reopens) t u i h e = absurd i
 now_once m b BeginsEpoch t u i h e = begun_once m b t u i h e
+now_once m b UpgradeIsRefused t u i h e = absurd i
+now_once m b (UpgradeEnters keys) t u i h e =
+    let low = ahead_low (between m b ++ Upgraded keys ∷ []) true u h in
+    deed_once m b Upgrading keys t u i (subst (λ n. n ≤ rank u) (entered_rank m b Upgrading keys) low) e
+now_once m b (UpgradeIsAbandoned keys) t u i h e =
+    deed_once m b Upgrading keys t u i (subst (λ n. n ≤ rank u) (abandoned_rank m b) (ahead_low (between m b) false u h)) e
 
 -- ---- all of them
 

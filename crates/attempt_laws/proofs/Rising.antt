@@ -14,8 +14,9 @@ use Rattle.cry_base.specs.Stepping.{effect}
 use Rattle.cry_base.specs.Store.{root_store}
 use Rattle.role_graph.specs.Edges.{edges}
 use Rattle.move_plan.specs.Noting.{note_of}
+use Rattle.record_format.specs.Noted.Note.{Upgrade}
 use Rattle.public_fold.specs.Journal.{Journal, first_key, nothing, root_note, entry_step, keys_of, note_step, stand_after, store_of}
-use Rattle.public_fold.specs.Journal.Entry.{Session, Made, Did}
+use Rattle.public_fold.specs.Journal.Entry.{Session, Made, Did, Upgraded}
 use Rattle.public_fold.specs.KeyStep.{KeyState, content_of, contents_from, given, is_strict, key_step, keys_then, link_of, links_from, next_epoch, next_serial, numbered, published, published_edges, renewed, step_with}
 use Rattle.public_fold.specs.Records.{Content, Link, Piece, pieces_of}
 use Rattle.public_fold.specs.Valid.{IsValid, IsVersion}
@@ -23,14 +24,18 @@ use Rattle.public_fold.proofs.Serials.{numbered-length}
 use Rattle.public_fold.proofs.SerialsKept.{journal_count}
 use Rattle.journal_bytes.specs.Attempts.{Course, begun_journal, course_then}
 use Rattle.journal_bytes.specs.Attempts.Event.{IsRefused, Enters, IsAbandoned, LosesEpoch, Ends, Reopens}
-use Rattle.journal_bytes.specs.Script.{answer, answer_with, due_end}
+use Rattle.journal_bytes.specs.Script.{answer, answer_with}
+use Rattle.journal_bytes.specs.Upgrading.{upgrade_answer}
 use Rattle.journal_bytes.proofs.NextEntry.{between}
-use Rattle.journal_bytes.proofs.NextValid.{next_valid, session_valid}
+use Rattle.store_owner.specs.Deeds.{Deed, deed_answer, deed_end, deed_entry, deed_refusal}
+use Rattle.store_owner.specs.Deeds.Deed.{Commanded, Upgrading}
+use Rattle.store_owner.proofs.DeedSteps.{deed_begun, deed_valid}
 use Rattle.store_owner.proofs.MadeOwner.{made_valid}
-use Rattle.attempt_laws.specs.Happenings.{CanHappen, IsCourse, IsDrawnFor}
+use Rattle.attempt_laws.specs.Happenings.{CanHappen, IsAccepted, IsCourse, IsDrawnFor}
 use Rattle.attempt_laws.specs.Spent.{AContent, AKey, ALink, Differ, Spender, all_spenders, number_of, spenders_in}
-use Rattle.attempt_laws.specs.Trials.{Befalls, BeginsEpoch, Happening, Trial, all_trials, attempt_of, command_trial, course_after, course_behind, epoch_trial, held, made_course, trials, trials_at}
-use Rattle.attempt_laws.proofs.Epochs.{course, epoch_command, keys_more, keys_session}
+use Rattle.attempt_laws.specs.Trials.{Befalls, BeginsEpoch, Happening, Trial, UpgradeEnters, UpgradeIsAbandoned, UpgradeIsRefused, all_trials, attempt_of}
+use Rattle.attempt_laws.specs.Trials.{course_after, course_behind, deed_trial, epoch_trial, held, made_course, trials, trials_at, trials_with}
+use Rattle.attempt_laws.proofs.Epochs.{course, epoch_deed, keys_more, keys_session}
 
 -- ---- lists whose numbers rise
 
@@ -163,6 +168,19 @@ command_rises m r keys =
     subst (λ k. Rises number_of (spenders_in (held at (Did r keys))) (next_serial at.keys) (next_serial k)) (sym (keys_more m (Did r keys)))
     (step_rises at.keys (edges at.store) (change_of (is_strict at.keys) at.store note) (pieces_of note (effect at.store r (first_key keys))))
 
+upgrade_rises : (m : Journal) (keys : List (List ℕ))
+    → Rises number_of (spenders_in (held (stand_after nothing m) (Upgraded keys))) (next_in m) (next_in (m ++ Upgraded keys ∷ []))
+unfolding held keys_of entry_step note_step
+upgrade_rises m keys =
+    let at = stand_after nothing m in
+    subst (λ k. Rises number_of (spenders_in (held at (Upgraded keys))) (next_serial at.keys) (next_serial k)) (sym (keys_more m (Upgraded keys)))
+    (step_rises at.keys (edges at.store) (change_of (is_strict at.keys) at.store Upgrade) (pieces_of Upgrade at.store))
+
+deed_rises : (m : Journal) (d : Deed) (keys : List (List ℕ))
+    → Rises number_of (spenders_in (held (stand_after nothing m) (deed_entry d keys))) (next_in m) (next_in (m ++ deed_entry d keys ∷ []))
+deed_rises m (Commanded r) keys = command_rises m r keys
+deed_rises m Upgrading keys = upgrade_rises m keys
+
 made_rises : (m : Journal) (version : ℕ) (keys : List (List ℕ))
     → Rises number_of (spenders_in (held (stand_after nothing m) (Made version keys))) (next_in m) (next_in (m ++ Made version keys ∷ []))
 unfolding held keys_of entry_step note_step
@@ -180,13 +198,13 @@ above k h = omega (arith, h)
 epoch_above : (m : Journal) → (keys_of m).count ≤ 4294967296 → next_in m ≤ next_in (m ++ Session ∷ [])
 epoch_above m low = subst (λ k. next_in m ≤ next_serial k) (sym (keys_session m)) (above (keys_of m) low)
 
--- a session that follows an abandoned command begins the same epoch as if the command weren't there
-begins_alike : (m : Journal) (r : Request) (keys : List (List ℕ))
-    → next_in ((m ++ Did r keys ∷ []) ++ Session ∷ []) ≡ next_in (m ++ Session ∷ [])
+-- a session that follows an abandoned command or upgrade begins the same epoch as if that weren't there
+begins_alike : (m : Journal) (d : Deed) (keys : List (List ℕ))
+    → next_in ((m ++ deed_entry d keys ∷ []) ++ Session ∷ []) ≡ next_in (m ++ Session ∷ [])
 unfolding next_serial next_epoch
-begins_alike m r keys =
-    ap next_serial (keys_session (m ++ Did r keys ∷ []))
-    ∙ ap (λ n. (n + 1) * 2 ^ 32 + 0) (epoch_command m r keys)
+begins_alike m d keys =
+    ap next_serial (keys_session (m ++ deed_entry d keys ∷ []))
+    ∙ ap (λ n. (n + 1) * 2 ^ 32 + 0) (epoch_deed m d keys)
     ∙ sym (ap next_serial (keys_session m))
 
 pub count_low : (m : Journal) → IsValid m → (keys_of m).count ≤ 4294967296
@@ -225,20 +243,20 @@ unfolding all_spenders epoch_trial attempt_of held spenders_in
 spent_epoch m true = refl
 spent_epoch m false = refl
 
-abbrev spent_by_both : Journal → Bool → Request → List (List ℕ) → List Spender
-spent_by_both m b r keys = spent (epoch_trial (course m b) ++ command_trial (course m b) r keys ∷ [])
+abbrev spent_by_both : Journal → Bool → Deed → List (List ℕ) → List Spender
+spent_by_both m b d keys = spent (epoch_trial (course m b) ++ deed_trial (course m b) d keys ∷ [])
 
-both_rise : (m : Journal) (b : Bool) (r : Request) (keys : List (List ℕ))
-    → Rises number_of (spent_by_both m b r keys) (low_in m b) (next_in (between m b ++ Did r keys ∷ []))
-unfolding all_spenders command_trial begun_journal attempt_of
-both_rise m b r keys =
+both_rise : (m : Journal) (b : Bool) (d : Deed) (keys : List (List ℕ))
+    → Rises number_of (spent_by_both m b d keys) (low_in m b) (next_in (between m b ++ deed_entry d keys ∷ []))
+unfolding all_spenders deed_trial begun_journal attempt_of
+both_rise m b d keys =
     let at = stand_after nothing (between m b) in
-    let held_then = spenders_in (held at (Did r keys)) in
-    subst (λ l. Rises number_of l (low_in m b) (next_in (between m b ++ Did r keys ∷ [])))
-    (sym (spent-append (epoch_trial (course m b)) (command_trial (course m b) r keys ∷ [])
+    let held_then = spenders_in (held at (deed_entry d keys)) in
+    subst (λ l. Rises number_of l (low_in m b) (next_in (between m b ++ deed_entry d keys ∷ [])))
+    (sym (spent-append (epoch_trial (course m b)) (deed_trial (course m b) d keys ∷ [])
     ∙ ap (λ l. l ++ (held_then ++ [])) (spent_epoch m b)
     ∙ append-nil held_then))
-    (command_rises (between m b) r keys)
+    (deed_rises (between m b) d keys)
 
 epoch_rises : (m : Journal) (b : Bool) (low high : ℕ) → low ≤ high → Rises number_of (spent (epoch_trial (course m b))) low high
 epoch_rises m b low high h = subst (λ l. Rises number_of l low high) (sym (spent_epoch m b)) h
@@ -252,58 +270,75 @@ answered None true = λ e. absurd cc
 answered None false = λ e. (refl, refl)
 
 module _ (limits : Limits) (store_low : limits.store_bytes ≤ most_store_bytes) (files_low : limits.file_bytes ≤ most_file_bytes) where
-  not_refused : (m : Journal) (b : Bool) (r : Request) → answer limits m b r ≡ None
-      → (refusal_of (store_of m) r limits.file_bytes ≡ None) × (due_end m b r ≤ most_store_bytes)
-  unfolding answer store_of
-  not_refused m b r fine =
-      let both = answered (refusal_of (stand_after nothing m).store r limits.file_bytes) (nat_lt limits.store_bytes (due_end m b r)) fine in
-      let low : due_end m b r ≤ limits.store_bytes = ltb-false limits.store_bytes (due_end m b r) both.1 in
-      (both.0, omega (arith, low, store_low))
+  ends_low : (m : Journal) (b : Bool) (d : Deed) → nat_lt limits.store_bytes (deed_end m b d) ≡ false → deed_end m b d ≤ most_store_bytes
+  ends_low m b d fits =
+      let low : deed_end m b d ≤ limits.store_bytes = ltb-false limits.store_bytes (deed_end m b d) fits in omega (arith, low, store_low)
 
-  entered_valid : (m : Journal) (b : Bool) (r : Request) (keys : List (List ℕ)) → IsValid m → IsDrawnFor limits (course m b) r keys
-      → IsValid (between m b ++ Did r keys ∷ [])
-  entered_valid m b r keys valid can =
-      let fine = not_refused m b r can.0 in next_valid m b r keys limits.file_bytes valid files_low fine.0 can.1 can.2 fine.1
+  not_refused : (m : Journal) (b : Bool) (d : Deed) → deed_answer limits m b d ≡ None
+      → (deed_refusal (store_of m) d limits.file_bytes ≡ None) × (deed_end m b d ≤ most_store_bytes)
+  unfolding answer upgrade_answer store_of
+  not_refused m b (Commanded r) fine =
+      let both = answered (refusal_of (stand_after nothing m).store r limits.file_bytes) (nat_lt limits.store_bytes (deed_end m b (Commanded r))) fine in
+      (both.0, ends_low m b (Commanded r) both.1)
+  not_refused m b Upgrading fine =
+      let both = answered None (nat_lt limits.store_bytes (deed_end m b Upgrading)) fine in
+      (both.0, ends_low m b Upgrading both.1)
 
-  begun_valid : (m : Journal) (b : Bool) (r : Request) → IsValid m → answer limits m b r ≡ None → IsValid (between m b)
-  begun_valid m b r valid fine = session_valid m b r valid (not_refused m b r fine).1
+  entered_valid : (m : Journal) (b : Bool) (d : Deed) (keys : List (List ℕ)) → IsValid m → IsDrawnFor limits (course m b) d keys
+      → IsValid (between m b ++ deed_entry d keys ∷ [])
+  entered_valid m b d keys valid can =
+      let fine = not_refused m b d can.0.1 in
+      deed_valid m b d keys limits.file_bytes valid files_low fine.0 can.0.0 can.1 can.2 fine.1
+
+  begun_valid : (m : Journal) (b : Bool) (d : Deed) → IsValid m → IsAccepted limits (course m b) d → IsValid (between m b)
+  begun_valid m b d valid fine = deed_begun m b d valid (not_refused m b d fine.1).1
 
   valid_behind : (m : Journal) (b : Bool) (now : Happening) → IsValid m → CanHappen limits (course m b) now
       → IsValid (course_behind (course m b) now).journal
   unfolding course_behind course_then begun_journal
   valid_behind m b (Befalls (IsRefused r)) valid can = valid
-  valid_behind m b (Befalls (Enters r keys)) valid can = entered_valid m b r keys valid can
-  valid_behind m b (Befalls (IsAbandoned r keys)) valid can = begun_valid m b r valid can.0
+  valid_behind m b (Befalls (Enters r keys)) valid can = entered_valid m b (Commanded r) keys valid can
+  valid_behind m b (Befalls (IsAbandoned r keys)) valid can = begun_valid m b (Commanded r) valid can.0
   valid_behind m b (Befalls LosesEpoch) valid can = valid
   valid_behind m b (Befalls Ends) valid can = valid
   valid_behind m b (Befalls Reopens) valid can = valid
   valid_behind m b BeginsEpoch valid can = begun_valid m b can.1.0 valid can.1.1
+  valid_behind m b UpgradeIsRefused valid can = valid
+  valid_behind m b (UpgradeEnters keys) valid can = entered_valid m b Upgrading keys valid can
+  valid_behind m b (UpgradeIsAbandoned keys) valid can = begun_valid m b Upgrading valid can.0
 
-  abandoned_above : (m : Journal) (b : Bool) (r : Request) (keys : List (List ℕ)) → IsValid (between m b ++ Did r keys ∷ [])
-      → next_in (between m b ++ Did r keys ∷ []) ≤ low_in (between m b) false
-  abandoned_above m b r keys valid =
-      let n = between m b ++ Did r keys ∷ [] in
+  entered_rises : (m : Journal) (b : Bool) (d : Deed) (keys : List (List ℕ))
+      → Rises number_of (spent_by_both m b d keys) (low_in m b) (low_in (between m b ++ deed_entry d keys ∷ []) true)
+  entered_rises m b d keys =
+      let same = low_begun (between m b ++ deed_entry d keys ∷ []) in
+      subst (λ n. Rises number_of (spent_by_both m b d keys) (low_in m b) n) (sym same) (both_rise m b d keys)
+
+  abandoned_rises : (m : Journal) (b : Bool) (d : Deed) (keys : List (List ℕ)) → IsValid (between m b ++ deed_entry d keys ∷ [])
+      → Rises number_of (spent_by_both m b d keys) (low_in m b) (low_in (between m b) false)
+  abandoned_rises m b d keys valid =
+      let n = between m b ++ deed_entry d keys ∷ [] in
       let above : next_in n ≤ next_in (n ++ Session ∷ []) = epoch_above n (count_low n valid) in
-      let same : next_in (n ++ Session ∷ []) ≡ next_in (between m b ++ Session ∷ []) = begins_alike (between m b) r keys in
-      omega (arith, above, same)
+      let same : next_in (n ++ Session ∷ []) ≡ next_in (between m b ++ Session ∷ []) = begins_alike (between m b) d keys in
+      let low : next_in n ≤ low_in (between m b) false = omega (arith, above, same) in
+      rises_to Spender number_of (spent_by_both m b d keys) (low_in m b) (next_in n) (low_in (between m b) false) low (both_rise m b d keys)
 
   now_rises : (m : Journal) (b : Bool) (now : Happening) → IsValid m → CanHappen limits (course m b) now
       → Rises number_of (spent (trials_at (course m b) now)) (low_in m b) (low_on (course_behind (course m b) now))
-  unfolding all_spenders trials_at course_behind course_then begun_journal
+  unfolding all_spenders trials_at trials_with course_behind course_then begun_journal
   now_rises m b (Befalls (IsRefused r)) valid can = omega arith
-  now_rises m b (Befalls (Enters r keys)) valid can =
-      let same = low_begun (between m b ++ Did r keys ∷ []) in
-      subst (λ n. Rises number_of (spent_by_both m b r keys) (low_in m b) n) (sym same) (both_rise m b r keys)
+  now_rises m b (Befalls (Enters r keys)) valid can = entered_rises m b (Commanded r) keys
   now_rises m b (Befalls (IsAbandoned r keys)) valid can =
-      let above = abandoned_above m b r keys (entered_valid m b r keys valid can) in
-      let next = next_in (between m b ++ Did r keys ∷ []) in
-      rises_to Spender number_of (spent_by_both m b r keys) (low_in m b) next (low_in (between m b) false) above (both_rise m b r keys)
+      abandoned_rises m b (Commanded r) keys (entered_valid m b (Commanded r) keys valid can)
   now_rises m b (Befalls LosesEpoch) valid can = epoch_rises m b (low_in m b) (low_in m false) (low_ended m b valid)
   now_rises m b (Befalls Ends) valid can = low_ended m b valid
   now_rises m b (Befalls Reopens) valid can = low_ended m b valid
   now_rises m b BeginsEpoch valid can =
       let same : low_in (between m b) true ≡ low_in m b = low_begun (between m b) in
       epoch_rises m b (low_in m b) (low_in (between m b) true) (omega (arith, same))
+  now_rises m b UpgradeIsRefused valid can = omega arith
+  now_rises m b (UpgradeEnters keys) valid can = entered_rises m b Upgrading keys
+  now_rises m b (UpgradeIsAbandoned keys) valid can =
+      abandoned_rises m b Upgrading keys (entered_valid m b Upgrading keys valid can)
 
   -- ---- all of them
 

@@ -35,8 +35,8 @@ line_happens : (limits : Limits) (g : Going) (r : Request) (o : Option Refusal) 
     → (answer limits g.journal g.begun r ≡ None → 32 * draws_of g.journal r ≤ length g.draws) → CanHappen limits (course_of g) (line_event g r o)
 unfolding line_event
 line_happens limits g r None e enough =
-    let n = draws_of g.journal r in (e, keys_many n g.draws, keys_sized n g.draws (enough e))
-line_happens limits g r (Some why) e enough = (why, e)
+    let n = draws_of g.journal r in ((tt, e), keys_many n g.draws, keys_sized n g.draws (enough e))
+line_happens limits g r (Some why) e enough = (tt, (why, e))
 
 pub script_happens : (limits : Limits) (g : Going) (lines : List Request) → HasDraws limits g lines
     → IsCourse limits (course_of g) (script_events limits g lines)

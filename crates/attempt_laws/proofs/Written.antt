@@ -16,7 +16,8 @@ use Rattle.journal_bytes.specs.Bytes.{batches_of, bodies_from, bodies_of, entry_
 use Rattle.journal_bytes.specs.Keys.{all_keys, owner_parts}
 use Rattle.journal_bytes.proofs.NextBatches.{batches_then, epoch_of}
 use Rattle.journal_bytes.proofs.NextEntry.{between}
-use Rattle.attempt_laws.specs.Trials.{Befalls, Happening, Trial, all_trials, attempt_of, batch_in, command_trial, course_behind, epoch_trial, held, made_course, trials, trials_at}
+use Rattle.store_owner.specs.Deeds.Deed.{Commanded}
+use Rattle.attempt_laws.specs.Trials.{Befalls, Happening, Trial, all_trials, attempt_of, batch_in, course_behind, deed_trial, epoch_trial, held, made_course, trials, trials_at, trials_with}
 use Rattle.attempt_laws.proofs.Epochs.{course, epoch_in, epoch_command, epoch_made, epoch_session, epoch_upgraded}
 use Rattle.attempt_laws.proofs.Ranks.{all_apart, apart_same}
 
@@ -40,16 +41,16 @@ map-append (x ∷ xs) ys = ap (λ l. attempt_of x ∷ l) (map-append xs ys)
 
 both_told : (m : Journal) (b : Bool) (r : Request) (keys : List (List ℕ))
     → epoch_attempt (course m b) ++ command_attempt (begun_journal (course m b)) r keys ∷ []
-    ≡ map attempt_of (epoch_trial (course m b) ++ command_trial (course m b) r keys ∷ [])
-unfolding command_trial begun_journal
+    ≡ map attempt_of (epoch_trial (course m b) ++ deed_trial (course m b) (Commanded r) keys ∷ [])
+unfolding deed_trial begun_journal
 both_told m b r keys =
     ap (λ l. l ++ command_attempt (between m b) r keys ∷ []) (epoch_told m b)
     ∙ ap (λ a. map attempt_of (epoch_trial (course m b)) ++ a ∷ []) (command_told (between m b) r keys)
-    ∙ sym (map-append (epoch_trial (course m b)) (command_trial (course m b) r keys ∷ []))
+    ∙ sym (map-append (epoch_trial (course m b)) (deed_trial (course m b) (Commanded r) keys ∷ []))
 
 event_told : (m : Journal) (b : Bool) (event : Event)
     → attempts_at (course m b) event ≡ map attempt_of (trials_at (course m b) (Befalls event))
-unfolding attempts_at trials_at
+unfolding attempts_at trials_at trials_with
 event_told m b (IsRefused r) = refl
 event_told m b (Enters r keys) = both_told m b r keys
 event_told m b (IsAbandoned r keys) = both_told m b r keys

@@ -1,7 +1,6 @@
 -- All batches that were ever written to a store, from its making on, with what each one masked. This project's own, docs/FORMAT.md,
 -- "Committing".
 use Rattle.std.specs.Prelude.{◌≡◌, ◌<◌, ◌⊎◌, ℕ, ◌+◌, true, false, cond, List, [], ◌∷◌, ◌++◌, length, slice_index_or, Option, Some, None}
-use Rattle.cry_base.specs.Requests.{Request}
 use Rattle.cry_base.specs.Sets.{In}
 use Rattle.commit_journal.specs.Handing.{Write, log_writes}
 use Rattle.commit_journal.specs.Image.{Batch, masked_payload}
@@ -13,38 +12,53 @@ use Rattle.journal_bytes.specs.Attempts.{Attempt, Course, Event, begun_journal, 
 use Rattle.journal_bytes.specs.Attempts.Event.{IsRefused, Enters, IsAbandoned, LosesEpoch, Ends, Reopens}
 use Rattle.journal_bytes.specs.Bytes.{batches_of, entry_body}
 use Rattle.journal_bytes.specs.Keys.{all_keys}
+use Rattle.store_owner.specs.Deeds.{Deed, deed_entry}
+use Rattle.store_owner.specs.Deeds.Deed.{Commanded, Upgrading}
 
--- what happens to a store: one of the events, or the session's epoch batch enters with no command behind it
+-- what happens to a store: one of the events; the session's epoch batch enters with no other batch behind it; an upgrade is refused; its
+-- batch enters the journal, or is written and abandoned
 pub data Happening : Type 0 where
   Befalls : (event : Event) → Happening
   BeginsEpoch : Happening
+  UpgradeIsRefused : Happening
+  UpgradeEnters : (keys : List (List ℕ)) → Happening
+  UpgradeIsAbandoned : (keys : List (List ℕ)) → Happening
 
 -- a batch that was written: the entry that it holds, and the journal behind which it was written
 pub record Trial : Type 0 where
   pub behind : Journal
   pub entry : Entry
 
--- the epoch's batch, where the session has begun none, and the batch of a command
+-- the epoch's batch, where the session has begun none; the batch of a command or an upgrade; both
 unfoldable pub epoch_trial : Course → List Trial
 epoch_trial c = cond c.begun [] (record { behind = c.journal; entry = Session } ∷ [])
 
-unfoldable pub command_trial : Course → Request → List (List ℕ) → Trial
-command_trial c r keys = record { behind = begun_journal c; entry = Did r keys }
+unfoldable pub deed_trial : Course → Deed → List (List ℕ) → Trial
+deed_trial c d keys = record { behind = begun_journal c; entry = deed_entry d keys }
+
+unfoldable pub trials_with : Course → Deed → List (List ℕ) → List Trial
+trials_with c d keys = epoch_trial c ++ deed_trial c d keys ∷ []
 
 -- what is written then
 unfoldable pub trials_at : Course → Happening → List Trial
 trials_at c (Befalls (IsRefused r)) = []
-trials_at c (Befalls (Enters r keys)) = epoch_trial c ++ command_trial c r keys ∷ []
-trials_at c (Befalls (IsAbandoned r keys)) = epoch_trial c ++ command_trial c r keys ∷ []
+trials_at c (Befalls (Enters r keys)) = trials_with c (Commanded r) keys
+trials_at c (Befalls (IsAbandoned r keys)) = trials_with c (Commanded r) keys
 trials_at c (Befalls LosesEpoch) = epoch_trial c
 trials_at c (Befalls Ends) = []
 trials_at c (Befalls Reopens) = []
 trials_at c BeginsEpoch = epoch_trial c
+trials_at c UpgradeIsRefused = []
+trials_at c (UpgradeEnters keys) = trials_with c Upgrading keys
+trials_at c (UpgradeIsAbandoned keys) = trials_with c Upgrading keys
 
--- the course after it
+-- the course after it: an abandoned batch ends its session
 unfoldable pub course_behind : Course → Happening → Course
 course_behind c (Befalls event) = course_then c event
 course_behind c BeginsEpoch = record { journal = begun_journal c; begun = true }
+course_behind c UpgradeIsRefused = c
+course_behind c (UpgradeEnters keys) = record { journal = begun_journal c ++ Upgraded keys ∷ []; begun = true }
+course_behind c (UpgradeIsAbandoned keys) = record { journal = begun_journal c; begun = false }
 
 -- all that is written, one after another
 unfoldable pub trials : Course → List Happening → List Trial

@@ -2,7 +2,6 @@
 ghost use Rattle.std.specs.Prelude.{◌≡◌, ℕ, List, [], ◌∷◌, ◌++◌, Option, Result};
 ghost use Rattle.commit_journal.specs.Handing.{header_writes};
 ghost use Rattle.commit_journal.specs.Journals.{IsJournalOf, JournalState, next_command, next_epoch};
-ghost use Rattle.cry_base.specs.Requests.{Request};
 ghost use Rattle.cry_base.specs.declared.commands.Reply.{Reply};
 ghost use Rattle.cry_base.specs.declared.limits.Limits.{Limits};
 ghost use Rattle.record_format.specs.Plain.{PlainPayload};
@@ -18,6 +17,7 @@ ghost use Rattle.key_links.specs.Fresh.{made_version, piece};
 ghost use Rattle.store_owner.specs.Applying.{Answers};
 ghost use Rattle.store_owner.specs.Making.{IsMade, fresh_writes, root_keys};
 ghost use Rattle.store_owner.specs.Opened.{IsFresh};
+ghost use Rattle.store_owner.specs.Deeds.{Deed, Suits};
 ghost use Rattle.store_owner.specs.Owned.{IsOwnerOf, OwnerView, limits_in};
 ghost use Rattle.store_owner.specs.Stopping.{RestsAt};
 ghost use Rattle.store_owner.specs.declared.apply_fault.ApplyFault.{ApplyFault};
@@ -54,36 +54,37 @@ pub fn opened_stores_reopen()
         → IsFresh key limits.store_bytes limits.file_bytes o → StandsOn (course_behind c (Befalls Reopens)) o }
 {}
 
-/// A call of `Owner::apply` makes one event of its command happen, or none, and the owner stands behind it; or the disk failed, and the
-/// owner is closed. Of a disk that rested at the course's journal, whatever a stop leaves, at each moment of the call and whatever that
-/// answers, is the journal behind one of these events, which can happen there.
-pub fn applied_commands_are_attempts<D: Disk>(before: &D, after: &D)
-    ensures goes_on { (c : Course) (r : Request) (result : Result Reply ApplyFault) (old new : OwnerView)
-        (left_before left_after : Option (List ℕ)) → StandsOn c old →
-        Answers result c.journal r old new left_before left_after (D.shown before.now) (D.shown after.now)
-        (D.may_leave before.now) (D.may_leave after.now) (D.since after.now (D.moment before.now)) → GoesOnAt result c r old new }
-    ensures moments { (c : Course) (r : Request) (result : Result Reply ApplyFault) (old new : OwnerView)
-        (left_before left_after : Option (List ℕ)) → StandsOn c old →
-        Answers result c.journal r old new left_before left_after (D.shown before.now) (D.shown after.now)
+/// A call of `Owner::apply` makes one event of its command happen, or none, and one of `Owner::upgrade` one of its upgrade; and the owner
+/// stands behind it; or the disk failed, and the owner is closed. Of a disk that rested at the course's journal, whatever a stop leaves, at
+/// each moment of the call and whatever that answers, is the journal behind one of these events, which can happen there.
+pub fn deeds_are_attempts<D: Disk>(before: &D, after: &D)
+    ensures goes_on { (c : Course) (d : Deed) (result : Result Reply ApplyFault) (old new : OwnerView)
+        (left_before left_after : Option (List ℕ)) → StandsOn c old → Suits old.state.keys d →
+        Answers result c.journal d old new left_before left_after (D.shown before.now) (D.shown after.now)
+        (D.may_leave before.now) (D.may_leave after.now) (D.since after.now (D.moment before.now)) → GoesOnAt result c d old new }
+    ensures moments { (c : Course) (d : Deed) (result : Result Reply ApplyFault) (old new : OwnerView)
+        (left_before left_after : Option (List ℕ)) → StandsOn c old → Suits old.state.keys d →
+        Answers result c.journal d old new left_before left_after (D.shown before.now) (D.shown after.now)
         (D.may_leave before.now) (D.may_leave after.now) (D.since after.now (D.moment before.now)) →
         RestsAt old.key c.journal (D.shown before.now) (D.may_leave before.now) →
-        (s bytes : List ℕ) → D.since after.now (D.moment before.now) s bytes → LeavesCourse (limits_in old) old.key c r bytes }
-    ensures left { (c : Course) (r : Request) (result : Result Reply ApplyFault) (old new : OwnerView)
-        (left_before left_after : Option (List ℕ)) → StandsOn c old →
-        Answers result c.journal r old new left_before left_after (D.shown before.now) (D.shown after.now)
+        (s bytes : List ℕ) → D.since after.now (D.moment before.now) s bytes → LeavesCourse (limits_in old) old.key c d bytes }
+    ensures left { (c : Course) (d : Deed) (result : Result Reply ApplyFault) (old new : OwnerView)
+        (left_before left_after : Option (List ℕ)) → StandsOn c old → Suits old.state.keys d →
+        Answers result c.journal d old new left_before left_after (D.shown before.now) (D.shown after.now)
         (D.may_leave before.now) (D.may_leave after.now) (D.since after.now (D.moment before.now)) →
         RestsAt old.key c.journal (D.shown before.now) (D.may_leave before.now) →
-        (bytes : List ℕ) → D.may_leave after.now bytes → LeavesCourse (limits_in old) old.key c r bytes }
+        (bytes : List ℕ) → D.may_leave after.now bytes → LeavesCourse (limits_in old) old.key c d bytes }
 {}
 
-/// A call of `Owner::apply`, whatever it answers, hands the disk the batches of one event of its command that can happen there, or none,
-/// and nothing else: each staged, opened and published. So what the laws say of all attempts they say of all that the disk was handed.
-pub fn applied_commands_hand_over_attempts<D: Disk>(before: &D, after: &D)
-    ensures { (c : Course) (r : Request) (result : Result Reply ApplyFault) (old new : OwnerView)
-        (left_before left_after : Option (List ℕ)) → StandsOn c old →
-        Answers result c.journal r old new left_before left_after (D.shown before.now) (D.shown after.now)
+/// A call of `Owner::apply` or `Owner::upgrade`, whatever it answers, hands the disk the batches of one event of its command or upgrade
+/// that can happen there, or none, and nothing else: each staged, opened and published. So what the laws say of all attempts they say of
+/// all that the disk was handed.
+pub fn deeds_hand_over_attempts<D: Disk>(before: &D, after: &D)
+    ensures { (c : Course) (d : Deed) (result : Result Reply ApplyFault) (old new : OwnerView)
+        (left_before left_after : Option (List ℕ)) → StandsOn c old → Suits old.state.keys d →
+        Answers result c.journal d old new left_before left_after (D.shown before.now) (D.shown after.now)
         (D.may_leave before.now) (D.may_leave after.now) (D.since after.now (D.moment before.now)) →
-        HandsTrials (limits_in old) old.key c r (D.shown before.now) (D.shown after.now) (D.since after.now (D.moment before.now)) }
+        HandsTrials (limits_in old) old.key c d (D.shown before.now) (D.shown after.now) (D.since after.now (D.moment before.now)) }
 {}
 
 /// Calls add up: what can happen, and then what can happen behind that, can happen one after the other; and all batches that were written

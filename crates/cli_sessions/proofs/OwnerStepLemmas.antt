@@ -11,6 +11,7 @@ use Rattle.cli_sessions.specs.OwnerSteps.{AnswersIn, FailsIn, Scene}
 use Rattle.public_fold.specs.Journal.{Journal}
 use Rattle.store_owner.specs.Applying.{Answers, DiskCounts, IsKeptBy, UnlessDiskFault}
 use Rattle.store_owner.specs.Drawing.{FillsByCount}
+use Rattle.store_owner.specs.Deeds.Deed.{Commanded}
 use Rattle.store_owner.specs.Owned.{IsOwnerOf, OwnerView}
 use Rattle.store_owner.specs.Published.{PublishesOn}
 use Rattle.store_owner.specs.Tallied.{CountsCommand}
@@ -33,15 +34,15 @@ scene left random_faults shown moment disk_faults o x d = record {
 pub step_answers : {R D : Type 0} (left : R → Option (List ℕ)) (random_faults : R → ℕ) (shown : D → Option (List ℕ)) (moment : D → ℕ)
     (disk_faults : D → ℕ) (may_leave : D → List ℕ → Type 0) (since : D → ℕ → List ℕ → List ℕ → Type 0) (result : Result Reply ApplyFault)
     (r : Request) (o n : OwnerView) (x y : R) (d e : D)
-    → ((m : Journal) → IsOwnerOf m o → Answers result m r o n (left x) (left y) (shown d) (shown e) (may_leave d) (may_leave e) (since e (moment d)))
+    → ((m : Journal) → IsOwnerOf m o → Answers result m (Commanded r) o n (left x) (left y) (shown d) (shown e) (may_leave d) (may_leave e) (since e (moment d)))
     → PublishesOn o (shown d) (may_leave d) (FromThenOn moment since d e)
     → moment d ≤ moment e → GoesOn (moment d) (since d) (since e)
     → ((result ≡ Err faults.Closed) ↔ IsTrue o.journal.is_closed) → o.journal.is_closed ≡ false
-    → IsKeptBy result o n x y d e → UnlessDiskFault result (IsDurable (may_leave e) (shown e)) → CountsCommand result r o n
+    → IsKeptBy result o n x y d e → UnlessDiskFault result (IsDurable (may_leave e) (shown e)) → CountsCommand result (Commanded r) o n
     → is_some (shown e) ≡ is_some (shown d) → is_some (left y) ≡ is_some (left x)
     → DiskCounts result (disk_faults d) (disk_faults e) → FillsByCount result (random_faults x) (random_faults y)
     → OnOk result (TakesKeys (left x) (left y))
-    → ((had need : ℕ) → result ≡ Err (faults.RandomShort had need) → FallsShort o r had need (left x) (left y)) → n.key ≡ o.key
+    → ((had need : ℕ) → result ≡ Err (faults.RandomShort had need) → FallsShort o (Commanded r) had need (left x) (left y)) → n.key ≡ o.key
     → MatchResult result
     (λ reply. AnswersIn (scene left random_faults shown moment disk_faults o x d) r reply (scene left random_faults shown moment disk_faults n y e)
     (may_leave d) (may_leave e) (since d) (since e) × PublishesOn o (shown d) (may_leave d) (FromThenOn moment since d e))

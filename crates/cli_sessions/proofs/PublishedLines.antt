@@ -27,6 +27,7 @@ use Rattle.cli_sessions.proofs.RunLemmas.{Fails, IsCounted, IsPresent, Step, res
 use Rattle.cli_sessions.proofs.StopLemmas.{goes_grow, time_still}
 use Rattle.store_owner.specs.Applying.{Answers}
 use Rattle.store_owner.specs.Drawing.{joined}
+use Rattle.store_owner.specs.Deeds.Deed.{Commanded}
 use Rattle.store_owner.specs.Owned.{OwnerView}
 use Rattle.store_owner.specs.Published.{HasPublished, published_batches}
 use Rattle.store_owner.specs.Sessions.{StandsAt}
@@ -54,7 +55,7 @@ kept_has key low high reached since kept s c at =
 
 -- a command that met a fault kept the one that the owner stood for
 failed_has : (fault : ApplyFault) (m : Journal) (r : Request) (old new : OwnerView) (left_before left_after was shows : Option (List ℕ)) (might may : List ℕ → Type 0) (since : List ℕ → List ℕ → Type 0)
-    → Answers (Err fault) m r old new left_before left_after was shows might may since → RestsAt old.key m was might → KeepsBatches old.key m since
+    → Answers (Err fault) m (Commanded r) old new left_before left_after was shows might may since → RestsAt old.key m was might → KeepsBatches old.key m since
 failed_has faults.RandomFault m r old new left_before left_after was shows might may since met rests = kept_has old.key m m m since (met.2.stops.kept rests)
 failed_has (faults.RandomShort left need) m r old new left_before left_after was shows might may since met rests = kept_has old.key m m m since (met.6.stops.kept rests)
 failed_has faults.DiskFault m r old new left_before left_after was shows might may since met rests = kept_has old.key m _ _ since (met.2.stops.kept rests)

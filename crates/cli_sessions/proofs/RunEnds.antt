@@ -29,6 +29,7 @@ use Rattle.cli_sessions.proofs.ScriptLemmas.{answered_of, whole_is_cut}
 use Rattle.public_fold.specs.Journal.{Journal}
 use Rattle.public_fold.specs.Journal.Entry.{Session, Did}
 use Rattle.store_owner.proofs.OwnerGoesOn.{drops_more}
+use Rattle.store_owner.specs.Deeds.Deed.{Commanded}
 use Rattle.store_owner.specs.Stopping.{ComesToRest, RestsAt, StopsBetween}
 use Rattle.store_owner.specs.Applying.{Answers}
 use Rattle.store_owner.specs.Drawing.{joined}
@@ -320,7 +321,7 @@ module _ (X : Type 0) (scene : X → Scene) (leaves : X → List ℕ → Type 0)
   }
 
   answers_there : (fault : ApplyFault) (t : Stopped fault)
-      → Answers (Err fault) t.s.at.journal t.next (scene t.x).owner (scene end).owner (scene t.x).left (scene end).left (scene t.x).shown (scene end).shown
+      → Answers (Err fault) t.s.at.journal (Commanded t.next) (scene t.x).owner (scene end).owner (scene t.x).left (scene end).left (scene t.x).shown (scene end).shown
       (leaves t.x) (leaves end) (since end (scene t.x).moment)
   answers_there fault t = t.failed.answers t.s.at.journal t.s.there.owner_is
 

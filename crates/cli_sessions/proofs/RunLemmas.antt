@@ -24,6 +24,7 @@ use Rattle.cli_sessions.proofs.AnsweredScripts.{counts_rise, key_stays, keys_tak
 use Rattle.cli_sessions.proofs.RunEnds.{IsCalm, ends_as, still_told}
 use Rattle.cli_sessions.proofs.ScriptLemmas.{answered_of}
 use Rattle.public_fold.specs.Journal.{Journal}
+use Rattle.store_owner.specs.Deeds.Deed.{Commanded}
 use Rattle.store_owner.specs.Owned.{OwnerView}
 use Rattle.store_owner.specs.Published.{PublishesOn}
 use Rattle.store_owner.specs.Sessions.{StandsAt}
@@ -163,7 +164,7 @@ module _ (R D : Type 0) (left : R → Option (List ℕ)) (random_faults : R → 
         record {
           drawn = s.taken.drawn;
           drawn_sizes = s.taken.drawn_sizes;
-          keys = keys_planned s.x.0 short.at s.request;
+          keys = keys_planned s.x.0 short.at (Commanded s.request);
           is_need = short.is_need short.at short.seen;
           is_short = short.is_short;
           were_left = λ b was.

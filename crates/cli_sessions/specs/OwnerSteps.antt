@@ -7,6 +7,7 @@ use Rattle.cry_base.specs.declared.commands.Reply.{Reply}
 use Rattle.cry_base.specs.declared.commands.Reply.TheVariants.{Refused}
 use Rattle.public_fold.specs.Journal.{Journal}
 use Rattle.store_owner.specs.Applying.{Answers}
+use Rattle.store_owner.specs.Deeds.Deed.{Commanded}
 use Rattle.store_owner.specs.Owned.{IsOwnerOf, OwnerView}
 use Rattle.store_owner.specs.Tallied.{CountsCommand}
 use Rattle.store_owner.specs.Taking.{FallsShort, TakesKeys}
@@ -27,7 +28,7 @@ pub record Scene : Type 0 where
 pub record AnswersIn (before : Scene) (request : Request) (reply : Reply) (after : Scene) (might may : List ℕ → Type 0)
     (past since : ℕ → List ℕ → List ℕ → Type 0) : Type 0 where
   pub answers : (m : Journal) → IsOwnerOf m before.owner
-      → Answers (Ok reply) m request before.owner after.owner before.left after.left before.shown after.shown
+      → Answers (Ok reply) m (Commanded request) before.owner after.owner before.left after.left before.shown after.shown
       might may (since before.moment)
   pub later : before.moment ≤ after.moment
   pub time : GoesOn before.moment past since
@@ -36,7 +37,7 @@ pub record AnswersIn (before : Scene) (request : Request) (reply : Reply) (after
   pub shown_told : is_some after.shown ≡ is_some before.shown
   pub draws : TakesKeys before.left after.left
   pub kept : (why : Refusal) → reply ≡ Refused why → (after.left ≡ before.left) × (after.shown ≡ before.shown)
-  pub counted : CountsCommand (Ok reply) request before.owner after.owner
+  pub counted : CountsCommand (Ok reply) (Commanded request) before.owner after.owner
   pub random_counts : before.random_faults ≤ after.random_faults
   pub disk_counts : before.disk_faults ≤ after.disk_faults
 
@@ -45,13 +46,13 @@ pub record AnswersIn (before : Scene) (request : Request) (reply : Reply) (after
 pub record FailsIn (before : Scene) (request : Request) (fault : ApplyFault) (after : Scene) (might may : List ℕ → Type 0)
     (past since : ℕ → List ℕ → List ℕ → Type 0) : Type 0 where
   pub answers : (m : Journal) → IsOwnerOf m before.owner
-      → Answers (Err fault) m request before.owner after.owner before.left after.left before.shown after.shown
+      → Answers (Err fault) m (Commanded request) before.owner after.owner before.left after.left before.shown after.shown
       might may (since before.moment)
   pub later : before.moment ≤ after.moment
   pub time : GoesOn before.moment past since
   pub left_told : is_some after.left ≡ is_some before.left
   pub shown_told : is_some after.shown ≡ is_some before.shown
-  pub short : (left need : ℕ) → fault ≡ faults.RandomShort left need → FallsShort before.owner request left need before.left after.left
+  pub short : (left need : ℕ) → fault ≡ faults.RandomShort left need → FallsShort before.owner (Commanded request) left need before.left after.left
   pub undrawn : fault ≡ faults.OutOfMemory → after.left ≡ before.left
   pub unwritten : fault ≢ faults.DiskFault → after.shown ≡ before.shown
   pub never_closed : fault ≢ faults.Closed

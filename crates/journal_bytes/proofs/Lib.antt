@@ -14,6 +14,7 @@ pub mod NewTitles
 pub mod NextBatches
 pub mod NextEntry
 pub mod NextFits
+pub mod NextUpgrade
 pub mod NextValid
 pub mod NotesDeclared
 pub mod OpenedKeys

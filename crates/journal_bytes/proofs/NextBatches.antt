@@ -72,11 +72,11 @@ unfolding keys_from entry_keys entry_step drawn_by with_bytes
 keys_between owner m true = ap (all_keys owner) (append-nil m)
 keys_between owner m false = all_keys-append owner m (Session ∷ []) ∙ append-nil (all_keys owner m)
 
-pub keys_drawn : (owner : List ℕ) (m : Journal) (has_begun : Bool) (r : Request) (drawn : List (List ℕ))
-    → keys_with (all_keys owner m) (entry_step (begun (not has_begun) (stand_after nothing m)) (Did r drawn)) drawn ≡ all_keys owner (journal_then m has_begun r drawn)
-unfolding keys_from entry_keys drawn_by
-keys_drawn owner m has_begun r drawn =
-    sym (all_keys-append owner (between m has_begun) (Did r drawn ∷ [])
-    ∙ ap (λ l. l ++ keys_from (stand_after nothing (between m has_begun)) (Did r drawn ∷ [])) (keys_between owner m has_begun)
-    ∙ ap (λ at. all_keys owner m ++ keys_from at (Did r drawn ∷ [])) (stand_between m has_begun)
-    ∙ ap (λ l. all_keys owner m ++ l) (append-nil (with_bytes (entry_step (begun (not has_begun) (stand_after nothing m)) (Did r drawn)).given drawn)))
+pub keys_drawn : (owner : List ℕ) (m : Journal) (has_begun : Bool) (entry : Entry)
+    → keys_with (all_keys owner m) (entry_step (begun (not has_begun) (stand_after nothing m)) entry) (drawn_by entry) ≡ all_keys owner (between m has_begun ++ entry ∷ [])
+unfolding keys_from entry_keys
+keys_drawn owner m has_begun entry =
+    sym (all_keys-append owner (between m has_begun) (entry ∷ [])
+    ∙ ap (λ l. l ++ keys_from (stand_after nothing (between m has_begun)) (entry ∷ [])) (keys_between owner m has_begun)
+    ∙ ap (λ at. all_keys owner m ++ keys_from at (entry ∷ [])) (stand_between m has_begun)
+    ∙ ap (λ l. all_keys owner m ++ l) (append-nil (with_bytes (entry_step (begun (not has_begun) (stand_after nothing m)) entry).given (drawn_by entry))))

@@ -46,7 +46,7 @@ stand_between m false = stand_after-append nothing m (Session ∷ [])
 
 -- ---- what a step has, whatever the epoch
 
-begun_renewed : (new : Bool) (k : KeyState) (before : List Edge) (c : Change) → renewed (begun_keys new k) before c ≡ renewed k before c
+pub begun_renewed : (new : Bool) (k : KeyState) (before : List Edge) (c : Change) → renewed (begun_keys new k) before c ≡ renewed k before c
 unfolding renewed planned dirty_left begun_keys next_epoch
 begun_renewed true k before c = refl
 begun_renewed false k before c = refl

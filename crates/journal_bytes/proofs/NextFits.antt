@@ -25,7 +25,7 @@ use Rattle.journal_bytes.proofs.NextValid.{next_valid}
 use Rattle.journal_bytes.proofs.SeenFits.{fits_seen}
 use Rattle.journal_bytes.proofs.ToldSkeleton.{told_keys}
 
-last_fits : (at : Stand) (entries : List Entry) (entry : Entry) → all_fit at (entries ++ entry ∷ []) ≡ true → entry_fits (stand_after at entries) entry ≡ true
+pub last_fits : (at : Stand) (entries : List Entry) (entry : Entry) → all_fit at (entries ++ entry ∷ []) ≡ true → entry_fits (stand_after at entries) entry ≡ true
 unfolding all_fit stand_after
 last_fits at [] entry fit = (and_parts (entry_fits at entry) true fit).0
 last_fits at (x ∷ entries) entry fit = last_fits (stand_then at x) entries entry (and_parts (entry_fits at x) (all_fit (stand_then at x) (entries ++ entry ∷ [])) fit).1

@@ -66,7 +66,7 @@ unfolding stand_after
 follow-append at [] ys f more = more
 follow-append at (x ∷ xs) ys f more = (f.0, follow-append (stand_then at x) xs ys f.1 more)
 
-begins-append : (m more : Journal) → BeginsWell m → FollowOn (stand_after nothing m) more → BeginsWell (m ++ more)
+pub begins-append : (m more : Journal) → BeginsWell m → FollowOn (stand_after nothing m) more → BeginsWell (m ++ more)
 unfolding stand_after
 begins-append [] more b f = absurd b
 begins-append (Session ∷ []) more b f = absurd b
@@ -84,7 +84,7 @@ payloads-append at [] ys = refl
 payloads-append at (x ∷ xs) ys = ap (λ l. entry_payload at x ∷ l) (payloads-append (stand_then at x) xs ys)
 
 -- one entry more makes the log longer by its batch
-end_then : (m : Journal) (entry : Entry) → end_of (m ++ entry ∷ []) ≡ end_of m + (batch_len + entry_payload (stand_after nothing m) entry)
+pub end_then : (m : Journal) (entry : Entry) → end_of (m ++ entry ∷ []) ≡ end_of m + (batch_len + entry_payload (stand_after nothing m) entry)
 unfolding end_of payloads_from
 end_then m entry =
     let more = entry_payload (stand_after nothing m) entry ∷ [] in
@@ -93,7 +93,7 @@ end_then m entry =
     let one = sum_by-cons (λ (len : ℕ). batch_len + len) (entry_payload (stand_after nothing m) entry) [] in
     ap (λ l. header_len + sum_by (λ (len : ℕ). batch_len + len) l) joined ∙ omega (arith, sum, one)
 
-end_between : (m : Journal) (has_begun : Bool) → end_of (between m has_begun) ≡ end_of m + cond has_begun 0 batch_len
+pub end_between : (m : Journal) (has_begun : Bool) → end_of (between m has_begun) ≡ end_of m + cond has_begun 0 batch_len
 unfolding entry_payload
 end_between m true = ap end_of (append-nil m) ∙ omega arith
 end_between m false = end_then m Session
@@ -102,11 +102,14 @@ session_follows : (at : Stand) (has_begun : Bool) → FollowOn at (cond has_begu
 session_follows at true = tt
 session_follows at false = (tt, tt)
 
-pub session_valid : (m : Journal) (has_begun : Bool) (r : Request) → IsValid m → due_end m has_begun r ≤ most_store_bytes → IsValid (between m has_begun)
-unfolding due_end
-session_valid m has_begun r valid low =
+pub begun_valid : (m : Journal) (has_begun : Bool) (more : ℕ) → IsValid m → end_of m + cond has_begun 0 batch_len + batch_len + more ≤ most_store_bytes → IsValid (between m has_begun)
+begun_valid m has_begun more valid low =
     let first = end_between m has_begun in
     (begins-append m (cond has_begun [] (Session ∷ [])) valid.0 (session_follows (stand_after nothing m) has_begun), omega (arith, first, low))
+
+pub session_valid : (m : Journal) (has_begun : Bool) (r : Request) → IsValid m → due_end m has_begun r ≤ most_store_bytes → IsValid (between m has_begun)
+unfolding due_end
+session_valid m has_begun r valid low = begun_valid m has_begun (due_payload m r) valid low
 
 pub session_whole : (owner : List ℕ) (m : Journal) (has_begun : Bool) → AreWhole owner m → AreWhole owner (between m has_begun)
 unfolding drawn_by
@@ -144,12 +147,16 @@ module _ (m : Journal) (has_begun : Bool) (r : Request) (drawn : List (List ℕ)
 
 -- ---- the keys drawn
 
-pub next_whole : (owner : List ℕ) (m : Journal) (has_begun : Bool) (r : Request) (drawn : List (List ℕ)) → AreWhole owner m → All (λ (key : List ℕ). length key ≡ 32) drawn
-    → AreWhole owner (journal_then m has_begun r drawn)
-unfolding drawn_by
-next_whole owner m has_begun r drawn whole sizes =
+pub entered_whole : (owner : List ℕ) (m : Journal) (has_begun : Bool) (entry : Entry) → AreWhole owner m → All (λ (key : List ℕ). length key ≡ 32) (drawn_by entry)
+    → AreWhole owner (between m has_begun ++ entry ∷ [])
+entered_whole owner m has_begun entry whole sizes =
     let sized : Entry → Type 0 = λ entry. All (λ (key : List ℕ). length key ≡ 32) (drawn_by entry) in
     record {
       owner_size = whole.owner_size;
-      drawn_sizes = All-append sized (between m has_begun) (Did r drawn ∷ []) (session_whole owner m has_begun whole).drawn_sizes (All-cons sized (Did r drawn) [] sizes (All-nil sized));
+      drawn_sizes = All-append sized (between m has_begun) (entry ∷ []) (session_whole owner m has_begun whole).drawn_sizes (All-cons sized entry [] sizes (All-nil sized));
     }
+
+pub next_whole : (owner : List ℕ) (m : Journal) (has_begun : Bool) (r : Request) (drawn : List (List ℕ)) → AreWhole owner m → All (λ (key : List ℕ). length key ≡ 32) drawn
+    → AreWhole owner (journal_then m has_begun r drawn)
+unfolding drawn_by
+next_whole owner m has_begun r drawn whole sizes = entered_whole owner m has_begun (Did r drawn) whole sizes

@@ -87,7 +87,7 @@ node_moved t s (Folder f) into is = folder_changed t s f.0 (λ e. record e { par
 node_moved t s (File x) into is = file_changed t s x.0 (λ e. record e { folder = into }) is
 
 -- names that were kept leave the tree as it was
-kept : (t s : Store) (old new : Titles) → AreKept old new → IsTreeOf (tree_store t old) s → IsTreeOf (tree_store t new) s
+pub kept : (t s : Store) (old new : Titles) → AreKept old new → IsTreeOf (tree_store t old) s → IsTreeOf (tree_store t new) s
 unfolding tree_store
 kept t s old new are is = record {
   folders = ap (λ ts. (tree_store t (record old { folders = ts })).folders) are.folders ∙ is.folders;

@@ -10,6 +10,7 @@ pub mod Ringing
 pub mod Script
 pub mod Sealing
 pub mod Texting
+pub mod Upgrading
 pub mod WorkedBytes
 pub mod WorkedFolds
 pub mod WorkedScripts

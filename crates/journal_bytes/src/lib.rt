@@ -11,3 +11,4 @@ pub mod script_laws;
 pub mod script_rows;
 pub mod sealing_laws;
 pub mod texting_laws;
+pub mod upgrade_laws;

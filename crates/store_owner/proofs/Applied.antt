@@ -17,8 +17,10 @@ use Rattle.record_format.specs.Told.{told_note}
 use Rattle.record_format.specs.declared.note.Note.{Note as Declared}
 use Rattle.record_format.specs.declared.note.Note.TheVariants as declared
 use Rattle.public_fold.specs.Journal.{Journal, first_key, store_of}
-use Rattle.journal_bytes.specs.Script.{answer, done_reply, draws_of}
+use Rattle.journal_bytes.specs.Script.{done_reply}
+use Rattle.store_owner.specs.Deeds.{Deed, deed_answer, deed_draws, deed_note, deed_reply}
 use Rattle.store_owner.specs.Applying.{Answers, HasOtherRoom, IsCutShort, IsDone}
+use Rattle.store_owner.specs.Deeds.Deed.{Commanded, Upgrading}
 use Rattle.store_owner.specs.Drawing.{DrawsKeys, IsFillFault}
 use Rattle.store_owner.specs.Owned.{OwnerView, limits_in}
 use Rattle.store_owner.specs.Planning.{reply_for}
@@ -79,12 +81,16 @@ reply_asked m (Relocate path into) check drawn = no_reply _ drawn (move_no_holde
 reply_asked m (Grant h path) check drawn = refl
 reply_asked m (Revoke h path) check drawn = refl
 
-pub reply_due : (m : Journal) (r : Request) (note : Declared) (check : List ℕ) (drawn : List (List ℕ)) → told_note note ≡ note_of (store_of m) r check → reply_for note drawn ≡ done_reply m r drawn
-reply_due m r note check drawn told = reply_told note drawn ∙ ap (λ n. reply_of n drawn) told ∙ reply_asked m r check drawn
+deed_replied : (m : Journal) (d : Deed) (check : List ℕ) (drawn : List (List ℕ)) → reply_of (deed_note (store_of m) d check) drawn ≡ deed_reply m d drawn
+deed_replied m (Commanded r) check drawn = reply_asked m r check drawn
+deed_replied m Upgrading check drawn = refl
+
+pub reply_due : (m : Journal) (d : Deed) (note : Declared) (check : List ℕ) (drawn : List (List ℕ)) → told_note note ≡ deed_note (store_of m) d check → reply_for note drawn ≡ deed_reply m d drawn
+reply_due m d note check drawn told = reply_told note drawn ∙ ap (λ n. reply_of n drawn) told ∙ deed_replied m d check drawn
 
 -- ---- the answer
 
-done_answer : (note : Declared) (drawn : List (List ℕ)) (m : Journal) (r : Request) (old new : OwnerView) (left_before left_after was shows : Option (List ℕ))
+done_answer : (note : Declared) (drawn : List (List ℕ)) (m : Journal) (r : Deed) (old new : OwnerView) (left_before left_after was shows : Option (List ℕ))
     (might may : List ℕ → Type 0) (since : List ℕ → List ℕ → Type 0)
     → IsDone m r (reply_for note drawn) old new left_before left_after was shows might may since
     → Answers (Ok (reply_for note drawn)) m r old new left_before left_after was shows might may since
@@ -108,9 +114,9 @@ pub all_ok : (result : Result Reply ApplyFault) (A B C : Type 0) → OnOk result
 all_ok (Ok reply) A B C a b c = (a, b, c)
 all_ok (Err fault) A B C a b c = tt
 
-pub carried_answer : (result : Result Reply ApplyFault) (note : Declared) (drawn : List (List ℕ)) (m : Journal) (r : Request) (old new : OwnerView) (left_before left_after was shows : Option (List ℕ))
+pub carried_answer : (result : Result Reply ApplyFault) (note : Declared) (drawn : List (List ℕ)) (m : Journal) (r : Deed) (old new : OwnerView) (left_before left_after was shows : Option (List ℕ))
     (might may : List ℕ → Type 0) (since : List ℕ → List ℕ → Type 0) (C : Type 0)
-    → answer (limits_in old) m old.journal.has_epoch r ≡ None → IfErr result (λ fault. fault ≡ faults.DiskFault) → OnErr result (IsTrue new.journal.is_closed)
+    → deed_answer (limits_in old) m old.journal.has_epoch r ≡ None → IfErr result (λ fault. fault ≡ faults.DiskFault) → OnErr result (IsTrue new.journal.is_closed)
     → OnErr result (IsCutShort m r old left_before left_after was shows might may since) → IfOk result (λ reply. reply ≡ reply_for note drawn) → OnOk result C
     → (C → IsDone m r (reply_for note drawn) old new left_before left_after was shows might may since) → Answers result m r old new left_before left_after was shows might may since
 carried_answer (Ok reply) note drawn m r old new left_before left_after was shows might may since C accepted fault closed left is carried done =
@@ -119,9 +125,9 @@ carried_answer (Ok reply) note drawn m r old new left_before left_after was show
 carried_answer (Err why) note drawn m r old new left_before left_after was shows might may since C accepted fault closed left is carried done =
     subst (λ (x : ApplyFault). Answers (Err x) m r old new left_before left_after was shows might may since) (sym fault) (accepted, closed, left)
 
-pub undrawn_answer : (fault : ApplyFault) (keys : ℕ) (m : Journal) (r : Request) (old new : OwnerView) (left_before left_after was shows : Option (List ℕ))
+pub undrawn_answer : (fault : ApplyFault) (keys : ℕ) (m : Journal) (r : Deed) (old new : OwnerView) (left_before left_after was shows : Option (List ℕ))
     (might may : List ℕ → Type 0) (since : List ℕ → List ℕ → Type 0)
-    → answer (limits_in old) m old.journal.has_epoch r ≡ None → HasOtherRoom old new → keys ≡ draws_of m r → 32 * draws_of m r < 2 ^ 32 → IsFillFault {T = Listed (List ℕ)} keys (Err fault)
+    → deed_answer (limits_in old) m old.journal.has_epoch r ≡ None → HasOtherRoom old new → keys ≡ deed_draws m r → 32 * deed_draws m r < 2 ^ 32 → IsFillFault {T = Listed (List ℕ)} keys (Err fault)
     → WhereBothTold left_before left_after (DrawsKeys keys (Err fault)) → is_some left_after ≡ is_some left_before → ComesToRest old.key m m was shows might may since
     → Answers (Err fault) m r old new left_before left_after was shows might may since
 undrawn_answer faults.RandomFault keys m r old new left_before left_after was shows might may since accepted room count few fault bytes tells rests = (accepted, room, rests)

@@ -6,10 +6,8 @@ use Rattle.chacha_seal.specs.Sealing.{check_of}
 use Rattle.chacha_seal.specs.Serials.{Counting}
 use Rattle.commit_journal.specs.Journals.{IsBehind, JournalState, Joins, next_command}
 use Rattle.cry_base.specs.Layout.{batch_len}
-use Rattle.cry_base.specs.Requests.{Request}
 use Rattle.cry_base.specs.Store.{Store}
 use Rattle.folder_nodes.specs.Titles.{tree_store}
-use Rattle.move_plan.specs.Noting.{note_of}
 use Rattle.record_format.specs.Noted.{Note}
 use Rattle.record_format.specs.Plain.{PlainPayload}
 use Rattle.record_format.specs.Spelling.{spell_payload}
@@ -24,7 +22,7 @@ use Rattle.public_fold.specs.declared.heads.Skeleton.{Skeleton}
 use Rattle.journal_bytes.specs.Bytes.{step_payload}
 use Rattle.journal_bytes.specs.Owning.{IsStoreOf, IsTreeOf}
 use Rattle.journal_bytes.specs.Sealing.{HoldsKeys, IsSealable, IsTold, keys_with, skeleton_size}
-use Rattle.journal_bytes.specs.Texting.{AreTitlesAfter, due_key, due_text}
+use Rattle.store_owner.specs.Deeds.{AreDeedTitles, Deed, deed_key, deed_note, deed_text}
 use Rattle.store_owner.specs.Applying.{IsCarriedOut, IsSealed, sealed_text}
 use Rattle.store_owner.specs.Drawing.{AreKeys}
 use Rattle.store_owner.specs.Owned.{OwnerView}
@@ -51,38 +49,38 @@ ends_for false end between limit now size due a b c d = omega arith
 
 -- ---- the change with its key
 
-module _ (r : Request) (drawn : List (List ℕ)) (old : OwnerView) (before after : Change) (at : Stand)
+module _ (r : Deed) (drawn : List (List ℕ)) (old : OwnerView) (before after : Change) (at : Stand)
     (drafted : IsDrafted r old before) (keyed : IsKeyed drawn before after) (long : length drawn ≡ length before.ready.skeleton.keys.items) (sizes : AreKeys drawn)
     (own : IsStoreOf old.state.tree old.names (granted_in old) (own_store old)) (seen : IsSeenAs old.state at) where
-  told : told_note before.note ≡ note_of (own_store old) r (replicate 32 0)
+  told : told_note before.note ≡ deed_note (own_store old) r (replicate 32 0)
   told = drafted.told (own_store old) own
 
   pub skeleton_for : (x : Stand) (s : Store) → IsSeenAs old.state x → IsStoreOf old.state.tree old.names (granted_in old) s
-      → IsSkeleton (told_step (begun (not old.journal.has_epoch) x) (note_of s r (replicate 32 0))) before.ready.skeleton
+      → IsSkeleton (told_step (begun (not old.journal.has_epoch) x) (deed_note s r (replicate 32 0))) before.ready.skeleton
   skeleton_for x s saw is = subst (λ (n : Note). IsSkeleton (told_step (begun (not old.journal.has_epoch) x) n) before.ready.skeleton) (drafted.told s is) (drafted.is_skeleton x saw)
 
   pub fits_for : (x : Stand) → IsSeenAs old.state x
-      → note_fits (begun (not old.journal.has_epoch) x) (note_of (own_store old) r (replicate 32 0)) (told_step (begun (not old.journal.has_epoch) x) (note_of (own_store old) r (replicate 32 0))) ≡ true
+      → note_fits (begun (not old.journal.has_epoch) x) (deed_note (own_store old) r (replicate 32 0)) (told_step (begun (not old.journal.has_epoch) x) (deed_note (own_store old) r (replicate 32 0))) ≡ true
   fits_for x saw = subst (λ (n : Note). note_fits (begun (not old.journal.has_epoch) x) n (told_step (begun (not old.journal.has_epoch) x) n) ≡ true) told (drafted.fits x saw)
 
   pub text_for : after.text.items ≡ sealed_text old r drawn
   text_for =
       keyed.text
       ∙ ap (λ z. z ++ holder_key before.note drawn) drafted.text_is
-      ∙ ap (λ z. due_text (tree_store old.state.tree old.names) r ++ z) (holder_key_due before.note (own_store old) r (replicate 32 0) drawn told)
+      ∙ ap (λ z. deed_text (tree_store old.state.tree old.names) r ++ z) (holder_key_due before.note (own_store old) r (replicate 32 0) drawn told)
 
-  text_long : length after.text.items ≡ length (before.text.items ++ due_key r (replicate 32 0))
+  text_long : length after.text.items ≡ length (before.text.items ++ deed_key r (replicate 32 0))
   text_long =
       ap length (keyed.text ∙ ap (λ z. before.text.items ++ z) (holder_key_due before.note (own_store old) r (replicate 32 0) drawn told))
-      ∙ length-append before.text.items (due_key r (first_key drawn))
+      ∙ length-append before.text.items (deed_key r (first_key drawn))
       ∙ ap (λ n. length before.text.items + n)
       (key_long (begun (not old.journal.has_epoch) at) before.note before.ready.skeleton (own_store old) r (replicate 32 0) drawn (drafted.is_skeleton at seen) long sizes told)
-      ∙ sym (length-append before.text.items (due_key r (replicate 32 0)))
+      ∙ sym (length-append before.text.items (deed_key r (replicate 32 0)))
 
   pub size_for : (sealed : Skeleton) → sealed ≡ after.ready.skeleton → skeleton_size (told_note after.note) sealed (length after.text.items) ≡ planned_size r before
   size_for sealed is =
       ap (λ s. skeleton_size (told_note after.note) s (length after.text.items)) (is ∙ keyed.skeleton)
-      ∙ keyed_size before.note after.note (check_of (first_key drawn)) before.ready.skeleton (length after.text.items) (length (before.text.items ++ due_key r (replicate 32 0))) keyed.note text_long
+      ∙ keyed_size before.note after.note (check_of (first_key drawn)) before.ready.skeleton (length after.text.items) (length (before.text.items ++ deed_key r (replicate 32 0))) keyed.note text_long
 
   unfoldable pub sealed_for : (was showed : Option (List ℕ)) (between : JournalState) (starts : Counting) (sealed : Skeleton) (payload : PlainPayload)
       → HasBegun old.journal between old.counter starts was showed → is_some showed ≡ is_some was → sealed ≡ after.ready.skeleton
@@ -118,7 +116,7 @@ module _ (r : Request) (drawn : List (List ℕ)) (old : OwnerView) (before after
       → ((keys : List KeyParts) (x : Stand) (other : Note) (later : Store) → HoldsKeys keys x.keys old.ring starts → IsSealable (note_step x other later) → IsSkeleton (note_step x other later) sealed
       → HoldsKeys (keys_with keys (note_step x other later) drawn) (note_step x other later).after new.ring ends)
       → new.counter ≡ Some ends → Joins (next_command between (spell_payload payload)) between new.journal showed shows → IsBehind (next_command between (spell_payload payload)) between new.journal
-      → new.journal.has_epoch ≡ between.has_epoch → ((s : Store) → IsTreeOf (tree_store old.state.tree old.names) s → AreTitlesAfter s r old.names new.names) → IsCarriedOut r drawn old new was shows
+      → new.journal.has_epoch ≡ between.has_epoch → ((s : Store) → IsTreeOf (tree_store old.state.tree old.names) s → AreDeedTitles s r old.names new.names) → IsCarriedOut r drawn old new was shows
   unfolding sealed_for
   carried new was showed shows between starts ends sealed payload has tells same_key same_bound state_is sealed_is seals holds counter_is joins behind begun_still titles = record {
     sealed = sealed_for was showed between starts sealed payload has tells sealed_is seals;
@@ -126,7 +124,7 @@ module _ (r : Request) (drawn : List (List ℕ)) (old : OwnerView) (before after
     same_key = same_key;
     same_bound = same_bound;
     seen_then = λ x s saw is.
-        subst (λ (v : _). IsSeenAs v (told_stand (begun (not old.journal.has_epoch) x) (note_of s r (replicate 32 0)))) (sym state_is)
+        subst (λ (v : _). IsSeenAs v (told_stand (begun (not old.journal.has_epoch) x) (deed_note s r (replicate 32 0)))) (sym state_is)
         (subst (λ (n : Note). IsSeenAs (settled old.state after.ready) (told_stand (begun (not old.journal.has_epoch) x) n)) (drafted.told s is) (keyed.seen old.state _ (drafted.seen_then x saw)));
     keys_then = λ keys x other later held can is. holds keys x other later held can (subst (λ (s : Skeleton). IsSkeleton (note_step x other later) s) (sym (sealed_is ∙ keyed.skeleton)) is);
     ends_as = counter_is;

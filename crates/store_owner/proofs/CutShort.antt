@@ -3,31 +3,31 @@ use Rattle.std.proofs.Common.{◌≡◌, ◌≤◌, ⊎_elim, inl, inr, ℕ, fal
 use Rattle.std.specs.Prelude.{is_some}
 use Rattle.cry_io.specs.Told.{WhereBothTold}
 use Rattle.cry_base.specs.Limits.{most_file_bytes, most_store_bytes}
-use Rattle.cry_base.specs.Requests.{Request}
 use Rattle.commit_journal.specs.Holding.{IsBetween}
 use Rattle.commit_journal.specs.Image.{Batch}
 use Rattle.commit_journal.specs.Journals.{IsJournalOf, JournalState, MayJoin, next_command, next_epoch}
 use Rattle.commit_journal.specs.Standing.{StandsFor, StandsWhole}
 use Rattle.record_format.specs.Spelling.{spell_payload}
 use Rattle.public_fold.specs.Journal.{Journal}
-use Rattle.public_fold.specs.Journal.Entry.{Did, Session}
+use Rattle.public_fold.specs.Journal.Entry.{Session}
 use Rattle.journal_bytes.specs.Bytes.{batches_of, entry_body}
 use Rattle.journal_bytes.specs.Journals.{StandsForJournal}
-use Rattle.journal_bytes.specs.Script.{answer, journal_then}
 use Rattle.journal_bytes.proofs.NextBatches.{batches_then}
 use Rattle.journal_bytes.proofs.NextEntry.{between}
-use Rattle.journal_bytes.proofs.NextValid.{next_whole, session_valid, session_whole}
+use Rattle.journal_bytes.proofs.NextValid.{session_whole}
+use Rattle.store_owner.specs.Deeds.{Deed, deed_answer, deed_entry, deed_then, Suits}
 use Rattle.store_owner.specs.Applying.{IsInterrupted, IsSealed}
 use Rattle.store_owner.specs.Owned.{IsOwnerOf, OwnerView, limits_in}
+use Rattle.store_owner.proofs.DeedSteps.{deed_begun, deed_whole}
 use Rattle.store_owner.proofs.OwnerGoesOn.{batches_are, between_owner, between_shown, between_stands, ends_low_is, told_some, valid_then}
 
-module _ (m : Journal) (r : Request) (drawn : List (List ℕ)) (old : OwnerView) (was shows : Option (List ℕ)) (is : IsOwnerOf m old) (low : old.journal.limit ≤ most_store_bytes) (bound : old.file_bytes ≤ most_file_bytes)
-    (fine : answer (limits_in old) m old.journal.has_epoch r ≡ None) where
+module _ (m : Journal) (r : Deed) (drawn : List (List ℕ)) (old : OwnerView) (was shows : Option (List ℕ)) (is : IsOwnerOf m old) (low : old.journal.limit ≤ most_store_bytes) (bound : old.file_bytes ≤ most_file_bytes)
+    (fine : deed_answer (limits_in old) m old.journal.has_epoch r ≡ None) (suits : Suits old.state.keys r) where
   abbrev begun : Journal
   begun = between m old.journal.has_epoch
 
   abbrev then : Journal
-  then = journal_then m old.journal.has_epoch r drawn
+  then = deed_then m old.journal.has_epoch r drawn
 
   abbrev Left : List ℕ → Type 0
   Left y = IsBetween (StandsForJournal old.key) m then y
@@ -36,7 +36,7 @@ module _ (m : Journal) (r : Request) (drawn : List (List ℕ)) (old : OwnerView)
   at_first y stands = record {
     held = m;
     from = ([], append-nil m);
-    to = (cond old.journal.has_epoch [] (Session ∷ []) ++ Did r drawn ∷ [], sym (append_assoc m (cond old.journal.has_epoch [] (Session ∷ [])) (Did r drawn ∷ [])));
+    to = (cond old.journal.has_epoch [] (Session ∷ []) ++ deed_entry r drawn ∷ [], sym (append_assoc m (cond old.journal.has_epoch [] (Session ∷ [])) (deed_entry r drawn ∷ [])));
     stands_for = record { valid = is.valid; whole_keys = is.whole_keys; stands = stands };
   }
 
@@ -44,9 +44,9 @@ module _ (m : Journal) (r : Request) (drawn : List (List ℕ)) (old : OwnerView)
   once_begun y stands = record {
     held = begun;
     from = (cond old.journal.has_epoch [] (Session ∷ []), refl);
-    to = (Did r drawn ∷ [], refl);
+    to = (deed_entry r drawn ∷ [], refl);
     stands_for = record {
-      valid = session_valid m old.journal.has_epoch r is.valid (ends_low_is m r old low fine);
+      valid = deed_begun m old.journal.has_epoch r is.valid (ends_low_is m r old low fine);
       whole_keys = session_whole old.key m old.journal.has_epoch is.whole_keys;
       stands = stands;
     };
@@ -55,11 +55,11 @@ module _ (m : Journal) (r : Request) (drawn : List (List ℕ)) (old : OwnerView)
   with_it : (s : IsSealed r drawn old was) (y : List ℕ) → StandsFor old.key (batches_of old.key then) y → Left y
   with_it s y stands = record {
     held = then;
-    from = (cond old.journal.has_epoch [] (Session ∷ []) ++ Did r drawn ∷ [], sym (append_assoc m (cond old.journal.has_epoch [] (Session ∷ [])) (Did r drawn ∷ [])));
+    from = (cond old.journal.has_epoch [] (Session ∷ []) ++ deed_entry r drawn ∷ [], sym (append_assoc m (cond old.journal.has_epoch [] (Session ∷ [])) (deed_entry r drawn ∷ [])));
     to = ([], append-nil then);
     stands_for = record {
-      valid = valid_then m r drawn old was is low bound fine s;
-      whole_keys = next_whole old.key m old.journal.has_epoch r drawn is.whole_keys s.drawn_sizes;
+      valid = valid_then m r drawn old was is low bound fine suits s;
+      whole_keys = deed_whole old.key m old.journal.has_epoch r drawn is.whole_keys s.drawn_sizes;
       stands = stands;
     };
   }
@@ -86,12 +86,12 @@ module _ (m : Journal) (r : Request) (drawn : List (List ℕ)) (old : OwnerView)
   late s may = λ x y e f whole.
       let bs = batches_of old.key begun in
       let command = next_command s.between (spell_payload s.payload) in
-      let owner = between_owner m r drawn old was is low bound fine s in
+      let owner = between_owner m r drawn old was is low bound fine suits s in
       let some = told_some s.showed (s.stays_told ∙ ap (λ (o : Option (List ℕ)). is_some o) e) in
       ⊎_elim
       (λ still. once_begun y (subst (λ key. StandsFor key bs y) owner still))
-      (λ joined. with_it s y (subst (λ (bs : List Batch). StandsFor old.key bs y) (sym (batches_are m r drawn old was is low bound fine s)) (subst (λ key. StandsFor key (bs ++ command ∷ []) y) owner joined)))
-      (may bs (between_stands m r drawn old was is low bound fine s) some.0 y some.1 f (between_shown m r drawn old was is low bound fine s x some.0 e some.1 whole))
+      (λ joined. with_it s y (subst (λ (bs : List Batch). StandsFor old.key bs y) (sym (batches_are m r drawn old was is low bound fine suits s)) (subst (λ key. StandsFor key (bs ++ command ∷ []) y) owner joined)))
+      (may bs (between_stands m r drawn old was is low bound fine suits s) some.0 y some.1 f (between_shown m r drawn old was is low bound fine suits s x some.0 e some.1 whole))
 
   pub cut_short : IsInterrupted r drawn old was shows → WhereBothTold was shows (λ x y. StandsWhole old.key (batches_of old.key m) x → Left y)
   cut_short (inl fault) = early fault.0 fault.1.0 fault.1.1 fault.1.2

@@ -2,6 +2,7 @@ pub mod Applied
 pub mod CarriedOut
 pub mod Counts
 pub mod CutShort
+pub mod DeedSteps
 pub mod DrawLemmas
 pub mod Faulted
 pub mod FewKeys

@@ -26,6 +26,8 @@ use Rattle.public_fold.proofs.Serials.{numbered-length}
 use Rattle.role_graph.specs.Edges.{edges}
 use Rattle.journal_bytes.specs.Sealing.{skeleton_size}
 use Rattle.journal_bytes.specs.Texting.{due_key}
+use Rattle.store_owner.specs.Deeds.{Deed, deed_key, deed_note}
+use Rattle.store_owner.specs.Deeds.Deed.{Commanded, Upgrading}
 use Rattle.store_owner.specs.Drawing.{AreKeys}
 use Rattle.store_owner.specs.Planning.{holder_key}
 
@@ -102,11 +104,24 @@ adding_is (Relocate path into) t = absurd (false≢true t)
 adding_is (Grant h path) t = absurd (false≢true t)
 adding_is (Revoke h path) t = absurd (false≢true t)
 
-asked : (note : Declared) (s : Store) (r : Request) (check : List ℕ) → told_note note ≡ note_of s r check → is_new_holder note ≡ is_adding r
-asked note s r check told = holder_told note ∙ ap is_holder told ∙ holder_asked s r check
+-- of what is asked
+abbrev makes_holder : Deed → Bool
+makes_holder (Commanded r) = is_adding r
+makes_holder Upgrading = false
 
-pub adds_holder : (note : Declared) (s : Store) (r : Request) (check : List ℕ) → told_note note ≡ note_of s r check → is_new_holder note ≡ true → r ≡ AddHolder
-adds_holder note s r check told is = adding_is r (sym (asked note s r check told) ∙ is)
+holder_noted : (s : Store) (d : Deed) (check : List ℕ) → is_holder (deed_note s d check) ≡ makes_holder d
+holder_noted s (Commanded r) check = holder_asked s r check
+holder_noted s Upgrading check = refl
+
+making_is : (d : Deed) → makes_holder d ≡ true → d ≡ Commanded AddHolder
+making_is (Commanded r) t = ap Commanded (adding_is r t)
+making_is Upgrading t = absurd (false≢true t)
+
+asked : (note : Declared) (s : Store) (d : Deed) (check : List ℕ) → told_note note ≡ deed_note s d check → is_new_holder note ≡ makes_holder d
+asked note s d check told = holder_told note ∙ ap is_holder told ∙ holder_noted s d check
+
+pub adds_holder : (note : Declared) (s : Store) (d : Deed) (check : List ℕ) → told_note note ≡ deed_note s d check → is_new_holder note ≡ true → d ≡ Commanded AddHolder
+adds_holder note s d check told is = making_is d (sym (asked note s d check told) ∙ is)
 
 -- ---- the note with the check
 
@@ -160,8 +175,12 @@ checked_asked s (Relocate path into) old check = unchecked _ check (move_no_hold
 checked_asked s (Grant h path) old check = refl
 checked_asked s (Revoke h path) old check = refl
 
-pub keyed_note : (note new : Declared) (s : Store) (r : Request) (old check : List ℕ) → new ≡ with_check note check → told_note note ≡ note_of s r old → told_note new ≡ note_of s r check
-keyed_note note new s r old check is told = ap told_note is ∙ checked_told note check ∙ ap (λ n. checked n check) told ∙ checked_asked s r old check
+checked_noted : (s : Store) (d : Deed) (old check : List ℕ) → checked (deed_note s d old) check ≡ deed_note s d check
+checked_noted s (Commanded r) old check = checked_asked s r old check
+checked_noted s Upgrading old check = refl
+
+pub keyed_note : (note new : Declared) (s : Store) (d : Deed) (old check : List ℕ) → new ≡ with_check note check → told_note note ≡ deed_note s d old → told_note new ≡ deed_note s d check
+keyed_note note new s d old check is told = ap told_note is ∙ checked_told note check ∙ ap (λ n. checked n check) told ∙ checked_noted s d old check
 
 -- ---- its key, and its length
 
@@ -193,8 +212,12 @@ due_key_is (Relocate path into) key = refl
 due_key_is (Grant h path) key = refl
 due_key_is (Revoke h path) key = refl
 
-pub holder_key_due : (note : Declared) (s : Store) (r : Request) (check : List ℕ) (drawn : List (List ℕ)) → told_note note ≡ note_of s r check → holder_key note drawn ≡ due_key r (first_key drawn)
-holder_key_due note s r check drawn told = holder_key_is note drawn ∙ ap (λ b. cond b (first_key drawn) []) (asked note s r check told) ∙ sym (due_key_is r (first_key drawn))
+deed_key_is : (d : Deed) (key : List ℕ) → deed_key d key ≡ cond (makes_holder d) key []
+deed_key_is (Commanded r) key = due_key_is r key
+deed_key_is Upgrading key = refl
+
+pub holder_key_due : (note : Declared) (s : Store) (d : Deed) (check : List ℕ) (drawn : List (List ℕ)) → told_note note ≡ deed_note s d check → holder_key note drawn ≡ deed_key d (first_key drawn)
+holder_key_due note s d check drawn told = holder_key_is note drawn ∙ ap (λ b. cond b (first_key drawn) []) (asked note s d check told) ∙ sym (deed_key_is d (first_key drawn))
 
 first_long : (drawn : List (List ℕ)) → AreKeys drawn → 1 ≤ length drawn → length (first_key drawn) ≡ 32
 unfolding first_key
@@ -234,12 +257,12 @@ holder_drawn at note s drawn skeleton long is =
     let some = gives at (told_note note) (sym (holder_told note) ∙ is) in
     let same = ap length skeleton.keys in omega (arith, some, same, long)
 
-pub key_long : (at : Stand) (note : Declared) (s : Skeleton) (store : Store) (r : Request) (check : List ℕ) (drawn : List (List ℕ)) → IsSkeleton (told_step at (told_note note)) s → length drawn ≡ length s.keys.items → AreKeys drawn
-    → told_note note ≡ note_of store r check → length (due_key r (first_key drawn)) ≡ length (due_key r (replicate 32 0))
-key_long at note s store r check drawn skeleton long sizes told =
-    ap length (due_key_is r (first_key drawn))
-    ∙ same_long (is_adding r) (first_key drawn) (replicate 32 0) (λ t. first_long drawn sizes (holder_drawn at note s drawn skeleton long (asked note store r check told ∙ t)))
-    ∙ sym (ap length (due_key_is r (replicate 32 0)))
+pub key_long : (at : Stand) (note : Declared) (s : Skeleton) (store : Store) (d : Deed) (check : List ℕ) (drawn : List (List ℕ)) → IsSkeleton (told_step at (told_note note)) s → length drawn ≡ length s.keys.items → AreKeys drawn
+    → told_note note ≡ deed_note store d check → length (deed_key d (first_key drawn)) ≡ length (deed_key d (replicate 32 0))
+key_long at note s store d check drawn skeleton long sizes told =
+    ap length (deed_key_is d (first_key drawn))
+    ∙ same_long (makes_holder d) (first_key drawn) (replicate 32 0) (λ t. first_long drawn sizes (holder_drawn at note s drawn skeleton long (asked note store d check told ∙ t)))
+    ∙ sym (ap length (deed_key_is d (replicate 32 0)))
 
 checked_len : (note : Note) (check : List ℕ) → note_len (checked note check) ≡ note_len note
 unfolding note_len

@@ -3,7 +3,6 @@ use Rattle.std.proofs.Common.{◌≡◌, ℕ, ◌+◌, ◌≤◌, cond, List, []
 use Rattle.chacha_seal.specs.Keys.{KeyParts}
 use Rattle.chacha_seal.specs.Serials.{Counting}
 use Rattle.commit_journal.specs.Journals.{JournalState}
-use Rattle.cry_base.specs.Refusing.{refusal_of}
 use Rattle.cry_base.specs.Requests.{Request}
 use Rattle.cry_base.specs.Requests.Request.{AddHolder, MakeFolder, WriteFile, Remove, Rename, Relocate, Grant, Revoke}
 use Rattle.cry_base.specs.Store.{Store, node_at}
@@ -21,7 +20,9 @@ use Rattle.journal_bytes.specs.Keys.{all_keys}
 use Rattle.journal_bytes.specs.Owning.{IsStoreOf}
 use Rattle.journal_bytes.specs.Sealing.{HoldsKeys}
 use Rattle.journal_bytes.specs.Texting.{AreKept, AreTitlesAfter, IsRemoved, IsRenamed, IsWritten, name_at}
+use Rattle.store_owner.specs.Deeds.{AreDeedTitles, Deed, deed_refusal, IsDeedChange, Suits}
 use Rattle.store_owner.specs.Applying.{HasOtherRoom, IsCarriedOut, IsInterrupted, IsSealed}
+use Rattle.store_owner.specs.Deeds.Deed.{Commanded, Upgrading}
 use Rattle.store_owner.specs.Owned.{IsOwnerOf, OwnerView, counting}
 use Rattle.store_owner.specs.Planning.{IsDrafted}
 use Rattle.store_owner.specs.declared.counted.Counted.{Counted}
@@ -158,10 +159,19 @@ titles_before s (Relocate path into) n new c h = kept_before n new c h
 titles_before s (Grant holder path) n new c h = kept_before n new c h
 titles_before s (Revoke holder path) n new c h = kept_before n new c h
 
+-- of what is asked
+deed_change_with : (t : Store) (d : Deed) (n : Titles) (c : ℕ) (p : NameChange) → IsDeedChange t d n p → IsDeedChange t d (named n c) p
+deed_change_with t (Commanded r) n c p h = name_change_with t r n c p h
+deed_change_with t Upgrading n c p h = h
+
+deed_titles_before : (s : Store) (d : Deed) (n new : Titles) (c : ℕ) → AreDeedTitles s d (named n c) new → AreDeedTitles s d n new
+deed_titles_before s (Commanded r) n new c h = titles_before s r n new c h
+deed_titles_before s Upgrading n new c h = kept_before n new c h
+
 pub store_still : (s : Store) (old new : OwnerView) → HasOtherRoom old new → IsStoreOf old.state.tree old.names (granted_in old) s → IsStoreOf new.state.tree new.names (granted_in new) s
 store_still s old new h is = subst (λ (o : OwnerView). IsStoreOf o.state.tree o.names (granted_in o) s) (sym (has_room old new h)) (store_with old.state.tree s old.names _ (granted_in old) is)
 
-drafted_with : (r : Request) (o : OwnerView) (p : Change) (b c d e f : ℕ) → IsDrafted r o p → IsDrafted r (with_room o b c d e f) p
+drafted_with : (r : Deed) (o : OwnerView) (p : Change) (b c d e f : ℕ) → IsDrafted r o p → IsDrafted r (with_room o b c d e f) p
 unfolding tree_store
 drafted_with r o p b c d e f h = record {
   told = λ s is. h.told s (store_before o.state.tree s o.names c (granted_in o) is);
@@ -172,13 +182,13 @@ drafted_with r o p b c d e f h = record {
   fits = h.fits;
   text_is = h.text_is;
   text_room = h.text_room;
-  titles_are = name_change_with (tree_store o.state.tree o.names) r o.names c p.titles h.titles_are;
+  titles_are = deed_change_with (tree_store o.state.tree o.names) r o.names c p.titles h.titles_are;
 }
 
-pub drafted_still : (r : Request) (old new : OwnerView) (p : Change) → HasOtherRoom old new → IsDrafted r old p → IsDrafted r new p
+pub drafted_still : (r : Deed) (old new : OwnerView) (p : Change) → HasOtherRoom old new → IsDrafted r old p → IsDrafted r new p
 drafted_still r old new p h d = subst (λ (o : OwnerView). IsDrafted r o p) (sym (has_room old new h)) (drafted_with r old p _ _ _ _ _ d)
 
-sealed_before : (r : Request) (drawn : List (List ℕ)) (o : OwnerView) (was : Option (List ℕ)) (b c d e f : ℕ) → IsSealed r drawn (with_room o b c d e f) was → IsSealed r drawn o was
+sealed_before : (r : Deed) (drawn : List (List ℕ)) (o : OwnerView) (was : Option (List ℕ)) (b c d e f : ℕ) → IsSealed r drawn (with_room o b c d e f) was → IsSealed r drawn o was
 unfolding tree_store
 sealed_before r drawn o was b c d e f h = record {
   note = h.note;
@@ -199,7 +209,7 @@ sealed_before r drawn o was b c d e f h = record {
   payload_is = λ keys at other after held is. h.payload_is keys at other after (held_still keys at.keys o.ring d h.starts held) is;
 }
 
-carried_before : (r : Request) (drawn : List (List ℕ)) (o new : OwnerView) (was shows : Option (List ℕ)) (b c d e f : ℕ) → IsCarriedOut r drawn (with_room o b c d e f) new was shows → IsCarriedOut r drawn o new was shows
+carried_before : (r : Deed) (drawn : List (List ℕ)) (o new : OwnerView) (was shows : Option (List ℕ)) (b c d e f : ℕ) → IsCarriedOut r drawn (with_room o b c d e f) new was shows → IsCarriedOut r drawn o new was shows
 unfolding tree_store sealed_before
 carried_before r drawn o new was shows b c d e f h = record {
   sealed = sealed_before r drawn o was b c d e f h.sealed;
@@ -214,23 +224,23 @@ carried_before r drawn o new was shows b c d e f h = record {
   same_epoch = h.same_epoch;
   has_begun = h.has_begun;
   same_limit = h.same_limit;
-  titles_then = λ s tree. titles_before s r o.names new.names c (h.titles_then s tree);
+  titles_then = λ s tree. deed_titles_before s r o.names new.names c (h.titles_then s tree);
 }
 
-interrupted_before : (r : Request) (drawn : List (List ℕ)) (o : OwnerView) (was shows : Option (List ℕ)) (b c d e f : ℕ) → IsInterrupted r drawn (with_room o b c d e f) was shows → IsInterrupted r drawn o was shows
+interrupted_before : (r : Deed) (drawn : List (List ℕ)) (o : OwnerView) (was shows : Option (List ℕ)) (b c d e f : ℕ) → IsInterrupted r drawn (with_room o b c d e f) was shows → IsInterrupted r drawn o was shows
 unfolding sealed_before
 interrupted_before r drawn o was shows b c d e f (inl early) = inl early
 interrupted_before r drawn o was shows b c d e f (inr late) = inr (sealed_before r drawn o was b c d e f late.0, late.1)
 
-pub interrupted_from : (r : Request) (drawn : List (List ℕ)) (old between : OwnerView) (was shows : Option (List ℕ)) → HasOtherRoom old between → IsInterrupted r drawn between was shows → IsInterrupted r drawn old was shows
+pub interrupted_from : (r : Deed) (drawn : List (List ℕ)) (old between : OwnerView) (was shows : Option (List ℕ)) → HasOtherRoom old between → IsInterrupted r drawn between was shows → IsInterrupted r drawn old was shows
 interrupted_from r drawn old between was shows h c = interrupted_before r drawn old was shows _ _ _ _ _ (subst (λ (o : OwnerView). IsInterrupted r drawn o was shows) (has_room old between h) c)
 
-pub carried_from : (r : Request) (drawn : List (List ℕ)) (old between new : OwnerView) (was shows : Option (List ℕ)) → HasOtherRoom old between → IsCarriedOut r drawn between new was shows → IsCarriedOut r drawn old new was shows
+pub carried_from : (r : Deed) (drawn : List (List ℕ)) (old between new : OwnerView) (was shows : Option (List ℕ)) → HasOtherRoom old between → IsCarriedOut r drawn between new was shows → IsCarriedOut r drawn old new was shows
 carried_from r drawn old between new was shows h c = carried_before r drawn old new was shows _ _ _ _ _ (subst (λ (o : OwnerView). IsCarriedOut r drawn o new was shows) (has_room old between h) c)
 
-pub accepted_still : (r : Request) (old new : OwnerView) → HasOtherRoom old new → refusal_of (own_store old) r old.file_bytes ≡ None → refusal_of (own_store new) r new.file_bytes ≡ None
+pub accepted_still : (r : Deed) (old new : OwnerView) → HasOtherRoom old new → deed_refusal (own_store old) r old.file_bytes ≡ None → deed_refusal (own_store new) r new.file_bytes ≡ None
 unfolding tree_store
-accepted_still r old new h accepted = subst (λ (o : OwnerView). refusal_of (own_store o) r o.file_bytes ≡ None) (sym (has_room old new h)) accepted
+accepted_still r old new h accepted = subst (λ (o : OwnerView). deed_refusal (own_store o) r o.file_bytes ≡ None) (sym (has_room old new h)) accepted
 
 owner_with : (o : OwnerView) (b c d e f : ℕ) (m : Journal) → IsOwnerOf m o → IsOwnerOf m (with_room o b c d e f)
 unfolding tree_store
@@ -245,32 +255,35 @@ owner_with o b c d e f m is = record {
   counts = is.counts;
 }
 
+pub suits_still : (d : Deed) (old new : OwnerView) → HasOtherRoom old new → Suits old.state.keys d → Suits new.state.keys d
+suits_still d old new h suits = subst (λ (o : OwnerView). Suits o.state.keys d) (sym (has_room old new h)) suits
+
 pub owner_still : (m : Journal) (old new : OwnerView) → HasOtherRoom old new → IsOwnerOf m old → IsOwnerOf m new
 owner_still m old new h is = subst (IsOwnerOf m) (sym (has_room old new h)) (owner_with old _ _ _ _ _ m is)
 
-stops_before : (r : Request) (drawn : List (List ℕ)) (o : OwnerView) (was shows : Option (List ℕ)) (might may : List ℕ → Type 0) (since : List ℕ → List ℕ → Type 0) (b c d e f : ℕ)
+stops_before : (r : Deed) (drawn : List (List ℕ)) (o : OwnerView) (was shows : Option (List ℕ)) (might may : List ℕ → Type 0) (since : List ℕ → List ℕ → Type 0) (b c d e f : ℕ)
     → StopsWithin r drawn (with_room o b c d e f) was shows might may since → StopsWithin r drawn o was shows might may since
 stops_before r drawn o was shows might may since b c d e f h = λ m is low bound fine. h m (owner_with o b c d e f m is) low bound fine
 
-pub stops_from : (r : Request) (drawn : List (List ℕ)) (old between : OwnerView) (was shows : Option (List ℕ)) (might may : List ℕ → Type 0) (since : List ℕ → List ℕ → Type 0) → HasOtherRoom old between
+pub stops_from : (r : Deed) (drawn : List (List ℕ)) (old between : OwnerView) (was shows : Option (List ℕ)) (might may : List ℕ → Type 0) (since : List ℕ → List ℕ → Type 0) → HasOtherRoom old between
     → StopsWithin r drawn between was shows might may since → StopsWithin r drawn old was shows might may since
 stops_from r drawn old between was shows might may since h c =
     stops_before r drawn old was shows might may since _ _ _ _ _ (subst (λ (o : OwnerView). StopsWithin r drawn o was shows might may since) (has_room old between h) c)
 
-handed_before : (r : Request) (drawn : List (List ℕ)) (o : OwnerView) (was shows : Option (List ℕ)) (b c d e f : ℕ)
+handed_before : (r : Deed) (drawn : List (List ℕ)) (o : OwnerView) (was shows : Option (List ℕ)) (b c d e f : ℕ)
     → HandsAll r drawn (with_room o b c d e f) was shows → HandsAll r drawn o was shows
 handed_before r drawn o was shows b c d e f h = λ m is low bound fine. h m (owner_with o b c d e f m is) low bound fine
 
-pub handed_from : (r : Request) (drawn : List (List ℕ)) (old between : OwnerView) (was shows : Option (List ℕ)) → HasOtherRoom old between
+pub handed_from : (r : Deed) (drawn : List (List ℕ)) (old between : OwnerView) (was shows : Option (List ℕ)) → HasOtherRoom old between
     → HandsAll r drawn between was shows → HandsAll r drawn old was shows
 handed_from r drawn old between was shows h c =
     handed_before r drawn old was shows _ _ _ _ _ (subst (λ (o : OwnerView). HandsAll r drawn o was shows) (has_room old between h) c)
 
-published_before : (r : Request) (o : OwnerView) (was : Option (List ℕ)) (might : List ℕ → Type 0) (on : (List ℕ → List ℕ → Type 0) → Type 0) (b c d e f : ℕ)
+published_before : (r : Deed) (o : OwnerView) (was : Option (List ℕ)) (might : List ℕ → Type 0) (on : (List ℕ → List ℕ → Type 0) → Type 0) (b c d e f : ℕ)
     → PublishesWithin r (with_room o b c d e f) was might on → PublishesWithin r o was might on
 published_before r o was might on b c d e f h = λ m is low bound fine rests. h m (owner_with o b c d e f m is) low bound fine rests
 
-pub published_from : (r : Request) (old between : OwnerView) (was : Option (List ℕ)) (might : List ℕ → Type 0) (on : (List ℕ → List ℕ → Type 0) → Type 0) → HasOtherRoom old between
+pub published_from : (r : Deed) (old between : OwnerView) (was : Option (List ℕ)) (might : List ℕ → Type 0) (on : (List ℕ → List ℕ → Type 0) → Type 0) → HasOtherRoom old between
     → PublishesWithin r between was might on → PublishesWithin r old was might on
 published_from r old between was might on h c =
     published_before r old was might on _ _ _ _ _ (subst (λ (o : OwnerView). PublishesWithin r o was might on) (has_room old between h) c)

@@ -21,7 +21,6 @@ use Rattle.commit_journal.proofs.KeptLemmas.{prefix_same, prefix_trans}
 use Rattle.commit_journal.proofs.OpenedMoments.{still_gated}
 use Rattle.commit_journal.proofs.Standings.{last_slot_standing, recovered_standing, whole_stands}
 use Rattle.cry_base.specs.Limits.{most_file_bytes, most_store_bytes}
-use Rattle.cry_base.specs.Requests.{Request}
 use Rattle.cry_io.specs.Stops.{IsDurable}
 use Rattle.cry_io.specs.Told.{WhereTold}
 use Rattle.record_format.specs.Spelling.{spell_payload}
@@ -31,9 +30,9 @@ use Rattle.public_fold.specs.Valid.{IsValid}
 use Rattle.journal_bytes.specs.Bytes.{batches_of, bodies_of}
 use Rattle.journal_bytes.specs.Journals.{StandsForJournal}
 use Rattle.journal_bytes.specs.Keys.{AreWhole}
-use Rattle.journal_bytes.specs.Script.{answer, journal_then}
 use Rattle.journal_bytes.proofs.Grown.{batches_fit, journal_recovered}
 use Rattle.journal_bytes.proofs.NextEntry.{between}
+use Rattle.store_owner.specs.Deeds.{Deed, deed_answer, deed_then, Suits}
 use Rattle.store_owner.specs.Applying.{IsSealed}
 use Rattle.store_owner.specs.Owned.{IsOwnerOf, OwnerView, limits_in}
 use Rattle.store_owner.specs.Published.{AddsPublished, HasPublished, PublishesUpTo, StaysPublished, published_batches}
@@ -172,13 +171,13 @@ rest_published key m shown may_leave rests s is c left =
 
 -- ---- a command
 
-module _ (m : Journal) (r : Request) (drawn : List (List ℕ)) (old : OwnerView) (was : Option (List ℕ)) (might : List ℕ → Type 0) (is : IsOwnerOf m old) (low : old.journal.limit ≤ most_store_bytes) (bound : old.file_bytes ≤ most_file_bytes)
-    (fine : answer (limits_in old) m old.journal.has_epoch r ≡ None) (rests : RestsAt old.key m was might) where
+module _ (m : Journal) (r : Deed) (drawn : List (List ℕ)) (old : OwnerView) (was : Option (List ℕ)) (might : List ℕ → Type 0) (is : IsOwnerOf m old) (low : old.journal.limit ≤ most_store_bytes) (bound : old.file_bytes ≤ most_file_bytes)
+    (fine : deed_answer (limits_in old) m old.journal.has_epoch r ≡ None) (suits : Suits old.state.keys r) (rests : RestsAt old.key m was might) where
   abbrev begun : Journal
   begun = between m old.journal.has_epoch
 
   abbrev then : Journal
-  then = journal_then m old.journal.has_epoch r drawn
+  then = deed_then m old.journal.has_epoch r drawn
 
   module _ (D : Type 0) (moment : D → ℕ) (since : D → ℕ → List ℕ → List ℕ → Type 0) where
     abbrev On : D → D → (List ℕ → List ℕ → Type 0) → Type 0
@@ -208,7 +207,7 @@ module _ (m : Journal) (r : Request) (drawn : List (List ℕ)) (old : OwnerView)
 
     pub early_published : (a b : D) → AddsPublished (epoch_due old.journal) old.journal was might (On a b) → On a b (HasPublished old.key)
     early_published a b adds =
-        step_published old.key m begun a b (begun_valid m r drawn old was might is low bound fine) (begun_whole m r drawn old was might is low bound fine) (epoch_on a b adds)
+        step_published old.key m begun a b (begun_valid m r drawn old was might is low bound fine suits) (begun_whole m r drawn old was might is low bound fine suits) (epoch_on a b adds)
 
     pub late_published : (s : IsSealed r drawn old was) (midst : List ℕ → Type 0) → (IsDurable might was → IsDurable midst s.showed)
         → (a b e : D) → ((d : D) → GoesOn (moment d) (since d) (since d)) → AddsPublished (epoch_due old.journal) old.journal was might (On a b)
@@ -216,13 +215,13 @@ module _ (m : Journal) (r : Request) (drawn : List (List ℕ)) (old : OwnerView)
     late_published s midst calm a b e still begins adds =
         let key = old.key in
         let one = epoch_on a b begins in
-        let two = step_on key begun then (next_command s.between (spell_payload s.payload) ∷ []) s.between s.showed midst b e (batches_are m r drawn old was is low bound fine s)
-        (between_owner m r drawn old was is low bound fine s) (between_stands m r drawn old was is low bound fine s) adds
-        (rests_begun m r drawn old was might is low bound fine s midst calm rests) in
-        let begun_fits = begun_valid m r drawn old was might is low bound fine in
-        let begun_keys = begun_whole m r drawn old was might is low bound fine in
-        let then_fits = then_valid m r drawn old was might is low bound fine s midst calm in
-        let then_keys = then_whole m r drawn old was might is low bound fine s midst calm in
+        let two = step_on key begun then (next_command s.between (spell_payload s.payload) ∷ []) s.between s.showed midst b e (batches_are m r drawn old was is low bound fine suits s)
+        (between_owner m r drawn old was is low bound fine suits s) (between_stands m r drawn old was is low bound fine suits s) adds
+        (rests_begun m r drawn old was might is low bound fine suits s midst calm rests) in
+        let begun_fits = begun_valid m r drawn old was might is low bound fine suits in
+        let begun_keys = begun_whole m r drawn old was might is low bound fine suits in
+        let then_fits = then_valid m r drawn old was might is low bound fine suits s midst calm in
+        let then_keys = then_whole m r drawn old was might is low bound fine suits s midst calm in
         on_in_both D moment since (HasPublished key) a b e still
         (step_published key m begun a b begun_fits begun_keys one)
         (step_published key begun then b e then_fits then_keys two)

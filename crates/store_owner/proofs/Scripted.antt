@@ -21,6 +21,7 @@ use Rattle.store_owner.specs.Sessions.{AnswersBehind, GoesOn, StandsAt, with_dra
 use Rattle.store_owner.specs.Tallied.{CountsCommand, CountsOne, KeepsCount, counted_in}
 use Rattle.store_owner.proofs.OwnerGoesOn.{not_refused}
 use Rattle.store_owner.proofs.Tallies.{counts_on}
+use Rattle.store_owner.specs.Deeds.Deed.{Commanded}
 use Rattle.store_owner.specs.Stopping.{ComesToRest}
 
 abbrev pub Whole : List ℕ → Type 0
@@ -67,7 +68,7 @@ module _ (limits : Limits) (key : List ℕ) (g : Going) (r : Request) (old new :
 
   abbrev Goes : Reply → Type 0
   Goes reply = (h : Going) × GoesOn limits g h r reply left_before left_after × StandsAt limits key h new shows × AnswersBehind g h old new was shows
-      × ComesToRest key g.journal h.journal was shows might may since × KeepsCount r reply old new g.journal h.journal
+      × ComesToRest key g.journal h.journal was shows might may since × KeepsCount (Commanded r) reply old new g.journal h.journal
 
   same_bytes : (x y : List ℕ) → left_after ≡ left_before → left_before ≡ Some x → left_after ≡ Some y → x ≡ y
   same_bytes x y left before after = let both = sym before ∙ sym left ∙ after in cc
@@ -100,9 +101,9 @@ module _ (limits : Limits) (key : List ℕ) (g : Going) (r : Request) (old new :
 
   -- one who was asked a command that is accepted counts it
   abbrev Counting : Reply → Type 0
-  Counting reply = CountsCommand (Ok reply) r old new → CountsOne r old new
+  Counting reply = CountsCommand (Ok reply) (Commanded r) old new → CountsOne (Commanded r) old new
 
-  done : (reply : Reply) → IsDone g.journal r reply old new left_before left_after was shows might may since → is_some shows ≡ is_some was → Counting reply → Goes reply
+  done : (reply : Reply) → IsDone g.journal (Commanded r) reply old new left_before left_after was shows might may since → is_some shows ≡ is_some was → Counting reply → Goes reply
   unfolding line_reply line_going accepted_going
   done reply is disk_told counting =
       let e = limited None is.accepted in
@@ -149,15 +150,15 @@ module _ (limits : Limits) (key : List ℕ) (g : Going) (r : Request) (old new :
         },
         subst (λ m. ComesToRest key g.journal m was shows might may since) journal
             (subst (λ k. ComesToRest k g.journal (journal_then g.journal old.journal.has_epoch r is.drawn) was shows might may since) stands.has_key is.comes_to_rest),
-        λ counts all. counts_on g.journal r is.drawn old new stands.owner_is (not_refused g.journal r old is.accepted).0 (counting counts) all ∙ ap counted_in journal,
+        λ counts all. counts_on g.journal (Commanded r) is.drawn old new stands.owner_is (not_refused g.journal (Commanded r) old is.accepted).0 (counting counts) all ∙ ap counted_in journal,
       )
 
 pub answered_counting : (limits : Limits) (key : List ℕ) (g : Going) (r : Request) (reply : Reply) (old new : OwnerView) (left_before left_after was shows : Option (List ℕ))
     (might may : List ℕ → Type 0) (since : List ℕ → List ℕ → Type 0)
-    → StandsAt limits key g old was → Answers (Ok reply) g.journal r old new left_before left_after was shows might may since
+    → StandsAt limits key g old was → Answers (Ok reply) g.journal (Commanded r) old new left_before left_after was shows might may since
     → is_some shows ≡ is_some was → ((why : Refusal) → reply ≡ replies.Refused why → (left_after ≡ left_before) × (shows ≡ was))
     → (h : Going) × GoesOn limits g h r reply left_before left_after × StandsAt limits key h new shows × AnswersBehind g h old new was shows
-    × ComesToRest key g.journal h.journal was shows might may since × KeepsCount r reply old new g.journal h.journal
+    × ComesToRest key g.journal h.journal was shows might may since × KeepsCount (Commanded r) reply old new g.journal h.journal
 answered_counting limits key g r replies.Done old new left_before left_after was shows might may since stands is disk_told kept =
     done limits key g r old new left_before left_after was shows might may since stands replies.Done is disk_told (λ one. one)
 answered_counting limits key g r (replies.Made holder drawn) old new left_before left_after was shows might may since stands is disk_told kept =
@@ -167,7 +168,7 @@ answered_counting limits key g r (replies.Refused why) old new left_before left_
 
 pub answered : (limits : Limits) (key : List ℕ) (g : Going) (r : Request) (reply : Reply) (old new : OwnerView) (left_before left_after was shows : Option (List ℕ))
     (might may : List ℕ → Type 0) (since : List ℕ → List ℕ → Type 0)
-    → StandsAt limits key g old was → Answers (Ok reply) g.journal r old new left_before left_after was shows might may since
+    → StandsAt limits key g old was → Answers (Ok reply) g.journal (Commanded r) old new left_before left_after was shows might may since
     → is_some shows ≡ is_some was → ((why : Refusal) → reply ≡ replies.Refused why → (left_after ≡ left_before) × (shows ≡ was))
     → (h : Going) × GoesOn limits g h r reply left_before left_after × StandsAt limits key h new shows × AnswersBehind g h old new was shows
     × ComesToRest key g.journal h.journal was shows might may since

@@ -15,13 +15,13 @@ use Rattle.key_links.specs.Ringed.{Ringed, key_of}
 use Rattle.move_plan.specs.Change.{change_of, no_change, row_change}
 use Rattle.move_plan.specs.Noting.{note_of}
 use Rattle.record_format.specs.Noted.{Note}
-use Rattle.record_format.specs.Noted.Note.{NewHolder}
+use Rattle.record_format.specs.Noted.Note.{NewHolder, Upgrade}
 use Rattle.role_graph.specs.Edges.{edges}
 use Rattle.role_graph.specs.Roles.{holder_role}
 use Rattle.public_fold.specs.Fitted.{told_step}
 use Rattle.public_fold.specs.Heads.{IsSkeleton}
 use Rattle.public_fold.specs.Journal.{Stand, first_key, note_step, nothing}
-use Rattle.public_fold.specs.KeyStep.{KeyState, given, is_strict, key_step, keys_then, next_epoch, next_serial, no_keys, published, published_edges, renewed, step_with}
+use Rattle.public_fold.specs.KeyStep.{KeyState, contents_from, given, is_strict, key_step, keys_then, next_epoch, next_serial, no_keys, numbered, published, published_edges, renewed, step_with}
 use Rattle.public_fold.specs.Preparing.{begun, begun_keys}
 use Rattle.public_fold.specs.Records.{pieces_of}
 use Rattle.public_fold.specs.StandFits.{has_count, note_fits}
@@ -33,11 +33,13 @@ use Rattle.public_fold.proofs.Serials.{numbered-length}
 use Rattle.public_fold.proofs.TurnsHold.{fit_told, log_holds}
 use Rattle.journal_bytes.specs.Sealing.{CanSeal, HasLength, HoldsKeys, IsSealable}
 use Rattle.journal_bytes.specs.Texting.{due_key, due_text}
-use Rattle.journal_bytes.proofs.DueTexts.{due_same}
 use Rattle.journal_bytes.proofs.Ready.{can_seal, next_holds}
 use Rattle.journal_bytes.proofs.Sealable.{content_from}
 use Rattle.journal_bytes.proofs.SoundSteps.{begun_sealable}
+use Rattle.store_owner.specs.Deeds.{Deed, deed_key, deed_note, deed_refusal, deed_text, IsWellNamed}
 use Rattle.store_owner.specs.Applying.{sealed_text}
+use Rattle.store_owner.specs.Deeds.Deed.{Commanded, Upgrading}
+use Rattle.store_owner.proofs.DeedSteps.{deed_same}
 use Rattle.store_owner.specs.Owned.{OwnerView, counting}
 use Rattle.store_owner.specs.Sound.{IsSound, own_store}
 use Rattle.store_owner.proofs.SoundStores.{own_kept}
@@ -111,6 +113,18 @@ lengths at s r key check n small good none sized is x i =
     due_fits s after r key check n small good none sized is x.piece
     (content_from (keys_then k c plan) (next_serial k + length (given k c plan) + length (published_edges (edges at.store) c plan)) (pieces_of note after) x i).0
 
+seals_nothing : (at : Stand) → HasLength (told_step at Upgrade) []
+unfolding told_step note_step key_step step_with published pieces_of contents_from numbered
+seals_nothing at x i = absurd i
+
+-- of what is asked
+deed_lengths : (at : Stand) (s : Store) (d : Deed) (drawn : List (List ℕ)) (n : ℕ) → n ≤ most_file_bytes → IsWellNamed d → deed_refusal s d n ≡ None → IsSized s
+    → length drawn ≡ length (told_step at (deed_note s d (replicate 32 0))).given → All (λ (key : List ℕ). length key ≡ 32) drawn
+    → HasLength (told_step at (deed_note s d (replicate 32 0))) (deed_text s d ++ deed_key d (first_key drawn))
+deed_lengths at s (Commanded r) drawn n small good none sized long sizes =
+    lengths at s r (first_key drawn) (replicate 32 0) n small good none sized (keyed at s r (replicate 32 0) drawn long sizes)
+deed_lengths at s Upgrading drawn n small good none sized long sizes = seals_nothing at
+
 -- ---- the whole
 
 has_room : (at : Stand) (note : Note) → note_fits at note (told_step at note) ≡ true → (told_step at note).after.count < 4294967296
@@ -125,23 +139,22 @@ unfolding told_step note_step
 sealing keys at note ring counter s text drawn holds can skeleton small long room sizes =
     can_seal keys at.keys (edges at.store) (change_of (is_strict at.keys) at.store note) (pieces_of note (told_store at.store note)) ring counter s text holds can skeleton drawn small long room sizes
 
-pub sound_seals : (o : OwnerView) (r : Request) (drawn : List (List ℕ)) (s : Skeleton) (ring : Ringed) (counter : Counting) → IsSound o → has_bad_name r ≡ false
-    → refusal_of (own_store o) r o.file_bytes ≡ None
-    → ((at : Stand) → IsSeenAs o.state at → IsSkeleton (told_step (begun (not o.journal.has_epoch) at) (note_of (own_store o) r (replicate 32 0))) s)
-    → ((at : Stand) → IsSeenAs o.state at → note_fits (begun (not o.journal.has_epoch) at) (note_of (own_store o) r (replicate 32 0))
-    (told_step (begun (not o.journal.has_epoch) at) (note_of (own_store o) r (replicate 32 0))) ≡ true)
+pub sound_seals : (o : OwnerView) (r : Deed) (drawn : List (List ℕ)) (s : Skeleton) (ring : Ringed) (counter : Counting) → IsSound o → IsWellNamed r
+    → deed_refusal (own_store o) r o.file_bytes ≡ None
+    → ((at : Stand) → IsSeenAs o.state at → IsSkeleton (told_step (begun (not o.journal.has_epoch) at) (deed_note (own_store o) r (replicate 32 0))) s)
+    → ((at : Stand) → IsSeenAs o.state at → note_fits (begun (not o.journal.has_epoch) at) (deed_note (own_store o) r (replicate 32 0))
+    (told_step (begun (not o.journal.has_epoch) at) (deed_note (own_store o) r (replicate 32 0))) ≡ true)
     → ring.keys ≡ o.ring.keys → length s.keys.items ≤ ring.spare → length drawn ≡ length s.keys.items → All (λ (key : List ℕ). length key ≡ 32) drawn
     → cond o.journal.has_epoch (o.counter ≡ Some counter) (counter ≡ record { epoch = o.journal.epoch + 1; count = 0 })
     → CanSeal ring counter s drawn (sealed_text o r drawn)
 sound_seals o r drawn s ring counter sound good none skeleton fits same room long sizes is =
     let was = turns_stand nothing sound.turns in
     let at = begun (not o.journal.has_epoch) was in
-    let note = note_of (own_store o) r (replicate 32 0) in
+    let note = deed_note (own_store o) r (replicate 32 0) in
     let made = skeleton was sound.seen in
     let fit = fits was sound.seen in
     let holds = held_then o.journal.has_epoch sound.keys was.keys o.ring ring o.counter counter (o.journal.epoch + 1) sound.held same (count_low sound.turns sound.fit) (ap (λ n. n + 1) sound.same_epoch) sound.counts is in
-    let text = due_same (tree_store o.state.tree o.names) (own_store o) r (own_kept o).tree in
+    let text = deed_same (tree_store o.state.tree o.names) (own_store o) r (own_kept o).tree in
     sealing sound.keys at note ring counter s (sealed_text o r drawn) drawn holds (begun_sealable (not o.journal.has_epoch) sound.turns note sound.fit fit) made (has_room at note fit) long room
-    (subst (λ t. HasLength (told_step at note) (t ++ due_key r (first_key drawn))) (sym text)
-    (lengths at (own_store o) r (first_key drawn) (replicate 32 0) o.file_bytes sound.bounded good none (files_sized (own_store o) sound.sized)
-    (keyed at (own_store o) r (replicate 32 0) drawn (long ∙ ap length made.keys) sizes)))
+    (subst (λ t. HasLength (told_step at note) (t ++ deed_key r (first_key drawn))) (sym text)
+    (deed_lengths at (own_store o) r drawn o.file_bytes sound.bounded good none (files_sized (own_store o) sound.sized) (long ∙ ap length made.keys) sizes))

@@ -5,7 +5,7 @@ use Rattle.std.proofs.lemmas.Bool.{and_from, and_parts, eq-eqb, eqb-true}
 use Rattle.chacha_seal.specs.Keys.{KeyParts}
 use Rattle.chacha_seal.specs.Serials.{Counting}
 use Rattle.cry_base.specs.Limits.{most_file_bytes}
-use Rattle.cry_base.specs.Refusing.{has_bad_name, id_of, refusal_of}
+use Rattle.cry_base.specs.Refusing.{id_of, refusal_of}
 use Rattle.cry_base.specs.Requests.{Request}
 use Rattle.cry_base.specs.Requests.Request.{AddHolder, MakeFolder, WriteFile, Remove, Rename, Relocate, Grant, Revoke}
 use Rattle.cry_base.specs.Naming.{parent_path}
@@ -34,7 +34,9 @@ use Rattle.public_fold.specs.Turns.Turn.{Began, Noted}
 use Rattle.journal_bytes.specs.Sealing.{HoldsKeys, IsSealable, keys_with}
 use Rattle.journal_bytes.specs.Texting.{AreKept, AreTitlesAfter, IsRemoved, IsRenamed, IsWritten, name_at}
 use Rattle.journal_bytes.proofs.SoundSteps.{begun_sealable}
+use Rattle.store_owner.specs.Deeds.{AreDeedTitles, Deed, deed_note, deed_refusal, IsWellNamed}
 use Rattle.store_owner.specs.Applying.{IsCarriedOut}
+use Rattle.store_owner.specs.Deeds.Deed.{Commanded, Upgrading}
 use Rattle.store_owner.specs.Owned.{OwnerView, counting}
 use Rattle.store_owner.specs.Sound.{IsSound, own_store}
 use Rattle.store_owner.proofs.SoundSeals.{count_low, held_then}
@@ -248,22 +250,32 @@ told_files : (at : Stand) (note : Note) → (told_stand at note).store.files ≡
 unfolding told_stand
 told_files at note = refl
 
+-- of what is asked
+deed_titles_stay : (s : Store) (d : Deed) (n : ℕ) (old new : Titles) (x : ℕ) → n ≤ most_file_bytes → deed_refusal s d n ≡ None → AreDeedTitles s d old new → IsSizedAt old x → IsSizedAt new x
+deed_titles_stay s (Commanded r) n old new x small none titles sized = titles_stay s r n old new x small none titles sized
+deed_titles_stay s Upgrading n old new x small none are sized = kept_sized old new x are sized
+
+deed_made_stays : (s : Store) (d : Deed) (check : List ℕ) (n : ℕ) (old new : Titles) → n ≤ most_file_bytes → deed_refusal s d n ≡ None → AreDeedTitles s d old new → MakesFile (deed_note s d check)
+    → IsSizedAt new (s.files_made + 1)
+deed_made_stays s (Commanded r) check n old new small none titles makes = made_stays s r check n old new small none titles makes
+deed_made_stays s Upgrading check n old new small none are makes = absurd makes
+
 -- so of all files behind a command
-files_stay : (r : Request) (old new : OwnerView) (begins : Bool) (at : Stand) → IsSeenAs old.state at → IsSeenAs new.state (told_stand (begun begins at) (note_of (own_store old) r (replicate 32 0)))
-    → old.file_bytes ≤ most_file_bytes → refusal_of (own_store old) r old.file_bytes ≡ None → AreTitlesAfter (own_store old) r old.names new.names
+files_stay : (r : Deed) (old new : OwnerView) (begins : Bool) (at : Stand) → IsSeenAs old.state at → IsSeenAs new.state (told_stand (begun begins at) (deed_note (own_store old) r (replicate 32 0)))
+    → old.file_bytes ≤ most_file_bytes → deed_refusal (own_store old) r old.file_bytes ≡ None → AreDeedTitles (own_store old) r old.names new.names
     → ((x : FileEntry) → In x (own_store old).files → length x.bytes ≤ most_file_bytes) → (x : FileEntry) → In x (own_store new).files → length x.bytes ≤ most_file_bytes
 files_stay r old new begins at seen after small none titles sized x i =
-    let note = note_of (own_store old) r (replicate 32 0) in
+    let note = deed_note (own_store old) r (replicate 32 0) in
     let own = own_file new x i in
     let there = subst (λ fs. In own.0 fs) (ap (λ (s : Store). s.files) (sym after.store) ∙ told_files (begun begins at) note) own.1 in
     subst (λ (b : List ℕ). length b ≤ most_file_bytes) (sym own.2)
     (⊎_elim
     (λ (w : (y : FileEntry) × In y at.store.files × (y.id ≡ own.0.id)).
     let old_one = subst (λ fs. In w.0 fs) (ap (λ (s : Store). s.files) seen.store) w.1 in
-    subst (IsSizedAt new.names) w.2 (titles_stay (own_store old) r old.file_bytes old.names new.names w.0.id small none titles (sized (named_file old.names w.0) (file_owned old w.0 old_one))))
+    subst (IsSizedAt new.names) w.2 (deed_titles_stay (own_store old) r old.file_bytes old.names new.names w.0.id small none titles (sized (named_file old.names w.0) (file_owned old w.0 old_one))))
     (λ (w : MakesFile note × (own.0.id ≡ at.store.files_made + 1)).
     let number : (own_store old).files_made + 1 ≡ own.0.id = ap (λ n. n + 1) (made_same old ∙ sym (ap (λ (s : Store). s.files_made) seen.store)) ∙ sym w.1 in
-    subst (IsSizedAt new.names) number (made_stays (own_store old) r (replicate 32 0) old.file_bytes old.names new.names small none titles w.0))
+    subst (IsSizedAt new.names) number (deed_made_stays (own_store old) r (replicate 32 0) old.file_bytes old.names new.names small none titles w.0))
     (files_after at.store note own.0 there))
 
 -- ---- the whole
@@ -277,22 +289,22 @@ held_on false keys at old starts between new held low same was is more joined =
     held_then false keys at.keys old.ring old.ring old.counter starts between held refl low (omega (arith, more, joined, same)) was is
 
 -- the keys behind the command, by the counter that the owner then has
-keys_on : (r : Request) (drawn : List (List ℕ)) (old new : OwnerView) (was shows : Option (List ℕ)) (out : IsCarriedOut r drawn old new was shows) (keys : List KeyParts) (at : Stand) (note : Note)
+keys_on : (r : Deed) (drawn : List (List ℕ)) (old new : OwnerView) (was shows : Option (List ℕ)) (out : IsCarriedOut r drawn old new was shows) (keys : List KeyParts) (at : Stand) (note : Note)
     → HoldsKeys keys at.keys old.ring out.sealed.starts → IsSealable (told_step at note) → IsSkeleton (told_step at note) out.sealed.skeleton
     → HoldsKeys (keys_with keys (told_step at note) drawn) (told_stand at note).keys new.ring out.ends
 unfolding told_step told_stand
 keys_on r drawn old new was shows out keys at note held can skeleton = out.keys_then keys at note (told_store at.store note) held can skeleton
 
-pub stays_sound : (r : Request) (drawn : List (List ℕ)) (old new : OwnerView) (was shows : Option (List ℕ)) → IsSound old → has_bad_name r ≡ false
-    → refusal_of (own_store old) r old.file_bytes ≡ None
-    → ((at : Stand) → IsSeenAs old.state at → note_fits (begun (not old.journal.has_epoch) at) (note_of (own_store old) r (replicate 32 0))
-    (told_step (begun (not old.journal.has_epoch) at) (note_of (own_store old) r (replicate 32 0))) ≡ true)
+pub stays_sound : (r : Deed) (drawn : List (List ℕ)) (old new : OwnerView) (was shows : Option (List ℕ)) → IsSound old → IsWellNamed r
+    → deed_refusal (own_store old) r old.file_bytes ≡ None
+    → ((at : Stand) → IsSeenAs old.state at → note_fits (begun (not old.journal.has_epoch) at) (deed_note (own_store old) r (replicate 32 0))
+    (told_step (begun (not old.journal.has_epoch) at) (deed_note (own_store old) r (replicate 32 0))) ≡ true)
     → IsCarriedOut r drawn old new was shows
     → new.journal.batches ≡ old.journal.batches + cond old.journal.has_epoch 1 2 → new.journal.epoch ≡ old.journal.epoch + cond old.journal.has_epoch 0 1
     → IsSound new
 stays_sound r drawn old new was shows sound good none fits out batches epoch =
     let has = old.journal.has_epoch in
-    let note = note_of (own_store old) r (replicate 32 0) in
+    let note = deed_note (own_store old) r (replicate 32 0) in
     let first = turns_stand nothing sound.turns in
     let at = begun (not has) first in
     let fit = fits first sound.seen in

@@ -4,7 +4,6 @@ use Rattle.std.specs.Prelude.{is_some}
 use Rattle.std.proofs.lemmas.Bool.{false≢true}
 use Rattle.std.proofs.lemmas.List.{append_cancel_left}
 use Rattle.cry_base.specs.Limits.{most_file_bytes, most_store_bytes}
-use Rattle.cry_base.specs.Requests.{Request}
 use Rattle.cry_io.specs.Stops.{IsDurable}
 use Rattle.cry_io.specs.Told.{WhereBothTold}
 use Rattle.commit_journal.specs.Handing.{Hands, Write, joining_writes, log_writes}
@@ -19,19 +18,20 @@ use Rattle.commit_journal.proofs.KeptLemmas.{between_wider, kept_starts, kept_th
 use Rattle.commit_journal.proofs.Standings.{whole_stands}
 use Rattle.record_format.specs.Spelling.{spell_payload}
 use Rattle.public_fold.specs.Journal.{Journal}
-use Rattle.public_fold.specs.Journal.Entry.{Did, Session}
+use Rattle.public_fold.specs.Journal.Entry.{Session}
 use Rattle.public_fold.specs.Valid.{IsValid}
 use Rattle.journal_bytes.specs.Bytes.{batches_of, entry_body}
 use Rattle.journal_bytes.specs.Journals.{HoldsBetween, IsSettled, Kept, StandsForJournal, StandsWholeForJournal}
 use Rattle.journal_bytes.specs.Keys.{AreWhole}
-use Rattle.journal_bytes.specs.Script.{answer, journal_then}
 use Rattle.journal_bytes.proofs.NextBatches.{batches_then}
 use Rattle.journal_bytes.proofs.NextEntry.{between}
-use Rattle.journal_bytes.proofs.NextValid.{next_whole, session_valid, session_whole}
+use Rattle.journal_bytes.proofs.NextValid.{session_whole}
+use Rattle.store_owner.specs.Deeds.{Deed, deed_answer, deed_entry, deed_then, Suits}
 use Rattle.store_owner.specs.Applying.{IsSealed}
 use Rattle.store_owner.specs.Owned.{IsOwnerOf, OwnerView, limits_in}
 use Rattle.store_owner.specs.Stopping.{AddsBatches, ComesToRest, HasAdded, RestsAt, ShowsWritten, StopsBetween, epoch_due, journal_writes}
 use Rattle.store_owner.proofs.HandedBatches.{handed_both, handed_nothing, hands_both, hands_one, hands_to, journal_writes_are}
+use Rattle.store_owner.proofs.DeedSteps.{deed_begun, deed_whole}
 use Rattle.store_owner.proofs.OwnerGoesOn.{batches_are, between_owner, between_shown, between_stands, ends_low_is, told_some, valid_then}
 
 -- ---- a disk at rest
@@ -228,22 +228,22 @@ unfolding entry_body
 begun_batches key m true j of = ap (batches_of key) (append-nil m) ∙ sym (append-nil (batches_of key m))
 begun_batches key m false j of = batches_then key m Session j of
 
-module _ (m : Journal) (r : Request) (drawn : List (List ℕ)) (old : OwnerView) (was : Option (List ℕ)) (might : List ℕ → Type 0) (is : IsOwnerOf m old) (low : old.journal.limit ≤ most_store_bytes) (bound : old.file_bytes ≤ most_file_bytes)
-    (fine : answer (limits_in old) m old.journal.has_epoch r ≡ None) where
+module _ (m : Journal) (r : Deed) (drawn : List (List ℕ)) (old : OwnerView) (was : Option (List ℕ)) (might : List ℕ → Type 0) (is : IsOwnerOf m old) (low : old.journal.limit ≤ most_store_bytes) (bound : old.file_bytes ≤ most_file_bytes)
+    (fine : deed_answer (limits_in old) m old.journal.has_epoch r ≡ None) (suits : Suits old.state.keys r) where
   abbrev pub begun : Journal
   begun = between m old.journal.has_epoch
 
   abbrev pub then : Journal
-  then = journal_then m old.journal.has_epoch r drawn
+  then = deed_then m old.journal.has_epoch r drawn
 
   to_begun : IsPrefix m begun
   to_begun = (cond old.journal.has_epoch [] (Session ∷ []), refl)
 
   to_then : IsPrefix begun then
-  to_then = (Did r drawn ∷ [], refl)
+  to_then = (deed_entry r drawn ∷ [], refl)
 
   pub begun_valid : IsValid begun
-  begun_valid = session_valid m old.journal.has_epoch r is.valid (ends_low_is m r old low fine)
+  begun_valid = deed_begun m old.journal.has_epoch r is.valid (ends_low_is m r old low fine)
 
   pub begun_whole : AreWhole old.key begun
   begun_whole = session_whole old.key m old.journal.has_epoch is.whole_keys
@@ -280,15 +280,15 @@ module _ (m : Journal) (r : Request) (drawn : List (List ℕ)) (old : OwnerView)
 
   module _ (s : IsSealed r drawn old was) (midst : List ℕ → Type 0) (calm : IsDurable might was → IsDurable midst s.showed) where
     pub then_valid : IsValid then
-    then_valid = valid_then m r drawn old was is low bound fine s
+    then_valid = valid_then m r drawn old was is low bound fine suits s
 
     pub then_whole : AreWhole old.key then
-    then_whole = next_whole old.key m old.journal.has_epoch r drawn is.whole_keys s.drawn_sizes
+    then_whole = deed_whole old.key m old.journal.has_epoch r drawn is.whole_keys s.drawn_sizes
 
     pub rests_begun : RestsAt old.key m was might → RestsAt old.key begun s.showed midst
     rests_begun rests =
         let some = told_some s.showed (s.stays_told ∙ ap (λ (o : Option (List ℕ)). is_some o) rests.shows.1) in
-        let whole = between_shown m r drawn old was is low bound fine s rests.shows.0 some.0 rests.shows.1 some.1 rests.shows.2.stands in
+        let whole = between_shown m r drawn old was is low bound fine suits s rests.shows.0 some.0 rests.shows.1 some.1 rests.shows.2.stands in
         record {
           shows = (
             some.0,
@@ -296,7 +296,7 @@ module _ (m : Journal) (r : Request) (drawn : List (List ℕ)) (old : OwnerView)
             record {
               valid = begun_valid;
               whole_keys = begun_whole;
-              stands = subst (λ key. StandsWhole key (batches_of old.key begun) some.0) (between_owner m r drawn old was is low bound fine s) whole;
+              stands = subst (λ key. StandsWhole key (batches_of old.key begun) some.0) (between_owner m r drawn old was is low bound fine suits s) whole;
             },
           );
           durable = calm rests.durable;
@@ -308,13 +308,13 @@ module _ (m : Journal) (r : Request) (drawn : List (List ℕ)) (old : OwnerView)
         → StopsBetween old.key m then was shows might may (since first)
     late_stops shows may start first past since before goes all begins adds =
         stops_then old.key m begun then was s.showed shows might midst may start first past since before goes to_begun to_then rests_begun (epoch_handed s.showed all) (epoch_stops s.showed midst (past first) begins)
-        (step old.key begun then false (next_command s.between (spell_payload s.payload)) (batches_are m r drawn old was is low bound fine s) to_then begun_valid begun_whole then_valid then_whole
-        s.between s.showed shows midst may (since start) (between_owner m r drawn old was is low bound fine s) (between_stands m r drawn old was is low bound fine s) adds)
+        (step old.key begun then false (next_command s.between (spell_payload s.payload)) (batches_are m r drawn old was is low bound fine suits s) to_then begun_valid begun_whole then_valid then_whole
+        s.between s.showed shows midst may (since start) (between_owner m r drawn old was is low bound fine suits s) (between_stands m r drawn old was is low bound fine suits s) adds)
 
     -- all writes of both batches are done
     pub all_handed : (shows : Option (List ℕ)) → HasAdded (epoch_due old.journal) old.journal was s.showed
         → HasAdded (next_command s.between (spell_payload s.payload) ∷ []) s.between s.showed shows → ShowsWritten (journal_writes old.key m then) was shows
     all_handed shows begins adds =
         handed_both old.key m begun then was s.showed shows to_begun to_then (epoch_handed s.showed begins)
-        (step_handed old.key begun then false (next_command s.between (spell_payload s.payload)) (batches_are m r drawn old was is low bound fine s) to_then begun_valid begun_whole then_valid then_whole
-        s.between s.showed shows (between_owner m r drawn old was is low bound fine s) (between_stands m r drawn old was is low bound fine s) adds)
+        (step_handed old.key begun then false (next_command s.between (spell_payload s.payload)) (batches_are m r drawn old was is low bound fine suits s) to_then begun_valid begun_whole then_valid then_whole
+        s.between s.showed shows (between_owner m r drawn old was is low bound fine suits s) (between_stands m r drawn old was is low bound fine suits s) adds)

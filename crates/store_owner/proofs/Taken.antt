@@ -5,8 +5,6 @@ use Rattle.std.proofs.lemmas.Grind.{flat_map-append}
 use Rattle.std.proofs.lemmas.List.Elements.{All-append, All-nil}
 use Rattle.commit_journal.specs.Journals.{JournalState}
 use Rattle.cry_base.specs.Listed.{Listed}
-use Rattle.cry_base.specs.Refusing.{refusal_of}
-use Rattle.cry_base.specs.Requests.{Request}
 use Rattle.cry_base.specs.declared.commands.Reply.{Reply}
 use Rattle.cry_io.specs.Told.{WhereBothTold}
 use Rattle.cry_io.proofs.ToldLemmas.{both_told_through, told_again}
@@ -18,6 +16,7 @@ use Rattle.public_fold.specs.Turns.{turns_stand}
 use Rattle.record_format.specs.Noted.{Note}
 use Rattle.record_format.specs.Told.{told_note}
 use Rattle.journal_bytes.specs.Owning.{IsStoreOf}
+use Rattle.store_owner.specs.Deeds.{Deed, deed_refusal}
 use Rattle.store_owner.specs.Applying.{HasOtherRoom}
 use Rattle.store_owner.specs.Drawing.{AreKeys, DrawsKeys, IsFillFault, joined}
 use Rattle.store_owner.specs.Owned.{OwnerView}
@@ -55,10 +54,10 @@ takes_filled (Ok reply) keys drawn before after sizes bytes = record { drawn = d
 takes_filled (Err fault) keys drawn before after sizes bytes = tt
 
 -- the keys that are to be filled are those of the plan
-abbrev pub ArePlanned : OwnerView → Request → ℕ → Type 0
+abbrev pub ArePlanned : OwnerView → Deed → ℕ → Type 0
 ArePlanned o r keys = (at : Stand) → IsSeenAs o.state at → keys ≡ keys_planned o at r
 
-pub are_planned : (o mid : OwnerView) (r : Request) (p : Change) → HasOtherRoom o mid → IsStoreOf o.state.tree o.names (granted_in o) (own_store o) → IsDrafted r mid p
+pub are_planned : (o mid : OwnerView) (r : Deed) (p : Change) → HasOtherRoom o mid → IsStoreOf o.state.tree o.names (granted_in o) (own_store o) → IsDrafted r mid p
     → ArePlanned o r (length p.ready.skeleton.keys.items)
 are_planned o mid r p room store drafted = λ at seen.
     let told = drafted.told (own_store o) (store_still (own_store o) o mid room store) in
@@ -68,7 +67,7 @@ are_planned o mid r p room store drafted = λ at seen.
     ∙ ap (λ (n : Note). length (told_step (begun (not o.journal.has_epoch) at) n).given) told
 
 -- the source ended before they were filled
-module _ (o : OwnerView) (r : Request) (keys : ℕ) (before after : Option (List ℕ)) (sound : IsSound o) (accepted : refusal_of (own_store o) r o.file_bytes ≡ None)
+module _ (o : OwnerView) (r : Deed) (keys : ℕ) (before after : Option (List ℕ)) (sound : IsSound o) (accepted : deed_refusal (own_store o) r o.file_bytes ≡ None)
     (planned : ArePlanned o r keys) (small : 32 * keys < 2 ^ 32) (told : is_some after ≡ is_some before) where
   filled_short : (given wanted : ℕ) → IsFillFault {T = Listed (List ℕ)} keys (Err (faults.RandomShort given wanted))
       → WhereBothTold before after (DrawsKeys keys (Err (faults.RandomShort given wanted))) → FallsShort o r given wanted before after

@@ -7,17 +7,14 @@ use Rattle.std.proofs.lemmas.Grind.{flat_map-append}
 use Rattle.std.proofs.lemmas.List.Elements.{filter-append}
 use Rattle.commit_journal.specs.Image.{image}
 use Rattle.commit_journal.specs.Journals.{JournalState}
-use Rattle.cry_base.specs.Refusing.{refusal_of}
-use Rattle.cry_base.specs.Requests.{Request}
 use Rattle.cry_base.specs.declared.commands.Reply.{Reply}
-use Rattle.move_plan.specs.Noting.{note_of}
 use Rattle.record_format.specs.Noted.{Note}
 use Rattle.record_format.specs.declared.note.Note.{Note as Declared}
 use Rattle.record_format.specs.declared.note.Note.TheVariants as declared
 use Rattle.public_fold.specs.Fitted.{told_step}
 use Rattle.public_fold.specs.Heads.{IsSkeleton, content_head}
 use Rattle.public_fold.specs.Journal.{Entry, Journal, Stand, entry_step, keys_of, nothing, stand_after, steps_from, steps_of, store_of}
-use Rattle.public_fold.specs.Journal.Entry.{Session, Did}
+use Rattle.public_fold.specs.Journal.Entry.{Session}
 use Rattle.public_fold.specs.KeyStep.{Stepped}
 use Rattle.public_fold.specs.Keyed.{links_of}
 use Rattle.public_fold.specs.Lengths.{end_of}
@@ -27,12 +24,13 @@ use Rattle.public_fold.specs.declared.heads.Skeleton.{Skeleton}
 use Rattle.public_fold.proofs.Prefixes.{steps_grow}
 use Rattle.journal_bytes.specs.Bytes.{batches_of, image_of}
 use Rattle.journal_bytes.specs.Folds.{public_stand}
-use Rattle.journal_bytes.specs.Script.{journal_then}
 use Rattle.journal_bytes.specs.WorkedBytes.{journal_bytes}
 use Rattle.journal_bytes.proofs.NextEntry.{between, stand_between}
 use Rattle.journal_bytes.proofs.Weighed.{valid_weighs}
+use Rattle.store_owner.specs.Deeds.{Deed, deed_count, deed_entry, deed_note, deed_refusal, deed_then}
 use Rattle.store_owner.specs.Applying.{HasOtherRoom}
-use Rattle.store_owner.specs.Counted.{counted_with, root_counted, with_command}
+use Rattle.store_owner.specs.Counted.{counted_with, root_counted, with_more}
+use Rattle.store_owner.specs.Deeds.Deed.{Commanded, Upgrading}
 use Rattle.store_owner.specs.Making.{made_with}
 use Rattle.store_owner.specs.Owned.{IsOwnerOf, OwnerView}
 use Rattle.store_owner.specs.Planning.{IsDrafted, reply_for}
@@ -87,10 +85,17 @@ module _ (m : Journal) (e : Entry) where
       ∙ length-append (flat_map contents_published (steps_of m)) (flat_map contents_published (entry_step (stand_after nothing m) e ∷ []))
       ∙ ap (λ cs. length (flat_map contents_published (steps_of m)) + length cs) (append-nil (entry_step (stand_after nothing m) e).contents)
 
-did_more : (m : Journal) (r : Request) (drawn : List (List ℕ)) → counted_in (m ++ Did r drawn ∷ [])
-    ≡ with_command (counted_in m) (length (entry_step (stand_after nothing m) (Did r drawn)).links) (length (entry_step (stand_after nothing m) (Did r drawn)).contents)
+counts_for : (d : Deed) (drawn : List (List ℕ)) → length (filter is_command (deed_entry d drawn ∷ [])) ≡ deed_count d
+counts_for (Commanded r) drawn = refl
+counts_for Upgrading drawn = refl
+
+did_more : (m : Journal) (d : Deed) (drawn : List (List ℕ)) → counted_in (m ++ deed_entry d drawn ∷ [])
+    ≡ with_more (counted_in m) (deed_count d) (length (entry_step (stand_after nothing m) (deed_entry d drawn)).links) (length (entry_step (stand_after nothing m) (deed_entry d drawn)).contents)
 unfolding counted_in
-did_more m r drawn = λ i. counts (commands_more m (Did r drawn) i) (links_more m (Did r drawn) i) (contents_more m (Did r drawn) i)
+did_more m d drawn =
+    let one = deed_entry d drawn in
+    (λ i. counts (commands_more m one i) (links_more m one i) (contents_more m one i))
+    ∙ ap (λ n. counts (length (filter is_command m) + n) (length (links_of (steps_of m)) + length (entry_step (stand_after nothing m) one).links) (length (flat_map contents_published (steps_of m)) + length (entry_step (stand_after nothing m) one).contents)) (counts_for d drawn)
 
 session_more : (m : Journal) → counted_in (m ++ Session ∷ []) ≡ counted_in m
 unfolding counted_in entry_step
@@ -103,12 +108,12 @@ between_same m true = ap counted_in (append-nil m)
 between_same m false = session_more m
 
 -- the journal with a command more, and a session begun before it where none was
-then_more : (m : Journal) (has_begun : Bool) (r : Request) (drawn : List (List ℕ)) → counted_in (journal_then m has_begun r drawn)
-    ≡ with_command (counted_in m) (length (entry_step (begun (not has_begun) (stand_after nothing m)) (Did r drawn)).links) (length (entry_step (begun (not has_begun) (stand_after nothing m)) (Did r drawn)).contents)
+then_more : (m : Journal) (has_begun : Bool) (r : Deed) (drawn : List (List ℕ)) → counted_in (deed_then m has_begun r drawn)
+    ≡ with_more (counted_in m) (deed_count r) (length (entry_step (begun (not has_begun) (stand_after nothing m)) (deed_entry r drawn)).links) (length (entry_step (begun (not has_begun) (stand_after nothing m)) (deed_entry r drawn)).contents)
 then_more m has_begun r drawn =
     did_more (between m has_begun) r drawn
-    ∙ ap (λ (c : Counted). with_command c (length (entry_step (stand_after nothing (between m has_begun)) (Did r drawn)).links) (length (entry_step (stand_after nothing (between m has_begun)) (Did r drawn)).contents)) (between_same m has_begun)
-    ∙ ap (λ (at : Stand). with_command (counted_in m) (length (entry_step at (Did r drawn)).links) (length (entry_step at (Did r drawn)).contents)) (stand_between m has_begun)
+    ∙ ap (λ (c : Counted). with_more c (deed_count r) (length (entry_step (stand_after nothing (between m has_begun)) (deed_entry r drawn)).links) (length (entry_step (stand_after nothing (between m has_begun)) (deed_entry r drawn)).contents)) (between_same m has_begun)
+    ∙ ap (λ (at : Stand). with_more (counted_in m) (deed_count r) (length (entry_step at (deed_entry r drawn)).links) (length (entry_step at (deed_entry r drawn)).contents)) (stand_between m has_begun)
 
 -- ---- the owner of a journal
 
@@ -120,22 +125,22 @@ skeleton_of s = record {
   contents = record { items = map content_head s.contents; spare = 0 };
 }
 
-told_counts : (m : Journal) (new : Bool) (r : Request) (drawn : List (List ℕ)) (file_bytes : ℕ) (c : Counted) → refusal_of (store_of m) r file_bytes ≡ None
-    → with_command c (length (told_step (begun new (public_stand m)) (note_of (store_of m) r (replicate 32 0))).links) (length (told_step (begun new (public_stand m)) (note_of (store_of m) r (replicate 32 0))).contents)
-    ≡ with_command c (length (entry_step (begun new (stand_after nothing m)) (Did r drawn)).links) (length (entry_step (begun new (stand_after nothing m)) (Did r drawn)).contents)
+told_counts : (m : Journal) (new : Bool) (r : Deed) (drawn : List (List ℕ)) (file_bytes : ℕ) (c : Counted) → deed_refusal (store_of m) r file_bytes ≡ None
+    → with_more c (deed_count r) (length (told_step (begun new (public_stand m)) (deed_note (store_of m) r (replicate 32 0))).links) (length (told_step (begun new (public_stand m)) (deed_note (store_of m) r (replicate 32 0))).contents)
+    ≡ with_more c (deed_count r) (length (entry_step (begun new (stand_after nothing m)) (deed_entry r drawn)).links) (length (entry_step (begun new (stand_after nothing m)) (deed_entry r drawn)).contents)
 told_counts m new r drawn file_bytes c fine =
-    let told = told_step (begun new (public_stand m)) (note_of (store_of m) r (replicate 32 0)) in
+    let told = told_step (begun new (public_stand m)) (deed_note (store_of m) r (replicate 32 0)) in
     let is = skeleton_is m new r (replicate 32 0) drawn file_bytes fine (skeleton_of told) (record { keys = refl; links = refl; contents = refl }) in
-    let long : length told.contents ≡ length (entry_step (begun new (stand_after nothing m)) (Did r drawn)).contents =
-    sym (length-map told.contents content_head) ∙ ap length is.contents ∙ length-map (entry_step (begun new (stand_after nothing m)) (Did r drawn)).contents content_head in
-    (λ i. with_command c (length (is.links i)) (long i))
+    let long : length told.contents ≡ length (entry_step (begun new (stand_after nothing m)) (deed_entry r drawn)).contents =
+    sym (length-map told.contents content_head) ∙ ap length is.contents ∙ length-map (entry_step (begun new (stand_after nothing m)) (deed_entry r drawn)).contents content_head in
+    (λ i. with_more c (deed_count r) (length (is.links i)) (long i))
 
-pub counts_on : (m : Journal) (r : Request) (drawn : List (List ℕ)) (old new : OwnerView) → IsOwnerOf m old → refusal_of (store_of m) r old.file_bytes ≡ None → CountsOne r old new
-    → old.tally ≡ counted_in m → new.tally ≡ counted_in (journal_then m old.journal.has_epoch r drawn)
+pub counts_on : (m : Journal) (r : Deed) (drawn : List (List ℕ)) (old new : OwnerView) → IsOwnerOf m old → deed_refusal (store_of m) r old.file_bytes ≡ None → CountsOne r old new
+    → old.tally ≡ counted_in m → new.tally ≡ counted_in (deed_then m old.journal.has_epoch r drawn)
 counts_on m r drawn old new is fine one same =
     one (public_stand m) (store_of m) is.seen (store_kept m old is)
     ∙ told_counts m (not old.journal.has_epoch) r drawn old.file_bytes old.tally fine
-    ∙ ap (λ (c : Counted). with_command c (length (entry_step (begun (not old.journal.has_epoch) (stand_after nothing m)) (Did r drawn)).links) (length (entry_step (begun (not old.journal.has_epoch) (stand_after nothing m)) (Did r drawn)).contents)) same
+    ∙ ap (λ (c : Counted). with_more c (deed_count r) (length (entry_step (begun (not old.journal.has_epoch) (stand_after nothing m)) (deed_entry r drawn)).links) (length (entry_step (begun (not old.journal.has_epoch) (stand_after nothing m)) (deed_entry r drawn)).contents)) same
     ∙ sym (then_more m old.journal.has_epoch r drawn)
 
 pub tally_told : (m : Journal) (o : OwnerView) → IsOwnerOf m o → o.tally ≡ counted_in m → tally_in o ≡ tally_of m
@@ -149,17 +154,17 @@ tally_told m o is same =
 
 -- ---- a command that is planned and carried out
 
-pub one_counted : (r : Request) (o mid new : OwnerView) (p : Change) → HasOtherRoom o mid → IsDrafted r mid p → new.tally ≡ counted_with mid.tally p.ready.skeleton → CountsOne r o new
+pub one_counted : (r : Deed) (o mid new : OwnerView) (p : Change) → HasOtherRoom o mid → IsDrafted r mid p → new.tally ≡ counted_with mid.tally r p.ready.skeleton → CountsOne r o new
 one_counted r o mid new p room drafted counted = λ at s seen store.
     let told = drafted.told s (store_still s o mid room store) in
     let is = drafted.is_skeleton at (seen_still o mid room at seen) in
-    let step = told_step (begun (not mid.journal.has_epoch) at) (note_of s r (replicate 32 0)) in
+    let step = told_step (begun (not mid.journal.has_epoch) at) (deed_note s r (replicate 32 0)) in
     let same : IsSkeleton step p.ready.skeleton = subst (λ (n : Note). IsSkeleton (told_step (begun (not mid.journal.has_epoch) at) n) p.ready.skeleton) told is in
     counted
-    ∙ (λ i. with_command (room.tally i) (length (same.links i)) ((ap length same.contents ∙ length-map step.contents content_head) i))
-    ∙ ap (λ (j : JournalState). with_command o.tally (length (told_step (begun (not j.has_epoch) at) (note_of s r (replicate 32 0))).links) (length (told_step (begun (not j.has_epoch) at) (note_of s r (replicate 32 0))).contents)) room.journal
+    ∙ (λ i. with_more (room.tally i) (deed_count r) (length (same.links i)) ((ap length same.contents ∙ length-map step.contents content_head) i))
+    ∙ ap (λ (j : JournalState). with_more o.tally (deed_count r) (length (told_step (begun (not j.has_epoch) at) (deed_note s r (replicate 32 0))).links) (length (told_step (begun (not j.has_epoch) at) (deed_note s r (replicate 32 0))).contents)) room.journal
 
-done_counts : (note : Declared) (drawn : List (List ℕ)) (r : Request) (old new : OwnerView) → CountsOne r old new → CountsCommand (Ok (reply_for note drawn)) r old new
+done_counts : (note : Declared) (drawn : List (List ℕ)) (r : Deed) (old new : OwnerView) → CountsOne r old new → CountsCommand (Ok (reply_for note drawn)) r old new
 done_counts declared.Root drawn r old new d = d
 done_counts (declared.NewHolder h check) drawn r old new d = d
 done_counts (declared.NewFolder f p) drawn r old new d = d
@@ -176,8 +181,8 @@ done_counts (declared.Take h f) drawn r old new d = d
 done_counts declared.StrictRoot drawn r old new d = d
 done_counts declared.Upgrade drawn r old new d = d
 
-pub carried_counts : (result : Result Reply ApplyFault) (note : Declared) (drawn : List (List ℕ)) (r : Request) (old mid new : OwnerView) (p : Change) → HasOtherRoom old mid → IsDrafted r mid p
-    → IfOk result (λ reply. reply ≡ reply_for note drawn) → OnOk result (new.tally ≡ counted_with mid.tally p.ready.skeleton) → OnErr result (new.tally ≡ mid.tally) → CountsCommand result r old new
+pub carried_counts : (result : Result Reply ApplyFault) (note : Declared) (drawn : List (List ℕ)) (r : Deed) (old mid new : OwnerView) (p : Change) → HasOtherRoom old mid → IsDrafted r mid p
+    → IfOk result (λ reply. reply ≡ reply_for note drawn) → OnOk result (new.tally ≡ counted_with mid.tally r p.ready.skeleton) → OnErr result (new.tally ≡ mid.tally) → CountsCommand result r old new
 carried_counts (Ok reply) note drawn r old mid new p room drafted is counted same =
     subst (λ (x : Reply). CountsCommand (Ok x) r old new) (sym is) (done_counts note drawn r old new (one_counted r old mid new p room drafted counted))
 carried_counts (Err fault) note drawn r old mid new p room drafted is counted same = same ∙ room.tally

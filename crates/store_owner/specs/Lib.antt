@@ -1,5 +1,6 @@
 pub mod Applying
 pub mod Counted
+pub mod Deeds
 pub mod Drawing
 pub mod Making
 pub mod Opened

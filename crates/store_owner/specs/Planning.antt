@@ -6,7 +6,6 @@ use Rattle.chacha_seal.specs.Sealing.{check_of}
 use Rattle.chacha_seal.specs.Serials.{Counting}
 use Rattle.commit_journal.specs.Journals.{JournalState, Joins, end_with, next_epoch}
 use Rattle.cry_base.specs.Layout.{batch_len}
-use Rattle.cry_base.specs.Requests.{Request}
 use Rattle.cry_base.specs.Requests.Request.{AddHolder}
 use Rattle.cry_base.specs.Store.{Store}
 use Rattle.cry_base.specs.declared.commands.Refusal.{Refusal}
@@ -14,7 +13,6 @@ use Rattle.cry_base.specs.declared.commands.Refusal.TheVariants.{Full}
 use Rattle.cry_base.specs.declared.commands.Reply.{Reply}
 use Rattle.cry_base.specs.declared.commands.Reply.TheVariants as replies
 use Rattle.folder_nodes.specs.Titles.{tree_store}
-use Rattle.move_plan.specs.Noting.{note_of}
 use Rattle.record_format.specs.Told.{told_note}
 use Rattle.record_format.specs.declared.note.Note.{Note}
 use Rattle.record_format.specs.declared.note.Note.TheVariants as notes
@@ -25,11 +23,10 @@ use Rattle.public_fold.specs.Preparing.{CanSettle, HasRoomFor, begun, settled, w
 use Rattle.public_fold.specs.StandFits.{note_fits}
 use Rattle.public_fold.specs.Standing.{IsSeenAs, PublicView}
 use Rattle.journal_bytes.specs.Owning.{IsStoreOf}
-use Rattle.journal_bytes.specs.Script.{answer, draws_of}
 use Rattle.journal_bytes.specs.Sealing.{IsSpaceFor, Space, skeleton_size}
-use Rattle.journal_bytes.specs.Texting.{due_key, due_text}
+use Rattle.store_owner.specs.Deeds.{Deed, deed_answer, deed_draws, deed_key, deed_note, deed_text, IsDeedChange}
+use Rattle.store_owner.specs.Deeds.Deed.{Commanded}
 use Rattle.store_owner.specs.Owned.{IsOwnerOf, OwnerView, limits_in}
-use Rattle.command_plan.specs.NameChanges.{IsNameChangeOf}
 use Rattle.store_owner.specs.Sound.{granted_in}
 use Rattle.store_owner.specs.declared.change.Change.{Change}
 use Rattle.store_owner.specs.declared.owner.Verdict.{Verdict}
@@ -55,13 +52,13 @@ pub record IsKeyed (drawn : List (List ℕ)) (old new : Change) : Type 0 where
   pub titles : new.titles ≡ old.titles
 
 -- the bytes of its payload
-abbrev pub planned_size : Request → Change → ℕ
-planned_size r p = skeleton_size (told_note p.note) p.ready.skeleton (length (p.text.items ++ due_key r (replicate 32 0)))
+abbrev pub planned_size : Deed → Change → ℕ
+planned_size d p = skeleton_size (told_note p.note) p.ready.skeleton (length (p.text.items ++ deed_key d (replicate 32 0)))
 
 -- The change of a command, in whatever store and stand the owner keeps: its note, with no check yet; the skeleton and the state
 -- of its step; its text but for a key; its names
-pub record IsDrafted (r : Request) (o : OwnerView) (p : Change) : Type 0 where
-  pub told : (s : Store) → IsStoreOf o.state.tree o.names (granted_in o) s → told_note p.note ≡ note_of s r (replicate 32 0)
+pub record IsDrafted (d : Deed) (o : OwnerView) (p : Change) : Type 0 where
+  pub told : (s : Store) → IsStoreOf o.state.tree o.names (granted_in o) s → told_note p.note ≡ deed_note s d (replicate 32 0)
   pub same_note : p.ready.note ≡ p.note
   pub is_skeleton : (at : Stand) → IsSeenAs o.state at
       → IsSkeleton (told_step (begun (not o.journal.has_epoch) at) (told_note p.note)) p.ready.skeleton
@@ -71,36 +68,36 @@ pub record IsDrafted (r : Request) (o : OwnerView) (p : Change) : Type 0 where
   pub fits : (at : Stand) → IsSeenAs o.state at
       → note_fits (begun (not o.journal.has_epoch) at) (told_note p.note)
       (told_step (begun (not o.journal.has_epoch) at) (told_note p.note)) ≡ true
-  pub text_is : p.text.items ≡ due_text (tree_store o.state.tree o.names) r
-  pub text_room : r ≡ AddHolder → 32 ≤ p.text.spare
-  pub titles_are : IsNameChangeOf (tree_store o.state.tree o.names) r o.names p.titles
+  pub text_is : p.text.items ≡ deed_text (tree_store o.state.tree o.names) d
+  pub text_room : d ≡ Commanded AddHolder → 32 ≤ p.text.spare
+  pub titles_are : IsDeedChange (tree_store o.state.tree o.names) d o.names p.titles
 
 -- there is room for the change, and its batches end within the store limit
-pub record IsFurnished (r : Request) (o : OwnerView) (p : Change) (space : Space) : Type 0 where
+pub record IsFurnished (d : Deed) (o : OwnerView) (p : Change) (space : Space) : Type 0 where
   pub records_room : IsSpaceFor space p.ready.skeleton
   pub state_room : HasRoomFor o.state p.ready
   pub ring_room : length p.ready.skeleton.keys.items ≤ o.ring.spare
   pub names_room : 1 ≤ o.names.spare
-  pub journal_room : planned_size r p ≤ o.journal.room
-  pub ends_within : end_with o.journal (planned_size r p) ≤ o.journal.limit
+  pub journal_room : planned_size d p ≤ o.journal.room
+  pub ends_within : end_with o.journal (planned_size d p) ≤ o.journal.limit
 
 -- in every store and stand that an owner keeps the note of the command does not fit
-abbrev pub IsUnfit : Request → OwnerView → Type 0
-IsUnfit r o = (at : Stand) (s : Store) → IsSeenAs o.state at → IsStoreOf o.state.tree o.names (granted_in o) s
-    → note_fits (begun (not o.journal.has_epoch) at) (note_of s r (replicate 32 0))
-    (told_step (begun (not o.journal.has_epoch) at) (note_of s r (replicate 32 0))) ≡ false
+abbrev pub IsUnfit : Deed → OwnerView → Type 0
+IsUnfit d o = (at : Stand) (s : Store) → IsSeenAs o.state at → IsStoreOf o.state.tree o.names (granted_in o) s
+    → note_fits (begun (not o.journal.has_epoch) at) (deed_note s d (replicate 32 0))
+    (told_step (begun (not o.journal.has_epoch) at) (deed_note s d (replicate 32 0))) ≡ false
 
 -- the answer of an owner to a command, for every journal that it stands for
-abbrev pub IsAnswered : Request → OwnerView → Option Refusal → Type 0
-IsAnswered r o why = (m : Journal) → IsOwnerOf m o → answer (limits_in o) m o.journal.has_epoch r ≡ why
+abbrev pub IsAnswered : Deed → OwnerView → Option Refusal → Type 0
+IsAnswered d o why = (m : Journal) → IsOwnerOf m o → deed_answer (limits_in o) m o.journal.has_epoch d ≡ why
 
 -- A command is planned, and accepted by each owner of a journal, who draws that many keys; or the store is too full for it
-abbrev pub AnswersPlan : {E : Type 0} → Result Verdict E → Request → OwnerView → OwnerView → Type 0
-AnswersPlan (Ok (verdicts.Planned change room)) r old new =
-    IsDrafted r new change × IsFurnished r new change room × IsAnswered r old None
-    × ((m : Journal) → IsOwnerOf m old → (length change.ready.skeleton.keys.items ≡ draws_of m r) × (32 * draws_of m r < 2 ^ 32))
-AnswersPlan (Ok verdicts.Full) r old new = (new ≡ old) × IsAnswered r old (Some Full)
-AnswersPlan (Err _) r old new = Unit {0}
+abbrev pub AnswersPlan : {E : Type 0} → Result Verdict E → Deed → OwnerView → OwnerView → Type 0
+AnswersPlan (Ok (verdicts.Planned change room)) d old new =
+    IsDrafted d new change × IsFurnished d new change room × IsAnswered d old None
+    × ((m : Journal) → IsOwnerOf m old → (length change.ready.skeleton.keys.items ≡ deed_draws m d) × (32 * deed_draws m d < 2 ^ 32))
+AnswersPlan (Ok verdicts.Full) d old new = (new ≡ old) × IsAnswered d old (Some Full)
+AnswersPlan (Err _) d old new = Unit {0}
 
 -- The session has its epoch, begun now where the journal had none, and the counter of that epoch
 pub record HasBegun (old new : JournalState) (counter : Option Counting) (starts : Counting) (was shows : Option (List ℕ)) : Type 0 where

@@ -14,12 +14,11 @@ use Rattle.commit_journal.specs.Publishing.{last_slot, without_last}
 use Rattle.commit_journal.specs.Standing.{StandsFor, StandsUnpublished, StandsWhole}
 use Rattle.commit_journal.specs.Stopping.{TakesNothingBack}
 use Rattle.cry_base.specs.Limits.{most_file_bytes, most_store_bytes}
-use Rattle.cry_base.specs.Requests.{Request}
 use Rattle.cry_io.specs.Stops.{IsDurable}
 use Rattle.cry_io.specs.Told.{WhereTold}
 use Rattle.journal_bytes.specs.Bytes.{batches_of}
-use Rattle.journal_bytes.specs.Script.{answer}
 use Rattle.public_fold.specs.Journal.{Journal}
+use Rattle.store_owner.specs.Deeds.{Deed, deed_answer}
 use Rattle.store_owner.specs.Owned.{IsOwnerOf, OwnerView, limits_in}
 use Rattle.store_owner.specs.Stopping.{RestsAt}
 
@@ -51,10 +50,10 @@ AddsPublished added old was might from_then_on =
     → from_then_on (TakesNothingBack (StandsFor old.owner) (StandsUnpublished old.owner) bs (bs ++ added))
 
 -- each owner of a journal where the command is accepted, over a disk that rests there
-abbrev pub PublishesWithin : Request → OwnerView → Option (List ℕ) → (List ℕ → Type 0) → ((List ℕ → List ℕ → Type 0) → Type 0) → Type 0
-PublishesWithin r o was might from_then_on = (m : Journal) → IsOwnerOf m o
+abbrev pub PublishesWithin : Deed → OwnerView → Option (List ℕ) → (List ℕ → Type 0) → ((List ℕ → List ℕ → Type 0) → Type 0) → Type 0
+PublishesWithin d o was might from_then_on = (m : Journal) → IsOwnerOf m o
     → o.journal.limit ≤ most_store_bytes → o.file_bytes ≤ most_file_bytes
-    → answer (limits_in o) m o.journal.has_epoch r ≡ None → RestsAt o.key m was might
+    → deed_answer (limits_in o) m o.journal.has_epoch d ≡ None → RestsAt o.key m was might
     → from_then_on (HasPublished o.key)
 
 -- A command, whatever it is answered, of an owner who stands for a journal over a disk that rests there: what is published at any moment of

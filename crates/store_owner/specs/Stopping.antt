@@ -2,7 +2,6 @@
 -- own, docs/FORMAT.md, "Committing".
 use Rattle.std.specs.Prelude.{◌≡◌, ◌≤◌, ℕ, cond, List, [], ◌∷◌, ◌++◌, drop, length, Option, None, Some}
 use Rattle.cry_base.specs.Limits.{most_file_bytes, most_store_bytes}
-use Rattle.cry_base.specs.Requests.{Request}
 use Rattle.cry_io.specs.Stops.{IsDurable}
 use Rattle.cry_io.specs.Told.{WhereTold}
 use Rattle.commit_journal.specs.Handing.{Hands, Write, all_written, log_writes}
@@ -13,7 +12,7 @@ use Rattle.commit_journal.specs.Standing.{StandsFor, StandsWhole}
 use Rattle.public_fold.specs.Journal.{Journal}
 use Rattle.journal_bytes.specs.Bytes.{batches_of}
 use Rattle.journal_bytes.specs.Journals.{HoldsBetween, Kept, StandsWholeForJournal}
-use Rattle.journal_bytes.specs.Script.{answer, journal_then}
+use Rattle.store_owner.specs.Deeds.{Deed, deed_answer, deed_then}
 use Rattle.store_owner.specs.Owned.{IsOwnerOf, OwnerView, limits_in}
 
 -- the writes by which a journal becomes one that it begins: those of the batches that follow
@@ -65,16 +64,16 @@ abbrev pub HasAdded : List Batch → JournalState → Option (List ℕ) → Opti
 HasAdded added old was shows = (bs : List Batch) → IsJournalOf bs old → ShowsWritten (log_writes old.owner bs added) was shows
 
 -- each owner of a journal where the command is accepted: a stop leaves the journal, or it with the session begun, or with the command too
-abbrev pub StopsWithin : Request → List (List ℕ) → OwnerView → Option (List ℕ) → Option (List ℕ) → (List ℕ → Type 0) → (List ℕ → Type 0)
+abbrev pub StopsWithin : Deed → List (List ℕ) → OwnerView → Option (List ℕ) → Option (List ℕ) → (List ℕ → Type 0) → (List ℕ → Type 0)
     → (List ℕ → List ℕ → Type 0) → Type 0
-StopsWithin r drawn o was shows might may since = (m : Journal) → IsOwnerOf m o
+StopsWithin d drawn o was shows might may since = (m : Journal) → IsOwnerOf m o
     → o.journal.limit ≤ most_store_bytes → o.file_bytes ≤ most_file_bytes
-    → answer (limits_in o) m o.journal.has_epoch r ≡ None
-    → StopsBetween o.key m (journal_then m o.journal.has_epoch r drawn) was shows might may since
+    → deed_answer (limits_in o) m o.journal.has_epoch d ≡ None
+    → StopsBetween o.key m (deed_then m o.journal.has_epoch d drawn) was shows might may since
 
 -- and where the command was done, the disk shows all writes of its batches done
-abbrev pub HandsAll : Request → List (List ℕ) → OwnerView → Option (List ℕ) → Option (List ℕ) → Type 0
-HandsAll r drawn o was shows = (m : Journal) → IsOwnerOf m o
+abbrev pub HandsAll : Deed → List (List ℕ) → OwnerView → Option (List ℕ) → Option (List ℕ) → Type 0
+HandsAll d drawn o was shows = (m : Journal) → IsOwnerOf m o
     → o.journal.limit ≤ most_store_bytes → o.file_bytes ≤ most_file_bytes
-    → answer (limits_in o) m o.journal.has_epoch r ≡ None
-    → ShowsWritten (journal_writes o.key m (journal_then m o.journal.has_epoch r drawn)) was shows
+    → deed_answer (limits_in o) m o.journal.has_epoch d ≡ None
+    → ShowsWritten (journal_writes o.key m (deed_then m o.journal.has_epoch d drawn)) was shows

@@ -1,11 +1,9 @@
 -- The figures of a journal, and how an owner comes to them. This project's own, docs/MODEL.md.
 use Rattle.std.specs.Prelude.{◌≡◌, Bool, true, false, not, filter, length, replicate, Result, Ok, Err}
 use Rattle.std.specs.List.{flat_map}
-use Rattle.cry_base.specs.Requests.{Request}
 use Rattle.cry_base.specs.Store.{Store}
 use Rattle.cry_base.specs.declared.commands.Reply.{Reply}
 use Rattle.cry_base.specs.declared.commands.Reply.TheVariants as replies
-use Rattle.move_plan.specs.Noting.{note_of}
 use Rattle.public_fold.specs.Fitted.{told_step}
 use Rattle.public_fold.specs.Journal.{Entry, Journal, Stand, keys_of, steps_of}
 use Rattle.public_fold.specs.Journal.Entry.{Session, Made, Did, Upgraded}
@@ -15,7 +13,8 @@ use Rattle.public_fold.specs.Lengths.{end_of}
 use Rattle.public_fold.specs.Preparing.{begun}
 use Rattle.public_fold.specs.Standing.{IsSeenAs}
 use Rattle.journal_bytes.specs.Owning.{IsStoreOf}
-use Rattle.store_owner.specs.Counted.{with_command}
+use Rattle.store_owner.specs.Deeds.{Deed, deed_count, deed_note}
+use Rattle.store_owner.specs.Counted.{with_more}
 use Rattle.store_owner.specs.Owned.{OwnerView}
 use Rattle.store_owner.specs.Sound.{granted_in}
 use Rattle.store_owner.specs.declared.apply_fault.ApplyFault.{ApplyFault}
@@ -60,17 +59,17 @@ tally_in o = record {
 }
 
 -- one command more is counted, with the records of its step in whatever stand and store the owner keeps
-abbrev pub CountsOne : Request → OwnerView → OwnerView → Type 0
-CountsOne r old new = (at : Stand) (s : Store) → IsSeenAs old.state at → IsStoreOf old.state.tree old.names (granted_in old) s
-    → let step = told_step (begun (not old.journal.has_epoch) at) (note_of s r (replicate 32 0)) in
-    new.tally ≡ with_command old.tally (length step.links) (length step.contents)
+abbrev pub CountsOne : Deed → OwnerView → OwnerView → Type 0
+CountsOne d old new = (at : Stand) (s : Store) → IsSeenAs old.state at → IsStoreOf old.state.tree old.names (granted_in old) s
+    → let step = told_step (begun (not old.journal.has_epoch) at) (deed_note s d (replicate 32 0)) in
+    new.tally ≡ with_more old.tally (deed_count d) (length step.links) (length step.contents)
 
 -- only a command that was accepted is counted
-abbrev pub CountsCommand : Result Reply ApplyFault → Request → OwnerView → OwnerView → Type 0
-CountsCommand (Ok (replies.Refused why)) r old new = new.tally ≡ old.tally
-CountsCommand (Ok reply) r old new = CountsOne r old new
-CountsCommand (Err fault) r old new = new.tally ≡ old.tally
+abbrev pub CountsCommand : Result Reply ApplyFault → Deed → OwnerView → OwnerView → Type 0
+CountsCommand (Ok (replies.Refused why)) d old new = new.tally ≡ old.tally
+CountsCommand (Ok reply) d old new = CountsOne d old new
+CountsCommand (Err fault) d old new = new.tally ≡ old.tally
 
 -- the owner who counted all of the journal before a command is answered counts all of that after it
-abbrev pub KeepsCount : Request → Reply → OwnerView → OwnerView → Journal → Journal → Type 0
-KeepsCount r reply old new before after = CountsCommand (Ok reply) r old new → old.tally ≡ counted_in before → new.tally ≡ counted_in after
+abbrev pub KeepsCount : Deed → Reply → OwnerView → OwnerView → Journal → Journal → Type 0
+KeepsCount d reply old new before after = CountsCommand (Ok reply) d old new → old.tally ≡ counted_in before → new.tally ≡ counted_in after

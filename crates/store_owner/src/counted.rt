@@ -2,7 +2,9 @@
 ghost use Rattle.std.specs.Prelude.{◌≡◌};
 ghost use Rattle.cry_base.specs.Limits.{most_store_bytes};
 ghost use Rattle.store_owner.specs.Counted.{IsWithin, counted_with};
+ghost use Rattle.store_owner.specs.Deeds.{deed_of};
 
+use crate::asked::Asked;
 use crate::change::Change;
 
 /// Counts that begin at 0 when a store is opened.
@@ -28,16 +30,16 @@ pub(crate) const ROOT: Counted = Counted {
 };
 
 impl Counted {
-    /// What is counted once the command of this change stands.
-    pub(crate) fn with(self, change: &Change) -> Counted
-        requires within { IsWithin (counted_with self change.now.ready.skeleton) most_store_bytes }
-        ensures { result ≡ counted_with self change.now.ready.skeleton }
+    /// What is counted once this change stands, which was asked for.
+    pub(crate) fn with(self, asked: &Asked<'_>, change: &Change) -> Counted
+        requires within { IsWithin (counted_with self (deed_of asked.now) change.now.ready.skeleton) most_store_bytes }
+        ensures { result ≡ counted_with self (deed_of asked.now) change.now.ready.skeleton }
     {
         let skeleton = change.ready.skeleton();
         let links = skeleton.links.as_slice().len();
         let contents = skeleton.contents.as_slice().len();
         Counted {
-            commands: self.commands + 1,
+            commands: self.commands + asked.commands(),
             links: self.links + links as u64,
             contents: self.contents + contents as u64,
         }

@@ -3,8 +3,10 @@
 
 mod apply_fault;
 pub mod apply_laws;
+mod asked;
 mod change;
 mod counted;
+pub mod deed_laws;
 mod drawing;
 mod key_room;
 mod making;

@@ -1,6 +1,6 @@
 //! The owner of a store, and what the owner's commands do to it.
-ghost use Rattle.std.specs.Prelude.{◌≡◌, ◌<◌, ◌≤◌, ◌+◌, ◌↔◌, ℕ, [], ◌∷◌, None, Some, Err, IfErr, IfOk, IsTrue, OnErr, OnOk, false, is_some};
-ghost use Rattle.std.specs.Prelude.{length, replicate};
+ghost use Rattle.std.specs.Prelude.{◌≡◌, ◌≢◌, ◌<◌, ◌≤◌, ◌+◌, ◌↔◌, ℕ, [], ◌∷◌, None, Some, Err, IfErr, IfOk, IsTrue, OnErr, OnOk};
+ghost use Rattle.std.specs.Prelude.{false, is_some, length, replicate};
 ghost use Rattle.batch_log.specs.Moments.{FromThenOn};
 ghost use Rattle.commit_journal.specs.Holding.{GoesOn};
 ghost use Rattle.commit_journal.specs.Journals.{IsBehind, Joins, next_command, MayJoin, next_epoch};
@@ -12,9 +12,11 @@ ghost use Rattle.cry_base.specs.Store.{Store};
 ghost use Rattle.cry_io.specs.Counts.{CountsFault};
 ghost use Rattle.cry_io.specs.Stops.{IsDurable};
 ghost use Rattle.command_plan.specs.Targeted.{HasShortName};
+ghost use Rattle.record_format.specs.Noted.Note.{Upgrade};
+ghost use Rattle.store_owner.specs.Deeds.{deed_note, deed_of, deed_refusal, IsFound, IsWellNamed, Suits};
+ghost use Rattle.store_owner.specs.Deeds.Deed.{Commanded, Upgrading};
 ghost use Rattle.folder_nodes.specs.Targets.{IsTargetOf, why_of};
 ghost use Rattle.folder_nodes.specs.Titles.{tree_store};
-ghost use Rattle.move_plan.specs.Noting.{note_of};
 ghost use Rattle.record_format.specs.Plain.{plain_payload};
 ghost use Rattle.record_format.specs.Sizes.{payload_size};
 ghost use Rattle.record_format.specs.Spellable.{IsSpellable};
@@ -40,8 +42,10 @@ use crate::ApplyFault;
 use crate::apply_laws::{
     commands_are_measured, interrupted_commands_leave_a_journal, owners_go_on,
 };
+use crate::asked::Asked;
 use crate::change::Change;
 use crate::counted::Counted;
+use crate::deed_laws::deeds_leave_the_titles;
 use crate::key_room::KeyRoom;
 use crate::owner_laws::owners_keep_the_store;
 use crate::sound_laws::{
@@ -53,10 +57,7 @@ use crate::step_room::StepRoom;
 use crate::stopping_laws::disk_stands_still;
 use crate::tally::Tally;
 use chacha_seal::{Counter, Key, OwnerK};
-use command_plan::name_laws::name_changes_leave_the_titles;
-use command_plan::{
-    change_names, name_change_for, note_for, resolve, sealed_len, size_of, text_for,
-};
+use command_plan::{change_names, resolve, size_of};
 use commit_journal::{CommitFault, Journal};
 use cry_base::{Command, Limits, Mem, OutOfMemory, Refusal, Reply, Steps};
 use cry_io::{Disk, Source};
@@ -111,7 +112,7 @@ impl Model for Owner {
     }) × IsWithin o.tally o.journal.end };
 }
 
-/// What becomes of a command that the store itself doesn't refuse.
+/// What becomes of what is asked, where the store itself doesn't refuse it.
 #[derive(Drop)]
 enum Verdict {
     /// It is planned, with its memory.
@@ -169,6 +170,13 @@ impl Owner {
         self.journal.is_closed()
     }
 
+    /// The version of the store.
+    pub fn version(&self) -> u8
+        ensures { result ≡ self.now.state.keys.version }
+    {
+        self.state.version()
+    }
+
     /// What this owner accepted and published since it made or opened the store, and where the store stands. It takes no memory.
     pub fn tally(&self) -> Tally
         ensures { result ≡ tally_in self.now }
@@ -204,7 +212,7 @@ impl Owner {
         steps: &mut Steps,
     ) -> Result<Reply, ApplyFault>
         requires inside { self.old.journal.is_closed ≡ false → self.old.journal.end ≤ D.size_of disk.old }
-        ensures answers { (m : AnyJournal) → IsOwnerOf m self.old → Answers result m (request_of command.now) self.old self.new
+        ensures answers { (m : AnyJournal) → IsOwnerOf m self.old → Answers result m (Commanded (request_of command.now)) self.old self.new
             (R.left random.old) (R.left random.new) (D.shown disk.old) (D.shown disk.new)
             (D.may_leave disk.old) (D.may_leave disk.new) (D.since disk.new (D.moment disk.old)) }
         ensures published { PublishesOn self.old (D.shown disk.old) (D.may_leave disk.old)
@@ -218,7 +226,7 @@ impl Owner {
         ensures calm { IsDurable (D.may_leave disk.old) (D.shown disk.old)
             → UnlessDiskFault result (IsDurable (D.may_leave disk.new) (D.shown disk.new)) }
         ensures inside { self.old.journal.end ≤ D.size_of disk.old → UnlessDiskFault result (self.new.journal.end ≤ D.size_of disk.new) }
-        ensures counts { CountsCommand result (request_of command.now) self.old self.new }
+        ensures counts { CountsCommand result (Commanded (request_of command.now)) self.old self.new }
         ensures key { self.new.key ≡ self.old.key }
         ensures limit { UnlessDiskFault result (self.new.journal.limit ≡ self.old.journal.limit) }
         ensures file_bytes { self.new.file_bytes ≡ self.old.file_bytes }
@@ -228,9 +236,114 @@ impl Owner {
         ensures source_counts { FillsByCount result (R.faults random.old) (R.faults random.new) }
         ensures draws { OnOk result (TakesKeys (R.left random.old) (R.left random.new)) }
         ensures short { (left need : ℕ) → result ≡ Err (ApplyFault.RandomShort left need) →
-            FallsShort self.old (request_of command.now) left need (R.left random.old) (R.left random.new) }
+            FallsShort self.old (Commanded (request_of command.now)) left need (R.left random.old) (R.left random.new) }
         ensures look_ups { (s : Store) → IsStoreOf self.old.state.tree self.old.names (granted_in self.old) s → steps.new
-            ≤ steps.old + note_look_ups self.old.state (note_of s (request_of command.now) (replicate 32 0)) }
+            ≤ steps.old + note_look_ups self.old.state (deed_note s (Commanded (request_of command.now)) (replicate 32 0)) }
+    {
+        owners_keep_the_store();
+        sound_owners_keep_a_store();
+        disk_stands_still(disk);
+        if self.journal.is_closed() {
+            return Err(ApplyFault::Closed);
+        }
+        let target = match self.resolved(command) {
+            Ok(target) => target,
+            Err(why) => return Ok(Reply::Refused { why }),
+        };
+        let asked = Asked::Command { command, target };
+        self.perform(alloc, disk, random, &asked, steps)
+    }
+
+    /// Makes a store of version 1 one of version 2, or refuses it where it is too full.
+    ///
+    /// All is as in `apply`: the order, the faults and what they leave, stops, what is published and what is drawn. It counts for no command.
+    pub fn upgrade<D: Disk, R: Source>(
+        &mut self,
+        alloc: Global,
+        disk: &mut D,
+        random: &mut R,
+        steps: &mut Steps,
+    ) -> Result<Reply, ApplyFault>
+        requires version { self.old.state.keys.version ≡ 1 }
+        requires inside { self.old.journal.is_closed ≡ false → self.old.journal.end ≤ D.size_of disk.old }
+        ensures answers { (m : AnyJournal) → IsOwnerOf m self.old → Answers result m Upgrading self.old self.new
+            (R.left random.old) (R.left random.new) (D.shown disk.old) (D.shown disk.new)
+            (D.may_leave disk.old) (D.may_leave disk.new) (D.since disk.new (D.moment disk.old)) }
+        ensures published { PublishesOn self.old (D.shown disk.old) (D.may_leave disk.old)
+            (FromThenOn D.moment D.since disk.old disk.new) }
+        ensures later { D.moment disk.old ≤ D.moment disk.new }
+        ensures time { GoesOn (D.moment disk.old) (D.since disk.old) (D.since disk.new) }
+        ensures closed { (result ≡ Err ApplyFault.Closed) ↔ IsTrue self.old.journal.is_closed }
+        ensures open { UnlessDiskFault result (self.new.journal.is_closed ≡ self.old.journal.is_closed) }
+        ensures kept { IsKeptBy result self.old self.new random.old random.new disk.old disk.new }
+        ensures durable { IsDoneThen result (IsDurable (D.may_leave disk.new) (D.shown disk.new)) }
+        ensures calm { IsDurable (D.may_leave disk.old) (D.shown disk.old)
+            → UnlessDiskFault result (IsDurable (D.may_leave disk.new) (D.shown disk.new)) }
+        ensures inside { self.old.journal.end ≤ D.size_of disk.old → UnlessDiskFault result (self.new.journal.end ≤ D.size_of disk.new) }
+        ensures counts { CountsCommand result Upgrading self.old self.new }
+        ensures key { self.new.key ≡ self.old.key }
+        ensures limit { UnlessDiskFault result (self.new.journal.limit ≡ self.old.journal.limit) }
+        ensures file_bytes { self.new.file_bytes ≡ self.old.file_bytes }
+        ensures disk_told { is_some (D.shown disk.new) ≡ is_some (D.shown disk.old) }
+        ensures source_told { is_some (R.left random.new) ≡ is_some (R.left random.old) }
+        ensures disk_counts { DiskCounts result (D.faults disk.old) (D.faults disk.new) }
+        ensures source_counts { FillsByCount result (R.faults random.old) (R.faults random.new) }
+        ensures draws { OnOk result (TakesKeys (R.left random.old) (R.left random.new)) }
+        ensures short { (left need : ℕ) → result ≡ Err (ApplyFault.RandomShort left need) →
+            FallsShort self.old Upgrading left need (R.left random.old) (R.left random.new) }
+        ensures look_ups { steps.new ≤ steps.old + note_look_ups self.old.state Upgrade }
+    {
+        sound_owners_keep_a_store();
+        disk_stands_still(disk);
+        if self.journal.is_closed() {
+            return Err(ApplyFault::Closed);
+        }
+        self.perform(alloc, disk, random, &Asked::Upgrade, steps)
+    }
+
+    /// Plans what is asked, which the store itself doesn't refuse, draws its keys, and carries it out.
+    fn perform<D: Disk, R: Source>(
+        &mut self,
+        alloc: Global,
+        disk: &mut D,
+        random: &mut R,
+        asked: &Asked<'_>,
+        steps: &mut Steps,
+    ) -> Result<Reply, ApplyFault>
+        requires open { self.old.journal.is_closed ≡ false }
+        requires inside { self.old.journal.end ≤ D.size_of disk.old }
+        requires found { IsFound (tree_store self.old.state.tree self.old.names) asked.now }
+        requires form { IsWellNamed (deed_of asked.now) }
+        requires accepted { (s : Store) → IsStoreOf self.old.state.tree self.old.names (granted_in self.old) s
+            → deed_refusal s (deed_of asked.now) self.old.file_bytes ≡ None }
+        requires suits { Suits self.old.state.keys (deed_of asked.now) }
+        ensures answers { (m : AnyJournal) → IsOwnerOf m self.old → Answers result m (deed_of asked.now) self.old self.new
+            (R.left random.old) (R.left random.new) (D.shown disk.old) (D.shown disk.new)
+            (D.may_leave disk.old) (D.may_leave disk.new) (D.since disk.new (D.moment disk.old)) }
+        ensures published { PublishesOn self.old (D.shown disk.old) (D.may_leave disk.old)
+            (FromThenOn D.moment D.since disk.old disk.new) }
+        ensures later { D.moment disk.old ≤ D.moment disk.new }
+        ensures time { GoesOn (D.moment disk.old) (D.since disk.old) (D.since disk.new) }
+        ensures closed { result ≢ Err ApplyFault.Closed }
+        ensures open { UnlessDiskFault result (self.new.journal.is_closed ≡ self.old.journal.is_closed) }
+        ensures kept { IsKeptBy result self.old self.new random.old random.new disk.old disk.new }
+        ensures durable { IsDoneThen result (IsDurable (D.may_leave disk.new) (D.shown disk.new)) }
+        ensures calm { IsDurable (D.may_leave disk.old) (D.shown disk.old)
+            → UnlessDiskFault result (IsDurable (D.may_leave disk.new) (D.shown disk.new)) }
+        ensures inside { self.old.journal.end ≤ D.size_of disk.old → UnlessDiskFault result (self.new.journal.end ≤ D.size_of disk.new) }
+        ensures counts { CountsCommand result (deed_of asked.now) self.old self.new }
+        ensures key { self.new.key ≡ self.old.key }
+        ensures limit { UnlessDiskFault result (self.new.journal.limit ≡ self.old.journal.limit) }
+        ensures file_bytes { self.new.file_bytes ≡ self.old.file_bytes }
+        ensures disk_told { is_some (D.shown disk.new) ≡ is_some (D.shown disk.old) }
+        ensures source_told { is_some (R.left random.new) ≡ is_some (R.left random.old) }
+        ensures disk_counts { DiskCounts result (D.faults disk.old) (D.faults disk.new) }
+        ensures source_counts { FillsByCount result (R.faults random.old) (R.faults random.new) }
+        ensures draws { OnOk result (TakesKeys (R.left random.old) (R.left random.new)) }
+        ensures short { (left need : ℕ) → result ≡ Err (ApplyFault.RandomShort left need) →
+            FallsShort self.old (deed_of asked.now) left need (R.left random.old) (R.left random.new) }
+        ensures look_ups { (s : Store) → IsStoreOf self.old.state.tree self.old.names (granted_in self.old) s → steps.new
+            ≤ steps.old + note_look_ups self.old.state (deed_note s (deed_of asked.now) (replicate 32 0)) }
     {
         commands_are_measured();
         interrupted_commands_leave_a_journal();
@@ -240,14 +353,7 @@ impl Owner {
         sound_owners_draw_few_keys();
         disk_stands_still(disk);
         self.journal.journal_is_within();
-        if self.journal.is_closed() {
-            return Err(ApplyFault::Closed);
-        }
-        let target = match self.resolved(command) {
-            Ok(target) => target,
-            Err(why) => return Ok(Reply::Refused { why }),
-        };
-        let (change, room) = match self.plan(alloc, command, &target, steps) {
+        let (change, room) = match self.plan(alloc, asked, steps) {
             Ok(Verdict::Planned(change, room)) => (change, room),
             Ok(Verdict::Full) => return Ok(Reply::Refused { why: Refusal::Full }),
             Err(OutOfMemory) => return Err(ApplyFault::OutOfMemory),
@@ -260,7 +366,7 @@ impl Owner {
             Ok(drawn) => drawn,
             Err(fault) => return Err(fault),
         };
-        self.carry_out(disk, command, change, room, drawn.as_slice())
+        self.carry_out(disk, asked, change, room, drawn.as_slice())
     }
 
     /// What the command finds, or why the store itself refuses it.
@@ -280,32 +386,30 @@ impl Owner {
         )
     }
 
-    /// What the command with this target seals and changes. `Unfit` comes only where its note doesn't fit.
+    /// What is sealed and changed for what is asked. `Unfit` comes only where its note doesn't fit.
     fn draft(
         &self,
         alloc: Global,
-        command: &Command,
-        target: &Target<'_>,
+        asked: &Asked<'_>,
         steps: &mut Steps,
     ) -> Result<Change, FoldFault>
         requires open { self.now.journal.is_closed ≡ false }
-        requires found { IsTargetOf (tree_store self.now.state.tree self.now.names) (request_of command.now) target.now }
-        requires short { HasShortName target.now }
-        ensures drafted { IfOk result (IsDrafted (request_of command.now) self.now) }
-        ensures unfit { result ≡ Err FoldFault.Unfit → IsUnfit (request_of command.now) self.now }
+        requires found { IsFound (tree_store self.now.state.tree self.now.names) asked.now }
+        ensures drafted { IfOk result (IsDrafted (deed_of asked.now) self.now) }
+        ensures unfit { result ≡ Err FoldFault.Unfit → IsUnfit (deed_of asked.now) self.now }
         ensures look_ups { (s : Store) → IsStoreOf self.now.state.tree self.now.names (granted_in self.now) s → steps.new
-            ≤ steps.old + note_look_ups self.now.state (note_of s (request_of command.now) (replicate 32 0)) }
+            ≤ steps.old + note_look_ups self.now.state (deed_note s (deed_of asked.now) (replicate 32 0)) }
     {
         sound_owners_keep_a_store();
         self.journal.journal_is_within();
         let shape = self.state.shape();
-        let note = note_for(shape, self.state.grants(), target);
+        let note = asked.note(shape, self.state.grants());
         let begins = !self.journal.has_epoch();
         let ready = self.state.prepare(alloc, &note, begins, steps)?;
-        let Ok(text) = text_for(alloc, &self.names, target) else {
+        let Ok(text) = asked.text(alloc, &self.names) else {
             return Err(FoldFault::OutOfMemory);
         };
-        let Ok(titles) = name_change_for(alloc, shape, &self.names, target) else {
+        let Ok(titles) = asked.titles(alloc, shape, &self.names) else {
             return Err(FoldFault::OutOfMemory);
         };
         Ok(Change {
@@ -316,34 +420,28 @@ impl Owner {
         })
     }
 
-    /// Plans the command with this target, with all the memory that it takes, or finds that the store is too full for it. For want
-    /// of memory the owner has at most other room.
-    fn plan(
-        &mut self,
-        alloc: Global,
-        command: &Command,
-        target: &Target<'_>,
-        steps: &mut Steps,
-    ) -> Mem<Verdict>
+    /// Plans what is asked, with all the memory that it takes, or finds that the store is too full for it. For want of memory the owner has
+    /// at most other room.
+    fn plan(&mut self, alloc: Global, asked: &Asked<'_>, steps: &mut Steps) -> Mem<Verdict>
         requires open { self.old.journal.is_closed ≡ false }
-        requires found { IsTargetOf (tree_store self.old.state.tree self.old.names) (request_of command.now) target.now }
-        requires short { HasShortName target.now }
+        requires found { IsFound (tree_store self.old.state.tree self.old.names) asked.now }
         requires accepted { (s : Store) → IsStoreOf self.old.state.tree self.old.names (granted_in self.old) s
-            → refusal_of s (request_of command.now) self.old.file_bytes ≡ None }
+            → deed_refusal s (deed_of asked.now) self.old.file_bytes ≡ None }
+        requires suits { Suits self.old.state.keys (deed_of asked.now) }
         ensures room { HasOtherRoom self.old self.new }
-        ensures answers { AnswersPlan result (request_of command.now) self.old self.new }
+        ensures answers { AnswersPlan result (deed_of asked.now) self.old self.new }
         ensures look_ups { (s : Store) → IsStoreOf self.old.state.tree self.old.names (granted_in self.old) s → steps.new
-            ≤ steps.old + note_look_ups self.old.state (note_of s (request_of command.now) (replicate 32 0)) }
+            ≤ steps.old + note_look_ups self.old.state (deed_note s (deed_of asked.now) (replicate 32 0)) }
     {
         commands_are_measured();
         owners_keep_the_store();
         self.journal.journal_is_within();
-        let change = match self.draft(alloc, command, target, steps) {
+        let change = match self.draft(alloc, asked, steps) {
             Ok(change) => change,
             Err(FoldFault::Unfit) => return Ok(Verdict::Full),
             Err(FoldFault::OutOfMemory) => return Err(OutOfMemory),
         };
-        let text = sealed_len(target, &change.text);
+        let text = asked.sealed_len(&change.text);
         let Some(size) = size_of(&change.note, change.ready.skeleton(), text) else {
             return Ok(Verdict::Full);
         };
@@ -369,35 +467,36 @@ impl Owner {
         StepRoom::reserve(alloc, &mut self.ring, change.ready.skeleton())
     }
 
-    /// Seals a planned command under the keys that were drawn for it, commits it, and makes its change. Want of memory doesn't end it.
+    /// Seals what is planned under the keys that were drawn for it, commits it, and makes its change. Want of memory doesn't end it.
     ///
     /// Only `DiskFault` comes, where the disk's faults rose in this call, and closes the journal.
     fn carry_out<D: Disk>(
         &mut self,
         disk: &mut D,
-        command: &Command,
+        asked: &Asked<'_>,
         mut change: Change,
         room: StepRoom,
         drawn: &[[u8; 32]],
     ) -> Result<Reply, ApplyFault>
         requires open { self.old.journal.is_closed ≡ false }
         requires inside { self.old.journal.end ≤ D.size_of disk.old }
-        requires form { has_bad_name (request_of command.now) ≡ false }
-        requires accepted { refusal_of (own_store self.old) (request_of command.now) self.old.file_bytes ≡ None }
-        requires drafted { IsDrafted (request_of command.now) self.old change }
-        requires furnished { IsFurnished (request_of command.now) self.old change room }
+        requires form { IsWellNamed (deed_of asked.now) }
+        requires accepted { deed_refusal (own_store self.old) (deed_of asked.now) self.old.file_bytes ≡ None }
+        requires suits { Suits self.old.state.keys (deed_of asked.now) }
+        requires drafted { IsDrafted (deed_of asked.now) self.old change }
+        requires furnished { IsFurnished (deed_of asked.now) self.old change room }
         requires count { length drawn.now ≡ length change.ready.skeleton.keys.items }
         requires sizes { AreKeys drawn.now }
-        ensures done { OnOk result (IsCarriedOut (request_of command.now) drawn.now self.old self.new (D.shown disk.old)
+        ensures done { OnOk result (IsCarriedOut (deed_of asked.now) drawn.now self.old self.new (D.shown disk.old)
             (D.shown disk.new)) }
-        ensures interrupted { OnErr result (IsInterrupted (request_of command.now) drawn.now self.old (D.shown disk.old)
+        ensures interrupted { OnErr result (IsInterrupted (deed_of asked.now) drawn.now self.old (D.shown disk.old)
             (D.shown disk.new)) }
         ensures later { D.moment disk.old ≤ D.moment disk.new }
         ensures time { GoesOn (D.moment disk.old) (D.since disk.old) (D.since disk.new) }
-        ensures stops { StopsWithin (request_of command.now) drawn.now self.old (D.shown disk.old) (D.shown disk.new)
+        ensures stops { StopsWithin (deed_of asked.now) drawn.now self.old (D.shown disk.old) (D.shown disk.new)
             (D.may_leave disk.old) (D.may_leave disk.new) (D.since disk.new (D.moment disk.old)) }
-        ensures handed { OnOk result (HandsAll (request_of command.now) drawn.now self.old (D.shown disk.old) (D.shown disk.new)) }
-        ensures published { PublishesWithin (request_of command.now) self.old (D.shown disk.old) (D.may_leave disk.old)
+        ensures handed { OnOk result (HandsAll (deed_of asked.now) drawn.now self.old (D.shown disk.old) (D.shown disk.new)) }
+        ensures published { PublishesWithin (deed_of asked.now) self.old (D.shown disk.old) (D.may_leave disk.old)
             (FromThenOn D.moment D.since disk.old disk.new) }
         ensures reply { IfOk result (λ reply. reply ≡ reply_for change.note drawn.now) }
         ensures fault { IfErr result (λ fault. fault ≡ ApplyFault.DiskFault) }
@@ -407,7 +506,7 @@ impl Owner {
         ensures inside { OnOk result (self.new.journal.end ≤ D.size_of disk.new) }
         ensures key { self.new.key ≡ self.old.key }
         ensures file_bytes { self.new.file_bytes ≡ self.old.file_bytes }
-        ensures counted { OnOk result (self.new.tally ≡ counted_with self.old.tally change.ready.skeleton) }
+        ensures counted { OnOk result (self.new.tally ≡ counted_with self.old.tally (deed_of asked.now) change.ready.skeleton) }
         ensures uncounted { OnErr result (self.new.tally ≡ self.old.tally) }
         ensures told { is_some (D.shown disk.new) ≡ is_some (D.shown disk.old) }
         ensures counts { CountsFault result (D.faults disk.old) (D.faults disk.new) }
@@ -415,10 +514,10 @@ impl Owner {
         sound_owners_keep_a_store();
         sound_owners_can_seal();
         carried_out_owners_stay_sound();
-        name_changes_leave_the_titles();
+        deeds_leave_the_titles();
         self.state.is_seen();
         self.journal.journal_is_within();
-        let tally = self.tally.with(&change);
+        let tally = self.tally.with(asked, &change);
         let reply = change.take_key(drawn);
         let Change {
             note,

@@ -7,8 +7,6 @@ ghost use Rattle.commit_journal.specs.Logs.{AreInEpochs, epoch_behind};
 ghost use Rattle.commit_journal.specs.Placed.{PlainPlaced};
 ghost use Rattle.cry_base.specs.Layout.{batch_len, header_len};
 ghost use Rattle.cry_base.specs.Limits.{most_file_bytes, most_store_bytes};
-ghost use Rattle.cry_base.specs.Refusing.{has_bad_name, refusal_of};
-ghost use Rattle.cry_base.specs.Requests.{Request};
 ghost use Rattle.cry_base.specs.Sets.{In};
 ghost use Rattle.cry_base.specs.Store.{FileEntry, HolderEntry};
 ghost use Rattle.cry_base.specs.declared.roles.Role.{Role};
@@ -18,7 +16,6 @@ ghost use Rattle.log_visits.specs.Visiting.{Opened, key_of, visit_all};
 ghost use Rattle.log_visits.specs.Visits.{all_visits, holder_visits};
 ghost use Rattle.key_links.specs.Ringed.{Ringed};
 ghost use Rattle.move_plan.specs.Fitting.{folder_stands};
-ghost use Rattle.move_plan.specs.Noting.{note_of};
 ghost use Rattle.record_format.specs.Noted.{Note};
 ghost use Rattle.public_fold.specs.Fitted.{told_step};
 ghost use Rattle.public_fold.specs.Heads.{IsSkeleton};
@@ -32,6 +29,7 @@ ghost use Rattle.role_graph.specs.Rights.Who.{TheOwner};
 ghost use Rattle.role_graph.specs.Roles.{holder_role};
 ghost use Rattle.journal_bytes.specs.Owning.{IsStoreOf};
 ghost use Rattle.journal_bytes.specs.Sealing.{CanSeal, skeleton_size};
+ghost use Rattle.store_owner.specs.Deeds.{Deed, deed_note, deed_refusal, IsWellNamed};
 ghost use Rattle.store_owner.specs.Applying.{IsCarriedOut, sealed_text};
 ghost use Rattle.store_owner.specs.Owned.{OwnerView};
 ghost use Rattle.store_owner.specs.Sound.{IsOpenedWith, IsSound, granted_in, own_store};
@@ -52,17 +50,17 @@ pub fn sound_owners_keep_a_store()
 
 /// Law: a command that isn't refused, and whose note fits, can be sealed by the keys of the owner's ring.
 pub fn sound_owners_can_seal()
-    ensures { (o : OwnerView) (r : Request) (drawn : List (List ℕ)) (s : Skeleton) (ring : Ringed) (counter : Counting) → IsSound o
-        → has_bad_name r ≡ false
-        → refusal_of (own_store o) r o.file_bytes ≡ None
+    ensures { (o : OwnerView) (d : Deed) (drawn : List (List ℕ)) (s : Skeleton) (ring : Ringed) (counter : Counting) → IsSound o
+        → IsWellNamed d
+        → deed_refusal (own_store o) d o.file_bytes ≡ None
         → ((at : Stand) → IsSeenAs o.state at → IsSkeleton
-        (told_step (begun (not o.journal.has_epoch) at) (note_of (own_store o) r (replicate 32 0))) s)
-        → ((at : Stand) → IsSeenAs o.state at → note_fits (begun (not o.journal.has_epoch) at) (note_of (own_store o) r (replicate 32 0))
-        (told_step (begun (not o.journal.has_epoch) at) (note_of (own_store o) r (replicate 32 0))) ≡ true)
+        (told_step (begun (not o.journal.has_epoch) at) (deed_note (own_store o) d (replicate 32 0))) s)
+        → ((at : Stand) → IsSeenAs o.state at → note_fits (begun (not o.journal.has_epoch) at) (deed_note (own_store o) d (replicate 32 0))
+        (told_step (begun (not o.journal.has_epoch) at) (deed_note (own_store o) d (replicate 32 0))) ≡ true)
         → ring.keys ≡ o.ring.keys → length s.keys.items ≤ ring.spare → length drawn ≡ length s.keys.items
         → All (λ (key : List ℕ). length key ≡ 32) drawn
         → cond o.journal.has_epoch (o.counter ≡ Some counter) (counter ≡ record { epoch = o.journal.epoch + 1; count = 0 })
-        → CanSeal ring counter s drawn (sealed_text o r drawn) }
+        → CanSeal ring counter s drawn (sealed_text o d drawn) }
 {}
 
 /// Law: a command whose note fits, and whose batches end within the store limit, draws few keys: their bytes are counted by 32 bits.
@@ -76,13 +74,13 @@ pub fn sound_owners_draw_few_keys()
 
 /// Law: an owner stays sound who carries out a command that isn't refused, and whose note fits.
 pub fn carried_out_owners_stay_sound()
-    ensures { (r : Request) (drawn : List (List ℕ)) (old new : OwnerView) (was shows : Option (List ℕ)) → IsSound old
-        → has_bad_name r ≡ false
-        → refusal_of (own_store old) r old.file_bytes ≡ None
+    ensures { (d : Deed) (drawn : List (List ℕ)) (old new : OwnerView) (was shows : Option (List ℕ)) → IsSound old
+        → IsWellNamed d
+        → deed_refusal (own_store old) d old.file_bytes ≡ None
         → ((at : Stand) → IsSeenAs old.state at → note_fits (begun (not old.journal.has_epoch) at)
-        (note_of (own_store old) r (replicate 32 0))
-        (told_step (begun (not old.journal.has_epoch) at) (note_of (own_store old) r (replicate 32 0))) ≡ true)
-        → IsCarriedOut r drawn old new was shows
+        (deed_note (own_store old) d (replicate 32 0))
+        (told_step (begun (not old.journal.has_epoch) at) (deed_note (own_store old) d (replicate 32 0))) ≡ true)
+        → IsCarriedOut d drawn old new was shows
         → new.journal.batches ≡ old.journal.batches + cond old.journal.has_epoch 1 2
         → new.journal.epoch ≡ old.journal.epoch + cond old.journal.has_epoch 0 1
         → IsSound new }

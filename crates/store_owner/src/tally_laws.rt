@@ -1,9 +1,7 @@
 //! Laws of what an owner counts: the figures of its journal.
 ghost use Rattle.std.specs.Prelude.{◌≡◌, ℕ, List, None};
-ghost use Rattle.cry_base.specs.Refusing.{refusal_of};
-ghost use Rattle.cry_base.specs.Requests.{Request};
 ghost use Rattle.public_fold.specs.Journal.{Journal, store_of};
-ghost use Rattle.journal_bytes.specs.Script.{journal_then};
+ghost use Rattle.store_owner.specs.Deeds.{Deed, deed_refusal, deed_then};
 ghost use Rattle.store_owner.specs.Counted.{root_counted};
 ghost use Rattle.store_owner.specs.Making.{made_with};
 ghost use Rattle.store_owner.specs.Owned.{IsOwnerOf, OwnerView};
@@ -13,8 +11,8 @@ ghost use Rattle.store_owner.specs.Tallied.{CountsOne, counted_in, tally_in, tal
 /// a command that is accepted there, whatever keys it draws; and this owner's figures are those of the journal.
 pub fn tallies_are_those_of_journals()
     ensures made { (keys : List (List ℕ)) → counted_in (made_with keys) ≡ root_counted }
-    ensures command { (m : Journal) (r : Request) (drawn : List (List ℕ)) (old new : OwnerView) → IsOwnerOf m old
-        → refusal_of (store_of m) r old.file_bytes ≡ None → CountsOne r old new
-        → old.tally ≡ counted_in m → new.tally ≡ counted_in (journal_then m old.journal.has_epoch r drawn) }
+    ensures command { (m : Journal) (d : Deed) (drawn : List (List ℕ)) (old new : OwnerView) → IsOwnerOf m old
+        → deed_refusal (store_of m) d old.file_bytes ≡ None → CountsOne d old new
+        → old.tally ≡ counted_in m → new.tally ≡ counted_in (deed_then m old.journal.has_epoch d drawn) }
     ensures tally { (m : Journal) (o : OwnerView) → IsOwnerOf m o → o.tally ≡ counted_in m → tally_in o ≡ tally_of m }
 {}

@@ -3,6 +3,7 @@ use Rattle.std.proofs.lemmas.List.Elements.{All-nil, All-replicate}
 use Rattle.std.specs.Prelude.{codes}
 use Rattle.cry_base.specs.Requests.Request.{Grant}
 use Rattle.cry_base.specs.declared.commands.Refusal.TheVariants.{Exists}
+use Rattle.store_owner.specs.Deeds.Deed.{Commanded}
 use Rattle.attempt_laws.specs.WorkedTrials.{everything}
 use Rattle.attempt_laws.proofs.rows.lost_epoch_is_begun_again.Goals as goal
 
@@ -12,17 +13,17 @@ returns-clause-course c =
     let five = All-replicate (λ (key : List ℕ). length key ≡ 32) 5 (replicate 32 1) refl in
     let one = All-replicate (λ (key : List ℕ). length key ≡ 32) 1 (replicate 32 1) refl in
     let none = All-nil (λ (key : List ℕ). length key ≡ 32) in
-    let grant = Grant 1 (codes "/a") in (
-      (refl, refl, five),
+    let grant = Commanded (Grant 1 (codes "/a")) in (
+      ((tt, refl), refl, five),
       (
-        (refl, refl, one),
+        ((tt, refl), refl, one),
         (
-          (Exists, refl),
+          (tt, (Exists, refl)),
           (
-            (refl, refl, none),
+            ((tt, refl), refl, none),
             (
               tt,
-              ((refl, (grant, refl)), (tt, ((refl, (grant, refl)), (tt, (tt, ((refl, refl, none), tt)))))),
+              ((refl, (grant, (tt, refl))), (tt, ((refl, (grant, (tt, refl))), (tt, (tt, (((tt, refl), refl, none), tt)))))),
             ),
           ),
         ),

@@ -1,9 +1,7 @@
 use Rattle.std.specs.Prelude.{not, replicate}
 use Rattle.std.proofs.Common.{refl}
 use Rattle.folder_nodes.specs.Titles.{tree_store}
-use Rattle.journal_bytes.proofs.FewDraws.{few_draws}
-use Rattle.journal_bytes.proofs.NextFits.{fits_or_full}
-use Rattle.store_owner.proofs.Measured.{draws_told, end_told, payload_told}
+use Rattle.store_owner.proofs.Measured.{draws_told, end_told, few_told, fits_told, payload_told, suits_journal}
 use Rattle.store_owner.proofs.apply_laws.commands_are_measured.Goals as goal
 
 pub returns-clause-payload : goal.returns-clause-payload
@@ -17,7 +15,7 @@ pub returns-clause-end : goal.returns-clause-end
 returns-clause-end c = end_told
 
 pub returns-clause-fits : goal.returns-clause-fits
-returns-clause-fits c = λ m r o is bound fine not_fit. fits_or_full m o.journal.has_epoch r o.file_bytes is.valid bound fine (replicate 32 0) not_fit
+returns-clause-fits c = λ m d o is bound suits fine not_fit. fits_told m o.journal.has_epoch d o.file_bytes (replicate 32 0) is.valid bound fine (suits_journal m o d is suits) not_fit
 
 pub returns-clause-few : goal.returns-clause-few
-returns-clause-few c = λ m r o is bound fine low. few_draws m o.journal.has_epoch r o.file_bytes is.valid fine low
+returns-clause-few c = λ m d o is bound fine low. few_told m o.journal.has_epoch d o.file_bytes is.valid fine low

@@ -2,8 +2,6 @@ use Rattle.std.proofs.Common.{inl, inr, ◌≡◌, ◌≤◌, ◌∙◌, ◌++�
 use Rattle.batch_log.specs.Moments.{FromThenOn}
 use Rattle.commit_journal.proofs.StoppedCommits.{stays}
 use Rattle.chacha_seal.specs.Serials.{Counting}
-use Rattle.cry_base.specs.Refusing.{refusal_of}
-use Rattle.cry_base.specs.Requests.{request_of}
 use Rattle.cry_base.specs.Store.{Store}
 use Rattle.folder_nodes.specs.Titles.{tree_store}
 use Rattle.record_format.specs.Plain.{plain_payload}
@@ -15,12 +13,11 @@ use Rattle.public_fold.specs.Standing.{IsSeenAs, stand_of}
 use Rattle.public_fold.specs.declared.heads.Skeleton.{Skeleton}
 use Rattle.journal_bytes.specs.Owning.{IsTreeOf}
 use Rattle.journal_bytes.specs.Sealing.{CanSeal}
-use Rattle.journal_bytes.specs.Texting.{AreTitlesAfter, due_key}
+use Rattle.store_owner.specs.Deeds.{AreDeedTitles, deed_key, deed_of, deed_refusal, IsDeedChange, Suits}
 use Rattle.store_owner.specs.Applying.{IsCarriedOut, IsInterrupted}
 use Rattle.store_owner.specs.Counted.{IsWithin}
 use Rattle.store_owner.specs.Owned.{OwnerView}
 use Rattle.store_owner.specs.Planning.{HasBegun, IsDrafted, IsFurnished, planned_size}
-use Rattle.command_plan.specs.NameChanges.{IsNameChangeOf}
 use Rattle.store_owner.specs.Sound.{own_store}
 use Rattle.store_owner.specs.declared.counted.Counted.{Counted}
 use Rattle.store_owner.specs.Published.{PublishesWithin}
@@ -39,14 +36,14 @@ take_key-reply-requires-clause-holder g c = λ is.
     let at = stand_of c.self.inside.state in
     let seen = subst (λ (o : OwnerView). IsSeenAs o.state at) c.self.view_is c.is_seen.ensures in (
       holder_drawn _ c.args.change.note c.args.change.ready.skeleton c.args.drawn.now (c.requires.drafted.is_skeleton at seen) c.requires.count is,
-      c.requires.drafted.text_room (adds_holder c.args.change.note (own_store old) (request_of c.args.command.now) _ (c.requires.drafted.told (own_store old) (c.sound_owners_keep_a_store.ensures.store old)) is),
+      c.requires.drafted.text_room (adds_holder c.args.change.note (own_store old) (deed_of c.args.asked.now) _ (c.requires.drafted.told (own_store old) (c.sound_owners_keep_a_store.ensures.store old)) is),
     )
 
 pub seal_step-payload-requires-clause-can_seal : goal.seal_step-payload-requires-clause-can_seal
 seal_step-payload-requires-clause-can_seal g c =
     let i = c.self.inside in
     let old : OwnerView = record { key = i.key.bytes; journal = i.journal; state = i.state; names = i.names; ring = i.ring; counter = i.counter; file_bytes = i.limits.file_bytes; tally = i.tally } in
-    let r = request_of c.args.command.now in
+    let r = deed_of c.args.asked.now in
     let drawn = c.args.drawn.now in
     let before = c.args.change in
     let after = c.take_key-reply.new.self in
@@ -56,7 +53,7 @@ seal_step-payload-requires-clause-can_seal g c =
     let furnished : IsFurnished r old before c.args.room = subst (λ (o : OwnerView). IsFurnished r o before c.args.room) (sym c.self.view_is) c.requires.furnished in
     let own = c.sound_owners_keep_a_store.ensures.store old in
     let sound = (c.self.invariant (ap (λ (o : OwnerView). o.journal.is_closed) c.self.view_is ∙ c.requires.open)).0 in
-    let accepted : refusal_of (own_store old) r old.file_bytes ≡ None = subst (λ (o : OwnerView). refusal_of (own_store o) r o.file_bytes ≡ None) (sym c.self.view_is) c.requires.accepted in
+    let accepted : deed_refusal (own_store old) r old.file_bytes ≡ None = subst (λ (o : OwnerView). deed_refusal (own_store o) r o.file_bytes ≡ None) (sym c.self.view_is) c.requires.accepted in
     let fits = fits_for r drawn old before after at drafted keyed c.requires.count c.requires.sizes own c.is_seen.ensures in
     let has : HasBegun i.journal c.begin.new.journal i.counter c.in-Ok.counter (g.D.Disk.shown c.args.disk.now) (g.D.Disk.shown c.begin.new.disk) =
     subst (λ (k : Option Counting). HasBegun i.journal c.begin.new.journal k c.in-Ok.counter (g.D.Disk.shown c.args.disk.now) (g.D.Disk.shown c.begin.new.disk)) c.take.ensures.value c.in-Ok.ensures.begun in
@@ -71,7 +68,7 @@ pub commit_within-requires-clause-room : goal.commit_within-requires-clause-room
 commit_within-requires-clause-room g c =
     let i = c.self.inside in
     let old : OwnerView = record { key = i.key.bytes; journal = i.journal; state = i.state; names = i.names; ring = i.ring; counter = i.counter; file_bytes = i.limits.file_bytes; tally = i.tally } in
-    let r = request_of c.args.command.now in
+    let r = deed_of c.args.asked.now in
     let drawn = c.args.drawn.now in
     let before = c.args.change in
     let after = c.take_key-reply.new.self in
@@ -90,7 +87,7 @@ pub commit_within-requires-clause-ends : goal.commit_within-requires-clause-ends
 commit_within-requires-clause-ends g c =
     let i = c.self.inside in
     let old : OwnerView = record { key = i.key.bytes; journal = i.journal; state = i.state; names = i.names; ring = i.ring; counter = i.counter; file_bytes = i.limits.file_bytes; tally = i.tally } in
-    let r = request_of c.args.command.now in
+    let r = deed_of c.args.asked.now in
     let drawn = c.args.drawn.now in
     let before = c.args.change in
     let after = c.take_key-reply.new.self in
@@ -109,7 +106,7 @@ pub settle-requires-clause-can : goal.settle-requires-clause-can
 settle-requires-clause-can g c =
     let i = c.self.inside in
     let old : OwnerView = record { key = i.key.bytes; journal = i.journal; state = i.state; names = i.names; ring = i.ring; counter = i.counter; file_bytes = i.limits.file_bytes; tally = i.tally } in
-    let r = request_of c.args.command.now in
+    let r = deed_of c.args.asked.now in
     let drafted : IsDrafted r old c.args.change = subst (λ (o : OwnerView). IsDrafted r o c.args.change) (sym c.self.view_is) c.requires.drafted in
     c.take_key-reply.ensures.keyed.can i.state drafted.can_settle
 
@@ -117,7 +114,7 @@ pub settle-requires-clause-room : goal.settle-requires-clause-room
 settle-requires-clause-room g c =
     let i = c.self.inside in
     let old : OwnerView = record { key = i.key.bytes; journal = i.journal; state = i.state; names = i.names; ring = i.ring; counter = i.counter; file_bytes = i.limits.file_bytes; tally = i.tally } in
-    let r = request_of c.args.command.now in
+    let r = deed_of c.args.asked.now in
     let furnished : IsFurnished r old c.args.change c.args.room = subst (λ (o : OwnerView). IsFurnished r o c.args.change c.args.room) (sym c.self.view_is) c.requires.furnished in
     subst (λ (s : Skeleton). (1 ≤ i.state.spare) × (length s.keys.items ≤ i.state.key_spare)) (sym c.take_key-reply.ensures.keyed.skeleton) furnished.state_room
 
@@ -127,17 +124,17 @@ with-tally-requires g c =
     let before = c.args.change in
     let both = c.self.invariant (ap (λ (o : OwnerView). o.journal.is_closed) c.self.view_is ∙ c.requires.open) in
     let old : OwnerView = record { key = i.key.bytes; journal = i.journal; state = i.state; names = i.names; ring = i.ring; counter = i.counter; file_bytes = i.limits.file_bytes; tally = i.tally } in
-    let r = request_of c.args.command.now in
+    let r = deed_of c.args.asked.now in
     let furnished : IsFurnished r old before c.args.room = subst (λ (o : OwnerView). IsFurnished r o before c.args.room) (sym c.self.view_is) c.requires.furnished in
     record {
-      within = within_limit i.tally (told_note before.note) before.ready.skeleton (length (before.text.items ++ due_key r (replicate 32 0))) i.journal both.1 furnished.ends_within c.journal_is_within.ensures.bound;
+      within = within_limit r i.tally (told_note before.note) before.ready.skeleton (length (before.text.items ++ deed_key r (replicate 32 0))) i.journal both.1 furnished.ends_within c.journal_is_within.ensures.bound;
     }
 
 pub invariant_of-self-2 : goal.invariant_of-self-2
 invariant_of-self-2 g c = λ still.
     let i = c.self.inside in
     let old : OwnerView = record { key = i.key.bytes; journal = i.journal; state = i.state; names = i.names; ring = i.ring; counter = i.counter; file_bytes = i.limits.file_bytes; tally = i.tally } in
-    let r = request_of c.args.command.now in
+    let r = deed_of c.args.asked.now in
     let drawn = c.args.drawn.now in
     let before = c.args.change in
     let after = c.take_key-reply.new.self in
@@ -148,13 +145,13 @@ invariant_of-self-2 g c = λ still.
     let own = c.sound_owners_keep_a_store.ensures.store old in
     let both = c.self.invariant (ap (λ (o : OwnerView). o.journal.is_closed) c.self.view_is ∙ c.requires.open) in
     let sound = both.0 in
-    let accepted : refusal_of (own_store old) r old.file_bytes ≡ None = subst (λ (o : OwnerView). refusal_of (own_store o) r o.file_bytes ≡ None) (sym c.self.view_is) c.requires.accepted in
+    let accepted : deed_refusal (own_store old) r old.file_bytes ≡ None = subst (λ (o : OwnerView). deed_refusal (own_store o) r o.file_bytes ≡ None) (sym c.self.view_is) c.requires.accepted in
     let fits = fits_for r drawn old before after at drafted keyed c.requires.count c.requires.sizes own c.is_seen.ensures in
     let has : HasBegun i.journal c.begin.new.journal i.counter c.in-Ok.counter (g.D.Disk.shown c.args.disk.now) (g.D.Disk.shown c.begin.new.disk) =
     subst (λ (k : Option Counting). HasBegun i.journal c.begin.new.journal k c.in-Ok.counter (g.D.Disk.shown c.args.disk.now) (g.D.Disk.shown c.begin.new.disk)) c.take.ensures.value c.in-Ok.ensures.begun in
-    let titles : (s : Store) → IsTreeOf (tree_store i.state.tree i.names) s → AreTitlesAfter s r i.names c.change_names.new.names = λ s tree.
-    c.name_changes_leave_the_titles.ensures.titles (tree_store i.state.tree i.names) s r i.names c.change_names.new.names after.titles tree
-    (subst (λ (t : NameChange). IsNameChangeOf (tree_store i.state.tree i.names) r i.names t) (sym keyed.titles) drafted.titles_are) c.change_names.ensures in
+    let titles : (s : Store) → IsTreeOf (tree_store i.state.tree i.names) s → AreDeedTitles s r i.names c.change_names.new.names = λ s tree.
+    c.deeds_leave_the_titles.ensures.titles (tree_store i.state.tree i.names) s r i.names c.change_names.new.names after.titles tree
+    (subst (λ (t : NameChange). IsDeedChange (tree_store i.state.tree i.names) r i.names t) (sym keyed.titles) drafted.titles_are) c.change_names.ensures in
     let new : OwnerView = record { key = i.key.bytes; journal = c.commit_within.new.journal; state = c.settle.new.self; names = c.change_names.new.names; ring = c.seal_step-payload.new.ring; counter = Some c.seal_step-payload.new.counter; file_bytes = i.limits.file_bytes; tally = c.with-tally.result } in
     let was = g.D.Disk.shown c.args.disk.now in
     let shows = g.D.Disk.shown c.commit_within.new.disk in
@@ -169,7 +166,7 @@ invariant_of-self-2 g c = λ still.
       c.carried_out_owners_stay_sound.ensures r drawn old new was shows sound c.requires.form accepted fits done
           (batches_for i.journal.has_epoch new.journal.batches c.begin.new.journal.batches i.journal.batches behind.batches has.batches) (behind.epoch ∙ has.epoch),
       subst (λ (t : Counted). IsWithin t new.journal.end) (sym c.with-tally.ensures)
-          (within_on i.tally (told_note before.note) before.ready.skeleton (length (before.text.items ++ due_key r (replicate 32 0))) i.journal.end c.begin.new.journal.end (length (spell_payload (plain_payload c.seal_step-payload.result))) new.journal.end i.journal.has_epoch
+          (within_on r i.tally (told_note before.note) before.ready.skeleton (length (before.text.items ++ deed_key r (replicate 32 0))) i.journal.end c.begin.new.journal.end (length (spell_payload (plain_payload c.seal_step-payload.result))) new.journal.end i.journal.has_epoch
           both.1 has.end (spelled ∙ size) behind.end),
     )
 
@@ -177,7 +174,7 @@ pub returns-clause-done : goal.returns-clause-done
 returns-clause-done g c =
     let i = c.self.inside in
     let old : OwnerView = record { key = i.key.bytes; journal = i.journal; state = i.state; names = i.names; ring = i.ring; counter = i.counter; file_bytes = i.limits.file_bytes; tally = i.tally } in
-    let r = request_of c.args.command.now in
+    let r = deed_of c.args.asked.now in
     let drawn = c.args.drawn.now in
     let before = c.args.change in
     let after = c.take_key-reply.new.self in
@@ -188,9 +185,9 @@ returns-clause-done g c =
     let own = c.sound_owners_keep_a_store.ensures.store old in
     let has : HasBegun i.journal c.begin.new.journal i.counter c.in-Ok.counter (g.D.Disk.shown c.args.disk.now) (g.D.Disk.shown c.begin.new.disk) =
     subst (λ (k : Option Counting). HasBegun i.journal c.begin.new.journal k c.in-Ok.counter (g.D.Disk.shown c.args.disk.now) (g.D.Disk.shown c.begin.new.disk)) c.take.ensures.value c.in-Ok.ensures.begun in
-    let titles : (s : Store) → IsTreeOf (tree_store i.state.tree i.names) s → AreTitlesAfter s r i.names c.change_names.new.names = λ s tree.
-    c.name_changes_leave_the_titles.ensures.titles (tree_store i.state.tree i.names) s r i.names c.change_names.new.names after.titles tree
-    (subst (λ (t : NameChange). IsNameChangeOf (tree_store i.state.tree i.names) r i.names t) (sym keyed.titles) drafted.titles_are) c.change_names.ensures in
+    let titles : (s : Store) → IsTreeOf (tree_store i.state.tree i.names) s → AreDeedTitles s r i.names c.change_names.new.names = λ s tree.
+    c.deeds_leave_the_titles.ensures.titles (tree_store i.state.tree i.names) s r i.names c.change_names.new.names after.titles tree
+    (subst (λ (t : NameChange). IsDeedChange (tree_store i.state.tree i.names) r i.names t) (sym keyed.titles) drafted.titles_are) c.change_names.ensures in
     let new : OwnerView = record { key = i.key.bytes; journal = c.commit_within.new.journal; state = c.settle.new.self; names = c.change_names.new.names; ring = c.seal_step-payload.new.ring; counter = Some c.seal_step-payload.new.counter; file_bytes = i.limits.file_bytes; tally = c.with-tally.result } in
     let was = g.D.Disk.shown c.args.disk.now in
     let shows = g.D.Disk.shown c.commit_within.new.disk in
@@ -205,7 +202,7 @@ returns-in_default-clause-interrupted g c =
     let i = c.self.inside in
     let old : OwnerView = record { key = i.key.bytes; journal = i.journal; state = i.state; names = i.names; ring = i.ring; counter = i.counter; file_bytes = i.limits.file_bytes; tally = i.tally } in
     let fault = c.in_default.ensures.interrupted in
-    subst (λ (o : OwnerView). IsInterrupted (request_of c.args.command.now) c.args.drawn.now o (g.D.Disk.shown c.args.disk.now) (g.D.Disk.shown c.begin.new.disk)) c.self.view_is
+    subst (λ (o : OwnerView). IsInterrupted (deed_of c.args.asked.now) c.args.drawn.now o (g.D.Disk.shown c.args.disk.now) (g.D.Disk.shown c.begin.new.disk)) c.self.view_is
     (inl (fault.0, (old.journal, refl, fault.1)))
 
 pub returns-in_default-commit_within-clause-interrupted : goal.returns-in_default-commit_within-clause-interrupted
@@ -213,7 +210,7 @@ unfolding sealed_for
 returns-in_default-commit_within-clause-interrupted g c =
     let i = c.self.inside in
     let old : OwnerView = record { key = i.key.bytes; journal = i.journal; state = i.state; names = i.names; ring = i.ring; counter = i.counter; file_bytes = i.limits.file_bytes; tally = i.tally } in
-    let r = request_of c.args.command.now in
+    let r = deed_of c.args.asked.now in
     let drawn = c.args.drawn.now in
     let before = c.args.change in
     let after = c.take_key-reply.new.self in
@@ -239,10 +236,10 @@ returns-in_default-clause-stops g c =
     let D = g.D.Disk in
     let a = c.args.disk.now in
     let b = c.begin.new.disk in
-    let r = request_of c.args.command.now in
+    let r = deed_of c.args.asked.now in
     subst (λ (o : OwnerView). StopsWithin r c.args.drawn.now o (D.shown a) (D.shown b) (D.may_leave a) (D.may_leave b) (D.since b (D.moment a))) c.self.view_is
     (λ m is low bound fine.
-    early_stops m r c.args.drawn.now old (D.shown a) (D.may_leave a) is low bound fine (D.shown b) (D.may_leave b) (D.since b (D.moment a)) c.in_default.ensures.adds)
+    early_stops m r c.args.drawn.now old (D.shown a) (D.may_leave a) is low bound fine (subst (λ (o : OwnerView). Suits o.state.keys r) (sym c.self.view_is) c.requires.suits) (D.shown b) (D.may_leave b) (D.since b (D.moment a)) c.in_default.ensures.adds)
 
 pub returns-in_default-commit_within-clause-stops : goal.returns-in_default-commit_within-clause-stops
 unfolding sealed_for
@@ -253,7 +250,7 @@ returns-in_default-commit_within-clause-stops g c =
     let a = c.args.disk.now in
     let b = c.begin.new.disk in
     let e = c.commit_within.new.disk in
-    let r = request_of c.args.command.now in
+    let r = deed_of c.args.asked.now in
     let drawn = c.args.drawn.now in
     let before = c.args.change in
     let after = c.take_key-reply.new.self in
@@ -269,7 +266,7 @@ returns-in_default-commit_within-clause-stops g c =
     c.skeleton.result.now (plain_payload c.seal_step-payload.result) has c.in-Ok.ensures.told c.skeleton.ensures c.seal_step-payload.ensures.payload in
     subst (λ (o : OwnerView). StopsWithin r drawn o was (D.shown e) (D.may_leave a) (D.may_leave e) (D.since e (D.moment a))) c.self.view_is
     (λ m is low bound fine.
-    late_stops m r drawn old was (D.may_leave a) is low bound fine sealed (D.may_leave b) c.in-Ok.ensures.calm (D.shown e) (D.may_leave e) (D.moment b) (D.moment a) (D.since b) (D.since e)
+    late_stops m r drawn old was (D.may_leave a) is low bound fine (subst (λ (o : OwnerView). Suits o.state.keys r) (sym c.self.view_is) c.requires.suits) sealed (D.may_leave b) c.in-Ok.ensures.calm (D.shown e) (D.may_leave e) (D.moment b) (D.moment a) (D.since b) (D.since e)
     c.in-Ok.ensures.later c.in_default-commit_within.ensures.time c.in-Ok.ensures.added c.in-Ok.ensures.adds c.in_default-commit_within.ensures.adds)
 
 pub returns-in_default-commit_within-clause-time : goal.returns-in_default-commit_within-clause-time
@@ -288,7 +285,7 @@ returns-clause-stops g c =
     let a = c.args.disk.now in
     let b = c.begin.new.disk in
     let e = c.commit_within.new.disk in
-    let r = request_of c.args.command.now in
+    let r = deed_of c.args.asked.now in
     let drawn = c.args.drawn.now in
     let before = c.args.change in
     let after = c.take_key-reply.new.self in
@@ -304,7 +301,7 @@ returns-clause-stops g c =
     c.skeleton.result.now (plain_payload c.seal_step-payload.result) has c.in-Ok.ensures.told c.skeleton.ensures c.seal_step-payload.ensures.payload in
     subst (λ (o : OwnerView). StopsWithin r drawn o was (D.shown e) (D.may_leave a) (D.may_leave e) (D.since e (D.moment a))) c.self.view_is
     (λ m is low bound fine.
-    late_stops m r drawn old was (D.may_leave a) is low bound fine sealed (D.may_leave b) c.in-Ok.ensures.calm (D.shown e) (D.may_leave e) (D.moment b) (D.moment a) (D.since b) (D.since e)
+    late_stops m r drawn old was (D.may_leave a) is low bound fine (subst (λ (o : OwnerView). Suits o.state.keys r) (sym c.self.view_is) c.requires.suits) sealed (D.may_leave b) c.in-Ok.ensures.calm (D.shown e) (D.may_leave e) (D.moment b) (D.moment a) (D.since b) (D.since e)
     c.in-Ok.ensures.later c.in-Ok-commit_within.ensures.time c.in-Ok.ensures.added c.in-Ok.ensures.adds c.in-Ok-commit_within.ensures.adds)
 
 pub returns-clause-handed : goal.returns-clause-handed
@@ -316,7 +313,7 @@ returns-clause-handed g c =
     let a = c.args.disk.now in
     let b = c.begin.new.disk in
     let e = c.commit_within.new.disk in
-    let r = request_of c.args.command.now in
+    let r = deed_of c.args.asked.now in
     let drawn = c.args.drawn.now in
     let before = c.args.change in
     let after = c.take_key-reply.new.self in
@@ -332,7 +329,7 @@ returns-clause-handed g c =
     c.skeleton.result.now (plain_payload c.seal_step-payload.result) has c.in-Ok.ensures.told c.skeleton.ensures c.seal_step-payload.ensures.payload in
     subst (λ (o : OwnerView). HandsAll r drawn o was (D.shown e)) c.self.view_is
     (λ m is low bound fine.
-    all_handed m r drawn old was (D.may_leave a) is low bound fine sealed (D.may_leave b) c.in-Ok.ensures.calm (D.shown e) c.in-Ok.ensures.added c.in-Ok-commit_within.ensures.added)
+    all_handed m r drawn old was (D.may_leave a) is low bound fine (subst (λ (o : OwnerView). Suits o.state.keys r) (sym c.self.view_is) c.requires.suits) sealed (D.may_leave b) c.in-Ok.ensures.calm (D.shown e) c.in-Ok.ensures.added c.in-Ok-commit_within.ensures.added)
 
 pub returns-clause-time : goal.returns-clause-time
 returns-clause-time g c =
@@ -350,10 +347,10 @@ returns-in_default-clause-published g c =
     let D = g.D.Disk in
     let a = c.args.disk.now in
     let b = c.begin.new.disk in
-    let r = request_of c.args.command.now in
+    let r = deed_of c.args.asked.now in
     subst (λ (o : OwnerView). PublishesWithin r o (D.shown a) (D.may_leave a) (FromThenOn D.moment D.since a b)) c.self.view_is
     (λ m is low bound fine rests.
-    early_published m r c.args.drawn.now old (D.shown a) (D.may_leave a) is low bound fine rests g.row.D.Denot D.moment D.since a b c.in_default.ensures.published)
+    early_published m r c.args.drawn.now old (D.shown a) (D.may_leave a) is low bound fine (subst (λ (o : OwnerView). Suits o.state.keys r) (sym c.self.view_is) c.requires.suits) rests g.row.D.Denot D.moment D.since a b c.in_default.ensures.published)
 
 pub returns-in_default-commit_within-clause-published : goal.returns-in_default-commit_within-clause-published
 unfolding sealed_for
@@ -364,7 +361,7 @@ returns-in_default-commit_within-clause-published g c =
     let a = c.args.disk.now in
     let b = c.begin.new.disk in
     let e = c.commit_within.new.disk in
-    let r = request_of c.args.command.now in
+    let r = deed_of c.args.asked.now in
     let drawn = c.args.drawn.now in
     let before = c.args.change in
     let after = c.take_key-reply.new.self in
@@ -380,7 +377,7 @@ returns-in_default-commit_within-clause-published g c =
     c.skeleton.result.now (plain_payload c.seal_step-payload.result) has c.in-Ok.ensures.told c.skeleton.ensures c.seal_step-payload.ensures.payload in
     subst (λ (o : OwnerView). PublishesWithin r o was (D.may_leave a) (FromThenOn D.moment D.since a e)) c.self.view_is
     (λ m is low bound fine rests.
-    late_published m r drawn old was (D.may_leave a) is low bound fine rests g.row.D.Denot D.moment D.since sealed (D.may_leave b) c.in-Ok.ensures.calm a b e
+    late_published m r drawn old was (D.may_leave a) is low bound fine (subst (λ (o : OwnerView). Suits o.state.keys r) (sym c.self.view_is) c.requires.suits) rests g.row.D.Denot D.moment D.since sealed (D.may_leave b) c.in-Ok.ensures.calm a b e
     (λ d. stays (D.moment d) (D.since d) (D.shown d) (D.may_leave d) (λ s left at. g.met.D.Disk.only_now d s left at)
     (λ t s left early is leaves. g.met.D.Disk.counts_now d t s left early is leaves))
     c.in-Ok.ensures.published c.in_default-commit_within.ensures.published)
@@ -394,7 +391,7 @@ returns-clause-published g c =
     let a = c.args.disk.now in
     let b = c.begin.new.disk in
     let e = c.commit_within.new.disk in
-    let r = request_of c.args.command.now in
+    let r = deed_of c.args.asked.now in
     let drawn = c.args.drawn.now in
     let before = c.args.change in
     let after = c.take_key-reply.new.self in
@@ -410,7 +407,7 @@ returns-clause-published g c =
     c.skeleton.result.now (plain_payload c.seal_step-payload.result) has c.in-Ok.ensures.told c.skeleton.ensures c.seal_step-payload.ensures.payload in
     subst (λ (o : OwnerView). PublishesWithin r o was (D.may_leave a) (FromThenOn D.moment D.since a e)) c.self.view_is
     (λ m is low bound fine rests.
-    late_published m r drawn old was (D.may_leave a) is low bound fine rests g.row.D.Denot D.moment D.since sealed (D.may_leave b) c.in-Ok.ensures.calm a b e
+    late_published m r drawn old was (D.may_leave a) is low bound fine (subst (λ (o : OwnerView). Suits o.state.keys r) (sym c.self.view_is) c.requires.suits) rests g.row.D.Denot D.moment D.since sealed (D.may_leave b) c.in-Ok.ensures.calm a b e
     (λ d. stays (D.moment d) (D.since d) (D.shown d) (D.may_leave d) (λ s left at. g.met.D.Disk.only_now d s left at)
     (λ t s left early is leaves. g.met.D.Disk.counts_now d t s left early is leaves))
     c.in-Ok.ensures.published c.in-Ok-commit_within.ensures.published)

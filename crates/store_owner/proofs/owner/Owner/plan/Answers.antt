@@ -2,14 +2,13 @@ use Rattle.std.proofs.Common.{◌≡◌, ◌≤◌, ◌<◌, ◌∙◌, Err, ap,
 use Rattle.std.proofs.lemmas.Bool.{false≢true}
 use Rattle.commit_journal.specs.Journals.{JournalState, end_with}
 use Rattle.cry_base.specs.Limits.{most_file_bytes, most_store_bytes}
-use Rattle.cry_base.specs.Requests.{request_of}
 use Rattle.folder_nodes.specs.Titles.{tree_store}
 use Rattle.record_format.specs.Told.{told_note}
 use Rattle.public_fold.specs.Journal.{store_of}
 use Rattle.public_fold.specs.declared.heads.Skeleton.{Skeleton}
 use Rattle.journal_bytes.specs.Folds.{public_stand}
-use Rattle.journal_bytes.specs.Script.{due_end, due_payload}
 use Rattle.journal_bytes.specs.Sealing.{skeleton_size}
+use Rattle.store_owner.specs.Deeds.{deed_end, deed_of, deed_payload}
 use Rattle.store_owner.specs.Owned.{OwnerView}
 use Rattle.store_owner.specs.Planning.{planned_size}
 use Rattle.store_owner.proofs.OtherRoom.{drafted_still}
@@ -19,7 +18,7 @@ use Rattle.store_owner.proofs.owner.Owner.plan.Goals as goal
 pub returns-in-Err-Unfit-clause-answers : goal.returns-in-Err-Unfit-clause-answers
 returns-in-Err-Unfit-clause-answers c =
     let o : OwnerView = c.args.self.now in
-    let r = request_of c.args.command.now in
+    let r = deed_of c.args.asked.now in
     let limit : o.journal.limit ≤ most_store_bytes = subst (λ (x : OwnerView). x.journal.limit ≤ most_store_bytes) c.self.view_is c.journal_is_within.ensures.bound in
     let bounded : o.file_bytes ≤ most_file_bytes = subst (λ (x : OwnerView). x.file_bytes ≤ most_file_bytes) c.self.view_is (c.self.invariant (ap (λ (x : OwnerView). x.journal.is_closed) c.self.view_is ∙ c.requires.open)).0.bounded in (
       refl,
@@ -27,37 +26,37 @@ returns-in-Err-Unfit-clause-answers c =
           let store = c.owners_keep_the_store.ensures m o is in
           let accepted = c.requires.accepted (store_of m) store in
           let unfit = c.draft.ensures.unfit (c.in-Err-Unfit.is ∙ ap Err c.in-Err-Unfit.field-0-is) (public_stand m) (store_of m) is.seen store in
-          let past = c.commands_are_measured.ensures.fits m r o is bounded accepted unfit in
+          let past = c.commands_are_measured.ensures.fits m r o is bounded c.requires.suits accepted unfit in
           is_full o m r accepted (omega (arith, past, limit)),
     )
 
 pub returns-in_default-clause-answers : goal.returns-in_default-clause-answers
 returns-in_default-clause-answers c =
     let o : OwnerView = c.args.self.now in
-    let r = request_of c.args.command.now in
+    let r = deed_of c.args.asked.now in
     let limit : o.journal.limit ≤ most_store_bytes = subst (λ (x : OwnerView). x.journal.limit ≤ most_store_bytes) c.self.view_is c.journal_is_within.ensures.bound in
     let change = c.in-Ok.change in
     let size : skeleton_size (told_note change.note) c.skeleton.result.now c.sealed_len-text.result ≡ planned_size r change =
     ap (λ (s : Skeleton). skeleton_size (told_note change.note) s c.sealed_len-text.result) c.skeleton.ensures
-    ∙ ap (λ n. skeleton_size (told_note change.note) change.ready.skeleton n) (c.sealed_len-text.ensures.length (tree_store o.state.tree o.names) r c.requires.found) in (
+    ∙ ap (λ n. skeleton_size (told_note change.note) change.ready.skeleton n) (c.sealed_len-text.ensures.length (tree_store o.state.tree o.names) c.requires.found) in (
       refl,
       λ m is.
           let store = c.owners_keep_the_store.ensures m o is in
           let accepted = c.requires.accepted (store_of m) store in
           let due = size_due m r o change c.in-Ok.ensures.drafted is store (c.commands_are_measured.ensures.payload m r o change.ready.skeleton is accepted (skeleton_due m r o change c.in-Ok.ensures.drafted is store)) in
           let end = c.commands_are_measured.ensures.end m r o is in
-          is_full o m r accepted (past_end o (planned_size r change) (due_payload m r) (due_end m o.journal.has_epoch r) due end (far_past o _ (planned_size r change) limit size c.in_default.ensures)),
+          is_full o m r accepted (past_end o (planned_size r change) (deed_payload m r) (deed_end m o.journal.has_epoch r) due end (far_past o _ (planned_size r change) limit size c.in_default.ensures)),
     )
 
 pub returns-then-not-fits-clause-answers : goal.returns-then-not-fits-clause-answers
 returns-then-not-fits-clause-answers c =
     let o : OwnerView = c.args.self.now in
-    let r = request_of c.args.command.now in
+    let r = deed_of c.args.asked.now in
     let limit : o.journal.limit ≤ most_store_bytes = subst (λ (x : OwnerView). x.journal.limit ≤ most_store_bytes) c.self.view_is c.journal_is_within.ensures.bound in
     let change = c.in-Ok.change in
     let size : skeleton_size (told_note change.note) c.skeleton.result.now c.sealed_len-text.result ≡ planned_size r change =
     ap (λ (s : Skeleton). skeleton_size (told_note change.note) s c.sealed_len-text.result) c.skeleton.ensures
-    ∙ ap (λ n. skeleton_size (told_note change.note) change.ready.skeleton n) (c.sealed_len-text.ensures.length (tree_store o.state.tree o.names) r c.requires.found) in
+    ∙ ap (λ n. skeleton_size (told_note change.note) change.ready.skeleton n) (c.sealed_len-text.ensures.length (tree_store o.state.tree o.names) c.requires.found) in
     let some = c.in-Some.ensures in
     let sized : c.in-Some.size ≡ planned_size r change = some.1 ∙ size in
     let past : o.journal.limit < end_with o.journal (planned_size r change) =
@@ -69,19 +68,19 @@ returns-then-not-fits-clause-answers c =
           let accepted = c.requires.accepted (store_of m) store in
           let due = size_due m r o change c.in-Ok.ensures.drafted is store (c.commands_are_measured.ensures.payload m r o change.ready.skeleton is accepted (skeleton_due m r o change c.in-Ok.ensures.drafted is store)) in
           let end = c.commands_are_measured.ensures.end m r o is in
-          is_full o m r accepted (past_end o (planned_size r change) (due_payload m r) (due_end m o.journal.has_epoch r) due end past),
+          is_full o m r accepted (past_end o (planned_size r change) (deed_payload m r) (deed_end m o.journal.has_epoch r) due end past),
     )
 
 pub returns-clause-answers : goal.returns-clause-answers
 returns-clause-answers c =
     let o : OwnerView = c.args.self.now in
-    let r = request_of c.args.command.now in
+    let r = deed_of c.args.asked.now in
     let limit : o.journal.limit ≤ most_store_bytes = subst (λ (x : OwnerView). x.journal.limit ≤ most_store_bytes) c.self.view_is c.journal_is_within.ensures.bound in
     let bounded : o.file_bytes ≤ most_file_bytes = subst (λ (x : OwnerView). x.file_bytes ≤ most_file_bytes) c.self.view_is (c.self.invariant (ap (λ (x : OwnerView). x.journal.is_closed) c.self.view_is ∙ c.requires.open)).0.bounded in
     let change = c.in-Ok.change in
     let size : skeleton_size (told_note change.note) c.skeleton.result.now c.sealed_len-text.result ≡ planned_size r change =
     ap (λ (s : Skeleton). skeleton_size (told_note change.note) s c.sealed_len-text.result) c.skeleton.ensures
-    ∙ ap (λ n. skeleton_size (told_note change.note) change.ready.skeleton n) (c.sealed_len-text.ensures.length (tree_store o.state.tree o.names) r c.requires.found) in
+    ∙ ap (λ n. skeleton_size (told_note change.note) change.ready.skeleton n) (c.sealed_len-text.ensures.length (tree_store o.state.tree o.names) c.requires.found) in
     let some = c.in-Some.ensures in
     let sized : c.in-Some.size ≡ planned_size r change = some.1 ∙ size in
     let within : end_with o.journal (planned_size r change) ≤ o.journal.limit =
@@ -101,13 +100,13 @@ returns-clause-answers c =
           let accepted = c.requires.accepted (store_of m) store in
           let due = size_due m r o change c.in-Ok.ensures.drafted is store (c.commands_are_measured.ensures.payload m r o change.ready.skeleton is accepted (skeleton_due m r o change c.in-Ok.ensures.drafted is store)) in
           let end = c.commands_are_measured.ensures.end m r o is in
-          is_accepted o m r accepted (within_end o (planned_size r change) (due_payload m r) (due_end m o.journal.has_epoch r) due end within),
+          is_accepted o m r accepted (within_end o (planned_size r change) (deed_payload m r) (deed_end m o.journal.has_epoch r) due end within),
       λ m is.
           let store = c.owners_keep_the_store.ensures m o is in
           let accepted = c.requires.accepted (store_of m) store in
           let due = size_due m r o change c.in-Ok.ensures.drafted is store (c.commands_are_measured.ensures.payload m r o change.ready.skeleton is accepted (skeleton_due m r o change c.in-Ok.ensures.drafted is store)) in
           let end = c.commands_are_measured.ensures.end m r o is in
           let skeleton = skeleton_due m r o change c.in-Ok.ensures.drafted is store in
-          let ends : due_end m o.journal.has_epoch r ≤ most_store_bytes = let w = within_end o (planned_size r change) (due_payload m r) (due_end m o.journal.has_epoch r) due end within in omega (arith, w, limit) in
+          let ends : deed_end m o.journal.has_epoch r ≤ most_store_bytes = let w = within_end o (planned_size r change) (deed_payload m r) (deed_end m o.journal.has_epoch r) due end within in omega (arith, w, limit) in
           (c.commands_are_measured.ensures.draws m r o change.ready.skeleton is accepted skeleton, c.commands_are_measured.ensures.few m r o is bounded accepted ends),
     )
