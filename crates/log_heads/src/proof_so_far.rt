@@ -36,7 +36,8 @@ impl ProofSoFar {
     pub(crate) fn push(&mut self, leaf: &[u8])
         requires few { self.old.batches < 4294967295 }
         requires known { (hashes : List (List ℕ)) × IsProofSoFar self.old hashes }
-        ensures so_far { (hashes : List (List ℕ)) → IsProofSoFar self.old hashes → IsProofSoFar self.new (hashes ++ spec.leaf_hash leaf.now ∷ []) }
+        ensures so_far { (hashes : List (List ℕ)) → IsProofSoFar self.old hashes
+            → IsProofSoFar self.new (hashes ++ spec.leaf_hash leaf.now ∷ []) }
         ensures wanted { self.new.wanted ≡ self.old.wanted }
         ensures batches { self.new.batches ≡ self.old.batches + 1 }
     {
