@@ -4,7 +4,8 @@ use Rattle.std.specs.Fmt.{decimal}
 use Rattle.cli_base.specs.declared.status.Status.{Status}
 use Rattle.cli_base.specs.declared.status.Status.TheVariants.{Done, Usage, BadScript, ReadFault, WriteFault, DiskFault, RandomFault}
 use Rattle.cli_base.specs.declared.status.Status.TheVariants.{RandomShort, NotAStore, Damaged, WrongKey, Tampered, OutOfMemory}
-use Rattle.cli_base.specs.declared.status.Status.TheVariants.{NotBlank, NoHolder, Unseen, Behind, Forked, BadProof}
+use Rattle.cli_base.specs.declared.status.Status.TheVariants.{NotBlank, NoHolder, Unseen, NeedsUpgrade, AlreadyNew}
+use Rattle.cli_base.specs.declared.status.Status.TheVariants.{Behind, Forked, BadProof}
 
 -- the exit status
 abbrev pub code_of : Status → ℕ
@@ -24,6 +25,8 @@ code_of OutOfMemory = 13
 code_of NotBlank = 14
 code_of (NoHolder known) = 15
 code_of Unseen = 16
+code_of NeedsUpgrade = 17
+code_of AlreadyNew = 18
 code_of (Behind have want) = 19
 code_of (Forked batches) = 20
 code_of BadProof = 21
@@ -50,6 +53,8 @@ line_of OutOfMemory = told_line (codes "out of memory")
 line_of NotBlank = told_line (codes "not blank")
 line_of (NoHolder known) = codes "cryptree: no holder, " ++ (decimal known ++ (codes " known" ++ 10 ∷ []))
 line_of Unseen = told_line (codes "unseen")
+line_of NeedsUpgrade = told_line (codes "needs upgrade")
+line_of AlreadyNew = told_line (codes "already version 2")
 line_of (Behind have want) = codes "cryptree: behind, " ++ (decimal have ++ (codes " of " ++ (decimal want ++ 10 ∷ [])))
 line_of (Forked batches) = codes "cryptree: forked at " ++ (decimal batches ++ 10 ∷ [])
 line_of BadProof = told_line (codes "bad proof")
@@ -89,6 +94,8 @@ is_before_print (Tampered batch at) = true
 is_before_print DiskFault = true
 is_before_print (NoHolder known) = true
 is_before_print Unseen = true
+is_before_print NeedsUpgrade = true
+is_before_print AlreadyNew = true
 is_before_print (Behind have want) = true
 is_before_print (Forked batches) = true
 is_before_print BadProof = true

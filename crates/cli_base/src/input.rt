@@ -3,7 +3,7 @@ ghost use Rattle.std.specs.Prelude.{◌≡◌, [], List, ℕ, is_some};
 ghost use Rattle.cry_base.specs.declared.client.Bundle.{Bundle};
 ghost use Rattle.cry_io.specs.Told.{WhereBothTold};
 ghost use Rattle.cli_base.specs.Input as spec;
-ghost use Rattle.cli_base.specs.Input.{BeginsInput, EndsInput, InputFailsByCount, IsBehindBundle, ReadsInput};
+ghost use Rattle.cli_base.specs.Input.{BeginsInput, EndsInput, InputFailsByCount, IsBehindBundle, ReadsInput, ReadsOwner};
 ghost use Rattle.cli_base.specs.Lines.{input_limit};
 
 use crate::lines::{LineReader, Next, NextFault};
@@ -50,6 +50,24 @@ pub fn read_bundle_line<S: Source>(alloc: Global, input: &mut S) -> Result<Bundl
     };
     match end_of_input(alloc, &mut reader, input) {
         Ok(()) => Ok(bundle),
+        Err(fault) => Err(fault),
+    }
+}
+
+/// Reads a whole input, which is the one line of an owner: so it is read as that of any bundle, and a holder's line is bad too.
+pub fn read_owner_line<S: Source>(alloc: Global, input: &mut S) -> Result<[u8; 32], InputFault>
+    ensures told { is_some (S.left input.new) ≡ is_some (S.left input.old) }
+    ensures bytes { WhereBothTold (S.left input.old) (S.left input.new) (ReadsOwner result) }
+    ensures counts { InputFailsByCount result (S.faults input.old) (S.faults input.new) }
+{
+    let mut reader = LineReader::new(alloc);
+    let key = match first_bundle(alloc, &mut reader, input) {
+        Ok(Bundle::Owner { key }) => key,
+        Ok(Bundle::Holder { .. }) => return Err(InputFault::BadLine { line: 1 }),
+        Err(fault) => return Err(fault),
+    };
+    match end_of_input(alloc, &mut reader, input) {
+        Ok(()) => Ok(key),
         Err(fault) => Err(fault),
     }
 }

@@ -41,6 +41,10 @@ pub enum Status {
     NoHolder { known: u32 },
     /// Nothing that the key shows has this path.
     Unseen,
+    /// The store is of version 1, which is read and no longer written: `upgrade` makes it one of version 2.
+    NeedsUpgrade,
+    /// The store is of version 2 already.
+    AlreadyNew,
     /// The log has fewer batches than a head names: `have` of the `want`.
     Behind { have: u32, want: u32 },
     /// The log doesn't begin with the batches that a head over `batches` of them names.
@@ -71,6 +75,8 @@ impl Status {
             Status::NotBlank => 14,
             Status::NoHolder { .. } => 15,
             Status::Unseen => 16,
+            Status::NeedsUpgrade => 17,
+            Status::AlreadyNew => 18,
             Status::Behind { .. } => 19,
             Status::Forked { .. } => 20,
             Status::BadProof => 21,
@@ -105,6 +111,8 @@ pub fn fault_line(alloc: Global, status: &Status, out: &mut Text) -> Mem<()>
         Status::NotBlank => out.append(b"cryptree: not blank\n"),
         Status::NoHolder { known } => out.append(no_holder_line(alloc, *known)?.as_bytes()),
         Status::Unseen => out.append(b"cryptree: unseen\n"),
+        Status::NeedsUpgrade => out.append(b"cryptree: needs upgrade\n"),
+        Status::AlreadyNew => out.append(b"cryptree: already version 2\n"),
         Status::Behind { have, want } => out.append(behind_line(alloc, *have, *want)?.as_bytes()),
         Status::Forked { batches } => out.append(forked_line(alloc, *batches)?.as_bytes()),
         Status::BadProof => out.append(b"cryptree: bad proof\n"),

@@ -32,6 +32,8 @@ CheckGives old new typed (Err statuses.OutOfMemory) = ⊥
 CheckGives old new typed (Err statuses.NotBlank) = ⊥
 CheckGives old new typed (Err (statuses.NoHolder known)) = ⊥
 CheckGives old new typed (Err statuses.Unseen) = ⊥
+CheckGives old new typed (Err statuses.NeedsUpgrade) = ⊥
+CheckGives old new typed (Err statuses.AlreadyNew) = ⊥
 CheckGives old new typed (Err (statuses.Behind have want)) = ⊥
 CheckGives old new typed (Err (statuses.Forked batches)) = ⊥
 
@@ -54,5 +56,7 @@ TakesProof (statuses.Tampered batch at) typed left = ⊥
 TakesProof statuses.NotBlank typed left = ⊥
 TakesProof (statuses.NoHolder known) typed left = ⊥
 TakesProof statuses.Unseen typed left = ⊥
+TakesProof statuses.NeedsUpgrade typed left = ⊥
+TakesProof statuses.AlreadyNew typed left = ⊥
 TakesProof (statuses.Behind have want) typed left = ⊥
 TakesProof (statuses.Forked batches) typed left = ⊥

@@ -17,7 +17,7 @@ use Rattle.store_owner.specs.Owned.{IsOwnerOf, OwnerView}
 use Rattle.store_owner.specs.declared.apply_fault.ApplyFault.{ApplyFault}
 use Rattle.store_owner.specs.declared.apply_fault.ApplyFault.TheVariants as faults
 use Rattle.cli_base.specs.declared.status.Status.{Status}
-use Rattle.cli_base.specs.declared.status.Status.TheVariants.{Done, Usage, BadScript, ReadFault, NotAStore, Damaged, WrongKey, Tampered, WriteFault, DiskFault, RandomFault, RandomShort, OutOfMemory, NotBlank, NoHolder, Unseen, Behind, Forked, BadProof}
+use Rattle.cli_base.specs.declared.status.Status.TheVariants.{Done, Usage, BadScript, ReadFault, NotAStore, Damaged, WrongKey, Tampered, WriteFault, DiskFault, RandomFault, RandomShort, OutOfMemory, NotBlank, NoHolder, Unseen, NeedsUpgrade, AlreadyNew, Behind, Forked, BadProof}
 use Rattle.cli_sessions.specs.Sessions.{apply_status}
 use Rattle.cli_base.specs.Status.{is_before_draw, is_before_print, is_before_write, is_make_answer}
 use Rattle.cli_making.specs.Making.{EndsShort, IsShort, Makes}
@@ -118,6 +118,8 @@ done_or_no_memory OutOfMemory a b c d e f = inr refl
 done_or_no_memory NotBlank a b c d e f = absurd (b refl)
 done_or_no_memory (NoHolder known) a b c d e f = absurd (let no : false ≡ true = a in cc)
 done_or_no_memory Unseen a b c d e f = absurd (let no : false ≡ true = a in cc)
+done_or_no_memory NeedsUpgrade a b c d e f = absurd (let no : false ≡ true = a in cc)
+done_or_no_memory AlreadyNew a b c d e f = absurd (let no : false ≡ true = a in cc)
 done_or_no_memory (Behind have want) a b c d e f = absurd (let no : false ≡ true = a in cc)
 done_or_no_memory (Forked batches) a b c d e f = absurd (let no : false ≡ true = a in cc)
 done_or_no_memory BadProof a b c d e f = absurd (let no : false ≡ true = a in cc)

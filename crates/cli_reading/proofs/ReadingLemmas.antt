@@ -88,6 +88,8 @@ ends_behind unseen head statuses.RandomFault input typed left told is takes = ab
 ends_behind unseen head (statuses.RandomShort short need) input typed left told is takes = absurd (let no : false ≡ true = told in cc)
 ends_behind unseen head statuses.NotBlank input typed left told is takes = absurd (let no : false ≡ true = told in cc)
 ends_behind unseen head statuses.BadProof input typed left told is takes = absurd (let no : false ≡ true = told in cc)
+ends_behind unseen head statuses.NeedsUpgrade input typed left told is takes = absurd (let no : false ≡ true = told in cc)
+ends_behind unseen head statuses.AlreadyNew input typed left told is takes = absurd (let no : false ≡ true = told in cc)
 ends_behind unseen head statuses.OutOfMemory input typed left told is takes = record { decided = tt; answered = λ May before tells. tt; takes = tt }
 ends_behind unseen head statuses.DiskFault input typed left told is takes = record { decided = is; answered = λ May before tells. tt; takes = takes }
 ends_behind unseen head statuses.NotAStore input typed left told is takes =

@@ -1,5 +1,5 @@
 -- What a command answers that only reads a store. This project's own, docs/FORMAT.md, "Reading", and docs/PROGRAM.md, "The program".
-use Rattle.std.specs.Prelude.{◌≡◌, ℕ, List, [], ◌++◌, Option, Result, Ok, Err, IsOk}
+use Rattle.std.specs.Prelude.{◌≡◌, ℕ, List, [], ◌++◌, Option, Result, Ok, Err}
 use Rattle.cry_base.specs.Listed.{Listed}
 use Rattle.cry_base.specs.declared.client.Bundle.{Bundle}
 use Rattle.cry_io.specs.Reading.{IsOnlyRead}
@@ -11,6 +11,7 @@ use Rattle.trail_audit.specs.Derived.{IsToldOf}
 pub use Rattle.cli_base.specs.Answering.{AnswersAs, IsExactly}
 use Rattle.cli_base.specs.declared.status.Status.{Status}
 use Rattle.cli_base.specs.declared.status.Status.TheVariants as statuses
+pub use Rattle.cli_base.specs.Input.{InputDecides}
 use Rattle.cli_base.specs.Input.{IsUnjudged, TakesLines, input_answer}
 use Rattle.cli_heads.specs.Statuses.{EndsAs}
 use Rattle.cli_reading.specs.Statuses.{failure_status}
@@ -42,13 +43,6 @@ GivesText (Err fault) May = IsToldOf (λ failure. May (Err (failure_status failu
 abbrev pub TellsText : Result (Listed ℕ) Status → (Result (List ℕ) Status → Type 0) → Type 0
 TellsText (Ok text) May = May (Ok text.items)
 TellsText (Err status) May = EndsAs (λ s. May (Err s)) status
-
--- what the input decides, whatever the disk shows: a bad line is told, where it has one, unless it failed or memory was wanting first
-abbrev pub InputDecides : Status → Result Bundle ℕ → Type 0
-InputDecides (statuses.BadScript line) input = input ≡ Err line
-InputDecides statuses.ReadFault input = Unit {0}
-InputDecides statuses.OutOfMemory input = Unit {0}
-InputDecides _ input = IsOk input
 
 -- what was taken of the input: all of it at Done; no bad line before the source failed; else little behind the line at which the call
 -- ended, which is the bundle's where the store was read

@@ -2,7 +2,8 @@
 use Rattle.std.proofs.Common.{◌≡◌, ◌≢◌, ◌+◌, ◌<◌, ℕ, Bool, true, Option, None, Err, false, ap, arith, refl, subst}
 use Rattle.std.specs.Prelude.{IsTrue}
 use Rattle.std.proofs.lemmas.Bool.{false≢true, ne_eqb}
-use Rattle.cli_running.specs.Running.{Judges, is_after_opening, is_before_opening, is_run_answer}
+use Rattle.cli_running.specs.Running.{is_after_opening, is_before_opening, is_run_answer}
+use Rattle.cli_sessions.specs.Opening.{Judges}
 use Rattle.cli_sessions.specs.Sessions.{script_status}
 use Rattle.cli_sessions.specs.Script.{NumbersBad, ReadsByCount, WritesByCount}
 use Rattle.cli_sessions.specs.declared.script.ScriptFault.{ScriptFault}

@@ -15,44 +15,46 @@ use Rattle.cli_running.specs.Running.{FirstIsBad, is_run_answer}
 -- ---- which answers there are
 
 held_answer : (Is : Status → Type 0) → (Is statuses.Usage → ⊥) → (Is statuses.NotBlank → ⊥) → ((known : ℕ) → Is (statuses.NoHolder known) → ⊥)
-    → (Is statuses.Unseen → ⊥) → (Is statuses.BadProof → ⊥) → (status : Status) → Is status → IsTrue (is_held_run_answer status)
-held_answer Is usage blank holder unseen proof statuses.Done is = refl
-held_answer Is usage blank holder unseen proof statuses.Usage is = absurd (usage is)
-held_answer Is usage blank holder unseen proof (statuses.BadScript line) is = refl
-held_answer Is usage blank holder unseen proof statuses.ReadFault is = refl
-held_answer Is usage blank holder unseen proof statuses.WriteFault is = refl
-held_answer Is usage blank holder unseen proof statuses.DiskFault is = refl
-held_answer Is usage blank holder unseen proof statuses.RandomFault is = refl
-held_answer Is usage blank holder unseen proof (statuses.RandomShort left need) is = refl
-held_answer Is usage blank holder unseen proof statuses.NotAStore is = refl
-held_answer Is usage blank holder unseen proof (statuses.Damaged at) is = refl
-held_answer Is usage blank holder unseen proof statuses.WrongKey is = refl
-held_answer Is usage blank holder unseen proof (statuses.Tampered batch at) is = refl
-held_answer Is usage blank holder unseen proof statuses.OutOfMemory is = refl
-held_answer Is usage blank holder unseen proof statuses.NotBlank is = absurd (blank is)
-held_answer Is usage blank holder unseen proof (statuses.NoHolder known) is = absurd (holder known is)
-held_answer Is usage blank holder unseen proof statuses.Unseen is = absurd (unseen is)
-held_answer Is usage blank holder unseen proof (statuses.Behind have want) is = refl
-held_answer Is usage blank holder unseen proof (statuses.Forked batches) is = refl
-held_answer Is usage blank holder unseen proof statuses.BadProof is = absurd (proof is)
+    → (Is statuses.Unseen → ⊥) → (Is statuses.AlreadyNew → ⊥) → (Is statuses.BadProof → ⊥) → (status : Status) → Is status → IsTrue (is_held_run_answer status)
+held_answer Is usage blank holder unseen new proof statuses.Done is = refl
+held_answer Is usage blank holder unseen new proof statuses.Usage is = absurd (usage is)
+held_answer Is usage blank holder unseen new proof (statuses.BadScript line) is = refl
+held_answer Is usage blank holder unseen new proof statuses.ReadFault is = refl
+held_answer Is usage blank holder unseen new proof statuses.WriteFault is = refl
+held_answer Is usage blank holder unseen new proof statuses.DiskFault is = refl
+held_answer Is usage blank holder unseen new proof statuses.RandomFault is = refl
+held_answer Is usage blank holder unseen new proof (statuses.RandomShort left need) is = refl
+held_answer Is usage blank holder unseen new proof statuses.NotAStore is = refl
+held_answer Is usage blank holder unseen new proof (statuses.Damaged at) is = refl
+held_answer Is usage blank holder unseen new proof statuses.WrongKey is = refl
+held_answer Is usage blank holder unseen new proof (statuses.Tampered batch at) is = refl
+held_answer Is usage blank holder unseen new proof statuses.OutOfMemory is = refl
+held_answer Is usage blank holder unseen new proof statuses.NotBlank is = absurd (blank is)
+held_answer Is usage blank holder unseen new proof (statuses.NoHolder known) is = absurd (holder known is)
+held_answer Is usage blank holder unseen new proof statuses.Unseen is = absurd (unseen is)
+held_answer Is usage blank holder unseen new proof statuses.NeedsUpgrade is = refl
+held_answer Is usage blank holder unseen new proof statuses.AlreadyNew is = absurd (new is)
+held_answer Is usage blank holder unseen new proof (statuses.Behind have want) is = refl
+held_answer Is usage blank holder unseen new proof (statuses.Forked batches) is = refl
+held_answer Is usage blank holder unseen new proof statuses.BadProof is = absurd (proof is)
 
 pub first_is_answer : (status : Status) → FirstIsBad status → IsTrue (is_held_run_answer status)
-first_is_answer status = held_answer FirstIsBad (λ is. is) (λ is. is) (λ known is. is) (λ is. is) (λ is. is) status
+first_is_answer status = held_answer FirstIsBad (λ is. is) (λ is. is) (λ known is. is) (λ is. is) (λ is. is) (λ is. is) status
 
 pub test_is_answer : (status : Status) → IsTrue (is_test_answer status) → IsTrue (is_held_run_answer status)
 test_is_answer status =
     held_answer (λ s. IsTrue (is_test_answer s)) (λ is. false≢true is) (λ is. false≢true is) (λ known is. false≢true is) (λ is. false≢true is)
-    (λ is. false≢true is) status
+    (λ is. false≢true is) (λ is. false≢true is) status
 
 pub log_is_answer : (status : Status) → IsTrue (is_log_answer TheHead status) → IsTrue (is_held_run_answer status)
 log_is_answer status =
     held_answer (λ s. IsTrue (is_log_answer TheHead s)) (λ is. false≢true is) (λ is. false≢true is) (λ known is. false≢true is)
-    (λ is. false≢true is) (λ is. false≢true is) status
+    (λ is. false≢true is) (λ is. false≢true is) (λ is. false≢true is) status
 
 pub run_is_answer : (status : Status) → IsTrue (is_run_answer status) → IsTrue (is_held_run_answer status)
 run_is_answer status =
     held_answer (λ s. IsTrue (is_run_answer s)) (λ is. false≢true is) (λ is. false≢true is) (λ known is. false≢true is)
-    (λ is. false≢true is) (λ is. false≢true is) status
+    (λ is. false≢true is) (λ is. false≢true is) (λ is. false≢true is) status
 
 -- ---- a log that begins otherwise
 
@@ -76,6 +78,8 @@ other_log Is behind forked statuses.OutOfMemory tells is = absurd (false≢true 
 other_log Is behind forked statuses.NotBlank tells is = absurd (false≢true tells)
 other_log Is behind forked (statuses.NoHolder known) tells is = absurd (false≢true tells)
 other_log Is behind forked statuses.Unseen tells is = absurd (false≢true tells)
+other_log Is behind forked statuses.NeedsUpgrade tells is = absurd (false≢true tells)
+other_log Is behind forked statuses.AlreadyNew tells is = absurd (false≢true tells)
 other_log Is behind forked statuses.BadProof tells is = absurd (false≢true tells)
 
 module _ (head : Head) {S R D W : Type 0} (see : Senses S R D W) (status : Status) (before after : World S R D W) where

@@ -11,9 +11,11 @@ use Rattle.cry_io.proofs.ToldLemmas.{told_again}
 use Rattle.script_text.specs.Commands.{request_in}
 use Rattle.cli_base.specs.Input.{TakesLines}
 use Rattle.cli_base.specs.Lines.{InputLine, LineState, bytes_ahead, lines_ahead}
-use Rattle.cli_sessions.specs.Taking.{AreTaken, TakesOne}
+use Rattle.cli_sessions.specs.Taking.{AreTaken, HoldsFew, TakesOne}
+use Rattle.cli_sessions.proofs.Takings.{taken_few}
 use Rattle.cli_base.specs.Lines.InputLine.{Whole, TooLong}
-use Rattle.cli_running.specs.Running.{AnswersLines, CountsOwner, HasBadLine, PrintsAnswers, RanLines, TakesBehindFirst, TakesTo, line_ended, open_status}
+use Rattle.cli_running.specs.Running.{AnswersLines, CountsOwner, HasBadLine, PrintsAnswers, RanLines, TakesBehindFirst, TakesTo, line_ended}
+use Rattle.cli_sessions.specs.Opening.{open_status}
 use Rattle.cli_sessions.specs.Sessions.{ended_status, script_status}
 use Rattle.cli_sessions.specs.Script.{Answered, Asks, IsBadFirst, IsReading, Ran}
 use Rattle.cli_sessions.specs.Script.Answered.{Begun, Then}
@@ -245,6 +247,10 @@ module _ (lines : List ℕ → List InputLine) (typed written : Option (List ℕ
   unopened_lines opening.DiskFault = record { replies = []; one_each = refl; counted = tt; answered = λ b was. inl refl; printed = nothing_printed written }
   unopened_lines opening.OutOfMemory = none_without
 
+  -- it was, and needs an upgrade
+  pub none_of_old : Unasked statuses.NeedsUpgrade
+  none_of_old = record { replies = []; one_each = refl; counted = refl; answered = λ b was. none_asked b; printed = nothing_printed written }
+
   -- and little was taken behind the first line
   abbrev TakenUnasked : Option (List ℕ) → Status → Type 0
   TakenUnasked left status = WhereBothTold typed left (TakesTo (line_ended status 0))
@@ -267,6 +273,13 @@ module _ (lines : List ℕ → List InputLine) (typed written : Option (List ℕ
   unopened_taken left (opening.Tampered batch at) takes = takes
   unopened_taken left opening.DiskFault takes = λ x y was now. takes_more 1 2 x y (omega arith) (takes x y was now)
   unopened_taken left opening.OutOfMemory takes = λ x y was now. tt
+
+-- of an input that no more is taken of
+pub none_taken : (reader : LineState) (left : Option (List ℕ)) → HoldsFew reader
+    → WhereBothTold left left (TakesBehindFirst (bytes_ahead reader) (line_ended statuses.NeedsUpgrade 0))
+none_taken reader left few = λ before after was now front typed one are.
+    let same : after ≡ before = same_told left before after was now in
+    subst (λ rest. TakesLines 1 typed rest) (sym same) (taken_few 1 fresh_reader reader typed before (front, one, are) few)
 
 -- what the first line took of a whole input
 pub key_taken : (reader held : LineState) (typed left : List ℕ) → reader ≡ fresh_reader → AreTaken 1 reader held typed left → AreTaken 1 fresh_reader held typed left

@@ -4,7 +4,8 @@ use Rattle.cry_base.specs.Requests.{Request}
 use Rattle.cry_base.specs.declared.commands.Reply.{Reply}
 use Rattle.cry_io.specs.Told.{WhereBothTold}
 use Rattle.cli_base.specs.Lines.{InputLine, IsUnended, LineState, bytes_ahead, lines_ahead, lines_of}
-use Rattle.cli_running.specs.Running.{ReadsWhole, ReadsWholeTyped, lines_typed, open_status}
+use Rattle.cli_running.specs.Running.{ReadsWhole, ReadsWholeTyped, lines_typed}
+use Rattle.cli_sessions.specs.Opening.{open_status}
 use Rattle.cli_sessions.specs.Sessions.{script_status}
 use Rattle.cli_sessions.specs.Script.{Asks, Ran}
 use Rattle.cli_sessions.specs.Taking.{AreTaken, TakesNothing, TakesOne}

@@ -3,31 +3,26 @@ use Rattle.std.proofs.Common.{◌≡◌, ℕ, IsTrue, List, [], false, Option, N
 use Rattle.std.proofs.lemmas.Bool.{false≢true}
 use Rattle.commit_journal.specs.declared.fault.OpenFault.{OpenFault}
 use Rattle.commit_journal.specs.declared.fault.OpenFault.TheVariants as opening
-use Rattle.cry_base.specs.Limits.{most_file_bytes, most_store_bytes}
 use Rattle.cry_base.specs.declared.limits.Limits.{Limits}
-use Rattle.journal_bytes.specs.Journals.{IsSettled, ShowsJournal}
-use Rattle.journal_bytes.specs.Script.{opened}
+use Rattle.journal_bytes.specs.Journals.{ShowsJournal}
 use Rattle.cli_base.specs.Lines.{InputLine, LineState, lines_ahead}
 use Rattle.cry_io.specs.declared.streams.Source as source
 use Rattle.std.specs.Prelude.{is_some}
 use Rattle.cry_io.specs.Told.{WhereBothTold}
 use Rattle.cli_sessions.specs.Taking.{TakesOne}
 use Rattle.cli_running.specs.FirstLine.{HandedIn}
-use Rattle.cli_running.specs.Running.{CountsOwner, FirstIsBad, GivesOwner, Judges, is_after_opening, is_before_opening, is_run_answer, key_in_lines, lines_in, open_status}
+use Rattle.cli_running.specs.Running.{CountsOwner, FirstIsBad, GivesOwner, is_after_opening, is_before_opening, is_run_answer, key_in_lines, lines_in}
+use Rattle.cli_sessions.specs.Opening.{Judges, open_status}
+use Rattle.cli_sessions.proofs.StoreOpening.{seen_unopened, unopened}
 use Rattle.cli_sessions.proofs.RunEnds.{still_told}
-use Rattle.cli_sessions.specs.Sessions.{Ends, IsUnopened, Seen, script_status, version_limits}
+use Rattle.cli_sessions.specs.Sessions.{Ends, script_status}
 use Rattle.cli_sessions.specs.Script.{IsReading}
 use Rattle.cli_sessions.specs.declared.script.ScriptFault.{ScriptFault}
 use Rattle.cli_sessions.specs.declared.script.ScriptFault.TheVariants.{BadLine, ReadFault, WriteFault, OutOfMemory, Applying}
 use Rattle.cli_base.specs.declared.status.Status.{Status}
 use Rattle.cli_base.specs.declared.status.Status.TheVariants as statuses
-use Rattle.log_visits.specs.Asking.{OpenStore, failure_of, opened_store, verdict}
-use Rattle.log_visits.specs.Asking.Asking.{ToWrite}
 use Rattle.log_visits.specs.Judging.{Failure}
 use Rattle.public_fold.specs.Journal.{Journal}
-use Rattle.store_owner.specs.Opened.{IsFresh, IsOpenFault}
-use Rattle.store_owner.specs.Owned.{IsOwnerOf, OwnerView}
-use Rattle.store_owner.specs.Sessions.{StandsAt}
 use Rattle.cli_base.proofs.InputLemmas.{fresh_reader}
 
 -- what the first line gives, of an input that tells
@@ -53,14 +48,6 @@ bad_first_is_unjudged OutOfMemory reading before after gives key hands v = tt
 bad_first_is_unjudged WriteFault reading before after gives key hands v = absurd reading
 bad_first_is_unjudged (Applying fault) reading before after gives key hands v = absurd reading
 
--- what is told where nothing was drawn or printed
-abbrev pub seen_unopened : Option (List ℕ) → Option (List ℕ) → Option (List ℕ) → Option (List ℕ) → Seen
-seen_unopened left was shown written = record { left_before = left; left_after = left; was = was; shown = shown; written_before = written; written_after = written }
-
-unopened : (key : List ℕ) (m : Journal) (left was shown written : Option (List ℕ)) (KeepsTo : Journal → Type 0) → ShowsJournal key m shown → KeepsTo m
-    → IsUnopened key m (seen_unopened left was shown written) KeepsTo
-unopened key m left was shown written KeepsTo shows kept = record { undrawn = refl; shows_still = shows; unprinted = refl; kept = kept }
-
 -- the same, whether or not the input tells of itself
 pub first_line_is_bad : (fault : ScriptFault) → IsReading fault → (old new : ℕ) → CountsOwner (Err fault) old new → FirstIsBad (script_status fault)
 first_line_is_bad (BadLine line) reading old new count = count
@@ -85,24 +72,6 @@ key_is_given key before after gives none = absurd (none_is_none key (key_in_line
 pub same_key : (given key : List ℕ) (before after : List InputLine) → GivesOwner (Ok given) before after → key_in_lines before ≡ Some key → given ≡ key
 same_key given key before after gives hands = let both = sym gives.0 ∙ hands in cc
 
--- the bytes' verdict where the store isn't opened, and where it is
-judged : (fault : OpenFault) (wanted : Result OpenStore Failure) → IsOpenFault fault wanted → Judges (open_status fault) (failure_of wanted)
-unfolding failure_of
-judged opening.NotAStore wanted is = ap failure_of is
-judged opening.WrongKey wanted is = ap failure_of is
-judged (opening.Damaged at) wanted is = ap failure_of is
-judged (opening.Tampered batch at) wanted is = ap failure_of is
-judged opening.DiskFault wanted is = tt
-judged opening.OutOfMemory wanted is = tt
-
-pub unopened_is_judged : (fault : OpenFault) (key image : List ℕ) → IsOpenFault fault (opened_store key image) → Judges (open_status fault) (verdict (ToWrite key) image)
-unfolding verdict
-unopened_is_judged fault key image is = judged fault (opened_store key image) is
-
-pub opened_has_no_verdict : (key image : List ℕ) (s : OpenStore) → opened_store key image ≡ Ok s → verdict (ToWrite key) image ≡ None
-unfolding verdict failure_of
-opened_has_no_verdict key image s is = ap failure_of is
-
 -- a store that shows a journal isn't opened where the disk failed, or memory was wanting
 pub unopened_ends : (fault : OpenFault) → (fault ≡ opening.DiskFault) ⊎ (fault ≡ opening.OutOfMemory)
     → (limits : Limits) (key : List ℕ) (m : Journal) (lines : List InputLine) (left was shown written : Option (List ℕ)) (may_leave : List ℕ → Type 0)
@@ -113,18 +82,6 @@ unopened_ends fault why limits key m lines left was shown written may_leave Keep
     (λ (e : fault ≡ opening.DiskFault). subst (λ (f : OpenFault). Ends (open_status f) limits key m [] lines (seen_unopened left was shown written) may_leave KeepsTo) (sym e) (inl (refl, unopened key m left was shown written KeepsTo shows kept)))
     (λ (e : fault ≡ opening.OutOfMemory). subst (λ (f : OpenFault). Ends (open_status f) limits key m [] lines (seen_unopened left was shown written) may_leave KeepsTo) (sym e) (inl (refl, unopened key m left was shown written KeepsTo shows kept)))
     why
-
--- an owner who opened a journal's store stands where a session begins
-pub opened_stands : (key : List ℕ) (m : Journal) (o : OwnerView) (shown : Option (List ℕ)) (may_leave : List ℕ → Type 0) → IsOwnerOf m o
-    → IsFresh key most_store_bytes most_file_bytes o → IsSettled key m shown may_leave → StandsAt version_limits key (opened m []) o shown
-unfolding opened
-opened_stands key m o shown may_leave is fresh settled = record {
-  owner_is = is;
-  has_key = fresh.same_key;
-  has_limits = ap (λ n. let l : Limits = record { store_bytes = n; file_bytes = o.file_bytes } in l) fresh.limit ∙ ap (λ n. let l : Limits = record { store_bytes = most_store_bytes; file_bytes = n } in l) fresh.bound;
-  has_begun = fresh.not_begun;
-  disk_stands = (settled.shows.0, settled.shows.1, settled.shows.2.stands);
-}
 
 -- line 1 is bad where it hands in no key, and nowhere else
 pub first_alone : (fault : ScriptFault) → IsReading fault → (before after : List InputLine) → GivesOwner (Err fault) before after → script_status fault ≡ statuses.BadScript 1 → key_in_lines before ≡ None

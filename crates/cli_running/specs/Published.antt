@@ -3,14 +3,10 @@
 --
 -- Whoever reads the store while a run goes on reads what the disk shows then. A stop at that moment, or at any later one of the run, leaves
 -- all batches that this publishes; and so does what a stop may leave behind the run.
-use Rattle.std.specs.Prelude.{◌≡◌, ℕ, List, Option, Some}
-use Rattle.cli_running.specs.Running.{key_in_lines, lines_in}
-use Rattle.journal_bytes.specs.Journals.{ShowsJournal}
-use Rattle.public_fold.specs.Journal.{Journal}
-use Rattle.store_owner.specs.Published.{HasPublished, StaysPublished}
+use Rattle.std.specs.Prelude.{ℕ, List, Option}
+use Rattle.cli_running.specs.Running.{HandsInFirst}
+use Rattle.cli_sessions.specs.Published.{PublishesFor}
 
--- A whole run, whatever it ends with: no stop at a moment of it takes back what was published then, or at an earlier one. So it is for each
--- journal with the key that the first line hands in, where the disk showed it and no stop then took back what was published.
+-- so of a whole run, for each journal with the key that the first line hands in
 abbrev pub PublishesTyped : List ℕ → Option (List ℕ) → (List ℕ → Type 0) → ((List ℕ → List ℕ → Type 0) → Type 0) → Type 0
-PublishesTyped typed was could_leave from_then_on = (key : List ℕ) (m : Journal) → key_in_lines (lines_in typed) ≡ Some key
-    → ShowsJournal key m was → StaysPublished key was could_leave → from_then_on (HasPublished key)
+PublishesTyped typed was could_leave from_then_on = PublishesFor HandsInFirst typed was could_leave from_then_on

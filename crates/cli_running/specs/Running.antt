@@ -1,26 +1,23 @@
 -- What `run` answers, prints and leaves: on every disk, and on one that shows a journal. This project's own,
 -- docs/PROGRAM.md, "The program".
 use Rattle.std.specs.Prelude.{◌≡◌, ◌≤◌, ◌⊎◌, ℕ, ◌+◌, ◌==◌, nat_lt, Bool, true, false, List, [], ◌∷◌, ◌++◌, length, Option}
-use Rattle.std.specs.Prelude.{Some, None, Result, Ok, Err}
-use Rattle.commit_journal.specs.Answering.{Damaged, NotAStore, Tampered, WrongKey}
+use Rattle.std.specs.Prelude.{IsTrue, Some, None, Result, Ok, Err}
 use Rattle.cry_base.specs.Requests.{Request}
 use Rattle.cry_base.specs.declared.commands.Reply.{Reply}
 use Rattle.cry_io.specs.Told.{WhereTold, WhereBothTold}
 use Rattle.log_visits.specs.Asking.{verdict}
 use Rattle.log_visits.specs.Asking.Asking.{ToWrite}
-use Rattle.log_visits.specs.Judging.{Failure, OfBytes}
 use Rattle.public_fold.specs.Journal.{Journal}
 use Rattle.script_text.specs.Reading.{bundle_of}
 use Rattle.journal_bytes.specs.Journals.{ShowsJournal}
-use Rattle.cli_running.specs.KeyLine.{owner_key}
+use Rattle.cli_base.specs.Input.{owner_key}
 use Rattle.cli_base.specs.Input.{TakesLines}
 use Rattle.script_text.specs.Cutting.{IsOneLine}
 use Rattle.cli_base.specs.Lines.{AreOfLines, InputLine, input_limit, lines_of}
 use Rattle.cli_base.specs.Lines.InputLine.{Whole, TooLong}
+use Rattle.cli_sessions.specs.Opening.{IsOfVersion, Judges}
 use Rattle.cli_sessions.specs.Stopping.{KeepsUpTo}
 use Rattle.cli_sessions.specs.Script.{Asks, IsBadFirst, PrintsCut, spell_replies}
-use Rattle.commit_journal.specs.declared.fault.OpenFault.{OpenFault}
-use Rattle.commit_journal.specs.declared.fault.OpenFault.TheVariants as opening
 use Rattle.cli_sessions.specs.declared.script.ScriptFault.{ScriptFault}
 use Rattle.cli_sessions.specs.declared.script.ScriptFault.TheVariants as script
 use Rattle.cli_base.specs.declared.status.Status.{Status}
@@ -41,12 +38,17 @@ lines_behind (line ∷ lines) = lines
 abbrev pub lines_in : List ℕ → List InputLine
 lines_in typed = lines_of input_limit typed
 
+-- the first line of a whole input hands in this key
+abbrev pub HandsInFirst : List ℕ → List ℕ → Type 0
+HandsInFirst typed key = key_in_lines (lines_in typed) ≡ Some key
+
 -- how `run` may end
 abbrev pub is_run_answer : Status → Bool
 is_run_answer statuses.Usage = false
 is_run_answer statuses.NotBlank = false
 is_run_answer (statuses.NoHolder known) = false
 is_run_answer statuses.Unseen = false
+is_run_answer statuses.AlreadyNew = false
 is_run_answer (statuses.Behind have want) = false
 is_run_answer (statuses.Forked batches) = false
 is_run_answer statuses.BadProof = false
@@ -56,18 +58,6 @@ is_run_answer _ = true
 abbrev pub is_before_opening : Status → Bool
 is_before_opening (statuses.BadScript line) = line == 1
 is_before_opening _ = false
-
--- what the bytes of a store, opened for writing, have to do with how `run` ends: their verdict is answered exactly, unless something
--- outside failed first or memory was wanting
-abbrev pub Judges : Status → Option Failure → Type 0
-Judges statuses.NotAStore verdict = verdict ≡ Some (OfBytes NotAStore)
-Judges statuses.WrongKey verdict = verdict ≡ Some (OfBytes WrongKey)
-Judges (statuses.Damaged at) verdict = verdict ≡ Some (OfBytes (Damaged at))
-Judges (statuses.Tampered batch at) verdict = verdict ≡ Some (OfBytes (Tampered batch at))
-Judges statuses.ReadFault verdict = Unit {0}
-Judges statuses.DiskFault verdict = Unit {0}
-Judges statuses.OutOfMemory verdict = Unit {0}
-Judges _ verdict = verdict ≡ None
 
 -- the first line hands in this key, and the others are still to come; or it hands in none, and then it is line 1 that is bad
 abbrev pub GivesOwner : Result (List ℕ) ScriptFault → List InputLine → List InputLine → Type 0
@@ -83,15 +73,6 @@ CountsOwner (Ok key) old new = new ≡ old + 1
 CountsOwner (Err (script.BadLine line)) old new = line ≡ 1
 CountsOwner (Err _) old new = Unit {0}
 
--- and where the store isn't opened
-abbrev pub open_status : OpenFault → Status
-open_status opening.NotAStore = statuses.NotAStore
-open_status opening.WrongKey = statuses.WrongKey
-open_status (opening.Damaged at) = statuses.Damaged at
-open_status (opening.Tampered batch at) = statuses.Tampered batch at
-open_status opening.DiskFault = statuses.DiskFault
-open_status opening.OutOfMemory = statuses.OutOfMemory
-
 -- a first line that hands in no owner's key is bad, unless the input failed or memory was wanting first
 abbrev pub FirstIsBad : Status → Type 0
 FirstIsBad (statuses.BadScript line) = line ≡ 1
@@ -106,11 +87,18 @@ is_after_opening (statuses.BadScript line) = nat_lt 1 line
 is_after_opening statuses.WriteFault = true
 is_after_opening statuses.RandomFault = true
 is_after_opening (statuses.RandomShort given need) = true
+is_after_opening statuses.NeedsUpgrade = true
 is_after_opening _ = false
 
 -- what is answered, in the words of the verdict, to the bytes of a store under the key that the first line hands in
 abbrev pub JudgesTyped : Status → List ℕ → List ℕ → Type 0
 JudgesTyped status typed image = (key : List ℕ) → key_in_lines (lines_in typed) ≡ Some key → Judges status (verdict (ToWrite key) image)
+
+-- which version a store is of, where its bytes stand for a journal with that key: an upgrade is asked for where it is the first, and there
+-- alone; a line is answered where it is the second
+abbrev pub TellsVersion : Status → Option (List ℕ) → Option (List ℕ) → Type 0
+TellsVersion statuses.NeedsUpgrade typed shown = IsOfVersion HandsInFirst 1 typed shown
+TellsVersion status typed shown = IsTrue (is_after_opening status) → IsOfVersion HandsInFirst 2 typed shown
 
 -- how it ends for each journal with that key that the disk showed, with what a stop might leave before, at each moment since, and after
 abbrev pub EndsTyped : Status → List Request → List ℕ → Seen → (List ℕ → Type 0) → (List ℕ → List ℕ → Type 0) → (List ℕ → Type 0) → Type 0
@@ -129,7 +117,7 @@ lines_typed typed = lines_behind (lines_in typed)
 abbrev pub AsksNext : List Request → List InputLine → Type 0
 AsksNext asked lines = (next : Request) × (rest : List InputLine) × Asks (asked ++ next ∷ []) lines rest
 
--- how many lines were answered: none before the opening; and the bad line is the first of all, or the one behind those that were
+-- how many lines were answered: none before the opening, nor in a store that needs an upgrade; and the bad line is the first of all, or the one behind those that were
 -- answered
 abbrev pub CountsAnswered : Status → List Request → Type 0
 CountsAnswered (statuses.BadScript line) asked = (line ≡ 1) × (asked ≡ []) ⊎ (line ≡ length asked + 2)
@@ -137,6 +125,7 @@ CountsAnswered statuses.NotAStore asked = asked ≡ []
 CountsAnswered statuses.WrongKey asked = asked ≡ []
 CountsAnswered (statuses.Damaged at) asked = asked ≡ []
 CountsAnswered (statuses.Tampered batch at) asked = asked ≡ []
+CountsAnswered statuses.NeedsUpgrade asked = asked ≡ []
 CountsAnswered _ asked = Unit {0}
 
 -- which of these lines were answered: at Done all; before a bad one those before it; else the first ones, and behind them a fault
@@ -190,7 +179,7 @@ ReadsWholeTyped asked typed left =
 
 -- ---- how much of the input was taken
 
--- the number of the line at which it ended, where so many behind the first were answered: the first, where the store wasn't opened; the bad
+-- the number of the line at which it ended, where so many behind the first were answered: the first, where no other was asked for; the bad
 -- line; the one whose reply wasn't printed; or the one behind those that were answered. None where it read to the end, or nothing is said
 abbrev pub line_ended : Status → ℕ → Option ℕ
 line_ended statuses.Done answered = None

@@ -1,7 +1,7 @@
 //! The first line of `run`: the owner's.
 ghost use Rattle.std.specs.Prelude.{◌≡◌, ℕ, List, IsNone, IfSome};
 ghost use Rattle.script_text.specs.Reading.{IsOwnerLine, bundle_of};
-ghost use Rattle.cli_running.specs.KeyLine.{owner_key};
+ghost use Rattle.cli_base.specs.Input.{owner_key};
 
 use cry_base::Bundle;
 use script_text::read_bundle;

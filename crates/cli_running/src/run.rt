@@ -18,23 +18,23 @@ ghost use Rattle.cli_sessions.specs.Published.{LinesPublish};
 ghost use Rattle.cli_running.specs.FirstLine.{HandedIn};
 ghost use Rattle.cli_running.specs.Promises.Run.{RunEnds};
 ghost use Rattle.cli_running.specs.Published.{PublishesTyped};
-ghost use Rattle.cli_running.specs.Running as running;
-ghost use Rattle.cli_running.specs.Running.{CountsOwner, EndsTyped, FirstIsBad, GivesOwner, HasBadLine, Judges, JudgesTyped, RanLines};
+ghost use Rattle.cli_running.specs.Running.{CountsOwner, EndsTyped, FirstIsBad, GivesOwner, HandsInFirst, HasBadLine, JudgesTyped};
+ghost use Rattle.cli_running.specs.Running.{RanLines, TellsVersion};
 ghost use Rattle.cli_running.specs.Running.{ReadsWhole, ReadsWholeTyped, TakesBehindFirst, TakesTo, is_after_opening, is_before_opening};
 ghost use Rattle.cli_running.specs.Running.{is_run_answer, key_in_lines, line_ended, lines_in, lines_typed};
 ghost use Rattle.cli_sessions.specs.Sessions.{Ends, KeepsFrom, RanDry, seen_from, version_limits};
 ghost use Rattle.cli_sessions.specs.Script.{IsReading, ReadsByCount};
 ghost use Rattle.cli_sessions.specs.Stopping.{LinesKeepUpTo};
-ghost use Rattle.cli_sessions.specs.Taking.{TakesOne};
-ghost use Rattle.cli_running.specs.Unopened.{HasOpened, LeavesUnopened};
+ghost use Rattle.cli_sessions.specs.Taking.{HoldsFew, TakesOne};
+ghost use Rattle.cli_sessions.specs.Opening.{HasOpened, Judges, LeavesUnopened};
 
 use crate::key_line::read_owner;
 use cli_base::lines::{LineReader, Next, NextFault};
 use cli_base::status::Status;
 use cli_sessions::ends::script_status;
+use cli_sessions::opening::open_status;
 use cli_sessions::script::{ScriptFault, run_lines};
-use cli_sessions::version::LIMITS;
-use commit_journal::OpenFault;
+use cli_sessions::version::{LIMITS, OLD_VERSION};
 use cry_io::{Disk, Sink, Source};
 use std::alloc::Global;
 use std::mem;
@@ -42,7 +42,7 @@ use store_owner::Owner;
 
 /// Opens the store with the owner's key, which the first line hands in, and applies the commands of the other lines, each answered before
 /// the next is read. At `Done` all were; `BadScript` has the number of the line that is bad. `NotAStore`, `WrongKey`, `Damaged` and
-/// `Tampered` tell why the store wasn't opened. `RandomShort` has how many random bytes were left of those that a command needs.
+/// `Tampered` tell why the store wasn't opened; `NeedsUpgrade` that it was, and is of version 1. `RandomShort` has how many random bytes were left of those that a command needs.
 /// `ReadFault`, `RandomFault`, `DiskFault` and `WriteFault` tell what failed, and `OutOfMemory` that memory was wanting; what was
 /// answered stands.
 pub fn run<S: Source, R: Source, D: Disk, W: Sink>(
@@ -73,7 +73,10 @@ pub fn run<S: Source, R: Source, D: Disk, W: Sink>(
     ensures opening { let see = senses_of S.Source R.Source D.Disk W.Sink in
         let before = world_of input.old random.old disk.old out.old in
         let after = world_of input.new random.new disk.new out.new in
-        LeavesUnopened see result before after ⊎ HasOpened see result before after }
+        LeavesUnopened HandsInFirst see result before after
+        ⊎ HasOpened HandsInFirst Status.NeedsUpgrade 2 see result before after }
+    ensures version { TellsVersion result (S.left input.old) (D.shown disk.old) }
+    ensures unasked { result ≡ Status.NeedsUpgrade → (random.new ≡ random.old) × (out.new ≡ out.old) }
     ensures unopened { IsTrue (is_before_opening result) → (random.new ≡ random.old) × (disk.new ≡ disk.old) × (out.new ≡ out.old) }
     ensures read_fault { result ≡ Status.ReadFault → S.faults input.old < S.faults input.new }
     ensures random_fault { result ≡ Status.RandomFault → R.faults random.old < R.faults random.new }
@@ -157,7 +160,7 @@ pub(crate) fn first_owner<S: Source>(
     }
 }
 
-/// Applies the commands of the lines that are still to come, by the owner of the store that was opened.
+/// Applies the commands of the lines that are still to come, by the owner of the store that was opened. One of version 1 takes none.
 fn apply_lines<S: Source, R: Source, D: Disk, W: Sink>(
     alloc: Global,
     mut reader: LineReader,
@@ -178,7 +181,8 @@ fn apply_lines<S: Source, R: Source, D: Disk, W: Sink>(
     ensures time { GoesOn (D.moment disk.old) (D.since disk.old) (D.since disk.new) }
     ensures lines { (asked : List Request) × RanLines result asked (lines_ahead reader) (S.left input.old) (W.written out.old)
         (W.written out.new)
-        × WhereBothTold (S.left input.old) (S.left input.new) (TakesBehindFirst (bytes_ahead reader) (line_ended result (length asked)))
+        × (HoldsFew reader → WhereBothTold (S.left input.old) (S.left input.new)
+        (TakesBehindFirst (bytes_ahead reader) (line_ended result (length asked))))
         × (result ≡ Status.ReadFault → WhereBothTold (S.left input.old) (S.left input.new)
         (λ before after. ReadsWhole asked (lines_ahead reader before) (bytes_ahead reader before) after))
         × WhereTold (S.left input.old) (λ left. (key : List ℕ) (m : Journal) (was : Option (List ℕ)) →
@@ -188,6 +192,8 @@ fn apply_lines<S: Source, R: Source, D: Disk, W: Sink>(
         (D.may_leave disk.new) (LinesKeepUpTo key m (D.shown disk.old) (D.shown disk.new) (D.since disk.new (D.moment disk.old)))) }
     ensures short { (left need : ℕ) → result ≡ Status.RandomShort left need → RanDry left need (R.left random.old) (R.left random.new) }
     ensures none_of_bytes { (verdict : Option Failure) → verdict ≡ None → Judges result verdict }
+    ensures needs { result ≡ Status.NeedsUpgrade → (owner.state.keys.version ≡ 1) × (random.new ≡ random.old) × (out.new ≡ out.old) }
+    ensures new { result ≢ Status.NeedsUpgrade → owner.state.keys.version ≢ 1 }
     ensures read_to_end { result ≡ Status.Done → WhereTold (S.left input.new) (λ rest. rest ≡ []) }
     ensures stays { IsTrue (is_after_opening result) → IsDurable (D.may_leave disk.new) (D.shown disk.new) }
     ensures calm { result ≢ Status.DiskFault → IsDurable (D.may_leave disk.new) (D.shown disk.new) }
@@ -205,24 +211,15 @@ fn apply_lines<S: Source, R: Source, D: Disk, W: Sink>(
     ensures disk_counts { D.faults disk.old ≤ D.faults disk.new }
     ensures out_counts { W.faults out.old ≤ W.faults out.new }
 {
+    if owner.version() == OLD_VERSION {
+        mem::forget(owner);
+        return Status::NeedsUpgrade;
+    }
     let ran = run_lines(alloc, &mut reader, input, &mut owner, random, disk, out);
     // The program ends behind this: the system takes all memory back at once, and not a key and a name at a time.
     mem::forget(owner);
     match ran {
         Ok(()) => Status::Done,
         Err(fault) => script_status(fault),
-    }
-}
-
-fn open_status(fault: OpenFault) -> Status
-    ensures { result ≡ running.open_status fault }
-{
-    match fault {
-        OpenFault::NotAStore => Status::NotAStore,
-        OpenFault::WrongKey => Status::WrongKey,
-        OpenFault::Damaged { at } => Status::Damaged { at },
-        OpenFault::Tampered { batch, at } => Status::Tampered { batch, at },
-        OpenFault::DiskFault => Status::DiskFault,
-        OpenFault::OutOfMemory => Status::OutOfMemory,
     }
 }

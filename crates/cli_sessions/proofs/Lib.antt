@@ -1,8 +1,12 @@
 pub mod AnsweredScripts
+pub mod OpenedPublishing
+pub mod OwnerEnds
 pub mod OwnerStepLemmas
 pub mod PublishedLines
 pub mod RunEnds
 pub mod RunLemmas
 pub mod ScriptLemmas
 pub mod StopLemmas
+pub mod StoreOpening
 pub mod Takings
+pub mod Versions

@@ -1,3 +1,4 @@
+pub mod Opening
 pub mod OwnerSteps
 pub mod Published
 pub mod Script

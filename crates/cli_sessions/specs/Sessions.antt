@@ -161,7 +161,8 @@ pub record IsUnopened (key : List ℕ) (m : Journal) (seen : Seen) (KeepsTo : Jo
   pub kept : KeepsTo m
 
 -- How `run` ends on a disk that shows a journal, where the input tells and these commands were asked: at Done all lines were, before a bad
--- line those before it. What the bytes of a store answer comes on no such disk.
+-- line those before it; where the store needs an upgrade none was, as in a session that was asked nothing. What the bytes of a store answer
+-- comes on no such disk.
 abbrev pub Ends : Status → Limits → List ℕ → Journal → List Request → List InputLine → Seen → (List ℕ → Type 0) → (Journal → Type 0)
     → Type 0
 Ends statuses.Done limits key m asked lines seen may_leave KeepsTo =
@@ -169,6 +170,8 @@ Ends statuses.Done limits key m asked lines seen may_leave KeepsTo =
 Ends (statuses.BadScript line) limits key m asked lines seen may_leave KeepsTo =
     (rest : List InputLine) × IsBadFirst rest × (run : HasRun limits key m lines rest seen may_leave KeepsTo)
     × (line ≡ length run.asked + 2) × (run.asked ≡ asked)
+Ends statuses.NeedsUpgrade limits key m asked lines seen may_leave KeepsTo =
+    (asked ≡ []) × (run : HasRun limits key m lines lines seen may_leave KeepsTo) × (run.asked ≡ [])
 Ends statuses.ReadFault limits key m asked lines seen may_leave KeepsTo = (asked ≡ []) × IsUnopened key m seen KeepsTo
     ⊎ ((rest : List InputLine) × (run : HasRun limits key m lines rest seen may_leave KeepsTo) × (run.asked ≡ asked))
 Ends (statuses.RandomShort left need) limits key m asked lines seen may_leave KeepsTo =

@@ -2,6 +2,7 @@
 #![tactic(auto)]
 
 pub mod ends;
+pub mod opening;
 mod owner_steps;
 pub mod script;
 pub mod version;

@@ -6,3 +6,6 @@ pub const LIMITS: Limits = Limits {
     store_bytes: STORE_BYTES,
     file_bytes: FILE_BYTES,
 };
+
+/// The version of stores that were made before, which is read and no longer written.
+pub const OLD_VERSION: u8 = 1;

@@ -8,6 +8,8 @@ cryptree keeps shared folders in one store file, on a disk that nobody has to tr
   cryptree STORE RANDOM run         apply the commands of standard input, one a line behind the owner's line, and answer each:
                                     holder, mkdir PATH, write PATH HEX, rm PATH, rename PATH NAME, move PATH FOLDER,
                                     grant N PATH or revoke N PATH
+  cryptree STORE RANDOM upgrade     make a store of version 1, which run refuses, one of version 2, in which what leaves a folder is
+                                    closed at once; the owner's line is read from standard input, and readers need nothing new
   cryptree STORE RANDOM list        print what a key opens; the key's line is read from standard input: the owner's, as make
                                     prints it, or a holder's, as run answers holder
   cryptree STORE RANDOM open PATH   print the one line of it that has this path
@@ -35,6 +37,7 @@ a holder can't check the owner's tags: whoever writes the disk can hide things f
 exit status: 0 done, 2 usage, 3 bad line of input, 4 read fault, 5 write fault, 6 disk fault, 7 random fault,
              8 random too short, 9 not a store, 10 damaged, 11 wrong key, 12 tampered, 13 out of memory,
              14 the store's file isn't empty, 15 no such holder, 16 nothing that the key opens has the path,
+             17 the store is of version 1: upgrade it before run, 18 it is of version 2 already,
              19 behind: an older store was put back, or another copy was read; ask for the newest copy, and write on neither,
              20 forked: somebody wrote another history than the one that the head is of,
              21 bad proof: between these two heads somebody wrote another history

@@ -15,6 +15,8 @@ pub enum Form {
     Make,
     /// `STORE RANDOM run`, or with a head behind it
     Run { head: Option<Head> },
+    /// `STORE RANDOM upgrade`
+    Upgrade,
     /// `STORE RANDOM list`, or with a head behind it
     List { head: Option<Head> },
     /// `STORE RANDOM audit`, or with a head behind it
@@ -84,6 +86,8 @@ fn command_of(word: &Text) -> Option<Form>
         Some(Form::Make)
     } else if word.as_slice() == b"run".as_slice() {
         Some(Form::Run { head: None })
+    } else if word.as_slice() == b"upgrade".as_slice() {
+        Some(Form::Upgrade)
     } else if word.as_slice() == b"list".as_slice() {
         Some(Form::List { head: None })
     } else if word.as_slice() == b"audit".as_slice() {

@@ -48,6 +48,8 @@ filled_by (statuses.Tampered batch at) seed count key m seen may_leave KeepsTo b
 filled_by statuses.NotBlank seed count key m seen may_leave KeepsTo before after valid run = absurd run
 filled_by (statuses.NoHolder known) seed count key m seen may_leave KeepsTo before after valid run = absurd run
 filled_by statuses.Unseen seed count key m seen may_leave KeepsTo before after valid run = absurd run
+filled_by statuses.NeedsUpgrade seed count key m seen may_leave KeepsTo before after valid run = absurd run
+filled_by statuses.AlreadyNew seed count key m seen may_leave KeepsTo before after valid run = absurd run
 filled_by (statuses.Behind have want) seed count key m seen may_leave KeepsTo before after valid run = absurd run
 filled_by (statuses.Forked batches) seed count key m seen may_leave KeepsTo before after valid run = absurd run
 filled_by statuses.BadProof seed count key m seen may_leave KeepsTo before after valid run = absurd run

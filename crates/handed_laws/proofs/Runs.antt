@@ -139,6 +139,8 @@ module _ (key : List ℕ) (m : Journal) (m_valid : IsValid m) (lines : List Inpu
   reached_by keys statuses.NotBlank asked run = absurd run
   reached_by keys (statuses.NoHolder known) asked run = absurd run
   reached_by keys statuses.Unseen asked run = absurd run
+  reached_by keys statuses.NeedsUpgrade asked run = absurd run
+  reached_by keys statuses.AlreadyNew asked run = absurd run
   reached_by keys (statuses.Behind have want) asked run = absurd run
   reached_by keys (statuses.Forked batches) asked run = absurd run
   reached_by keys statuses.BadProof asked run = absurd run
@@ -161,6 +163,8 @@ module _ (key : List ℕ) (m : Journal) (m_valid : IsValid m) (lines : List Inpu
   stopped_by statuses.NotBlank run = absurd run
   stopped_by (statuses.NoHolder known) run = absurd run
   stopped_by statuses.Unseen run = absurd run
+  stopped_by statuses.NeedsUpgrade run = absurd run
+  stopped_by statuses.AlreadyNew run = absurd run
   stopped_by (statuses.Behind have want) run = absurd run
   stopped_by (statuses.Forked batches) run = absurd run
   stopped_by statuses.BadProof run = absurd run

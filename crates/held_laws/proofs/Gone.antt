@@ -103,6 +103,8 @@ module _ (key : List ℕ) (m : Journal) (m_valid : IsValid m) (lines : List Inpu
   gone_by keys statuses.NotBlank asked run = absurd run
   gone_by keys (statuses.NoHolder known) asked run = absurd run
   gone_by keys statuses.Unseen asked run = absurd run
+  gone_by keys statuses.NeedsUpgrade asked run = absurd run
+  gone_by keys statuses.AlreadyNew asked run = absurd run
   gone_by keys (statuses.Behind have want) asked run = absurd run
   gone_by keys (statuses.Forked batches) asked run = absurd run
   gone_by keys statuses.BadProof asked run = absurd run

@@ -166,6 +166,8 @@ module _ (key : List ℕ) (l h m : Journal) (left_before left_after was shown wr
   left_by statuses.NotBlank asked run = absurd run
   left_by (statuses.NoHolder known) asked run = absurd run
   left_by statuses.Unseen asked run = absurd run
+  left_by statuses.NeedsUpgrade asked run = absurd run
+  left_by statuses.AlreadyNew asked run = absurd run
   left_by (statuses.Behind have want) asked run = absurd run
   left_by (statuses.Forked batches) asked run = absurd run
   left_by statuses.BadProof asked run = absurd run

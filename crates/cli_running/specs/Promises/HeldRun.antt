@@ -29,6 +29,7 @@ is_held_run_answer statuses.Usage = false
 is_held_run_answer statuses.NotBlank = false
 is_held_run_answer (statuses.NoHolder known) = false
 is_held_run_answer statuses.Unseen = false
+is_held_run_answer statuses.AlreadyNew = false
 is_held_run_answer statuses.BadProof = false
 is_held_run_answer _ = true
 

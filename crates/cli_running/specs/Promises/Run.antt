@@ -4,8 +4,9 @@
 -- behind the first are answered in their order, up to a bad one or a fault, and these answers are what is printed. The random source is
 -- said to end only where it did, in a command's draw. Of the input no more is taken than to the end of the line at which the call ends,
 -- and at most 65,536 bytes past it; at a read fault each whole line that it gave was asked. All of this speaks of the same commands. Either
--- the store was opened: under the key of the first line its bytes pass every test. Or, whatever the answer, nothing was drawn or printed,
--- and at each moment of the call the file is as it was, but for slots that a stop had left without their keys (specs/Unopened).
+-- the store was opened: under the key of the first line its bytes pass every test, and then it is of version 2, or the answer is that it needs an
+-- upgrade, and nothing was asked, drawn or printed. Or, whatever the answer, nothing was drawn or printed,
+-- and at each moment of the call the file is as it was, but for slots that a stop had left without their keys (`cli_sessions`: specs/Opening).
 --
 -- On a disk that shows a journal it ends as that journal's session does, whatever it ends with, and whether or not the random source tells
 -- what it has: there are keys for the accepted commands with which the session goes so. With the same keys it is said what a stop may
@@ -18,10 +19,11 @@ use Rattle.cry_base.specs.Requests.{Request}
 use Rattle.cry_io.specs.Stops.{IsDurable}
 use Rattle.cry_io.specs.Told.{WhereTold, WhereBothTold}
 use Rattle.cli_running.specs.Published.{PublishesTyped}
-use Rattle.cli_running.specs.Running.{EndsTyped, FirstIsBad, HasBadLine, JudgesTyped, RanLines, ReadsWholeTyped, TakesTo, is_after_opening}
+use Rattle.cli_running.specs.Running.{EndsTyped, FirstIsBad, HandsInFirst, HasBadLine, JudgesTyped, RanLines, ReadsWholeTyped, TakesTo}
+use Rattle.cli_running.specs.Running.{TellsVersion, is_after_opening}
 use Rattle.cli_running.specs.Running.{is_before_opening, is_run_answer, key_in_lines, line_ended, lines_in, lines_typed}
 use Rattle.cli_sessions.specs.Sessions.{RanDry, seen_between}
-use Rattle.cli_running.specs.Unopened.{HasOpened, LeavesUnopened}
+use Rattle.cli_sessions.specs.Opening.{HasOpened, LeavesUnopened}
 use Rattle.cli_base.specs.World.{Senses, World}
 use Rattle.cli_base.specs.declared.status.Status.{Status}
 use Rattle.cli_base.specs.declared.status.Status.TheVariants as statuses
@@ -34,6 +36,7 @@ pub record RunEnds {S R D W : Type 0} (see : Senses S R D W) (status : Status) (
   pub key_line : status ≡ statuses.BadScript 1 → WhereTold (see.inputs.left before.input) (λ typed. key_in_lines (lines_in typed) ≡ None)
   pub judged : WhereTold (see.inputs.left before.input) (λ typed. WhereTold (see.disks.shown before.disk) (λ image.
       JudgesTyped status typed image))
+  pub version : TellsVersion status (see.inputs.left before.input) (see.disks.shown before.disk)
   pub bad_line : WhereTold (see.inputs.left before.input) (λ typed. HasBadLine (lines_typed typed) → status ≢ statuses.Done)
   pub short : (left need : ℕ) → status ≡ statuses.RandomShort left need
       → RanDry left need (see.randoms.left before.random) (see.randoms.left after.random)
@@ -52,5 +55,6 @@ pub record RunEnds {S R D W : Type 0} (see : Senses S R D W) (status : Status) (
   pub later : see.disks.moment before.disk ≤ see.disks.moment after.disk
   pub time : GoesOn (see.disks.moment before.disk) (see.disks.since before.disk) (see.disks.since after.disk)
   pub stays : IsTrue (is_after_opening status) → IsDurable (see.disks.may_leave after.disk) (see.disks.shown after.disk)
-  pub opening : LeavesUnopened see status before after ⊎ HasOpened see status before after
+  pub opening : LeavesUnopened HandsInFirst see status before after ⊎ HasOpened HandsInFirst statuses.NeedsUpgrade 2 see status before after
+  pub unasked : status ≡ statuses.NeedsUpgrade → after ≡ record before { input = after.input; disk = after.disk }
   pub unopened : IsTrue (is_before_opening status) → after ≡ record before { input = after.input }

@@ -1,6 +1,6 @@
 use Rattle.std.proofs.Common.{◌≡◌, None, Some, refl, ap, subst, sym, ◌∙◌}
 use Rattle.script_text.specs.Reading.{bundle_of}
-use Rattle.cli_running.specs.KeyLine.{owner_key}
+use Rattle.cli_base.specs.Input.{owner_key}
 use Rattle.cli_base.specs.Lines.{Gives, Takes, bytes_ahead, lines_ahead}
 use Rattle.cli_running.specs.Running.{key_in_lines, lines_behind}
 use Rattle.cli_base.specs.declared.lines.Next.TheVariants.{End, Line, PastLimit}

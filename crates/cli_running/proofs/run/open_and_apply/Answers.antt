@@ -10,9 +10,10 @@ use Rattle.journal_bytes.specs.Bytes.{image_of}
 use Rattle.journal_bytes.specs.Journals.{StandsForJournal}
 use Rattle.cli_base.specs.Lines.{lines_ahead}
 use Rattle.cli_sessions.specs.Sessions.{Ends, KeepsFrom, Seen, version_limits}
-use Rattle.cli_running.specs.Running.{is_after_opening, is_before_opening, is_run_answer, Judges, RanLines, TakesTo, line_ended, lines_behind, lines_in, lines_typed, open_status}
+use Rattle.cli_running.specs.Running.{is_after_opening, is_before_opening, is_run_answer, RanLines, TakesTo, line_ended, lines_behind, lines_in, lines_typed}
+use Rattle.cli_sessions.specs.Opening.{Judges, open_status}
 use Rattle.cli_running.proofs.LinesRun.{bad_is_never_done, key_taken, lines_as_typed, unopened_lines, unopened_taken}
-use Rattle.cli_running.proofs.PublishedRuns.{opened_publishes}
+use Rattle.cli_sessions.proofs.OpenedPublishing.{opened_publishes}
 use Rattle.cli_running.proofs.ReadFaults.{cut_behind, unopened_reads_none}
 use Rattle.cli_sessions.proofs.RunEnds.{still_told}
 use Rattle.cli_sessions.specs.Stopping.{KeepsUpTo, LinesKeepUpTo}
@@ -20,7 +21,12 @@ use Rattle.cli_running.proofs.EndsMapped.{ends_more}
 use Rattle.cli_sessions.proofs.StopLemmas.{kept_opened, kept_unopened, time_still, told_stands}
 use Rattle.public_fold.specs.Journal.{Journal}
 use Rattle.store_owner.specs.Published.{HasPublished, StaysPublished}
-use Rattle.cli_running.proofs.RunOpening.{handed_lines, not_first, unopened_answers, unopened_isnt_behind, unopened_isnt_done, unopened_isnt_first, key_is_given, not_before, opened_has_no_verdict, opened_stands, same_key, seen_unopened, unopened_draws_none, unopened_ends, unopened_is_judged, unopened_is_no_line}
+use Rattle.cli_base.specs.World.{world_of}
+use Rattle.cli_sessions.proofs.Versions.{KeepsVersion, owners_version}
+use Rattle.cli_running.specs.Running.{HandsInFirst}
+use Rattle.cli_running.proofs.RunVersions.{second_version, tells_version, unopened_needs_none, unopened_tells_none}
+use Rattle.cli_running.proofs.RunOpening.{handed_lines, not_first, unopened_answers, unopened_isnt_behind, unopened_isnt_done, unopened_isnt_first, key_is_given, not_before, same_key, unopened_draws_none, unopened_ends, unopened_is_no_line}
+use Rattle.cli_sessions.proofs.StoreOpening.{opened_has_no_verdict, opened_stands, seen_unopened, unopened_is_judged}
 use Rattle.cli_base.proofs.InputLemmas.{fresh_reader}
 use Rattle.cli_sessions.proofs.Takings.{taken_few}
 use Rattle.log_visits.specs.Asking.{verdict}
@@ -48,6 +54,7 @@ returns-in-Err-clause-runs g c = λ input took.
           subst (λ status. Judges status (verdict (ToWrite key) image)) (sym c.open_status.ensures)
           (subst (λ k. Judges (open_status c.in-Err.fault) (verdict (ToWrite k) image)) same
           (unopened_is_judged c.in-Err.fault c.args.key image (c.in-Err.ensures.largest refl image shown)));
+      version = unopened_tells_none c.in-Err.fault c.open_status.result (g.S.Source.left input) (g.D.Disk.shown c.args.disk.now) c.open_status.ensures;
       bad_line = bad_is_never_done c.open_status.result [] lines_typed (g.S.Source.left input) _ _ lines;
       short = λ left need is. unopened_draws_none c.in-Err.fault left need (sym c.open_status.ensures ∙ is);
       asked = [];
@@ -105,6 +112,7 @@ returns-in-Err-clause-runs g c = λ input took.
               },
             );
           });
+      unasked = λ is. unopened_needs_none c.in-Err.fault (sym c.open_status.ensures ∙ is);
       unopened = λ is. unopened_isnt_first c.in-Err.fault (subst (λ status. IsTrue (is_before_opening status)) c.open_status.ensures is);
     }
 
@@ -118,6 +126,14 @@ returns-in-Ok-clause-runs g c = λ input took.
     (g.W.Sink.written c.args.out.now) (g.W.Sink.written c.apply_lines.new.out) took.told
     (λ x y was now. (took.gives x y was now).1)
     told.1 in
+    let of_journal : KeepsVersion HandsInFirst (g.S.Source.left input) (g.D.Disk.shown c.args.disk.now) c.in-Ok.owner.state.keys.version =
+    λ x was key m hands shows.
+    let after = handed x was in
+    let same = same_key c.args.key key (lines_in x) (lines_ahead c.args.reader after.0) after.2 hands in
+    let stands = subst (λ k. StandsForJournal k m shows.0) (sym same) shows.2 in (
+      stands.valid,
+      owners_version m c.in-Ok.owner (c.in-Ok.ensures.stands m shows.0 shows.1 stands stands.valid.1),
+    ) in
     record {
       answers = c.apply_lines.ensures.answers;
       first_line = λ x was none.
@@ -132,6 +148,8 @@ returns-in-Ok-clause-runs g c = λ input took.
           let opens = c.in-Ok.ensures.largest refl image shown in
           c.apply_lines.ensures.none_of_bytes (verdict (ToWrite key) image)
           (subst (λ k. verdict (ToWrite k) image ≡ None) same (opened_has_no_verdict c.args.key image opens.0 opens.1));
+      version = tells_version c.apply_lines.result (g.S.Source.left input) (g.D.Disk.shown c.args.disk.now) c.in-Ok.owner.state.keys.version
+          (λ is. (c.apply_lines.ensures.needs is).0) c.apply_lines.ensures.new of_journal;
       bad_line = bad_is_never_done c.apply_lines.result told.0 lines_typed (g.S.Source.left input) _ _ lines;
       short = c.apply_lines.ensures.short;
       asked = told.0;
@@ -140,7 +158,7 @@ returns-in-Ok-clause-runs g c = λ input took.
           let after = handed x was in
           let one = took.takes x after.0 was after.1 in
           let first = key_taken fresh_reader c.args.reader x after.0 refl one.0 in
-          told.2 after.0 y after.1 now first.0 x first.1 first.2;
+          told.2 one.1 after.0 y after.1 now first.0 x first.1 first.2;
       read_to_end = c.apply_lines.ensures.read_to_end;
       read_whole_lines = λ is x y was now.
           let after = handed x was in
@@ -218,6 +236,12 @@ returns-in-Ok-clause-runs g c = λ input took.
             );
         unrefused = c.apply_lines.ensures.none_of_bytes None refl;
         settled = c.apply_lines.ensures.calm;
+        suits = λ other. second_version (g.S.Source.left input) (g.D.Disk.shown c.args.disk.now) c.in-Ok.owner.state.keys.version
+            (c.apply_lines.ensures.new other) of_journal;
       });
+      unasked = λ is.
+          let kept = c.apply_lines.ensures.needs is in
+          ap (λ random. world_of c.apply_lines.new.input random c.apply_lines.new.disk c.apply_lines.new.out) kept.1
+          ∙ ap (λ out. world_of c.apply_lines.new.input c.args.random.now c.apply_lines.new.disk out) kept.2;
       unopened = λ is. not_first c.apply_lines.result c.apply_lines.ensures.not_first is;
     }

@@ -1,16 +1,19 @@
 use Rattle.std.proofs.Common.{inl, [], Err, refl, sym, ap, subst, ◌∙◌}
 use Rattle.cry_io.specs.Told.{WhereBothTold}
 use Rattle.cli_base.specs.Lines.{lines_ahead}
+use Rattle.cli_base.specs.World.{World}
 use Rattle.cli_sessions.specs.Sessions.{Ends, version_limits}
-use Rattle.cli_running.specs.Running.{FirstIsBad, Judges, RanLines, TakesTo, line_ended, lines_behind, lines_in, lines_typed}
+use Rattle.cli_running.specs.Running.{FirstIsBad, RanLines, TakesTo, line_ended, lines_behind, lines_in, lines_typed}
+use Rattle.cli_sessions.specs.Opening.{Judges}
 use Rattle.cli_running.proofs.LinesRun.{bad_is_never_done, unread_lines, unread_taken}
-use Rattle.cli_running.proofs.PublishedRuns.{unread_publishes}
+use Rattle.cli_sessions.proofs.OpenedPublishing.{unread_publishes}
 use Rattle.cli_running.proofs.ReadFaults.{cut_first}
 use Rattle.cli_sessions.proofs.RunEnds.{still_told}
 use Rattle.cli_sessions.specs.Stopping.{KeepsUpTo}
 use Rattle.cli_sessions.proofs.StopLemmas.{kept_unread, time_still}
 use Rattle.public_fold.specs.Journal.{Journal}
-use Rattle.cli_running.proofs.RunOpening.{handed, bad_first_is_unjudged, first_alone, first_ends, first_is_bad, gives_first, reading_draws_none, seen_unopened}
+use Rattle.cli_running.proofs.RunOpening.{handed, bad_first_is_unjudged, first_alone, first_ends, first_is_bad, gives_first, reading_draws_none}
+use Rattle.cli_sessions.proofs.StoreOpening.{seen_unopened}
 use Rattle.log_visits.specs.Asking.{verdict}
 use Rattle.log_visits.specs.Asking.Asking.{ToWrite}
 use Rattle.cli_running.proofs.run.run.Goals as goal
@@ -152,3 +155,15 @@ returns-clause-lines g c =
     let ends = c.open_and_apply.ensures.runs c.args.input.now (handed g.S.Source c.in-Ok.key c.new-reader.result c.first_owner.new.reader
     c.args.input.now c.first_owner.new.input c.new-reader.ensures c.in-Ok.ensures.told c.in-Ok.ensures.gives c.in-Ok.ensures.takes) in
     (ends.asked, ends.lines, ends.takes, ends.read_whole_lines, ends.ran)
+
+pub returns-clause-version : goal.returns-clause-version
+returns-clause-version g c =
+    (c.open_and_apply.ensures.runs c.args.input.now (handed g.S.Source c.in-Ok.key c.new-reader.result c.first_owner.new.reader c.args.input.now
+    c.first_owner.new.input c.new-reader.ensures c.in-Ok.ensures.told c.in-Ok.ensures.gives c.in-Ok.ensures.takes)).version
+
+pub returns-clause-unasked : goal.returns-clause-unasked
+returns-clause-unasked g c = λ is.
+    let whole =
+    (c.open_and_apply.ensures.runs c.args.input.now (handed g.S.Source c.in-Ok.key c.new-reader.result c.first_owner.new.reader c.args.input.now
+    c.first_owner.new.input c.new-reader.ensures c.in-Ok.ensures.told c.in-Ok.ensures.gives c.in-Ok.ensures.takes)).unasked is in
+    (ap (λ (w : World g.row.S.Denot g.row.R.Denot g.row.D.Denot g.row.W.Denot). w.random) whole, ap (λ (w : World g.row.S.Denot g.row.R.Denot g.row.D.Denot g.row.W.Denot). w.out) whole)

@@ -1,4 +1,4 @@
--- What a whole run publishes: no stop takes it back.
+-- What a whole call publishes that opens a store, or leaves it alone: no stop takes it back.
 use Rattle.std.proofs.Common.{◌≡◌, ℕ, List, Option, Some}
 use Rattle.batch_log.specs.Moments.{FromThenOn}
 use Rattle.batch_log.specs.Moments.InSteps.{Begins}
