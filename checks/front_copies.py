@@ -9,6 +9,8 @@ import stat
 import sys
 import time
 
+import harness
+import store_reader
 from front_calls import FRONT, expect_told, front, keys_of
 from front_keys import done, fresh, key_file, modes
 from harness import read
@@ -87,10 +89,12 @@ def lost_keys(check):
 
 
 def taken_in(check, version):
-    """A store of this version that was made without the front end, taken in by its owner's key."""
+    """A store of this version that was made without the front end, taken in by its owner's key, and upgraded where it has to be."""
     store, line = check.make(f"version{version}.store", os.urandom(192), version)
+    (_, printed, _), image = check.write(read(store), store_reader.read_bundle(line).key, b"holder\n", os.urandom(32))
+    store = check.put(f"version{version}.store", image)
     os.chmod(store, 0o600)
-    key, holder = check.put("core.owner", line), check.put("core.holder", check.call([store, "/dev/urandom", "run"], line + b"holder\n")[1])
+    key, holder = check.put("core.owner", line), check.put("core.holder", printed)
     keys = os.path.join(check.folder, f"keys_of_version{version}")
     expect_told(check, "adopt without a key", front(check, store, "adopt", keys=keys), 2, "--key FILE")
     os.chmod(key, 0o644)
@@ -105,8 +109,27 @@ def taken_in(check, version):
     done(check, "adopt", front(check, store, "adopt", "--key", key, keys=keys))
     check.expect("the key that was taken in", (read(key_file_in(keys, store)), modes(keys)), (line, {0o700, 0o600}))
     expect_told(check, "adopt twice", front(check, store, "adopt", "--key", key, keys=keys), 1, "in the key folder already")
+    if version != harness.MADE_VERSION:
+        upgraded(check, store, keys)
+    check.expect("upgrade of version 2", done(check, "upgrade", front(check, store, "upgrade", keys=keys)).endswith(b"already\n"), True)
     done(check, "it's written", front(check, store, "holder", "add", "ann", keys=keys))
     of_any_version(check, store, keys)
+
+
+def upgraded(check, store, keys):
+    """A store of version 1 is read, copied and made anew; what would write it tells what to do, and leaves it and the key folder."""
+    folder, before = os.path.join(check.folder, "old.in"), read(store)
+    os.mkdir(folder)
+    for words in (("holder", "add", "ann"), ("put", folder, "/new"), ("grant", "ann", "/")):
+        came = front(check, store, *words, keys=keys)
+        expect_told(check, f"{words[0]} over version 1", came, 1, "no holder is called" if words[0] == "grant" else "with upgrade")
+    left = sorted(os.listdir(os.path.dirname(key_file_in(keys, store))))
+    check.expect("what these leave", (read(store) == before, left), (True, ["holders.json", "last", "owner.key"]))
+    check.expect("ls over version 1", done(check, "ls", front(check, store, "ls", keys=keys)), b"")
+    done(check, "renew of version 1", front(check, store, "renew", store + ".new", keys=keys))
+    done(check, "written anew", front(check, store + ".new", "put", folder, "/new", keys=keys))
+    printed, end = done(check, "upgrade", front(check, store, "upgrade", keys=keys)), len(before) - 1
+    check.expect("upgrade", (b"version 2" in printed, read(store)[:end] == before[:end], len(read(store)) > len(before)), (True,) * 3)
 
 
 def of_any_version(check, store, keys):

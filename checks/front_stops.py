@@ -1,4 +1,4 @@
-"""The front end killed at each of its steps, in init, holder add, put, get, renew and restore: what stands then, and what doing it again
+"""The front end killed at each of its steps, in init, holder add, put, get, upgrade, renew and restore: what stands then, and what doing it again
 comes to.
 
 A step is what changes a file, a folder or a lock, begins a program, or sends it a line. The front end runs in a process that is forked
@@ -99,9 +99,30 @@ def all_stops(check):
     holders(check, store)
     puts(check, store)
     gets(check, store)
+    upgrades(check)
     copies(check, small(check))
     units.PART_SIZE = size
     check.expect("modes of keys after all stops", modes(keys_of(check)), {0o700, 0o600})
+
+
+def upgrades(check):
+    """A store of version 1 is upgraded by the next one, and written then."""
+    store, line = check.make("stops.old", os.urandom(192), 1)
+    key, last = check.put("stops.key", line), os.path.join(keys_of(check), harness.read(store)[9:41].hex(), "last")
+    os.chmod(key, 0o600)
+    check.expect("adopt", called(check, [store, "adopt", "--key", key])[0], 0)
+    before = {path: harness.read(path) for path in (store, last)}
+
+    def stands(_, __):
+        return ends(check, store, "upgrade") + ends(check, store, "holder", "add", "ann")
+
+    def again(_):
+        for path, data in before.items():
+            check.put(path, data)
+        for name in ("ann.key", "holders.json"):
+            os.remove(os.path.join(os.path.dirname(last), name))
+
+    stops(check, "upgrade", lambda number: [store, "upgrade"], stands, again)
 
 
 def small(check):

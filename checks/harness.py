@@ -6,11 +6,14 @@ import subprocess
 import sys
 import tempfile
 
+import store_reader
 from store_reader import Bundle, bundle_line
 from store_writer import Writer
 
-MADE_VERSION = 2  # of the stores that the program makes
-READ_VERSIONS = (1, 2)  # of those that it reads and writes
+MADE_VERSION = 2  # of the stores that the program makes, and that `run` writes
+READ_VERSIONS = (1, 2)  # of those that it reads; `upgrade` makes one of version 2 of one of version 1
+NEEDS_UPGRADE = 17, b"", b"cryptree: needs upgrade\n"  # what `run` answers over version 1
+ALREADY_NEW = 18, b"", b"cryptree: already version 2\n"  # what `upgrade` answers over version 2
 
 
 class Check:
@@ -58,10 +61,19 @@ class Check:
         """What `audit` answers to this key over the store's file."""
         return self.call([store, "-", "audit"], bundle_line(bundle))
 
-    def run(self, image, typed, random):
-        """The answer of `run` to this input over a store of these bytes, with these random ones, and what it leaves."""
+    def run(self, image, typed, random, command="run"):
+        """The answer of `run`, or `upgrade`, to this input over a store of these bytes, with these random ones, and what it leaves."""
         store = self.put("store", image)
-        return self.call([store, self.put("random", random), "run"], typed), read(store)
+        return self.call([store, self.put("random", random), command], typed), read(store)
+
+    def write(self, image, owner, lines, random):
+        """How these lines end over a store of either version, each of which is done: as `run` answers them, or where it writes no store of
+        this version, as store_writer.py does. With it what they leave."""
+        if store_reader.version(image, owner) == MADE_VERSION:
+            return self.run(image, bundle_line(Bundle(0, owner)) + lines, random)
+        writer = Writer.over(image, owner)
+        replies = writer.session(random, lines.decode().splitlines())
+        return (0, "".join(reply + "\n" for reply in replies).encode(), b""), writer.image
 
     def expect(self, what, came, due):
         self.expect_one_of(what, came, [due])

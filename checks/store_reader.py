@@ -18,7 +18,7 @@
     audit      in place of these records all that right links lead to from the key, whenever they were written
 
 Checks import it: `answers` gives what `list` and `open` answer, `audits` what `audit` may answer, `opened_to_write` what `run` does with
-the owner's line alone.
+the owner's line alone, and `upgrade` before it writes its batches.
 """
 import functools
 import hmac
@@ -81,6 +81,11 @@ def no_holder(known):
 
 def unseen():
     return Fault(16, "unseen")
+
+
+def not_wanted(version):
+    """The store has another version than this one, which the command asks for."""
+    return Fault(17, "needs upgrade") if version == 2 else Fault(18, "already version 2")
 
 
 # sealing
@@ -478,8 +483,8 @@ def answer(reading, path):
         return fault.answer
 
 
-def opened_to_write(image, owner):
-    """What opening for writing answers, and the bytes that it leaves."""
+def opened_to_write(image, owner, wanted=2):
+    """What a command answers that opens the store for writing and asks for this version, and the bytes that the opening leaves."""
     left = image
     try:
         test_header(image, owner)
@@ -492,9 +497,16 @@ def opened_to_write(image, owner):
         reading.list()
         for number in range(1, len(state.checks) + 1):
             reading.text(KEY_OF_HOLDER, number)
+        if state.version != wanted:
+            raise not_wanted(wanted)
     except Fault as fault:
         return fault.answer, left
     return (0, b"", b""), left
+
+
+def version(image, owner):
+    """The version of a store that opens for writing."""
+    return followed(log(image, owner, writing=True))[0].version
 
 
 def with_slots(image, owner, batches):

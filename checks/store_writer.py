@@ -7,7 +7,7 @@ from collections import namedtuple
 from key_step import (BYTES_OF_FILE, DROP_FILE, DROP_FOLDER, GIVE, HOLDER, KEY_OF_HOLDER, NAME_FILE, NAME_FOLDER, NEW_FILE, NEW_FOLDER,
                       NEW_HOLDER, OWNER, REWRITE, ROOT, SHIFT_FILE, SHIFT_FOLDER, STRICT_ROOT, TAKE, UPGRADE, State, sealing_role, source,
                       target)
-from store_reader import Bundle, Reading, be32, followed, log, mac, owner_tag, xored
+from store_reader import Bundle, Reading, be32, followed, log, mac, opened_to_write, owner_tag, xored
 
 COMMAND, EPOCH = 1, 2  # the types of batches
 ROOTS = {1: ROOT, 2: STRICT_ROOT}  # the note of `make`, by the version
@@ -110,7 +110,7 @@ class Writer:
         return self.publish(line, TAKE, [int(number), self.find(path).number])
 
     def upgrade(self, line):
-        """No line of the program's: nothing writes this note yet."""
+        """No line of the program's, but a command of its own, in a session of its own."""
         return self.publish(line, UPGRADE, [])
 
     # paths
@@ -177,6 +177,16 @@ class Writer:
         check = mac(key, masked)
         self.tag = owner_tag(self.owner, self.tag, head, masked, check)
         self.image = self.image[:-1] + b"\1" + head + key + masked + check + self.tag + b"\0"
+
+
+def upgraded(image, owner, random):
+    """What `upgrade` answers over a store of these bytes, with these random ones, and the bytes that it leaves."""
+    answer, left = opened_to_write(image, owner, 1)
+    if answer != (0, b"", b""):
+        return answer, left
+    writer = Writer.over(left, owner)
+    writer.session(random, ["upgrade"])
+    return (0, b"ok\n", b""), writer.image + left[len(writer.image):]
 
 
 def be64(number):

@@ -11,7 +11,7 @@ from system_trace import STRACE, Deeds, Opened
 AHEAD = 65_536  # how many bytes behind the line at which a call ends may be taken
 SYNCED = ("synced",)
 STORE, RANDOM = "STORE", "RANDOM"  # stand for files of the run's own
-ACCESS = {"make": ("O_RDWR", "O_CREAT"), "gen": ("O_RDWR", "O_CREAT"), "run": ("O_RDWR",)}
+ACCESS = {"make": ("O_RDWR", "O_CREAT"), "gen": ("O_RDWR", "O_CREAT"), "run": ("O_RDWR",), "upgrade": ("O_RDWR",)}
 TO_READ = ("O_RDONLY",)
 FULL, FOLDER = "/dev/full", "/"
 SAYS = {"done": (0, b""), "usage": (2, b"cryptree: usage\n"), "bad script": (3, b"cryptree: bad script line %d\n"),
@@ -21,7 +21,8 @@ SAYS = {"done": (0, b""), "usage": (2, b"cryptree: usage\n"), "bad script": (3, 
         "damaged": (10, b"cryptree: damaged at %d\n"), "wrong key": (11, b"cryptree: wrong key\n"),
         "tampered": (12, b"cryptree: tampered batch %d at %d\n"), "out of memory": (13, b"cryptree: out of memory\n"),
         "not blank": (14, b"cryptree: not blank\n"), "no holder": (15, b"cryptree: no holder, %d known\n"),
-        "unseen": (16, b"cryptree: unseen\n")}
+        "unseen": (16, b"cryptree: unseen\n"), "needs upgrade": (17, b"cryptree: needs upgrade\n"),
+        "already new": (18, b"cryptree: already version 2\n")}
 
 # how far the input is read: not at all; to its end; to a fault behind all of it; else the number of a line, to its end and not much further
 NONE, WHOLE, FAULT = "none", "whole", "fault"

@@ -1,7 +1,7 @@
 """The worked sessions: stores of given random bytes, each over one that an earlier session left, in both versions.
 
-The program has to leave what store_writer.py leaves. Where a SHA-256 value stands here, two other programs that were written from the
-formats alone computed the image.
+The program has to leave what store_writer.py leaves, and where a store has version 1 its `run` leaves it as it is. Where a SHA-256 value
+stands here, two other programs that were written from the formats alone computed the image.
 """
 import copy
 import hashlib
@@ -18,11 +18,12 @@ FRESH = {1: "9c7fff8de5440ff5ca4397c046c6026c3aeb5ce9956eb764031bdeb4706a61e6",
          2: "f278a25705eb68934808a075d6daaffa97dc8029ed3baadf364b4aa0f1a3ed2d"}  # by the version
 FALLING = bytes(255 - i % 256 for i in range(1024))  # the random bytes of each session
 
-# the lines of a session with their replies, how many random bytes they draw, and the size of what is left; the versions that it's for, each
-# with the SHA-256 value, if others computed it; what is shown of it, and what an audit shows, first to the owner and then to each holder;
-# and whether the program has these lines
-Row = namedtuple("Row", "name before text drawn size digests views audits is_asked", defaults=(True,))
-Store = namedtuple("Store", "image bundles")  # what is left, and the line of each key, the owner's first
+# the lines of a session with their replies, of which `upgrade` is a command; how many random bytes they draw, and the size of what is left;
+# the versions that it's for, each with the SHA-256 value, if others computed it; what is shown of it, and what an audit shows, first to the
+# owner and then to each holder
+Row = namedtuple("Row", "name before text drawn size digests views audits")
+# what is left, the line of each key, the owner's first, and the version
+Store = namedtuple("Store", "image bundles version", defaults=(harness.MADE_VERSION,))
 
 OWNER_KEY = SEED[:32]
 OWNER = b"owner " + OWNER_KEY.hex().encode() + b"\n"
@@ -122,7 +123,7 @@ ROWS = (
         ("folder 2 1  | folder 4 2 a | folder 5 3 b | file 6 1 x 00", "folder 2 1  | folder 4 2 a")),
     Row("upgraded", "grant", "upgrade -> ok", 256, 4159, {1: "70b459b2592ebfedf6505907057a29043996fb6d3b557828e747c89a43c821f5"},
         ("folder / | folder /a | file /a/x 00ff", "ancestor / | folder /a | file /a/x 00ff"),
-        ("folder 2 1  | folder 4 2 a | file 5 1 x 00ff",) * 2, False),
+        ("folder 2 1  | folder 4 2 a | file 5 1 x 00ff",) * 2),
     Row("departure after the upgrade", "upgraded", """
         mkdir /b -> ok
         move /a/x /b -> ok
@@ -148,24 +149,36 @@ def rows(version):
     return [row for row in ROWS if version in row.digests]
 
 
+def asked(row):
+    """The command that does a session, and its input."""
+    lines, _ = session(row.text)
+    return ("upgrade", OWNER) if lines == b"upgrade\n" else ("run", OWNER + lines)
+
+
+def is_refused(row, version):
+    """Whether the program doesn't do a session over a store of this version."""
+    return version != harness.MADE_VERSION and asked(row)[0] == "run"
+
+
 def stores(check, version=harness.MADE_VERSION):
-    """The store of this version that each session leaves, by its name, made by the program: each answer is one of those that the check
-    expects."""
+    """The store of this version that each session leaves, by its name, made by the writer, and by the program where it may: each answer is
+    one of those that the check expects."""
     image, writer = made_fresh(check, version)
-    made, writers = {"fresh": Store(image, [Bundle(0, OWNER_KEY)])}, {"fresh": writer}
+    made, writers = {"fresh": Store(image, [Bundle(0, OWNER_KEY)], version)}, {"fresh": writer}
     for row in rows(version):
         lines, replies = session(row.text)
-        due = writers[row.name] = copy.deepcopy(writers[row.before])
+        before, due = made[row.before], copy.deepcopy(writers[row.before])
+        writers[row.name] = due
         told = due.session(FALLING[:row.drawn], lines.decode().splitlines())
         came = ("".join(line + "\n" for line in told).encode(), due.random, len(due.image), digest(due.image))
         check.expect(f"{row.name}, by the writer", came,
                      (replies, b"", row.size, row.digests[version] or digest(due.image)))
-        image = due.image
-        if row.is_asked:
-            came, image = check.run(made[row.before].image, OWNER + lines, FALLING[:row.drawn])
-            check.expect(row.name, (came, digest(image)), ((0, replies, b""), digest(due.image)))
+        command, typed = asked(row)
+        came, left = check.run(before.image, typed, FALLING[:row.drawn], command)
+        answer = (harness.NEEDS_UPGRADE, before.image) if is_refused(row, before.version) else ((0, replies, b""), due.image)
+        check.expect(f"{row.name}, by {command}", (came, digest(left)), (answer[0], digest(answer[1])))
         holders = [store_reader.read_bundle(reply) for reply in replies.splitlines() if reply.startswith(b"holder")]
-        made[row.name] = Store(image, made[row.before].bundles + holders)
+        made[row.name] = Store(due.image, before.bundles + holders, due.state.version)
     return made
 
 

@@ -66,6 +66,14 @@ class Damaged(Fault):
     """Bytes of the store have no form."""
 
 
+class NeedsUpgrade(Fault):
+    """The store is of version 1, and isn't written before it's upgraded."""
+
+
+class AlreadyNew(Fault):
+    """The store is to be upgraded, and is of version 2 already."""
+
+
 class NoSpace(Fault):
     """The disk is full."""
 

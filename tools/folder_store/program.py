@@ -4,7 +4,7 @@ import re
 import shutil
 import subprocess
 
-from folder_store.faults import Damaged, Fault, Hostile, NoSpace, NotAStore, Tampered, WrongKey
+from folder_store.faults import AlreadyNew, Damaged, Fault, Hostile, NeedsUpgrade, NoSpace, NotAStore, Tampered, WrongKey
 
 RANDOM = "/dev/urandom"     # an ordinary file would give the first holder the owner's key
 INPUT_LIMIT = 67_108_864    # bytes that one session takes, the owner's line among them
@@ -62,8 +62,16 @@ def answer(store, command, key_line, lock):
         raise fault(store, process.returncode, said)
 
 
+def upgraded(store, owner_line, lock):
+    """The reply to the owner who makes a store one of version 2: `ok`, or a refusal."""
+    status, printed, said = asked(store, ["upgrade"], lock, owner_line.encode("ascii") + b"\n")
+    if status:
+        raise fault(store, status, said)
+    return printed.decode("ascii").rstrip("\n")
+
+
 def asked(store, command, lock, typed=b""):
-    """The status of a question that needs no key, what it printed and what it said."""
+    """The status of a call that is typed at once, what it printed and what it said."""
     with start(store, *command, stdin=subprocess.PIPE, pass_fds=(lock,)) as process:
         printed, said = process.communicate(typed)
     return process.returncode, printed, said
@@ -168,6 +176,8 @@ def fault(store, status, said):
         13: (Fault, f"there was no memory for what {store} holds: free some, and do it again"),
         15: (WrongKey, f"{store} has no such holder ({said}): the key is another store's, or this is an older copy of the store"),
         16: (Fault, "nothing that the key opens has this path: check it with ls"),
+        17: (NeedsUpgrade, f"{store} is of version 1, which can be read, and isn't written any more: make it one of version 2 with upgrade"),
+        18: (AlreadyNew, f"{store} is of version 2 already: there's nothing to do"),
     }
     if status in kinds:
         kind, text = kinds[status]

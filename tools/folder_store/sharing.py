@@ -1,11 +1,11 @@
-"""What makes stores and holders, and who is let to read: the commands init, adopt, holder, grant and revoke."""
+"""What makes stores and holders, and who is let to read: the commands init, adopt, upgrade, holder, grant and revoke."""
 import json
 import os
 
 from folder_store import room
 from folder_store import store as stores
 from folder_store.entry import opened
-from folder_store.faults import BadWords, Fault, Refused
+from folder_store.faults import AlreadyNew, BadWords, Fault, Refused
 from folder_store.keys import checked_name, read_key
 from folder_store.names import core_path
 from folder_store.private import NewFile
@@ -15,6 +15,7 @@ from folder_store.who import granted_to
 def add_commands(add):
     add("init", init, "makes a new store, and its owner's key in the key folder")
     add("adopt", adopt, "takes in a store that was made without this program, or whose key folder is gone, by the owner's key in --key")
+    add("upgrade", upgrade, "makes a store of version 1, which can be read alone, one of version 2; its keys and grants stay")
     words = add("holder", holder, "makes a holder, with a key file to hand over, or takes in one that has a key")
     words.add_argument("what", metavar="add|adopt", choices=["add", "adopt"], help="adopt: the holder whose key is in --key FILE")
     words.add_argument("name", metavar="NAME")
@@ -43,6 +44,17 @@ def adopt(words):
     keys = stores.take_in(words.store, words.keys, read_key(words.key, words.key), not words.no_wait, words.accept)
     tell(words, f"took in {words.store} as the newest that there is; its owner's key is in {keys.path} now, and its holders get names with "
          "holder adopt", store=os.path.abspath(words.store), keys=keys.path)
+
+
+def upgrade(words):
+    """Done twice, the second one finds it done."""
+    with opened(words, writes=True) as store:
+        try:
+            store.upgrade()
+            text = f"made {words.store} one of version 2: it can be written, and what leaves a folder is closed to later readers"
+        except AlreadyNew:
+            text = f"{words.store} is of version 2 already"
+    tell(words, text, store=os.path.abspath(words.store), version=2)
 
 
 def holder(words):

@@ -8,7 +8,8 @@ import tempfile
 from typing import NamedTuple
 
 from folder_store import places, private, program, room
-from folder_store.faults import BadKey, Damaged, Fault, Hostile, Locked, NoStore, NotAStore, Refused, Tampered, WrongKey, warn
+from folder_store.faults import (AlreadyNew, BadKey, Damaged, Fault, Hostile, Locked, NeedsUpgrade, NoStore, NotAStore, Refused, Tampered,
+                                 WrongKey, warn)
 from folder_store.holders import Holders
 from folder_store.keys import KeyFolder, read_key
 from folder_store.last import Last
@@ -16,7 +17,7 @@ from folder_store.names import real_path, shown
 from folder_store.progress import followed
 
 TOLD, COPY = "told", "copy"     # how one that may be older is read: told that it is, or as a copy that is known to be one
-UNOPENED = (NotAStore, Damaged, WrongKey, Tampered)     # what a session tells that ends before it takes a line
+UNOPENED = (NotAStore, Damaged, WrongKey, Tampered, NeedsUpgrade, AlreadyNew)     # what tells that nothing was written
 MAGIC, IDENTITY_AT, HEADER = b"CRYPTREE\1", 9, 42
 NAME = rb"(?!\.\.?(?:[/ ]|\Z))[A-Za-z0-9._-]{1,64}"
 LISTED = re.compile(rb"(?:(folder|ancestor) (/|(?:/" + NAME + rb")+)|(file) ((?:/" + NAME + rb")+) ([0-9a-f]*))")
@@ -168,10 +169,28 @@ class Store:
         try:
             session.end()
         finally:
-            if isinstance(session.failure, UNOPENED):
-                self.last.unmark()
-            else:
-                room.tell(self.path, self.last.write())
+            self.keep_what_is_left(session.failure)
+
+    def keep_what_is_left(self, failure):
+        """Keeps what a writing left that ended so: with None where nothing failed."""
+        if isinstance(failure, UNOPENED):
+            self.last.unmark()
+        else:
+            room.tell(self.path, self.last.write())
+
+    def upgrade(self):
+        """Makes the store one of version 2; AlreadyNew where it is one."""
+        failure = None
+        self.last.mark()
+        try:
+            reply = program.upgraded(self.path, self.owner.line, self.handle)
+        except Fault as cause:
+            failure = cause
+            raise
+        finally:
+            self.keep_what_is_left(failure)
+        if reply != "ok":
+            raise Refused("upgrade", reply, 0)
 
 
 def opened(path, writes):
