@@ -22,7 +22,7 @@ pub fn sessions_take_nothing_back()
 {}
 
 /// Law: over every list of calls and stops, whatever is left stands for a journal that begins with the first one, and with each
-/// command that any of the runs acknowledged.
+/// command that any of the runs acknowledged, and each upgrade that was.
 pub fn stops_leave_what_was_acknowledged<D: Disk>(start: &D, now: &D)
     ensures { (key : List ℕ) (m1 m2 : Journal) → HoldsBetween key m1 m2 (D.shown start.now) (D.may_leave start.now) →
         (runs : Runs D.Disk key start.now now.now) →
@@ -31,7 +31,8 @@ pub fn stops_leave_what_was_acknowledged<D: Disk>(start: &D, now: &D)
 {}
 
 /// Law: over every list of calls and stops, whatever a stop leaves behind them stands for a journal of theirs: it begins with the first one
-/// and has each command that any of the runs acknowledged; and it has nothing but commands that the runs accepted, in their order.
+/// and has each command that any of the runs acknowledged, and each upgrade that was; and it has nothing but commands and upgrades that
+/// were accepted, in their order.
 pub fn stops_leave_nothing_but_accepted_commands<D: Disk>(start: &D, now: &D)
     ensures { (key : List ℕ) (m1 m2 : Journal) → HoldsBetween key m1 m2 (D.shown start.now) (D.may_leave start.now) →
         (runs : Runs D.Disk key start.now now.now) (bytes : List ℕ) → D.may_leave now.now bytes →
