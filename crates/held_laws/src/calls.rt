@@ -15,8 +15,8 @@ ghost use Rattle.held_laws.specs.Held.{IsRunUnder};
 use cry_io::{Disk, Sink, Source};
 
 /// Law: a call of `run` with a head, whose first line hands in the owner's key, over a disk that shows a journal of that key and has
-/// nothing pending, leaves the store as it is; or it is a run under this head over what the disk showed, whatever log the head names and whatever
-/// may be left behind the call.
+/// nothing pending, leaves the store as it is; or it is a run under this head over what the disk showed, whatever log the head names and
+/// whatever may be left behind the call.
 pub fn runs_with_heads_are_held<S: Source, R: Source, D: Disk, W: Sink>()
     ensures { (head : Head) (owner typed : List ℕ) (status : Status) (before after : World S R D W) →
         S.left before.input ≡ Some typed → key_in_lines (lines_in typed) ≡ Some owner →
