@@ -76,7 +76,7 @@ module _ (limits : Limits) (key : List ℕ) (m : Journal) (lines : List InputLin
   ends_more statuses.NotBlank asked run = absurd run
   ends_more (statuses.NoHolder known) asked run = absurd run
   ends_more statuses.Unseen asked run = absurd run
-  ends_more statuses.NeedsUpgrade asked run = absurd run
+  ends_more statuses.NeedsUpgrade asked run = (run.0, has_run lines run.1, run.2)
   ends_more statuses.AlreadyNew asked run = absurd run
   ends_more (statuses.Behind have want) asked run = absurd run
   ends_more (statuses.Forked batches) asked run = absurd run

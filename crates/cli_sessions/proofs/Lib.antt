@@ -1,5 +1,6 @@
 pub mod AnsweredScripts
 pub mod OpenedPublishing
+pub mod OwnerEnds
 pub mod OwnerStepLemmas
 pub mod PublishedLines
 pub mod RunEnds

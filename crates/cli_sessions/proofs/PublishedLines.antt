@@ -27,6 +27,7 @@ use Rattle.cli_sessions.proofs.RunLemmas.{Fails, IsCounted, IsPresent, Step, res
 use Rattle.cli_sessions.proofs.StopLemmas.{goes_grow, time_still}
 use Rattle.store_owner.specs.Applying.{Answers}
 use Rattle.store_owner.specs.Drawing.{joined}
+use Rattle.store_owner.specs.Deeds.{Deed}
 use Rattle.store_owner.specs.Deeds.Deed.{Commanded}
 use Rattle.store_owner.specs.Owned.{OwnerView}
 use Rattle.store_owner.specs.Published.{HasPublished, published_batches}
@@ -48,19 +49,19 @@ keyed_rests : (given key : List ℕ) (m : Journal) (shown : Option (List ℕ)) (
 keyed_rests given key m shown may_leave same rests = subst (λ k. RestsAt k m shown may_leave) (sym same) rests
 
 -- a call that kept a journal
-kept_has : (key : List ℕ) (low high reached : Journal) (since : List ℕ → List ℕ → Type 0) → Kept key low high reached since → KeepsBatches key low since
+pub kept_has : (key : List ℕ) (low high reached : Journal) (since : List ℕ → List ℕ → Type 0) → Kept key low high reached since → KeepsBatches key low since
 kept_has key low high reached since kept s c at =
     let k = kept s c at in
     subst (IsPrefix (batches_of key low)) (sym (journal_recovered key k.held c k.stands_for)) (batches_grow key low k.held k.from)
 
 -- a command that met a fault kept the one that the owner stood for
-failed_has : (fault : ApplyFault) (m : Journal) (r : Request) (old new : OwnerView) (left_before left_after was shows : Option (List ℕ)) (might may : List ℕ → Type 0) (since : List ℕ → List ℕ → Type 0)
-    → Answers (Err fault) m (Commanded r) old new left_before left_after was shows might may since → RestsAt old.key m was might → KeepsBatches old.key m since
-failed_has faults.RandomFault m r old new left_before left_after was shows might may since met rests = kept_has old.key m m m since (met.2.stops.kept rests)
-failed_has (faults.RandomShort left need) m r old new left_before left_after was shows might may since met rests = kept_has old.key m m m since (met.6.stops.kept rests)
-failed_has faults.DiskFault m r old new left_before left_after was shows might may since met rests = kept_has old.key m _ _ since (met.2.stops.kept rests)
-failed_has faults.Closed m r old new left_before left_after was shows might may since met rests = kept_has old.key m m m since (met.2.stops.kept rests)
-failed_has faults.OutOfMemory m r old new left_before left_after was shows might may since met rests = kept_has old.key m m m since (met.1.stops.kept rests)
+pub failed_has : (fault : ApplyFault) (m : Journal) (d : Deed) (old new : OwnerView) (left_before left_after was shows : Option (List ℕ)) (might may : List ℕ → Type 0) (since : List ℕ → List ℕ → Type 0)
+    → Answers (Err fault) m d old new left_before left_after was shows might may since → RestsAt old.key m was might → KeepsBatches old.key m since
+failed_has faults.RandomFault m d old new left_before left_after was shows might may since met rests = kept_has old.key m m m since (met.2.stops.kept rests)
+failed_has (faults.RandomShort left need) m d old new left_before left_after was shows might may since met rests = kept_has old.key m m m since (met.6.stops.kept rests)
+failed_has faults.DiskFault m d old new left_before left_after was shows might may since met rests = kept_has old.key m _ _ since (met.2.stops.kept rests)
+failed_has faults.Closed m d old new left_before left_after was shows might may since met rests = kept_has old.key m m m since (met.2.stops.kept rests)
+failed_has faults.OutOfMemory m d old new left_before left_after was shows might may since met rests = kept_has old.key m m m since (met.1.stops.kept rests)
 
 module _ (R D : Type 0) (left : R → Option (List ℕ)) (random_faults : R → ℕ) (shown : D → Option (List ℕ)) (disk_faults : D → ℕ)
     (may_leave : D → List ℕ → Type 0) (moment : D → ℕ) (since : D → ℕ → List ℕ → List ℕ → Type 0)
@@ -167,7 +168,7 @@ module _ (R D : Type 0) (left : R → Option (List ℕ)) (random_faults : R → 
       let owner_is = p.stands_there.owner_is in
       let rests = keyed_rests x.0.key key j (shown x.2) (may_leave x.2) has_key p.rests in
       let has = subst (λ k. KeepsBatches k j (since end.2 (moment x.2))) has_key
-      (failed_has fault j r x.0 end.0 (left x.1) (left end.1) (shown x.2) (shown end.2) (may_leave x.2) (may_leave end.2) (since end.2 (moment x.2)) (meets.0.answers j owner_is) rests) in
+      (failed_has fault j (Commanded r) x.0 end.0 (left x.1) (left end.1) (shown x.2) (shown end.2) (may_leave x.2) (may_leave end.2) (since end.2 (moment x.2)) (meets.0.answers j owner_is) rests) in
       record {
         kept = further_kept x p end.2 (subst (λ k. On x.2 end.2 (HasPublished k)) has_key (meets.2 j owner_is rests)) has;
         has = further_has x p end.2 meets.0.time has;

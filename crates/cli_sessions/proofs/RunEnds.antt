@@ -24,6 +24,7 @@ use Rattle.cli_sessions.specs.Stopping.{LinesKeepUpTo}
 use Rattle.cli_sessions.specs.declared.script.ScriptFault.{ScriptFault}
 use Rattle.cli_sessions.specs.declared.script.ScriptFault.TheVariants.{BadLine, ReadFault, WriteFault, OutOfMemory, Applying}
 use Rattle.cli_sessions.proofs.AnsweredScripts.{IsNow, IsScene, answered_script, joined_more, told_stays}
+use Rattle.cli_sessions.proofs.OwnerEnds.{owner_end}
 use Rattle.cli_sessions.proofs.StopLemmas.{Stays, rests_settled, stays_on, stops_on}
 use Rattle.cli_sessions.proofs.ScriptLemmas.{answered_of, asks_none, whole_is_cut}
 use Rattle.public_fold.specs.Journal.{Journal}
@@ -44,11 +45,7 @@ still_told None before x same e = absurd (false≢true (same ∙ ap is_some e))
 
 -- where the log of an owner ends
 end_at : (limits : Limits) (key : List ℕ) (g : Going) (x : Scene) → IsScene limits key g x → x.owner.journal.end ≡ length (image_of key g.journal) + 1
-unfolding image_of
-end_at limits key g x stands =
-    stands.owner_is.stands.end
-    ∙ ap (λ k. length (image k (batches_of x.owner.key g.journal)) + 1) (stands.owner_is.same_key ∙ stands.has_key)
-    ∙ ap (λ k. length (image key (batches_of k g.journal)) + 1) stands.has_key
+end_at limits key g x stands = owner_end key g.journal x.owner stands.has_key stands.owner_is
 
 accepted_there : (limits : Limits) (key : List ℕ) (g : Going) (x : Scene) (r : Request) → IsScene limits key g x
     → answer (limits_in x.owner) g.journal x.owner.journal.has_epoch r ≡ None → answer limits g.journal g.begun r ≡ None

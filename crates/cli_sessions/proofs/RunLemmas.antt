@@ -1,5 +1,6 @@
 -- What the lines of a run leave of the random source and of the disk, however they end.
-use Rattle.std.proofs.Common.{◌≡◌, ◌≢◌, ◌≤◌, ◌<◌, ℕ, List, [], length, Option, Some, Result, Ok, Err, arith, refl, subst, ◌∙◌}
+use Rattle.std.proofs.Common.{◌≡◌, ◌≢◌, ◌≤◌, ◌<◌, ℕ, List, [], length, Option, Some, Result, Ok, Err, arith, refl, subst, sym, ◌∙◌}
+use Rattle.std.proofs.lemmas.List.{append-nil}
 use Rattle.std.specs.Prelude.{is_some}
 use Rattle.cry_base.specs.Requests.{Request}
 use Rattle.batch_log.specs.Moments.{FromThenOn}
@@ -23,7 +24,7 @@ use Rattle.cli_sessions.specs.declared.script.ScriptFault.TheVariants.{BadLine, 
 use Rattle.cli_base.specs.declared.status.Status.TheVariants as statuses
 use Rattle.cli_sessions.proofs.AnsweredScripts.{counts_rise, key_stays, keys_taken, time_goes, told_stays}
 use Rattle.cli_sessions.proofs.RunEnds.{IsCalm, ends_as, ran_none, still_told}
-use Rattle.cli_sessions.proofs.ScriptLemmas.{answered_of, going_at_start}
+use Rattle.cli_sessions.proofs.ScriptLemmas.{answered_of, same_told}
 use Rattle.public_fold.specs.Journal.{Journal}
 use Rattle.store_owner.specs.Deeds.Deed.{Commanded}
 use Rattle.store_owner.specs.Owned.{OwnerView}
@@ -72,12 +73,6 @@ module _ (R D : Type 0) (left : R → Option (List ℕ)) (random_faults : R → 
 
   -- ---- a session that is asked nothing
 
-  pub nothing_ran : (x : OwnerView × R × D) (old : LineState) (typed written : Option (List ℕ))
-      → Ran Step Fails (Err ReadFault) x x old old typed typed written written
-  nothing_ran x old typed written =
-      let none = going_at_start Step x old typed written in
-      record { asked = []; replies = []; stands = Begun; lines = none.lines; number = tt; taken = none.taken; printed = none.printed }
-
   pub ends_none : IsPresent → (x : OwnerView × R × D) (old : LineState) (typed written : Option (List ℕ)) (b : List ℕ) → typed ≡ Some b
       → (key : List ℕ) (m : Journal) (first_shown : Option (List ℕ)) → StandsAt version_limits key (opened m []) x.0 (shown x.2)
       → IsDurable (may_leave x.2) (shown x.2) → KeepsFrom (length (image_of key m)) first_shown (shown x.2)
@@ -87,7 +82,7 @@ module _ (R D : Type 0) (left : R → Option (List ℕ)) (random_faults : R → 
   ends_none present x old typed written b was key m first_shown stands durable kept =
       let rests = rests_there version_limits key m x.0 (shown x.2) (may_leave x.2) stands durable in
       let run = ran_none (OwnerView × R × D) scene leaves moments Step Fails (λ y r reply z step. step.0) (λ y r fault z failed. failed.0) version_limits key m x x stands
-      (present x.2) rests first_shown kept old old typed typed written written b b was was Begun (nothing_ran x old typed written).printed durable (lines_ahead old b) in
+      (present x.2) rests first_shown kept old old typed typed written written b b was was Begun (λ y z a c. same_told written y z a c ∙ sym (append-nil y)) durable (lines_ahead old b) in
       (refl, run.0, run.1)
 
   module _ (start end : OwnerView × R × D) (old new : LineState) (left_before left_after out_before out_after : Option (List ℕ)) where

@@ -93,6 +93,19 @@ going_at_start Step start old left written = record {
   printed = λ x y was now. same_told written x y was now ∙ sym (append-nil x);
 }
 
+-- nothing was asked
+pub nothing_ran : {X : Type 0} (Step : X → Request → Reply → X → Type 0) (Fails : X → Request → ApplyFault → X → Type 0) (x : X) (old : LineState)
+    (left written : Option (List ℕ)) → Ran Step Fails (Err ReadFault) x x old old left left written written
+nothing_ran Step Fails x old left written = record {
+  asked = [];
+  replies = [];
+  stands = Begun;
+  lines = λ y z was now. subst (λ l. Asks [] (lines_ahead old y) (lines_ahead old l)) (sym (same_told left y z was now)) (asks_none (lines_ahead old y));
+  number = tt;
+  taken = λ y z was now. subst (λ l. AreTaken 0 old old y l) (sym (same_told left y z was now)) ([], refl, refl);
+  printed = λ y z was now. same_told written y z was now ∙ sym (append-nil y);
+}
+
 -- there is no line more
 pub ends_there : {X : Type 0} (Step : X → Request → Reply → X → Type 0) (Fails : X → Request → ApplyFault → X → Type 0) (start x : X)
     (old now new : LineState) (first middle last out_first out : Option (List ℕ)) → Going Step start x old now first middle out_first out

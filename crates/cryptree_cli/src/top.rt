@@ -13,9 +13,11 @@ ghost use Rattle.cli_reading.specs.Promises.Open.{OpenEnds};
 ghost use Rattle.cli_running.specs.Promises.HeldRun.{HeldRunEnds};
 ghost use Rattle.cli_running.specs.Promises.Run.{RunEnds};
 ghost use Rattle.cli_base.specs.Promises.Text.{TextEnds};
+ghost use Rattle.cli_upgrading.specs.Promises.Upgrade.{UpgradeEnds};
 ghost use Rattle.cli_base.specs.World.{senses_of, world_of};
 ghost use Rattle.head_tree.specs.declared.head.Head.{Head};
 ghost use Rattle.cli_words.specs.Words.{AsksAudit, AsksCheck, AsksGen, AsksList, AsksOpen, AsksProof, AsksRun, IsHead, IsMake};
+ghost use Rattle.cli_words.specs.Words.{IsUpgrade};
 ghost use Rattle.cli_words.specs.Words.{form_of_words, path_in_words, text_of};
 
 use cli_base::outside::tell;
@@ -42,9 +44,9 @@ use std::alloc::Global;
 ///
 /// Where two causes of an answer hold, the one met first is given; for `make`: words, size, memory, draw, disk, output; for `gen` the
 /// same, and before the output for each line of the script memory, draw, disk; for `run`: words, the first line, the head, the store,
-/// and then for each line its form, memory, draw, disk, output, and behind them the store and the output for the last head; for `list`,
-/// `open` and `audit`: words, the input, the head, the store, output; for `head` and `prove`: words, the store, output; for `check`:
-/// words, the input, the proof, output.
+/// its version, and then for each line its form, memory, draw, disk, output, and behind them the store and the output for the last head;
+/// for `upgrade`: words, the input, the store, its version, memory, draw, disk, output; for `list`, `open` and `audit`: words, the input,
+/// the head, the store, output; for `head` and `prove`: words, the store, output; for `check`: words, the input, the proof, output.
 /// Want of memory comes at its place in this order, and no clause says when.
 pub fn top<S: Source, R: Source, D: Disk, W: Sink>(
     alloc: Global,
@@ -68,6 +70,8 @@ pub fn top<S: Source, R: Source, D: Disk, W: Sink>(
         (world_of input.old random.old disk.old out.old) (world_of input.new random.new disk.new out.new) }
     ensures runs_held { (head : Head) → AsksRun words.now.items (Some head) → HeldRunEnds head (senses_of S.Source R.Source D.Disk W.Sink)
         result (world_of input.old random.old disk.old out.old) (world_of input.new random.new disk.new out.new) }
+    ensures upgrades { IsUpgrade words.now.items → UpgradeEnds (senses_of S.Source R.Source D.Disk W.Sink) result
+        (world_of input.old random.old disk.old out.old) (world_of input.new random.new disk.new out.new) }
     ensures lists { (head : Option Head) → AsksList words.now.items head → ListEnds head (senses_of S.Source R.Source D.Disk W.Sink) result
         (world_of input.old random.old disk.old out.old) (world_of input.new random.new disk.new out.new) }
     ensures opens { (head : Option Head) → AsksOpen words.now.items head → OpenEnds head (senses_of S.Source R.Source D.Disk W.Sink) result

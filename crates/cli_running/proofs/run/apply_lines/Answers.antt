@@ -1,4 +1,4 @@
-use Rattle.std.proofs.Common.{◌≡◌, ◌≤◌, IsTrue, false, List, length, Ok, Err, sym, ap, subst, ◌∙◌}
+use Rattle.std.proofs.Common.{◌≡◌, ◌≤◌, IsTrue, false, List, [], length, Ok, Err, sym, ap, subst, ◌∙◌}
 use Rattle.cry_base.specs.Requests.{Request}
 use Rattle.cry_io.specs.Told.{WhereBothTold}
 use Rattle.cli_base.specs.Lines.{bytes_ahead, lines_ahead}
@@ -7,11 +7,12 @@ use Rattle.cli_running.specs.Running.{RanLines, TakesBehindFirst, is_before_open
 use Rattle.cli_sessions.specs.Opening.{Judges}
 use Rattle.cli_sessions.specs.Stopping.{LinesKeepUpTo}
 use Rattle.cli_running.proofs.FaultedRuns.{after_no_disk_fault, faulted_answers, faulted_behind, faulted_judges, faulted_reads, faulted_undone, faulted_writes}
-use Rattle.cli_running.proofs.LinesRun.{ran_lines, ran_taken}
+use Rattle.cli_running.proofs.LinesRun.{none_of_old, none_taken, ran_lines, ran_taken}
 use Rattle.cli_sessions.proofs.PublishedLines.{publish_lines}
 use Rattle.cli_running.proofs.ReadFaults.{cut_lines}
-use Rattle.cli_sessions.proofs.RunLemmas.{Fails, Step, calm_but, calm_is, disk_fault, ends_so, goes_on, random_fault, random_short, time_goes_on}
-use Rattle.cli_sessions.proofs.ScriptLemmas.{answered_of}
+use Rattle.cli_sessions.proofs.RunLemmas.{Fails, Step, calm_but, calm_is, disk_fault, ends_none, ends_so, goes_on, random_fault, random_short, time_goes_on}
+use Rattle.cli_sessions.proofs.ScriptLemmas.{answered_of, nothing_ran}
+use Rattle.cli_sessions.specs.declared.script.ScriptFault.TheVariants.{ReadFault}
 use Rattle.store_owner.specs.Owned.{OwnerView}
 use Rattle.cli_running.proofs.run.apply_lines.Goals as goal
 
@@ -286,3 +287,31 @@ returns-clause-published g c = λ key m stands.
     (g.W.Sink.written c.args.out.now) (g.W.Sink.written c.run_lines-ran.new.out)
     (λ d s left at. g.met.D.Disk.only_now d s left at) (λ d t s left early is leaves. g.met.D.Disk.counts_now d t s left early is leaves)
     (λ d s is. g.met.D.Disk.shown_may_be_left d s is) key m stands c.requires.durable (Err c.in-Err.fault) c.in-Err.ensures.ran
+
+-- ---- a store of version 1
+
+pub returns-then-version-eq-OLD_VERSION-clause-published : goal.returns-then-version-eq-OLD_VERSION-clause-published
+returns-then-version-eq-OLD_VERSION-clause-published g c = λ key m stands.
+    let here : OwnerView × g.row.R.Denot × g.row.D.Denot = (c.args.owner, c.args.random.now, c.args.disk.now) in
+    let typed = g.S.Source.left c.args.input.now in
+    let written = g.W.Sink.written c.args.out.now in
+    publish_lines g.row.R.Denot g.row.D.Denot g.R.Source.left g.R.Source.faults g.D.Disk.shown g.D.Disk.faults g.D.Disk.may_leave g.D.Disk.moment g.D.Disk.since
+    here here c.args.reader c.args.reader typed typed written written
+    (λ d s left at. g.met.D.Disk.only_now d s left at) (λ d t s left early is leaves. g.met.D.Disk.counts_now d t s left early is leaves)
+    (λ d s is. g.met.D.Disk.shown_may_be_left d s is) key m stands c.requires.durable (Err ReadFault)
+    (nothing_ran (Step g.row.R.Denot g.row.D.Denot g.R.Source.left g.R.Source.faults g.D.Disk.shown g.D.Disk.faults g.D.Disk.may_leave g.D.Disk.moment g.D.Disk.since)
+    (Fails g.row.R.Denot g.row.D.Denot g.R.Source.left g.R.Source.faults g.D.Disk.shown g.D.Disk.faults g.D.Disk.may_leave g.D.Disk.moment g.D.Disk.since) here c.args.reader typed written)
+
+pub returns-then-version-eq-OLD_VERSION-clause-lines : goal.returns-then-version-eq-OLD_VERSION-clause-lines
+returns-then-version-eq-OLD_VERSION-clause-lines g c =
+    let typed = g.S.Source.left c.args.input.now in
+    let written = g.W.Sink.written c.args.out.now in (
+      [],
+      none_of_old (lines_ahead c.args.reader) typed written,
+      (λ few. none_taken c.args.reader typed few),
+      (λ is. absurd cc),
+      (λ x was key m first_shown stands kept.
+          ends_none g.row.R.Denot g.row.D.Denot g.R.Source.left g.R.Source.faults g.D.Disk.shown g.D.Disk.faults g.D.Disk.may_leave g.D.Disk.moment g.D.Disk.since
+          (λ d s left at. g.met.D.Disk.only_now d s left at) (c.args.owner, c.args.random.now, c.args.disk.now) c.args.reader typed written
+          x was key m first_shown stands c.requires.durable kept),
+    )

@@ -1,6 +1,7 @@
 use Rattle.std.proofs.Common.{inl, [], Err, refl, sym, ap, subst, ◌∙◌}
 use Rattle.cry_io.specs.Told.{WhereBothTold}
 use Rattle.cli_base.specs.Lines.{lines_ahead}
+use Rattle.cli_base.specs.World.{World}
 use Rattle.cli_sessions.specs.Sessions.{Ends, version_limits}
 use Rattle.cli_running.specs.Running.{FirstIsBad, RanLines, TakesTo, line_ended, lines_behind, lines_in, lines_typed}
 use Rattle.cli_sessions.specs.Opening.{Judges}
@@ -154,3 +155,15 @@ returns-clause-lines g c =
     let ends = c.open_and_apply.ensures.runs c.args.input.now (handed g.S.Source c.in-Ok.key c.new-reader.result c.first_owner.new.reader
     c.args.input.now c.first_owner.new.input c.new-reader.ensures c.in-Ok.ensures.told c.in-Ok.ensures.gives c.in-Ok.ensures.takes) in
     (ends.asked, ends.lines, ends.takes, ends.read_whole_lines, ends.ran)
+
+pub returns-clause-version : goal.returns-clause-version
+returns-clause-version g c =
+    (c.open_and_apply.ensures.runs c.args.input.now (handed g.S.Source c.in-Ok.key c.new-reader.result c.first_owner.new.reader c.args.input.now
+    c.first_owner.new.input c.new-reader.ensures c.in-Ok.ensures.told c.in-Ok.ensures.gives c.in-Ok.ensures.takes)).version
+
+pub returns-clause-unasked : goal.returns-clause-unasked
+returns-clause-unasked g c = λ is.
+    let whole =
+    (c.open_and_apply.ensures.runs c.args.input.now (handed g.S.Source c.in-Ok.key c.new-reader.result c.first_owner.new.reader c.args.input.now
+    c.first_owner.new.input c.new-reader.ensures c.in-Ok.ensures.told c.in-Ok.ensures.gives c.in-Ok.ensures.takes)).unasked is in
+    (ap (λ (w : World g.row.S.Denot g.row.R.Denot g.row.D.Denot g.row.W.Denot). w.random) whole, ap (λ (w : World g.row.S.Denot g.row.R.Denot g.row.D.Denot g.row.W.Denot). w.out) whole)

@@ -61,6 +61,7 @@ returns-in-Some-Run-None-clause-runs g c = λ is.
       first_line = run.first_line;
       key_line = run.key_line;
       judged = run.judged;
+      version = run.version;
       bad_line = run.bad_line;
       short = run.short;
       asked = run.lines.0;
@@ -74,6 +75,10 @@ returns-in-Some-Run-None-clause-runs g c = λ is.
       time = run.time;
       stays = run.stays;
       opening = run.opening;
+      unasked = λ needs.
+          let kept = run.unasked needs in
+          ap (λ random. world_of c.run.new.input random c.run.new.disk c.run.new.out) kept.0
+          ∙ ap (λ out. world_of c.run.new.input c.args.random.now c.run.new.disk out) kept.1;
       unopened = λ early.
           let kept = run.unopened early in
           ap (λ random. world_of c.run.new.input random c.run.new.disk c.run.new.out) kept.0

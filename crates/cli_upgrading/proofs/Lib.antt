@@ -1,0 +1,3 @@
+pub mod EndedUpgrades
+pub mod UpgradeCases
+pub mod WholeUpgrades
