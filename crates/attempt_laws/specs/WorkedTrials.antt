@@ -7,7 +7,8 @@ use Rattle.journal_bytes.specs.WorkedScripts.{scripts}
 use Rattle.journal_bytes.specs.Upgrading.{upgrade_answer, upgrade_draws, upgrade_end, upgrade_payload}
 use Rattle.attempt_laws.specs.Spent.{number_of, spenders_in, all_spenders}
 use Rattle.attempt_laws.specs.Trials.{Happening, Befalls, BeginsEpoch, UpgradeEnters, UpgradeIsAbandoned, epoch_trial, deed_trial}
-use Rattle.attempt_laws.specs.Trials.{trials_with, trials_at, course_behind, course_after, trials, made_course, all_trials, held, attempt_of}
+use Rattle.attempt_laws.specs.Trials.{trials_with, trials_at, course_behind, course_after, trials, made_course, all_trials}
+use Rattle.attempt_laws.specs.Trials.{held, attempt_of}
 
 -- a stop cuts a grant short, the next session loses its epoch's batch, the one after it begins that epoch and does nothing, and then
 -- the grant enters

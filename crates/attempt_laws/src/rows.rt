@@ -18,7 +18,8 @@ pub fn lost_epoch_is_begun_again()
         ≡ 1 ∷ 1 ∷ 2 ∷ 2 ∷ 2 ∷ 2 ∷ 3 ∷ 3 ∷ 4 ∷ 4 ∷ [] }
     ensures numbers { map (λ t. (attempt_of t).number) (all_trials made_version (some_keys 5) happened)
         ≡ 1 ∷ 2 ∷ 3 ∷ 4 ∷ 5 ∷ 6 ∷ 6 ∷ 6 ∷ 7 ∷ 8 ∷ [] }
-    ensures spent_from_the_grant { drop 5 (map (λ t. map number_of (spenders_in (attempt_of t).holds)) (all_trials made_version (some_keys 5) happened))
+    ensures spent_from_the_grant { drop 5 (map (λ t. map number_of (spenders_in (attempt_of t).holds))
+        (all_trials made_version (some_keys 5) happened))
         ≡ (8589934607 ∷ []) ∷ [] ∷ [] ∷ [] ∷ (17179869184 ∷ []) ∷ [] }
 {}
 

@@ -40,3 +40,7 @@ answer_of asked image = told_if asked (hashes_in image)
 abbrev pub IsToldOf : Result (Listed ℕ) Status → Result (List ℕ) Status → Type 0
 IsToldOf (Ok text) wanted = wanted ≡ Ok text.items
 IsToldOf (Err status) wanted = (status ≡ statuses.OutOfMemory) ⊎ (wanted ≡ Err status)
+
+-- how it ends where no proof is told: memory is wanting, or fewer batches are published
+abbrev pub IsUntold : ℕ → ℕ → Status → Type 0
+IsUntold have batches status = (status ≡ statuses.OutOfMemory) ⊎ (status ≡ statuses.Behind have batches)

@@ -1,15 +1,16 @@
 //! The commands that ask for a log's head, or for a proof between two: the log is read without a key, and then the answer is printed
 //! in one piece.
-ghost use Rattle.std.specs.Prelude.{◌≡◌, ◌<◌, ◌≤◌, length, IfOk, IsTrue, is_some};
+ghost use Rattle.std.specs.Prelude.{◌≡◌, ◌<◌, ◌≤◌, IfOk, IfErr, IsTrue, is_some};
 ghost use Rattle.std.specs.List.{flat_map};
 ghost use Rattle.cry_io.specs.Reading.{IsOnlyRead};
 ghost use Rattle.cry_io.specs.Told.{WhereTold};
 ghost use Rattle.cli_base.specs.Answering.{AnswersAs, IsExactly};
 ghost use Rattle.cli_base.specs.Status.{is_before_print};
 ghost use Rattle.cli_heads.specs.Asked.Asked.{TheHead, TheProof};
-ghost use Rattle.cli_heads.specs.Asking as spec;
-ghost use Rattle.cli_heads.specs.Asking.{answer_of, told_of, IsToldOf};
+ghost use Rattle.cli_heads.specs.Asking.{answer_of, told_of, IsToldOf, IsUntold};
 ghost use Rattle.cli_heads.specs.Statuses.{is_log_answer};
+ghost use Rattle.head_tree.specs.Climbing.{Hashes};
+ghost use Rattle.log_heads.specs.Proving.{IsPublished};
 ghost use Rattle.script_text.specs.Printing.{head_line, node_line};
 
 use crate::statuses::log_status;
@@ -18,7 +19,7 @@ use cli_base::status::Status;
 use cry_base::{List, Mem, Text};
 use cry_io::{Disk, Sink};
 use head_tree::Head;
-use log_heads::{Heads, PublishedTree};
+use log_heads::{Heads, PublishedProof};
 use script_text::{print_head, print_node};
 use std::alloc::Global;
 
@@ -58,11 +59,11 @@ pub fn ask_proof<D: Disk, W: Sink>(alloc: Global, batches: u32, disk: &mut D, ou
     ensures disk_counts { D.faults disk.old ≤ D.faults disk.new }
     ensures out_counts { W.faults out.old ≤ W.faults out.new }
 {
-    let tree = match PublishedTree::read(alloc, disk) {
-        Ok(tree) => tree,
+    let published = match PublishedProof::read(alloc, batches, disk) {
+        Ok(published) => published,
         Err(fault) => return log_status(fault),
     };
-    match proof_text(alloc, batches, &tree) {
+    match proof_text(alloc, batches, &published) {
         Ok(text) => tell(text.as_slice(), out),
         Err(status) => status,
     }
@@ -78,26 +79,20 @@ fn head_text(alloc: Global, head: &Head) -> Mem<Text>
 }
 
 /// A line for each hash of the proof, or how the program ends.
-fn proof_text(alloc: Global, batches: u32, tree: &PublishedTree) -> Result<Text, Status>
-    ensures { IsToldOf result (told_of (TheProof batches) tree.now) }
+fn proof_text(alloc: Global, batches: u32, published: &PublishedProof) -> Result<Text, Status>
+    ensures told { (hashes : Hashes) → IsPublished published.now batches hashes → IsToldOf result (told_of (TheProof batches) hashes) }
+    ensures untold { IfErr result (λ status. IsUntold published.now.batches batches status) }
 {
-    let have = tree.batches();
-    if have < batches {
+    let Some(proof) = &published.proof else {
         return Err(Status::Behind {
-            have,
+            have: published.batches,
             want: batches,
         });
-    }
-    proof_lines(alloc, batches, tree).map_err(|_| Status::OutOfMemory)
-}
-
-#[tactic(auto, unfolding(crate::specs::Asking::proof_text))]
-fn proof_lines(alloc: Global, batches: u32, tree: &PublishedTree) -> Mem<Text>
-    requires { batches < length tree.now }
-    ensures { IfOk result (λ text. text.items ≡ spec.proof_text batches tree.now) }
-{
-    let proof = tree.prove(alloc, batches)?;
-    lines_of(alloc, proof.as_slice())
+    };
+    let Ok(text) = lines_of(alloc, proof.as_slice()) else {
+        return Err(Status::OutOfMemory);
+    };
+    Ok(text)
 }
 
 /// The lines of hashes, one after another.

@@ -52,7 +52,8 @@ pub record FailsIn (before : Scene) (request : Request) (fault : ApplyFault) (af
   pub time : GoesOn before.moment past since
   pub left_told : is_some after.left ≡ is_some before.left
   pub shown_told : is_some after.shown ≡ is_some before.shown
-  pub short : (left need : ℕ) → fault ≡ faults.RandomShort left need → FallsShort before.owner (Commanded request) left need before.left after.left
+  pub short : (left need : ℕ) → fault ≡ faults.RandomShort left need
+      → FallsShort before.owner (Commanded request) left need before.left after.left
   pub undrawn : fault ≡ faults.OutOfMemory → after.left ≡ before.left
   pub unwritten : fault ≢ faults.DiskFault → after.shown ≡ before.shown
   pub never_closed : fault ≢ faults.Closed

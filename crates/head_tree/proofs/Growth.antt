@@ -13,23 +13,23 @@ use Rattle.head_tree.proofs.Depths.{are_apart, are_one}
 use Rattle.head_tree.proofs.Trees.{tree_hash-split}
 
 -- what an odd count says of the first root
-abbrev Counts : List ℕ → List (List ℕ) → ℕ → ℕ → List (List ℕ) → Type 0
+abbrev pub Counts : List ℕ → List (List ℕ) → ℕ → ℕ → List (List ℕ) → Type 0
 Counts root roots d count leaves =
     (root ≡ tree_hash (drop (length leaves - 2 ^ d) leaves)) × Stands roots (suc d) (count / 2) (take (length leaves - 2 ^ d) leaves)
 
-is_odd : (count : ℕ) → count % 2 ≡ 1 → (count % 2 == 1) ≡ true
+pub is_odd : (count : ℕ) → count % 2 ≡ 1 → (count % 2 == 1) ≡ true
 is_odd count odd = are_one (count % 2) 1 odd
 
-is_even : (count : ℕ) → count % 2 ≡ 0 → (count % 2 == 1) ≡ false
+pub is_even : (count : ℕ) → count % 2 ≡ 0 → (count % 2 == 1) ≡ false
 is_even count even = are_apart (count % 2) 1 (omega arith)
 
-stands-odd : (root : List ℕ) (roots : List (List ℕ)) (d count : ℕ) (leaves : List (List ℕ)) → count % 2 ≡ 1
+pub stands-odd : (root : List ℕ) (roots : List (List ℕ)) (d count : ℕ) (leaves : List (List ℕ)) → count % 2 ≡ 1
     → Stands (root ∷ roots) d count leaves → Counts root roots d count leaves
 unfolding Stands
 stands-odd root roots d count leaves odd s =
     when_true (Counts root roots d count leaves) (Stands roots (suc d) (count / 2) leaves) (is_odd count odd) s
 
-stands-even : (root : List ℕ) (roots : List (List ℕ)) (d count : ℕ) (leaves : List (List ℕ)) → count % 2 ≡ 0
+pub stands-even : (root : List ℕ) (roots : List (List ℕ)) (d count : ℕ) (leaves : List (List ℕ)) → count % 2 ≡ 0
     → Stands (root ∷ roots) d count leaves → Stands roots (suc d) (count / 2) leaves
 unfolding Stands
 stands-even root roots d count leaves even s =
@@ -41,7 +41,7 @@ unfolding Stands
 odd-stands root roots d count leaves odd s =
     subst (λ b. MatchBool b (Counts root roots d count leaves) (Stands roots (suc d) (count / 2) leaves)) (sym (is_odd count odd)) s
 
-even-stands : (root : List ℕ) (roots : List (List ℕ)) (d count : ℕ) (leaves : List (List ℕ)) → count % 2 ≡ 0
+pub even-stands : (root : List ℕ) (roots : List (List ℕ)) (d count : ℕ) (leaves : List (List ℕ)) → count % 2 ≡ 0
     → Stands roots (suc d) (count / 2) leaves → Stands (root ∷ roots) d count leaves
 unfolding Stands
 even-stands root roots d count leaves even s =
@@ -63,13 +63,13 @@ unfolding carried
 carried-even first roots count root even = ap (λ b. cond b (first ∷ carried roots (count / 2) (node_hash first root)) (root ∷ roots)) (is_even count even)
 
 -- the leaves before the last p of them, where there are an odd number of times p
-odd-rest : (count half p n : ℕ) → count ≡ 2 * half + 1 → n ≡ count * p → n ≡ 2 * (half * p) + p
+pub odd-rest : (count half p n : ℕ) → count ≡ 2 * half + 1 → n ≡ count * p → n ≡ 2 * (half * p) + p
 odd-rest count half p n c e = let product : count * p ≡ (2 * half + 1) * p = ap (λ z. z * p) c in omega (arith, product)
 
-even-rest : (count half p n : ℕ) → count ≡ 2 * half → n ≡ count * p → n ≡ 2 * (half * p)
+pub even-rest : (count half p n : ℕ) → count ≡ 2 * half → n ≡ count * p → n ≡ 2 * (half * p)
 even-rest count half p n c e = let product : count * p ≡ (2 * half) * p = ap (λ z. z * p) c in omega (arith, product)
 
-double : (half p q : ℕ) → q ≡ p + p → half * q ≡ 2 * (half * p)
+pub double : (half p q : ℕ) → q ≡ p + p → half * q ≡ 2 * (half * p)
 double half p q e = let product : half * q ≡ half * (p + p) = ap (λ z. half * z) e in omega (arith, product)
 
 -- a whole subtree and a right neighbour that isn't larger

@@ -8,3 +8,7 @@ pub mod Reaching
 pub mod Prefixes
 pub mod Accepting
 pub mod Growth
+pub mod Levels
+pub mod Climbs
+pub mod Rising
+pub mod Behind

@@ -31,7 +31,7 @@ unfolding part_proof tree_hash
 part_proof-all leaves whole = proof_at-all (length leaves) leaves whole
 
 -- and for all leaves too
-part_at-any : (d m : ℕ) (leaves : List (List ℕ)) (whole : Bool) → m ≤ length leaves → length leaves ≤ 2 ^ d
+pub part_at-any : (d m : ℕ) (leaves : List (List ℕ)) (whole : Bool) → m ≤ length leaves → length leaves ≤ 2 ^ d
     → proof_at d m leaves whole ≡ part_proof m leaves whole
 part_at-any d m leaves whole le h = ⊎_elim
     (λ (less : m < length leaves). proof_at-any d m leaves whole less h)

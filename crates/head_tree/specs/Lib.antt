@@ -4,3 +4,4 @@ pub mod Checking
 pub mod Heads
 pub mod WorkedRows
 pub mod Growing
+pub mod Climbing

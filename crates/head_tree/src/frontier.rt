@@ -1,12 +1,12 @@
 //! The root over leaves that come one by one, of which none is kept.
-ghost use Rattle.std.specs.Prelude.{◌≡◌, ◌+◌, ◌<◌, ◌^◌, ℕ, List, [], ◌∷◌, ◌++◌, None};
+ghost use Rattle.std.specs.Prelude.{◌≡◌, ◌+◌, ◌<◌, ◌^◌, ℕ, List, [], ◌∷◌, ◌++◌, slice_index_or, None};
 ghost use Rattle.head_tree.specs.Growing as spec;
 ghost use Rattle.head_tree.specs.Growing.{Grown, IsRootOf};
 
 use crate::hashing::node_hash;
 
 /// As many as the bits of 2^32, the most leaves that a head can name.
-const LEVELS: usize = 33;
+pub(crate) const LEVELS: usize = 33;
 
 /// The roots of the whole subtrees that the leaves so far make: at place i that of 2^i leaves, where their number has that bit. It takes
 /// no memory, however many they are.
@@ -46,6 +46,14 @@ impl Frontier {
         ensures { (leaves : List (List ℕ)) → Grown self.now leaves → IsRootOf result leaves }
     {
         root_over(&self.roots, self.leaves)
+    }
+
+    /// The root of the last whole subtree of 2^level leaves, where the leaves' number has that bit.
+    pub(crate) fn peak(&self, level: usize) -> [u8; 32]
+        requires { level < 33 }
+        ensures { result ≡ slice_index_or self.now.roots level [] }
+    {
+        self.roots[level]
     }
 }
 

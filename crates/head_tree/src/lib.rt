@@ -3,7 +3,9 @@
 #![tactic(auto)]
 
 mod checking;
+mod climb;
 mod frontier;
+mod growing_proof;
 mod hashing;
 mod head;
 pub mod laws;
@@ -12,6 +14,7 @@ mod tree;
 
 pub use checking::{BadProof, check_proof};
 pub use frontier::Frontier;
+pub use growing_proof::GrowingProof;
 pub use hashing::leaf_hash;
 pub use head::Head;
 pub use tree::LogTree;

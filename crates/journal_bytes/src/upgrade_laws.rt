@@ -18,8 +18,10 @@ ghost use Rattle.journal_bytes.specs.Upgrading.{upgrade_draws, upgrade_end, upgr
 pub fn upgrades_may_come_next()
     ensures valid { (m : Journal) (has_begun : Bool) (drawn : List (List ℕ)) → IsValid m → (keys_of m).version ≡ 1
         → length drawn ≡ upgrade_draws m → upgrade_end m has_begun ≤ most_store_bytes → IsValid (upgraded_then m has_begun drawn) }
-    ensures end { (m : Journal) (has_begun : Bool) (drawn : List (List ℕ)) → end_of (upgraded_then m has_begun drawn) ≡ upgrade_end m has_begun }
-    ensures few { (m : Journal) (has_begun : Bool) → IsValid m → upgrade_end m has_begun ≤ most_store_bytes → 32 * upgrade_draws m < 2 ^ 32 }
+    ensures end { (m : Journal) (has_begun : Bool) (drawn : List (List ℕ))
+        → end_of (upgraded_then m has_begun drawn) ≡ upgrade_end m has_begun }
+    ensures few { (m : Journal) (has_begun : Bool) → IsValid m → upgrade_end m has_begun ≤ most_store_bytes
+        → 32 * upgrade_draws m < 2 ^ 32 }
     ensures fits { (m : Journal) (has_begun : Bool) → IsValid m → (keys_of m).version ≡ 1
         → note_fits (begun (not has_begun) (public_stand m)) Upgrade (told_step (begun (not has_begun) (public_stand m)) Upgrade) ≡ false
         → most_store_bytes < upgrade_end m has_begun }

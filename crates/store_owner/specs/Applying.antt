@@ -69,7 +69,8 @@ pub record IsSealed (d : Deed) (drawn : List (List ℕ)) (old : OwnerView) (was 
   pub starts : Counting
   pub drawn_count : length drawn ≡ length skeleton.keys.items
   pub drawn_sizes : All (λ (key : List ℕ). length key ≡ 32) drawn
-  pub told : (s : Store) → IsStoreOf old.state.tree old.names (granted_in old) s → told_note note ≡ deed_note s d (check_of (first_key drawn))
+  pub told : (s : Store) → IsStoreOf old.state.tree old.names (granted_in old) s
+      → told_note note ≡ deed_note s d (check_of (first_key drawn))
   pub is_skeleton : IsStepOf d old skeleton
   pub has_room : ready ≡ record old.journal { room = ready.room }
   pub begins : cond old.journal.has_epoch ((between ≡ ready) × (showed ≡ was)) (Joins (next_epoch ready) ready between was showed
@@ -159,7 +160,8 @@ Answers (Err (faults.RandomShort left need)) m d old new left_before left_after 
     × WhereTold left_before (λ before. length before ≡ left) × WhereTold left_after (λ after. after ≡ [])
     × ComesToRest old.key m m was shows might may since
 Answers (Err faults.RandomFault) m d old new left_before left_after was shows might may since =
-    (deed_answer (limits_in old) m old.journal.has_epoch d ≡ None) × HasOtherRoom old new × ComesToRest old.key m m was shows might may since
+    (deed_answer (limits_in old) m old.journal.has_epoch d ≡ None) × HasOtherRoom old new
+    × ComesToRest old.key m m was shows might may since
 Answers (Err faults.DiskFault) m d old new left_before left_after was shows might may since =
     (deed_answer (limits_in old) m old.journal.has_epoch d ≡ None) × IsTrue new.journal.is_closed
     × IsCutShort m d old left_before left_after was shows might may since

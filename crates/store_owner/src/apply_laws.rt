@@ -100,7 +100,8 @@ pub fn answered_sessions_go_on<D: Disk>(before: &D, after: &D)
     ensures { (limits : Limits) (key : List ℕ) (g : Going) (r : Request) (reply : Reply) (old new : OwnerView)
         (left_before left_after was shows : Option (List ℕ)) (start : ℕ)
         → StandsAt limits key g old was
-        → Answers (Ok reply) g.journal (Commanded r) old new left_before left_after was shows (D.may_leave before.now) (D.may_leave after.now)
+        → Answers (Ok reply) g.journal (Commanded r) old new left_before left_after was shows
+        (D.may_leave before.now) (D.may_leave after.now)
         (D.since after.now start)
         → is_some shows ≡ is_some was → ((why : Refusal) → reply ≡ Refused why → (left_after ≡ left_before) × (shows ≡ was))
         → (h : Going) × GoesOn limits g h r reply left_before left_after × StandsAt limits key h new shows

@@ -35,7 +35,8 @@ impl Asked<'_> {
         requires files { shape.now.tree.files_made < 4294967295 }
         requires holders { length grants.now.checks < 4294967295 }
         ensures { (names : Titles) → IsFound (tree_store shape.now.tree names) self.now
-            → (s : Store) → IsStoreOf shape.now.tree names grants.now s → told_note result ≡ deed_note s (deed_of self.now) (replicate 32 0) }
+            → (s : Store) → IsStoreOf shape.now.tree names grants.now s
+            → told_note result ≡ deed_note s (deed_of self.now) (replicate 32 0) }
     {
         match self {
             Asked::Command { target, .. } => note_for(shape, grants, target),
@@ -71,7 +72,8 @@ impl Asked<'_> {
 
     /// How many bytes the text has once a new holder's key stands in it.
     pub(crate) fn sealed_len(&self, text: &Text) -> u64
-        ensures length { (s : Store) → IsFound s self.now → result ≡ length (text.now.items ++ deed_key (deed_of self.now) (replicate 32 0)) }
+        ensures length { (s : Store) → IsFound s self.now
+            → result ≡ length (text.now.items ++ deed_key (deed_of self.now) (replicate 32 0)) }
         ensures short { result < 2 ^ 63 + 32 }
     {
         match self {

@@ -256,7 +256,8 @@ impl Owner {
 
     /// Makes a store of version 1 one of version 2, or refuses it where it is too full.
     ///
-    /// All is as in `apply`: the order, the faults and what they leave, stops, what is published and what is drawn. It counts for no command.
+    /// All is as in `apply`: the order, the faults and what they leave, stops, what is published and what is drawn. It counts for no
+    /// command.
     pub fn upgrade<D: Disk, R: Source>(
         &mut self,
         alloc: Global,
