@@ -2,7 +2,6 @@
 use Rattle.std.proofs.Common.{◌≡◌, ⊎_elim, ℕ, zero, suc, List, [], ◌∷◌, ◌++◌, take, Option, Some, arith, refl, sym, ap, ◌∙◌}
 use Rattle.std.proofs.lemmas.List.{append-nil, append_cancel_left}
 use Rattle.cry_base.specs.declared.commands.Refusal.TheVariants.{Full}
-use Rattle.cry_base.specs.declared.commands.Reply.{Reply}
 use Rattle.cry_base.specs.declared.commands.Reply.TheVariants as replies
 use Rattle.cli_upgrading.specs.Upgrading.{IsAccepted}
 use Rattle.commit_journal.specs.Holding.{IsPrefix}
