@@ -22,17 +22,21 @@ use Rattle.script_text.specs.Printing.{spell_reply}
 use Rattle.cli_base.specs.declared.status.Status.{Status}
 use Rattle.cli_base.specs.declared.status.Status.TheVariants as statuses
 use Rattle.cli_sessions.proofs.OwnerEnds.{behind_still, owner_end}
+use Rattle.cli_sessions.proofs.PublishedLines.{failed_has, kept_has}
 use Rattle.cli_sessions.proofs.RunLemmas.{rests_there}
 use Rattle.cli_sessions.proofs.StopLemmas.{rests_settled, stays_begun}
 use Rattle.cli_sessions.proofs.Versions.{is_second, owners_version}
-use Rattle.cli_sessions.specs.Sessions.{DrawsNext, KeepsBehind, KeepsFrom, LeavesAt, Seen, apply_status, seen_from, version_limits}
+use Rattle.cli_sessions.specs.Published.{KeepsBatches, LinesPublish}
+use Rattle.cli_sessions.specs.Sessions.{DrawsNext, KeepsBehind, KeepsFrom, LeavesAt, RanDry, Seen, apply_status, seen_from, version_limits}
 use Rattle.cli_sessions.specs.Stopping.{LinesKeepUpTo}
 use Rattle.store_owner.proofs.OwnerGoesOn.{drops_more}
-use Rattle.store_owner.specs.Applying.{Answers, IsDone}
+use Rattle.store_owner.specs.Applying.{Answers, IsDone, IsKeptBy}
 use Rattle.store_owner.specs.Deeds.Deed.{Upgrading}
 use Rattle.store_owner.specs.Drawing.{joined}
 use Rattle.store_owner.specs.Owned.{IsOwnerOf, OwnerView, limits_in}
+use Rattle.store_owner.specs.Published.{HasPublished, PublishesOn}
 use Rattle.store_owner.specs.Sessions.{StandsAt}
+use Rattle.store_owner.specs.Taking.{FallsShort, keys_planned}
 use Rattle.store_owner.specs.Stopping.{ComesToRest, RestsAt, StopsBetween}
 use Rattle.store_owner.specs.declared.apply_fault.ApplyFault.{ApplyFault}
 use Rattle.store_owner.specs.declared.apply_fault.ApplyFault.TheVariants as faults
@@ -219,6 +223,15 @@ module _ (key : List ℕ) (m : Journal) (first_shown : Option (List ℕ)) (old n
   stopped faults.Closed is open same undrawn = absurd (open is.0)
   stopped faults.OutOfMemory is open same undrawn = inr (inl (rested is.1 (same (λ e. absurd cc)), undrawn refl))
 
+-- the owner stands for the journal, in whatever words
+pub stands_for : (key : List ℕ) (m : Journal) (o : OwnerView) (was : Option (List ℕ)) → StandsAt version_limits key (opened m []) o was → IsOwnerOf m o
+unfolding opened
+stands_for key m o was stands = stands.owner_is
+
+pub first_version : (key : List ℕ) (m : Journal) (o : OwnerView) (was : Option (List ℕ)) → StandsAt version_limits key (opened m []) o was → o.state.keys.version ≡ 1
+    → (keys_of m).version ≡ 1
+first_version key m o was stands one = sym (owners_version m o (stands_for key m o was stands)) ∙ one
+
 -- ---- a store that is of version 2 already, of which nothing was touched
 
 pub rested_new : (key : List ℕ) (m : Journal) (first_shown : Option (List ℕ)) (o : OwnerView) (left was written : Option (List ℕ)) (might : List ℕ → Type 0)
@@ -240,3 +253,71 @@ rested_new key m first_shown o left was written might moment since stands durabl
       },
       refl,
     )
+
+-- ---- what is published
+
+answered_has : (reply : Reply) (m : Journal) (old new : OwnerView) (left_before left_after was shows : Option (List ℕ)) (might may : List ℕ → Type 0) (since : List ℕ → List ℕ → Type 0)
+    → Answers (Ok reply) m Upgrading old new left_before left_after was shows might may since → RestsAt old.key m was might → KeepsBatches old.key m since
+answered_has replies.Done m old new left_before left_after was shows might may since is rests = kept_has old.key m _ _ since (is.comes_to_rest.stops.kept rests)
+answered_has (replies.Made holder key) m old new left_before left_after was shows might may since is rests = kept_has old.key m _ _ since (is.comes_to_rest.stops.kept rests)
+answered_has (replies.Refused why) m old new left_before left_after was shows might may since is rests = kept_has old.key m m m since (is.2.stops.kept rests)
+
+pub result_has : (result : Result Reply ApplyFault) (m : Journal) (old new : OwnerView) (left_before left_after was shows : Option (List ℕ)) (might may : List ℕ → Type 0)
+    (since : List ℕ → List ℕ → Type 0) → Answers result m Upgrading old new left_before left_after was shows might may since → RestsAt old.key m was might
+    → KeepsBatches old.key m since
+result_has (Ok reply) m old new left_before left_after was shows might may since is rests =
+    answered_has reply m old new left_before left_after was shows might may since is rests
+result_has (Err fault) m old new left_before left_after was shows might may since is rests =
+    failed_has fault m Upgrading old new left_before left_after was shows might may since is rests
+
+pub publishes : (result : Result Reply ApplyFault) (key : List ℕ) (m : Journal) (old new : OwnerView) (left_before left_after was shows : Option (List ℕ)) (might may : List ℕ → Type 0)
+    (since : List ℕ → List ℕ → Type 0) (from_then_on : (List ℕ → List ℕ → Type 0) → Type 0) → StandsAt version_limits key (opened m []) old was → IsDurable might was
+    → Answers result m Upgrading old new left_before left_after was shows might may since → PublishesOn old was might from_then_on → LinesPublish key m since from_then_on
+publishes result key m old new left_before left_after was shows might may since from_then_on stands durable is kept =
+    let rests = rests_there version_limits key m old was might stands durable in
+    let own : RestsAt old.key m was might = subst (λ k. RestsAt k m was might) (sym stands.has_key) rests in
+    record {
+      kept = subst (λ k. from_then_on (HasPublished k)) stands.has_key (kept m (stands_for key m old was stands) own);
+      has = subst (λ k. KeepsBatches k m since) stands.has_key (result_has result m old new left_before left_after was shows might may since is own);
+    }
+
+-- ---- what is said of a fault's status
+
+pub short_fault : (fault : ApplyFault) (left need : ℕ) → apply_status fault ≡ statuses.RandomShort left need → fault ≡ faults.RandomShort left need
+short_fault faults.RandomFault left need is = absurd cc
+short_fault (faults.RandomShort had wanted) left need is = cc
+short_fault faults.DiskFault left need is = absurd cc
+short_fault faults.Closed left need is = absurd cc
+short_fault faults.OutOfMemory left need is = absurd cc
+
+pub ran_dry : (old : OwnerView) (left need : ℕ) (before after : Option (List ℕ)) → FallsShort old Upgrading left need before after → RanDry left need before after
+ran_dry old left need before after short = record {
+  drawn = [];
+  drawn_sizes = All-nil (λ (k : List ℕ). length k ≡ 32);
+  keys = keys_planned old short.at Upgrading;
+  is_need = short.is_need short.at short.seen;
+  is_short = short.is_short;
+  were_left = λ x was. (x, refl, short.were_left x was);
+  nothing_left = short.nothing_left;
+}
+
+pub disk_kept : {R D : Type 0} (fault : ApplyFault) (old new : OwnerView) (random_old random_new : R) (disk_old disk_new : D)
+    → IsKeptBy (Err fault) old new random_old random_new disk_old disk_new → fault ≢ faults.DiskFault → disk_new ≡ disk_old
+disk_kept faults.RandomFault old new random_old random_new disk_old disk_new kept other = kept.1
+disk_kept (faults.RandomShort left need) old new random_old random_new disk_old disk_new kept other = kept.1
+disk_kept faults.DiskFault old new random_old random_new disk_old disk_new kept other = absurd (other refl)
+disk_kept faults.Closed old new random_old random_new disk_old disk_new kept other = kept.2
+disk_kept faults.OutOfMemory old new random_old random_new disk_old disk_new kept other = kept.2
+
+pub random_kept : {R D : Type 0} (fault : ApplyFault) (old new : OwnerView) (random_old random_new : R) (disk_old disk_new : D)
+    → IsKeptBy (Err fault) old new random_old random_new disk_old disk_new → fault ≡ faults.OutOfMemory → random_new ≡ random_old
+random_kept faults.RandomFault old new random_old random_new disk_old disk_new kept is = absurd cc
+random_kept (faults.RandomShort left need) old new random_old random_new disk_old disk_new kept is = absurd cc
+random_kept faults.DiskFault old new random_old random_new disk_old disk_new kept is = absurd cc
+random_kept faults.Closed old new random_old random_new disk_old disk_new kept is = absurd cc
+random_kept faults.OutOfMemory old new random_old random_new disk_old disk_new kept is = kept.1
+
+pub refused_kept : {R D : Type 0} (reply : Reply) (why : Refusal) (old new : OwnerView) (random_old random_new : R) (disk_old disk_new : D)
+    → IsKeptBy (Ok reply) old new random_old random_new disk_old disk_new → reply ≡ replies.Refused why → (random_new ≡ random_old) × (disk_new ≡ disk_old)
+refused_kept reply why old new random_old random_new disk_old disk_new kept is =
+    let same = subst (λ r. IsKeptBy (Ok r) old new random_old random_new disk_old disk_new) is kept in (same.1, same.2)

@@ -16,17 +16,16 @@ ghost use Rattle.cli_sessions.specs.Published.{LinesPublish};
 ghost use Rattle.cli_sessions.specs.Sessions.{KeepsFrom, RanDry, seen_from, version_limits};
 ghost use Rattle.cli_sessions.specs.Stopping.{LinesKeepUpTo};
 ghost use Rattle.cli_upgrading.specs.Promises.Upgrade.{UpgradeEnds};
-ghost use Rattle.cli_upgrading.specs.Upgrading.{EndsUpgrade, PrintsReply, is_behind_opening, is_told};
+ghost use Rattle.cli_upgrading.specs.Upgrading.{EndsUpgrade, PrintsReply, is_behind_opening};
 
+use crate::telling::tell_reply;
 use cli_base::input::{input_status, read_owner_line};
-use cli_base::outside::tell;
 use cli_base::status::Status;
 use cli_sessions::ends::apply_status;
 use cli_sessions::opening::open_status;
 use cli_sessions::version::{LIMITS, OLD_VERSION};
-use cry_base::{List, Reply, Steps};
+use cry_base::Steps;
 use cry_io::{Disk, Sink, Source};
-use script_text::print_reply;
 use std::alloc::Global;
 use std::mem;
 use store_owner::Owner;
@@ -105,20 +104,4 @@ fn upgrade_store<R: Source, D: Disk, W: Sink>(
         Ok(reply) => tell_reply(alloc, &reply, out),
         Err(fault) => apply_status(fault),
     }
-}
-
-/// Prints the reply in one piece.
-fn tell_reply<W: Sink>(alloc: Global, reply: &Reply, out: &mut W) -> Status
-    ensures answers { IsTrue (is_told result) }
-    ensures printed { WhereBothTold (W.written out.old) (W.written out.new) (PrintsReply result reply.now) }
-    ensures unprinted { result ≡ Status.OutOfMemory → out.new ≡ out.old }
-    ensures write_fault { result ≡ Status.WriteFault → W.faults out.old < W.faults out.new }
-    ensures out_told { is_some (W.written out.new) ≡ is_some (W.written out.old) }
-    ensures out_counts { W.faults out.old ≤ W.faults out.new }
-{
-    let mut text = List::new(alloc);
-    let Ok(()) = print_reply(reply, &mut text) else {
-        return Status::OutOfMemory;
-    };
-    tell(text.as_slice(), out)
 }
