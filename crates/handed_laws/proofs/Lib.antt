@@ -4,3 +4,4 @@ pub mod Handed
 pub mod Runs
 pub mod Unmasked
 pub mod Generated
+pub mod Upgrades

@@ -54,7 +54,7 @@ front_whole key now held to whole =
 
 -- ---- a command that is accepted
 
-accepted : (first : Option Refusal) (full : Bool) → answer_with first full ≡ None → (first ≡ None) × (full ≡ false)
+pub accepted : (first : Option Refusal) (full : Bool) → answer_with first full ≡ None → (first ≡ None) × (full ≡ false)
 unfolding answer_with
 accepted (Some why) full is = absurd (let no : ⊥ = cc in no)
 accepted None true is = absurd (let no : ⊥ = cc in no)
@@ -139,7 +139,7 @@ module _ (key : List ℕ) (m : Journal) (m_valid : IsValid m) (lines : List Inpu
   reached_by keys statuses.NotBlank asked run = absurd run
   reached_by keys (statuses.NoHolder known) asked run = absurd run
   reached_by keys statuses.Unseen asked run = absurd run
-  reached_by keys statuses.NeedsUpgrade asked run = absurd run
+  reached_by keys statuses.NeedsUpgrade asked run = ran lines run.1
   reached_by keys statuses.AlreadyNew asked run = absurd run
   reached_by keys (statuses.Behind have want) asked run = absurd run
   reached_by keys (statuses.Forked batches) asked run = absurd run

@@ -11,21 +11,22 @@ use Rattle.cli_running.specs.Running.{lines_behind, lines_in}
 use Rattle.cli_sessions.specs.Sessions.{seen_from}
 use Rattle.cli_sessions.specs.Stopping.{KeepsUpTo}
 use Rattle.journal_bytes.specs.Bytes.{batches_of}
-use Rattle.journal_bytes.specs.Journals.{HoldsBetween, ShowsJournal, StandsForJournal}
+use Rattle.journal_bytes.specs.Journals.{HoldsBetween, StandsForJournal}
 use Rattle.journal_bytes.proofs.Grown.{batches_grow, journal_recovered}
 use Rattle.public_fold.specs.Journal.{Journal}
 use Rattle.secrecy_laws.proofs.Departed.{keeps_departures}
 use Rattle.secrecy_laws.proofs.Secrets.{keeps_secret, opens_by_gain}
 use Rattle.stop_laws.specs.Runs.{CallOver, IsLeft, Runs, WasShown}
-use Rattle.stop_laws.specs.Runs.CallOver.{ByOther, ByOwner}
+use Rattle.stop_laws.specs.Runs.CallOver.{ByOther, ByOwner, ByUpgrade}
 use Rattle.stop_laws.proofs.Kept.{all_keep}
 use Rattle.stop_laws.proofs.Lasting.{never_lost}
-use Rattle.stop_laws.proofs.Left.{all_left, call_between, left_between, left_of_runs, run_leaves}
+use Rattle.stop_laws.proofs.Left.{all_left, call_stands, left_between, left_of_runs}
 use Rattle.store_owner.specs.Published.{HasPublished, StaysPublished, published_batches}
-use Rattle.handed_laws.specs.Unveiled.{CallUnveils, KeepsUnveiled}
+use Rattle.handed_laws.specs.Unveiled.{CallUnveils, HasNoEmptyVeil, KeepsUnveiled, ShowsUnveiled}
 use Rattle.handed_laws.proofs.Handed.{run_shows}
 use Rattle.handed_laws.proofs.Publishing.{last_published}
-use Rattle.handed_laws.proofs.Runs.{reached_by}
+use Rattle.handed_laws.proofs.Runs.{Reaches, reached_by}
+use Rattle.handed_laws.proofs.Upgrades.{upgrade_reached}
 
 -- a journal with what a list published
 kept_by : (key s bytes : List ℕ) (j : Journal) → StandsForJournal key j bytes → IsPrefix (published_batches key s) (batches_of key j) → KeepsUnveiled key s bytes
@@ -50,34 +51,49 @@ module _ {D : Type 0} (disks : disk.Ghosts D)
   abbrev Came : D → D → Type 0
   Came from now = Runs disks key from now
 
+  -- the writes of a call that opened the store
+  opened_unveils : (before after : D) (m : Journal) (x : List ℕ) → disks.shown before ≡ Some x → StandsForJournal key m x
+      → Reaches key m (KeepsUpTo key m (disks.shown before) (disks.shown after) (disks.may_leave before) (disks.since after (disks.moment before)))
+      → (s left : List ℕ) → disks.since after (disks.moment before) s left
+      → (m reached : Journal) × StandsForJournal key m x × IsPrefix m reached × (HasNoEmptyVeil key reached → ShowsUnveiled key m reached x (disks.shown after) s)
+  opened_unveils before after m x is stands to s left at = (
+    m,
+    to.reached,
+    stands,
+    to.longer,
+    λ veiled. run_shows key m to.reached x (disks.shown before) (disks.shown after) (disks.since after (disks.moment before)) is stands to.longer to.valid
+        to.whole_keys veiled (to.kept.hands x is) s left at,
+  )
+
+  -- the journal that a call finds
+  finds : (before : D) → Came start before → (x : List ℕ) → disks.shown before ≡ Some x → (m : Journal) × StandsForJournal key m x
+  finds before runs x is =
+      let held = (all_left disks counted key start m1 m2 holds before runs).3.shows in
+      let same : held.0 ≡ x = let both = sym held.1 ∙ is in cc in
+      (held.2.held, subst (StandsForJournal key held.2.held) same held.2.stands_for)
+
   -- the writes of a call
   pub call_unveils : (before after : D) → Came start before → (call : CallOver disks key before after) (x s left : List ℕ) → disks.shown before ≡ Some x
       → disks.since after (disks.moment before) s left → CallUnveils disks key before after call x s
   call_unveils before after runs (ByOwner run) x s left is at =
-      let so_far = all_left disks counted key start m1 m2 holds before runs in
-      let held = so_far.3.shows.2 in
-      let same : so_far.3.shows.0 ≡ x = let both = sym so_far.3.shows.1 ∙ is in cc in
-      let stands = subst (StandsForJournal key held.held) same held.stands_for in
-      let shows : ShowsJournal key held.held (disks.shown before) = (x, is, stands) in
+      let found = finds before runs x is in
+      let m = found.0 in
+      let stands = found.1 in
       let seen = seen_from run.left_before run.left_after (disks.shown before) (disks.shown after) run.written_before run.written_after in
-      let to = reached_by key held.held stands.valid (lines_behind (lines_in run.typed)) seen (disks.may_leave after)
-      (KeepsUpTo key held.held (disks.shown before) (disks.shown after) (disks.may_leave before) (disks.since after (disks.moment before)))
-      stands.whole_keys run.status run.asked (run.ran key held.held run.hands_in shows) in (
-        held.held,
-        to.reached,
-        stands,
-        to.longer,
-        λ veiled. run_shows key held.held to.reached x (disks.shown before) (disks.shown after) (disks.since after (disks.moment before)) is stands to.longer to.valid
-            to.whole_keys veiled (to.kept.hands x is) s left at,
-      )
+      let to = reached_by key m stands.valid (lines_behind (lines_in run.typed)) seen (disks.may_leave after)
+      (KeepsUpTo key m (disks.shown before) (disks.shown after) (disks.may_leave before) (disks.since after (disks.moment before)))
+      stands.whole_keys run.status run.asked (run.ran key m run.hands_in (x, is, stands)) in
+      opened_unveils before after m x is stands to s left at
+  call_unveils before after runs (ByUpgrade call) x s left is at =
+      let found = finds before runs x is in
+      let m = found.0 in
+      let stands = found.1 in
+      let seen = seen_from call.left_before call.left_after (disks.shown before) (disks.shown after) call.written_before call.written_after in
+      let to = upgrade_reached key m stands.valid stands.whole_keys seen (disks.may_leave after)
+      (KeepsUpTo key m (disks.shown before) (disks.shown after) (disks.may_leave before) (disks.since after (disks.moment before)))
+      call.status (call.ran key m call.hands_in (x, is, stands)) in
+      opened_unveils before after m x is stands to s left at
   call_unveils before after runs (ByOther call) x s left is at = let both = sym (call.same s left at).0 ∙ is in cc
-
-  -- what a stop leaves at a moment of a call stands for a journal
-  stands_at : (before after : D) (l h : Journal) → HoldsBetween key l h (disks.shown before) (disks.may_leave before) → CallOver disks key before after
-      → (s c : List ℕ) → disks.since after (disks.moment before) s c → (held : Journal) × StandsForJournal key held c
-  stands_at before after l h held (ByOwner run) s c at = let k = (run_leaves disks counted key start before after l h held run).kept s c at in (k.held, k.stands_for)
-  stands_at before after l h held (ByOther call) s c at =
-      let k = call_between disks counted key start before after l h held call c (call.same s c at).1 in (k.held, k.stands_for)
 
   module _ (stays : StaysPublished key (disks.shown start) (disks.may_leave start)) where
     -- all that was shown, of what is left in the end
@@ -103,7 +119,7 @@ module _ {D : Type 0} (disks : disk.Ghosts D)
         kept_by key s bytes end.held end.stands_for (prefix_trans (published_batches key s) (batches_of key held) (batches_of key end.held) of_l longer))
         (all_keep disks counted key start m1 m2 holds stays before after runs call)
         (λ s c at. tt)
-        (stands_at before after so_far.0 so_far.1 so_far.3 call)
+        (call_stands disks counted key start before after so_far.0 so_far.1 so_far.3 call)
 
 -- ---- a veil key that comes too early
 

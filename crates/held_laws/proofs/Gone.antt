@@ -87,6 +87,7 @@ module _ (key : List ℕ) (m : Journal) (m_valid : IsValid m) (lines : List Inpu
   pub gone_by : AreWhole key m → (status : Status) (asked : List Request) → Ends status version_limits key m asked lines seen may_leave KeepsTo → Here
   gone_by keys statuses.Done asked (run, is) = settled run.asked run.session run.leaves run.kept
   gone_by keys (statuses.BadScript line) asked all = settled all.2.asked all.2.session all.2.leaves all.2.kept
+  gone_by keys statuses.NeedsUpgrade asked all = settled all.1.asked all.1.session all.1.leaves all.1.kept
   gone_by keys statuses.ReadFault asked run =
       ⊎_elim (λ is. unopened keys is.1.kept) (λ all. settled all.1.asked all.1.session all.1.leaves all.1.kept) run
   gone_by keys (statuses.RandomShort left need) asked (run, is) = settled run.ran.asked run.ran.session run.leaves run.kept
@@ -103,7 +104,6 @@ module _ (key : List ℕ) (m : Journal) (m_valid : IsValid m) (lines : List Inpu
   gone_by keys statuses.NotBlank asked run = absurd run
   gone_by keys (statuses.NoHolder known) asked run = absurd run
   gone_by keys statuses.Unseen asked run = absurd run
-  gone_by keys statuses.NeedsUpgrade asked run = absurd run
   gone_by keys statuses.AlreadyNew asked run = absurd run
   gone_by keys (statuses.Behind have want) asked run = absurd run
   gone_by keys (statuses.Forked batches) asked run = absurd run

@@ -6,6 +6,9 @@
 -- named, and with the log that the run before left: so it is where the run printed its head, and where `check` accepts that another head
 -- goes on from there. A run that was stopped, or met a fault of the disk, left what a stop might leave then; the next opening for writing
 -- fills the slots of that, and so they are filled here.
+--
+-- An upgrade takes no head, and is no run. Of what it spends nothing is said here: a second one, of a copy of version 1 that was put back,
+-- spends the numbers of the first again.
 use Rattle.std.specs.Prelude.{◌≡◌, ◌≢◌, ◌+◌, ℕ, List, [], ◌∷◌, ◌++◌, map, take, Some, Result, Ok}
 use Rattle.std.specs.List.{flat_map}
 use Rattle.chacha_seal.specs.Sealing.{veil_of}

@@ -1,4 +1,4 @@
--- Calls of the program in a list of calls: those that aren't a run by the owner leave the store as it is.
+-- Calls of the program in a list of calls: those that aren't a run or an upgrade by the owner leave the store as it is.
 use Rattle.std.proofs.Common.{◌≡◌, ◌≤◌, ◌≢◌, ◌⊎◌, ⊎_elim, inl, inr, ℕ, Bool, true, false, List, [], length, take, drop, Some, None, Result, Ok, Err, arith, refl, sym, ap, subst, ◌∙◌}
 use Rattle.std.specs.Prelude.{IsTrue, codes, if◌then◌else◌, is_some, nat_le, slice_range, ◌++◌, ◌∷◌}
 use Rattle.std.specs.Str.{bytes_eq}
@@ -24,11 +24,14 @@ use Rattle.cry_io.specs.declared.disk.Disk as disk
 use Rattle.cli_making.specs.Promises.Gen.{GenEnds}
 use Rattle.cli_making.specs.Promises.Make.{MakeEnds}
 use Rattle.cli_running.specs.Promises.Run.{RunEnds}
-use Rattle.cli_running.specs.Running.{key_in_lines, lines_in}
+use Rattle.cli_running.specs.Running.{HandsInFirst, key_in_lines, lines_in}
+use Rattle.cli_upgrading.specs.Promises.Upgrade.{UpgradeEnds}
+use Rattle.cli_upgrading.specs.Upgrading.{HandsInAlone}
 use Rattle.cli_base.specs.Status.{is_before_write}
-use Rattle.cli_running.specs.Unopened.{HasOpened, LeavesUnopened, WasTried}
 use Rattle.cli_base.specs.World.{Senses, World}
 use Rattle.cli_base.specs.declared.status.Status.{Status}
+use Rattle.cli_base.specs.declared.status.Status.TheVariants as statuses
+use Rattle.cli_sessions.specs.Opening.{HasOpened, LeavesUnopened, WasTried}
 use Rattle.cli_sessions.proofs.RunEnds.{still_told}
 use Rattle.cli_sessions.proofs.StopLemmas.{time_still}
 use Rattle.journal_bytes.specs.Bytes.{bodies_of}
@@ -37,8 +40,8 @@ use Rattle.log_visits.specs.Asking.{failure_of, open_with, opened_store, verdict
 use Rattle.log_visits.specs.Asking.Asking.{ToWrite}
 use Rattle.log_visits.specs.Judging.{OfBytes, of_bytes, read_through, then_on}
 use Rattle.public_fold.specs.Journal.{Journal}
-use Rattle.stop_laws.specs.Others.{IsByOther}
-use Rattle.stop_laws.specs.Runs.{LeavesStore, RunOver}
+use Rattle.stop_laws.specs.Others.{IsByOther, IsUpgradeByOther}
+use Rattle.stop_laws.specs.Runs.{LeavesStore, RunOver, UpgradeOver}
 use Rattle.store_owner.proofs.OpenedBehind.{within}
 
 -- ---- a key with another check
@@ -190,28 +193,60 @@ module _ {S R D W : Type 0} (see : Senses S R D W)
     published = run.published typed told;
   }
 
-  -- a run whose first line hands in no key, or one of another
-  module _ (owner : List ℕ) (m : Journal) (typed : List ℕ) (told : see.inputs.left before.input ≡ Some typed)
-      (shows : ShowsJournal owner m (see.disks.shown before.disk)) (other : IsByOther owner typed) where
-    unopened_same : LeavesUnopened see status before after → SameDisk
+  -- an upgrade by the owner
+  pub owner_upgrade : (owner typed : List ℕ) → see.inputs.left before.input ≡ Some typed → HandsInAlone typed owner
+      → UpgradeEnds see status before after → UpgradeOver see.disks owner before.disk after.disk
+  owner_upgrade owner typed told hands call = record {
+    status = status;
+    typed = typed;
+    left_before = see.randoms.left before.random;
+    left_after = see.randoms.left after.random;
+    written_before = see.outs.written before.out;
+    written_after = see.outs.written after.out;
+    hands_in = hands;
+    later = call.later;
+    ran = call.ran typed told;
+    printed = call.printed;
+    published = call.published typed told;
+  }
+
+  -- a call that opens a store, whose input hands in no key, or one of another
+  module _ (HandsIn : List ℕ → List ℕ → Type 0) (owner : List ℕ) (m : Journal) (typed : List ℕ) (told : see.inputs.left before.input ≡ Some typed)
+      (shows : ShowsJournal owner m (see.disks.shown before.disk)) (other : (key : List ℕ) → HandsIn typed key → check_of owner ≢ check_of key) where
+    unopened_same : LeavesUnopened HandsIn see status before after → SameDisk
     unopened_same left s c at =
         ⊎_elim
         (λ (is : after.disk ≡ before.disk). (disk_untouched is).same s c at)
         (λ tried. tried_same see.disks counted present may_be_left before.disk after.disk status owner tried.0 m shows (other tried.0 (tried.1 typed told)) tried.2 s c at)
         left.store
 
-    never_opened : HasOpened see status before after → SameDisk
-    never_opened opened s c at =
+    never_opened : (refusal : Status) (version : ℕ) → HasOpened HandsIn refusal version see status before after → SameDisk
+    never_opened refusal version opened s c at =
         let x = shows.0 in
         let passes = opened.passes typed x told shows.1 in
         let wrong = other_opening owner passes.0 x (other passes.0 passes.1) most_store_bytes (whole_log owner (bodies_of owner m)) (opened_journal owner m x shows.2) in
         let no : None ≡ Some (OfBytes WrongKey) = sym passes.2 ∙ refused_verdict passes.0 x wrong in
         absurd cc
 
-    pub run_leaves_store : RunEnds see status before after → is_some (see.disks.shown after.disk) ≡ is_some (see.disks.shown before.disk) → LeavesDisk
-    run_leaves_store run stays_told =
-        same_leaves see.disks counted present may_be_left before.disk after.disk shows.0 shows.1 run.later run.time stays_told
-        (λ s c at. ⊎_elim (λ left. unopened_same left s c at) (λ opened. never_opened opened s c at) run.opening)
+    opening_leaves : (refusal : Status) (version : ℕ) → LeavesUnopened HandsIn see status before after ⊎ HasOpened HandsIn refusal version see status before after
+        → see.disks.moment before.disk ≤ see.disks.moment after.disk
+        → GoesOn (see.disks.moment before.disk) (see.disks.since before.disk) (see.disks.since after.disk)
+        → is_some (see.disks.shown after.disk) ≡ is_some (see.disks.shown before.disk) → LeavesDisk
+    opening_leaves refusal version opening later time stays_told =
+        same_leaves see.disks counted present may_be_left before.disk after.disk shows.0 shows.1 later time stays_told
+        (λ s c at. ⊎_elim (λ left. unopened_same left s c at) (λ opened. never_opened refusal version opened s c at) opening)
+
+  module _ (owner : List ℕ) (m : Journal) (typed : List ℕ) (told : see.inputs.left before.input ≡ Some typed)
+      (shows : ShowsJournal owner m (see.disks.shown before.disk)) where
+    pub run_leaves_store : IsByOther owner typed → RunEnds see status before after
+        → is_some (see.disks.shown after.disk) ≡ is_some (see.disks.shown before.disk) → LeavesDisk
+    run_leaves_store other run stays_told =
+        opening_leaves HandsInFirst owner m typed told shows other statuses.NeedsUpgrade 2 run.opening run.later run.time stays_told
+
+    pub upgrade_leaves_store : IsUpgradeByOther owner typed → UpgradeEnds see status before after
+        → is_some (see.disks.shown after.disk) ≡ is_some (see.disks.shown before.disk) → LeavesDisk
+    upgrade_leaves_store other call stays_told =
+        opening_leaves HandsInAlone owner m typed told shows other statuses.AlreadyNew 1 call.opening call.later call.time stays_told
 
   -- over a store that stands `make` and `gen` answer that the disk isn't blank
   module _ (owner : List ℕ) (m : Journal) (sized : (s : List ℕ) → see.disks.shown before.disk ≡ Some s → length s ≡ see.disks.size_of before.disk)

@@ -13,9 +13,9 @@ use Rattle.public_fold.specs.Journal.{Journal}
 use Rattle.store_owner.specs.Published.{HasPublished, StaysPublished, published_batches}
 use Rattle.store_owner.proofs.PublishedCommands.{published_front}
 use Rattle.stop_laws.specs.Runs.{CallOver, IsLeft, Runs}
-use Rattle.stop_laws.specs.Runs.CallOver.{ByOther, ByOwner}
+use Rattle.stop_laws.specs.Runs.CallOver.{ByOther, ByOwner, ByUpgrade}
 use Rattle.stop_laws.specs.Runs.Runs.{Begun, Ran, StopsBehind, StopsIn}
-use Rattle.stop_laws.proofs.Left.{all_left, call_between, left_between, run_leaves}
+use Rattle.stop_laws.proofs.Left.{all_left, call_stands, left_between}
 
 -- where nothing is pending, what is left is what is shown
 pub calm_stays : (key : List ℕ) (shown : Option (List ℕ)) (may_leave : List ℕ → Type 0) → IsDurable may_leave shown → StaysPublished key shown may_leave
@@ -33,6 +33,7 @@ module _ {D : Type 0} (disks : disk.Ghosts D)
 
   call_later : (before after : D) → Call before after → disks.moment before ≤ disks.moment after
   call_later before after (ByOwner run) = run.later
+  call_later before after (ByUpgrade call) = call.later
   call_later before after (ByOther call) = call.later
 
   abbrev On : D → D → (List ℕ → List ℕ → Type 0) → Type 0
@@ -45,6 +46,10 @@ module _ {D : Type 0} (disks : disk.Ghosts D)
       let at = held.shows.2 in
       let shows : ShowsJournal key at.held (disks.shown before) = (held.shows.0, held.shows.1, at.stands_for) in
       run.published key at.held run.hands_in shows stays
+  call_keeps before after l h held stays (ByUpgrade call) =
+      let at = held.shows.2 in
+      let shows : ShowsJournal key at.held (disks.shown before) = (held.shows.0, held.shows.1, at.stands_for) in
+      call.published key at.held call.hands_in shows stays
   call_keeps before after l h held stays (ByOther call) =
       on_in_one D disks.moment disks.since (HasPublished key) before after call.later call.time
       (λ s c t e at next.
@@ -53,14 +58,6 @@ module _ {D : Type 0} (disks : disk.Ghosts D)
       (λ left. stays s is e left)
       (λ shows. let same : s ≡ e = let both = sym is ∙ shows in cc in subst (HasPublished key s) same (published_front key s))
       (call.same t e next).1)
-
-  -- what a stop leaves at a moment of a call stands for a journal
-  call_stands : (start before after : D) (l h : Journal) → HoldsBetween key l h (disks.shown before) (disks.may_leave before) → Call before after
-      → (s c : List ℕ) → disks.since after (disks.moment before) s c → (held : Journal) × StandsForJournal key held c
-  call_stands start before after l h holds (ByOwner run) s c at =
-      let k = (run_leaves disks counted key start before after l h holds run).kept s c at in (k.held, k.stands_for)
-  call_stands start before after l h holds (ByOther call) s c at =
-      let k = call_between disks counted key start before after l h holds call c (call.same s c at).1 in (k.held, k.stands_for)
 
   module _ (start : D) (m1 m2 : Journal) (holds : HoldsBetween key m1 m2 (disks.shown start) (disks.may_leave start)) (stays : StaysPublished key (disks.shown start) (disks.may_leave start)) where
     pub all_stay : (now : D) → Came start now → StaysPublished key (disks.shown now) (disks.may_leave now)
@@ -103,4 +100,4 @@ module _ {D : Type 0} (disks : disk.Ghosts D)
         (prefix_trans (published_batches key s) (batches_of key held) (batches_of key end.held) of_l longer))
         (all_keep before after runs run)
         (λ s c at. tt)
-        (call_stands start before after so_far.0 so_far.1 so_far.3 run)
+        (call_stands disks counted key start before after so_far.0 so_far.1 so_far.3 run)

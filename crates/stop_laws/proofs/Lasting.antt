@@ -12,10 +12,9 @@ use Rattle.journal_bytes.proofs.Grown.{batches_grow, journal_recovered}
 use Rattle.public_fold.specs.Journal.{Journal}
 use Rattle.store_owner.specs.Published.{HasPublished, StaysPublished, published_batches}
 use Rattle.stop_laws.specs.Runs.{Runs, WasShown}
-use Rattle.stop_laws.specs.Runs.CallOver.{ByOther, ByOwner}
 use Rattle.stop_laws.specs.Runs.Runs.{Begun, Ran, StopsBehind, StopsIn}
 use Rattle.stop_laws.proofs.Kept.{all_stay, ends_keep}
-use Rattle.stop_laws.proofs.Left.{all_left, run_leaves}
+use Rattle.stop_laws.proofs.Left.{all_left, call_leaves}
 
 -- ---- beginnings of one list
 
@@ -126,7 +125,7 @@ module _ {D : Type 0} (disks : disk.Ghosts D)
   left_too : (d : D) (s : List ℕ) → ((c : List ℕ) → disks.may_leave d c → HasPublished key s c) → (c : List ℕ) → (disks.shown d ≡ Some c) ⊎ disks.may_leave d c → HasPublished key s c
   left_too d s has c either = ⊎_elim (λ is. has c (may_be_left d c is)) (λ left. has c left) either
 
-  -- behind the owner's run, and at each moment of it
+  -- behind a call, and at each moment of it
   raised_at : (s : List ℕ) (before : D) (runs : Came before) → ((c : List ℕ) → disks.may_leave before c → HasPublished key s c)
       → (h : Journal) × Raised key (disks.shown before) (disks.may_leave before) (published_batches key s) m1 h
   raised_at s before runs has =
@@ -141,22 +140,14 @@ module _ {D : Type 0} (disks : disk.Ghosts D)
 
   pub never_lost : (now : D) (runs : Came now) (s : List ℕ) → WasShown disks key start now runs s → (bytes : List ℕ) → disks.may_leave now bytes → HasPublished key s bytes
   never_lost now Begun s was bytes left = stays s was bytes left
-  never_lost now (Ran {before = before} {after = after} runs (ByOwner run)) s was bytes left =
+  never_lost now (Ran {before = before} {after = after} runs call) s was bytes left =
       ⊎_elim
       (λ old.
       let up = raised_at s before runs (never_lost before runs s old) in
-      let then = run_leaves disks counted key start before now up.1.low up.0 up.1.holds run in
+      let then = call_leaves disks counted key start before now up.1.low up.0 up.1.holds call in
       let at = then.holds.leaves bytes left in
       has_from s bytes up.1.low at.held up.1.has (prefix_trans up.1.low then.low at.held then.grown at.from) at.stands_for)
-      (λ at. ends_keep disks counted key start m1 m2 holds stays present before now runs (ByOwner run) s at.0 bytes at.1 left)
-      was
-  never_lost now (Ran {before = before} {after = after} runs (ByOther call)) s was bytes left =
-      ⊎_elim
-      (λ old. ⊎_elim
-      (λ could. never_lost before runs s old bytes could)
-      (λ is. never_lost before runs s old bytes (may_be_left before bytes is))
-      (call.leaves bytes left))
-      (λ at. ends_keep disks counted key start m1 m2 holds stays present before now runs (ByOther call) s at.0 bytes at.1 left)
+      (λ at. ends_keep disks counted key start m1 m2 holds stays present before now runs call s at.0 bytes at.1 left)
       was
   never_lost now (StopsBehind {before = before} {after = after} {bytes = there} runs could is) s was bytes left =
       ⊎_elim
@@ -165,23 +156,12 @@ module _ {D : Type 0} (disks : disk.Ghosts D)
       subst (HasPublished key s) same (never_lost before runs s old there could))
       (λ now_shown. all_stay disks counted key start m1 m2 holds stays now (StopsBehind runs could is) s now_shown bytes left)
       was
-  never_lost now (StopsIn {before = before} {after = after} {next = next} {there = there} {bytes = stopped} runs (ByOwner run) at is) s was bytes left =
+  never_lost now (StopsIn {before = before} {after = after} {next = next} {there = there} {bytes = stopped} runs call at is) s was bytes left =
       ⊎_elim
       (λ old.
       let same : stopped ≡ bytes = let both = sym is.0 ∙ is.1 bytes left in cc in
       let up = raised_at s before runs (never_lost before runs s old) in
-      let k = (run_leaves disks counted key start before after up.1.low up.0 up.1.holds run).kept there stopped at in
+      let k = (call_leaves disks counted key start before after up.1.low up.0 up.1.holds call).kept there stopped at in
       subst (HasPublished key s) same (has_from s stopped up.1.low k.held up.1.has k.from k.stands_for))
-      (λ now_shown. all_stay disks counted key start m1 m2 holds stays now (StopsIn runs (ByOwner run) at is) s now_shown bytes left)
-      was
-  never_lost now (StopsIn {before = before} {after = after} {next = next} {there = there} {bytes = stopped} runs (ByOther call) at is) s was bytes left =
-      ⊎_elim
-      (λ old.
-      let same : stopped ≡ bytes = let both = sym is.0 ∙ is.1 bytes left in cc in
-      subst (HasPublished key s) same
-      (⊎_elim
-      (λ could. never_lost before runs s old stopped could)
-      (λ shows. never_lost before runs s old stopped (may_be_left before stopped shows))
-      (call.same there stopped at).1))
-      (λ now_shown. all_stay disks counted key start m1 m2 holds stays now (StopsIn runs (ByOther call) at is) s now_shown bytes left)
+      (λ now_shown. all_stay disks counted key start m1 m2 holds stays now (StopsIn runs call at is) s now_shown bytes left)
       was

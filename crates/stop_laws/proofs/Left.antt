@@ -1,14 +1,18 @@
--- What runs and stops leave of a store.
-use Rattle.std.proofs.Common.{◌≡◌, ◌≤◌, ◌⊎◌, ⊎_elim, inl, inr, ℕ, List, [], ◌∷◌, ◌++◌, Option, Some, sym, subst, ◌∙◌}
+-- What calls and stops leave of a store.
+use Rattle.std.proofs.Common.{◌≡◌, ◌≤◌, ◌⊎◌, ⊎_elim, inl, inr, ℕ, false, List, [], ◌∷◌, ◌++◌, length, Option, Some, arith, sym, ap, subst, ◌∙◌}
+use Rattle.std.proofs.Math.Seq.{take-length}
 use Rattle.commit_journal.specs.Holding.{IsBetween, IsPrefix}
 use Rattle.commit_journal.proofs.KeptLemmas.{prefix_same, prefix_trans}
 use Rattle.cry_base.specs.Requests.{Request}
+use Rattle.cry_base.specs.declared.commands.Reply.{Reply}
 use Rattle.cry_base.specs.declared.limits.Limits.{Limits}
 use Rattle.cry_io.specs.Told.{WhereBothTold}
 use Rattle.cry_io.specs.declared.disk.Disk as disk
 use Rattle.cli_base.specs.Lines.{InputLine}
+use Rattle.cli_base.specs.Outside.{PrintsAll, PrintsFront}
 use Rattle.cli_sessions.specs.Sessions.{Ends, HasRun, IsUnopened, LeavesAt, RanCut, RanTo, RanUnwritten, Seen, SessionOver, seen_from, version_limits}
 use Rattle.cli_running.specs.Running.{lines_behind, lines_in}
+use Rattle.cli_upgrading.specs.Upgrading.{EndsUpgrade, HasAnswered, HasRested, PrintsReply, WasCutShort}
 use Rattle.cli_sessions.specs.Script.{Asks, PrintsCut}
 use Rattle.cli_sessions.specs.Stopping.{KeepsUpTo}
 use Rattle.cli_base.specs.declared.status.Status.{Status}
@@ -18,13 +22,15 @@ use Rattle.cli_sessions.proofs.ScriptLemmas.{whole_is_cut}
 use Rattle.cli_sessions.proofs.StopLemmas.{line_grows, settled_holds_journal}
 use Rattle.journal_bytes.specs.Journals.{HoldsBetween, Kept, ShowsJournal, StandsForJournal}
 use Rattle.journal_bytes.specs.Script.{Going, answer, line_going, opened, script_going}
+use Rattle.journal_bytes.specs.Upgrading.{upgraded_then}
 use Rattle.public_fold.specs.Journal.{Journal}
+use Rattle.script_text.specs.Printing.{spell_reply}
 use Rattle.store_owner.specs.Drawing.{joined}
-use Rattle.stop_laws.specs.Coming.{ComesOf, IsMadeOf, IsOfRuns}
-use Rattle.stop_laws.specs.Runs.{HoldsAll, HoldsRun, IsLeft, LeavesStore, RunOver, Runs}
-use Rattle.stop_laws.specs.Runs.CallOver.{ByOther, ByOwner}
+use Rattle.stop_laws.specs.Coming.{ComesOf, IsMadeOf, IsOfRuns, IsUpgradeOf}
+use Rattle.stop_laws.specs.Runs.{CallOver, HoldsAll, HoldsRun, HoldsUpgrade, IsLeft, LeavesStore, Runs}
+use Rattle.stop_laws.specs.Runs.CallOver.{ByOther, ByOwner, ByUpgrade}
 use Rattle.stop_laws.specs.Runs.Runs.{Begun, Ran, StopsBehind, StopsIn}
-use Rattle.stop_laws.proofs.Made.{made_front, next_made, session_made}
+use Rattle.stop_laws.proofs.Made.{answered_begins, made_front, next_made, session_made, upgrade_front}
 
 -- ---- a session makes a journal longer, and takes nothing away
 
@@ -45,134 +51,265 @@ unfolding opened
 session_begins limits m asked session =
     subst (λ (g : Going). IsPrefix m g.journal) (session.goes []) (session_grows limits (opened m (joined session.drawn ++ [])) asked)
 
--- ---- one run
+-- ---- one call
 
--- what a run left of a disk that held between two journals
-pub record Leaves (key : List ℕ) (l h : Journal) (was shown written_before written_after : Option (List ℕ)) (typed : List ℕ) (since : List ℕ → List ℕ → Type 0) (may_leave : List ℕ → Type 0) : Type 0 where
+-- What a call left of a disk that held between two journals: what it reached is a front of the higher one, or it made that of the journal
+-- that it found; and the lower one has what it acknowledged.
+pub record Leaves (key : List ℕ) (l h : Journal) (was shown : Option (List ℕ)) (Makes : Journal → Journal → Type 0) (Holds : Journal → Type 0) (since : List ℕ → List ℕ → Type 0) (may_leave : List ℕ → Type 0) : Type 0 where
   pub low : Journal
   pub high : Journal
   pub grown : IsPrefix l low
   pub holds : HoldsBetween key low high shown may_leave
   pub kept : Kept key l h high since
-  pub made : IsPrefix high h ⊎ ((m : Journal) × IsPrefix m h × ShowsJournal key m was × IsMadeOf m (lines_behind (lines_in typed)) high)
-  pub acknowledged : HoldsRun key was typed written_before written_after low
+  pub made : IsPrefix high h ⊎ ((m : Journal) × IsPrefix m h × ShowsJournal key m was × Makes m high)
+  pub acknowledged : Holds low
 
-module _ (key : List ℕ) (l h m : Journal) (left_before left_after was shown written_before written_after : Option (List ℕ)) (typed : List ℕ)
+module _ (key : List ℕ) (l h m : Journal) (left_before left_after was shown written_before written_after : Option (List ℕ))
     (could_leave : List ℕ → Type 0) (since : List ℕ → List ℕ → Type 0) (may_leave : List ℕ → Type 0)
     (held : HoldsBetween key l h was could_leave) (low_m : IsPrefix l m) (m_high : IsPrefix m h) (shows : ShowsJournal key m was)
     (counted : (s c : List ℕ) → shown ≡ Some s → may_leave c → since s c) where
   abbrev seen : Seen
   seen = seen_from left_before left_after was shown written_before written_after
 
-  abbrev lines : List InputLine
-  lines = lines_behind (lines_in typed)
-
   abbrev KeepsTo : Journal → Type 0
   KeepsTo = KeepsUpTo key m was shown could_leave since
 
-  abbrev Left : Type 0
-  Left = Leaves key l h was shown written_before written_after typed since may_leave
+  -- whatever such calls make and hold
+  module _ (Makes : Journal → Journal → Type 0) (Holds : Journal → Type 0) where
+    abbrev LeftBy : Type 0
+    LeftBy = Leaves key l h was shown Makes Holds since may_leave
 
-  -- behind the opening, at rest
-  settled : (asked : List Request) (rest : List InputLine) (asks : Asks asked lines rest) (session : SessionOver version_limits m asked)
-      → LeavesAt key m session.now seen may_leave → KeepsTo session.now → WhereBothTold written_before written_after (PrintsCut session.replies) → Left
-  settled asked rest asks session leaves kept prints = record {
-    low = session.now;
-    high = session.now;
-    grown = prefix_trans l m session.now low_m (session_begins version_limits m asked session);
-    holds = settled_holds_journal key session.now shown may_leave leaves.settled;
-    kept = kept.kept l h held low_m;
-    made = inr (m, m_high, shows, session_made m asked lines rest asks session);
-    acknowledged = inr (m, shows, record { asked = asked; rest = rest; asks = asks; session = session; prints = prints; holds = prefix_same session.now });
+    -- behind the opening, at rest
+    rested : (now : Journal) → IsPrefix m now → LeavesAt key m now seen may_leave → KeepsTo now
+        → IsPrefix now h ⊎ ((m : Journal) × IsPrefix m h × ShowsJournal key m was × Makes m now) → Holds now → LeftBy
+    rested now longer leaves kept made acknowledged = record {
+      low = now;
+      high = now;
+      grown = prefix_trans l m now low_m longer;
+      holds = settled_holds_journal key now shown may_leave leaves.settled;
+      kept = kept.kept l h held low_m;
+      made = made;
+      acknowledged = acknowledged;
+    }
+
+    -- before the opening, or in it
+    unopened : IsUnopened key m seen KeepsTo → Holds l → LeftBy
+    unopened is acknowledged =
+        let kept = is.kept.kept l h held low_m in
+        let still = is.shows_still in
+        record {
+          low = l;
+          high = h;
+          grown = prefix_same l;
+          holds = record {
+            shows = (still.0, still.1, record { held = m; from = low_m; to = m_high; stands_for = still.2 });
+            leaves = λ c left.
+                let k = kept still.0 c (counted still.0 c still.1 left) in
+                (let at : IsBetween (StandsForJournal key) l h c = record {
+                  held = k.held;
+                  from = k.from;
+                  to = ⊎_elim (λ p. p) (λ p. prefix_trans k.held m h p m_high) k.to;
+                  stands_for = k.stands_for;
+                } in at);
+          };
+          kept = λ s c at.
+              let k = kept s c at in
+              record { held = k.held; from = k.from; to = ⊎_elim (λ p. inl p) (λ p. inl (prefix_trans k.held m h p m_high)) k.to; stands_for = k.stands_for };
+          made = inl (prefix_same h);
+          acknowledged = acknowledged;
+        }
+
+  -- ---- a run
+
+  module _ (typed : List ℕ) where
+    abbrev lines : List InputLine
+    lines = lines_behind (lines_in typed)
+
+    abbrev MakesLines : Journal → Journal → Type 0
+    MakesLines first j = IsMadeOf first lines j
+
+    abbrev HoldsLines : Journal → Type 0
+    HoldsLines j = HoldsRun key was typed written_before written_after j
+
+    abbrev Left : Type 0
+    Left = Leaves key l h was shown MakesLines HoldsLines since may_leave
+
+    settled : (asked : List Request) (rest : List InputLine) (asks : Asks asked lines rest) (session : SessionOver version_limits m asked)
+        → LeavesAt key m session.now seen may_leave → KeepsTo session.now → WhereBothTold written_before written_after (PrintsCut session.replies) → Left
+    settled asked rest asks session leaves kept prints =
+        rested MakesLines HoldsLines session.now (session_begins version_limits m asked session) leaves kept
+        (inr (m, m_high, shows, session_made m asked lines rest asks session))
+        (inr (m, shows, record { asked = asked; rest = rest; asks = asks; session = session; prints = prints; holds = prefix_same session.now }))
+
+    ran_on : (rest : List InputLine) → HasRun version_limits key m lines rest seen may_leave KeepsTo → Left
+    ran_on rest run = settled run.asked rest run.asks run.session run.leaves run.kept (λ x y before after. whole_is_cut run.session.replies x y (run.prints x y before after))
+
+    cut : RanCut version_limits key m lines seen may_leave KeepsTo → Left
+    cut run = settled run.asked run.rest run.asks run.session run.leaves run.kept run.prints
+
+    to_next : (ran : RanTo version_limits m lines seen) → LeavesAt key m ran.session.now seen may_leave → KeepsTo ran.session.now → Left
+    to_next ran leaves kept =
+        let fewer = asks_fewer ran.asked ran.next lines ran.rest ran.asks in
+        settled ran.asked _ fewer.1 ran.session leaves kept (λ x y before after. whole_is_cut ran.session.replies x y (ran.prints x y before after))
+
+    unwritten : RanUnwritten version_limits key m lines seen may_leave KeepsTo → Left
+    unwritten run =
+        let ran = run.ran in
+        let fewer = asks_fewer ran.asked ran.next lines ran.rest ran.asks in
+        record {
+          low = ran.session.now;
+          high = _;
+          grown = prefix_trans l m ran.session.now low_m (session_begins version_limits m ran.asked ran.session);
+          holds = run.holds;
+          kept = run.kept.kept l h held low_m;
+          made = inr (m, m_high, shows, next_made m ran.asked ran.next lines ran.rest ran.asks ran.session ran.is_accepted run.last run.last_count run.last_sizes);
+          acknowledged = inr (
+            m,
+            shows,
+            record {
+              asked = ran.asked;
+              rest = _;
+              asks = fewer.1;
+              session = ran.session;
+              prints = λ x y before after. whole_is_cut ran.session.replies x y (ran.prints x y before after);
+              holds = prefix_same ran.session.now;
+            },
+          );
+        }
+
+    closed : IsUnopened key m seen KeepsTo → Left
+    closed is = unopened MakesLines HoldsLines is (inl is.unprinted)
+
+    left_by : (status : Status) (asked : List Request) → Ends status version_limits key m asked lines seen may_leave KeepsTo → Left
+    left_by statuses.Done asked run = ran_on [] run.0
+    left_by (statuses.BadScript line) asked run = ran_on run.0 run.2
+    left_by statuses.NeedsUpgrade asked run = ran_on lines run.1
+    left_by statuses.ReadFault asked run = ⊎_elim (λ is. closed is.1) (λ all. ran_on all.0 all.1) run
+    left_by (statuses.RandomShort left need) asked run = to_next run.0.ran run.0.leaves run.0.kept
+    left_by statuses.RandomFault asked run = to_next run.0.ran run.0.leaves run.0.kept
+    left_by statuses.WriteFault asked run = cut run.0
+    left_by statuses.DiskFault asked run = ⊎_elim (λ is. closed is.1) (λ all. unwritten all.0) run
+    left_by statuses.OutOfMemory asked run = ⊎_elim (λ is. closed is.1) (λ all. cut all.0) run
+    left_by statuses.Usage asked run = absurd run
+    left_by statuses.NotAStore asked run = absurd run
+    left_by (statuses.Damaged at) asked run = absurd run
+    left_by statuses.WrongKey asked run = absurd run
+    left_by (statuses.Tampered batch at) asked run = absurd run
+    left_by statuses.NotBlank asked run = absurd run
+    left_by (statuses.NoHolder known) asked run = absurd run
+    left_by statuses.Unseen asked run = absurd run
+    left_by statuses.AlreadyNew asked run = absurd run
+    left_by (statuses.Behind have want) asked run = absurd run
+    left_by (statuses.Forked batches) asked run = absurd run
+    left_by statuses.BadProof asked run = absurd run
+
+  -- ---- an upgrade
+
+  abbrev HoldsReply : Journal → Type 0
+  HoldsReply j = HoldsUpgrade key was written_before written_after j
+
+  abbrev LeftUpgraded : Type 0
+  LeftUpgraded = Leaves key l h was shown IsUpgradeOf HoldsReply since may_leave
+
+  abbrev PrintsNone : Type 0
+  PrintsNone = WhereBothTold written_before written_after (λ before after. after ≡ before)
+
+  answered : (done : HasAnswered key m seen may_leave KeepsTo) → HoldsReply done.now → LeftUpgraded
+  answered done acknowledged =
+      rested IsUpgradeOf HoldsReply done.now (answered_begins m done.drawn done.reply done.now done.answers) done.leaves done.kept
+      (⊎_elim
+      (λ is. inr (
+        m,
+        m_high,
+        shows,
+        record {
+          first = done.first;
+          is_accepted = is.0;
+          drawn = done.drawn;
+          drawn_count = is.1;
+          drawn_sizes = done.drawn_sizes;
+          front = subst (IsPrefix done.now) is.3 (prefix_same done.now);
+        },
+      ))
+      (λ full. inl (subst (λ j. IsPrefix j h) (sym full.3) m_high))
+      done.answers)
+      acknowledged
+
+  replied : (done : HasAnswered key m seen may_leave KeepsTo) → WhereBothTold written_before written_after (PrintsFront (spell_reply done.reply)) → LeftUpgraded
+  replied done prints =
+      answered done
+      (inr (
+        m,
+        shows,
+        record {
+          reply = done.reply;
+          drawn = done.drawn;
+          drawn_sizes = done.drawn_sizes;
+          now = done.now;
+          answers = done.answers;
+          prints = prints;
+          holds = prefix_same done.now;
+        },
+      ))
+
+  at_rest : (version : ℕ) → HasRested version key m seen may_leave KeepsTo → PrintsNone → LeftUpgraded
+  at_rest version rest none = rested IsUpgradeOf HoldsReply m (prefix_same m) rest.leaves rest.kept (inl m_high) (inl none)
+
+  cut_short : WasCutShort key m seen may_leave KeepsTo → PrintsNone → LeftUpgraded
+  cut_short run none = record {
+    low = m;
+    high = upgraded_then m false run.drawn;
+    grown = low_m;
+    holds = run.holds;
+    kept = run.kept.kept l h held low_m;
+    made = inr (
+      m,
+      m_high,
+      shows,
+      record {
+        first = run.first;
+        is_accepted = run.is_accepted;
+        drawn = run.drawn;
+        drawn_count = run.drawn_count;
+        drawn_sizes = run.drawn_sizes;
+        front = prefix_same (upgraded_then m false run.drawn);
+      },
+    );
+    acknowledged = inl none;
   }
 
-  ran_on : (rest : List InputLine) → HasRun version_limits key m lines rest seen may_leave KeepsTo → Left
-  ran_on rest run = settled run.asked rest run.asks run.session run.leaves run.kept (λ x y before after. whole_is_cut run.session.replies x y (run.prints x y before after))
+  never_begun : IsUnopened key m seen KeepsTo → PrintsNone → LeftUpgraded
+  never_begun is none = unopened IsUpgradeOf HoldsReply is (inl none)
 
-  cut : RanCut version_limits key m lines seen may_leave KeepsTo → Left
-  cut run = settled run.asked run.rest run.asks run.session run.leaves run.kept run.prints
+  whole_front : (piece before after : List ℕ) → PrintsAll piece before after → PrintsFront piece before after
+  whole_front piece before after is = (length piece, omega arith, is ∙ ap (λ p. before ++ p) (sym (take-length piece)))
 
-  to_next : (ran : RanTo version_limits m lines seen) → LeavesAt key m ran.session.now seen may_leave → KeepsTo ran.session.now → Left
-  to_next ran leaves kept =
-      let fewer = asks_fewer ran.asked ran.next lines ran.rest ran.asks in
-      settled ran.asked _ fewer.1 ran.session leaves kept (λ x y before after. whole_is_cut ran.session.replies x y (ran.prints x y before after))
+  upgraded_by : (status : Status) → (reply : Reply) × WhereBothTold written_before written_after (PrintsReply status reply)
+      → EndsUpgrade status key m seen may_leave KeepsTo → LeftUpgraded
+  upgraded_by statuses.Done printed call = replied call.0 (λ x y before after. whole_front (spell_reply call.0.reply) x y (call.1 x y before after))
+  upgraded_by statuses.WriteFault printed call = replied call.0 call.1
+  upgraded_by statuses.AlreadyNew printed call = at_rest 2 call.0 printed.1
+  upgraded_by (statuses.RandomShort left need) printed call = at_rest 1 call.0 printed.1
+  upgraded_by statuses.RandomFault printed call = at_rest 1 call.0 printed.1
+  upgraded_by statuses.ReadFault printed call = never_begun call printed.1
+  upgraded_by statuses.DiskFault printed call = ⊎_elim (λ is. never_begun is printed.1) (λ run. cut_short run printed.1) call
+  upgraded_by statuses.OutOfMemory printed call =
+      ⊎_elim (λ is. never_begun is printed.1) (λ opened. ⊎_elim (λ rest. at_rest 1 rest.0 printed.1) (λ done. answered done (inl printed.1)) opened) call
+  upgraded_by (statuses.BadScript line) printed call = absurd call
+  upgraded_by statuses.NeedsUpgrade printed call = absurd call
+  upgraded_by statuses.Usage printed call = absurd call
+  upgraded_by statuses.NotAStore printed call = absurd call
+  upgraded_by (statuses.Damaged at) printed call = absurd call
+  upgraded_by statuses.WrongKey printed call = absurd call
+  upgraded_by (statuses.Tampered batch at) printed call = absurd call
+  upgraded_by statuses.NotBlank printed call = absurd call
+  upgraded_by (statuses.NoHolder known) printed call = absurd call
+  upgraded_by statuses.Unseen printed call = absurd call
+  upgraded_by (statuses.Behind have want) printed call = absurd call
+  upgraded_by (statuses.Forked batches) printed call = absurd call
+  upgraded_by statuses.BadProof printed call = absurd call
 
-  unwritten : RanUnwritten version_limits key m lines seen may_leave KeepsTo → Left
-  unwritten run =
-      let ran = run.ran in
-      let fewer = asks_fewer ran.asked ran.next lines ran.rest ran.asks in
-      record {
-        low = ran.session.now;
-        high = _;
-        grown = prefix_trans l m ran.session.now low_m (session_begins version_limits m ran.asked ran.session);
-        holds = run.holds;
-        kept = run.kept.kept l h held low_m;
-        made = inr (m, m_high, shows, next_made m ran.asked ran.next lines ran.rest ran.asks ran.session ran.is_accepted run.last run.last_count run.last_sizes);
-        acknowledged = inr (
-          m,
-          shows,
-          record {
-            asked = ran.asked;
-            rest = _;
-            asks = fewer.1;
-            session = ran.session;
-            prints = λ x y before after. whole_is_cut ran.session.replies x y (ran.prints x y before after);
-            holds = prefix_same ran.session.now;
-          },
-        );
-      }
-
-  -- before the opening, or in it
-  unopened : IsUnopened key m seen KeepsTo → Left
-  unopened is =
-      let kept = is.kept.kept l h held low_m in
-      let still = is.shows_still in
-      record {
-        low = l;
-        high = h;
-        grown = prefix_same l;
-        holds = record {
-          shows = (still.0, still.1, record { held = m; from = low_m; to = m_high; stands_for = still.2 });
-          leaves = λ c left.
-              let k = kept still.0 c (counted still.0 c still.1 left) in
-              (let at : IsBetween (StandsForJournal key) l h c = record {
-                held = k.held;
-                from = k.from;
-                to = ⊎_elim (λ p. p) (λ p. prefix_trans k.held m h p m_high) k.to;
-                stands_for = k.stands_for;
-              } in at);
-        };
-        kept = λ s c at.
-            let k = kept s c at in
-            record { held = k.held; from = k.from; to = ⊎_elim (λ p. inl p) (λ p. inl (prefix_trans k.held m h p m_high)) k.to; stands_for = k.stands_for };
-        made = inl (prefix_same h);
-        acknowledged = inl is.unprinted;
-      }
-
-  left_by : (status : Status) (asked : List Request) → Ends status version_limits key m asked lines seen may_leave KeepsTo → Left
-  left_by statuses.Done asked run = ran_on [] run.0
-  left_by (statuses.BadScript line) asked run = ran_on run.0 run.2
-  left_by statuses.ReadFault asked run = ⊎_elim (λ is. unopened is.1) (λ all. ran_on all.0 all.1) run
-  left_by (statuses.RandomShort left need) asked run = to_next run.0.ran run.0.leaves run.0.kept
-  left_by statuses.RandomFault asked run = to_next run.0.ran run.0.leaves run.0.kept
-  left_by statuses.WriteFault asked run = cut run.0
-  left_by statuses.DiskFault asked run = ⊎_elim (λ is. unopened is.1) (λ all. unwritten all.0) run
-  left_by statuses.OutOfMemory asked run = ⊎_elim (λ is. unopened is.1) (λ all. cut all.0) run
-  left_by statuses.Usage asked run = absurd run
-  left_by statuses.NotAStore asked run = absurd run
-  left_by (statuses.Damaged at) asked run = absurd run
-  left_by statuses.WrongKey asked run = absurd run
-  left_by (statuses.Tampered batch at) asked run = absurd run
-  left_by statuses.NotBlank asked run = absurd run
-  left_by (statuses.NoHolder known) asked run = absurd run
-  left_by statuses.Unseen asked run = absurd run
-  left_by statuses.NeedsUpgrade asked run = absurd run
-  left_by statuses.AlreadyNew asked run = absurd run
-  left_by (statuses.Behind have want) asked run = absurd run
-  left_by (statuses.Forked batches) asked run = absurd run
-  left_by statuses.BadProof asked run = absurd run
-
--- ---- all runs
+-- ---- all calls
 
 run_more : (key : List ℕ) (was : Option (List ℕ)) (typed : List ℕ) (before after : Option (List ℕ)) (j more : Journal) → IsPrefix j more
     → HoldsRun key was typed before after j → HoldsRun key was typed before after more
@@ -193,6 +330,26 @@ run_more key was typed before after j more longer holds =
     ))
     holds
 
+upgrade_more : (key : List ℕ) (was before after : Option (List ℕ)) (j more : Journal) → IsPrefix j more → HoldsUpgrade key was before after j
+    → HoldsUpgrade key was before after more
+upgrade_more key was before after j more longer holds =
+    ⊎_elim
+    (λ none. inl none)
+    (λ all. inr (
+      all.0,
+      all.1,
+      record {
+        reply = all.2.reply;
+        drawn = all.2.drawn;
+        drawn_sizes = all.2.drawn_sizes;
+        now = all.2.now;
+        answers = all.2.answers;
+        prints = all.2.prints;
+        holds = prefix_trans all.2.now j more all.2.holds longer;
+      },
+    ))
+    holds
+
 module _ {D : Type 0} (disks : disk.Ghosts D)
     (counted : (d : D) (t : ℕ) (s c : List ℕ) → t ≤ disks.moment d → disks.shown d ≡ Some s → disks.may_leave d c → disks.since d t s c) (key : List ℕ) (start : D) where
   abbrev Came : D → Type 0
@@ -207,20 +364,28 @@ module _ {D : Type 0} (disks : disk.Ghosts D)
     all_more before runs j more longer holds.0,
     run_more key (disks.shown before) run.typed run.written_before run.written_after j more longer holds.1,
   )
+  all_more now (Ran {before = before} {after = after} runs (ByUpgrade call)) j more longer holds = (
+    all_more before runs j more longer holds.0,
+    upgrade_more key (disks.shown before) call.written_before call.written_after j more longer holds.1,
+  )
   all_more now (Ran {before = before} {after = after} runs (ByOther call)) j more longer holds = all_more before runs j more longer holds
   all_more now (StopsBehind {before = before} runs left is) j more longer holds = all_more before runs j more longer holds
   all_more now (StopsIn {before = before} runs call left is) j more longer holds = all_more before runs j more longer holds
 
-  pub run_leaves : (before after : D) (l h : Journal) → HoldsBetween key l h (disks.shown before) (disks.may_leave before) → (run : RunOver disks key before after)
-      → Leaves key l h (disks.shown before) (disks.shown after) run.written_before run.written_after run.typed (disks.since after (disks.moment before)) (disks.may_leave after)
-  run_leaves before after l h held run =
-      let at = held.shows.2 in
-      let shows : ShowsJournal key at.held (disks.shown before) = (held.shows.0, held.shows.1, at.stands_for) in
-      left_by key l h at.held run.left_before run.left_after (disks.shown before) (disks.shown after) run.written_before run.written_after run.typed (disks.may_leave before) (disks.since after (disks.moment before)) (disks.may_leave after)
-      held at.from at.to shows (λ s c is left. counted after (disks.moment before) s c run.later is left) run.status run.asked (run.ran key at.held run.hands_in shows)
+  -- ---- what a call makes, and what it acknowledges
+
+  abbrev MakesBy : {before after : D} → CallOver disks key before after → Journal → Journal → Type 0
+  MakesBy (ByOwner run) m j = IsMadeOf m (lines_behind (lines_in run.typed)) j
+  MakesBy (ByUpgrade call) m j = IsUpgradeOf m j
+  MakesBy (ByOther call) m j = ⊥
+
+  abbrev HoldsBy : {before after : D} → CallOver disks key before after → Journal → Type 0
+  HoldsBy {before = before} (ByOwner run) j = HoldsRun key (disks.shown before) run.typed run.written_before run.written_after j
+  HoldsBy {before = before} (ByUpgrade call) j = HoldsUpgrade key (disks.shown before) call.written_before call.written_after j
+  HoldsBy (ByOther call) j = Unit {0}
 
   -- a call that leaves the store as it is
-  pub call_between : (before after : D) (l h : Journal) → HoldsBetween key l h (disks.shown before) (disks.may_leave before) → LeavesStore disks before after
+  call_between : (before after : D) (l h : Journal) → HoldsBetween key l h (disks.shown before) (disks.may_leave before) → LeavesStore disks before after
       → (c : List ℕ) → disks.may_leave before c ⊎ (disks.shown before ≡ Some c) → IsBetween (StandsForJournal key) l h c
   call_between before after l h held call c either =
       ⊎_elim
@@ -230,12 +395,45 @@ module _ {D : Type 0} (disks : disk.Ghosts D)
       subst (IsBetween (StandsForJournal key) l h) same held.shows.2)
       either
 
-  pub call_holds : (before after : D) (l h : Journal) → HoldsBetween key l h (disks.shown before) (disks.may_leave before) → LeavesStore disks before after
+  call_holds : (before after : D) (l h : Journal) → HoldsBetween key l h (disks.shown before) (disks.may_leave before) → LeavesStore disks before after
       → HoldsBetween key l h (disks.shown after) (disks.may_leave after)
   call_holds before after l h held call = record {
     shows = (held.shows.0, call.shows ∙ held.shows.1, held.shows.2);
     leaves = λ c left. call_between before after l h held call c (call.leaves c left);
   }
+
+  abbrev LeftOver : {before after : D} → Journal → Journal → CallOver disks key before after → Type 0
+  LeftOver {before = before} {after = after} l h call = Leaves key l h (disks.shown before) (disks.shown after) (MakesBy call) (HoldsBy call)
+      (disks.since after (disks.moment before)) (disks.may_leave after)
+
+  pub call_leaves : (before after : D) (l h : Journal) → HoldsBetween key l h (disks.shown before) (disks.may_leave before)
+      → (call : CallOver disks key before after) → LeftOver l h call
+  call_leaves before after l h held (ByOwner run) =
+      let at = held.shows.2 in
+      let shows : ShowsJournal key at.held (disks.shown before) = (held.shows.0, held.shows.1, at.stands_for) in
+      left_by key l h at.held run.left_before run.left_after (disks.shown before) (disks.shown after) run.written_before run.written_after (disks.may_leave before) (disks.since after (disks.moment before)) (disks.may_leave after)
+      held at.from at.to shows (λ s c is left. counted after (disks.moment before) s c run.later is left) run.typed run.status run.asked (run.ran key at.held run.hands_in shows)
+  call_leaves before after l h held (ByUpgrade call) =
+      let at = held.shows.2 in
+      let shows : ShowsJournal key at.held (disks.shown before) = (held.shows.0, held.shows.1, at.stands_for) in
+      upgraded_by key l h at.held call.left_before call.left_after (disks.shown before) (disks.shown after) call.written_before call.written_after (disks.may_leave before) (disks.since after (disks.moment before)) (disks.may_leave after)
+      held at.from at.to shows (λ s c is left. counted after (disks.moment before) s c call.later is left) call.status call.printed (call.ran key at.held call.hands_in shows)
+  call_leaves before after l h held (ByOther call) = record {
+    low = l;
+    high = h;
+    grown = prefix_same l;
+    holds = call_holds before after l h held call;
+    kept = λ s c at.
+        let k = call_between before after l h held call c (call.same s c at).1 in
+        record { held = k.held; from = k.from; to = inl k.to; stands_for = k.stands_for };
+    made = inl (prefix_same h);
+    acknowledged = tt;
+  }
+
+  -- what a stop leaves at a moment of a call stands for a journal
+  pub call_stands : (before after : D) (l h : Journal) → HoldsBetween key l h (disks.shown before) (disks.may_leave before) → CallOver disks key before after
+      → (s c : List ℕ) → disks.since after (disks.moment before) s c → (held : Journal) × StandsForJournal key held c
+  call_stands before after l h held call s c at = let k = (call_leaves before after l h held call).kept s c at in (k.held, k.stands_for)
 
   -- a disk that shows what a stop left, which lay between the two
   pub left_between : (l h : Journal) (bytes : List ℕ) (d : D) → IsBetween (StandsForJournal key) l h bytes → IsLeft disks bytes d → HoldsBetween key l h (disks.shown d) (disks.may_leave d)
@@ -246,10 +444,12 @@ module _ {D : Type 0} (disks : disk.Ghosts D)
         subst (IsBetween (StandsForJournal key) l h) same lies;
   }
 
-  -- a front of what comes of the runs comes of them
+  -- ---- what comes of calls
+
   abbrev ComesHere : Journal → (now : D) → Came now → Journal → Type 0
   ComesHere m2 now runs j = ComesOf disks key m2 start now runs j
 
+  -- a front of what comes of the runs comes of them
   comes_front : (m2 : Journal) (now : D) (runs : Came now) (j front : Journal) → IsPrefix front j → ComesHere m2 now runs j → ComesHere m2 now runs front
   comes_front m2 now Begun j front shorter comes = prefix_trans front j m2 shorter comes
   comes_front m2 now (Ran {before = before} {after = after} runs (ByOther call)) j front shorter comes = comes_front m2 before runs j front shorter comes
@@ -258,6 +458,11 @@ module _ {D : Type 0} (disks : disk.Ghosts D)
       (λ old. inl (comes_front m2 before runs j front shorter old))
       (λ new. inr (new.0, new.1, new.2, made_front new.0 (lines_behind (lines_in run.typed)) j front shorter new.3))
       comes
+  comes_front m2 now (Ran {before = before} {after = after} runs (ByUpgrade call)) j front shorter comes =
+      ⊎_elim
+      (λ old. inl (comes_front m2 before runs j front shorter old))
+      (λ new. inr (new.0, new.1, new.2, upgrade_front new.0 j front shorter new.3))
+      comes
   comes_front m2 now (StopsBehind {before = before} runs left is) j front shorter comes = comes_front m2 before runs j front shorter comes
   comes_front m2 now (StopsIn {before = before} runs (ByOther call) left is) j front shorter comes = comes_front m2 before runs j front shorter comes
   comes_front m2 now (StopsIn {before = before} runs (ByOwner run) left is) j front shorter comes =
@@ -265,62 +470,85 @@ module _ {D : Type 0} (disks : disk.Ghosts D)
       (λ old. inl (comes_front m2 before runs j front shorter old))
       (λ new. inr (new.0, new.1, new.2, made_front new.0 (lines_behind (lines_in run.typed)) j front shorter new.3))
       comes
+  comes_front m2 now (StopsIn {before = before} runs (ByUpgrade call) left is) j front shorter comes =
+      ⊎_elim
+      (λ old. inl (comes_front m2 before runs j front shorter old))
+      (λ new. inr (new.0, new.1, new.2, upgrade_front new.0 j front shorter new.3))
+      comes
 
-  -- what one more run reaches
-  abbrev ReachesBy : Journal → (before : D) → Came before → List ℕ → Journal → Type 0
-  ReachesBy m2 before runs typed j =
-      ComesHere m2 before runs j ⊎ ((m : Journal) × ComesHere m2 before runs m × ShowsJournal key m (disks.shown before) × IsMadeOf m (lines_behind (lines_in typed)) j)
+  -- what one more call reaches
+  abbrev ReachesBy : Journal → (before : D) → Came before → (Journal → Journal → Type 0) → Journal → Type 0
+  ReachesBy m2 before runs Makes j = ComesHere m2 before runs j ⊎ ((m : Journal) × ComesHere m2 before runs m × ShowsJournal key m (disks.shown before) × Makes m j)
 
-  reaches : (m2 : Journal) (before : D) (runs : Came before) (typed : List ℕ) (h high : Journal) → ComesHere m2 before runs h
-      → IsPrefix high h ⊎ ((m : Journal) × IsPrefix m h × ShowsJournal key m (disks.shown before) × IsMadeOf m (lines_behind (lines_in typed)) high)
-      → ReachesBy m2 before runs typed high
-  reaches m2 before runs typed h high comes made =
+  reaches : (m2 : Journal) (before : D) (runs : Came before) (Makes : Journal → Journal → Type 0) (h high : Journal) → ComesHere m2 before runs h
+      → IsPrefix high h ⊎ ((m : Journal) × IsPrefix m h × ShowsJournal key m (disks.shown before) × Makes m high)
+      → ReachesBy m2 before runs Makes high
+  reaches m2 before runs Makes h high comes made =
       ⊎_elim
       (λ shorter. inl (comes_front m2 before runs h high shorter comes))
       (λ new. inr (new.0, comes_front m2 before runs h new.0 new.1 comes, new.2, new.3))
       made
 
+  -- ---- what is left
+
   abbrev LeftAt : (m1 m2 : Journal) (now : D) → Came now → Type 0
   LeftAt m1 m2 now runs = (low high : Journal) × IsPrefix m1 low × HoldsBetween key low high (disks.shown now) (disks.may_leave now) × HoldsHere now runs low × ComesHere m2 now runs high
 
+  module _ (m1 m2 : Journal) (before after : D) (runs : Came before) (so_far : LeftAt m1 m2 before runs) (call : CallOver disks key before after) where
+    abbrev left : LeftOver so_far.0 so_far.1 call
+    left = call_leaves before after so_far.0 so_far.1 so_far.3 call
+
+    -- behind one more call
+    behind_call : (low high : Journal) × IsPrefix m1 low × HoldsBetween key low high (disks.shown after) (disks.may_leave after)
+        × (HoldsHere before runs low × HoldsBy call low) × ReachesBy m2 before runs (MakesBy call) high
+    behind_call = (
+      left.low,
+      left.high,
+      prefix_trans m1 so_far.0 left.low so_far.2 left.grown,
+      left.holds,
+      (all_more before runs so_far.0 left.low left.grown so_far.4, left.acknowledged),
+      reaches m2 before runs (MakesBy call) so_far.1 left.high so_far.5 left.made,
+    )
+
+    -- behind a stop in it
+    abbrev BehindStop : D → Type 0
+    BehindStop now = (low high : Journal) × IsPrefix m1 low × HoldsBetween key low high (disks.shown now) (disks.may_leave now)
+        × HoldsHere before runs low × ReachesBy m2 before runs (MakesBy call) high
+
+    behind_stop : (now : D) (there bytes : List ℕ) → disks.since after (disks.moment before) there bytes → IsLeft disks bytes now → BehindStop now
+    behind_stop now there bytes at is =
+        let k = left.kept there bytes at in
+        let to : (high : Journal) → IsPrefix k.held high → ReachesBy m2 before runs (MakesBy call) high → BehindStop now = λ high p comes. (
+          so_far.0,
+          high,
+          so_far.2,
+          left_between so_far.0 high bytes now (record { held = k.held; from = k.from; to = p; stands_for = k.stands_for }) is,
+          so_far.4,
+          comes,
+        ) in
+        ⊎_elim
+        (λ p. to so_far.1 p (inl so_far.5))
+        (λ p. to left.high p (reaches m2 before runs (MakesBy call) so_far.1 left.high so_far.5 left.made))
+        k.to
+
   pub all_left : (m1 m2 : Journal) → HoldsBetween key m1 m2 (disks.shown start) (disks.may_leave start) → (now : D) (runs : Came now) → LeftAt m1 m2 now runs
   all_left m1 m2 first now Begun = (m1, m2, prefix_same m1, first, tt, prefix_same m2)
+  all_left m1 m2 first now (Ran {before = before} {after = after} runs (ByOwner run)) = behind_call m1 m2 before now runs (all_left m1 m2 first before runs) (ByOwner run)
+  all_left m1 m2 first now (Ran {before = before} {after = after} runs (ByUpgrade call)) = behind_call m1 m2 before now runs (all_left m1 m2 first before runs) (ByUpgrade call)
   all_left m1 m2 first now (Ran {before = before} {after = after} runs (ByOther call)) =
       let so_far = all_left m1 m2 first before runs in
       (so_far.0, so_far.1, so_far.2, call_holds before now so_far.0 so_far.1 so_far.3 call, so_far.4, so_far.5)
-  all_left m1 m2 first now (Ran {before = before} {after = after} runs (ByOwner run)) =
+  all_left m1 m2 first now (StopsBehind {before = before} {after = after} {bytes = bytes} runs could is) =
       let so_far = all_left m1 m2 first before runs in
-      let left = run_leaves before after so_far.0 so_far.1 so_far.3 run in (
-        left.low,
-        left.high,
-        prefix_trans m1 so_far.0 left.low so_far.2 left.grown,
-        left.holds,
-        (all_more before runs so_far.0 left.low left.grown so_far.4, left.acknowledged),
-        reaches m2 before runs run.typed so_far.1 left.high so_far.5 left.made,
-      )
-  all_left m1 m2 first now (StopsBehind {before = before} {after = after} {bytes = bytes} runs left is) =
-      let so_far = all_left m1 m2 first before runs in
-      (so_far.0, so_far.1, so_far.2, left_between so_far.0 so_far.1 bytes now (so_far.3.leaves bytes left) is, so_far.4, so_far.5)
+      (so_far.0, so_far.1, so_far.2, left_between so_far.0 so_far.1 bytes now (so_far.3.leaves bytes could) is, so_far.4, so_far.5)
+  all_left m1 m2 first now (StopsIn {before = before} {after = after} {next = next} {there = there} {bytes = bytes} runs (ByOwner run) at is) =
+      behind_stop m1 m2 before after runs (all_left m1 m2 first before runs) (ByOwner run) now there bytes at is
+  all_left m1 m2 first now (StopsIn {before = before} {after = after} {next = next} {there = there} {bytes = bytes} runs (ByUpgrade call) at is) =
+      behind_stop m1 m2 before after runs (all_left m1 m2 first before runs) (ByUpgrade call) now there bytes at is
   all_left m1 m2 first now (StopsIn {before = before} {after = after} {next = next} {there = there} {bytes = bytes} runs (ByOther call) at is) =
       let so_far = all_left m1 m2 first before runs in
       let lies = call_between before after so_far.0 so_far.1 so_far.3 call bytes (call.same there bytes at).1 in
       (so_far.0, so_far.1, so_far.2, left_between so_far.0 so_far.1 bytes now lies is, so_far.4, so_far.5)
-  all_left m1 m2 first now (StopsIn {before = before} {after = after} {next = next} {there = there} {bytes = bytes} runs (ByOwner run) at is) =
-      let so_far = all_left m1 m2 first before runs in
-      let left = run_leaves before after so_far.0 so_far.1 so_far.3 run in
-      let k = left.kept there bytes at in
-      let to : (high : Journal) → IsPrefix k.held high → ReachesBy m2 before runs run.typed high → LeftAt m1 m2 now (StopsIn runs (ByOwner run) at is) = λ high p comes. (
-        so_far.0,
-        high,
-        so_far.2,
-        left_between so_far.0 high bytes now (record { held = k.held; from = k.from; to = p; stands_for = k.stands_for }) is,
-        so_far.4,
-        comes,
-      ) in
-      ⊎_elim
-      (λ p. to so_far.1 p (inl so_far.5))
-      (λ p. to left.high p (reaches m2 before runs run.typed so_far.1 left.high so_far.5 left.made))
-      k.to
 
   -- whatever is left behind the runs is theirs
   pub left_of_runs : (m1 m2 : Journal) → HoldsBetween key m1 m2 (disks.shown start) (disks.may_leave start) → (now : D) (runs : Came now) (bytes : List ℕ) → disks.may_leave now bytes

@@ -4,3 +4,4 @@ pub mod Kept
 pub mod Lasting
 pub mod Left
 pub mod Made
+pub mod Told

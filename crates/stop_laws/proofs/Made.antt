@@ -1,18 +1,22 @@
--- What lines make of a journal.
-use Rattle.std.proofs.Common.{◌≡◌, ℕ, ◌*◌, true, List, [], ◌∷◌, ◌++◌, drop, length, None, sym, ap, ◌∙◌}
+-- What lines, and upgrades, make of a journal.
+use Rattle.std.proofs.Common.{◌≡◌, ◌⊎◌, ⊎_elim, ℕ, ◌*◌, true, false, List, [], ◌∷◌, ◌++◌, drop, length, None, append_assoc, sym, ap, subst, ◌∙◌}
 use Rattle.std.proofs.lemmas.List.Elements.{All-append}
 use Rattle.commit_journal.specs.Holding.{IsPrefix}
 use Rattle.commit_journal.proofs.KeptLemmas.{prefix_same, prefix_trans}
 use Rattle.cry_base.specs.Requests.{Request}
+use Rattle.cry_base.specs.declared.commands.Reply.{Reply}
 use Rattle.cli_base.specs.Lines.{InputLine}
 use Rattle.cli_sessions.specs.Sessions.{SessionOver, version_limits}
 use Rattle.cli_sessions.specs.Script.{Asks}
 use Rattle.cli_sessions.proofs.AnsweredScripts.{going_more, joined_more}
+use Rattle.cli_upgrading.specs.Upgrading.{IsAccepted, IsTooFull}
 use Rattle.journal_bytes.specs.Script.{Going, accepted_going, answer, draws_of, journal_then, keys_from, line_going, opened, script_going}
+use Rattle.journal_bytes.specs.Upgrading.{upgraded_then}
 use Rattle.public_fold.specs.Journal.{Journal}
+use Rattle.public_fold.specs.Journal.Entry.{Session, Upgraded}
 use Rattle.store_owner.specs.Drawing.{AreKeys, joined}
 use Rattle.store_owner.proofs.Scripted.{Whole, keys_again, rest_again}
-use Rattle.stop_laws.specs.Coming.{IsMadeOf}
+use Rattle.stop_laws.specs.Coming.{IsMadeOf, IsUpgradeOf}
 
 -- a front of what was made was made
 pub made_front : (m : Journal) (lines : List InputLine) (j front : Journal) → IsPrefix front j → IsMadeOf m lines j → IsMadeOf m lines front
@@ -27,6 +31,24 @@ made_front m lines j front shorter made = record {
   goes = made.goes;
   front = prefix_trans front j made.now shorter made.front;
 }
+
+pub upgrade_front : (m j front : Journal) → IsPrefix front j → IsUpgradeOf m j → IsUpgradeOf m front
+upgrade_front m j front shorter made = record {
+  first = made.first;
+  is_accepted = made.is_accepted;
+  drawn = made.drawn;
+  drawn_count = made.drawn_count;
+  drawn_sizes = made.drawn_sizes;
+  front = prefix_trans front j (upgraded_then m false made.drawn) shorter made.front;
+}
+
+-- an upgrade makes a journal longer, and one that was answered takes nothing away
+pub upgrade_begins : (m : Journal) (drawn : List (List ℕ)) → IsPrefix m (upgraded_then m false drawn)
+upgrade_begins m drawn = (Session ∷ Upgraded drawn ∷ [], sym (append_assoc m (Session ∷ []) (Upgraded drawn ∷ [])))
+
+pub answered_begins : (m : Journal) (drawn : List (List ℕ)) (reply : Reply) (now : Journal) → IsAccepted m drawn reply now ⊎ IsTooFull m drawn reply now → IsPrefix m now
+answered_begins m drawn reply now answers =
+    ⊎_elim (λ is. subst (IsPrefix m) (sym is.3) (upgrade_begins m drawn)) (λ full. subst (IsPrefix m) (sym full.3) (prefix_same m)) answers
 
 -- a session makes the journal where it stands
 pub session_made : (m : Journal) (asked : List Request) (before after : List InputLine) → Asks asked before after → (session : SessionOver version_limits m asked)

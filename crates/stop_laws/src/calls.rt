@@ -1,4 +1,5 @@
-//! Laws: what each call of the program is in a list of calls: a run by the store's owner, or one that leaves the store as it is.
+//! Laws: what each call of the program is in a list of calls: a run or an upgrade by the store's owner, or one that leaves the store as it
+//! is.
 ghost use Rattle.std.specs.Prelude.{◌≡◌, ℕ, List, Option, Some};
 ghost use Rattle.cli_base.specs.Promises.Any.{AnyEnds};
 ghost use Rattle.cli_reading.specs.Promises.Audit.{AuditEnds};
@@ -9,14 +10,16 @@ ghost use Rattle.cli_reading.specs.Promises.Open.{OpenEnds};
 ghost use Rattle.cli_running.specs.Promises.HeldRun.{HeldRunEnds};
 ghost use Rattle.cli_running.specs.Promises.Run.{RunEnds};
 ghost use Rattle.cli_running.specs.Running.{key_in_lines, lines_in};
+ghost use Rattle.cli_upgrading.specs.Promises.Upgrade.{UpgradeEnds};
+ghost use Rattle.cli_upgrading.specs.Upgrading.{HandsInAlone};
 ghost use Rattle.cli_base.specs.World.{World, senses_of};
 ghost use Rattle.cli_base.specs.declared.status.Status.{Status};
 ghost use Rattle.head_tree.specs.declared.head.Head.{Head};
 ghost use Rattle.journal_bytes.specs.Journals.{ShowsJournal};
 ghost use Rattle.public_fold.specs.Journal.{Journal};
 ghost use Rattle.stop_laws.specs.Held.{HeldCallOver};
-ghost use Rattle.stop_laws.specs.Others.{IsByOther};
-ghost use Rattle.stop_laws.specs.Runs.{IsLeft, LeavesStore, RunOver, Runs};
+ghost use Rattle.stop_laws.specs.Others.{IsByOther, IsUpgradeByOther};
+ghost use Rattle.stop_laws.specs.Runs.{IsLeft, LeavesStore, RunOver, Runs, UpgradeOver};
 
 use cry_io::{Disk, Sink, Source};
 
@@ -32,6 +35,22 @@ pub fn runs_of_others_leave_the_store<S: Source, R: Source, D: Disk, W: Sink>()
     ensures { (owner : List ℕ) (m : Journal) (typed : List ℕ) (status : Status) (before after : World S R D W) →
         S.left before.input ≡ Some typed → ShowsJournal owner m (D.shown before.disk) → IsByOther owner typed →
         RunEnds (senses_of S.Source R.Source D.Disk W.Sink) status before after →
+        AnyEnds (senses_of S.Source R.Source D.Disk W.Sink) status before after → LeavesStore D.Disk before.disk after.disk }
+{}
+
+/// Law: an upgrade whose whole input is the line of the owner's key.
+pub fn upgrades_by_the_owner_are_told<S: Source, R: Source, D: Disk, W: Sink>()
+    ensures { (owner typed : List ℕ) (status : Status) (before after : World S R D W) →
+        S.left before.input ≡ Some typed → HandsInAlone typed owner →
+        UpgradeEnds (senses_of S.Source R.Source D.Disk W.Sink) status before after → UpgradeOver D.Disk owner before.disk after.disk }
+{}
+
+/// Law: an upgrade whose input isn't one line that hands in a key, or hands in one with another check than the owner's, over a disk that
+/// shows the owner's journal.
+pub fn upgrades_by_others_leave_the_store<S: Source, R: Source, D: Disk, W: Sink>()
+    ensures { (owner : List ℕ) (m : Journal) (typed : List ℕ) (status : Status) (before after : World S R D W) →
+        S.left before.input ≡ Some typed → ShowsJournal owner m (D.shown before.disk) → IsUpgradeByOther owner typed →
+        UpgradeEnds (senses_of S.Source R.Source D.Disk W.Sink) status before after →
         AnyEnds (senses_of S.Source R.Source D.Disk W.Sink) status before after → LeavesStore D.Disk before.disk after.disk }
 {}
 

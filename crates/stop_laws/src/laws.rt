@@ -1,17 +1,20 @@
 //! Laws of calls of the program over one store, with stops in and between them.
-ghost use Rattle.std.specs.Prelude.{ℕ, List, ◌++◌};
+ghost use Rattle.std.specs.Prelude.{ℕ, List, ◌++◌, Option, Some};
 ghost use Rattle.batch_log.specs.Moments.{FromThenOn};
 ghost use Rattle.commit_journal.specs.Holding.{IsPrefix};
 ghost use Rattle.cry_base.specs.Requests.{Request};
 ghost use Rattle.cry_base.specs.declared.limits.Limits.{Limits};
 ghost use Rattle.cry_io.specs.Stops.{IsDurable};
+ghost use Rattle.cli_upgrading.specs.Upgrading.{IsAccepted};
 ghost use Rattle.public_fold.specs.Journal.{Journal};
-ghost use Rattle.journal_bytes.specs.Journals.{HoldsBetween};
+ghost use Rattle.journal_bytes.specs.Journals.{HoldsBetween, ShowsJournal};
 ghost use Rattle.journal_bytes.specs.Script.{Going, script_going};
+ghost use Rattle.script_text.specs.Printing.{spell_reply};
 ghost use Rattle.stop_laws.specs.Coming.{IsOfRuns};
 ghost use Rattle.store_owner.specs.Published.{HasPublished, StaysPublished};
-ghost use Rattle.stop_laws.specs.Runs.{CallOver, HoldsAll, IsLeft, Runs, WasShown};
+ghost use Rattle.stop_laws.specs.Runs.{CallOver, HoldsAll, HoldsUpgrade, IsLeft, Runs, WasShown};
 
+use cry_base::Reply;
 use cry_io::Disk;
 
 /// Law: the journal of a session over some commands begins with that over the first ones: so a journal that has all that were answered has
@@ -21,8 +24,16 @@ pub fn sessions_take_nothing_back()
         IsPrefix (script_going limits g first).journal (script_going limits g (first ++ more)).journal }
 {}
 
+/// Law: a journal of which it is said that it has an upgrade, where that was acknowledged, begins with what this made, where the whole line
+/// `ok` was printed.
+pub fn told_upgrades_are_held()
+    ensures { (key : List ℕ) (was : Option (List ℕ)) (written : List ℕ) (j : Journal) →
+        HoldsUpgrade key was (Some written) (Some (written ++ spell_reply Reply.Done)) j →
+        (m now : Journal) × (drawn : List (List ℕ)) × ShowsJournal key m was × IsAccepted m drawn Reply.Done now × IsPrefix now j }
+{}
+
 /// Law: over every list of calls and stops, whatever is left stands for a journal that begins with the first one, and with each
-/// command that any of the runs acknowledged.
+/// command that any of the runs acknowledged, and each upgrade that was.
 pub fn stops_leave_what_was_acknowledged<D: Disk>(start: &D, now: &D)
     ensures { (key : List ℕ) (m1 m2 : Journal) → HoldsBetween key m1 m2 (D.shown start.now) (D.may_leave start.now) →
         (runs : Runs D.Disk key start.now now.now) →
@@ -31,7 +42,8 @@ pub fn stops_leave_what_was_acknowledged<D: Disk>(start: &D, now: &D)
 {}
 
 /// Law: over every list of calls and stops, whatever a stop leaves behind them stands for a journal of theirs: it begins with the first one
-/// and has each command that any of the runs acknowledged; and it has nothing but commands that the runs accepted, in their order.
+/// and has each command that any of the runs acknowledged, and each upgrade that was; and it has nothing but commands and upgrades that
+/// were accepted, in their order.
 pub fn stops_leave_nothing_but_accepted_commands<D: Disk>(start: &D, now: &D)
     ensures { (key : List ℕ) (m1 m2 : Journal) → HoldsBetween key m1 m2 (D.shown start.now) (D.may_leave start.now) →
         (runs : Runs D.Disk key start.now now.now) (bytes : List ℕ) → D.may_leave now.now bytes →

@@ -1,4 +1,5 @@
-//! What a stop leaves of calls of the program, one after another: every command that was acknowledged, and none that wasn't accepted.
+//! What a stop leaves of calls of the program, one after another: every command and upgrade that was acknowledged, and none that wasn't
+//! accepted.
 #![tactic(auto)]
 
 pub mod calls;
