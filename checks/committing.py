@@ -1,5 +1,5 @@
-"""What is written to a store, by docs/FORMAT.md, "Committing": the writes of a batch, what a stop may leave of one, and how many random bytes
-a command drew."""
+"""What is written to a store, by docs/FORMAT.md, "Committing": the writes of a batch, what a stop may leave of one, and how many random
+bytes a command drew."""
 from changed_bytes import batches
 from key_step import State
 from store_reader import veil

@@ -1,5 +1,5 @@
-"""The front end killed at each of its steps, in init, holder add, put, get, upgrade, renew and restore: what stands then, and what doing it again
-comes to.
+"""The front end killed at each of its steps, in init, holder add, put, get, upgrade, renew and restore: what stands then, and what doing it
+again comes to.
 
 A step is what changes a file, a folder or a lock, begins a program, or sends it a line. The front end runs in a process that is forked
 from this one, and is killed just before its step of a number, until there is none of it.

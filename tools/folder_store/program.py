@@ -176,7 +176,7 @@ def fault(store, status, said):
         13: (Fault, f"there was no memory for what {store} holds: free some, and do it again"),
         15: (WrongKey, f"{store} has no such holder ({said}): the key is another store's, or this is an older copy of the store"),
         16: (Fault, "nothing that the key opens has this path: check it with ls"),
-        17: (NeedsUpgrade, f"{store} is of version 1, which can be read, and isn't written any more: make it one of version 2 with upgrade"),
+        17: (NeedsUpgrade, f"{store} is of version 1, which is read and not written: make it one of version 2 with upgrade"),
         18: (AlreadyNew, f"{store} is of version 2 already: there's nothing to do"),
     }
     if status in kinds:
