@@ -117,8 +117,8 @@ lines_typed typed = lines_behind (lines_in typed)
 abbrev pub AsksNext : List Request → List InputLine → Type 0
 AsksNext asked lines = (next : Request) × (rest : List InputLine) × Asks (asked ++ next ∷ []) lines rest
 
--- how many lines were answered: none before the opening, nor in a store that needs an upgrade; and the bad line is the first of all, or the one behind those that were
--- answered
+-- how many lines were answered: none before the opening, nor in a store that needs an upgrade; and the bad line is the first of all, or the
+-- one behind those that were answered
 abbrev pub CountsAnswered : Status → List Request → Type 0
 CountsAnswered (statuses.BadScript line) asked = (line ≡ 1) × (asked ≡ []) ⊎ (line ≡ length asked + 2)
 CountsAnswered statuses.NotAStore asked = asked ≡ []

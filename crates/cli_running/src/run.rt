@@ -42,9 +42,9 @@ use store_owner::Owner;
 
 /// Opens the store with the owner's key, which the first line hands in, and applies the commands of the other lines, each answered before
 /// the next is read. At `Done` all were; `BadScript` has the number of the line that is bad. `NotAStore`, `WrongKey`, `Damaged` and
-/// `Tampered` tell why the store wasn't opened; `NeedsUpgrade` that it was, and is of version 1. `RandomShort` has how many random bytes were left of those that a command needs.
-/// `ReadFault`, `RandomFault`, `DiskFault` and `WriteFault` tell what failed, and `OutOfMemory` that memory was wanting; what was
-/// answered stands.
+/// `Tampered` tell why the store wasn't opened; `NeedsUpgrade` that it was, and is of version 1. `RandomShort` has how many random bytes
+/// were left of those that a command needs. `ReadFault`, `RandomFault`, `DiskFault` and `WriteFault` tell what failed, and `OutOfMemory`
+/// that memory was wanting; what was answered stands.
 pub fn run<S: Source, R: Source, D: Disk, W: Sink>(
     alloc: Global,
     input: &mut S,

@@ -58,8 +58,8 @@ pub record WasTried {D : Type 0} (disks : disk.Ghosts D) (status : Status) (key 
   pub throughout : OpensThroughout most_store_bytes key (disks.shown old) (disks.may_leave old) (disks.since new (disks.moment old))
   pub left : (status ≡ statuses.DiskFault) ⊎ LeavesRefused disks.shown disks.size_of disks.may_leave most_store_bytes key old new
 
--- The store wasn't opened: nothing was drawn or printed, and the file wasn't touched, or was tried with a key that the input hands in. Where
--- that hands in none, nothing was touched at all.
+-- The store wasn't opened: nothing was drawn or printed, and the file wasn't touched, or was tried with a key that the input hands in.
+-- Where that hands in none, nothing was touched at all.
 pub record LeavesUnopened (HandsIn : List ℕ → List ℕ → Type 0) {S R D W : Type 0} (see : Senses S R D W) (status : Status)
     (before after : World S R D W) : Type 0 where
   pub rest_kept : after ≡ record before { input = after.input; disk = after.disk }

@@ -91,8 +91,8 @@ abbrev pub IsTooFull : Journal → List (List ℕ) → Reply → Journal → Typ
 IsTooFull m drawn reply now =
     (upgrade_answer version_limits m false ≡ Some Full) × (drawn ≡ []) × (reply ≡ replies.Refused Full) × (now ≡ m)
 
--- It was answered, and the disk is settled at the journal where that leaves it. That is the journal up to which the call kept what it found;
--- so it is in the records behind this one.
+-- It was answered, and the disk is settled at the journal where that leaves it. That is the journal up to which the call kept what it
+-- found; so it is in the records behind this one.
 pub record HasAnswered (key : List ℕ) (m : Journal) (seen : Seen) (may_leave : List ℕ → Type 0) (KeepsTo : Journal → Type 0)
     : Type 0 where
   pub first : (keys_of m).version ≡ 1

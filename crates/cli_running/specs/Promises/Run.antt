@@ -4,9 +4,9 @@
 -- behind the first are answered in their order, up to a bad one or a fault, and these answers are what is printed. The random source is
 -- said to end only where it did, in a command's draw. Of the input no more is taken than to the end of the line at which the call ends,
 -- and at most 65,536 bytes past it; at a read fault each whole line that it gave was asked. All of this speaks of the same commands. Either
--- the store was opened: under the key of the first line its bytes pass every test, and then it is of version 2, or the answer is that it needs an
--- upgrade, and nothing was asked, drawn or printed. Or, whatever the answer, nothing was drawn or printed,
--- and at each moment of the call the file is as it was, but for slots that a stop had left without their keys (`cli_sessions`: specs/Opening).
+-- the store was opened: under the key of the first line its bytes pass every test, and then it is of version 2, or the answer is that it
+-- needs an upgrade, and nothing was asked, drawn or printed. Or, whatever the answer, nothing was drawn or printed, and at each moment of
+-- the call the file is as it was, but for slots that a stop had left without their keys (`cli_sessions`: specs/Opening).
 --
 -- On a disk that shows a journal it ends as that journal's session does, whatever it ends with, and whether or not the random source tells
 -- what it has: there are keys for the accepted commands with which the session goes so. With the same keys it is said what a stop may
