@@ -61,10 +61,10 @@ class Check:
         """What `audit` answers to this key over the store's file."""
         return self.call([store, "-", "audit"], bundle_line(bundle))
 
-    def run(self, image, typed, random, command="run"):
-        """The answer of `run`, or `upgrade`, to this input over a store of these bytes, with these random ones, and what it leaves."""
+    def run(self, image, typed, random, *command):
+        """The answer of `run`, or of these words, to this input over a store of these bytes, with these random ones, and what it leaves."""
         store = self.put("store", image)
-        return self.call([store, self.put("random", random), command], typed), read(store)
+        return self.call([store, self.put("random", random), *(command or ("run",))], typed), read(store)
 
     def write(self, image, owner, lines, random):
         """How these lines end over a store of either version, each of which is done: as `run` answers them, or where it writes no store of

@@ -168,7 +168,7 @@ command_rises m r keys =
     subst (λ k. Rises number_of (spenders_in (held at (Did r keys))) (next_serial at.keys) (next_serial k)) (sym (keys_more m (Did r keys)))
     (step_rises at.keys (edges at.store) (change_of (is_strict at.keys) at.store note) (pieces_of note (effect at.store r (first_key keys))))
 
-upgrade_rises : (m : Journal) (keys : List (List ℕ))
+pub upgrade_rises : (m : Journal) (keys : List (List ℕ))
     → Rises number_of (spenders_in (held (stand_after nothing m) (Upgraded keys))) (next_in m) (next_in (m ++ Upgraded keys ∷ []))
 unfolding held keys_of entry_step note_step
 upgrade_rises m keys =

@@ -4,10 +4,12 @@ use Rattle.std.proofs.lemmas.Bool.{false≢true}
 use Rattle.cli_base.specs.World.{Senses, World}
 use Rattle.cli_base.specs.declared.status.Status.{Status}
 use Rattle.cli_base.specs.declared.status.Status.TheVariants as statuses
+use Rattle.cli_heads.proofs.OtherLogs.{other_log}
 use Rattle.cli_heads.specs.Asked.Asked.{TheHead}
+use Rattle.cli_heads.specs.Held.{tells_other_log}
 use Rattle.cli_heads.specs.Statuses.{is_log_answer, is_test_answer}
 use Rattle.cli_heads.specs.Testing.{IsHeld}
-use Rattle.cli_running.specs.Promises.HeldRun.{EndsAtFirst, EndsAtHead, HeldRunEnds, RunsBehind, is_held_run_answer, tells_other_log}
+use Rattle.cli_running.specs.Promises.HeldRun.{EndsAtFirst, EndsAtHead, HeldRunEnds, RunsBehind, is_held_run_answer}
 use Rattle.head_tree.specs.declared.head.Head.{Head}
 use Rattle.log_heads.specs.Published.{hashes_in}
 use Rattle.cli_running.specs.Running.{FirstIsBad, is_run_answer}
@@ -57,30 +59,6 @@ run_is_answer status =
     (λ is. false≢true is) (λ is. false≢true is) (λ is. false≢true is) status
 
 -- ---- a log that begins otherwise
-
-other_log : {P : Type 0} (Is : Status → Type 0) → ((have want : ℕ) → Is (statuses.Behind have want) → ⊥)
-    → ((batches : ℕ) → Is (statuses.Forked batches) → ⊥) → (status : Status) → IsTrue (tells_other_log status) → Is status → P
-other_log Is behind forked (statuses.Behind have want) tells is = absurd (behind have want is)
-other_log Is behind forked (statuses.Forked batches) tells is = absurd (forked batches is)
-other_log Is behind forked statuses.Done tells is = absurd (false≢true tells)
-other_log Is behind forked statuses.Usage tells is = absurd (false≢true tells)
-other_log Is behind forked (statuses.BadScript line) tells is = absurd (false≢true tells)
-other_log Is behind forked statuses.ReadFault tells is = absurd (false≢true tells)
-other_log Is behind forked statuses.WriteFault tells is = absurd (false≢true tells)
-other_log Is behind forked statuses.DiskFault tells is = absurd (false≢true tells)
-other_log Is behind forked statuses.RandomFault tells is = absurd (false≢true tells)
-other_log Is behind forked (statuses.RandomShort left need) tells is = absurd (false≢true tells)
-other_log Is behind forked statuses.NotAStore tells is = absurd (false≢true tells)
-other_log Is behind forked (statuses.Damaged at) tells is = absurd (false≢true tells)
-other_log Is behind forked statuses.WrongKey tells is = absurd (false≢true tells)
-other_log Is behind forked (statuses.Tampered batch at) tells is = absurd (false≢true tells)
-other_log Is behind forked statuses.OutOfMemory tells is = absurd (false≢true tells)
-other_log Is behind forked statuses.NotBlank tells is = absurd (false≢true tells)
-other_log Is behind forked (statuses.NoHolder known) tells is = absurd (false≢true tells)
-other_log Is behind forked statuses.Unseen tells is = absurd (false≢true tells)
-other_log Is behind forked statuses.NeedsUpgrade tells is = absurd (false≢true tells)
-other_log Is behind forked statuses.AlreadyNew tells is = absurd (false≢true tells)
-other_log Is behind forked statuses.BadProof tells is = absurd (false≢true tells)
 
 module _ (head : Head) {S R D W : Type 0} (see : Senses S R D W) (status : Status) (before after : World S R D W) where
   ended_otherwise : {P : Type 0} → RunsBehind head see status before after → IsTrue (tells_other_log status) → P

@@ -2,8 +2,9 @@
 ghost use Rattle.std.specs.Prelude.{◌≡◌, ◌⊎◌, ℕ, IsTrue, List, Some};
 ghost use Rattle.cli_base.specs.World.{World, senses_of};
 ghost use Rattle.cli_base.specs.declared.status.Status.{Status};
+ghost use Rattle.cli_heads.specs.Held.{tells_other_log};
 ghost use Rattle.cli_heads.specs.Testing.{IsHeld};
-ghost use Rattle.cli_running.specs.Promises.HeldRun.{EndsAtFirst, EndsAtHead, HeldRunEnds, tells_other_log};
+ghost use Rattle.cli_running.specs.Promises.HeldRun.{EndsAtFirst, EndsAtHead, HeldRunEnds};
 ghost use Rattle.head_tree.specs.declared.head.Head.{Head};
 ghost use Rattle.log_heads.specs.Published.{hashes_in};
 

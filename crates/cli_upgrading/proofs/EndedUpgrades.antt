@@ -1,7 +1,6 @@
 -- How an upgrade ends whose owner stands for a journal, over a disk that rests there.
-use Rattle.std.proofs.Common.{◌≡◌, ◌≢◌, ⊎_elim, ◌<◌, inl, inr, ℕ, ◌+◌, Bool, true, false, cond, drop, nat_lt, List, [], ◌∷◌, ◌++◌, length, Option, Some, None, Result, Ok, Err, append_assoc, arith, refl, sym, ap, subst, ◌∙◌, length-append}
+use Rattle.std.proofs.Common.{◌≡◌, ◌≢◌, ◌<◌, inl, inr, ℕ, Bool, true, false, cond, drop, nat_lt, List, [], ◌∷◌, ◌++◌, length, Option, Some, None, Result, Ok, Err, append_assoc, arith, refl, sym, ap, subst, ◌∙◌, length-append}
 use Rattle.std.specs.Prelude.{IsTrue}
-use Rattle.std.proofs.lemmas.Bool.{false≢true}
 use Rattle.std.proofs.lemmas.List.Elements.{All-nil}
 use Rattle.commit_journal.specs.Holding.{IsPrefix}
 use Rattle.commit_journal.proofs.KeptLemmas.{prefix_same}
@@ -15,10 +14,9 @@ use Rattle.cry_io.specs.Stops.{IsDurable}
 use Rattle.cry_io.specs.Told.{WhereBothTold}
 use Rattle.journal_bytes.specs.Bytes.{batches_of, image_of}
 use Rattle.journal_bytes.specs.Script.{answer_with, opened}
-use Rattle.journal_bytes.specs.Upgrading.{upgrade_answer, upgrade_draws, upgrade_end, upgraded_then}
+use Rattle.journal_bytes.specs.Upgrading.{upgrade_answer, upgrade_end, upgraded_then}
 use Rattle.public_fold.specs.Journal.{Journal, keys_of}
 use Rattle.public_fold.specs.Journal.Entry.{Session, Upgraded}
-use Rattle.script_text.specs.Printing.{spell_reply}
 use Rattle.cli_base.specs.declared.status.Status.{Status}
 use Rattle.cli_base.specs.declared.status.Status.TheVariants as statuses
 use Rattle.cli_sessions.proofs.OwnerEnds.{behind_still, owner_end}
@@ -27,12 +25,11 @@ use Rattle.cli_sessions.proofs.RunLemmas.{rests_there}
 use Rattle.cli_sessions.proofs.StopLemmas.{rests_settled, stays_begun}
 use Rattle.cli_sessions.proofs.Versions.{is_second, owners_version}
 use Rattle.cli_sessions.specs.Published.{KeepsBatches, LinesPublish}
-use Rattle.cli_sessions.specs.Sessions.{DrawsNext, KeepsBehind, KeepsFrom, LeavesAt, RanDry, Seen, apply_status, seen_from, version_limits}
+use Rattle.cli_sessions.specs.Sessions.{KeepsBehind, KeepsFrom, LeavesAt, RanDry, Seen, apply_status, seen_from, version_limits}
 use Rattle.cli_sessions.specs.Stopping.{LinesKeepUpTo}
 use Rattle.store_owner.proofs.OwnerGoesOn.{drops_more}
 use Rattle.store_owner.specs.Applying.{Answers, IsDone, IsKeptBy}
 use Rattle.store_owner.specs.Deeds.Deed.{Upgrading}
-use Rattle.store_owner.specs.Drawing.{joined}
 use Rattle.store_owner.specs.Owned.{IsOwnerOf, OwnerView, limits_in}
 use Rattle.store_owner.specs.Published.{HasPublished, PublishesOn}
 use Rattle.store_owner.specs.Sessions.{StandsAt}

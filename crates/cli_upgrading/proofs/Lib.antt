@@ -1,3 +1,5 @@
+pub mod AnyUpgrades
 pub mod EndedUpgrades
+pub mod HeldUpgrades
 pub mod UpgradeCases
 pub mod WholeUpgrades

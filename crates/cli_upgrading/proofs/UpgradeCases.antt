@@ -1,5 +1,5 @@
 -- By cases on how `upgrade` ends.
-use Rattle.std.proofs.Common.{◌≡◌, ℕ, true}
+use Rattle.std.proofs.Common.{ℕ}
 use Rattle.std.specs.Prelude.{IsTrue}
 use Rattle.std.proofs.lemmas.Bool.{false≢true}
 use Rattle.cli_base.specs.declared.status.Status.{Status}

@@ -1,7 +1,6 @@
 -- How a whole call of `upgrade` ends: at its input, where the store is opened or isn't, and behind that.
-use Rattle.std.proofs.Common.{◌≡◌, ◌≢◌, ◌⊎◌, ⊎_elim, inl, inr, ℕ, Bool, true, false, List, [], Option, Some, None, Result, Ok, Err, arith, refl, sym, ap, subst, ◌∙◌}
-use Rattle.std.specs.Prelude.{IsTrue, is_some}
-use Rattle.std.proofs.lemmas.Bool.{false≢true}
+use Rattle.std.proofs.Common.{◌≡◌, ◌⊎◌, ⊎_elim, inl, inr, ℕ, List, Option, Result, Ok, Err, sym, subst, ◌∙◌}
+use Rattle.std.specs.Prelude.{IsTrue}
 use Rattle.commit_journal.specs.declared.fault.OpenFault.{OpenFault}
 use Rattle.commit_journal.specs.declared.fault.OpenFault.TheVariants as opening
 use Rattle.cry_base.specs.declared.commands.Reply.{Reply}
@@ -20,7 +19,7 @@ use Rattle.cli_sessions.specs.Opening.{Judges, open_status}
 use Rattle.cli_sessions.specs.Sessions.{IsUnopened, Seen}
 use Rattle.cli_upgrading.proofs.UpgradeCases.{behind_cases}
 use Rattle.cli_upgrading.specs.Upgrading.{EndsUpgrade, HandsInAlone, HasAnswered, HasRested, PrintsReply, TakesAlone, WasCutShort}
-use Rattle.cli_upgrading.specs.Upgrading.{is_after_opening, is_before_opening, is_behind_opening, is_upgrade_answer}
+use Rattle.cli_upgrading.specs.Upgrading.{is_behind_opening}
 
 -- ---- the input hands in no key
 

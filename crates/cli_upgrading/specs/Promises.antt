@@ -1,1 +1,2 @@
+pub mod HeldUpgrade
 pub mod Upgrade

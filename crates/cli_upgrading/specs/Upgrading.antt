@@ -1,16 +1,17 @@
 -- What `upgrade` answers, prints and leaves: on every disk, and on one that shows a journal. This project's own, docs/PROGRAM.md, "The
 -- program".
-use Rattle.std.specs.Prelude.{◌≡◌, ◌<◌, ◌⊎◌, ℕ, ◌*◌, Bool, true, false, List, [], ◌++◌, length, Option, Some, None, Ok}
+use Rattle.std.specs.Prelude.{◌≡◌, ◌<◌, ◌⊎◌, ℕ, ◌*◌, Bool, true, false, List, [], ◌++◌, length, Option, Some, None, Ok, is_some}
 use Rattle.cry_base.specs.declared.commands.Refusal.TheVariants.{Full}
 use Rattle.cry_base.specs.declared.commands.Reply.{Reply}
 use Rattle.cry_base.specs.declared.commands.Reply.TheVariants as replies
 use Rattle.cry_io.specs.Told.{WhereTold, WhereBothTold}
+use Rattle.cry_io.specs.declared.streams.Source as source
 use Rattle.journal_bytes.specs.Journals.{HoldsBetween, ShowsJournal}
 use Rattle.journal_bytes.specs.Upgrading.{upgrade_answer, upgrade_draws, upgraded_then}
 use Rattle.public_fold.specs.Journal.{Journal, keys_of}
 use Rattle.script_text.specs.Printing.{spell_reply}
 use Rattle.store_owner.specs.Drawing.{AreKeys}
-use Rattle.cli_base.specs.Input.{IsUnjudgedOwner, TakesLines, owner_answer}
+use Rattle.cli_base.specs.Input.{IsUnjudgedOwner, ReadsOwner, TakesLines, owner_answer}
 use Rattle.cli_base.specs.Outside.{PrintsAll, PrintsFront}
 use Rattle.cli_base.specs.declared.status.Status.{Status}
 use Rattle.cli_base.specs.declared.status.Status.TheVariants as statuses
@@ -22,6 +23,11 @@ use Rattle.cli_sessions.specs.Stopping.{KeepsUpTo}
 -- the one line of the whole input hands in this key, an owner's
 abbrev pub HandsInAlone : List ℕ → List ℕ → Type 0
 HandsInAlone typed key = owner_answer typed ≡ Ok key
+
+-- The whole input handed in this key: it was `first` before it was read, and is `rest` behind that.
+pub record HandedIn {S : Type 0} (inputs : source.Ghosts S) (key : List ℕ) (first rest : S) : Type 0 where
+  pub told : is_some (inputs.left rest) ≡ is_some (inputs.left first)
+  pub reads : WhereBothTold (inputs.left first) (inputs.left rest) (ReadsOwner (Ok key))
 
 -- how `upgrade` may end
 abbrev pub is_upgrade_answer : Status → Bool
@@ -40,6 +46,11 @@ abbrev pub is_before_opening : Status → Bool
 is_before_opening (statuses.BadScript line) = true
 is_before_opening statuses.ReadFault = true
 is_before_opening _ = false
+
+-- and how at its input, also for want of memory
+abbrev pub is_at_input : Status → Bool
+is_at_input statuses.OutOfMemory = true
+is_at_input status = is_before_opening status
 
 -- how it ends once the store was opened
 abbrev pub is_behind_opening : Status → Bool

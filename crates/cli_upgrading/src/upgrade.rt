@@ -16,7 +16,7 @@ ghost use Rattle.cli_sessions.specs.Published.{LinesPublish};
 ghost use Rattle.cli_sessions.specs.Sessions.{KeepsFrom, RanDry, seen_from, version_limits};
 ghost use Rattle.cli_sessions.specs.Stopping.{LinesKeepUpTo};
 ghost use Rattle.cli_upgrading.specs.Promises.Upgrade.{UpgradeEnds};
-ghost use Rattle.cli_upgrading.specs.Upgrading.{EndsUpgrade, PrintsReply, is_behind_opening};
+ghost use Rattle.cli_upgrading.specs.Upgrading.{EndsUpgrade, HandedIn, PrintsReply, is_behind_opening};
 
 use crate::telling::tell_reply;
 use cli_base::input::{input_status, read_owner_line};
@@ -45,10 +45,26 @@ pub fn upgrade<S: Source, R: Source, D: Disk, W: Sink>(
     ensures any { AnyEnds (senses_of S.Source R.Source D.Disk W.Sink) result
         (world_of input.old random.old disk.old out.old) (world_of input.new random.new disk.new out.new) }
 {
-    let key = match read_owner_line(alloc, input) {
-        Ok(key) => key,
-        Err(fault) => return input_status(fault),
-    };
+    match read_owner_line(alloc, input) {
+        Ok(key) => open_and_upgrade::<S, R, D, W>(alloc, key, random, disk, out),
+        Err(fault) => input_status(fault),
+    }
+}
+
+/// Opens the store with the key that the input handed in, and upgrades it. `S` is that input's source, of which the promise speaks.
+pub(crate) fn open_and_upgrade<S: Source, R: Source, D: Disk, W: Sink>(
+    alloc: Global,
+    key: [u8; 32],
+    random: &mut R,
+    disk: &mut D,
+    out: &mut W,
+) -> Status
+    // Together with the input it is an upgrade.
+    ensures upgrades { (first rest : S) → HandedIn S.Source key first rest → UpgradeEnds (senses_of S.Source R.Source D.Disk W.Sink) result
+        (world_of first random.old disk.old out.old) (world_of rest random.new disk.new out.new) }
+    ensures any { (rest : S) → AnyEnds (senses_of S.Source R.Source D.Disk W.Sink) result
+        (world_of rest random.old disk.old out.old) (world_of rest random.new disk.new out.new) }
+{
     match Owner::open_store(alloc, disk, key, LIMITS) {
         Ok(owner) => upgrade_store(alloc, owner, random, disk, out),
         Err(fault) => open_status(fault),

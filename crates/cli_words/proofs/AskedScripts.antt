@@ -2,7 +2,7 @@
 use Rattle.std.proofs.Common.{◌≡◌, ℕ, Option, Some, sym, subst, ◌∙◌}
 use Rattle.head_tree.specs.declared.head.Head.{Head}
 use Rattle.cli_words.specs.declared.words.Form.{Form}
-use Rattle.cli_words.specs.declared.words.Form.TheVariants.{Audit, Gen, Open, Prove, Run, Check}
+use Rattle.cli_words.specs.declared.words.Form.TheVariants.{Audit, Gen, Open, Prove, Run, Upgrade, Check}
 use Rattle.cli_words.specs.declared.words.Form.TheVariants as forms
 
 pub of_asked : (P : ℕ → ℕ → Type 0) (own_seed own_count seed count : ℕ) (form : Option Form) → form ≡ Some (Gen own_seed own_count) → form ≡ Some (Gen seed count)
@@ -31,6 +31,13 @@ pub of_asked_run : (P : Option Head → Type 0) (own head : Option Head) (form :
     → P own → P head
 of_asked_run P own head form is asked said =
     let both : Some (Run own) ≡ Some (Run head) = sym is ∙ asked in
+    let same : own ≡ head = cc in
+    subst P same said
+
+pub of_asked_upgrade : (P : Option Head → Type 0) (own head : Option Head) (form : Option Form) → form ≡ Some (Upgrade own) → form ≡ Some (Upgrade head)
+    → P own → P head
+of_asked_upgrade P own head form is asked said =
+    let both : Some (Upgrade own) ≡ Some (Upgrade head) = sym is ∙ asked in
     let same : own ≡ head = cc in
     subst P same said
 

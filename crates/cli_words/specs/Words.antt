@@ -26,7 +26,7 @@ abbrev pub command_form : Listed ℕ → Option Form
 command_form word =
     if is_word word (codes "make") then Some Make
     else (if is_word word (codes "run") then Some (Run None)
-    else (if is_word word (codes "upgrade") then Some Upgrade
+    else (if is_word word (codes "upgrade") then Some (Upgrade None)
     else (if is_word word (codes "list") then Some (forms.List None) else (if is_word word (codes "audit") then Some (Audit None)
     else (if is_word word (codes "head") then Some forms.Head else None)))))
 
@@ -81,8 +81,9 @@ head_form asks word = option_map (λ head. asks (Some head)) (head_of word.items
 abbrev pub longer_command_form : Listed ℕ → Listed ℕ → Option Form
 longer_command_form word more =
     if is_word word (codes "open") then Some (Open None) else (if is_word word (codes "prove") then proof_form more
-    else (if is_word word (codes "run") then head_form Run more else (if is_word word (codes "list") then head_form forms.List more
-    else (if is_word word (codes "audit") then head_form Audit more else None))))
+    else (if is_word word (codes "run") then head_form Run more else (if is_word word (codes "upgrade") then head_form Upgrade more
+    else (if is_word word (codes "list") then head_form forms.List more
+    else (if is_word word (codes "audit") then head_form Audit more else None)))))
 
 -- STORE RANDOM COMMAND OLD NEW
 unfoldable pub heads_form : Listed ℕ → Listed ℕ → Option Form
@@ -127,9 +128,9 @@ AsksGen words seed count = form_of_words words ≡ Some (Gen seed count)
 abbrev pub AsksRun : List (Listed ℕ) → Option Head → Type 0
 AsksRun words head = form_of_words words ≡ Some (Run head)
 
--- the words ask for a store to be made one of version 2
-abbrev pub IsUpgrade : List (Listed ℕ) → Type 0
-IsUpgrade words = form_of_words words ≡ Some Upgrade
+-- the words ask for a store to be made one of version 2, whose log goes on from this head where they name one
+abbrev pub AsksUpgrade : List (Listed ℕ) → Option Head → Type 0
+AsksUpgrade words head = form_of_words words ≡ Some (Upgrade head)
 
 -- the words ask for a key's view, of a log that goes on from this head where they name one
 abbrev pub AsksList : List (Listed ℕ) → Option Head → Type 0

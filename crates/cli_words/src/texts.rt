@@ -14,8 +14,8 @@ cryptree keeps shared folders in one store file, on a disk that nobody has to tr
                                     prints it, or a holder's, as run answers holder
   cryptree STORE RANDOM open PATH   print the one line of it that has this path
   cryptree STORE RANDOM audit       print every name and file that a key leads to, old ones too, with the batch that wrote it
-  cryptree STORE RANDOM list HEAD   the same as list, unless the store doesn't go on from this head; open PATH, audit and run take one
-                                    as their last word too; run then prints the last head behind its replies
+  cryptree STORE RANDOM list HEAD   the same as list, unless the store doesn't go on from this head; open PATH, audit, run and upgrade
+                                    take one as their last word too; run and upgrade then print the last head behind their replies
   cryptree STORE RANDOM gen N COUNT make a store as make does, apply the script of the number N to it, with COUNT lines behind its opening,
                                     and print its owner's key and its figures: the same script for everybody, to measure with
   cryptree STORE RANDOM head        print the head of the store's log, N:HEX, which needs no key: keep it, and you notice where an
@@ -31,7 +31,7 @@ the owner's key; - stands for none
 the owner's key opens the whole store: keep it secret, for nothing can bring it back
 one writer at a time: two at once destroy the store for good; flock keeps others out
 never write on an older copy of a store: the same numbers would seal other texts, and whoever has both copies can read these;
-run HEAD writes on none
+run HEAD and upgrade HEAD write on none
 a holder can't check the owner's tags: whoever writes the disk can hide things from holders, though never show what wasn't written
 
 exit status: 0 done, 2 usage, 3 bad line of input, 4 read fault, 5 write fault, 6 disk fault, 7 random fault,

@@ -15,8 +15,8 @@ pub enum Form {
     Make,
     /// `STORE RANDOM run`, or with a head behind it
     Run { head: Option<Head> },
-    /// `STORE RANDOM upgrade`
-    Upgrade,
+    /// `STORE RANDOM upgrade`, or with a head behind it
+    Upgrade { head: Option<Head> },
     /// `STORE RANDOM list`, or with a head behind it
     List { head: Option<Head> },
     /// `STORE RANDOM audit`, or with a head behind it
@@ -87,7 +87,7 @@ fn command_of(word: &Text) -> Option<Form>
     } else if word.as_slice() == b"run".as_slice() {
         Some(Form::Run { head: None })
     } else if word.as_slice() == b"upgrade".as_slice() {
-        Some(Form::Upgrade)
+        Some(Form::Upgrade { head: None })
     } else if word.as_slice() == b"list".as_slice() {
         Some(Form::List { head: None })
     } else if word.as_slice() == b"audit".as_slice() {
@@ -113,6 +113,9 @@ fn longer_command_of(word: &Text, more: &Text) -> Option<Form>
     } else if word.as_slice() == b"run".as_slice() {
         let head = head_in(more.as_slice())?;
         Some(Form::Run { head: Some(head) })
+    } else if word.as_slice() == b"upgrade".as_slice() {
+        let head = head_in(more.as_slice())?;
+        Some(Form::Upgrade { head: Some(head) })
     } else if word.as_slice() == b"list".as_slice() {
         let head = head_in(more.as_slice())?;
         Some(Form::List { head: Some(head) })

@@ -20,11 +20,11 @@ use Rattle.stop_laws.proofs.Made.{answered_begins, upgrade_begins}
 use Rattle.handed_laws.proofs.Runs.{Reaches, accepted}
 
 -- one that is accepted has room
-has_room : (m : Journal) → upgrade_answer version_limits m false ≡ None → upgrade_end m false ≤ most_store_bytes
+pub has_room : (m : Journal) → upgrade_answer version_limits m false ≡ None → upgrade_end m false ≤ most_store_bytes
 unfolding upgrade_answer
 has_room m is = ltb-false most_store_bytes (upgrade_end m false) (accepted None (nat_lt most_store_bytes (upgrade_end m false)) is).1
 
-upgraded_whole : (key : List ℕ) (m : Journal) (drawn : List (List ℕ)) → AreWhole key m → AreKeys drawn → AreWhole key (upgraded_then m false drawn)
+pub upgraded_whole : (key : List ℕ) (m : Journal) (drawn : List (List ℕ)) → AreWhole key m → AreKeys drawn → AreWhole key (upgraded_then m false drawn)
 unfolding drawn_by
 upgraded_whole key m drawn whole sizes = entered_whole key m false (Upgraded drawn) whole sizes
 

@@ -1,4 +1,4 @@
--- What a run made of the journal that it found, and what may be left of it.
+-- What a run or an upgrade made of the journal that it found, and what may be left of it.
 use Rattle.std.proofs.Common.{◌≡◌, ⊎_elim, ◌⊎◌, inl, inr, ℕ, Bool, true, false, List, [], ◌++◌, Option, append-nil, arith, refl, sym, subst}
 use Rattle.commit_journal.specs.Holding.{IsPrefix}
 use Rattle.commit_journal.proofs.KeptLemmas.{between_wider, prefix_same}
@@ -9,17 +9,21 @@ use Rattle.cli_base.specs.declared.status.Status.{Status}
 use Rattle.cli_base.specs.declared.status.Status.TheVariants as statuses
 use Rattle.cli_sessions.specs.Sessions.{Ends, LeavesAt, RanUnwritten, Seen, SessionOver, version_limits}
 use Rattle.cli_sessions.proofs.StopLemmas.{settled_holds_journal}
+use Rattle.cli_upgrading.specs.Upgrading.{EndsUpgrade, HasAnswered, IsAccepted, IsTooFull, WasCutShort}
 use Rattle.public_fold.specs.Journal.{Journal}
 use Rattle.public_fold.specs.Valid.{IsValid}
 use Rattle.journal_bytes.specs.Journals.{HoldsBetween, StandsForJournal}
 use Rattle.journal_bytes.specs.Keys.{AreWhole}
 use Rattle.journal_bytes.specs.Script.{journal_then, opened}
+use Rattle.journal_bytes.specs.Upgrading.{upgraded_then}
+use Rattle.journal_bytes.proofs.NextUpgrade.{upgraded_valid}
 use Rattle.journal_bytes.proofs.NextValid.{next_valid, next_whole}
 use Rattle.store_owner.specs.Drawing.{joined}
 use Rattle.handed_laws.proofs.Runs.{front_valid, front_whole, not_refused}
-use Rattle.held_laws.proofs.Spending.{IsMade, made_by_script, made_next}
+use Rattle.handed_laws.proofs.Upgrades.{has_room, upgraded_whole}
+use Rattle.held_laws.proofs.Spending.{IsMade, made_by_script, made_next, made_upgraded}
 
--- it was made by a session, up to which the run kept what it found. Where the session began its epoch the disk holds between the two
+-- it was made by a session, or an upgrade, up to which the call kept what it found. Where the session began its epoch the disk holds between the two
 pub record Gone (key : List ℕ) (m : Journal) (shown : Option (List ℕ)) (may_leave : List ℕ → Type 0) (KeepsTo : Journal → Type 0) : Type 0 where
   pub begun : Bool
   pub reached : Journal
@@ -44,21 +48,22 @@ module _ (key : List ℕ) (m : Journal) (m_valid : IsValid m) (lines : List Inpu
   abbrev Here : Type 0
   Here = Gone key m seen.shown may_leave KeepsTo
 
-  settled : (asked : List Request) (session : SessionOver version_limits m asked) → LeavesAt key m session.now seen may_leave → KeepsTo session.now → Here
-  settled asked session leaves kept =
-      let now = session.now in
-      let made = session_made m asked session in
+  rests_at : (b : Bool) (now : Journal) → IsMade m b now → LeavesAt key m now seen may_leave → KeepsTo now → Here
+  rests_at b now made leaves kept =
       let whole = leaves.settled.shows.2 in
       record {
-        begun = session.begun;
+        begun = b;
         reached = now;
         made = made;
         valid = whole.valid;
         whole_keys = whole.whole_keys;
         kept = kept;
-        lasts = inr (between_wider (StandsForJournal key) now now m now seen.shown may_leave (begins m session.begun now made) (prefix_same now)
+        lasts = inr (between_wider (StandsForJournal key) now now m now seen.shown may_leave (begins m b now made) (prefix_same now)
             (settled_holds_journal key now seen.shown may_leave leaves.settled));
       }
+
+  settled : (asked : List Request) (session : SessionOver version_limits m asked) → LeavesAt key m session.now seen may_leave → KeepsTo session.now → Here
+  settled asked session leaves kept = rests_at session.begun session.now (session_made m asked session) leaves kept
 
   unwritten : RanUnwritten version_limits key m lines seen may_leave KeepsTo → Here
   unwritten run =
@@ -108,3 +113,51 @@ module _ (key : List ℕ) (m : Journal) (m_valid : IsValid m) (lines : List Inpu
   gone_by keys (statuses.Behind have want) asked run = absurd run
   gone_by keys (statuses.Forked batches) asked run = absurd run
   gone_by keys statuses.BadProof asked run = absurd run
+
+  -- ---- an upgrade
+
+  answered : HasAnswered key m seen may_leave KeepsTo → Here
+  answered done =
+      ⊎_elim
+      (λ (is : IsAccepted m done.drawn done.reply done.now).
+      rests_at true done.now (subst (λ j. IsMade m true j) (sym is.3) (made_upgraded m done.drawn)) done.leaves done.kept)
+      (λ (full : IsTooFull m done.drawn done.reply done.now).
+      rests_at false done.now (subst (λ j. IsMade m false j) (sym full.3) (none_made m)) done.leaves done.kept)
+      done.answers
+
+  cut_short : AreWhole key m → WasCutShort key m seen may_leave KeepsTo → Here
+  cut_short keys cut =
+      let then = upgraded_then m false cut.drawn in
+      record {
+        begun = true;
+        reached = then;
+        made = made_upgraded m cut.drawn;
+        valid = upgraded_valid m false cut.drawn m_valid cut.first cut.drawn_count (has_room m cut.is_accepted);
+        whole_keys = upgraded_whole key m cut.drawn keys cut.drawn_sizes;
+        kept = cut.kept;
+        lasts = inr cut.holds;
+      }
+
+  pub gone_by_upgrade : AreWhole key m → (status : Status) → EndsUpgrade status key m seen may_leave KeepsTo → Here
+  gone_by_upgrade keys statuses.Done call = answered call.0
+  gone_by_upgrade keys statuses.WriteFault call = answered call.0
+  gone_by_upgrade keys statuses.AlreadyNew call = unopened keys call.0.kept
+  gone_by_upgrade keys (statuses.RandomShort left need) call = unopened keys call.0.kept
+  gone_by_upgrade keys statuses.RandomFault call = unopened keys call.0.kept
+  gone_by_upgrade keys statuses.ReadFault call = unopened keys call.kept
+  gone_by_upgrade keys statuses.DiskFault call = ⊎_elim (λ is. unopened keys is.kept) (λ cut. cut_short keys cut) call
+  gone_by_upgrade keys statuses.OutOfMemory call =
+      ⊎_elim (λ is. unopened keys is.kept) (λ behind. ⊎_elim (λ rest. unopened keys rest.0.kept) (λ done. answered done) behind) call
+  gone_by_upgrade keys (statuses.BadScript line) call = absurd call
+  gone_by_upgrade keys statuses.NeedsUpgrade call = absurd call
+  gone_by_upgrade keys statuses.Usage call = absurd call
+  gone_by_upgrade keys statuses.NotAStore call = absurd call
+  gone_by_upgrade keys (statuses.Damaged at) call = absurd call
+  gone_by_upgrade keys statuses.WrongKey call = absurd call
+  gone_by_upgrade keys (statuses.Tampered batch at) call = absurd call
+  gone_by_upgrade keys statuses.NotBlank call = absurd call
+  gone_by_upgrade keys (statuses.NoHolder known) call = absurd call
+  gone_by_upgrade keys statuses.Unseen call = absurd call
+  gone_by_upgrade keys (statuses.Behind have want) call = absurd call
+  gone_by_upgrade keys (statuses.Forked batches) call = absurd call
+  gone_by_upgrade keys statuses.BadProof call = absurd call

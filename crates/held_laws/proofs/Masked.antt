@@ -8,10 +8,10 @@ use Rattle.public_fold.specs.Journal.{Entry, Journal}
 use Rattle.public_fold.specs.Journal.Entry.{Did, Made, Session, Upgraded}
 use Rattle.journal_bytes.specs.Bytes.{entry_body}
 use Rattle.attempt_laws.specs.Trials.{MaskOnePayload, Trial, attempt_of, batch_in}
-use Rattle.attempt_laws.proofs.Epochs.{epoch_command, epoch_in, epoch_session}
+use Rattle.attempt_laws.proofs.Epochs.{epoch_command, epoch_in, epoch_session, epoch_upgraded}
 use Rattle.attempt_laws.proofs.Written.{epochs_agree, numbers_agree}
 use Rattle.held_laws.specs.Held.{trials_behind}
-use Rattle.held_laws.proofs.Spending.{AreCommands}
+use Rattle.held_laws.proofs.Spending.{AreDeeds}
 
 abbrev pub trial_epoch : Trial → ℕ
 trial_epoch t = epoch_in (t.behind ++ t.entry ∷ [])
@@ -63,27 +63,28 @@ trials_agree m (entry ∷ entries) t u (inr later) (inl other) epochs numbers =
     absurd (let no : ⊥ = omega (arith, here, more, long, numbers) in no)
 trials_agree m (entry ∷ entries) t u (inr one) (inr other) epochs numbers = trials_agree (m ++ entry ∷ []) entries t u one other epochs numbers
 
-commands_in : (m : Journal) (commands : List Entry) → AreCommands commands → (u : Trial) → In u (trials_behind m commands) → trial_epoch u ≡ epoch_in m
+deeds_in : (m : Journal) (commands : List Entry) → AreDeeds commands → (u : Trial) → In u (trials_behind m commands) → trial_epoch u ≡ epoch_in m
 unfolding trials_behind
-commands_in m [] are u i = absurd i
-commands_in m (Session ∷ commands) are u i = absurd are
-commands_in m (Made version keys ∷ commands) are u i = absurd are
-commands_in m (Did r keys ∷ commands) are u (inl is) = ap trial_epoch is ∙ epoch_command m r keys
-commands_in m (Did r keys ∷ commands) are u (inr later) = commands_in (m ++ Did r keys ∷ []) commands are u later ∙ epoch_command m r keys
-commands_in m (Upgraded keys ∷ commands) are u i = absurd are
+deeds_in m [] are u i = absurd i
+deeds_in m (Session ∷ commands) are u i = absurd are
+deeds_in m (Made version keys ∷ commands) are u i = absurd are
+deeds_in m (Did r keys ∷ commands) are u (inl is) = ap trial_epoch is ∙ epoch_command m r keys
+deeds_in m (Did r keys ∷ commands) are u (inr later) = deeds_in (m ++ Did r keys ∷ []) commands are u later ∙ epoch_command m r keys
+deeds_in m (Upgraded keys ∷ commands) are u (inl is) = ap trial_epoch is ∙ epoch_upgraded m keys
+deeds_in m (Upgraded keys ∷ commands) are u (inr later) = deeds_in (m ++ Upgraded keys ∷ []) commands are u later ∙ epoch_upgraded m keys
 
 -- one of the epoch above the journal's last: it begins that epoch, or stands behind the batch that does
 abbrev pub LiesBehind : Journal → Trial → Type 0
 LiesBehind m u = (trial_epoch u ≡ epoch_in m + 1) × ((u.entry ≡ Session) ⊎ (length m < length u.behind))
 
-pub session_lies : (m : Journal) (commands : List Entry) → AreCommands commands → (u : Trial) → In u (trials_behind m (Session ∷ commands)) → LiesBehind m u
+pub session_lies : (m : Journal) (commands : List Entry) → AreDeeds commands → (u : Trial) → In u (trials_behind m (Session ∷ commands)) → LiesBehind m u
 unfolding trials_behind
 session_lies m commands are u (inl is) = (ap trial_epoch is ∙ epoch_session m, inl (ap (λ (t : Trial). t.entry) is))
 session_lies m commands are u (inr later) =
     let begun = m ++ Session ∷ [] in
     let more : length begun ≤ length u.behind = trials_on begun commands u later in
     let long = length-append m (Session ∷ []) in
-    (commands_in begun commands are u later ∙ epoch_session m, inr (omega (arith, more, long)))
+    (deeds_in begun commands are u later ∙ epoch_session m, inr (omega (arith, more, long)))
 
 -- ---- what the veil key masks
 

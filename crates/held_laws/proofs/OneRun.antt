@@ -5,6 +5,7 @@ use Rattle.std.proofs.lemmas.List.{append_cancel_left}
 use Rattle.std.proofs.Math.Seq.{drop-append_seam}
 use Rattle.batch_log.specs.Handing.{IsStage, IsTornStage}
 use Rattle.batch_log.specs.Steps.{written_at}
+use Rattle.batch_log.specs.Moments.{FromThenOn}
 use Rattle.batch_log.proofs.Handed.{at_start, stage_before, stage_behind, torn_after, torn_before}
 use Rattle.batch_log.proofs.InOrder.{on_ends}
 use Rattle.commit_journal.specs.Handing.{Hands, Write, all_written, batch_writes, log_writes, opening_writes}
@@ -32,14 +33,15 @@ use Rattle.attempt_laws.proofs.Epochs.{epoch_in, epoch_session}
 use Rattle.attempt_laws.proofs.Rising.{Rises, spent}
 use Rattle.attempt_laws.proofs.Written.{entered_is}
 use Rattle.stop_laws.proofs.Kept.{calm_stays}
+use Rattle.stop_laws.specs.Runs.{RunOver, UpgradeOver}
 use Rattle.handed_laws.specs.Unveiled.{IsHanded, ShowsJoined, batches_behind, unveiled_by}
 use Rattle.handed_laws.proofs.Handed.{run_shows}
 use Rattle.held_laws.specs.Held.{HeldRun, IsTried, MakesNoEmptyVeil, trials_behind}
-use Rattle.held_laws.proofs.Gone.{Gone, gone_by}
+use Rattle.held_laws.proofs.Gone.{Gone, gone_by, gone_by_upgrade}
 use Rattle.cry_base.specs.Sets.{In}
 use Rattle.held_laws.proofs.Leaves.{LeavesLog, leaves_log}
 use Rattle.held_laws.proofs.Masked.{AllAgree, LiesBehind, begins_epoch, session_lies, trials_agree}
-use Rattle.held_laws.proofs.Spending.{AreCommands, IsMade, commands_epoch, commands_front, first_of, session_rises, writes_are}
+use Rattle.held_laws.proofs.Spending.{AreDeeds, IsMade, deeds_epoch, deeds_front, first_of, session_rises, writes_are}
 
 -- ---- the first of some writes
 
@@ -111,8 +113,8 @@ left_log key j first others left is stands =
     subst (λ (l : Journal). LeavesLog key left (length l) (epoch_in l)) (sym is)
     (leaves_log key first others left (subst (λ (l : Journal). StandsForJournal key l left) is stands))
 
-begun_epoch : (m h : Journal) (rest : List Entry) → h ≡ m ++ Session ∷ rest → AreCommands rest → epoch_in h ≡ epoch_in m + 1
-begun_epoch m h rest is are = ap epoch_in (is ∙ sym (append_assoc m (Session ∷ []) rest)) ∙ commands_epoch (m ++ Session ∷ []) rest are ∙ epoch_session m
+begun_epoch : (m h : Journal) (rest : List Entry) → h ≡ m ++ Session ∷ rest → AreDeeds rest → epoch_in h ≡ epoch_in m + 1
+begun_epoch m h rest is are = ap epoch_in (is ∙ sym (append_assoc m (Session ∷ []) rest)) ∙ deeds_epoch (m ++ Session ∷ []) rest are ∙ epoch_session m
 
 first_entry : (m : Journal) → IsValid m → (first : Entry) × (others : Journal) × (m ≡ first ∷ others)
 first_entry [] valid = absurd valid.0
@@ -168,9 +170,23 @@ module _ {D : Type 0} (disks : disk.Ghosts D)
 
   goes : Goes
   goes =
-      let r = run.run in
+      ⊎_elim
+      (λ (r : RunOver disks key run.before run.after).
       gone_by key m run.stands_for.valid (lines_behind (lines_in r.typed)) (seen_from r.left_before r.left_after was shown r.written_before r.written_after) (disks.may_leave run.after)
-      (KeepsUpTo key m was shown (disks.may_leave run.before) since) run.stands_for.whole_keys r.status r.asked (r.ran key m r.hands_in shows_found)
+      (KeepsUpTo key m was shown (disks.may_leave run.before) since) run.stands_for.whole_keys r.status r.asked (r.ran key m r.hands_in shows_found))
+      (λ (u : UpgradeOver disks key run.before run.after).
+      gone_by_upgrade key m run.stands_for.valid [] (seen_from u.left_before u.left_after was shown u.written_before u.written_after) (disks.may_leave run.after)
+      (KeepsUpTo key m was shown (disks.may_leave run.before) since) run.stands_for.whole_keys u.status (u.ran key m u.hands_in shows_found))
+      run.call
+
+  -- no stop takes back what was published
+  stays_published : FromThenOn disks.moment disks.since run.before run.after (HasPublished key)
+  stays_published =
+      let calm = calm_stays key was (disks.may_leave run.before) run.calm in
+      ⊎_elim
+      (λ (r : RunOver disks key run.before run.after). r.published key m r.hands_in shows_found calm)
+      (λ (u : UpgradeOver disks key run.before run.after). u.published key m u.hands_in shows_found calm)
+      run.call
 
   -- all that it made was handed over
   hands_all : (entries : List Entry) (gone : Goes) → gone.reached ≡ m ++ entries → AllHanded (fills ++ trial_writes key (trials_behind m entries))
@@ -194,9 +210,8 @@ module _ {D : Type 0} (disks : disk.Ghosts D)
         let bs = batches_of key m in
         let b = batch_in key (record { behind = m; entry = Session }) in
         let first = first_behind key m gone.reached longer in
-        let stays = run.run.published key m run.run.hands_in shows_found (calm_stays key was (disks.may_leave run.before) run.calm) in
         let has : HasPublished key s run.left =
-        on_ends D disks.moment disks.since (HasPublished key) run.before run.after stays shown (disks.may_leave run.after) (λ s c now. present run.after s c now)
+        on_ends D disks.moment disks.since (HasPublished key) run.before run.after stays_published shown (disks.may_leave run.after) (λ s c now. present run.after s c now)
         (λ t s c early is left. counted run.after t s c early is left) s c end run.left at is_end run.leaves in
         let unveiled = unveiled_by joined.0 (batches_behind key m gone.reached) in
         let within = prefix_trans (bs ++ unveiled) (published_batches key s) bs joined.2 (subst (IsPrefix (published_batches key s)) (journal_recovered key m run.left stands) has) in
@@ -231,7 +246,7 @@ module _ {D : Type 0} (disks : disk.Ghosts D)
   one_trial = refl
 
   -- a session that began its epoch
-  began : (gone : Goes) (commands : List Entry) → gone.reached ≡ m ++ Session ∷ commands → AreCommands commands → HoldsBetween key m gone.reached shown (disks.may_leave run.after) → Tried disks key run
+  began : (gone : Goes) (commands : List Entry) → gone.reached ≡ m ++ Session ∷ commands → AreDeeds commands → HoldsBetween key m gone.reached shown (disks.may_leave run.after) → Tried disks key run
   began gone commands is are holds =
       let at = holds.leaves run.left run.leaves in
       ⊎_elim
@@ -247,7 +262,7 @@ module _ {D : Type 0} (disks : disk.Ghosts D)
         spends = inr (inl (record { one = one_trial; leaves = left_log key m first.0 first.1 run.left first.2 stands }));
       } in result)
       (λ more.
-      let rest_are = commands_front more.0 more.2.0 (subst AreCommands (sym more.2.1) are) in
+      let rest_are = deeds_front more.0 more.2.0 (subst AreDeeds (sym more.2.1) are) in
       let some = has_entry m more.0 Session in
       let log = left_log key at.held some.0 some.1 run.left (more.1 ∙ some.2) at.stands_for in
       let result : Tried disks key run = record {

@@ -8,10 +8,10 @@ ghost use Rattle.held_laws.specs.Held.{AreHeld, Collides, HeldRun, MakesNoEmptyV
 
 use cry_io::Disk;
 
-/// Law: over every list of runs, in which each takes a head that the writer took behind the run before, every nonce is spent once, on
-/// whatever disks they run, put back or not: of all batches that any of the runs handed its disk, no two keys or records have one number,
-/// and what one veil key masks is one payload. Else two different texts among those that are hashed for a head have one SHA-256 value.
-/// Nothing is asked of who else writes the disks.
+/// Law: over every list of runs and upgrades, in which each takes a head that the writer took behind the one before, every nonce is spent
+/// once, on whatever disks they run, put back or not: of all batches that any of the runs handed its disk, no two keys or records have one
+/// number, and what one veil key masks is one payload. Else two different texts among those that are hashed for a head have one SHA-256
+/// value. Nothing is asked of who else writes the disks.
 pub fn held_runs_spend_numbers_once<D: Disk>()
     ensures { (key : List ℕ) (runs : List (HeldRun D.Disk key)) → MakesNoEmptyVeil key → AreHeld D.Disk key runs →
         SpendOnce D.Disk key runs ⊎ ((run : HeldRun D.Disk key) × In run runs × Collides D.Disk key run) }

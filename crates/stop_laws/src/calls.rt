@@ -10,6 +10,7 @@ ghost use Rattle.cli_reading.specs.Promises.Open.{OpenEnds};
 ghost use Rattle.cli_running.specs.Promises.HeldRun.{HeldRunEnds};
 ghost use Rattle.cli_running.specs.Promises.Run.{RunEnds};
 ghost use Rattle.cli_running.specs.Running.{key_in_lines, lines_in};
+ghost use Rattle.cli_upgrading.specs.Promises.HeldUpgrade.{HeldUpgradeEnds};
 ghost use Rattle.cli_upgrading.specs.Promises.Upgrade.{UpgradeEnds};
 ghost use Rattle.cli_upgrading.specs.Upgrading.{HandsInAlone};
 ghost use Rattle.cli_base.specs.World.{World, senses_of};
@@ -17,7 +18,7 @@ ghost use Rattle.cli_base.specs.declared.status.Status.{Status};
 ghost use Rattle.head_tree.specs.declared.head.Head.{Head};
 ghost use Rattle.journal_bytes.specs.Journals.{ShowsJournal};
 ghost use Rattle.public_fold.specs.Journal.{Journal};
-ghost use Rattle.stop_laws.specs.Held.{HeldCallOver};
+ghost use Rattle.stop_laws.specs.Held.{HeldCallOver, HeldUpgradeCallOver};
 ghost use Rattle.stop_laws.specs.Others.{IsByOther, IsUpgradeByOther};
 ghost use Rattle.stop_laws.specs.Runs.{IsLeft, LeavesStore, RunOver, Runs, UpgradeOver};
 
@@ -77,6 +78,33 @@ pub fn held_runs_are_runs<D: Disk>(start: &D, before: &D, after: &D, next: &D)
     ensures ends { (key : List ℕ) → Runs D.Disk key start.now before.now → HeldCallOver D.Disk key before.now after.now →
         Runs D.Disk key start.now after.now }
     ensures stops { (key : List ℕ) → Runs D.Disk key start.now before.now → HeldCallOver D.Disk key before.now after.now →
+        (shown left : List ℕ) → D.since after.now (D.moment before.now) shown left → IsLeft D.Disk left next.now →
+        Runs D.Disk key start.now next.now }
+{}
+
+/// Law: an upgrade with a head whose whole input is the line of the owner's key.
+pub fn held_upgrades_by_the_owner_are_told<S: Source, R: Source, D: Disk, W: Sink>()
+    ensures { (head : Head) (owner typed : List ℕ) (status : Status) (before after : World S R D W) →
+        S.left before.input ≡ Some typed → HandsInAlone typed owner →
+        HeldUpgradeEnds head (senses_of S.Source R.Source D.Disk W.Sink) status before after
+        → HeldUpgradeCallOver D.Disk owner before.disk after.disk }
+{}
+
+/// Law: an upgrade with a head whose input isn't one line that hands in a key, or hands in one with another check than the owner's, over a
+/// disk that shows the owner's journal.
+pub fn held_upgrades_by_others_leave_the_store<S: Source, R: Source, D: Disk, W: Sink>()
+    ensures { (head : Head) (owner : List ℕ) (m : Journal) (typed : List ℕ) (status : Status) (before after : World S R D W) →
+        S.left before.input ≡ Some typed → ShowsJournal owner m (D.shown before.disk) → IsUpgradeByOther owner typed →
+        HeldUpgradeEnds head (senses_of S.Source R.Source D.Disk W.Sink) status before after →
+        AnyEnds (senses_of S.Source R.Source D.Disk W.Sink) status before after → LeavesStore D.Disk before.disk after.disk }
+{}
+
+/// Law: a list of calls goes on with an upgrade with a head too, as with three calls of which only the second writes; and with a stop at
+/// any moment of it.
+pub fn held_upgrades_are_upgrades<D: Disk>(start: &D, before: &D, after: &D, next: &D)
+    ensures ends { (key : List ℕ) → Runs D.Disk key start.now before.now → HeldUpgradeCallOver D.Disk key before.now after.now →
+        Runs D.Disk key start.now after.now }
+    ensures stops { (key : List ℕ) → Runs D.Disk key start.now before.now → HeldUpgradeCallOver D.Disk key before.now after.now →
         (shown left : List ℕ) → D.since after.now (D.moment before.now) shown left → IsLeft D.Disk left next.now →
         Runs D.Disk key start.now next.now }
 {}

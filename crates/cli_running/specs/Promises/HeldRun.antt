@@ -7,17 +7,14 @@
 -- whose words have no head follows over the disk, which was only read: all that `run` promises is promised of it. Where that call isn't
 -- done, the whole ends so, and leaves what that left. Where it is done, the whole ends as `head` does over what the disk shows then: at
 -- Done the head of its log was printed behind the replies, and from the last reply on the disk was only read.
-use Rattle.std.specs.Prelude.{◌≡◌, ◌≢◌, ◌⊎◌, ℕ, Bool, true, false, List, [], IsTrue, None, Some}
-use Rattle.commit_journal.specs.Moments.{IsSameThroughout}
-use Rattle.cry_io.specs.Reading.{IsOnlyRead}
+use Rattle.std.specs.Prelude.{◌≡◌, ◌⊎◌, ℕ, Bool, true, false, List, [], IsTrue, None, Some}
 use Rattle.cry_io.specs.Told.{WhereTold, WhereBothTold}
 use Rattle.head_tree.specs.declared.head.Head.{Head}
 use Rattle.log_heads.specs.Published.{hashes_in}
 use Rattle.cli_base.specs.World.{Senses, World}
 use Rattle.cli_base.specs.declared.status.Status.{Status}
 use Rattle.cli_base.specs.declared.status.Status.TheVariants as statuses
-use Rattle.cli_heads.specs.Asked.Asked.{TheHead}
-use Rattle.cli_heads.specs.Promises.Asking.{AskingEnds}
+use Rattle.cli_heads.specs.Held.{EndsBehind, ReadsDisk}
 use Rattle.cli_heads.specs.Statuses.{EndsAs, is_test_answer}
 use Rattle.cli_heads.specs.Testing.{FailsHead, IsHeld}
 use Rattle.cli_running.specs.Promises.Run.{RunEnds}
@@ -33,12 +30,6 @@ is_held_run_answer statuses.AlreadyNew = false
 is_held_run_answer statuses.BadProof = false
 is_held_run_answer _ = true
 
--- the log doesn't begin with the batches that the head names
-abbrev pub tells_other_log : Status → Bool
-tells_other_log (statuses.Behind have want) = true
-tells_other_log (statuses.Forked batches) = true
-tells_other_log _ = false
-
 -- It ended at its first line: that hands in no key, or the input failed before it ended, or memory was wanting.
 pub record EndsAtFirst {S R D W : Type 0} (see : Senses S R D W) (status : Status) (before after : World S R D W) : Type 0 where
   pub first : FirstIsBad status
@@ -47,12 +38,6 @@ pub record EndsAtFirst {S R D W : Type 0} (see : Senses S R D W) (status : Statu
   pub read_whole_lines : status ≡ statuses.ReadFault
       → WhereBothTold (see.inputs.left before.input) (see.inputs.left after.input) (ReadsWholeTyped [])
   pub rest_kept : after ≡ record before { input = after.input }
-
--- a call over a disk, or a part of one, that only reads it: at its end and at each moment of it the disk shows what it showed, and a stop
--- leaves what it left
-pub record ReadsDisk {S R D W : Type 0} (see : Senses S R D W) (before after : D) : Type 0 where
-  pub read_only : IsOnlyRead see.disks before after
-  pub moments : IsSameThroughout see.disks before after
 
 -- The first line hands in a key, and the test of the head failed: the log begins otherwise, or can't be read.
 pub record EndsAtHead (head : Head) {S R D W : Type 0} (see : Senses S R D W) (status : Status) (before after : World S R D W)
@@ -63,12 +48,6 @@ pub record EndsAtHead (head : Head) {S R D W : Type 0} (see : Senses S R D W) (s
   pub takes : WhereBothTold (see.inputs.left before.input) (see.inputs.left after.input) (TakesTo (Some 1))
   pub reads : ReadsDisk see before.disk after.disk
   pub rest_kept : after ≡ record before { input = after.input; disk = after.disk }
-
--- what follows the run proper, which ended so and left this world
-abbrev pub EndsBehind : {S R D W : Type 0} → Senses S R D W → Status → Status → World S R D W → World S R D W → Type 0
-EndsBehind see ended status ran after =
-    (ended ≢ statuses.Done) × (status ≡ ended) × (after ≡ ran)
-    ⊎ (ended ≡ statuses.Done) × AskingEnds TheHead see status ran after × ReadsDisk see ran.disk after.disk
 
 -- The log begins with the batches that the head names. A run follows over the disk as the test left it, and ends so; and then the head is
 -- printed, where that is done.

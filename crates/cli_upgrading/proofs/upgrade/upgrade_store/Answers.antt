@@ -1,4 +1,4 @@
-use Rattle.std.proofs.Common.{◌≡◌, ◌≢◌, IsTrue, List, None, Ok, Err, Option, ap, arith, false, subst, sym, ℕ, ◌∙◌}
+use Rattle.std.proofs.Common.{None, Ok, Err, ap, subst, sym, ◌∙◌}
 use Rattle.std.proofs.lemmas.Bool.{false≢true}
 use Rattle.batch_log.specs.Moments.{FromThenOn}
 use Rattle.cli_base.proofs.InputLemmas.{fresh_reader}

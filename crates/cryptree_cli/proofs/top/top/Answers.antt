@@ -2,7 +2,7 @@ use Rattle.std.proofs.Common.{◌≡◌, List, ℕ, Option, Some, arith, refl, s
 use Rattle.std.specs.Prelude.{IfSome}
 use Rattle.commit_journal.proofs.OpenedMoments.{read_throughout}
 use Rattle.cli_words.specs.declared.texts.TheConstants.{HELP, VERSION}
-use Rattle.cli_words.specs.declared.words.Form.TheVariants.{Help, Run, Version}
+use Rattle.cli_words.specs.declared.words.Form.TheVariants.{Help, Run, Upgrade, Version}
 use Rattle.cli_words.specs.declared.words.Form.{Form}
 use Rattle.cli_making.specs.Promises.Gen.{GenEnds}
 use Rattle.cli_reading.specs.Promises.Audit.{AuditEnds, of_audit}
@@ -15,8 +15,9 @@ use Rattle.cli_heads.specs.Promises.Checking.{CheckEnds}
 use Rattle.cli_heads.specs.Asked.Asked.{TheProof}
 use Rattle.cli_words.specs.Words.{HasFewLines, form_of_words, path_in_words, text_of}
 use Rattle.cli_running.specs.Promises.HeldRun.{HeldRunEnds}
+use Rattle.cli_upgrading.specs.Promises.HeldUpgrade.{HeldUpgradeEnds}
 use Rattle.head_tree.specs.declared.head.Head.{Head}
-use Rattle.cli_words.proofs.AskedScripts.{of_asked, of_asked_audit, of_asked_check, of_asked_list, of_asked_open, of_asked_proof, of_asked_run}
+use Rattle.cli_words.proofs.AskedScripts.{of_asked, of_asked_audit, of_asked_check, of_asked_list, of_asked_open, of_asked_proof, of_asked_run, of_asked_upgrade}
 use Rattle.cli_making.proofs.MakeLemmas.{done_or_no_memory}
 use Rattle.cli_reading.proofs.Sound.{reading_ends}
 use Rattle.cli_reading.proofs.SoundAudit.{audit_sound}
@@ -95,6 +96,19 @@ returns-in-Some-Run-Some-clause-runs_held g c = λ head asked.
     of_asked_run (λ (o : Option Head). IfSome o (λ h. HeldRunEnds h see c.run_held.result before after)) (Some asks.head) (Some head)
     (form_of_words c.args.words.now.items)
     (sym c.form_of.ensures.form ∙ asks.is ∙ ap (λ f. Some f) (asks.field-0-is ∙ ap (λ h. Run h) asks.field-0-0-is)) asked c.run_held.ensures.ends
+
+-- ---- `upgrade`
+
+pub returns-in-Some-Upgrade-Some-clause-upgrades_held : goal.returns-in-Some-Upgrade-Some-clause-upgrades_held
+returns-in-Some-Upgrade-Some-clause-upgrades_held g c = λ head asked.
+    let see = senses_of g.S.Source g.R.Source g.D.Disk g.W.Sink in
+    let before = world_of c.args.input.now c.args.random.now c.args.disk.now c.args.out.now in
+    let held = c.upgrade_held in
+    let after = world_of held.new.input held.new.random held.new.disk held.new.out in
+    let asks = c.in-Some-Upgrade-Some in
+    of_asked_upgrade (λ (o : Option Head). IfSome o (λ h. HeldUpgradeEnds h see held.result before after)) (Some asks.head) (Some head)
+    (form_of_words c.args.words.now.items)
+    (sym c.form_of.ensures.form ∙ asks.is ∙ ap (λ f. Some f) (asks.field-0-is ∙ ap (λ h. Upgrade h) asks.field-0-0-is)) asked held.ensures.ends
 
 -- ---- `gen`
 

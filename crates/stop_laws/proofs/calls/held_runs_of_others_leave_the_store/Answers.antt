@@ -5,4 +5,4 @@ use Rattle.stop_laws.proofs.calls.held_runs_of_others_leave_the_store.Goals as g
 pub returns : goal.returns
 returns g c head owner m typed status before after told shows other run any =
     held_run_leaves_store (senses_of g.S.Source g.R.Source g.D.Disk g.W.Sink) (λ d t s left early shown leaves. g.met.D.Disk.counts_now d t s left early shown leaves) (λ d s left at. g.met.D.Disk.only_now d s left at) (λ d s is. g.met.D.Disk.shown_may_be_left d s is)
-    head status before after owner m typed told shows other any.disk_told run
+    head status before after owner m typed told shows any.disk_told other run

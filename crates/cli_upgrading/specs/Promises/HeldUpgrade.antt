@@ -1,0 +1,70 @@
+-- What `upgrade HEAD` promises. Behind the input, and before anything is drawn, written or filled, it tests that the log begins with the
+-- batches that the head names; then it upgrades the store as `upgrade` does, and behind the reply it prints the head of the log that it
+-- leaves.
+--
+-- Whatever the disk shows it ends in one of three ways. At its input, where that hands in no key, or failed, or memory was wanting: then
+-- nothing else was touched. At the test of the head: then at each moment of the call the disk shows what it showed, and a stop leaves what
+-- it left; nothing was drawn or printed, and why is told as exactly as by `list HEAD`. Or the head is held, and a call whose words have no
+-- head follows over the disk, which was only read: all that `upgrade` promises is promised of it. Where that call isn't done, the whole
+-- ends so, and leaves what that left. Where it is done, with the reply `ok` or `refused full`, the whole ends as `head` does over what the
+-- disk shows then: at Done the head of its log was printed behind the reply, and from the reply on the disk was only read.
+use Rattle.std.specs.Prelude.{◌≡◌, ◌⊎◌, Bool, true, false, List, ℕ, [], IsTrue}
+use Rattle.cry_io.specs.Told.{WhereTold, WhereBothTold}
+use Rattle.head_tree.specs.declared.head.Head.{Head}
+use Rattle.log_heads.specs.Published.{hashes_in}
+use Rattle.cli_base.specs.Input.{InputDecides, owner_answer}
+use Rattle.cli_base.specs.World.{Senses, World}
+use Rattle.cli_base.specs.declared.status.Status.{Status}
+use Rattle.cli_base.specs.declared.status.Status.TheVariants as statuses
+use Rattle.cli_heads.specs.Held.{EndsBehind, ReadsDisk}
+use Rattle.cli_heads.specs.Statuses.{EndsAs, is_test_answer}
+use Rattle.cli_heads.specs.Testing.{FailsHead, IsHeld}
+use Rattle.cli_upgrading.specs.Promises.Upgrade.{UpgradeEnds}
+use Rattle.cli_upgrading.specs.Upgrading.{HandsInAlone, TakesAlone, is_at_input}
+
+-- how an upgrade with a head may end
+abbrev pub is_held_upgrade_answer : Status → Bool
+is_held_upgrade_answer statuses.Usage = false
+is_held_upgrade_answer statuses.NotBlank = false
+is_held_upgrade_answer (statuses.NoHolder known) = false
+is_held_upgrade_answer statuses.Unseen = false
+is_held_upgrade_answer statuses.NeedsUpgrade = false
+is_held_upgrade_answer statuses.BadProof = false
+is_held_upgrade_answer _ = true
+
+-- It ended at its input: that hands in no key, or it failed before it was judged, or memory was wanting.
+pub record EndsAtInput {S R D W : Type 0} (see : Senses S R D W) (status : Status) (before after : World S R D W) : Type 0 where
+  pub at_input : IsTrue (is_at_input status)
+  pub decided : WhereTold (see.inputs.left before.input) (λ typed. InputDecides status (owner_answer typed))
+  pub takes : WhereBothTold (see.inputs.left before.input) (see.inputs.left after.input) (TakesAlone status)
+  pub rest_kept : after ≡ record before { input = after.input }
+
+-- The input hands in a key, and the test of the head failed: the log begins otherwise, or can't be read.
+pub record EndsAtHead (head : Head) {S R D W : Type 0} (see : Senses S R D W) (status : Status) (before after : World S R D W)
+    : Type 0 where
+  pub answers : IsTrue (is_test_answer status)
+  pub hands_in : WhereTold (see.inputs.left before.input) (λ typed. (key : List ℕ) × HandsInAlone typed key)
+  pub fails : WhereTold (see.disks.shown before.disk) (λ image. EndsAs (FailsHead head (hashes_in image)) status)
+  pub takes : WhereBothTold (see.inputs.left before.input) (see.inputs.left after.input) (λ typed left. left ≡ [])
+  pub reads : ReadsDisk see before.disk after.disk
+  pub rest_kept : after ≡ record before { input = after.input; disk = after.disk }
+
+-- The log begins with the batches that the head names. An upgrade follows over the disk as the test left it, and ends so; and then the head
+-- is printed, where that is done.
+pub record UpgradesBehind (head : Head) {S R D W : Type 0} (see : Senses S R D W) (status : Status) (before after : World S R D W)
+    : Type 0 where
+  pub held : WhereTold (see.disks.shown before.disk) (λ image. IsHeld head (hashes_in image))
+  pub hands_in : WhereTold (see.inputs.left before.input) (λ typed. (key : List ℕ) × HandsInAlone typed key)
+  pub tested : D
+  pub reads : ReadsDisk see before.disk tested
+  pub ended : Status
+  pub ran : World S R D W
+  pub upgrades : UpgradeEnds see ended (record before { disk = tested }) ran
+  pub behind : EndsBehind see ended status ran after
+
+-- how a call of `upgrade HEAD` ends
+pub record HeldUpgradeEnds (head : Head) {S R D W : Type 0} (see : Senses S R D W) (status : Status) (before after : World S R D W)
+    : Type 0 where
+  pub answers : IsTrue (is_held_upgrade_answer status)
+  pub ends : EndsAtInput see status before after
+      ⊎ (EndsAtHead head see status before after ⊎ UpgradesBehind head see status before after)
