@@ -128,8 +128,10 @@ def upgraded(check, store, keys):
     check.expect("ls over version 1", done(check, "ls", front(check, store, "ls", keys=keys)), b"")
     done(check, "renew of version 1", front(check, store, "renew", store + ".new", keys=keys))
     done(check, "written anew", front(check, store + ".new", "put", folder, "/new", keys=keys))
-    printed, end = done(check, "upgrade", front(check, store, "upgrade", keys=keys)), len(before) - 1
-    check.expect("upgrade", (b"version 2" in printed, read(store)[:end] == before[:end], len(read(store)) > len(before)), (True,) * 3)
+    (status, printed, said), end = front(check, store, "upgrade", keys=keys, with_front=small_front(check, len(before))), len(before) - 1
+    check.expect("upgrade", (status, b"version 2" in printed, read(store)[:end] == before[:end], len(read(store)) > len(before)),
+                 (0, True, True, True))
+    check.expect("what it's told of the room", (b"in 100 full" in said, b"a revocation of every grant takes" in said), (True, True))
 
 
 def of_any_version(check, store, keys):
@@ -197,20 +199,25 @@ def followed_grants(check):
     check.expect("one whose key was handed over", b"/t/new plans/in  ben*\n*  as recorded" in printed, True)
 
 
-def full(check):
-    """A store that is nearly full, over a front end for which it's small: what is warned, refused, and still revoked."""
-    store, folder = shared_store(check, "full.store"), os.path.join(check.folder, "full")
-    os.mkdir(folder)
-    size = os.stat(store).st_size
+def small_front(check, limit):
+    """A front end for which a store takes so many bytes."""
     small = check.put("small", f"""#!{sys.executable}
 import sys
 sys.path.insert(0, {os.path.dirname(FRONT)!r})
 from folder_store import room
 from folder_store.entry import main
-room.LIMIT, room.BESIDE = {size + 60_000}, 3000
+room.LIMIT, room.BESIDE = {limit}, 3000
 sys.exit(main())
 """.encode())
     os.chmod(small, 0o700)
+    return small
+
+
+def full(check):
+    """A store that is nearly full, over a front end for which it's small: what is warned, refused, and still revoked."""
+    store, folder = shared_store(check, "full.store"), os.path.join(check.folder, "full")
+    os.mkdir(folder)
+    small = small_front(check, os.stat(store).st_size + 60_000)
 
     def calls(*words):
         return front(check, store, *words, with_front=small)

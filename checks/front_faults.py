@@ -66,7 +66,7 @@ def statuses(check):
     store = fresh(check, "statuses.store")
     for status, part in ((1, "status 1"), (2, "status 2"), (5, "status 5"), (6, "the disk failed"), (7, "random"), (8, "random"),
                          (9, "not a store"), (10, "damaged"), (11, "not one of"), (12, "tampered"), (13, "memory"), (15, "no such holder"),
-                         (0, "without an answer")):
+                         (17, "with upgrade"), (18, "already"), (0, "without an answer")):
         program = program_that(check, "ends", f"echo 'cryptree: said' >&2; read line; exit {status}")
         came = front(check, store, "holder", "add", "ann", program=program)
         expect_told(check, f"status {status}", came, 1, part)

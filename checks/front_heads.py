@@ -6,14 +6,14 @@ import json
 import os
 
 import store_reader
-from front_calls import expect_told, front
+from front_calls import expect_told, front, program_that, shell
 from front_copies import shared_store
 from front_keys import done, key_file, modes
 from harness import read
 
 
 def all_heads(check):
-    for part in (read_by_a_holder, compared, hidden_from_holders, half_published, older_form):
+    for part in (read_by_a_holder, compared, hidden_from_holders, half_published, handed, put_back_meanwhile, older_form):
         part(check)
 
 
@@ -160,6 +160,56 @@ def half_published(check):
     check.put("half.store", bytes(image))
     done(check, "one that has it", front(check, store, "grant", "ann", "/"))
     check.expect("it stands", done(check, "ls", front(check, store, "ls", "/a")), b"b\nc/\n")
+
+
+def handed(check):
+    """What writes hands the kept head to the program, once for a reading and once for a session, and keeps the one that is printed."""
+    store, log = shared_store(check, "handed.store"), os.path.join(check.folder, "handed.log")
+    logs = shell(check, "logs", f'echo "$3 $4" >>"{log}"; exec "{check.program}" "$@"')
+    last = key_file(check, store, "last")
+    for words, calls in ((("revoke", "ann", "/a"), ["run"]), (("put", folder_of(check), "/x"), ["list", "run"]), (("upgrade",), ["upgrade"]),
+                         (("holder", "add", "ben"), ["run"]), (("put", folder_of(check), "/x"), ["list"])):
+        check.put("handed.log", b"")
+        kept = json.loads(read(last))["head"]
+        done(check, words[0], front(check, store, *words, program=logs))
+        check.expect(f"{words[0]} hands it on", read(log).decode().splitlines(), [f"{call} {kept}" for call in calls])
+        check.expect(f"{words[0]} keeps the next", json.loads(read(last))["head"], head_of(check, store))
+
+
+def folder_of(check):
+    """A folder of two files."""
+    folder = os.path.join(check.folder, "handed.in")
+    os.makedirs(folder, exist_ok=True)
+    for name in "ab":
+        check.put(f"handed.in/{name}", name.encode())
+    os.utime(folder, (1, 1))
+    for name in "ab":
+        os.utime(os.path.join(folder, name), (1, 1))
+    return folder
+
+
+def put_back_meanwhile(check):
+    """An older copy, or another history, that comes to stand there when the front end has begun: the program tells it, and nothing is
+    written. Where it comes behind a session that was cut short, its head isn't kept."""
+    store = shared_store(check, "swapped.store")
+    older = check.put("swapped.older", read(store))
+    does(check, store, b"write /a/c 00\ngrant 1 /\n")
+    done(check, "ls", front(check, store, "ls"))
+    newest, last = read(store), key_file(check, store, "last")
+    kept = read(last)
+    other = check.put("swapped.other", read(older))
+    does(check, other, b"mkdir /b\nmkdir /c\nmkdir /d\n")
+    for there, told in ((older, "ends at batch"), (other, "another history")):
+        swaps = program_that(check, "swaps", f'cat "{there}" >"$1"; exec "{check.program}" "$@"')
+        for words in (("revoke", "ann", "/a"), ("put", folder_of(check), "/x"), ("holder", "add", "ben"), ("upgrade",)):
+            expect_told(check, f"{words[0]}, {told}", front(check, store, *words, program=swaps), 1, told, "nothing was written", "--accept")
+            check.expect(f"{words[0]} leaves it", (read(store) == read(there), read(last)), (True, kept))
+            check.put("swapped.store", newest)
+    cut = f'[ "$3" = run ] || exec "{check.program}" "$@"; sed -u 2q | "{check.program}" "$@"; cat "{older}" >"$1"; exit 6'
+    came = front(check, store, "put", folder_of(check), "/x", program=program_that(check, "cuts", cut))
+    expect_told(check, "one behind a session that was cut short", came, 1, "ends at batch", "while it was written")
+    check.expect("its head isn't kept", (json.loads(read(last))["head"], json.loads(read(last))["begun"]), (json.loads(kept)["head"], True))
+    expect_told(check, "and it isn't written", front(check, store, "grant", "ann", "/a"), 1, "older copy")
 
 
 def older_form(check):

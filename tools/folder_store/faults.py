@@ -89,6 +89,13 @@ class Locked(Fault):
 class OlderCopy(Fault):
     """The store isn't a continuation of what was last written with this key folder."""
 
+    TO_WRITE = ("put the newest copy in its place, or make a new store of this one with renew; only where it is the newest itself, "
+                "say --accept, which takes it as it is")
+
+    @classmethod
+    def to_write(cls, cause):
+        return cls(f"{cause}; nothing was written: {cls.TO_WRITE}")
+
 
 class NoKey(Fault):
     """There is no key file where one is looked for."""
@@ -96,6 +103,17 @@ class NoKey(Fault):
 
 class BadKey(Fault):
     """A key file isn't what it has to be."""
+
+
+def behind(store, count, seen):
+    """Why a store of so many batches isn't what was seen, where more were."""
+    return (f"{store} ends at batch {count}, and {seen} were seen before, so an older copy was put back, "
+            "or this is another copy")
+
+
+def forked(store, seen):
+    """Why a store isn't what was seen, where its first so many batches are others."""
+    return f"{store} isn't what it was at batch {seen}, so somebody wrote another history, as on an older copy"
 
 
 def warn(text):

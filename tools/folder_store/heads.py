@@ -53,6 +53,6 @@ def keep(store, last, accept):
         store.listing(store.owner)
     if accept:
         store.keys.make()
-        last.put(False)
+        last.keep_present()
     elif not places.is_restored(store.path, store.keys):
         store.last = last

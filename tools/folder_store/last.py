@@ -1,9 +1,11 @@
 """The last head that was seen of a store, so that an older copy or another history of it is noticed, and never written on.
 
 A head tells how many batches a log has and a hash over them (docs/FORMAT.md, "Heads"). The key folder has the last one in `last`, and
-before each reading and each writing the program has to prove that the store goes on from it. An owner who writes on an older copy seals
-other texts with numbers that were used, and whoever has both copies reads what nobody was granted; a reader of one is shown what isn't so
-any more.
+each reading and each writing has to be of a store that goes on from it. An owner who writes on an older copy seals other texts with numbers
+that were used, and whoever has both copies reads what nobody was granted; a reader of one is shown what isn't so any more.
+
+Before a reading the program is asked for the present head, and has to prove that it goes on from the kept one. A command that writes hands
+the kept one to the program, which tests it itself before it draws or writes anything, and prints the last head when it is done.
 
     {"version": 2, "head": "7:HEX", "end": 2333, "begun": false}
 
@@ -17,17 +19,16 @@ numbers, since each begins an epoch: a store that lost some of it goes on withou
 import json
 import os
 import re
+from functools import cached_property
 from typing import NamedTuple
 
 from folder_store import older_form, private, program
-from folder_store.faults import BadKey, Damaged, OlderCopy, warn
+from folder_store.faults import BadKey, Damaged, OlderCopy, behind, forked, warn
 from folder_store.progress import Progress
 
 HEADER, BATCH, SLOT_AT = 42, 110, 13
 HEAD = re.compile(r"(0|[1-9][0-9]{0,9}):[0-9a-f]{64}")
 TO_READ = "put the newest copy in its place; where you know that this is the copy you mean, --accept reads it as it is"
-TO_WRITE = ("put the newest copy in its place, or make a new store of this one with renew; only where it is the newest itself, "
-            "say --accept, which takes it as it is")
 READ_SO = "read as it is: what it shows may be older than what was seen before, or never have been so"
 WRITTEN_SO = ("taken as it is: if this is an older copy, then whoever has both copies can read what is written now, "
               "whether or not it was ever granted to them")
@@ -83,39 +84,44 @@ def against(head, present, store, handle):
         return None
     lines = program.proof(store, batches(head), handle)
     if lines is None:
-        return (f"{store} ends at batch {batches(present)}, and {batches(head)} were seen before, so an older copy was put back, "
-                "or this is another copy")
+        return behind(store, batches(present), batches(head))
     if not program.is_prefix(store, head, present, lines, handle):
-        return f"{store} isn't what it was at batch {batches(head)}, so somebody wrote another history, as on an older copy"
+        return forked(store, batches(head))
     return None
 
 
 class Last:
-    """What is kept of a store that this has locked, and its present head."""
+    """What is kept of a store that this has locked. `head` is the last one that is known of it, kept or seen now; `present` and `cause` ask
+    the program when they are first looked at."""
 
     def __init__(self, path, store, handle):
         self.path, self.store, self.handle, self.before = path, store, handle, None
         self.kept = read(path)
-        with Progress("testing that the store goes on from what was seen"):
-            self.present = program.head(store, handle)
-            self.cause = self.against_kept()
+        self.head = self.kept and self.kept.head
 
-    def against_kept(self):
+    @cached_property
+    def present(self):
+        """The head that the store had when this was first asked for."""
+        with Progress("reading the head of the store"):
+            return program.head(self.store, self.handle)
+
+    @cached_property
+    def cause(self):
         """Why the store isn't one that goes on from what is kept; None where it is, or nothing is kept."""
         if self.kept is None:
             return None
         if self.kept.older is None:
-            return against(self.kept.head, self.present, self.store, self.handle)
+            present = self.present
+            with Progress("testing that the store goes on from what was seen"):
+                return against(self.kept.head, present, self.store, self.handle)
         if older_form.goes_on(self.handle, self.kept.end, self.kept.older):
             return None
         return f"{self.store} doesn't go on from what was last written, so it is an older copy that was put back, or was written by another"
 
-    def cause_against_writing(self):
-        """Why the store mustn't be written; None where it may be."""
+    def cause_by_its_end(self):
+        """Why the store mustn't be written, as far as that is seen by where its log ends; None where it may be by that."""
         if self.kept is None:
             return f"the key folder doesn't know what was last written to {self.store}, so it may be an older copy"
-        if self.cause:
-            return self.cause
         end = end_of_log(self.handle)
         if end < self.kept.end:
             return f"{self.store} ends before what was last written, so it is an older copy that was put back"
@@ -124,14 +130,20 @@ class Last:
                     "back")
         return None
 
-    def see_that_it_may_be_written(self, accept):
-        """Raises OlderCopy where it mustn't be; with `accept` it tells what that means, and takes the store as it is."""
-        cause = self.cause_against_writing()
+    def see_that_it_goes_on(self, accept):
+        """Raises OlderCopy where it mustn't be written; with `accept` it tells what that means, and takes the store as it is."""
+        cause = self.cause or self.cause_by_its_end()
         if cause and not accept:
-            raise OlderCopy(f"{cause}; nothing was written: {TO_WRITE}")
+            raise OlderCopy.to_write(cause)
+        self.head = self.present
         if cause:
             warn(f"{cause}; {WRITTEN_SO}")
             self.put(False)
+
+    def see_that_it_may_be_written(self, accept):
+        """The same where the program is handed the kept head behind this: that one is tested there, and here what else tells against it."""
+        if accept or self.head is None or self.cause_by_its_end():
+            self.see_that_it_goes_on(accept)
 
     def see_that_it_may_be_read(self, accept):
         """Raises OlderCopy where it goes on from nothing that was seen; with `accept` that is told, and what is kept stays."""
@@ -149,10 +161,21 @@ class Last:
         """Keeps what was kept before, where the program didn't get as far as to write."""
         private.replace(self.path, self.before)
 
-    def write(self):
-        """Keeps what stands in the store after a writing, and gives where its log ends."""
-        self.present = program.head(self.store, self.handle)
+    def write(self, printed):
+        """Keeps the head that a writing printed, and gives where the log ends. One that was cut short printed none: then the present head
+        has to go on from what was known, or the mark of the writing stays."""
+        if printed is None:
+            printed = program.head(self.store, self.handle)
+            cause = against(self.head, printed, self.store, self.handle)
+            if cause:
+                raise OlderCopy(f"{cause}, while it was written: {OlderCopy.TO_WRITE}")
+        self.head = printed
         return self.put(False)
+
+    def keep_present(self):
+        """Keeps the present head."""
+        self.head = self.present
+        self.put(False)
 
     def has_grown(self, is_owner):
         """Whether a reading saw more than is kept. What the owner wrote last is never made up from a reading alone."""
@@ -165,5 +188,5 @@ class Last:
 
     def put(self, begun):
         end = end_of_log(self.handle)
-        private.replace(self.path, json.dumps({"version": 2, "head": self.present, "end": end, "begun": begun}) + "\n")
+        private.replace(self.path, json.dumps({"version": 2, "head": self.head, "end": end, "begun": begun}) + "\n")
         return end

@@ -4,12 +4,13 @@ import re
 import shutil
 import subprocess
 
-from folder_store.faults import AlreadyNew, Damaged, Fault, Hostile, NeedsUpgrade, NoSpace, NotAStore, Tampered, WrongKey
+from folder_store.faults import (AlreadyNew, Damaged, Fault, Hostile, NeedsUpgrade, NoSpace, NotAStore, OlderCopy, Tampered, WrongKey,
+                                 behind, forked)
 
 RANDOM = "/dev/urandom"     # an ordinary file would give the first holder the owner's key
 INPUT_LIMIT = 67_108_864    # bytes that one session takes, the owner's line among them
 PIECE = 4096                # what goes into a pipe whole or not at all
-BEHIND, BAD_PROOF = 19, 21     # statuses of `prove` and of `check`
+BEHIND, FORKED, BAD_PROOF = 19, 20, 21     # statuses of `prove`, of what is handed a head, and of `check`
 HEAD = re.compile(rb"head ((?:0|[1-9][0-9]{0,9}):[0-9a-f]{64})\n")
 ALMOST_NOTHING = 2 << 20    # free bytes on a disk that count as full: a command writes up to 1 MiB and its keys
 LIBRARY = os.path.dirname(os.path.dirname(os.path.abspath(__file__)))     # tools/ of the tree, or PREFIX/lib/cryptree
@@ -45,10 +46,10 @@ def made(file, store):
     return line.decode("ascii").rstrip("\n")
 
 
-def answer(store, command, key_line, lock):
-    """The lines that `list` or `audit` prints to this key, one after another, without newlines. Whoever takes them has to throw them
-    away where a fault comes at their end."""
-    with start(store, command, stdin=subprocess.PIPE, pass_fds=(lock,)) as process:
+def answer(store, command, key_line, lock, head=None):
+    """The lines that `list` or `audit` prints to this key, one after another, without newlines; with a head OlderCopy where the store
+    doesn't go on from it. Whoever takes them has to throw them away where a fault comes at their end."""
+    with start(store, *with_head(command, head), stdin=subprocess.PIPE, pass_fds=(lock,)) as process:
         try:
             process.stdin.write(key_line.encode("ascii") + b"\n")
         except BrokenPipeError:
@@ -62,12 +63,13 @@ def answer(store, command, key_line, lock):
         raise fault(store, process.returncode, said)
 
 
-def upgraded(store, owner_line, lock):
-    """The reply to the owner who makes a store one of version 2: `ok`, or a refusal."""
-    status, printed, said = asked(store, ["upgrade"], lock, owner_line.encode("ascii") + b"\n")
+def upgraded(store, owner_line, lock, head):
+    """The reply to the owner who makes a store that goes on from a head one of version 2, `ok` or a refusal, and its last head."""
+    status, printed, said = asked(store, ["upgrade", head], lock, owner_line.encode("ascii") + b"\n")
     if status:
         raise fault(store, status, said)
-    return printed.decode("ascii").rstrip("\n")
+    reply, _, last = printed.partition(b"\n")
+    return reply.decode("ascii"), read_head(last)
 
 
 def asked(store, command, lock, typed=b""):
@@ -82,10 +84,19 @@ def head(store, lock):
     status, printed, said = asked(store, ["head"], lock)
     if status:
         raise fault(store, status, said)
+    return read_head(printed)
+
+
+def read_head(printed):
+    """The head in a printed line of one."""
     found = HEAD.fullmatch(printed)
     if not found:
-        raise Hostile(f"the program printed what it never prints, so nothing is done: {printed[:80]!r}")
+        raise Hostile(f"the program printed what it never prints, so nothing more is done: {printed[:80]!r}")
     return found.group(1).decode()
+
+
+def with_head(command, head):
+    return [command] if head is None else [command, head]
 
 
 def proof(store, count, lock):
@@ -106,11 +117,11 @@ def is_prefix(store, old, new, lines, lock):
 
 class Session:
     """One opening for writing. Each line is answered before the next is sent; the lock on the store is the program's too, so that it's
-    held until both have ended, however they end."""
+    held until both have ended, however they end. One with a head is of a store that goes on from it, and at its end has the last one."""
 
-    def __init__(self, store, owner_line, lock):
-        self.store, self.room, self.failure = store, INPUT_LIMIT, None
-        self.process = start(store, "run", stdin=subprocess.PIPE, pass_fds=(lock,))
+    def __init__(self, store, owner_line, lock, head=None):
+        self.store, self.room, self.failure, self.has_head, self.head = store, INPUT_LIMIT, None, head is not None, None
+        self.process = start(store, *with_head("run", head), stdin=subprocess.PIPE, pass_fds=(lock,))
         self.printed = open(self.process.stdout.fileno(), "rb", closefd=False)
         self.send(owner_line)
 
@@ -142,6 +153,7 @@ class Session:
         self.send(line)
         reply = self.printed.readline()
         if not reply.endswith(b"\n"):
+            self.has_head = False
             self.end()
             raise Fault(f"the program ended without an answer to a line: {line[:80]!r}")
         return reply.decode("ascii").rstrip("\n")
@@ -151,6 +163,7 @@ class Session:
         if self.process.stdin.closed:
             return
         self.process.stdin.close()
+        rest = self.printed.read()
         status, said = self.process.wait(), self.process.stderr.read()
         self.printed.close()
         self.process.stdout.close()
@@ -158,6 +171,8 @@ class Session:
         if status:
             self.failure = fault(self.store, status, said)
             raise self.failure
+        if self.has_head:
+            self.head = read_head(rest)
 
 
 def fault(store, status, said):
@@ -165,6 +180,8 @@ def fault(store, status, said):
     said = said.decode("utf-8", "replace").strip().removeprefix("cryptree: ")
     if status in (6, 14):
         return disk_fault(store, status)
+    if status in (BEHIND, FORKED):
+        return OlderCopy.to_write(no_continuation(store, said))
     older = "put a good copy beside it and read that; never write on it"
     kinds = {
         7: (Fault, f"the system's random source {RANDOM} can't be read: see to it that it's there"),
@@ -184,6 +201,12 @@ def fault(store, status, said):
         return kind(text)
     how = f"was ended by signal {-status}" if status < 0 else f"ended with status {status} ({said})"
     return Fault(f"the program {how}: what was answered before stands; do it again, or tell its makers")
+
+
+def no_continuation(store, said):
+    """Why a store isn't one that goes on from the head which the program was handed."""
+    numbers = re.findall(r"[0-9]+", said)
+    return behind(store, *numbers) if len(numbers) == 2 else forked(store, *numbers[:1] or ["that was seen"])
 
 
 def disk_fault(store, status):

@@ -52,12 +52,23 @@ def kept_back(store):
     return BESIDE + sum(REVOCATION * count + LINK * count * (count - 1) // 2 for count in on_folders.values())
 
 
+def left_in(store):
+    """How many bytes are left beside what revocations take; less than none where these may not find room."""
+    return LIMIT - kept_back(store) - last.end_of_log(store.handle)
+
+
 def see_to(store, needed):
     """A Fault where so many bytes may not leave the room that a revocation of every grant takes: then nothing is done."""
-    left = LIMIT - kept_back(store) - last.end_of_log(store.handle)
+    left = left_in(store)
     if needed > left:
         raise Full(f"this may take {needed:,} bytes, and {store.path} has {max(left, 0):,} left beside what revocations need, so nothing "
                    "was done: put less, or make a new store of what stands with renew")
+
+
+def tell_of_revocations(store):
+    """Warns where a revocation of every grant may not find room any more."""
+    if left_in(store) < 0:
+        warn(f"{store.path} may not have the room that a revocation of every grant takes: make a new one of what stands with renew")
 
 
 def tell(path, end):

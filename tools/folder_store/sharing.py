@@ -47,10 +47,12 @@ def adopt(words):
 
 
 def upgrade(words):
-    """Done twice, the second one finds it done."""
+    """Done twice, the second one finds it done. No room is kept back for revocations: before an upgrade a store takes none at all, so one
+    that isn't done leaves no more of them than one that takes their room. That is told."""
     with opened(words, writes=True) as store:
         try:
             store.upgrade()
+            room.tell_of_revocations(store)
             text = f"made {words.store} one of version 2: it can be written, and what leaves a folder is closed to later readers"
         except AlreadyNew:
             text = f"{words.store} is of version 2 already"

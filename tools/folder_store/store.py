@@ -8,8 +8,8 @@ import tempfile
 from typing import NamedTuple
 
 from folder_store import places, private, program, room
-from folder_store.faults import (AlreadyNew, BadKey, Damaged, Fault, Hostile, Locked, NeedsUpgrade, NoStore, NotAStore, Refused, Tampered,
-                                 WrongKey, warn)
+from folder_store.faults import (AlreadyNew, BadKey, Damaged, Fault, Hostile, Locked, NeedsUpgrade, NoStore, NotAStore, OlderCopy, Refused,
+                                 Tampered, WrongKey, warn)
 from folder_store.holders import Holders
 from folder_store.keys import KeyFolder, read_key
 from folder_store.last import Last
@@ -17,7 +17,7 @@ from folder_store.names import real_path, shown
 from folder_store.progress import followed
 
 TOLD, COPY = "told", "copy"     # how one that may be older is read: told that it is, or as a copy that is known to be one
-UNOPENED = (NotAStore, Damaged, WrongKey, Tampered, NeedsUpgrade, AlreadyNew)     # what tells that nothing was written
+UNOPENED = (NotAStore, Damaged, WrongKey, Tampered, OlderCopy, NeedsUpgrade, AlreadyNew)     # what tells that nothing was written
 MAGIC, IDENTITY_AT, HEADER = b"CRYPTREE\1", 9, 42
 NAME = rb"(?!\.\.?(?:[/ ]|\Z))[A-Za-z0-9._-]{1,64}"
 LISTED = re.compile(rb"(?:(folder|ancestor) (/|(?:/" + NAME + rb")+)|(file) ((?:/" + NAME + rb")+) ([0-9a-f]*))")
@@ -59,12 +59,13 @@ class Store:
 
     def __init__(self, path, handle, keys, last=None):
         self.path, self.handle, self.keys, self.last = path, handle, keys, last
-        self.writes = self.owner_read = False
+        self.writes = self.owner_read = self.is_tested = False
 
     @classmethod
     def open(cls, path, keys_folder, writes, wait, accept=False, older=None):
-        """The store, locked against writers, and to write against readers too. It has to go on from what was last seen of it. With
-        `accept`, or with `older` to read, another is told and taken all the same; a copy that `restore` takes or made isn't asked."""
+        """The store, locked against writers, and to write against readers too. It has to go on from what was last seen of it, which to
+        write is tested by the first call of the program. With `accept`, or with `older` to read, another is told and taken all the same; a
+        copy that `restore` takes or made isn't asked."""
         handle = locked(path, writes, wait)
         try:
             store = cls(path, handle, KeyFolder(keys_folder, identity(path, handle)))
@@ -105,7 +106,7 @@ class Store:
         try:
             if self.owner_read >= is_owner and self.last.has_grown(is_owner):
                 self.keys.make()
-                self.last.put(False)
+                self.last.keep_present()
         except (Fault, OSError) as cause:
             warn(f"the head of {self.path} can't be kept ({cause}): an older copy of it won't be noticed")
 
@@ -134,20 +135,24 @@ class Store:
         return [read_line(line, SEEN, seen) for line in self.answer("audit", key)]
 
     def answer(self, command, key):
-        yield from followed(program.answer(self.path, command, key.line, self.handle), f"reading {shown(self.path)}")
+        """The lines of it; the first to one that is to write tests what it goes on from."""
+        head = self.last.head if self.writes and not self.is_tested else None
+        yield from followed(program.answer(self.path, command, key.line, self.handle, head), f"reading {shown(self.path)}")
+        self.is_tested = True
         self.owner_read |= key.is_owner
 
     def run(self, lines):
-        """Has the store do these lines, one after another, and gives the replies. It stops at the first refusal."""
-        replies, session, holders = [], None, self.holders
+        """Has the store do these lines, one after another, and gives the replies. It stops at the first refusal. What doesn't go into one
+        session goes on in another, which is handed no head: a store of 1 GB would be read some 60 times more."""
+        replies, session, holders, head = [], None, self.holders, self.last.head
         try:
             for line in lines:
                 if not line.isascii() or "\n" in line:
                     raise Fault(f"no line for a store: {line[:80]!r}")
                 if session and not session.has_room(line):
                     session.end()
-                    session = None
-                session = session or self.begun()
+                    self.last.head, head, session = session.head or self.last.head, None, None
+                session = session or self.begun(head)
                 reply = session.say(line)
                 if reply.startswith("refused "):
                     raise Refused(line, reply, len(replies))
@@ -159,36 +164,36 @@ class Store:
                 self.ended(session)
         return replies
 
-    def begun(self):
-        """A session with the store, marked as begun beside the key."""
+    def begun(self, head):
+        """A session with the store, which has to go on from a head, marked as begun beside the key."""
         self.last.mark()
-        return program.Session(self.path, self.owner.line, self.handle)
+        return program.Session(self.path, self.owner.line, self.handle, head)
 
     def ended(self, session):
         """Ends a session, and keeps what it left."""
         try:
             session.end()
         finally:
-            self.keep_what_is_left(session.failure)
+            self.keep_what_is_left(session.failure, session.head)
 
-    def keep_what_is_left(self, failure):
-        """Keeps what a writing left that ended so: with None where nothing failed."""
+    def keep_what_is_left(self, failure, head):
+        """Keeps what a writing left that ended so, with None where nothing failed, and that printed this head, or none."""
         if isinstance(failure, UNOPENED):
             self.last.unmark()
         else:
-            room.tell(self.path, self.last.write())
+            room.tell(self.path, self.last.write(head))
 
     def upgrade(self):
         """Makes the store one of version 2; AlreadyNew where it is one."""
-        failure = None
+        failure = head = None
         self.last.mark()
         try:
-            reply = program.upgraded(self.path, self.owner.line, self.handle)
+            reply, head = program.upgraded(self.path, self.owner.line, self.handle, self.last.head)
         except Fault as cause:
             failure = cause
             raise
         finally:
-            self.keep_what_is_left(failure)
+            self.keep_what_is_left(failure, head)
         if reply != "ok":
             raise Refused("upgrade", reply, 0)
 
@@ -265,7 +270,7 @@ def make(path, keys_folder):
         with private.NewFile(keys.file("owner.key")) as file:
             file.put(line + "\n")
         Holders(keys.file("holders.json")).save()
-        Last(keys.file("last"), temporary, handle).put(False)
+        Last(keys.file("last"), temporary, handle).keep_present()
         private.settle(temporary, place)
         places.keep(path, keys)
     except FileExistsError:
@@ -292,14 +297,14 @@ def take_in(path, keys_folder, key, wait, accept, is_copy=False):
         places.check(path, keys, accept)
         last = Last(keys.file("last"), path, handle)
         if last.kept is not None and not is_copy:
-            last.see_that_it_may_be_written(accept)
+            last.see_that_it_goes_on(accept)
         keys.make()
         with private.NewFile(keys.file("owner.key")) as file:
             file.put(key.line + "\n")
         if not os.path.exists(keys.file("holders.json")):
             Holders(keys.file("holders.json")).save()
         if not is_copy:
-            last.put(False)
+            last.keep_present()
             places.keep(path, keys)
     finally:
         os.close(handle)
