@@ -5,6 +5,7 @@ import os
 import random
 import shutil
 import signal
+import subprocess
 import sys
 import time
 
@@ -26,6 +27,8 @@ TREE = {
     ".hidden": b"\0", ".hid-.x": b"1", "-dash": None, "-dash/--help": b"2", "a - b_c": b"3", "large": LARGE, "-.index": b"mine",
     "large-.parts": b"4", LONG: b"5", "ü" * 100: None, "ü" * 100 + "/" + "ü" * 120: b"6", "new\nline": b"7", "deep" + "/d" * 50: None,
 }
+REAL = ("/usr/share/doc", "/usr/include", os.path.join(os.path.dirname(os.path.dirname(FRONT)), ".git"), os.path.dirname(FRONT))
+SOME = 100      # names of each of these
 LINKS = {"link": "empty", "Meine Übung/up": "../large", "-dash/folder": "../Meine Übung", "nowhere": "no such file"}
 
 
@@ -103,6 +106,32 @@ class Folders:
 
     def path(self, name):
         return os.path.join(self.folder, name)
+
+
+def copy_some(source, target):
+    """A copy of the first files and links of a folder, with modes and times."""
+    found = sorted(os.path.join(place, name) for place, _, names in os.walk(source) for name in names)
+    for path in [path for path in found if os.path.islink(path) or os.path.isfile(path)][:SOME]:
+        inside = os.path.join(target, os.path.relpath(path, source))
+        os.makedirs(os.path.dirname(inside), exist_ok=True)
+        shutil.copy2(path, inside, follow_symlinks=False)
+    for place, _, _ in os.walk(target, topdown=False):
+        shutil.copystat(os.path.join(source, os.path.relpath(place, target)), place)
+
+
+def real_ones(check):
+    """Some of the machine's docs and headers, of a .git, and of these tools: what there is of them, in one put."""
+    at = Folders(check, "real")
+    os.mkdir(at.folder)
+    for number, source in enumerate(filter(os.path.isdir, REAL)):
+        copy_some(source, at.path(f"from {number}"))
+    at.put("put")
+    status, _, said = front(check, at.store, "get", "/trip", at.out, "--links-outside")
+    check.expect("real folders", (status, said), (0, b""))
+    done = subprocess.run(["diff", "-r", "--no-dereference", at.folder, at.out], capture_output=True, check=False)
+    check.expect("diff -r of them", (done.returncode, done.stdout[:300], state(at.out) == state(at.folder)), (0, b"", True))
+    printed, _ = at.put("again")
+    check.expect("again writes nothing", b"nothing to do" in printed, True)
 
 
 def rule_of_names(check):
@@ -321,6 +350,7 @@ def all_folders(check):
     front_plans.all_plans(check)
     front_hostile.all_hostile(check)
     rule_of_names(check)
+    real_ones(check)
     at = there_and_back(check)
     kinds_that_change(at)
     looking(at)

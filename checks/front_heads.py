@@ -167,8 +167,9 @@ def handed(check):
     store, log = shared_store(check, "handed.store"), os.path.join(check.folder, "handed.log")
     logs = shell(check, "logs", f'echo "$3 $4" >>"{log}"; exec "{check.program}" "$@"')
     last = key_file(check, store, "last")
-    for words, calls in ((("revoke", "ann", "/a"), ["run"]), (("put", folder_of(check), "/x"), ["list", "run"]), (("upgrade",), ["upgrade"]),
-                         (("holder", "add", "ben"), ["run"]), (("put", folder_of(check), "/x"), ["list"])):
+    put = ("put", folder_of(check), "/x")
+    for words, calls in ((("revoke", "ann", "/a"), ["run"]), (put, ["list", "run"]), (("upgrade",), ["upgrade"]),
+                         (("holder", "add", "ben"), ["run"]), (put, ["list"])):
         check.put("handed.log", b"")
         kept = json.loads(read(last))["head"]
         done(check, words[0], front(check, store, *words, program=logs))
@@ -202,7 +203,8 @@ def put_back_meanwhile(check):
     for there, told in ((older, "ends at batch"), (other, "another history")):
         swaps = program_that(check, "swaps", f'cat "{there}" >"$1"; exec "{check.program}" "$@"')
         for words in (("revoke", "ann", "/a"), ("put", folder_of(check), "/x"), ("holder", "add", "ben"), ("upgrade",)):
-            expect_told(check, f"{words[0]}, {told}", front(check, store, *words, program=swaps), 1, told, "nothing was written", "--accept")
+            came = front(check, store, *words, program=swaps)
+            expect_told(check, f"{words[0]}, {told}", came, 1, told, "nothing was written", "--accept")
             check.expect(f"{words[0]} leaves it", (read(store) == read(there), read(last)), (True, kept))
             check.put("swapped.store", newest)
     cut = f'[ "$3" = run ] || exec "{check.program}" "$@"; sed -u 2q | "{check.program}" "$@"; cat "{older}" >"$1"; exit 6'

@@ -20,9 +20,9 @@ TOLD, COPY = "told", "copy"     # how one that may be older is read: told that i
 UNOPENED = (NotAStore, Damaged, WrongKey, Tampered, OlderCopy, NeedsUpgrade, AlreadyNew)     # what tells that nothing was written
 MAGIC, IDENTITY_AT, HEADER = b"CRYPTREE\1", 9, 42
 NAME = rb"(?!\.\.?(?:[/ ]|\Z))[A-Za-z0-9._-]{1,64}"
-LISTED = re.compile(rb"(?:(folder|ancestor) (/|(?:/" + NAME + rb")+)|(file) ((?:/" + NAME + rb")+) ([0-9a-f]*))")
+LISTED = re.compile(rb"(?:(folder|ancestor) ((?:/" + NAME + rb")+|/)|(file) ((?:/" + NAME + rb")+) )")     # without a file's bytes
 NUMBERS = rb" ([0-9]{1,10}) ([0-9]{1,10}) "
-SEEN = re.compile(rb"(?:(folder)" + NUMBERS + rb"(|" + NAME + rb")|(file)" + NUMBERS + rb"(" + NAME + rb") ([0-9a-f]*))")
+SEEN = re.compile(rb"(?:(folder)" + NUMBERS + rb"(" + NAME + rb"|)|(file)" + NUMBERS + rb"(" + NAME + rb") )")
 
 
 class Line(NamedTuple):
@@ -44,12 +44,15 @@ class Seen(NamedTuple):
 
 
 def read_line(line, form, make):
-    """A printed line as what it says, or Hostile."""
-    found = form.fullmatch(line)
+    """A printed line as what it says, or Hostile. A file's digits are read by themselves: a pattern takes five times as long over them."""
+    found = form.match(line)
     try:
         kind, *fields = (group for group in found.groups() if group is not None)
-        data = binascii.unhexlify(fields.pop()) if kind == b"file" else None
-    except (AttributeError, binascii.Error):
+        digits = line[found.end():]
+        data = binascii.unhexlify(digits) if kind == b"file" else None
+        if digits != (b"" if data is None else digits.lower()):
+            raise ValueError
+    except (AttributeError, ValueError):
         raise Hostile(f"the program printed what it never prints, so nothing is taken from it: {line[:80]!r}") from None
     return make(kind.decode(), *(field.decode() for field in fields), data)
 
