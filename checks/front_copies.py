@@ -28,6 +28,7 @@ def all_copies(check):
     holders_taken_in(check)
     followed_grants(check)
     full(check)
+    json_of_each(check)
     progress_line(check)
 
 
@@ -235,6 +236,26 @@ def full(check):
     expect_told(check, "a grant", calls("grant", "ann", "/"), 1, "nothing was done", "renew")
     came = calls("revoke", "ann", "/a")
     check.expect("a revocation still works", (came[0], b"in 100 full" in came[2], b"renew" in came[2]), (0, True, True))
+
+
+def json_of_each(check):
+    """What each command prints with --json can be read as JSON, and has no key in it."""
+    store, folder, out, copy, back, new = (os.path.join(check.folder, f"json.{part}") for part in ("store", "in", "out", "copy", "back", "new"))
+    ben = os.path.join(check.folder, "json.ben")
+    os.mkdir(folder)
+    check.put("json.in/a", b"hi")
+    for words in ((store, "init"), (store, "put", folder, "/t", "--dry-run"), (store, "put", folder, "/t"), (store, "holder", "add", "ann"),
+                  (store, "holder", "add", "ben", "--to", ben), (store, "grant", "ann", "/t"), (store, "who"), (store, "grants"),
+                  (store, "ls", "/t"), (store, "cat", "/t/a"), (store, "history", "/t/a"), (store, "get", "/t", out), (store, "head"),
+                  (store, "revoke", "ann", "/t"), (store, "upgrade"), (store, "backup", copy), (back, "restore", copy),
+                  (store, "renew", new)):
+        printed = done(check, f"{words[1]} --json", front(check, *words, "--json"))
+        keys = [line.split()[-1] for line in map(read, glob.glob(keys_of(check) + "/*/*.key"))]
+        check.expect(f"what {words[1]} prints", (bool(json.loads(printed or b"0")), [key for key in keys if key in printed]), (True, []))
+    elsewhere, owner = os.path.join(check.folder, "json.keys"), key_file(check, store, "owner.key")
+    for words in (("adopt", "--key", owner), ("holder", "adopt", "di", "--key", ben)):
+        printed = done(check, f"{words[0]} --json", front(check, store, *words, "--json", keys=elsewhere))
+        check.expect(f"what {words[0]} adopt prints", bool(json.loads(printed or b"0")), True)
 
 
 class Terminal(io.StringIO):

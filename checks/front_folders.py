@@ -269,6 +269,10 @@ def shared(check):
     at.ends("a grant that would go", 0, "put", at.folder, "/trip", "--dry-run", says=b"ann's grant on it would go too")
     at.ends("a grant that goes", 0, "put", at.folder, "/trip", says=b"grant of ann on /trip/Renamed plans went with that folder")
     at.ends("cat what isn't granted", 1, "cat", "/trip/closed/three", "--as", "ann", says=b"nothing that this key opens")
+    wrong = check.put("wrong.key", b"holder 1 " + b"0" * 64 + b"\n")
+    os.chmod(wrong, 0o600)
+    at.ends("get with a wrong key", 1, "get", "/trip", at.out + ".wrong", "--key", wrong, says=b"this key is not one of")
+    check.expect("it makes nothing", os.path.exists(at.out + ".wrong"), False)
 
 
 def looking(at):

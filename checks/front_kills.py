@@ -15,7 +15,7 @@ import time
 
 import harness
 import store_reader
-from front_calls import front, keys_of, shell, started
+from front_calls import front, keys_of, started
 from front_folders import bytes_of, make, state
 
 MOMENTS, SECONDS = 100, {"put at writes": 35, "put at moments": 35, "get": 15, "renew at writes": 15, "renew at moments": 20}
@@ -27,7 +27,15 @@ LARGE = RANDOM.randbytes((2 << 20) + 5000)
 OLD = FILES | {"large": LARGE, "shrinks": LARGE[:(1 << 20) + 1], "old/one": b"1", "empty": None}
 NEW = dict(list(FILES.items())[6:]) | {f"new d/{name.replace('/', ' ')}": data + b"new" for name, data in list(FILES.items())[3:9]} | {
     "d0/f06": b"changed", "d1/f07": b"", "large": LARGE[:1 << 20] + b"x" + LARGE[(1 << 20) + 1:] + b"and more", "shrinks": b"small",
-    "new d/large": LARGE[1:(1 << 20) + 5], "old": b"a file now", "empty": None}
+    "new d/large": LARGE[1:(1 << 20) + 5], "old": b"a file now", "empty": None, "d0/renamed": FILES["d0/f00"]}
+CHECKS = os.path.dirname(os.path.abspath(__file__))
+STOPPING = """#!{python}
+import os, sys
+sys.path.insert(0, {checks!r})
+import faults
+faults.killed_at({place})()
+os.execv({program!r}, [{program!r}, *sys.argv[1:]])
+"""
 ACCEPTED = b"was killed, and nothing of it is here"
 
 
@@ -81,9 +89,10 @@ class Kills:
 
     def stopped_at_write(self, place, *words):
         """How these words end where the program is stopped before its first write to this place."""
-        stopping = (f'exec "{sys.executable}" -c "import os, sys; sys.path.insert(0, \'{os.path.dirname(os.path.abspath(__file__))}\'); '
-                    f'import faults; faults.killed_at({place})(); os.execv(sys.argv[1], sys.argv[1:])" "{self.check.program}" "$@"')
-        status, _, said = front(self.check, self.store, *words, program=shell(self.check, "kills.program", stopping))
+        program = self.check.put("kills.program", STOPPING.format(python=sys.executable, checks=CHECKS, place=place,
+                                                                  program=self.check.program).encode())
+        os.chmod(program, 0o700)
+        status, _, said = front(self.check, self.store, *words, program=program)
         self.check.expect(f"kills: {words[0]} that is stopped at {place}", (status, b"was ended by signal" in said), (1, True))
 
     def stopped_after(self, seconds, target, *words):
