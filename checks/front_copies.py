@@ -11,7 +11,7 @@ import time
 
 import harness
 import store_reader
-from front_calls import FRONT, expect_told, front, keys_of
+from front_calls import FRONT, expect_told, front, keys_of, shell
 from front_keys import done, fresh, key_file, modes
 from harness import read
 
@@ -129,7 +129,16 @@ def upgraded(check, store, keys):
     check.expect("ls over version 1", done(check, "ls", front(check, store, "ls", keys=keys)), b"")
     done(check, "renew of version 1", front(check, store, "renew", store + ".new", keys=keys))
     done(check, "written anew", front(check, store + ".new", "put", folder, "/new", keys=keys))
-    (status, printed, said), end = front(check, store, "upgrade", keys=keys, with_front=small_front(check, len(before))), len(before) - 1
+    last = os.path.relpath(os.path.join(os.path.dirname(key_file_in(keys, store)), "last"), check.folder)
+    kept = read(os.path.join(check.folder, last))
+    hides = f'"{check.program}" "$@"; [ "$3" != upgrade ] && [ "$3" != head ] || exit 12'
+    came = front(check, store, "upgrade", keys=keys, program=shell(check, "hides", hides))
+    check.expect("an upgrade whose log is changed behind its answer", (came[0], len(read(store)) > len(before)), (1, True))
+    check.put(os.path.basename(store), before)
+    expect_told(check, "put back behind it", front(check, store, "upgrade", keys=keys), 1, "was killed", "--accept")
+    check.put(last, kept)
+    end, small = len(before) - 1, small_front(check, len(before))
+    status, printed, said = front(check, store, "upgrade", keys=keys, with_front=small)
     check.expect("upgrade", (status, b"version 2" in printed, read(store)[:end] == before[:end], len(read(store)) > len(before)),
                  (0, True, True, True))
     check.expect("what it's told of the room", (b"in 100 full" in said, b"a revocation of every grant takes" in said), (True, True))

@@ -212,6 +212,21 @@ def put_back_meanwhile(check):
     expect_told(check, "one behind a session that was cut short", came, 1, "ends at batch", "while it was written")
     check.expect("its head isn't kept", (json.loads(read(last))["head"], json.loads(read(last))["begun"]), (json.loads(kept)["head"], True))
     expect_told(check, "and it isn't written", front(check, store, "grant", "ann", "/a"), 1, "older copy")
+    check.put("swapped.store", newest)
+    check.put(os.path.relpath(last, check.folder), kept)
+    answered_and_hidden(check, store)
+
+
+def answered_and_hidden(check, store):
+    """A program that has answered a line and then finds the log changed, as who serves the disk can show it: the mark of the writing stays,
+    so that the store of before isn't written where it's put back."""
+    before = read(store)
+    hides = f'case $3 in run) "{check.program}" "$@"; exit 12 ;; head) exit 12 ;; *) exec "{check.program}" "$@" ;; esac'
+    came = front(check, store, "revoke", "ann", "/a", program=shell(check, "hides", hides))
+    check.expect("a log that is changed behind an answer", (came[0], b"tampered" in came[2], len(read(store)) > len(before)),
+                 (1, True, True))
+    check.put("swapped.store", before)
+    expect_told(check, "the store of before", front(check, store, "grant", "ann", "/a"), 1, "was killed", "--accept")
 
 
 def older_form(check):

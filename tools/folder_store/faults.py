@@ -20,9 +20,10 @@ REFUSALS = {  # docs/PROGRAM.md has the words
 
 
 class Fault(Exception):
-    """Something wasn't done. Its text goes to standard error, and the command ends with its status."""
+    """Something wasn't done. Its text goes to standard error, and the command ends with its status. The program may have answered lines
+    before it."""
 
-    status = 1
+    status, is_answered = 1, False
 
 
 class BadWords(Fault):

@@ -67,7 +67,7 @@ def upgraded(store, owner_line, lock, head):
     """The reply to the owner who makes a store that goes on from a head one of version 2, `ok` or a refusal, and its last head."""
     status, printed, said = asked(store, ["upgrade", head], lock, owner_line.encode("ascii") + b"\n")
     if status:
-        raise fault(store, status, said)
+        raise fault(store, status, said, bool(printed))
     reply, _, last = printed.partition(b"\n")
     return reply.decode("ascii"), read_head(last)
 
@@ -120,7 +120,8 @@ class Session:
     held until both have ended, however they end. One with a head is of a store that goes on from it, and at its end has the last one."""
 
     def __init__(self, store, owner_line, lock, head=None):
-        self.store, self.room, self.failure, self.has_head, self.head = store, INPUT_LIMIT, None, head is not None, None
+        self.store, self.room, self.failure, self.is_answered = store, INPUT_LIMIT, None, False
+        self.has_head, self.head = head is not None, None
         self.process = start(store, *with_head("run", head), stdin=subprocess.PIPE, pass_fds=(lock,))
         self.printed = open(self.process.stdout.fileno(), "rb", closefd=False)
         self.send(owner_line)
@@ -156,6 +157,7 @@ class Session:
             self.has_head = False
             self.end()
             raise Fault(f"the program ended without an answer to a line: {line[:80]!r}")
+        self.is_answered = True
         return reply.decode("ascii").rstrip("\n")
 
     def end(self):
@@ -169,14 +171,20 @@ class Session:
         self.process.stdout.close()
         self.process.stderr.close()
         if status:
-            self.failure = fault(self.store, status, said)
+            self.failure = fault(self.store, status, said, self.is_answered)
             raise self.failure
         if self.has_head:
             self.head = read_head(rest)
 
 
-def fault(store, status, said):
-    """What this status of the program, and what it said, mean to a user."""
+def fault(store, status, said, is_answered=False):
+    """What this status of the program, and what it said, mean to a user, behind answers or not."""
+    found = fault_of(store, status, said)
+    found.is_answered = is_answered
+    return found
+
+
+def fault_of(store, status, said):
     said = said.decode("utf-8", "replace").strip().removeprefix("cryptree: ")
     if status in (6, 14):
         return disk_fault(store, status)

@@ -17,7 +17,7 @@ from folder_store.names import real_path, shown
 from folder_store.progress import followed
 
 TOLD, COPY = "told", "copy"     # how one that may be older is read: told that it is, or as a copy that is known to be one
-UNOPENED = (NotAStore, Damaged, WrongKey, Tampered, OlderCopy, NeedsUpgrade, AlreadyNew)     # what tells that nothing was written
+UNOPENED = (NotAStore, Damaged, WrongKey, Tampered, OlderCopy, NeedsUpgrade, AlreadyNew)     # before an answer: nothing was written
 MAGIC, IDENTITY_AT, HEADER = b"CRYPTREE\1", 9, 42
 NAME = rb"(?!\.\.?(?:[/ ]|\Z))[A-Za-z0-9._-]{1,64}"
 LISTED = re.compile(rb"(?:(folder|ancestor) ((?:/" + NAME + rb")+|/)|(file) ((?:/" + NAME + rb")+) )")     # without a file's bytes
@@ -180,8 +180,9 @@ class Store:
             self.keep_what_is_left(session.failure, session.head)
 
     def keep_what_is_left(self, failure, head):
-        """Keeps what a writing left that ended so, with None where nothing failed, and that printed this head, or none."""
-        if isinstance(failure, UNOPENED):
+        """Keeps what a writing left that ended so, with None where nothing failed, and that printed this head, or none. What comes behind
+        an answer, as a wrong tag at the last head, doesn't tell that nothing was written."""
+        if isinstance(failure, UNOPENED) and not failure.is_answered:
             self.last.unmark()
         else:
             room.tell(self.path, self.last.write(head))
