@@ -5,6 +5,7 @@ spread over all that they take: the front end, the program, or both at once. Wha
 
 That stops them at each write and at MOMENTS moments; checks/front_end does as many of them, spread over all, as go into SECONDS.
 """
+import itertools
 import json
 import os
 import random
@@ -138,7 +139,9 @@ def finished_put(at, what):
 def puts(at):
     words = ["put", at.folder, "/t"]
     moments = at.moments(*words)
-    for place in at.stops("put at writes", writes_of(harness.read(at.store), len(at.image))):
+    places = writes_of(harness.read(at.store), len(at.image))
+    # At the last one, a slot, a removal stands that no reading shows yet.
+    for place in itertools.chain(places[-1:], at.stops("put at writes", places[:-1])):
         at.back()
         at.stopped_at_write(place, *words)
         finished_put(at, f"put stopped at {place}")

@@ -26,7 +26,7 @@ from folder_store import older_form, private, program
 from folder_store.faults import BadKey, Damaged, OlderCopy, behind, forked, warn
 from folder_store.progress import Progress
 
-HEADER, BATCH, SLOT_AT = 42, 110, 13
+HEADER, BATCH, SLOT_AT, SLOT = 42, 110, 13, 32
 HEAD = re.compile(r"(0|[1-9][0-9]{0,9}):[0-9a-f]{64}")
 TO_READ = "put the newest copy in its place; where you know that this is the copy you mean, --accept reads it as it is"
 READ_SO = "read as it is: what it shows may be older than what was seen before, or never have been so"
@@ -34,16 +34,29 @@ WRITTEN_SO = ("taken as it is: if this is an older copy, then whoever has both c
               "whether or not it was ever granted to them")
 
 
-def end_of_log(handle):
-    """Where the log ends."""
+def places_in_log(handle):
+    """Where each batch of the log begins, and last where it ends."""
     end, size = HEADER, os.fstat(handle).st_size
     while os.pread(handle, 1, end - 1) == b"\1":
+        yield end
         head = os.pread(handle, SLOT_AT, end)
         after = end + BATCH + int.from_bytes(head[9:13], "big")
         if len(head) < SLOT_AT or after > size:
             raise Damaged(f"the store is damaged at {end}: put a good copy in its place")
         end = after
+    yield end
+
+
+def end_of_log(handle):
+    """Where the log ends."""
+    *_, end = places_in_log(handle)
     return end
+
+
+def has_unpublished(handle):
+    """Whether a stop left the last batch without its veil key, so that readings don't show it and the next opening for writing publishes it."""
+    *before, _ = places_in_log(handle)
+    return bool(before) and os.pread(handle, SLOT, before[-1] + SLOT_AT) == bytes(SLOT)
 
 
 class Kept(NamedTuple):

@@ -12,7 +12,7 @@ from folder_store.faults import (AlreadyNew, BadKey, Damaged, Fault, Hostile, Lo
                                  Tampered, WrongKey, warn)
 from folder_store.holders import Holders
 from folder_store.keys import KeyFolder, read_key
-from folder_store.last import Last
+from folder_store.last import Last, has_unpublished
 from folder_store.names import real_path, shown
 from folder_store.progress import followed
 
@@ -81,6 +81,7 @@ class Store:
                 store.last = store.asked_for_its_head()
                 store.last.see_that_it_may_be_written(accept)
                 places.keep(path, store.keys)
+                store.publish()
             elif older != COPY and not places.is_restored(path, store.keys):
                 store.last = store.asked_for_its_head()
                 store.last.see_that_it_may_be_read(accept or older == TOLD)
@@ -166,6 +167,15 @@ class Store:
             if session:
                 self.ended(session)
         return replies
+
+    def publish(self):
+        """Publishes the batch that a stop hit, if one did: an opening for writing does. Else what is planned by a reading, which doesn't show
+        it, isn't what lines meet. A store of version 1 is opened too, though it takes no line."""
+        if has_unpublished(self.handle):
+            try:
+                self.ended(self.begun(self.last.head))
+            except NeedsUpgrade:
+                pass
 
     def begun(self, head):
         """A session with the store, which has to go on from a head, marked as begun beside the key."""
