@@ -2,3 +2,4 @@ pub mod Finding
 pub mod Members
 pub mod Paths
 pub mod Reaching
+pub mod Versions

@@ -1,3 +1,4 @@
+pub mod Clearances
 pub mod Lending
 pub mod Layout
 pub mod Limits

@@ -2,6 +2,7 @@
 use Rattle.std.specs.Prelude.{ℕ, ◌+◌, ◌-◌, max, Bool, true, false, cond, not, ◌&&◌, ◌||◌, nat_lt, ◌==◌, List, [], ◌∷◌, map, length, find}
 use Rattle.std.specs.Prelude.{fold, Option, Some, None, option_map, is_some, is_none, bytes_eq}
 use Rattle.std.specs.List.{list_any, list_all}
+use Rattle.cry_base.specs.Clearances.{clear_number}
 use Rattle.cry_base.specs.Limits.{most_depth}
 use Rattle.cry_base.specs.Naming.{is_name, is_path, is_root_path, parent_path, names_of}
 use Rattle.cry_base.specs.Requests.{Request, paths_of}
@@ -29,6 +30,12 @@ unfoldable pub id_of : Option Node → ℕ
 id_of None = 0
 id_of (Some (Folder f)) = f.0
 id_of (Some (File x)) = x.0
+
+-- the number by which a grant names it: the folder's, or the file's clearance number
+unfoldable pub granted_id : Option Node → ℕ
+granted_id None = 0
+granted_id (Some (Folder f)) = f.0
+granted_id (Some (File x)) = clear_number x.0
 
 -- 1: a path isn't of path form, or the new name isn't a name
 unfoldable pub has_bad_name : Request → Bool
@@ -64,8 +71,14 @@ needs_folder s (WriteFile path bytes) = is_file (node_at s (parent_path path))
 needs_folder s (Remove path) = false
 needs_folder s (Rename path name) = false
 needs_folder s (Relocate path into) = is_file (node_at s into)
-needs_folder s (Grant holder path) = is_file (node_at s path)
-needs_folder s (Revoke holder path) = is_file (node_at s path)
+needs_folder s (Grant holder path) = false
+needs_folder s (Revoke holder path) = false
+
+-- a grant on a file is to be given or taken back
+unfoldable pub grants_on_file : Store → Request → Bool
+grants_on_file s (Grant holder path) = is_file (node_at s path)
+grants_on_file s (Revoke holder path) = is_file (node_at s path)
+grants_on_file s r = false
 
 -- 5: a folder is to be written
 unfoldable pub writes_folder : Store → Request → Bool
@@ -151,12 +164,12 @@ finds_no_holder s r = false
 
 -- 11: the grant stands already
 unfoldable pub grants_again : Store → Request → Bool
-grants_again s (Grant holder path) = has_grant s holder (id_of (node_at s path))
+grants_again s (Grant holder path) = has_grant s holder (granted_id (node_at s path))
 grants_again s r = false
 
 -- 12: the grant doesn't stand
 unfoldable pub revokes_nothing : Store → Request → Bool
-revokes_nothing s (Revoke holder path) = not (has_grant s holder (id_of (node_at s path)))
+revokes_nothing s (Revoke holder path) = not (has_grant s holder (granted_id (node_at s path)))
 revokes_nothing s r = false
 
 -- 13: more bytes than a file may have
@@ -164,13 +177,13 @@ unfoldable pub is_too_long : ℕ → Request → Bool
 is_too_long file_bytes (WriteFile path bytes) = nat_lt file_bytes (length bytes)
 is_too_long file_bytes r = false
 
--- each cause with whether it applies, in the order in which they are tested
-unfoldable pub causes : Store → Request → ℕ → List (Bool × Refusal)
-causes s r file_bytes =
+-- each cause with whether it applies, in the order in which they are tested; whether the fourth applies is given
+abbrev pub causes_with : Bool → Store → Request → ℕ → List (Bool × Refusal)
+causes_with lacks_folder s r file_bytes =
     (has_bad_name r, BadName)
     ∷ (finds_no_path s r, NoPath)
     ∷ (changes_root r, IsRoot)
-    ∷ (needs_folder s r, NotFolder)
+    ∷ (lacks_folder, NotFolder)
     ∷ (writes_folder s r, IsFolder)
     ∷ (finds_name_taken s r, Exists)
     ∷ (removes_children s r, NotEmpty)
@@ -182,6 +195,17 @@ causes s r file_bytes =
     ∷ (is_too_long file_bytes r, TooLong)
     ∷ []
 
+unfoldable pub causes : Store → Request → ℕ → List (Bool × Refusal)
+causes s r file_bytes = causes_with (needs_folder s r) s r file_bytes
+
 -- the first cause that applies
 unfoldable pub refusal_of : Store → Request → ℕ → Option Refusal
 refusal_of s r file_bytes = option_map (λ cause. cause.1) (find (λ cause. cause.0) (causes s r file_bytes))
+
+-- the causes in a store of version 1, where strict is false: it knows no grant on a file, so a folder is due there
+unfoldable pub causes_in : Bool → Store → Request → ℕ → List (Bool × Refusal)
+causes_in strict s r file_bytes = causes_with ((grants_on_file s r && not strict) || needs_folder s r) s r file_bytes
+
+-- the first cause that applies in a store of the version
+unfoldable pub refusal_in : Bool → Store → Request → ℕ → Option Refusal
+refusal_in strict s r file_bytes = option_map (λ cause. cause.1) (find (λ cause. cause.0) (causes_in strict s r file_bytes))

@@ -1,10 +1,11 @@
 -- What an accepted command does to the plain store. This project's own, docs/FORMAT.md.
 use Rattle.std.specs.Prelude.{ℕ, ◌+◌, cond, not, ◌&&◌, ◌==◌, List, [], ◌∷◌, ◌++◌, map, filter, Option, Some, None, Result, Ok, Err}
+use Rattle.cry_base.specs.Clearances.{clear_number}
 use Rattle.cry_base.specs.Naming.{parent_path, names_of, last_name}
 use Rattle.cry_base.specs.Requests.{Request}
 use Rattle.cry_base.specs.Requests.Request.{AddHolder, MakeFolder, WriteFile, Remove, Rename, Relocate, Grant, Revoke}
 use Rattle.cry_base.specs.Store.{Store, FolderEntry, FileEntry, node_at}
-use Rattle.cry_base.specs.Refusing.{refusal_of, id_of}
+use Rattle.cry_base.specs.Refusing.{refusal_of, id_of, granted_id}
 use Rattle.cry_base.specs.declared.commands.Refusal.{Refusal}
 use Rattle.cry_base.specs.declared.roles.Node.{Node}
 use Rattle.cry_base.specs.declared.roles.Node.TheVariants.{Folder, File}
@@ -37,12 +38,15 @@ with_folder s f change = record s { folders = map (λ e. cond (e.id == f) (chang
 unfoldable pub with_file : Store → ℕ → (FileEntry → FileEntry) → Store
 with_file s x change = record s { files = map (λ e. cond (e.id == x) (change e) e) s.files }
 
--- without a folder and the grants on it; without a file; without one grant
+-- without a folder or a file and the grants on it; without one grant
 unfoldable pub without_folder : Store → ℕ → Store
 without_folder s f = record s { folders = filter (λ e. not (e.id == f)) s.folders; grants = filter (λ g. not (g.folder == f)) s.grants }
 
 unfoldable pub without_file : Store → ℕ → Store
-without_file s x = record s { files = filter (λ e. not (e.id == x)) s.files }
+without_file s x = record s {
+  files = filter (λ e. not (e.id == x)) s.files;
+  grants = filter (λ g. not (g.folder == clear_number x)) s.grants;
+}
 
 unfoldable pub without_grant : Store → ℕ → ℕ → Store
 without_grant s h f = record s { grants = filter (λ g. not (g.holder == h && g.folder == f)) s.grants }
@@ -76,8 +80,8 @@ effect s (WriteFile path bytes) key = with_bytes_at s (node_at s path) path byte
 effect s (Remove path) key = without_node s (node_at s path)
 effect s (Rename path name) key = with_name s (node_at s path) name
 effect s (Relocate path into) key = moved s (node_at s path) (id_of (node_at s into))
-effect s (Grant holder path) key = record s { grants = s.grants ++ record { holder = holder; folder = id_of (node_at s path) } ∷ [] }
-effect s (Revoke holder path) key = without_grant s holder (id_of (node_at s path))
+effect s (Grant holder path) key = record s { grants = s.grants ++ record { holder = holder; folder = granted_id (node_at s path) } ∷ [] }
+effect s (Revoke holder path) key = without_grant s holder (granted_id (node_at s path))
 
 -- the effect, where no cause for a refusal applies
 unfoldable pub accepted : Option Refusal → Store → Result Store Refusal

@@ -24,9 +24,10 @@ pub record HolderEntry : Type 0 where
   pub number : ℕ
   pub key : List ℕ
 
--- the holder may read the folder and all below it
+-- the holder may read the folder and all below it, or the file
 pub record GrantEntry : Type 0 where
   pub holder : ℕ
+  -- a folder's number, or a file's clearance number
   pub folder : ℕ
 
 -- what stands, and how many of each kind were ever made
@@ -64,7 +65,7 @@ file_entry s x = find (λ e. e.id == x) s.files
 unfoldable pub holder_entry : Store → ℕ → Option HolderEntry
 holder_entry s h = find (λ e. e.number == h) s.holders
 
--- whether the holder has a grant on that very folder
+-- whether the holder has a grant on that very folder, or on the file with the clearance number
 unfoldable pub has_grant : Store → ℕ → ℕ → Bool
 has_grant s h f = list_any (λ g. g.holder == h && g.folder == f) s.grants
 

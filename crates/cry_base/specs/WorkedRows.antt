@@ -9,10 +9,10 @@ use Rattle.cry_base.specs.Naming.{is_path, front, last_name, parent_path, is_roo
 use Rattle.cry_base.specs.Store.{Store, FolderEntry, root_store, no_store, folder_node, file_node, folder_entry, file_entry, holder_entry}
 use Rattle.cry_base.specs.Store.{has_grant, and_above, way_up, way_to_root, backwards, folder_names, file_names, node_names, path_of}
 use Rattle.cry_base.specs.Store.{depth_of, nodes_of, node_at, is_within}
-use Rattle.cry_base.specs.Refusing.{is_folder, is_file, id_of, has_bad_name, has_no_place, finds_no_path, changes_root, needs_folder}
-use Rattle.cry_base.specs.Refusing.{writes_folder, holds_name, parent_of, name_of, finds_name_taken, has_child, removes_children}
+use Rattle.cry_base.specs.Refusing.{is_folder, is_file, id_of, granted_id, has_bad_name, has_no_place, finds_no_path, changes_root}
+use Rattle.cry_base.specs.Refusing.{needs_folder, writes_folder, holds_name, parent_of, name_of, finds_name_taken, has_child, removes_children}
 use Rattle.cry_base.specs.Refusing.{moves_into_itself, is_node_within, deepest, height_of, depth_at, goes_too_deep, finds_no_holder}
-use Rattle.cry_base.specs.Refusing.{grants_again, revokes_nothing, is_too_long, causes, refusal_of}
+use Rattle.cry_base.specs.Refusing.{grants_on_file, grants_again, revokes_nothing, is_too_long, causes, refusal_of, causes_in, refusal_in}
 use Rattle.cry_base.specs.Stepping.{with_new_holder, with_new_folder, with_new_file, with_folder, with_file, without_folder, without_file}
 use Rattle.cry_base.specs.Stepping.{without_grant, with_bytes_at, without_node, with_name, moved, effect, accepted, step}
 use Rattle.cry_base.specs.Sets.{has, leads_out, grown, reach}
@@ -58,9 +58,10 @@ unfoldable pub plain_store : Unit {0}
 unfolding hex_digit hex_of ended_lines bytes_before has leads_out grown reach is_between is_name_byte is_name spell_path onto_first
     split_at_slashes names_behind names_of is_path front last_name parent_path is_root_path root_store no_store folder_node file_node
     folder_entry file_entry holder_entry has_grant and_above way_up way_to_root backwards folder_names file_names node_names path_of
-    depth_of nodes_of node_at is_within is_folder is_file id_of has_bad_name has_no_place finds_no_path changes_root needs_folder
-    writes_folder holds_name parent_of name_of finds_name_taken has_child removes_children moves_into_itself is_node_within deepest
-    height_of depth_at goes_too_deep finds_no_holder grants_again revokes_nothing is_too_long causes refusal_of with_new_holder
-    with_new_folder with_new_file with_folder with_file without_folder without_file without_grant with_bytes_at without_node with_name
-    moved effect accepted step paths_of reply_word store_then replies store_after granted nested deep_store deep_path
+    depth_of nodes_of node_at is_within is_folder is_file id_of granted_id has_bad_name has_no_place finds_no_path changes_root
+    needs_folder writes_folder holds_name parent_of name_of finds_name_taken has_child removes_children moves_into_itself is_node_within
+    deepest height_of depth_at goes_too_deep finds_no_holder grants_on_file grants_again revokes_nothing is_too_long causes refusal_of
+    causes_in refusal_in with_new_holder with_new_folder with_new_file with_folder with_file without_folder without_file without_grant
+    with_bytes_at without_node with_name moved effect accepted step paths_of reply_word store_then replies store_after granted nested
+    deep_store deep_path
 plain_store = tt

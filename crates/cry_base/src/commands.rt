@@ -13,13 +13,13 @@ pub enum Command {
     MakeFolder { path: Text },
     /// Makes the file, or gives the file there new bytes.
     WriteFile { path: Text, bytes: Text },
-    /// Removes the file, or the empty folder with all grants on it.
+    /// Removes the file, or the empty folder, with all grants on it.
     Remove { path: Text },
     /// Gives the folder or file a new name.
     Rename { path: Text, name: Text },
     /// Puts the folder or file into another folder, under its old name.
     Relocate { path: Text, into: Text },
-    /// Lets the holder read the folder and all below it.
+    /// Lets the holder read the folder and all below it, or the file alone.
     Grant { holder: HolderId, path: Text },
     /// Takes that grant back, and no other.
     Revoke { holder: HolderId, path: Text },
@@ -45,7 +45,7 @@ pub enum Refusal {
     NoPath,
     /// The root is asked to be made, written, removed, renamed or moved.
     IsRoot,
-    /// A file stands where a folder is due.
+    /// A file stands where a folder is due. In a store of version 1 a folder is due in a grant too.
     NotFolder,
     /// A folder stands where bytes are to be written.
     IsFolder,

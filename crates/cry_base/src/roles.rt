@@ -8,7 +8,7 @@ pub enum Role {
     Owner,
     /// A holder's key.
     Holder(HolderId),
-    /// The folder's key that grants hand out.
+    /// The key that grants hand out: the folder's, or the file's whose clearance number this is, the file's own number and 2^31.
     Clear(FolderId),
     /// Leads to all below the folder.
     Sub(FolderId),
@@ -31,7 +31,7 @@ pub enum Node {
     File(FileId),
 }
 
-/// Who has the key of `from` can compute the key of `to`. `kind` is 1 to 9 (docs/FORMAT.md, "Kinds of links").
+/// Who has the key of `from` can compute the key of `to`. `kind` is 1 to 11 (docs/FORMAT.md, "Kinds of links").
 #[derive(Clone, Copy, Debug, PartialEq, Eq, PartialOrd, Ord, Hash)]
 pub struct Edge {
     pub kind: u8,

@@ -1,9 +1,9 @@
 //! Worked rows of the plain store, each computed by the checker from the definitions.
-ghost use Rattle.std.specs.Prelude.{◌≡◌, [], ◌∷◌, codes, Some, None};
+ghost use Rattle.std.specs.Prelude.{◌≡◌, [], ◌∷◌, codes, Some, None, false};
 ghost use Rattle.cry_base.specs.Requests.Request.{MakeFolder, WriteFile, Remove, Rename, Relocate, Grant, Revoke};
-ghost use Rattle.cry_base.specs.Refusing.{refusal_of};
+ghost use Rattle.cry_base.specs.Refusing.{refusal_in, refusal_of};
 ghost use Rattle.cry_base.specs.Store.{root_store};
-ghost use Rattle.cry_base.specs.declared.commands.Refusal.TheVariants.{TooDeep, TooLong};
+ghost use Rattle.cry_base.specs.declared.commands.Refusal.TheVariants.{NotFolder, TooDeep, TooLong};
 ghost use Rattle.cry_base.specs.WorkedRows.{replies, store_after, granted, deep_store, deep_path};
 
 /// A grant is given once, taken back where it stands, and only to a holder that was made.
@@ -12,6 +12,17 @@ pub fn holder_refusals()
     ensures { replies (store_after granted (MakeFolder (codes "/b") ∷ []))
         (Grant 1 (codes "/a") ∷ Revoke 1 (codes "/b") ∷ Grant 2 (codes "/a") ∷ [])
         ≡ codes "has-grant" ∷ codes "no-grant" ∷ codes "no-holder" ∷ [] }
+{}
+
+/// A grant on a file lets its holder read that file alone, so it is another one than the grant on its folder; it goes with the file.
+#[tactic(auto, unfolding(crate::specs::WorkedRows::plain_store))]
+pub fn grants_on_files()
+    ensures replies { replies granted (Grant 1 (codes "/a/x") ∷ Grant 1 (codes "/a/x") ∷ Revoke 1 (codes "/a/x")
+        ∷ Revoke 1 (codes "/a/x") ∷ Revoke 1 (codes "/a") ∷ [])
+        ≡ codes "ok" ∷ codes "has-grant" ∷ codes "ok" ∷ codes "no-grant" ∷ codes "ok" ∷ [] }
+    ensures gone { (store_after granted (Grant 1 (codes "/a/x") ∷ Remove (codes "/a/x") ∷ [])).grants
+        ≡ record { holder = 1; folder = 2 } ∷ [] }
+    ensures first { refusal_in false granted (Grant 1 (codes "/a/x")) 0 ≡ Some NotFolder }
 {}
 
 /// The refusals of a tree's changes, each by the first cause that applies.
