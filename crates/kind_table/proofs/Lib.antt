@@ -1,3 +1,3 @@
 pub mod Joining
-pub mod NineRows
+pub mod ElevenRows
 pub mod Walking

@@ -11,7 +11,7 @@ pub enum RoleKind {
     Owner,
     /// A holder's key.
     Holder,
-    /// A folder's key that grants hand out.
+    /// A folder's or a file's key that grants hand out.
     Clear,
     /// A folder's key that leads to its other keys and to its subfolders.
     Sub,

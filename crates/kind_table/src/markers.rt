@@ -8,7 +8,7 @@ pub struct OwnerK;
 #[derive(Clone, Copy, Debug)]
 pub struct HolderK;
 
-/// A folder's clearance key, which a grant hands out.
+/// A folder's or a file's clearance key, which a grant hands out.
 #[derive(Clone, Copy, Debug)]
 pub struct ClearK;
 

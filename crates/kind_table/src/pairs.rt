@@ -3,7 +3,7 @@ ghost use Rattle.std.specs.Prelude.{◌≡◌, ℕ, Some, refl};
 ghost use Rattle.std.proofs.Common.{inl, inr};
 ghost use Rattle.cry_base.specs.Sets.{In};
 ghost use Rattle.kind_table.specs.declared.kinds.RoleKind.{RoleKind};
-ghost use Rattle.kind_table.specs.declared.nine.TheConstants.{NINE};
+ghost use Rattle.kind_table.specs.declared.eleven.TheConstants.{ELEVEN};
 ghost use Rattle.kind_table.specs.Rows.{kinds_row};
 ghost use Rattle.kind_table.specs.Sealing.{content_of};
 
@@ -14,15 +14,15 @@ pub trait KeyKind {
     ghost kind: { RoleKind };
 }
 
-/// A key of this kind may seal a key of the kind `B`. So it is for the pairs of `NINE` alone: each
+/// A key of this kind may seal a key of the kind `B`. So it is for the pairs of `ELEVEN` alone: each
 /// `impl` proves that its row stands there.
 pub trait LinksTo<B: KeyKind>: KeyKind {
-    /// The number of the row, 1 to 9.
+    /// The number of the row, 1 to 11.
     const NUMBER: u8;
 
     ghost NUMBER: { ℕ };
 
-    ghost is_row: { In (kinds_row NUMBER Self.kind B.kind) NINE.rows };
+    ghost is_row: { In (kinds_row NUMBER Self.kind B.kind) ELEVEN.rows };
 }
 
 /// A key of this kind seals texts.
@@ -137,6 +137,22 @@ impl LinksTo<FileK> for FilesK {
     ghost NUMBER = { 9 };
 
     ghost is_row = { inr (inr (inr (inr (inr (inr (inr (inr (inl refl)))))))) };
+}
+
+impl LinksTo<FileK> for ClearK {
+    const NUMBER: u8 = 10;
+
+    ghost NUMBER = { 10 };
+
+    ghost is_row = { inr (inr (inr (inr (inr (inr (inr (inr (inr (inl refl))))))))) };
+}
+
+impl LinksTo<BackK> for ClearK {
+    const NUMBER: u8 = 11;
+
+    ghost NUMBER = { 11 };
+
+    ghost is_row = { inr (inr (inr (inr (inr (inr (inr (inr (inr (inr (inl refl)))))))))) };
 }
 
 impl Seals for DataK {

@@ -19,7 +19,7 @@ link_takes : (bytes : List ℕ) (x : LinkRecord × List ℕ) → IsBytes bytes �
 unfolding link_at
 link_takes bytes x are e =
     took_then (byte_field 1 1) _ bytes x are e (λ one r1 p1 a1 f1 e1.
-    took_then (byte_field 1 9) _ r1 x a1 e1 (λ kind r2 p2 a2 f2 e2.
+    took_then (byte_field 1 11) _ r1 x a1 e1 (λ kind r2 p2 a2 f2 e2.
     took_then field32 _ r2 x a2 e2 (λ from_id r3 p3 a3 f3 e3.
     took_then field32 _ r3 x a3 e3 (λ to_id r4 p4 a4 f4 e4.
     took_then field64 _ r4 x a4 e4 (λ from_serial r5 p5 a5 f5 e5.
@@ -41,7 +41,7 @@ link_takes bytes x are e =
     let whole : bytes ≡ spell_link made ++ r9 = rw (link_parts made r9, p1, p2, p3, p4, p5, p6, p7, p8, p9, one-is) refl in
     let fits : IsLink made = record {
       kind_from_one = f2.0;
-      kind_to_nine = f2.1;
+      kind_to_eleven = f2.1;
       from_id = f3;
       to_id = f4;
       from_serial = f5;
@@ -57,7 +57,7 @@ unfolding link_at
 link_again r rest fits =
     ap link_at (link_parts r rest)
     ∙ (again_then (byte_field 1 1) _ 1 _ (lit≤ tt, lit≤ tt)
-    ∙ (again_then (byte_field 1 9) _ r.kind _ (fits.kind_from_one, fits.kind_to_nine)
+    ∙ (again_then (byte_field 1 11) _ r.kind _ (fits.kind_from_one, fits.kind_to_eleven)
     ∙ (again_then field32 _ r.from_id _ fits.from_id
     ∙ (again_then field32 _ r.to_id _ fits.to_id
     ∙ (again_then field64 _ r.from_serial.0 _ fits.from_serial
@@ -71,7 +71,7 @@ unfolding link_at
 link_within bytes =
     let n = length bytes in
     within_then (byte_field 1 1) n _ bytes (omega arith) (λ one l1.
-    within_then (byte_field 1 9) n _ one.1 l1 (λ kind l2.
+    within_then (byte_field 1 11) n _ one.1 l1 (λ kind l2.
     within_then field32 n _ kind.1 l2 (λ from_id l3.
     within_then field32 n _ from_id.1 l3 (λ to_id l4.
     within_then field64 n _ to_id.1 l4 (λ from_serial l5.

@@ -102,7 +102,7 @@ link_stoppable : IsStoppable link_at IsLink
 unfolding link_at
 link_stoppable =
     stoppable_then (byte_field 1 1) (byte_stoppable 1 1 (lit≤ tt) (lit< tt)) _ (λ one f1.
-    stoppable_then (byte_field 1 9) (byte_stoppable 1 9 (lit≤ tt) (lit< tt)) _ (λ kind f2.
+    stoppable_then (byte_field 1 11) (byte_stoppable 1 11 (lit≤ tt) (lit< tt)) _ (λ kind f2.
     stoppable_then field32 stoppable32 _ (λ from_id f3.
     stoppable_then field32 stoppable32 _ (λ to_id f4.
     stoppable_then field64 stoppable64 _ (λ from_serial f5.
@@ -112,7 +112,7 @@ link_stoppable =
     stoppable_then (bytes_field 32) (bytes_stoppable 32) _ (λ tag f9.
     done_stoppable _ (record {
       kind_from_one = f2.0;
-      kind_to_nine = f2.1;
+      kind_to_eleven = f2.1;
       from_id = f3;
       to_id = f4;
       from_serial = f5;

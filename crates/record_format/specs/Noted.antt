@@ -2,7 +2,7 @@
 -- This project's own, docs/FORMAT.md, "Notes and payloads".
 use Rattle.std.specs.Prelude.{ℕ, List}
 
--- the fifteen notes, in the order of their codes from 1
+-- the fifteen notes, in the order of their codes from 1. A grant is on a folder, or on a file by its clearance number
 pub data Note : Type 0 where
   Root : Note
   NewHolder : (holder : ℕ) → (check : List ℕ) → Note

@@ -84,7 +84,7 @@ link_of kind from_id to_id from_serial to_serial nonce cipher tag = record {
 unfoldable pub link_at : List ℕ → Read LinkRecord
 link_at bytes = do
   one ← byte_between 1 1 bytes
-  kind ← byte_between 1 9 one.1
+  kind ← byte_between 1 11 one.1
   from_id ← number_at w32 kind.1
   to_id ← number_at w32 from_id.1
   from_serial ← number_at w64 to_id.1

@@ -18,7 +18,7 @@ longest_text kind = if kind == 2 then most_text_bytes else (if kind == 3 then 32
 -- a link of a known kind, whose fields have the sizes of the format
 pub record IsLink (r : LinkRecord) : Type 0 where
   pub kind_from_one : 1 ≤ r.kind
-  pub kind_to_nine : r.kind ≤ 9
+  pub kind_to_eleven : r.kind ≤ 11
   pub from_id : r.from_id < 2 ^ 32
   pub to_id : r.to_id < 2 ^ 32
   pub from_serial : r.from_serial.0 < 2 ^ 64

@@ -2,7 +2,7 @@
 //!
 //! ```text
 //!  0   1  0x01                18   8  to serial
-//!  1   1  kind, 1 to 9        26   8  nonce
+//!  1   1  kind, 1 to 11       26   8  nonce
 //!  2   4  from id             34  32  cipher bytes
 //!  6   4  to id               66  32  tag
 //! 10   8  from serial
@@ -18,11 +18,11 @@ pub const LINK_LEN: u64 = 98;
 /// The key of one role, sealed under the key of another.
 #[derive(Clone, Copy, Debug, PartialEq, Eq)]
 pub struct LinkRecord {
-    /// The kind of edge, 1 to 9.
+    /// The kind of edge, 1 to 11.
     pub kind: u8,
-    /// The id of the source's folder, file or holder; 0 for the owner.
+    /// The id of the source's folder or holder, or the clearance number of its file; 0 for the owner.
     pub from_id: u32,
-    /// The id of the target's folder or file.
+    /// The id of the target's folder or file, or the clearance number of its file.
     pub to_id: u32,
     /// The serial of the sealing key.
     pub from_serial: Serial,

@@ -13,8 +13,8 @@
 //!    9  DropFolder   folder
 //!   10  ShiftFile    file, into
 //!   11  ShiftFolder  folder, into
-//!   12  Give         holder, folder
-//!   13  Take         holder, folder
+//!   12  Give         holder, folder or clearance number
+//!   13  Take         holder, folder or clearance number
 //!   14  StrictRoot   none
 //!   15  Upgrade      none
 //! ```
@@ -37,7 +37,7 @@ pub enum Note {
     NameFile { file: FileId },
     /// Gives a folder a new name.
     NameFolder { folder: FolderId },
-    /// Removes a file.
+    /// Removes a file, and all grants on it.
     DropFile { file: FileId },
     /// Removes a folder, and all grants on it.
     DropFolder { folder: FolderId },
@@ -45,9 +45,9 @@ pub enum Note {
     ShiftFile { file: FileId, into: FolderId },
     /// Puts a folder into another folder.
     ShiftFolder { folder: FolderId, into: FolderId },
-    /// Gives a holder a grant on a folder.
+    /// Gives a holder a grant on a folder, or on the file with the clearance number.
     Give { holder: HolderId, folder: FolderId },
-    /// Takes a holder's grant on a folder away.
+    /// Takes a holder's grant on a folder, or on the file with the clearance number, away.
     Take { holder: HolderId, folder: FolderId },
     /// Makes the root folder of a store of version 2, in which what leaves a folder is closed to whoever comes later.
     StrictRoot,

@@ -123,7 +123,7 @@ fn link_of(bytes: &[u8]) -> Result<(LinkRecord, &[u8]), Stop>
     ensures { Gives (λ x. (x.0, x.1.now)) result (link_at bytes.now) }
 {
     let (_, rest) = byte_of(1, 1, bytes)?;
-    let (kind, rest) = byte_of(1, 9, rest)?;
+    let (kind, rest) = byte_of(1, 11, rest)?;
     let (from_id, rest) = u32_of(rest)?;
     let (to_id, rest) = u32_of(rest)?;
     let (from_serial, rest) = u64_of(rest)?;

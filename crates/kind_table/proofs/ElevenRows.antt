@@ -1,4 +1,4 @@
--- What the tests of kinds find of the nine rows.
+-- What the tests of kinds find of the eleven rows.
 use Rattle.std.proofs.Common.{◌≡◌, ◌≢◌, Bool, true, not, ◌||◌, ◌&&◌, ◌⊎◌, List, [], ◌∷◌, refl, sym, ◌∙◌, ⊎_elim, inl, inr, subst}
 use Rattle.std.specs.List.{list_all}
 use Rattle.std.proofs.lemmas.Bool.{false≢true, and_parts, or_cases, not-true}
@@ -6,7 +6,7 @@ use Rattle.cry_base.specs.Sets.{In}
 use Rattle.kind_table.specs.Kinds.{same_kind}
 use Rattle.kind_table.specs.declared.kinds.RoleKind.{RoleKind}
 use Rattle.kind_table.specs.declared.kinds.RoleKind.TheVariants.{Owner, Holder, Clear, Data, File}
-use Rattle.kind_table.specs.declared.nine.TheConstants.{NINE}
+use Rattle.kind_table.specs.declared.eleven.TheConstants.{ELEVEN}
 use Rattle.kind_table.specs.declared.table.Row.{Row}
 use Rattle.kind_table.proofs.Joining.{same_kind_told}
 
@@ -28,19 +28,19 @@ neither_told a b kind t =
     false≢true (sym (not-true (same_kind kind c) u) ∙ (same_kind_told kind c).1 e) in
     (differs a both.0, differs b both.1)
 
-pub no_root : (r : Row) → In r NINE.rows → (r.to ≢ Owner) × (r.to ≢ Holder)
+pub no_root : (r : Row) → In r ELEVEN.rows → (r.to ≢ Owner) × (r.to ≢ Holder)
 unfolding is_neither same_kind
-no_root r here = neither_told Owner Holder r.to (In-list_all Row (λ q. is_neither Owner Holder q.to) NINE.rows r refl here)
+no_root r here = neither_told Owner Holder r.to (In-list_all Row (λ q. is_neither Owner Holder q.to) ELEVEN.rows r refl here)
 
-pub no_sealing : (r : Row) → In r NINE.rows → (r.from ≢ Data) × (r.from ≢ File)
+pub no_sealing : (r : Row) → In r ELEVEN.rows → (r.from ≢ Data) × (r.from ≢ File)
 unfolding is_neither same_kind
-no_sealing r here = neither_told Data File r.from (In-list_all Row (λ q. is_neither Data File q.from) NINE.rows r refl here)
+no_sealing r here = neither_told Data File r.from (In-list_all Row (λ q. is_neither Data File q.from) ELEVEN.rows r refl here)
 
 -- a row that doesn't lead to a key that grants hand out, or begins in a root's
 is_root_or_not_clear : Row → Bool
 is_root_or_not_clear r = not (same_kind r.to Clear) || (same_kind r.from Owner || same_kind r.from Holder)
 
-pub clear : (r : Row) → In r NINE.rows → r.to ≡ Clear → (r.from ≡ Owner) ⊎ (r.from ≡ Holder)
+pub clear : (r : Row) → In r ELEVEN.rows → r.to ≡ Clear → (r.from ≡ Owner) ⊎ (r.from ≡ Holder)
 unfolding is_root_or_not_clear same_kind
 clear r here into = ⊎_elim
     (λ none. absurd (false≢true (sym (not-true (same_kind r.to Clear) none) ∙ (same_kind_told r.to Clear).1 into)))
@@ -48,4 +48,4 @@ clear r here into = ⊎_elim
     (λ owner. inl ((same_kind_told r.from Owner).0 owner))
     (λ holder. inr ((same_kind_told r.from Holder).0 holder))
     (or_cases (same_kind r.from Owner) (same_kind r.from Holder) roots))
-    (or_cases (not (same_kind r.to Clear)) (same_kind r.from Owner || same_kind r.from Holder) (In-list_all Row is_root_or_not_clear NINE.rows r refl here))
+    (or_cases (not (same_kind r.to Clear)) (same_kind r.from Owner || same_kind r.from Holder) (In-list_all Row is_root_or_not_clear ELEVEN.rows r refl here))

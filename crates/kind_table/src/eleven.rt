@@ -1,8 +1,8 @@
-//! The nine kinds of links.
+//! The eleven kinds of links.
 use crate::{RoleKind, Row, Table};
 
-/// The nine kinds of links (docs/FORMAT.md, "Kinds of links").
-pub const NINE: Table<9> = Table {
+/// The eleven kinds of links (docs/FORMAT.md, "Kinds of links").
+pub const ELEVEN: Table<11> = Table {
     rows: [
         Row {
             number: 1,
@@ -48,6 +48,16 @@ pub const NINE: Table<9> = Table {
             number: 9,
             from: RoleKind::Files,
             to: RoleKind::File,
+        },
+        Row {
+            number: 10,
+            from: RoleKind::Clear,
+            to: RoleKind::File,
+        },
+        Row {
+            number: 11,
+            from: RoleKind::Clear,
+            to: RoleKind::Back,
         },
     ],
 };
