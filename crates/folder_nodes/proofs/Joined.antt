@@ -3,6 +3,7 @@ use Rattle.std.proofs.Common.{◌≡◌, ℕ, ◌+◌, ◌≤◌, Bool, true, fa
 use Rattle.std.specs.List.{All}
 use Rattle.std.proofs.lemmas.Bool.{eqb-true, eq-eqb, ne_eqb}
 use Rattle.std.proofs.lemmas.List.Elements.{All-weaker}
+use Rattle.cry_base.specs.Clearances.{clear_number}
 use Rattle.cry_base.specs.Stepping.{with_new_folder, with_new_file, with_folder, with_file, without_folder, without_file, without_node, with_name, moved}
 use Rattle.cry_base.specs.Store.{Store, FolderEntry, FileEntry, GrantEntry, folder_node, file_node}
 use Rattle.cry_base.specs.declared.roles.Node.{Node}
@@ -156,7 +157,7 @@ removal_joins s old new (Folder f) gone =
     ∙ sym (filter-map FolderEntry FolderEntry (named_folder old) (λ e. not (e.id == f.0)) s.folders))
     (files_kept old new s.files (all_of FileEntry (λ e. title_at new.files e.id ≡ title_at old.files e.id) (λ e. gone (File (record { 0 = e.id }))) s.files))
 removal_joins s old new (File x) gone =
-    parts s (map (named_folder new) s.folders) (map (named_folder old) s.folders)
+    parts (record s { grants = filter (λ (g : GrantEntry). not (g.folder == clear_number x.0)) s.grants }) (map (named_folder new) s.folders) (map (named_folder old) s.folders)
     (map (named_file new) (filter (λ (e : FileEntry). not (e.id == x.0)) s.files)) (filter (λ (e : FileEntry). not (e.id == x.0)) (map (named_file old) s.files))
     (folders_kept old new s.folders (all_of FolderEntry (λ e. title_at new.folders e.id ≡ title_at old.folders e.id) (λ e. gone (Folder (record { 0 = e.id }))) s.folders))
     (files_kept old new (filter (λ (e : FileEntry). not (e.id == x.0)) s.files)

@@ -1,6 +1,6 @@
--- Which commands a tree refuses. This project's own, docs/FORMAT.md: the causes are tested in their order.
+-- Which commands a tree refuses, in a store of version 2 where strict is true, and else of version 1. This project's own, docs/FORMAT.md: the causes are tested in their order.
 use Rattle.std.specs.Prelude.{ℕ, Bool, true, false, not, filter, find, Option, Some, None, option_map, Result, Ok, Err, IsSome}
-use Rattle.cry_base.specs.Refusing.{causes}
+use Rattle.cry_base.specs.Refusing.{causes_in}
 use Rattle.cry_base.specs.Requests.{Request}
 use Rattle.cry_base.specs.Store.{Store, folder_entry, file_entry}
 use Rattle.cry_base.specs.declared.commands.Refusal.{Refusal}
@@ -16,9 +16,9 @@ is_of_grants NoGrant = true
 is_of_grants why = false
 
 -- the first cause that applies, of those that the tree decides about
-unfoldable pub tree_refusal : Store → Request → ℕ → Option Refusal
-tree_refusal s r file_bytes = option_map (λ cause. cause.1)
-    (find (λ cause. cause.0) (filter (λ cause. not (is_of_grants cause.1)) (causes s r file_bytes)))
+unfoldable pub tree_refusal : Bool → Store → Request → ℕ → Option Refusal
+tree_refusal strict s r file_bytes = option_map (λ cause. cause.1)
+    (find (λ cause. cause.0) (filter (λ cause. not (is_of_grants cause.1)) (causes_in strict s r file_bytes)))
 
 -- refused for a cause, where there is one
 abbrev pub refused_by : Option Refusal → Result (Unit {0}) Refusal

@@ -38,7 +38,7 @@ pub data IsTargetOf (s : Store) : Request → Target → Type 0 where
       → IsTargetOf s (Rename path name.now) (targets.Rename node name)
   Relocates : {path into : List ℕ} {node : Node} {folder : FolderId} → node_at s path ≡ Some node → node_at s into ≡ Some (Folder folder)
       → IsTargetOf s (Relocate path into) (targets.Relocate node folder)
-  Grants : {path : List ℕ} {holder : HolderId} {folder : FolderId} → node_at s path ≡ Some (Folder folder)
-      → IsTargetOf s (Grant holder.0 path) (targets.Grant holder folder)
-  Revokes : {path : List ℕ} {holder : HolderId} {folder : FolderId} → node_at s path ≡ Some (Folder folder)
-      → IsTargetOf s (Revoke holder.0 path) (targets.Revoke holder folder)
+  Grants : {path : List ℕ} {holder : HolderId} {node : Node} → node_at s path ≡ Some node
+      → IsTargetOf s (Grant holder.0 path) (targets.Grant holder node)
+  Revokes : {path : List ℕ} {holder : HolderId} {node : Node} → node_at s path ≡ Some node
+      → IsTargetOf s (Revoke holder.0 path) (targets.Revoke holder node)

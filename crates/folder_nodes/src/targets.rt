@@ -4,7 +4,6 @@ ghost use Rattle.cry_base.specs.Refusing.{is_folder};
 ghost use Rattle.cry_base.specs.Requests.{request_of};
 ghost use Rattle.cry_base.specs.Requests.Request.{MakeFolder, WriteFile, Remove, Rename, Relocate, Grant};
 ghost use Rattle.cry_base.specs.Store.{node_at};
-ghost use Rattle.cry_base.specs.declared.roles.Node.TheVariants.{Folder};
 ghost use Rattle.folder_nodes.specs.Checking.{tree_refusal};
 ghost use Rattle.folder_nodes.specs.Targets.{IsTargetOf, file_found, why_of};
 ghost use Rattle.folder_nodes.specs.Titles.{tree_store};
@@ -46,28 +45,29 @@ pub enum Target<'a> {
         node: Node,
         into: FolderId,
     },
-    /// The folder that the holder is to read.
+    /// What the holder is to read: a folder with all below it, or a file.
     Grant {
         holder: HolderId,
-        folder: FolderId,
+        node: Node,
     },
-    /// The folder of the grant.
+    /// What the grant is on.
     Revoke {
         holder: HolderId,
-        folder: FolderId,
+        node: Node,
     },
 }
 
 /// What a command finds, or the first cause to refuse it, of those that the tree decides about: all but those of holders and
-/// grants, and a full store. It takes no memory.
+/// grants, and a full store. In a store of version 1, where `strict` is false, it refuses a grant on a file. It takes no memory.
 #[tactic(auto, unfolding(crate::proofs::Causes::everything))]
 pub fn find_target<'a>(
     shape: &Shape,
     names: &Names,
     limits: Limits,
+    strict: bool,
     command: &'a Command,
 ) -> Result<Target<'a>, Refusal>
-    ensures cause { why_of result ≡ tree_refusal (tree_store shape.now.tree names.now) (request_of command.now) limits.file_bytes }
+    ensures cause { why_of result ≡ tree_refusal strict (tree_store shape.now.tree names.now) (request_of command.now) limits.file_bytes }
     ensures found { IfOk result (IsTargetOf (tree_store shape.now.tree names.now) (request_of command.now)) }
 {
     match command {
@@ -90,26 +90,26 @@ pub fn find_target<'a>(
             find_moved(shape, names, path.as_slice(), into.as_slice())
         }
         Command::Grant { holder, path } => {
-            let folder = find_granted(shape, names, path.as_slice())?;
+            let node = find_granted(shape, names, strict, path.as_slice())?;
             Ok(Target::Grant {
                 holder: *holder,
-                folder,
+                node,
             })
         }
         Command::Revoke { holder, path } => {
-            let folder = find_granted(shape, names, path.as_slice())?;
+            let node = find_granted(shape, names, strict, path.as_slice())?;
             Ok(Target::Revoke {
                 holder: *holder,
-                folder,
+                node,
             })
         }
     }
 }
 
 #[tactic(auto, unfolding(crate::proofs::Causes::everything))]
-fn find_granted(shape: &Shape, names: &Names, path: &[u8]) -> Result<FolderId, Refusal>
-    ensures cause { why_of result ≡ tree_refusal (tree_store shape.now.tree names.now) (Grant 0 path.now) 0 }
-    ensures found { IfOk result (λ folder. node_at (tree_store shape.now.tree names.now) path.now ≡ Some (Folder folder)) }
+fn find_granted(shape: &Shape, names: &Names, strict: bool, path: &[u8]) -> Result<Node, Refusal>
+    ensures cause { why_of result ≡ tree_refusal strict (tree_store shape.now.tree names.now) (Grant 0 path.now) 0 }
+    ensures found { IfOk result (λ node. node_at (tree_store shape.now.tree names.now) path.now ≡ Some node) }
 {
     if !path_ok(path) {
         return Err(Refusal::BadName);
@@ -118,14 +118,14 @@ fn find_granted(shape: &Shape, names: &Names, path: &[u8]) -> Result<FolderId, R
         return Err(Refusal::NoPath);
     };
     match node {
-        Node::Folder(folder) => Ok(folder),
-        Node::File(_) => Err(Refusal::NotFolder),
+        Node::File(_) if !strict => Err(Refusal::NotFolder),
+        _ => Ok(node),
     }
 }
 
 #[tactic(auto, unfolding(crate::proofs::Causes::everything))]
 fn find_removed<'a>(shape: &Shape, names: &Names, path: &'a [u8]) -> Result<Target<'a>, Refusal>
-    ensures cause { why_of result ≡ tree_refusal (tree_store shape.now.tree names.now) (Remove path.now) 0 }
+    ensures cause { why_of result ≡ tree_refusal true (tree_store shape.now.tree names.now) (Remove path.now) 0 }
     ensures found { IfOk result (IsTargetOf (tree_store shape.now.tree names.now) (Remove path.now)) }
 {
     if !path_ok(path) {
@@ -150,7 +150,7 @@ fn find_renamed<'a>(
     path: &[u8],
     name: &'a [u8],
 ) -> Result<Target<'a>, Refusal>
-    ensures cause { why_of result ≡ tree_refusal (tree_store shape.now.tree names.now) (Rename path.now name.now) 0 }
+    ensures cause { why_of result ≡ tree_refusal true (tree_store shape.now.tree names.now) (Rename path.now name.now) 0 }
     ensures found { IfOk result (IsTargetOf (tree_store shape.now.tree names.now) (Rename path.now name.now)) }
 {
     if !path_ok(path) {
@@ -173,7 +173,7 @@ fn find_renamed<'a>(
 
 #[tactic(auto, unfolding(crate::proofs::Causes::everything))]
 fn find_new_folder<'a>(shape: &Shape, names: &Names, path: &'a [u8]) -> Result<Target<'a>, Refusal>
-    ensures cause { why_of result ≡ tree_refusal (tree_store shape.now.tree names.now) (MakeFolder path.now) 0 }
+    ensures cause { why_of result ≡ tree_refusal true (tree_store shape.now.tree names.now) (MakeFolder path.now) 0 }
     ensures found { IfOk result (IsTargetOf (tree_store shape.now.tree names.now) (MakeFolder path.now)) }
 {
     if !path_ok(path) {
@@ -209,7 +209,7 @@ fn find_written<'a>(
     path: &'a [u8],
     bytes: &'a [u8],
 ) -> Result<Target<'a>, Refusal>
-    ensures cause { why_of result ≡ tree_refusal (tree_store shape.now.tree names.now) (WriteFile path.now bytes.now) file_bytes }
+    ensures cause { why_of result ≡ tree_refusal true (tree_store shape.now.tree names.now) (WriteFile path.now bytes.now) file_bytes }
     ensures found { IfOk result (IsTargetOf (tree_store shape.now.tree names.now) (WriteFile path.now bytes.now)) }
 {
     if !path_ok(path) {
@@ -260,7 +260,7 @@ fn find_moved<'a>(
     path: &'a [u8],
     into: &[u8],
 ) -> Result<Target<'a>, Refusal>
-    ensures cause { why_of result ≡ tree_refusal (tree_store shape.now.tree names.now) (Relocate path.now into.now) 0 }
+    ensures cause { why_of result ≡ tree_refusal true (tree_store shape.now.tree names.now) (Relocate path.now into.now) 0 }
     ensures found { IfOk result (IsTargetOf (tree_store shape.now.tree names.now) (Relocate path.now into.now)) }
 {
     if !path_ok(path) {

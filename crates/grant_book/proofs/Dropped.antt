@@ -1,7 +1,8 @@
 -- A folder's grants go one by one.
-use Rattle.std.proofs.Common.{◌≡◌, ℕ, suc, ◌<◌, ◌≤◌, Bool, true, false, not, cond, ◌&&◌, ◌==◌, List, [], ◌∷◌, filter, length, Some, None, refl, sym, ap, ◌∙◌, inl, ⊎_elim, arith}
+use Rattle.std.proofs.Common.{◌≡◌, ℕ, suc, ◌<◌, ◌≤◌, Bool, true, false, not, cond, ◌&&◌, ◌||◌, ◌==◌, List, [], ◌∷◌, filter, length, Some, None, refl, sym, ap, ◌∙◌, inl, ⊎_elim, arith}
+use Rattle.std.specs.List.{list_any}
 use Rattle.std.specs.Prelude.{slice_get}
-use Rattle.std.proofs.lemmas.Bool.{eqb-true}
+use Rattle.std.proofs.lemmas.Bool.{eqb-true, ne_eqb}
 use Rattle.cry_base.specs.Sets.{In}
 use Rattle.cry_base.specs.Store.{GrantEntry}
 use Rattle.cry_base.proofs.Members.{In-filter}
@@ -74,3 +75,28 @@ filter_shorter X p x (y ∷ xs) i fails =
 pub one_less : (pairs : List GrantEntry) (h f : ℕ) → In (grant_of h f) pairs → length (without_pair pairs h f) < length pairs
 one_less pairs h f i =
     filter_shorter GrantEntry (λ e. not (is_grant h f e)) (grant_of h f) pairs i (ap not ((is_grant_told h f (grant_of h f)).1 refl))
+
+-- who else has a grant on the folder has one still where one of its grants is taken back
+pub others_stay : (pairs : List GrantEntry) (h f : ℕ) → list_any (λ e. not (e.holder == h)) (filter (λ e. e.folder == f) pairs) ≡ list_any (λ e. e.folder == f) (without_pair pairs h f)
+others_stay [] h f = refl
+others_stay (e ∷ pairs) h f = other_first (e.holder == h) (e.folder == f) refl refl (others_stay pairs h f)
+  where
+    other_first : (a b : Bool) → e.holder == h ≡ a → e.folder == f ≡ b
+        → list_any (λ e. not (e.holder == h)) (filter (λ e. e.folder == f) pairs) ≡ list_any (λ e. e.folder == f) (without_pair pairs h f)
+        → list_any (λ e. not (e.holder == h)) (cond b (e ∷ filter (λ e. e.folder == f) pairs) (filter (λ e. e.folder == f) pairs))
+        ≡ list_any (λ e. e.folder == f) (cond (not (a && b)) (e ∷ without_pair pairs h f) (without_pair pairs h f))
+    other_first true true s t rest = ap (λ c. not c || list_any (λ e. not (e.holder == h)) (filter (λ e. e.folder == f) pairs)) s ∙ rest
+    other_first true false s t rest = rest ∙ ap (λ c. c || list_any (λ e. e.folder == f) (without_pair pairs h f)) (sym t)
+    other_first false true s t rest =
+        ap (λ c. not c || list_any (λ e. not (e.holder == h)) (filter (λ e. e.folder == f) pairs)) s
+        ∙ ap (λ c. c || list_any (λ e. e.folder == f) (without_pair pairs h f)) (sym t)
+    other_first false false s t rest = rest ∙ ap (λ c. c || list_any (λ e. e.folder == f) (without_pair pairs h f)) (sym t)
+
+-- something passes a test just where what passes isn't nothing
+pub some_passes : (X : Type 0) (p : X → Bool) (xs : List X) → not (length (filter p xs) == 0) ≡ list_any p xs
+some_passes X p [] = refl
+some_passes X p (x ∷ xs) =
+    (elim (p x) as (λ b. p x ≡ b → not (length (cond b (x ∷ filter p xs) (filter p xs)) == 0) ≡ (p x || list_any p xs)) [
+      | true ↦ λ t. ap not (ne_eqb (suc (length (filter p xs))) 0 (λ none. omega (arith, none))) ∙ ap (λ b. b || list_any p xs) (sym t)
+      | false ↦ λ t. some_passes X p xs ∙ ap (λ b. b || list_any p xs) (sym t)
+    ]) refl

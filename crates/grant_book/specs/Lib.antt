@@ -1,3 +1,4 @@
+pub mod Cleared
 pub mod Fitting
 pub mod Granted
 pub mod Matching

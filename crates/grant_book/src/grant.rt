@@ -1,5 +1,5 @@
 //! One grant, and its place among all.
-ghost use Rattle.std.specs.Prelude.{◌≡◌, ◌<◌, ◌^◌, ◌==◌};
+ghost use Rattle.std.specs.Prelude.{◌≡◌, ◌<◌, ◌^◌, ◌==◌, not};
 ghost use Rattle.grant_book.specs.Granted.{grant_of};
 ghost use Rattle.grant_book.specs.Ranks.{rank_of, rank_on};
 
@@ -8,12 +8,12 @@ use sorted_table::{Key, Ranked};
 use std::cmp::Ordering;
 use std::marker::Model;
 
-/// The holder may read the folder and all below it.
+/// The holder may read the folder and all below it, or the file.
 #[derive(Clone, Copy, Debug, PartialEq, Eq)]
 pub struct Grant {
     /// Who may read.
     pub holder: HolderId,
-    /// The folder that was granted.
+    /// The folder that was granted, or the clearance number of the file.
     pub folder: FolderId,
 }
 
@@ -28,7 +28,7 @@ impl Model for Grant {
 }
 
 impl Grant {
-    /// The grant of a folder to a holder.
+    /// The grant of a folder, or of the file with the clearance number, to a holder.
     pub fn new(holder: HolderId, folder: FolderId) -> Grant
         ensures grant { result ≡ grant_of holder.0 folder.0 }
         ensures numbered { folder.0 < 2 ^ 32 }
@@ -37,7 +37,7 @@ impl Grant {
         Grant { holder, folder }
     }
 
-    /// Whether it is a grant on that very folder.
+    /// Whether it is a grant on what that very number names.
     pub(crate) fn is_on(&self, folder: FolderId) -> bool
         ensures { result ≡ (self.now.folder == folder.0) }
     {
@@ -83,6 +83,13 @@ impl Model for GrantOn {
 }
 
 impl GrantOn {
+    /// Whether it isn't the holder's.
+    pub(crate) fn is_others(&self, h: HolderId) -> bool
+        ensures { result ≡ not (self.now.holder == h.0) }
+    {
+        self.0.holder.0 != h.0
+    }
+
     fn rank(self) -> u64
         ensures { result ≡ rank_on self }
     {

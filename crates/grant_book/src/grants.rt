@@ -1,6 +1,6 @@
 //! The list of holders and the list of grants.
 ghost use Rattle.std.specs.Prelude.{◌≡◌, [], ◌∷◌, ◌++◌, ◌+◌, ◌^◌, ◌<◌, ◌≤◌, ◌↔◌, length, IsOk, OnOk, IfOk, IsTrue, AllPairs};
-ghost use Rattle.std.specs.Prelude.{◌==◌, filter, MatchOption};
+ghost use Rattle.std.specs.Prelude.{◌==◌, filter, not, MatchOption};
 ghost use Rattle.std.specs.List.{list_any};
 ghost use Rattle.cry_base.specs.Sets.{In};
 ghost use Rattle.cry_base.specs.Store.{GrantEntry};
@@ -19,13 +19,14 @@ use std::marker::Model;
 // So many grants on a folder go one by one. Each moves the rows behind it, and beyond this a pass over all is cheaper.
 const FEW: usize = 12;
 
-/// The holders in the order of their numbers, each with the check by which a key is tested, and all grants. `spare` is
-/// how many changes fit without memory; it may be more than was asked for.
+/// The holders in the order of their numbers, each with the check by which a key is tested, and all grants. A grant is on a
+/// folder, or on a file by its clearance number. `spare` is how many changes fit without memory; it may be more than was
+/// asked for.
 #[derive(Drop)]
 pub struct Grants {
     checks: Vec<[u8; 32]>,
     pairs: Table<Grant>,
-    // The same grants by folder, so that those on one folder are found without a look at others.
+    // The same grants by folder, so that those on one folder or file are found without a look at others.
     on_folders: Table<GrantOn>,
 }
 
@@ -84,7 +85,7 @@ impl Grants {
         HolderId(self.checks.len() as u32)
     }
 
-    /// Grants the folder to the holder, where there is room. It takes no memory.
+    /// Grants the folder, or the file with the clearance number, to the holder, where there is room. It takes no memory.
     pub fn grant(&mut self, h: HolderId, f: FolderId)
         requires room { 1 ≤ self.old.spare }
         requires known { IsHolder self.old.checks h.0 }
@@ -98,7 +99,7 @@ impl Grants {
         self.on_folders.insert(GrantOn(grant));
     }
 
-    /// Takes the holder's grant on the folder back. It takes no memory.
+    /// Takes the holder's grant on the folder or file back. It takes no memory.
     pub fn revoke(&mut self, h: HolderId, f: FolderId)
         requires { In (grant_of h.0 f.0) self.old.pairs }
         ensures checks { self.new.checks ≡ self.old.checks }
@@ -110,9 +111,9 @@ impl Grants {
         self.on_folders.remove(&GrantOn(grant));
     }
 
-    /// Takes all grants on the folder back. It takes no memory. Where they are few it looks at no others, and else
+    /// Takes all grants on the folder or file back. It takes no memory. Where they are few it looks at no others, and else
     /// at each grant once.
-    pub fn drop_folder(&mut self, f: FolderId)
+    pub fn drop_on(&mut self, f: FolderId)
         ensures checks { self.new.checks ≡ self.old.checks }
         ensures pairs { self.new.pairs ≡ without_pairs_on self.old.pairs f.0 }
         ensures spare { self.old.spare ≤ self.new.spare }
@@ -126,7 +127,7 @@ impl Grants {
         }
     }
 
-    /// Takes all grants on the folder back, in one pass over all.
+    /// Takes all grants on the folder or file back, in one pass over all.
     fn keep_others(&mut self, f: FolderId)
         ensures checks { self.new.checks ≡ self.old.checks }
         ensures pairs { self.new.pairs ≡ without_pairs_on self.old.pairs f.0 }
@@ -165,17 +166,18 @@ impl Grants {
         self.checks.get(h.0 as usize - 1).copied()
     }
 
-    /// All grants, by holder and then by folder.
+    /// All grants, by holder and then by folder. A file stands among folders by its clearance number.
     pub fn pairs(&self) -> &[Grant]
         ensures pairs { result.now ≡ self.now.pairs }
         ensures ordered { AreOrdered self.now.pairs }
         ensures made { (e : GrantEntry) → In e self.now.pairs → IsHolder self.now.checks e.holder }
+        ensures numbered { (e : GrantEntry) → In e self.now.pairs → e.folder < 2 ^ 32 }
     {
         let _ = &self.checks;
         self.pairs.as_slice()
     }
 
-    /// Whether the holder has a grant on that very folder. Takes about log2 of all grants steps.
+    /// Whether the holder has a grant on that very folder or file. Takes about log2 of all grants steps.
     pub fn has(&self, h: HolderId, f: FolderId) -> bool
         ensures value { result ≡ list_any (is_grant h.0 f.0) self.now.pairs }
         ensures told { IsTrue result ↔ In (grant_of h.0 f.0) self.now.pairs }
@@ -183,7 +185,21 @@ impl Grants {
         self.pairs.find(&Grant::new(h, f)).is_some()
     }
 
-    /// The holders that have a grant on that very folder, ascending. It looks at no other grant.
+    /// Whether somebody has a grant on that very folder or file. It looks at no other grant.
+    pub fn has_on(&self, f: FolderId) -> bool
+        ensures { result ≡ list_any (λ e. e.folder == f.0) self.now.pairs }
+    {
+        !self.grants_on(f).is_empty()
+    }
+
+    /// Whether somebody else than the holder has a grant on that very folder or file. It looks at no other grant.
+    pub fn has_others_on(&self, h: HolderId, f: FolderId) -> bool
+        ensures { result ≡ list_any (λ e. e.folder == f.0) (without_pair self.now.pairs h.0 f.0) }
+    {
+        has_others(self.grants_on(f), h)
+    }
+
+    /// The holders that have a grant on that very folder or file, ascending. It looks at no other grant.
     pub fn of_folder(&self, f: FolderId) -> Mem<List<HolderId>>
         ensures holders { IfOk result (λ l. l.items ≡ holders_on self.now.pairs f.0) }
         ensures ascending { IfOk result (λ l. AllPairs (λ a b. a.0 < b.0) l.items) }
@@ -195,7 +211,8 @@ impl Grants {
         Ok(found)
     }
 
-    /// The folders on which the holder has a grant, ascending. It looks at no other grant.
+    /// The folders on which the holder has a grant, ascending, and then the files by their clearance numbers. It looks at no
+    /// other grant.
     pub fn of_holder(&self, h: HolderId) -> Mem<List<FolderId>>
         ensures folders { IfOk result (λ l. l.items ≡ folders_of self.now.pairs h.0) }
         ensures ascending { IfOk result (λ l. AllPairs (λ a b. a.0 < b.0) l.items) }
@@ -218,7 +235,7 @@ impl Grants {
         self.pairs.rows_between(&first, &last)
     }
 
-    /// The grants on that very folder, by holder.
+    /// The grants on that very folder or file, by holder.
     fn grants_on(&self, f: FolderId) -> &[GrantOn]
         ensures grants { result.now ≡ filter (λ e. e.folder == f.0) self.now.pairs }
         ensures ascending { AllPairs (λ (a b : HolderNumber). a.0 < b.0) (holders_on self.now.pairs f.0) }
@@ -229,7 +246,7 @@ impl Grants {
         self.on_folders.rows_between(&first, &last)
     }
 
-    /// The first of the grants on that very folder.
+    /// The first of the grants on that very folder or file.
     fn first_on(&self, f: FolderId) -> Option<Grant>
         ensures { MatchOption result (without_pairs_on self.now.pairs f.0 ≡ self.now.pairs) (λ e. In e self.now.pairs × (e.folder ≡ f.0)) }
     {
@@ -238,4 +255,11 @@ impl Grants {
             None => None,
         }
     }
+}
+
+/// Whether one of the grants isn't the holder's.
+fn has_others(grants: &[GrantOn], h: HolderId) -> bool
+    ensures { result ≡ list_any (λ e. not (e.holder == h.0)) grants.now }
+{
+    grants.iter().any(|on| on.is_others(h))
 }

@@ -1,11 +1,13 @@
-//! Who was made a holder, and which folders each of them was granted.
+//! Who was made a holder, and which folders and files each of them was granted.
 #![tactic(auto)]
 
 mod check;
+mod clearances;
 mod grant;
 mod grants;
 pub mod laws;
 
 pub use check::check_grant;
+pub use clearances::{clear_number, file_of};
 pub use grant::Grant;
 pub use grants::Grants;

@@ -1,8 +1,9 @@
 use Rattle.std.proofs.Common.{◌≡◌, ℕ, suc, ◌+◌, not, ◌==◌, List, [], ◌∷◌, ◌++◌, length, length-append, ap, ◌∙◌, arith}
 use Rattle.std.specs.List.{range_with_len}
 use Rattle.std.proofs.lemmas.List.{map-append}
-use Rattle.cry_base.specs.Refusing.{id_of}
-use Rattle.cry_base.specs.Stepping.{effect, with_new_holder, without_folder, without_grant}
+use Rattle.cry_base.specs.Clearances.{clear_number}
+use Rattle.cry_base.specs.Refusing.{granted_id}
+use Rattle.cry_base.specs.Stepping.{effect, with_new_holder, without_file, without_folder, without_grant}
 use Rattle.cry_base.specs.Store.{Store, GrantEntry, HolderEntry, node_at}
 use Rattle.grant_book.specs.Granted.{grant_of, is_grant}
 use Rattle.grant_book.specs.Matching.{AreGrantsOf}
@@ -24,10 +25,11 @@ holder_added checks pairs s check key are =
     }
 
 pub returns : goal.returns
-unfolding effect without_folder without_grant
+unfolding effect without_file without_folder without_grant
 returns c = record {
   holder = holder_added;
-  grant = λ checks pairs s h path key are. record { numbers = are.numbers; made = are.made; granted = granted_more pairs s.grants (grant_of h (id_of (node_at s path))) are.granted };
-  revoke = λ checks pairs s h path key are. record { numbers = are.numbers; made = are.made; granted = granted_less pairs s.grants (λ e. not (is_grant h (id_of (node_at s path)) e)) are.granted };
+  grant = λ checks pairs s h path key are. record { numbers = are.numbers; made = are.made; granted = granted_more pairs s.grants (grant_of h (granted_id (node_at s path))) are.granted };
+  revoke = λ checks pairs s h path key are. record { numbers = are.numbers; made = are.made; granted = granted_less pairs s.grants (λ e. not (is_grant h (granted_id (node_at s path)) e)) are.granted };
   folder = λ checks pairs s f are. record { numbers = are.numbers; made = are.made; granted = granted_less pairs s.grants (λ e. not (e.folder == f)) are.granted };
+  file = λ checks pairs s x are. record { numbers = are.numbers; made = are.made; granted = granted_less pairs s.grants (λ e. not (e.folder == clear_number x)) are.granted };
 }

@@ -9,3 +9,6 @@ returns-clause-ordered c =
 
 pub returns-clause-made : goal.returns-clause-made
 returns-clause-made c = rw (← c.self.view_is) c.self.invariant.made
+
+pub returns-clause-numbered : goal.returns-clause-numbered
+returns-clause-numbered c = rw (← c.self.view_is) c.self.invariant.numbered

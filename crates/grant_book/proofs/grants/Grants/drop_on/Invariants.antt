@@ -1,6 +1,6 @@
 use Rattle.std.proofs.Common.{◌≡◌, ◌≤◌, length}
 use Rattle.grant_book.specs.Granted.{without_pairs_on}
-use Rattle.grant_book.proofs.grants.Grants.drop_folder.Given as goal
+use Rattle.grant_book.proofs.grants.Grants.drop_on.Given as goal
 
 abbrev pub invariant-loop-grant : goal.invariant-loop-grant
 invariant-loop-grant l =

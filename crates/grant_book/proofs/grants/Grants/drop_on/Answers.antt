@@ -4,7 +4,7 @@ use Rattle.cry_base.specs.Store.{GrantEntry}
 use Rattle.grant_book.specs.Granted.{grant_of, without_pairs_on}
 use Rattle.grant_book.proofs.Dropped.{dropped_one, one_less}
 use Rattle.grant_book.proofs.Ordered.{grant_is}
-use Rattle.grant_book.proofs.grants.Grants.drop_folder.Goals as goal
+use Rattle.grant_book.proofs.grants.Grants.drop_on.Goals as goal
 
 pub loop-grant-smaller : goal.loop-grant-smaller
 loop-grant-smaller c =
