@@ -1,5 +1,5 @@
 -- What walks come to are the marks and the plans, in so many steps.
-use Rattle.std.proofs.Common.{◌≡◌, ℕ, suc, ◌+◌, ◌*◌, ◌≤◌, Bool, true, false, cond, not, ◌↔◌, List, [], ◌∷◌, filter, length, refl, sym, ap, ◌∙◌, subst, arith}
+use Rattle.std.proofs.Common.{◌≡◌, ℕ, suc, ◌+◌, ◌*◌, ◌≤◌, true, false, cond, not, ◌↔◌, List, [], ◌∷◌, filter, length, refl, sym, ap, ◌∙◌, subst, arith}
 use Rattle.cry_base.specs.Sets.{In, has}
 use Rattle.cry_base.specs.declared.roles.Edge.{Edge}
 use Rattle.cry_base.specs.declared.roles.Role.{Role}

@@ -1,5 +1,5 @@
 -- A role is strict where edges lead from it to where a removed edge begins; a walk against the edges finds these roles, in so many steps.
-use Rattle.std.proofs.Common.{◌≡◌, ◌+◌, ◌*◌, ◌≤◌, ℕ, Bool, true, false, not, ◌&&◌, ◌↔◌, List, [], ◌∷◌, filter, map, length, refl, sym, ap, ◌∙◌, subst, arith}
+use Rattle.std.proofs.Common.{◌≡◌, ◌+◌, ◌*◌, ◌≤◌, ℕ, true, false, not, ◌↔◌, List, [], map, length, refl, sym, ◌∙◌, subst, arith}
 use Rattle.std.proofs.lemmas.Bool.{and_parts, false≢true, not-true}
 use Rattle.std.proofs.lemmas.List.{length-map}
 use Rattle.cry_base.specs.Sets.{In, has}
@@ -12,7 +12,7 @@ use Rattle.cry_base.proofs.Reaching.{Path-on, has-in, in-has}
 use Rattle.role_graph.specs.Adjacent.{HaveSame, count_from, count_into, edges_but}
 use Rattle.role_graph.specs.Ascending.{IsAscending, ascending}
 use Rattle.role_graph.specs.Closing.{IsReached, turned}
-use Rattle.role_graph.specs.Edges.{Reaches, edges, pairs_of, reach_along, unordered}
+use Rattle.role_graph.specs.Edges.{Reaches, edges, reach_along, unordered}
 use Rattle.role_graph.specs.Roles.{is_root_role, same_role}
 use Rattle.role_graph.proofs.Comparing.{reach_along_told, same_role_tells}
 use Rattle.role_graph.proofs.Growing.{edge_pair, turned_told}

@@ -12,6 +12,7 @@ use Rattle.folder_nodes.specs.Trees.{IsTree}
 use Rattle.grant_book.specs.Granted.{AreOrdered}
 use Rattle.role_graph.specs.Adjacent.{at_role, at_roles, into, is_repeat, once_after, out_of}
 use Rattle.role_graph.specs.Edges.{edge_before, edges, in_order, put_in_order, same_edge, unordered}
+use Rattle.role_graph.specs.PublicStore.{FoldersBelow}
 use Rattle.role_graph.specs.Roles.{same_role}
 use Rattle.role_graph.proofs.Comparing.{same_role_tells}
 use Rattle.role_graph.proofs.Edging.{In-order}
@@ -179,7 +180,7 @@ told_listed es rs e w =
     (λ i. all (e.from, i, at e.from (inl (filter-In Edge (λ x. same_role x.from e.from) e es w.0 ((same_role_tells e.from e.from).1 refl)))))
     (λ i. all (e.to, i, at e.to (inr (filter-In Edge (λ x. same_role x.to e.to) e es w.0 ((same_role_tells e.to e.to).1 refl))))) w.1
 
-module _ (s : Store) (tree : IsTree s) (ordered : AreOrdered s.grants) (rs : List Role) where
+module _ (s : Store) (tree : IsTree s) (below : FoldersBelow s) (ordered : AreOrdered s.grants) (rs : List Role) where
   found : List Edge
   found = in_order edge_before (at_roles (unordered s) rs)
 
@@ -204,7 +205,7 @@ module _ (s : Store) (tree : IsTree s) (ordered : AreOrdered s.grants) (rs : Lis
   stood_climbs : Climbs Edge edge_before stood
   unfolding stood
   stood_climbs = climbs Edge edge_before stood (order_rises Edge edge_before edges_rank (filter (touches rs) (unordered s)))
-      (once_order Edge edge_before (filter (touches rs) (unordered s)) (once_filter Edge (touches rs) (unordered s) (edges_once s tree ordered)))
+      (once_order Edge edge_before (filter (touches rs) (unordered s)) (once_filter Edge (touches rs) (unordered s) (edges_once s tree below ordered)))
       (none_tie s stood (λ e i. in_edges e (stood_told e i).0))
 
   pub touching_is : once_after None (in_order edge_before (at_roles (unordered s) rs)) ≡ filter (touches rs) (edges s)

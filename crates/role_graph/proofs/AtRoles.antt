@@ -11,8 +11,8 @@ use Rattle.cry_base.proofs.Members.{In-map, In-filter, filter-In}
 use Rattle.folder_nodes.specs.Inside.{AreListed, is_child_of, is_file_of}
 use Rattle.folder_nodes.specs.Trees.{IsTree}
 use Rattle.folder_nodes.proofs.Lookups.{filter-map}
-use Rattle.role_graph.specs.Adjacent.{AreChildren, where_stands}
-use Rattle.role_graph.specs.Edges.{folder_edges, parent_edges, grant_edge, file_edge, unordered}
+use Rattle.role_graph.specs.Adjacent.{AreChildren, plain_edges, where_stands}
+use Rattle.role_graph.specs.Edges.{folder_edges, parent_edges, grant_edge, file_edge}
 use Rattle.role_graph.proofs.Ordered.{stands_at}
 
 -- ---- lists
@@ -20,7 +20,7 @@ use Rattle.role_graph.proofs.Ordered.{stands_at}
 abbrev pub no_edges : List Edge
 no_edges = []
 
-flat_filtered : (X : Type 0) (p : Edge → Bool) (g : X → List Edge) (xs : List X) → filter p (flat_map g xs) ≡ flat_map (λ x. filter p (g x)) xs
+pub flat_filtered : (X : Type 0) (p : Edge → Bool) (g : X → List Edge) (xs : List X) → filter p (flat_map g xs) ≡ flat_map (λ x. filter p (g x)) xs
 flat_filtered X p g [] = refl
 flat_filtered X p g (x ∷ xs) = filter-append p (g x) (flat_map g xs) ∙ ap (λ (l : List Edge). filter p (g x) ++ l) (flat_filtered X p g xs)
 
@@ -124,7 +124,7 @@ numbered X id q (x ∷ xs) up =
       | false ↦ rest
     ]
 
-found_own : (X : Type 0) (id : X → ℕ) (x : X) (xs : List X) → ByNumber X id xs → In x xs → find (λ y. id y == id x) xs ≡ Some x
+pub found_own : (X : Type 0) (id : X → ℕ) (x : X) (xs : List X) → ByNumber X id xs → In x xs → find (λ y. id y == id x) xs ≡ Some x
 found_own X id x [] up i = absurd i
 found_own X id x (z ∷ zs) up i = (elim (id z == id x) as (λ b. id z == id x ≡ b → cond b (Some z) (find (λ y. id y == id x) zs) ≡ Some x) [
   | true ↦ λ t. ⊎_elim (λ (e : x ≡ z). ap (λ y. Some y) (sym e))
@@ -174,8 +174,8 @@ pub parts : (p : Edge → Bool) (s : Store) (a b c d : List Edge)
     → flat_map (λ (e : FolderEntry). filter p (with_parent e)) s.folders ≡ b
     → map of_grant (filter (λ g. p (of_grant g)) s.grants) ≡ c
     → map of_file (filter (λ e. p (of_file e)) s.files) ≡ d
-    → filter p (unordered s) ≡ ((a ++ b) ++ c) ++ d
-unfolding unordered
+    → filter p (plain_edges s) ≡ ((a ++ b) ++ c) ++ d
+unfolding plain_edges
 parts p s a b c d own up given files =
     let owns = flat_map (λ (e : FolderEntry). folder_edges e.id) s.folders in
     let bs = flat_map with_parent s.folders in

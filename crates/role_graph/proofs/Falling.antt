@@ -1,6 +1,7 @@
 -- Along each edge the rank falls.
 use Rattle.std.proofs.Common.{◌≡◌, ℕ, suc, ◌+◌, ◌-◌, ◌<◌, ◌≤◌, List, length, Some, None, is_some, true, false, ⊎_elim, refl, sym, ap, subst, arith}
 use Rattle.std.specs.Prelude.{IsSome}
+use Rattle.cry_base.specs.Clearances.{clear_number}
 use Rattle.cry_base.specs.Sets.{In}
 use Rattle.cry_base.specs.Store.{Store, FolderEntry, GrantEntry, folder_entry, file_entry, folder_node, depth_of, way_to_root}
 use Rattle.cry_base.specs.declared.roles.Edge.{Edge}
@@ -9,7 +10,8 @@ use Rattle.folder_nodes.specs.Trees.{IsTree}
 use Rattle.folder_nodes.proofs.Climbing.{levels_few}
 use Rattle.folder_nodes.proofs.Rowed.{some_of}
 use Rattle.folder_nodes.proofs.Treed.{way_on, way_off, depth_told}
-use Rattle.role_graph.specs.Edges.{edge, folder_edges, parent_edges, grant_edge, file_edge, IsOwnEdge, IsParentEdge, IsGrantEdge, IsFileEdge, IsEdge}
+use Rattle.role_graph.specs.Edges.{edge, folder_edges, parent_edges, grant_edge, file_edge, clearance_edges}
+use Rattle.role_graph.specs.Edges.{IsOwnEdge, IsParentEdge, IsGrantEdge, IsFileEdge, IsClearanceEdge, IsEdge}
 use Rattle.role_graph.specs.Joined.{levels, rank_of}
 use Rattle.role_graph.specs.PublicStore.{public_store}
 use Rattle.role_graph.specs.Roles.{holder_role, clear_of, sub_of, back_of, files_of, data_of, file_role}
@@ -83,9 +85,20 @@ file_falls : (s : Store) (f x : ℕ) (e : Edge) → e ≡ file_edge f x → Fall
 unfolding rank_of file_edge edge files_of file_role
 file_falls s f x e same = as_is s e (edge 9 (files_of f) (file_role x)) (omega arith) same
 
+clearance_falls : (s : Store) (f x : ℕ) → levels s f ≤ 65 → (e : Edge) → In e (clearance_edges f x) → Falls s e
+unfolding rank_of clearance_edges edge clear_of back_of file_role
+clearance_falls s f x low e i = ⊎_elim
+    (as_is s e (edge 1 Owner (clear_of (clear_number x))) (omega arith))
+    (λ a. ⊎_elim (as_is s e (edge 10 (clear_of (clear_number x)) (file_role x)) (omega arith))
+    (λ b. ⊎_elim (as_is s e (edge 11 (clear_of (clear_number x)) (back_of f)) (omega (arith, low))) (λ n. absurd n) b) a) i
+
 pub edge_falls : (s : Store) → IsTree s → (e : Edge) → IsEdge s e → Falls s e
 edge_falls s tree e w = ⊎_elim
     (λ (o : IsOwnEdge s e). own_falls s o.0.id (few s tree o.0.id) e o.2)
     (λ v. ⊎_elim
     (λ (p : IsParentEdge s e). parent_falls s p.0.id p.0.parent (few s tree p.0.id) (level_more s tree p.0 p.1) e p.3)
-    (λ u. ⊎_elim (λ (g : IsGrantEdge s e). grant_falls s g.0.holder g.0.folder e g.2) (λ (x : IsFileEdge s e). file_falls s x.0.folder x.0.id e x.2) u) v) w
+    (λ u. ⊎_elim
+    (λ (g : IsGrantEdge s e). grant_falls s g.0.holder g.0.folder e g.2)
+    (λ t. ⊎_elim
+    (λ (x : IsFileEdge s e). file_falls s x.0.folder x.0.id e x.2)
+    (λ (x : IsClearanceEdge s e). clearance_falls s x.0.folder x.0.id (few s tree x.0.folder) e x.3) t) u) v) w

@@ -1,9 +1,12 @@
 -- The edge that is looked up by the numbers of its ends is one of the store's.
-use Rattle.std.proofs.Common.{◌≡◌, ◌≢◌, ℕ, Bool, true, false, cond, ◌==◌, ◌||◌, ◌↔◌, List, Option, Some, None, is_some, IsTrue, inl, inr, ⊎_elim, refl, sym, ap, ◌∙◌, subst}
+use Rattle.std.proofs.Common.{◌≡◌, ◌≢◌, ℕ, Bool, true, false, cond, ◌==◌, ◌&&◌, ◌||◌, ◌↔◌, List, Option, Some, None, option_map, is_some, IsTrue, inl, inr, ⊎_elim, refl, sym, ap, ◌∙◌, subst}
 use Rattle.std.specs.List.{list_any}
 use Rattle.std.proofs.lemmas.Bool.{false≢true, and_parts, and_from, or_left, or_right, eqb-true, eqb-false, eq-eqb}
+use Rattle.cry_base.specs.Clearances.{clear_number, file_of}
+use Rattle.cry_base.proofs.Versions.{file_number, file_of_number}
 use Rattle.cry_base.specs.Sets.{In}
 use Rattle.cry_base.specs.Store.{Store, FolderEntry, FileEntry, GrantEntry, folder_entry, file_entry}
+use Rattle.cry_base.specs.declared.ids.FileId.{FileId}
 use Rattle.cry_base.specs.declared.ids.FolderId.{FolderId}
 use Rattle.cry_base.specs.declared.roles.Edge.{Edge}
 use Rattle.cry_base.specs.declared.roles.Role.{Role}
@@ -13,9 +16,12 @@ use Rattle.cry_base.proofs.Members.{In-any}
 use Rattle.folder_nodes.specs.Looking.{parent_id, folder_id_of, some_folder}
 use Rattle.folder_nodes.specs.Trees.{IsTree}
 use Rattle.folder_nodes.proofs.Moved.{files_found}
+use Rattle.grant_book.specs.Cleared.{as_file}
 use Rattle.grant_book.specs.Granted.{is_grant}
-use Rattle.role_graph.specs.Edges.{edge, folder_edges, parent_edges, grant_edge, file_edge, IsOwnEdge, IsParentEdge, IsGrantEdge, IsFileEdge, IsEdge}
+use Rattle.role_graph.specs.Edges.{edge, folder_edges, parent_edges, grant_edge, file_edge, clearance_edges, has_grants}
+use Rattle.role_graph.specs.Edges.{IsOwnEdge, IsParentEdge, IsGrantEdge, IsFileEdge, IsClearanceEdge, IsEdge}
 use Rattle.role_graph.specs.Joined.{HasEdge, joins, are_joined, is_within, joins_parent, is_between, is_granted, joins_file, is_into_file, is_found}
+use Rattle.role_graph.specs.Joined.{is_at_clearance, joins_at_file, joins_clearance}
 use Rattle.role_graph.specs.PublicStore.{public_store}
 use Rattle.role_graph.specs.Roles.{same_role, holder_role, clear_of, sub_of, back_of, files_of, data_of, file_role, role_id}
 use Rattle.role_graph.proofs.Comparing.{same_role_tells}
@@ -121,8 +127,28 @@ file_sound t gs x a b h =
           let w = folder_told (file_entry t x) f p in
           let stands = file_in t x w.0 w.1 in
           let same : file_edge f.0 x ≡ file_edge w.0.folder w.0.id = λ i. file_edge (w.2 i) (sym stands.1 i) in
-          (file_edge f.0 x, inr (inr (inr (w.0, stands.0, same))), (joins_told a b (file_edge f.0 x)).0 j)
+          (file_edge f.0 x, inr (inr (inr (inl (w.0, stands.0, same)))), (joins_told a b (file_edge f.0 x)).0 j)
     ]) refl h
+
+clearance_sound : (t : Store) (gs : List GrantEntry) (c : ℕ) (a b : Role) → is_at_clearance t gs c a b ≡ true → Has (public_store t gs) a b
+unfolding is_at_clearance has_grants
+clearance_sound t gs c a b h =
+    let both = and_parts (list_any (λ (g : GrantEntry). g.folder == c) gs) (joins_at_file t a b (file_of c)) h in
+    (elim (file_of c) as (λ o. file_of c ≡ o → joins_at_file t a b o ≡ true → Has (public_store t gs) a b) [
+      | None ↦ λ p j. absurd (false≢true j)
+      | Some x ↦ λ p j. at_file x p (folder_id_of (file_entry t x)) refl j both.0
+    ]) refl both.1
+  where
+    at_file : (x : ℕ) → file_of c ≡ Some x → (o : Option FolderId) → folder_id_of (file_entry t x) ≡ o → joins_clearance x a b o ≡ true
+        → list_any (λ (g : GrantEntry). g.folder == c) gs ≡ true → Has (public_store t gs) a b
+    at_file x p None q j granted = absurd (false≢true j)
+    at_file x p (Some f) q j granted =
+        let w = folder_told (file_entry t x) f q in
+        let stands = file_in t x w.0 w.1 in
+        let found = (joined_told (clearance_edges f.0 x) a b).0 j in
+        let moved : In found.0 (clearance_edges w.0.folder w.0.id) = subst (λ n. In found.0 (clearance_edges w.0.folder n)) (sym stands.1) (subst (λ n. In found.0 (clearance_edges n x)) w.2 found.1) in
+        let numbers : c ≡ clear_number w.0.id = file_number c x p ∙ ap (λ n. clear_number n) (sym stands.1) in
+        (found.0, inr (inr (inr (inr (w.0, stands.0, subst (λ n. list_any (λ (g : GrantEntry). g.folder == n) gs ≡ true) numbers granted, moved)))), found.2)
 
 five_cases : (v w x y z : Bool) → v || (w || (x || (y || z))) ≡ true → (P : Type 0) → (v ≡ true → P) → (w ≡ true → P) → (x ≡ true → P) → (y ≡ true → P) → (z ≡ true → P) → P
 five_cases true w x y z t P a b c d e = a refl
@@ -131,11 +157,20 @@ five_cases false false true y z t P a b c d e = c refl
 five_cases false false false true z t P a b c d e = d refl
 five_cases false false false false z t P a b c d e = e t
 
+-- the last of them may be one of three
+three_cases : (x y z : Bool) → x || (y || z) ≡ true → (P : Type 0) → (x ≡ true → P) → (y ≡ true → P) → (z ≡ true → P) → P
+three_cases true y z t P a b c = a refl
+three_cases false true z t P a b c = b refl
+three_cases false false z t P a b c = c t
+
 found_sound : (t : Store) (gs : List GrantEntry) (m n : ℕ) (a b : Role) → is_found t gs m n a b ≡ true → Has (public_store t gs) a b
 unfolding is_found
 found_sound t gs m n a b h =
-    five_cases (is_within t n a b) (is_between t n a b) (is_between t m a b) (is_granted gs m n a b) (is_into_file t n a b) h (Has (public_store t gs) a b)
-    (within_sound t gs n a b) (between_sound t gs n a b) (between_sound t gs m a b) (granted_sound t gs m n a b) (file_sound t gs n a b)
+    five_cases (is_within t n a b) (is_between t n a b) (is_between t m a b) (is_granted gs m n a b)
+    (is_into_file t n a b || (is_at_clearance t gs m a b || is_at_clearance t gs n a b)) h (Has (public_store t gs) a b)
+    (within_sound t gs n a b) (between_sound t gs n a b) (between_sound t gs m a b) (granted_sound t gs m n a b)
+    (λ last. three_cases (is_into_file t n a b) (is_at_clearance t gs m a b) (is_at_clearance t gs n a b) last (Has (public_store t gs) a b)
+    (file_sound t gs n a b) (clearance_sound t gs m a b) (clearance_sound t gs n a b))
 
 -- the numbers of the ends of each edge
 own_number : (f : ℕ) (e : Edge) → In e (folder_edges f) → role_id e.to ≡ f
@@ -158,9 +193,16 @@ grant_numbers : (h f : ℕ) (e : Edge) → e ≡ grant_edge h f → (role_id e.f
 unfolding grant_edge edge role_id holder_role clear_of
 grant_numbers h f e same = (ap (λ (z : Edge). role_id z.from) same, ap (λ (z : Edge). role_id z.to) same)
 
-file_number : (f x : ℕ) (e : Edge) → e ≡ file_edge f x → role_id e.to ≡ x
+into_number : (f x : ℕ) (e : Edge) → e ≡ file_edge f x → role_id e.to ≡ x
 unfolding file_edge edge role_id files_of file_role
-file_number f x e same = ap (λ (z : Edge). role_id z.to) same
+into_number f x e same = ap (λ (z : Edge). role_id z.to) same
+
+clearance_numbers : (f x : ℕ) (e : Edge) → In e (clearance_edges f x) → (P : Type 0) → (role_id e.to ≡ clear_number x → P) → (role_id e.from ≡ clear_number x → P) → P
+unfolding clearance_edges edge role_id clear_of back_of file_role
+clearance_numbers f x e i P to from = ⊎_elim
+    (λ same. to (ap (λ (z : Edge). role_id z.to) same))
+    (λ a. ⊎_elim (λ same. from (ap (λ (z : Edge). role_id z.from) same))
+    (λ b. ⊎_elim (λ same. from (ap (λ (z : Edge). role_id z.from) same)) (λ n. absurd n) b) a) i
 
 pub folder_found : (t : Store) → IsTree t → (e : FolderEntry) → In e t.folders → folder_entry t e.id ≡ Some e
 unfolding folder_entry
@@ -197,6 +239,14 @@ unfolding is_granted
 granted_found gs g i a b w =
     and_from (list_any (is_grant g.holder g.folder) gs) (joins a b (grant_edge g.holder g.folder)) ((grant_told gs g.holder g.folder).1 (g, i, (refl, refl))) ((joins_told a b (grant_edge g.holder g.folder)).1 w)
 
+clearance_found : (t : Store) (gs : List GrantEntry) → IsTree t → (x : FileEntry) → In x t.files → has_grants (public_store t gs) (clear_number x.id) ≡ true
+    → (e : Edge) → In e (clearance_edges x.folder x.id) → (a b : Role) → Leads a b e → is_at_clearance t gs (clear_number x.id) a b ≡ true
+unfolding is_at_clearance has_grants
+clearance_found t gs tree x i granted e j a b w =
+    and_from (list_any (λ (g : GrantEntry). g.folder == clear_number x.id) gs) (joins_at_file t a b (file_of (clear_number x.id))) granted
+    (ap (joins_at_file t a b) (file_of_number x.id) ∙ ap (λ o. joins_clearance x.id a b (folder_id_of o)) (file_stands t tree x i)
+    ∙ (joined_told (clearance_edges x.folder x.id) a b).1 (e, j, w))
+
 found_all : (t : Store) (gs : List GrantEntry) → IsTree t → (a b : Role) → Has (public_store t gs) a b → is_found t gs (role_id a) (role_id b) a b ≡ true
 unfolding is_found
 found_all t gs tree a b w =
@@ -206,7 +256,8 @@ found_all t gs tree a b w =
     let up = is_between t n a b in
     let down = is_between t m a b in
     let given = is_granted gs m n a b in
-    let into = is_into_file t n a b in
+    let into = is_into_file t n a b || (is_at_clearance t gs m a b || is_at_clearance t gs n a b) in
+    let fifth : into ≡ true → is_within t n a b || (up || (down || (given || into))) ≡ true = λ h. or_right (is_within t n a b) _ (or_right up _ (or_right down _ (or_right given _ h))) in
     let second : is_between t n a b ≡ true → is_within t n a b || (up || (down || (given || into))) ≡ true = λ h. or_right (is_within t n a b) _ (or_left up _ h) in
     let third : is_between t m a b ≡ true → is_within t n a b || (up || (down || (given || into))) ≡ true = λ h. or_right (is_within t n a b) _ (or_right up _ (or_left down _ h)) in
     ⊎_elim
@@ -225,10 +276,16 @@ found_all t gs tree a b w =
     let found = granted_found gs g.0 g.1 a b leads in
     let here : given ≡ true = subst (λ k. is_granted gs m k a b ≡ true) (sym told.1 ∙ ap role_id w.2.1) (subst (λ k. is_granted gs k g.0.folder a b ≡ true) (sym told.0 ∙ ap role_id w.2.0) found) in
     or_right (is_within t n a b) _ (or_right up _ (or_right down _ (or_left given _ here))))
+    (λ z. ⊎_elim
     (λ (x : IsFileEdge (public_store t gs) e).
     let leads : Leads a b (file_edge x.0.folder x.0.id) = subst (Leads a b) x.2 w.2 in
-    let here : into ≡ true = subst (λ k. is_into_file t k a b ≡ true) (sym (file_number x.0.folder x.0.id e x.2) ∙ ap role_id w.2.1) (file_found t tree x.0 x.1 a b leads) in
-    or_right (is_within t n a b) _ (or_right up _ (or_right down _ (or_right given _ here)))) u) v) w.1
+    let here = subst (λ k. is_into_file t k a b ≡ true) (sym (into_number x.0.folder x.0.id e x.2) ∙ ap role_id w.2.1) (file_found t tree x.0 x.1 a b leads) in
+    fifth (or_left (is_into_file t n a b) _ here))
+    (λ (x : IsClearanceEdge (public_store t gs) e).
+    let here = clearance_found t gs tree x.0 x.1 x.2 e x.3 a b w.2 in
+    fifth (or_right (is_into_file t n a b) _ (clearance_numbers x.0.folder x.0.id e x.3 (is_at_clearance t gs m a b || is_at_clearance t gs n a b ≡ true)
+    (λ to. or_right (is_at_clearance t gs m a b) _ (subst (λ k. is_at_clearance t gs k a b ≡ true) (sym to ∙ ap role_id w.2.1) here))
+    (λ from. or_left (is_at_clearance t gs m a b) _ (subst (λ k. is_at_clearance t gs k a b ≡ true) (sym from ∙ ap role_id w.2.0) here))))) z) u) v) w.1
 
 pub looked_up : (t : Store) (gs : List GrantEntry) → IsTree t → (a b : Role) (m n : ℕ) (r : Bool) → m ≡ role_id a → n ≡ role_id b → r ≡ is_found t gs m n a b → IsTrue r ↔ HasEdge (public_store t gs) a b
 looked_up t gs tree a b m n r from to e =
@@ -236,3 +293,29 @@ looked_up t gs tree a b m n r from to e =
       λ h. let w = found_sound t gs (role_id a) (role_id b) a b (sym same ∙ h) in (w.0, (edges_told (public_store t gs) w.0).1 w.1, w.2.0, w.2.1),
       λ w. same ∙ found_all t gs tree a b (w.0, (edges_told (public_store t gs) w.0).0 w.1, (w.2, w.3)),
     )
+
+-- ---- what a look-up by clearance number finds
+
+file_told : (o : Option ℕ) (x : FileId) → Some x ≡ option_map as_file o → o ≡ Some x.0
+file_told None x e = absurd cc
+file_told (Some n) x e = let same : x ≡ as_file n = cc in ap (λ (z : FileId). Some z.0) (sym same)
+
+folder_number : (o : Option ℕ) → None ≡ option_map as_file o → o ≡ None
+folder_number None e = refl
+folder_number (Some n) e = absurd cc
+
+abbrev granted_at : List GrantEntry → ℕ → Bool
+granted_at gs c = list_any (λ (g : GrantEntry). g.folder == c) gs
+
+pub clearance_none : (t : Store) (gs : List GrantEntry) (c : ℕ) (a b : Role) → granted_at gs c ≡ false → false ≡ is_at_clearance t gs c a b
+unfolding is_at_clearance
+clearance_none t gs c a b none = sym (ap (λ z. z && joins_at_file t a b (file_of c)) none)
+
+pub clearance_folder : (t : Store) (gs : List GrantEntry) (c : ℕ) (a b : Role) → granted_at gs c ≡ true → None ≡ option_map as_file (file_of c) → false ≡ is_at_clearance t gs c a b
+unfolding is_at_clearance
+clearance_folder t gs c a b granted e = sym (ap (λ z. z && joins_at_file t a b (file_of c)) granted ∙ ap (joins_at_file t a b) (folder_number (file_of c) e))
+
+pub clearance_joined : (t : Store) (gs : List GrantEntry) (c : ℕ) (x : FileId) (a b : Role) → granted_at gs c ≡ true → Some x ≡ option_map as_file (file_of c)
+    → joins_clearance x.0 a b (folder_id_of (file_entry t x.0)) ≡ is_at_clearance t gs c a b
+unfolding is_at_clearance
+clearance_joined t gs c x a b granted e = sym (ap (λ z. z && joins_at_file t a b (file_of c)) granted ∙ ap (joins_at_file t a b) (file_told (file_of c) x e))

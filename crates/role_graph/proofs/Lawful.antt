@@ -5,7 +5,7 @@ use Rattle.cry_base.specs.declared.roles.Role.{Role}
 use Rattle.folder_nodes.specs.Trees.{IsTree}
 use Rattle.kind_table.specs.Kinds.{kind_of}
 use Rattle.kind_table.specs.Rows.{Allows}
-use Rattle.kind_table.specs.declared.nine.TheConstants.{NINE}
+use Rattle.kind_table.specs.declared.eleven.TheConstants.{ELEVEN}
 use Rattle.role_graph.specs.Joined.{HasEdge, rank_of}
 use Rattle.role_graph.specs.Roles.{is_root_role}
 use Rattle.role_graph.specs.Tabled.{row_of}
@@ -22,6 +22,6 @@ falls s tree a b w =
     let low = edge_falls s tree w.0 ((edges_told s w.0).0 w.1) in
     subst (λ z. rank_of s b < rank_of s z) w.2 (subst (λ z. rank_of s z < rank_of s w.0.from) w.3 low)
 
-pub tabled : (s : Store) (a b : Role) → HasEdge s a b → Allows NINE.rows (kind_of a) (kind_of b)
+pub tabled : (s : Store) (a b : Role) → HasEdge s a b → Allows ELEVEN.rows (kind_of a) (kind_of b)
 unfolding row_of
 tabled s a b w = (row_of w.0, each_edge s w.0 w.1, ap kind_of w.2, ap kind_of w.3)

@@ -19,6 +19,7 @@ pub mod Settling
 pub mod Sifting
 pub mod Walked
 pub mod AtRoles
+pub mod AtClearances
 pub mod RoleEdges
 pub mod Once
 pub mod EdgesOnce

@@ -15,8 +15,8 @@ use Rattle.folder_nodes.specs.Looking.{parent_id, folder_id_of, some_folder}
 use Rattle.folder_nodes.specs.Trees.{IsTree}
 use Rattle.folder_nodes.specs.declared.rows.FolderRow.{FolderRow}
 use Rattle.grant_book.specs.Granted.{holders_on, folders_of}
-use Rattle.role_graph.specs.Adjacent.{AreChildren, into, out_of, where_stands}
-use Rattle.role_graph.specs.Edges.{edge, folder_edges, parent_edges, grant_edge, file_edge, unordered}
+use Rattle.role_graph.specs.Adjacent.{AreChildren, into, out_of, plain_edges, where_stands}
+use Rattle.role_graph.specs.Edges.{edge, folder_edges, parent_edges, grant_edge, file_edge}
 use Rattle.role_graph.specs.PublicStore.{public_store}
 use Rattle.role_graph.specs.Roles.{same_role, variant_of, role_id, holder_role, clear_of, sub_of, back_of, files_of, data_of, file_role}
 use Rattle.role_graph.proofs.Adding.{map_map}
@@ -128,7 +128,7 @@ own_file s tree x =
     looked None p = refl
     looked (Some e) p = ap (λ n. edge 9 (files_of e.folder) (file_role n) ∷ []) (eqb-true e.id x.0 (find-found FileEntry (λ y. y.id == x.0) s.files e p).1)
 
-pub owner_from : (s : Store) → IsTree s → (rows : List FolderRow) → map folder_of_row rows ≡ s.folders → map (λ (r : FolderRow). edge 1 Owner (clear_of r.id.0)) rows ≡ out_of (unordered s) Owner
+pub owner_from : (s : Store) → IsTree s → (rows : List FolderRow) → map folder_of_row rows ≡ s.folders → map (λ (r : FolderRow). edge 1 Owner (clear_of r.id.0)) rows ≡ out_of (plain_edges s) Owner
 unfolding out_of into folder_edges parent_edges grant_edge file_edge edge same_role variant_of role_id holder_role clear_of sub_of back_of files_of data_of file_role
 owner_from s tree rows rows_are =
     sym (parts (λ (e : Edge). same_role e.from Owner) s (map (λ (r : FolderRow). edge 1 Owner (clear_of r.id.0)) rows) ([]) ([]) ([])
@@ -138,7 +138,7 @@ owner_from s tree rows rows_are =
     (no_files (λ (e : Edge). same_role e.from Owner) s (λ e. refl))
     ∙ alone (map (λ (r : FolderRow). edge 1 Owner (clear_of r.id.0)) rows))
 
-pub holder_from : (s : Store) → IsTree s → (h : HolderId) → map (λ (f : FolderId). grant_edge h.0 f.0) (folders_of s.grants h.0) ≡ out_of (unordered s) (Holder h)
+pub holder_from : (s : Store) → IsTree s → (h : HolderId) → map (λ (f : FolderId). grant_edge h.0 f.0) (folders_of s.grants h.0) ≡ out_of (plain_edges s) (Holder h)
 unfolding out_of into folder_edges parent_edges grant_edge file_edge edge same_role variant_of role_id holder_role clear_of sub_of back_of files_of data_of file_role
 holder_from s tree h =
     sym (parts (λ (e : Edge). same_role e.from (Holder h)) s ([]) ([]) (map (λ (f : FolderId). grant_edge h.0 f.0) (folders_of s.grants h.0)) ([])
@@ -148,7 +148,7 @@ holder_from s tree h =
     (no_files (λ (e : Edge). same_role e.from (Holder h)) s (λ e. refl))
     ∙ append-nil (map (λ (f : FolderId). grant_edge h.0 f.0) (folders_of s.grants h.0)))
 
-pub clear_from : (s : Store) → IsTree s → (f : FolderId) → where_stands s f.0 (edge 3 (clear_of f.0) (sub_of f.0) ∷ []) ≡ out_of (unordered s) (Clear f)
+pub clear_from : (s : Store) → IsTree s → (f : FolderId) → where_stands s f.0 (edge 3 (clear_of f.0) (sub_of f.0) ∷ []) ≡ out_of (plain_edges s) (Clear f)
 unfolding out_of into folder_edges parent_edges grant_edge file_edge edge same_role variant_of role_id holder_role clear_of sub_of back_of files_of data_of file_role
 clear_from s tree f =
     sym (parts (λ (e : Edge). same_role e.from (Clear f)) s (where_stands s f.0 (edge 3 (clear_of f.0) (sub_of f.0) ∷ [])) ([]) ([]) ([])
@@ -158,7 +158,7 @@ clear_from s tree f =
     (no_files (λ (e : Edge). same_role e.from (Clear f)) s (λ e. refl))
     ∙ alone (where_stands s f.0 (edge 3 (clear_of f.0) (sub_of f.0) ∷ [])))
 
-pub sub_from : (s : Store) → IsTree s → (f : FolderId) (ids : List FolderId) → AreChildren s f.0 (map (λ (g : FolderId). g.0) ids) → where_stands s f.0 (edge 4 (sub_of f.0) (back_of f.0) ∷ edge 5 (sub_of f.0) (files_of f.0) ∷ []) ++ map (λ (g : FolderId). edge 6 (sub_of f.0) (sub_of g.0)) ids ≡ out_of (unordered s) (Sub f)
+pub sub_from : (s : Store) → IsTree s → (f : FolderId) (ids : List FolderId) → AreChildren s f.0 (map (λ (g : FolderId). g.0) ids) → where_stands s f.0 (edge 4 (sub_of f.0) (back_of f.0) ∷ edge 5 (sub_of f.0) (files_of f.0) ∷ []) ++ map (λ (g : FolderId). edge 6 (sub_of f.0) (sub_of g.0)) ids ≡ out_of (plain_edges s) (Sub f)
 unfolding out_of into folder_edges parent_edges grant_edge file_edge edge same_role variant_of role_id holder_role clear_of sub_of back_of files_of data_of file_role
 sub_from s tree f ids are =
     sym (parts (λ (e : Edge). same_role e.from (Sub f)) s (where_stands s f.0 (edge 4 (sub_of f.0) (back_of f.0) ∷ edge 5 (sub_of f.0) (files_of f.0) ∷ [])) (map (λ (g : FolderId). edge 6 (sub_of f.0) (sub_of g.0)) ids) ([]) ([])
@@ -168,7 +168,7 @@ sub_from s tree f ids are =
     (no_files (λ (e : Edge). same_role e.from (Sub f)) s (λ e. refl))
     ∙ with_up (where_stands s f.0 (edge 4 (sub_of f.0) (back_of f.0) ∷ edge 5 (sub_of f.0) (files_of f.0) ∷ [])) (map (λ (g : FolderId). edge 6 (sub_of f.0) (sub_of g.0)) ids))
 
-pub back_from : (s : Store) → IsTree s → (f : FolderId) → where_stands s f.0 (edge 7 (back_of f.0) (data_of f.0) ∷ []) ++ beyond (λ p. edge 8 (back_of f.0) (back_of p.0)) (parent_id (folder_entry s f.0)) ≡ out_of (unordered s) (Back f)
+pub back_from : (s : Store) → IsTree s → (f : FolderId) → where_stands s f.0 (edge 7 (back_of f.0) (data_of f.0) ∷ []) ++ beyond (λ p. edge 8 (back_of f.0) (back_of p.0)) (parent_id (folder_entry s f.0)) ≡ out_of (plain_edges s) (Back f)
 unfolding out_of into folder_edges parent_edges grant_edge file_edge edge same_role variant_of role_id holder_role clear_of sub_of back_of files_of data_of file_role
 back_from s tree f =
     sym (parts (λ (e : Edge). same_role e.from (Back f)) s (where_stands s f.0 (edge 7 (back_of f.0) (data_of f.0) ∷ [])) (beyond (λ p. edge 8 (back_of f.0) (back_of p.0)) (parent_id (folder_entry s f.0))) ([]) ([])
@@ -178,7 +178,7 @@ back_from s tree f =
     (no_files (λ (e : Edge). same_role e.from (Back f)) s (λ e. refl))
     ∙ with_up (where_stands s f.0 (edge 7 (back_of f.0) (data_of f.0) ∷ [])) (beyond (λ p. edge 8 (back_of f.0) (back_of p.0)) (parent_id (folder_entry s f.0))))
 
-pub files_from : (s : Store) → IsTree s → (f : FolderId) (ids : List FileId) → AreListed (λ x. is_file_of f.0 (file_entry s x)) (map (λ (x : FileId). x.0) ids) → map (λ (x : FileId). file_edge f.0 x.0) ids ≡ out_of (unordered s) (Files f)
+pub files_from : (s : Store) → IsTree s → (f : FolderId) (ids : List FileId) → AreListed (λ x. is_file_of f.0 (file_entry s x)) (map (λ (x : FileId). x.0) ids) → map (λ (x : FileId). file_edge f.0 x.0) ids ≡ out_of (plain_edges s) (Files f)
 unfolding out_of into folder_edges parent_edges grant_edge file_edge edge same_role variant_of role_id holder_role clear_of sub_of back_of files_of data_of file_role
 files_from s tree f ids are =
     sym (parts (λ (e : Edge). same_role e.from (Files f)) s ([]) ([]) ([]) (map (λ (x : FileId). file_edge f.0 x.0) ids)
@@ -188,7 +188,7 @@ files_from s tree f ids are =
     (map_kept FileEntry Edge (λ e. e.folder == f.0) of_file (λ e. file_edge f.0 e.id) (λ e t. ap (λ n. file_edge n e.id) (eqb-true e.folder f.0 t)) s.files ∙ sym (map_map FileEntry ℕ Edge (λ n. file_edge f.0 n) (λ (e : FileEntry). e.id) (filter (λ (e : FileEntry). e.folder == f.0) s.files)) ∙ ap (map (λ n. file_edge f.0 n)) (sym (files_listed s tree f.0 (map (λ (x : FileId). x.0) ids) are)) ∙ map_map FileId ℕ Edge (λ n. file_edge f.0 n) (λ (x : FileId). x.0) ids)
     ∙ refl)
 
-pub data_from : (s : Store) → IsTree s → (f : FolderId) → [] ≡ out_of (unordered s) (Data f)
+pub data_from : (s : Store) → IsTree s → (f : FolderId) → [] ≡ out_of (plain_edges s) (Data f)
 unfolding out_of into folder_edges parent_edges grant_edge file_edge edge same_role variant_of role_id holder_role clear_of sub_of back_of files_of data_of file_role
 data_from s tree f =
     sym (parts (λ (e : Edge). same_role e.from (Data f)) s ([]) ([]) ([]) ([])
@@ -198,7 +198,7 @@ data_from s tree f =
     (no_files (λ (e : Edge). same_role e.from (Data f)) s (λ e. refl))
     ∙ refl)
 
-pub file_from : (s : Store) → IsTree s → (x : FileId) → [] ≡ out_of (unordered s) (File x)
+pub file_from : (s : Store) → IsTree s → (x : FileId) → [] ≡ out_of (plain_edges s) (File x)
 unfolding out_of into folder_edges parent_edges grant_edge file_edge edge same_role variant_of role_id holder_role clear_of sub_of back_of files_of data_of file_role
 file_from s tree x =
     sym (parts (λ (e : Edge). same_role e.from (File x)) s ([]) ([]) ([]) ([])
@@ -208,7 +208,7 @@ file_from s tree x =
     (no_files (λ (e : Edge). same_role e.from (File x)) s (λ e. refl))
     ∙ refl)
 
-pub owner_into : (s : Store) → IsTree s → [] ≡ into (unordered s) Owner
+pub owner_into : (s : Store) → IsTree s → [] ≡ into (plain_edges s) Owner
 unfolding out_of into folder_edges parent_edges grant_edge file_edge edge same_role variant_of role_id holder_role clear_of sub_of back_of files_of data_of file_role
 owner_into s tree =
     sym (parts (λ (e : Edge). same_role e.to Owner) s ([]) ([]) ([]) ([])
@@ -218,7 +218,7 @@ owner_into s tree =
     (no_files (λ (e : Edge). same_role e.to Owner) s (λ e. refl))
     ∙ refl)
 
-pub holder_into : (s : Store) → IsTree s → (h : HolderId) → [] ≡ into (unordered s) (Holder h)
+pub holder_into : (s : Store) → IsTree s → (h : HolderId) → [] ≡ into (plain_edges s) (Holder h)
 unfolding out_of into folder_edges parent_edges grant_edge file_edge edge same_role variant_of role_id holder_role clear_of sub_of back_of files_of data_of file_role
 holder_into s tree h =
     sym (parts (λ (e : Edge). same_role e.to (Holder h)) s ([]) ([]) ([]) ([])
@@ -228,7 +228,7 @@ holder_into s tree h =
     (no_files (λ (e : Edge). same_role e.to (Holder h)) s (λ e. refl))
     ∙ refl)
 
-pub clear_into : (s : Store) → IsTree s → (f : FolderId) → where_stands s f.0 (edge 1 Owner (clear_of f.0) ∷ []) ++ map (λ (h : HolderId). grant_edge h.0 f.0) (holders_on s.grants f.0) ≡ into (unordered s) (Clear f)
+pub clear_into : (s : Store) → IsTree s → (f : FolderId) → where_stands s f.0 (edge 1 Owner (clear_of f.0) ∷ []) ++ map (λ (h : HolderId). grant_edge h.0 f.0) (holders_on s.grants f.0) ≡ into (plain_edges s) (Clear f)
 unfolding out_of into folder_edges parent_edges grant_edge file_edge edge same_role variant_of role_id holder_role clear_of sub_of back_of files_of data_of file_role
 clear_into s tree f =
     sym (parts (λ (e : Edge). same_role e.to (Clear f)) s (where_stands s f.0 (edge 1 Owner (clear_of f.0) ∷ [])) ([]) (map (λ (h : HolderId). grant_edge h.0 f.0) (holders_on s.grants f.0)) ([])
@@ -238,7 +238,7 @@ clear_into s tree f =
     (no_files (λ (e : Edge). same_role e.to (Clear f)) s (λ e. refl))
     ∙ with_given (where_stands s f.0 (edge 1 Owner (clear_of f.0) ∷ [])) (map (λ (h : HolderId). grant_edge h.0 f.0) (holders_on s.grants f.0)))
 
-pub sub_into : (s : Store) → IsTree s → (f : FolderId) → where_stands s f.0 (edge 3 (clear_of f.0) (sub_of f.0) ∷ []) ++ beyond (λ p. edge 6 (sub_of p.0) (sub_of f.0)) (parent_id (folder_entry s f.0)) ≡ into (unordered s) (Sub f)
+pub sub_into : (s : Store) → IsTree s → (f : FolderId) → where_stands s f.0 (edge 3 (clear_of f.0) (sub_of f.0) ∷ []) ++ beyond (λ p. edge 6 (sub_of p.0) (sub_of f.0)) (parent_id (folder_entry s f.0)) ≡ into (plain_edges s) (Sub f)
 unfolding out_of into folder_edges parent_edges grant_edge file_edge edge same_role variant_of role_id holder_role clear_of sub_of back_of files_of data_of file_role
 sub_into s tree f =
     sym (parts (λ (e : Edge). same_role e.to (Sub f)) s (where_stands s f.0 (edge 3 (clear_of f.0) (sub_of f.0) ∷ [])) (beyond (λ p. edge 6 (sub_of p.0) (sub_of f.0)) (parent_id (folder_entry s f.0))) ([]) ([])
@@ -248,7 +248,7 @@ sub_into s tree f =
     (no_files (λ (e : Edge). same_role e.to (Sub f)) s (λ e. refl))
     ∙ with_up (where_stands s f.0 (edge 3 (clear_of f.0) (sub_of f.0) ∷ [])) (beyond (λ p. edge 6 (sub_of p.0) (sub_of f.0)) (parent_id (folder_entry s f.0))))
 
-pub back_into : (s : Store) → IsTree s → (f : FolderId) (ids : List FolderId) → AreChildren s f.0 (map (λ (g : FolderId). g.0) ids) → where_stands s f.0 (edge 4 (sub_of f.0) (back_of f.0) ∷ []) ++ map (λ (g : FolderId). edge 8 (back_of g.0) (back_of f.0)) ids ≡ into (unordered s) (Back f)
+pub back_into : (s : Store) → IsTree s → (f : FolderId) (ids : List FolderId) → AreChildren s f.0 (map (λ (g : FolderId). g.0) ids) → where_stands s f.0 (edge 4 (sub_of f.0) (back_of f.0) ∷ []) ++ map (λ (g : FolderId). edge 8 (back_of g.0) (back_of f.0)) ids ≡ into (plain_edges s) (Back f)
 unfolding out_of into folder_edges parent_edges grant_edge file_edge edge same_role variant_of role_id holder_role clear_of sub_of back_of files_of data_of file_role
 back_into s tree f ids are =
     sym (parts (λ (e : Edge). same_role e.to (Back f)) s (where_stands s f.0 (edge 4 (sub_of f.0) (back_of f.0) ∷ [])) (map (λ (g : FolderId). edge 8 (back_of g.0) (back_of f.0)) ids) ([]) ([])
@@ -258,7 +258,7 @@ back_into s tree f ids are =
     (no_files (λ (e : Edge). same_role e.to (Back f)) s (λ e. refl))
     ∙ with_up (where_stands s f.0 (edge 4 (sub_of f.0) (back_of f.0) ∷ [])) (map (λ (g : FolderId). edge 8 (back_of g.0) (back_of f.0)) ids))
 
-pub files_into : (s : Store) → IsTree s → (f : FolderId) → where_stands s f.0 (edge 5 (sub_of f.0) (files_of f.0) ∷ []) ≡ into (unordered s) (Files f)
+pub files_into : (s : Store) → IsTree s → (f : FolderId) → where_stands s f.0 (edge 5 (sub_of f.0) (files_of f.0) ∷ []) ≡ into (plain_edges s) (Files f)
 unfolding out_of into folder_edges parent_edges grant_edge file_edge edge same_role variant_of role_id holder_role clear_of sub_of back_of files_of data_of file_role
 files_into s tree f =
     sym (parts (λ (e : Edge). same_role e.to (Files f)) s (where_stands s f.0 (edge 5 (sub_of f.0) (files_of f.0) ∷ [])) ([]) ([]) ([])
@@ -268,7 +268,7 @@ files_into s tree f =
     (no_files (λ (e : Edge). same_role e.to (Files f)) s (λ e. refl))
     ∙ alone (where_stands s f.0 (edge 5 (sub_of f.0) (files_of f.0) ∷ [])))
 
-pub data_into : (s : Store) → IsTree s → (f : FolderId) → where_stands s f.0 (edge 7 (back_of f.0) (data_of f.0) ∷ []) ≡ into (unordered s) (Data f)
+pub data_into : (s : Store) → IsTree s → (f : FolderId) → where_stands s f.0 (edge 7 (back_of f.0) (data_of f.0) ∷ []) ≡ into (plain_edges s) (Data f)
 unfolding out_of into folder_edges parent_edges grant_edge file_edge edge same_role variant_of role_id holder_role clear_of sub_of back_of files_of data_of file_role
 data_into s tree f =
     sym (parts (λ (e : Edge). same_role e.to (Data f)) s (where_stands s f.0 (edge 7 (back_of f.0) (data_of f.0) ∷ [])) ([]) ([]) ([])
@@ -278,7 +278,7 @@ data_into s tree f =
     (no_files (λ (e : Edge). same_role e.to (Data f)) s (λ e. refl))
     ∙ alone (where_stands s f.0 (edge 7 (back_of f.0) (data_of f.0) ∷ [])))
 
-pub file_into : (s : Store) → IsTree s → (x : FileId) → beyond (λ f. edge 9 (files_of f.0) (file_role x.0)) (folder_id_of (file_entry s x.0)) ≡ into (unordered s) (File x)
+pub file_into : (s : Store) → IsTree s → (x : FileId) → beyond (λ f. edge 9 (files_of f.0) (file_role x.0)) (folder_id_of (file_entry s x.0)) ≡ into (plain_edges s) (File x)
 unfolding out_of into folder_edges parent_edges grant_edge file_edge edge same_role variant_of role_id holder_role clear_of sub_of back_of files_of data_of file_role
 file_into s tree x =
     sym (parts (λ (e : Edge). same_role e.to (File x)) s ([]) ([]) ([]) (beyond (λ f. edge 9 (files_of f.0) (file_role x.0)) (folder_id_of (file_entry s x.0)))

@@ -1,6 +1,7 @@
 -- Which edges there are by their kinds, what the owner reaches, and what the owner is shown.
 use Rattle.std.proofs.Common.{◌≡◌, ℕ, Bool, true, false, not, ◌&&◌, ◌||◌, ◌==◌, map, inl, inr, ⊎_elim, refl, sym, ap, ◌∙◌, subst}
 use Rattle.std.proofs.lemmas.Bool.{eq-eqb, false≢true, and_parts, or_cases, not-true}
+use Rattle.cry_base.specs.Clearances.{clear_number}
 use Rattle.cry_base.specs.Sets.{In}
 use Rattle.cry_base.specs.Sets.Path.{Here, On}
 use Rattle.cry_base.specs.Store.{Store, FolderEntry, FileEntry, folder_node, file_node, folder_entry, file_entry, nodes_of}
@@ -9,8 +10,10 @@ use Rattle.cry_base.specs.declared.roles.Node.{Node}
 use Rattle.cry_base.specs.declared.roles.Role.{Role}
 use Rattle.cry_base.specs.declared.roles.Role.TheVariants.{Owner}
 use Rattle.role_graph.specs.Roles.{holder_role, clear_of, sub_of, back_of, files_of, data_of, file_role, variant_of, is_root_role, is_sealing_role, is_clear_role, folder_roles}
-use Rattle.role_graph.specs.Edges.{edge, folder_edges, parent_edges, grant_edge, file_edge, edges, pairs_of, Reaches, IsOwnEdge, IsParentEdge, IsGrantEdge, IsFileEdge, IsEdge}
+use Rattle.role_graph.specs.Edges.{edge, folder_edges, parent_edges, grant_edge, file_edge, clearance_edges, has_grants, edges, pairs_of, Reaches}
+use Rattle.role_graph.specs.Edges.{IsOwnEdge, IsParentEdge, IsGrantEdge, IsFileEdge, IsClearanceEdge, IsEdge}
 use Rattle.role_graph.specs.Rights.{IsShown}
+use Rattle.role_graph.specs.RightsByReach.{IsClearance}
 use Rattle.role_graph.specs.Rights.Who.{TheOwner}
 use Rattle.cry_base.proofs.Finding.{found-find}
 use Rattle.cry_base.proofs.Members.{In-append, In-map}
@@ -41,12 +44,20 @@ file_typed : (f x : ℕ) (e : Edge) → e ≡ file_edge f x → is_typed e ≡ t
 unfolding is_typed file_edge edge is_root_role is_sealing_role is_clear_role variant_of files_of file_role
 file_typed f x e s = ap is_typed s
 
+clearance_typed : (f x : ℕ) (e : Edge) → In e (clearance_edges f x) → is_typed e ≡ true
+unfolding is_typed clearance_edges edge is_root_role is_sealing_role is_clear_role variant_of clear_of back_of file_role
+clearance_typed f x e i = ⊎_elim
+    (λ s. ap is_typed s)
+    (λ a. ⊎_elim (λ s. ap is_typed s) (λ b. ⊎_elim (λ s. ap is_typed s) (λ n. absurd n) b) a) i
+
 edge_typed : (s : Store) (e : Edge) → IsEdge s e → is_typed e ≡ true
 edge_typed s e w = ⊎_elim
     (λ (o : IsOwnEdge s e). own_typed o.0.id e o.2)
     (λ v. ⊎_elim
     (λ (p : IsParentEdge s e). parent_typed p.0.id p.0.parent e p.3)
-    (λ u. ⊎_elim (λ (g : IsGrantEdge s e). grant_typed g.0.holder g.0.folder e g.2) (λ (x : IsFileEdge s e). file_typed x.0.folder x.0.id e x.2) u) v) w
+    (λ u. ⊎_elim
+    (λ (g : IsGrantEdge s e). grant_typed g.0.holder g.0.folder e g.2)
+    (λ t. ⊎_elim (λ (x : IsFileEdge s e). file_typed x.0.folder x.0.id e x.2) (λ (x : IsClearanceEdge s e). clearance_typed x.0.folder x.0.id e x.3) t) u) v) w
 
 parts : (e : Edge) → is_typed e ≡ true → (is_root_role e.to ≡ false) × (is_sealing_role e.from ≡ false) × (is_clear_role e.to ≡ true → is_root_role e.from ≡ true)
 unfolding is_typed
@@ -106,7 +117,15 @@ pub file_reached : (s : Store) (f : FolderEntry) (x : FileEntry) → In f s.fold
 unfolding file_edge edge
 file_reached s f x i j e =
     let P : ℕ → Type 0 = λ n. Reaches (edges s) Owner (files_of n) in
-    On (subst P (sym e) (to_files s f i)) (stands s (file_edge x.folder x.id) (inr (inr (inr (x, j, refl)))))
+    On (subst P (sym e) (to_files s f i)) (stands s (file_edge x.folder x.id) (inr (inr (inr (inl (x, j, refl))))))
+
+pub clearance_reached : (s : Store) (c : ℕ) → IsClearance s c → Reaches (edges s) Owner (clear_of c)
+unfolding clearance_edges edge
+clearance_reached s c w =
+    let x = w.0.0 in
+    let P : ℕ → Type 0 = λ n. Reaches (edges s) Owner (clear_of n) in
+    let granted = subst (λ n. has_grants s n ≡ true) (sym w.0.2) w.1 in
+    subst P w.0.2 (On Here (stands s (edge 1 Owner (clear_of (clear_number x.id))) (inr (inr (inr (inr (x, w.0.1, granted, inl refl)))))))
 
 pub owner_shown : (s : Store) (node : Node) → In node (nodes_of s) → IsShown s TheOwner node
 unfolding nodes_of folder_node file_node folder_entry file_entry

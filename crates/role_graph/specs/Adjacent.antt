@@ -1,15 +1,27 @@
 -- The edges at a role, and how many edges a walk meets.
 use Rattle.std.specs.Prelude.{◌≡◌, ◌↔◌, ℕ, Bool, false, not, cond, ◌==◌, List, [], ◌∷◌, ◌++◌, map, flat_map, filter, length}
 use Rattle.std.specs.Prelude.{Option, Some, None, is_some}
+use Rattle.cry_base.specs.Clearances.{clear_number}
 use Rattle.cry_base.specs.Sets.{In, has}
 use Rattle.cry_base.specs.Store.{Store, FolderEntry, folder_entry}
 use Rattle.cry_base.specs.declared.roles.Edge.{Edge}
 use Rattle.cry_base.specs.declared.roles.Role.{Role}
 use Rattle.role_graph.specs.Closing.{turned}
-use Rattle.role_graph.specs.Edges.{same_edge}
+use Rattle.role_graph.specs.Edges.{same_edge, clearance_edges, file_edge, folder_edges, grant_edge, has_grants, parent_edges}
 use Rattle.role_graph.specs.Roles.{same_role}
 use Rattle.role_graph.specs.declared.way.Way.{Way}
 use Rattle.role_graph.specs.declared.way.Way.TheVariants.{Along, Against}
+
+-- of the edges of a store those of folders, grants and files themselves, and those of files' clearance keys
+unfoldable pub plain_edges : Store → List Edge
+plain_edges s =
+    flat_map (λ e. folder_edges e.id) s.folders
+    ++ flat_map (λ e. cond (e.parent == 0) [] (parent_edges e.id e.parent)) s.folders
+    ++ map (λ g. grant_edge g.holder g.folder) s.grants
+    ++ map (λ e. file_edge e.folder e.id) s.files
+
+unfoldable pub clearances : Store → List Edge
+clearances s = flat_map (λ e. cond (has_grants s (clear_number e.id)) (clearance_edges e.folder e.id) []) s.files
 
 -- the edges out of the role, and those into it
 unfoldable pub out_of : List Edge → Role → List Edge

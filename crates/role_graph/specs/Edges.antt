@@ -1,5 +1,7 @@
 -- Which key leads to which. This project's own, docs/FORMAT.md, "Kinds of links".
-use Rattle.std.specs.Prelude.{◌≡◌, ◌≢◌, ◌⊎◌, ℕ, Bool, cond, ◌&&◌, ◌||◌, nat_lt, ◌==◌, List, [], ◌∷◌, ◌++◌, map, flat_map}
+use Rattle.std.specs.Prelude.{◌≡◌, ◌≢◌, ◌⊎◌, ℕ, Bool, cond, ◌&&◌, ◌||◌, nat_lt, ◌==◌, List, [], ◌∷◌, ◌++◌, map, flat_map, IsTrue}
+use Rattle.std.specs.List.{list_any}
+use Rattle.cry_base.specs.Clearances.{clear_number}
 use Rattle.cry_base.specs.Sets.{In, Path, reach}
 use Rattle.cry_base.specs.Store.{Store, FolderEntry, FileEntry, GrantEntry}
 use Rattle.cry_base.specs.declared.roles.Edge.{Edge}
@@ -47,13 +49,26 @@ grant_edge h f = edge 2 (holder_role h) (clear_of f)
 unfoldable pub file_edge : ℕ → ℕ → Edge
 file_edge f x = edge 9 (files_of f) (file_role x)
 
--- the edges of the nine kinds, in their order. The root alone has no parent
+-- the edges of file x's clearance key, where the file is in folder f
+unfoldable pub clearance_edges : ℕ → ℕ → List Edge
+clearance_edges f x =
+    edge 1 Owner (clear_of (clear_number x))
+    ∷ edge 10 (clear_of (clear_number x)) (file_role x)
+    ∷ edge 11 (clear_of (clear_number x)) (back_of f)
+    ∷ []
+
+-- whether anybody has a grant on the number: a folder's, or a file's clearance number
+unfoldable pub has_grants : Store → ℕ → Bool
+has_grants s c = list_any (λ g. g.folder == c) s.grants
+
+-- the edges of the eleven kinds, in their order. The root alone has no parent, and a file without a grant no clearance key
 unfoldable pub edges : Store → List Edge
 edges s = in_order edge_before (
     flat_map (λ e. folder_edges e.id) s.folders
     ++ flat_map (λ e. cond (e.parent == 0) [] (parent_edges e.id e.parent)) s.folders
     ++ map (λ g. grant_edge g.holder g.folder) s.grants
-    ++ map (λ e. file_edge e.folder e.id) s.files)
+    ++ map (λ e. file_edge e.folder e.id) s.files
+    ++ flat_map (λ e. cond (has_grants s (clear_number e.id)) (clearance_edges e.folder e.id) []) s.files)
 
 -- the same, as the folders, the grants and the files come
 unfoldable pub unordered : Store → List Edge
@@ -62,6 +77,7 @@ unordered s =
     ++ flat_map (λ e. cond (e.parent == 0) [] (parent_edges e.id e.parent)) s.folders
     ++ map (λ g. grant_edge g.holder g.folder) s.grants
     ++ map (λ e. file_edge e.folder e.id) s.files
+    ++ flat_map (λ e. cond (has_grants s (clear_number e.id)) (clearance_edges e.folder e.id) []) s.files
 
 -- the pairs of roles that edges join
 unfoldable pub pairs_of : List Edge → List (Role × Role)
@@ -79,7 +95,8 @@ reach_along es roles = reach same_role (pairs_of es) roles
 unfoldable pub same_edge : Edge → Edge → Bool
 same_edge a b = a.kind == b.kind && same_role a.from b.from && same_role a.to b.to
 
--- the edge stands: within a folder, between a folder and its parent, for a grant, or into a file
+-- the edge stands: within a folder, between a folder and its parent, for a grant, into a file from its folder, or at the
+-- clearance key of a file with a grant
 abbrev pub IsOwnEdge : Store → Edge → Type 0
 IsOwnEdge s e = (f : FolderEntry) × In f s.folders × In e (folder_edges f.id)
 
@@ -92,5 +109,8 @@ IsGrantEdge s e = (g : GrantEntry) × In g s.grants × (e ≡ grant_edge g.holde
 abbrev pub IsFileEdge : Store → Edge → Type 0
 IsFileEdge s e = (x : FileEntry) × In x s.files × (e ≡ file_edge x.folder x.id)
 
+abbrev pub IsClearanceEdge : Store → Edge → Type 0
+IsClearanceEdge s e = (x : FileEntry) × In x s.files × IsTrue (has_grants s (clear_number x.id)) × In e (clearance_edges x.folder x.id)
+
 abbrev pub IsEdge : Store → Edge → Type 0
-IsEdge s e = IsOwnEdge s e ⊎ (IsParentEdge s e ⊎ (IsGrantEdge s e ⊎ IsFileEdge s e))
+IsEdge s e = IsOwnEdge s e ⊎ (IsParentEdge s e ⊎ (IsGrantEdge s e ⊎ (IsFileEdge s e ⊎ IsClearanceEdge s e)))

@@ -1,6 +1,7 @@
 -- Which roles edges join, and numbers that fall along each edge.
-use Rattle.std.specs.Prelude.{◌≡◌, ℕ, ◌+◌, ◌-◌, Bool, false, ◌&&◌, ◌||◌, List, length, Option, None, Some, is_some}
+use Rattle.std.specs.Prelude.{◌≡◌, ℕ, ◌+◌, ◌-◌, Bool, false, ◌&&◌, ◌||◌, ◌==◌, List, length, Option, None, Some, is_some}
 use Rattle.std.specs.List.{list_any}
+use Rattle.cry_base.specs.Clearances.{file_of}
 use Rattle.cry_base.specs.Sets.{In}
 use Rattle.cry_base.specs.Store.{Store, GrantEntry, way_to_root, folder_entry, file_entry}
 use Rattle.cry_base.specs.declared.roles.Edge.{Edge}
@@ -9,7 +10,7 @@ use Rattle.cry_base.specs.declared.roles.Role.TheVariants.{Owner, Holder, Clear,
 use Rattle.cry_base.specs.declared.ids.FolderId.{FolderId}
 use Rattle.folder_nodes.specs.Looking.{parent_id, folder_id_of}
 use Rattle.grant_book.specs.Granted.{is_grant}
-use Rattle.role_graph.specs.Edges.{edges, folder_edges, parent_edges, grant_edge, file_edge}
+use Rattle.role_graph.specs.Edges.{edges, folder_edges, parent_edges, grant_edge, file_edge, clearance_edges}
 use Rattle.role_graph.specs.Roles.{same_role}
 
 -- an edge of the store leads from a to b
@@ -44,10 +45,23 @@ joins_file x a b (Some f) = joins a b (file_edge f.0 x)
 unfoldable pub is_into_file : Store → ℕ → Role → Role → Bool
 is_into_file s x a b = joins_file x a b (folder_id_of (file_entry s x))
 
--- whether one of the folders, grants and files with the numbers m and n of its ends has the edge
+-- whether it is among those of a file's clearance key, of the file with this clearance number
+abbrev pub joins_clearance : ℕ → Role → Role → Option FolderId → Bool
+joins_clearance x a b None = false
+joins_clearance x a b (Some f) = are_joined (clearance_edges f.0 x) a b
+
+abbrev pub joins_at_file : Store → Role → Role → Option ℕ → Bool
+joins_at_file s a b None = false
+joins_at_file s a b (Some x) = joins_clearance x a b (folder_id_of (file_entry s x))
+
+unfoldable pub is_at_clearance : Store → List GrantEntry → ℕ → Role → Role → Bool
+is_at_clearance s pairs c a b = list_any (λ g. g.folder == c) pairs && joins_at_file s a b (file_of c)
+
+-- whether one of the folders, grants, files and clearances with the numbers m and n of its ends has the edge
 unfoldable pub is_found : Store → List GrantEntry → ℕ → ℕ → Role → Role → Bool
 is_found s pairs m n a b = is_within s n a b
-    || (is_between s n a b || (is_between s m a b || (is_granted pairs m n a b || is_into_file s n a b)))
+    || (is_between s n a b || (is_between s m a b || (is_granted pairs m n a b || (is_into_file s n a b
+    || (is_at_clearance s pairs m a b || is_at_clearance s pairs n a b)))))
 
 -- how many folders are on the way from the folder up to the root, both included
 unfoldable pub levels : Store → ℕ → ℕ

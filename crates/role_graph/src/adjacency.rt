@@ -2,7 +2,7 @@
 ghost use Rattle.std.specs.Prelude.{◌≡◌, ◌++◌, map, IfOk, OnOk};
 ghost use Rattle.cry_base.specs.declared.ids.FolderId.{FolderId as AnyFolder};
 ghost use Rattle.cry_base.specs.declared.roles.Role.TheVariants.{Owner, Holder, Clear, Sub, Back, Files, Data, File};
-ghost use Rattle.role_graph.specs.Adjacent.{AreChildren, into, out_of, where_stands};
+ghost use Rattle.role_graph.specs.Adjacent.{AreChildren, into, out_of, plain_edges, where_stands};
 ghost use Rattle.role_graph.specs.Edges.{unordered};
 ghost use Rattle.role_graph.specs.PublicStore.{public_store};
 
@@ -14,10 +14,30 @@ use cry_base::{Edge, FileId, FolderId, HolderId, List, Mem, Role};
 use std::alloc::Global;
 
 impl<'a> StoreRoles<'a> {
-    /// Adds the edges out of the role: by kind, and then by the number of the role that each leads to.
+    /// Adds the edges out of the role: those of folders, grants and files, and then those of files' clearance keys.
     pub(crate) fn add_from(&self, alloc: Global, found: &mut Vec<Edge>, role: Role) -> Mem<()>
         ensures { OnOk result (found.new.items
             ≡ found.old.items ++ out_of (unordered (public_store self.now.shape.now.tree self.now.grants.now.pairs)) role) }
+    {
+        self.add_plain_from(alloc, found, role)?;
+        self.add_clearances_from(found, role)?;
+        Ok(())
+    }
+
+    /// Adds the edges into the role, likewise.
+    pub(crate) fn add_into(&self, alloc: Global, found: &mut Vec<Edge>, role: Role) -> Mem<()>
+        ensures { OnOk result (found.new.items
+            ≡ found.old.items ++ into (unordered (public_store self.now.shape.now.tree self.now.grants.now.pairs)) role) }
+    {
+        self.add_plain_into(alloc, found, role)?;
+        self.add_clearances_into(alloc, found, role)?;
+        Ok(())
+    }
+
+    /// Adds the edges of folders, grants and files out of the role: by kind, and then by the number that each leads to.
+    fn add_plain_from(&self, alloc: Global, found: &mut Vec<Edge>, role: Role) -> Mem<()>
+        ensures { OnOk result (found.new.items
+            ≡ found.old.items ++ out_of (plain_edges (public_store self.now.shape.now.tree self.now.grants.now.pairs)) role) }
     {
         self.shape.is_tree();
         match role {
@@ -32,10 +52,10 @@ impl<'a> StoreRoles<'a> {
         }
     }
 
-    /// Adds the edges into the role: by kind, and then by the number of the role that each leads from.
-    pub(crate) fn add_into(&self, alloc: Global, found: &mut Vec<Edge>, role: Role) -> Mem<()>
+    /// Adds those into the role: by kind, and then by the number that each leads from.
+    fn add_plain_into(&self, alloc: Global, found: &mut Vec<Edge>, role: Role) -> Mem<()>
         ensures { OnOk result (found.new.items
-            ≡ found.old.items ++ into (unordered (public_store self.now.shape.now.tree self.now.grants.now.pairs)) role) }
+            ≡ found.old.items ++ into (plain_edges (public_store self.now.shape.now.tree self.now.grants.now.pairs)) role) }
     {
         self.shape.is_tree();
         match role {
@@ -52,7 +72,7 @@ impl<'a> StoreRoles<'a> {
 
     fn from_owner(&self, found: &mut Vec<Edge>) -> Mem<()>
         ensures { OnOk result (found.new.items
-            ≡ found.old.items ++ out_of (unordered (public_store self.now.shape.now.tree self.now.grants.now.pairs)) Owner) }
+            ≡ found.old.items ++ out_of (plain_edges (public_store self.now.shape.now.tree self.now.grants.now.pairs)) Owner) }
     {
         self.shape.is_tree();
         found.reserve(self.shape.folder_count())?;
@@ -62,7 +82,7 @@ impl<'a> StoreRoles<'a> {
 
     fn from_holder(&self, found: &mut Vec<Edge>, h: HolderId) -> Mem<()>
         ensures { OnOk result (found.new.items
-            ≡ found.old.items ++ out_of (unordered (public_store self.now.shape.now.tree self.now.grants.now.pairs)) (Holder h)) }
+            ≡ found.old.items ++ out_of (plain_edges (public_store self.now.shape.now.tree self.now.grants.now.pairs)) (Holder h)) }
     {
         self.shape.is_tree();
         let folders = self.grants.of_holder(h)?;
@@ -72,7 +92,7 @@ impl<'a> StoreRoles<'a> {
 
     fn from_clear(&self, found: &mut Vec<Edge>, f: FolderId) -> Mem<()>
         ensures { OnOk result (found.new.items
-            ≡ found.old.items ++ out_of (unordered (public_store self.now.shape.now.tree self.now.grants.now.pairs)) (Clear f)) }
+            ≡ found.old.items ++ out_of (plain_edges (public_store self.now.shape.now.tree self.now.grants.now.pairs)) (Clear f)) }
     {
         self.shape.is_tree();
         self.add_within(found, f, &[kinds::clear_to_sub(f)])?;
@@ -81,7 +101,7 @@ impl<'a> StoreRoles<'a> {
 
     fn from_sub(&self, alloc: Global, found: &mut Vec<Edge>, f: FolderId) -> Mem<()>
         ensures { OnOk result (found.new.items
-            ≡ found.old.items ++ out_of (unordered (public_store self.now.shape.now.tree self.now.grants.now.pairs)) (Sub f)) }
+            ≡ found.old.items ++ out_of (plain_edges (public_store self.now.shape.now.tree self.now.grants.now.pairs)) (Sub f)) }
     {
         self.shape.is_tree();
         let own = [kinds::sub_to_back(f), kinds::sub_to_files(f)];
@@ -93,7 +113,7 @@ impl<'a> StoreRoles<'a> {
 
     fn from_back(&self, found: &mut Vec<Edge>, f: FolderId) -> Mem<()>
         ensures { OnOk result (found.new.items
-            ≡ found.old.items ++ out_of (unordered (public_store self.now.shape.now.tree self.now.grants.now.pairs)) (Back f)) }
+            ≡ found.old.items ++ out_of (plain_edges (public_store self.now.shape.now.tree self.now.grants.now.pairs)) (Back f)) }
     {
         self.shape.is_tree();
         self.add_within(found, f, &[kinds::back_to_data(f)])?;
@@ -106,7 +126,7 @@ impl<'a> StoreRoles<'a> {
 
     fn from_files(&self, alloc: Global, found: &mut Vec<Edge>, f: FolderId) -> Mem<()>
         ensures { OnOk result (found.new.items
-            ≡ found.old.items ++ out_of (unordered (public_store self.now.shape.now.tree self.now.grants.now.pairs)) (Files f)) }
+            ≡ found.old.items ++ out_of (plain_edges (public_store self.now.shape.now.tree self.now.grants.now.pairs)) (Files f)) }
     {
         self.shape.is_tree();
         let files = self.shape.files_in(alloc, f)?;
@@ -116,7 +136,7 @@ impl<'a> StoreRoles<'a> {
 
     fn into_clear(&self, found: &mut Vec<Edge>, f: FolderId) -> Mem<()>
         ensures { OnOk result (found.new.items
-            ≡ found.old.items ++ into (unordered (public_store self.now.shape.now.tree self.now.grants.now.pairs)) (Clear f)) }
+            ≡ found.old.items ++ into (plain_edges (public_store self.now.shape.now.tree self.now.grants.now.pairs)) (Clear f)) }
     {
         self.shape.is_tree();
         let holders = self.grants.of_folder(f)?;
@@ -127,7 +147,7 @@ impl<'a> StoreRoles<'a> {
 
     fn into_sub(&self, found: &mut Vec<Edge>, f: FolderId) -> Mem<()>
         ensures { OnOk result (found.new.items
-            ≡ found.old.items ++ into (unordered (public_store self.now.shape.now.tree self.now.grants.now.pairs)) (Sub f)) }
+            ≡ found.old.items ++ into (plain_edges (public_store self.now.shape.now.tree self.now.grants.now.pairs)) (Sub f)) }
     {
         self.shape.is_tree();
         self.add_within(found, f, &[kinds::clear_to_sub(f)])?;
@@ -140,7 +160,7 @@ impl<'a> StoreRoles<'a> {
 
     fn into_back(&self, alloc: Global, found: &mut Vec<Edge>, f: FolderId) -> Mem<()>
         ensures { OnOk result (found.new.items
-            ≡ found.old.items ++ into (unordered (public_store self.now.shape.now.tree self.now.grants.now.pairs)) (Back f)) }
+            ≡ found.old.items ++ into (plain_edges (public_store self.now.shape.now.tree self.now.grants.now.pairs)) (Back f)) }
     {
         self.shape.is_tree();
         self.add_within(found, f, &[kinds::sub_to_back(f)])?;
@@ -151,7 +171,7 @@ impl<'a> StoreRoles<'a> {
 
     fn into_files(&self, found: &mut Vec<Edge>, f: FolderId) -> Mem<()>
         ensures { OnOk result (found.new.items
-            ≡ found.old.items ++ into (unordered (public_store self.now.shape.now.tree self.now.grants.now.pairs)) (Files f)) }
+            ≡ found.old.items ++ into (plain_edges (public_store self.now.shape.now.tree self.now.grants.now.pairs)) (Files f)) }
     {
         self.shape.is_tree();
         self.add_within(found, f, &[kinds::sub_to_files(f)])?;
@@ -160,7 +180,7 @@ impl<'a> StoreRoles<'a> {
 
     fn into_data(&self, found: &mut Vec<Edge>, f: FolderId) -> Mem<()>
         ensures { OnOk result (found.new.items
-            ≡ found.old.items ++ into (unordered (public_store self.now.shape.now.tree self.now.grants.now.pairs)) (Data f)) }
+            ≡ found.old.items ++ into (plain_edges (public_store self.now.shape.now.tree self.now.grants.now.pairs)) (Data f)) }
     {
         self.shape.is_tree();
         self.add_within(found, f, &[kinds::back_to_data(f)])?;
@@ -169,7 +189,7 @@ impl<'a> StoreRoles<'a> {
 
     fn into_file(&self, found: &mut Vec<Edge>, x: FileId) -> Mem<()>
         ensures { OnOk result (found.new.items
-            ≡ found.old.items ++ into (unordered (public_store self.now.shape.now.tree self.now.grants.now.pairs)) (File x)) }
+            ≡ found.old.items ++ into (plain_edges (public_store self.now.shape.now.tree self.now.grants.now.pairs)) (File x)) }
     {
         self.shape.is_tree();
         let Some(f) = self.shape.folder_of(x) else {

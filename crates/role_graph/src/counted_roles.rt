@@ -1,6 +1,6 @@
 //! The edges of a shape and grants, looked up by counted calls alone.
 ghost use Rattle.std.specs.Prelude.{◌≡◌, ◌+◌};
-ghost use Rattle.role_graph.specs.PublicStore.{public_store};
+ghost use Rattle.role_graph.specs.PublicStore.{FoldersBelow, public_store};
 
 use crate::{Adjacent, StoreRoles};
 use cry_base::{Edge, Mem, Role, Steps};
@@ -18,7 +18,7 @@ pub struct CountedRoles<'a> {
 
 impl<'a> Model for CountedRoles<'a> {
     ghost use Rattle.role_graph.specs.LookedUp.{LookedUp};
-    ghost use Rattle.role_graph.specs.PublicStore.{public_store};
+    ghost use Rattle.role_graph.specs.PublicStore.{FoldersBelow, public_store};
 
     ghost Value = { LookedUp };
 
@@ -26,11 +26,14 @@ impl<'a> Model for CountedRoles<'a> {
       store = public_store r.roles.shape.now.tree r.roles.grants.now.pairs;
       steps = r.steps;
     } };
+
+    ghost invariant = { λ r. FoldersBelow r.roles.shape.now.tree };
 }
 
 impl<'a> CountedRoles<'a> {
-    /// The roles of these, counted on from a count.
+    /// The roles of these, counted on from a count. No folder has a clearance number.
     pub fn new(shape: &'a Shape, grants: &'a Grants, steps: Steps) -> Self
+        requires { FoldersBelow shape.now.tree }
         ensures { result ≡ record { store = public_store shape.now.tree grants.now.pairs; steps = steps } }
     {
         CountedRoles {

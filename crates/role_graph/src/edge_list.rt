@@ -1,16 +1,18 @@
 //! The edges of all that stands, in their order.
-ghost use Rattle.std.specs.Prelude.{◌≡◌, ◌==◌, ◌++◌, [], cond, map, IfOk, OnOk};
-ghost use Rattle.std.specs.List.{flat_map};
+ghost use Rattle.std.specs.Prelude.{◌≡◌, ◌<◌, ◌==◌, ◌++◌, [], cond, map, IfOk, OnOk};
+ghost use Rattle.std.specs.List.{flat_map, list_any};
+ghost use Rattle.cry_base.specs.Clearances.{clear_base, clear_number as number_of_file};
 ghost use Rattle.role_graph.specs.Edges as spec;
 ghost use Rattle.role_graph.specs.Edges.{edges as edges_of, edge_before, in_order, unordered, folder_edges, parent_edges, grant_edge};
-ghost use Rattle.role_graph.specs.Edges.{file_edge};
+ghost use Rattle.role_graph.specs.Edges.{clearance_edges, file_edge};
 ghost use Rattle.role_graph.specs.PublicStore.{public_store};
 ghost use Rattle.role_graph.specs.Roles.{role_id};
 
+use crate::clearances::clearance_of;
 use crate::kinds;
-use cry_base::{Edge, FolderId, List, Mem, Role};
+use cry_base::{Edge, FileId, FolderId, List, Mem, Role};
 use folder_nodes::{FileRow, FolderRow, Shape};
-use grant_book::{Grant, Grants};
+use grant_book::{Grant, Grants, clear_number};
 use sorted_table::Walk;
 use std::alloc::Global;
 
@@ -41,6 +43,7 @@ fn unordered_edges(alloc: Global, shape: &Shape, grants: &Grants) -> Mem<Vec<Edg
     push_between(&mut all, shape.folders())?;
     push_grants(&mut all, grants.pairs())?;
     push_files(&mut all, shape.files())?;
+    push_clearances(&mut all, grants, shape.files())?;
     Ok(all)
 }
 
@@ -96,6 +99,28 @@ fn push_files(all: &mut Vec<Edge>, files: Walk<'_, FileRow>) -> Mem<()>
     Ok(())
 }
 
+/// Adds the edges of the clearance key of each file with a grant.
+fn push_clearances(all: &mut Vec<Edge>, grants: &Grants, files: Walk<'_, FileRow>) -> Mem<()>
+    ensures { OnOk result (all.new.items ≡ all.old.items ++ flat_map (λ r.
+        cond (list_any (λ g. g.folder == number_of_file r.id.0) grants.now.pairs) (clearance_edges r.folder.0 r.id.0) []) files.entry) }
+{
+    for file in files {
+        push_clearance(all, grants, file)?;
+    }
+    Ok(())
+}
+
+/// Adds the edges of the file's clearance key, where it has a grant.
+fn push_clearance(all: &mut Vec<Edge>, grants: &Grants, file: &FileRow) -> Mem<()>
+    ensures { OnOk result (all.new.items ≡ all.old.items
+        ++ cond (list_any (λ g. g.folder == number_of_file file.now.id.0) grants.now.pairs) (clearance_edges file.now.folder.0 file.now.id.0) []) }
+{
+    if clearance_of(grants, file.id).is_some() {
+        all.extend_from_slice(&edges_at_clearance(file.folder, file.id))?;
+    }
+    Ok(())
+}
+
 /// The edges of a folder within itself, in their order.
 #[tactic(auto, unfolding(crate::specs::Edges::folder_edges, crate::specs::Edges::edge, crate::specs::Roles::clear_of, crate::specs::Roles::sub_of, crate::specs::Roles::back_of, crate::specs::Roles::files_of, crate::specs::Roles::data_of))]
 pub fn edges_within(f: FolderId) -> [Edge; 5]
@@ -116,6 +141,20 @@ pub fn edges_between(f: FolderId, parent: FolderId) -> [Edge; 2]
     ensures { result ≡ parent_edges f.0 parent.0 }
 {
     [kinds::sub_to_sub(parent, f), kinds::back_to_back(f, parent)]
+}
+
+/// The edges of the clearance key of a file in the folder, in their order.
+#[tactic(auto, unfolding(crate::specs::Edges::clearance_edges, crate::specs::Edges::edge, crate::specs::Roles::clear_of, crate::specs::Roles::back_of, crate::specs::Roles::file_role))]
+pub fn edges_at_clearance(f: FolderId, x: FileId) -> [Edge; 3]
+    requires { x.0 < clear_base }
+    ensures { result ≡ clearance_edges f.0 x.0 }
+{
+    let c = clear_number(x);
+    [
+        kinds::owner_to_clear(c),
+        kinds::clearance_to_file(c, x),
+        kinds::clearance_to_back(c, f),
+    ]
 }
 
 #[tactic(auto, unfolding(crate::specs::Edges::grant_edge, crate::specs::Edges::edge, crate::specs::Roles::holder_role, crate::specs::Roles::clear_of))]

@@ -1,4 +1,4 @@
-//! An edge of each of the nine kinds (docs/FORMAT.md, "Kinds of links"). No other place says which kind has which ends.
+//! An edge of each of the eleven kinds (docs/FORMAT.md, "Kinds of links"). No other place says which kind has which ends.
 ghost use Rattle.std.specs.Prelude.{◌≡◌};
 ghost use Rattle.role_graph.specs.Edges as spec;
 ghost use Rattle.role_graph.specs.Roles.{back_of, clear_of, data_of, file_role, files_of, holder_role, sub_of};
@@ -19,7 +19,7 @@ fn edge<A: LinksTo<B>, B: KeyKind>(from: Role, to: Role) -> Edge
     }
 }
 
-/// From the owner's key to a folder's clearance key.
+/// From the owner's key to a clearance key, of a folder or of a file with a grant.
 #[tactic(auto, unfolding(crate::specs::Roles::clear_of))]
 pub fn owner_to_clear(f: FolderId) -> Edge
     ensures { result ≡ spec.edge 1 Owner (clear_of f.0) }
@@ -27,7 +27,7 @@ pub fn owner_to_clear(f: FolderId) -> Edge
     edge::<OwnerK, ClearK>(Role::Owner, Role::Clear(f))
 }
 
-/// From a holder's key to the clearance key of a folder that is granted to the holder.
+/// From a holder's key to the clearance key of a folder or a file that is granted to the holder.
 #[tactic(auto, unfolding(crate::specs::Roles::holder_role, crate::specs::Roles::clear_of))]
 pub fn holder_to_clear(h: HolderId, f: FolderId) -> Edge
     ensures { result ≡ spec.edge 2 (holder_role h.0) (clear_of f.0) }
@@ -89,4 +89,20 @@ pub fn files_to_file(f: FolderId, x: FileId) -> Edge
     ensures { result ≡ spec.edge 9 (files_of f.0) (file_role x.0) }
 {
     edge::<FilesK, FileK>(Role::Files(f), Role::File(x))
+}
+
+/// From a file's clearance key, which has this number, to the file's key.
+#[tactic(auto, unfolding(crate::specs::Roles::clear_of, crate::specs::Roles::file_role))]
+pub fn clearance_to_file(c: FolderId, x: FileId) -> Edge
+    ensures { result ≡ spec.edge 10 (clear_of c.0) (file_role x.0) }
+{
+    edge::<ClearK, FileK>(Role::Clear(c), Role::File(x))
+}
+
+/// From a file's clearance key, which has this number, to the backlink key of the folder that the file is in.
+#[tactic(auto, unfolding(crate::specs::Roles::clear_of, crate::specs::Roles::back_of))]
+pub fn clearance_to_back(c: FolderId, f: FolderId) -> Edge
+    ensures { result ≡ spec.edge 11 (clear_of c.0) (back_of f.0) }
+{
+    edge::<ClearK, BackK>(Role::Clear(c), Role::Back(f))
 }

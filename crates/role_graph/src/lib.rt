@@ -3,6 +3,7 @@
 
 mod adjacency;
 mod adjacent;
+mod clearances;
 mod counted_roles;
 mod edge_list;
 pub mod key_laws;
@@ -21,10 +22,13 @@ mod walking;
 mod way;
 
 pub use adjacent::Adjacent;
+pub use clearances::clearance_of;
 pub use counted_roles::CountedRoles;
-pub use edge_list::{edges, edges_between, edges_within, in_their_order, number_of};
+pub use edge_list::{
+    edges, edges_at_clearance, edges_between, edges_within, in_their_order, number_of,
+};
 pub use reaching::{leading_to, reach, reach_back};
-pub use rights::{allowed, named};
+pub use rights::{allowed, granted_place, named};
 pub use role_set::RoleSet;
 pub use roles::Roles;
 pub use store_roles::StoreRoles;

@@ -3,7 +3,7 @@ ghost use Rattle.std.specs.Prelude.{◌≡◌, ◌<◌, ◌↔◌, ℕ, Bool, Is
 ghost use Rattle.cry_base.specs.declared.roles.Role.{Role as AnyRole};
 ghost use Rattle.kind_table.specs.Kinds.{kind_of};
 ghost use Rattle.kind_table.specs.Rows.{Allows};
-ghost use Rattle.kind_table.specs.declared.nine.TheConstants.{NINE};
+ghost use Rattle.kind_table.specs.declared.eleven.TheConstants.{ELEVEN};
 
 use cry_base::Role;
 
@@ -31,5 +31,5 @@ pub trait Roles {
     fn laws(&self)
         ensures no_root { (a b : AnyRole) → HasEdge self.now a b → is_root b ≡ false }
         ensures falls { (a b : AnyRole) → HasEdge self.now a b → rank self.now b < rank self.now a }
-        ensures tabled { (a b : AnyRole) → HasEdge self.now a b → Allows NINE.rows (kind_of a) (kind_of b) };
+        ensures tabled { (a b : AnyRole) → HasEdge self.now a b → Allows ELEVEN.rows (kind_of a) (kind_of b) };
 }

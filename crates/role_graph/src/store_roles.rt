@@ -1,23 +1,27 @@
 //! The edges of a shape and grants, looked up without a list of them.
-ghost use Rattle.std.specs.Prelude.{◌≡◌, ◌≤◌};
+ghost use Rattle.std.specs.Prelude.{◌≡◌, ◌≤◌, ◌<◌};
 ghost use Rattle.cry_base.specs.Limits.{most_way};
 ghost use Rattle.role_graph.specs.Joined as spec;
-ghost use Rattle.role_graph.specs.Joined.{joins, are_joined, is_within, is_between, is_granted, is_into_file, is_found, levels, rank_of};
+ghost use Rattle.cry_base.specs.Clearances.{clear_base};
+ghost use Rattle.cry_base.specs.Store.{file_entry};
+ghost use Rattle.folder_nodes.specs.Looking.{folder_id_of};
+ghost use Rattle.role_graph.specs.Joined.{joins, are_joined, is_within, is_between, is_granted, is_into_file, is_at_clearance, is_found};
+ghost use Rattle.role_graph.specs.Joined.{joins_clearance, levels, rank_of};
 ghost use Rattle.role_graph.specs.PublicStore.{public_store};
 ghost use Rattle.role_graph.specs.Roles.{is_root_role};
 
-use crate::edge_list::{edges_between, edges_within, number_of};
+use crate::edge_list::{edges_at_clearance, edges_between, edges_within, number_of};
 use crate::{Roles, kinds};
 use cry_base::{Edge, FileId, FolderId, HolderId, Role};
 use folder_nodes::Shape;
-use grant_book::Grants;
+use grant_book::{Grants, file_of};
 
 /// The roles of a shape's folders and files, and of the holders of grants. It takes no memory.
 #[derive(Clone, Copy)]
 pub struct StoreRoles<'a> {
     /// The folders and the files.
     pub shape: &'a Shape,
-    /// Who was granted which folder.
+    /// Who was granted which folder or file.
     pub grants: &'a Grants,
 }
 
@@ -56,7 +60,7 @@ impl<'a> Roles for StoreRoles<'a> {
 }
 
 impl<'a> StoreRoles<'a> {
-    /// Whether the edge is among those that folders, grants and files with the numbers of its ends have.
+    /// Whether the edge is among those that folders, grants, files and clearances with the numbers of its ends have.
     #[tactic(auto, unfolding(crate::specs::Joined::is_found))]
     fn is_found(&self, a: u32, b: u32, from: Role, to: Role) -> bool
         ensures { result ≡ is_found self.now.shape.now.tree self.now.grants.now.pairs a b from to }
@@ -64,7 +68,10 @@ impl<'a> StoreRoles<'a> {
         self.is_within(b, from, to)
             || (self.is_between(b, from, to)
                 || (self.is_between(a, from, to)
-                    || (self.is_granted(a, b, from, to) || self.is_into_file(b, from, to))))
+                    || (self.is_granted(a, b, from, to)
+                        || (self.is_into_file(b, from, to)
+                            || (self.is_at_clearance(a, from, to)
+                                || self.is_at_clearance(b, from, to))))))
     }
 
     /// Whether the edge is one of the folder's own.
@@ -105,6 +112,32 @@ impl<'a> StoreRoles<'a> {
         let x = FileId(x);
         match self.shape.folder_of(x) {
             Some(f) => is_joined(&kinds::files_to_file(f, x), from, to),
+            None => false,
+        }
+    }
+
+    /// Whether the edge is one at the clearance key with the number, of a file with a grant.
+    #[tactic(auto, unfolding(crate::specs::Joined::is_at_clearance))]
+    fn is_at_clearance(&self, c: u32, from: Role, to: Role) -> bool
+        ensures { result ≡ is_at_clearance self.now.shape.now.tree self.now.grants.now.pairs c from to }
+    {
+        let c = FolderId(c);
+        if !self.grants.has_on(c) {
+            return false;
+        }
+        match file_of(c) {
+            Some(x) => self.joins_clearance(x, from, to),
+            None => false,
+        }
+    }
+
+    /// Whether the edge is one of the file's clearance key, where the file stands.
+    fn joins_clearance(&self, x: FileId, from: Role, to: Role) -> bool
+        requires { x.0 < clear_base }
+        ensures { result ≡ joins_clearance x.0 from to (folder_id_of (file_entry self.now.shape.now.tree x.0)) }
+    {
+        match self.shape.folder_of(x) {
+            Some(f) => has_joined(&edges_at_clearance(f, x), from, to),
             None => false,
         }
     }

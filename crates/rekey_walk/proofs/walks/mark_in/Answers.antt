@@ -1,7 +1,6 @@
-use Rattle.std.proofs.Common.{◌≡◌, ◌+◌, ◌*◌, ◌≤◌, [], ◌∷◌, length}
+use Rattle.std.proofs.Common.{◌≡◌, [], ◌∷◌}
 use Rattle.std.proofs.lemmas.Result.{IfOk-weaker}
 use Rattle.cry_base.specs.Store.{Store}
-use Rattle.role_graph.specs.Adjacent.{count_from}
 use Rattle.role_graph.specs.Edges.{edges, reach_along}
 use Rattle.rekey_walk.specs.Dirty.{IsJoined, mark}
 use Rattle.rekey_walk.proofs.ByWalks.{is_marked, mark_walked, marked_whole}

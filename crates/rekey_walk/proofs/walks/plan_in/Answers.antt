@@ -1,10 +1,10 @@
-use Rattle.std.proofs.Common.{◌≡◌, ◌==◌, ◌+◌, ◌*◌, ◌≤◌, List, length, filter, sym, ap, ◌∙◌}
+use Rattle.std.proofs.Common.{◌≡◌, ◌==◌, List, length, filter, sym, ap, ◌∙◌}
 use Rattle.std.proofs.lemmas.Result.{IfOk-weaker}
 use Rattle.cry_base.specs.Listed.{Listed}
 use Rattle.cry_base.specs.Sets.{has}
 use Rattle.cry_base.specs.Store.{Store}
 use Rattle.cry_base.specs.declared.roles.Role.{Role}
-use Rattle.role_graph.specs.Adjacent.{count_into, edges_but}
+use Rattle.role_graph.specs.Adjacent.{edges_but}
 use Rattle.role_graph.specs.Closing.{turned}
 use Rattle.role_graph.specs.Edges.{edges, reach_along}
 use Rattle.role_graph.specs.Roles.{same_role}

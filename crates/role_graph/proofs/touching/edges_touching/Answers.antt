@@ -13,7 +13,7 @@ returns-clause-edges g c =
     let sorted : c.deref.result.now ≡ in_order edge_before (at_roles (unordered s) rs) =
     c.deref.ensures.value ∙ c.in_ok-sort.ensures ∙ ap (λ (l : List Edge). in_order edge_before l) c.in_ok-found.ensures.edges in
     IfOk-weaker c.each_once.result (λ l. l.items ≡ once_after None c.deref.result.now) (λ l. l.items ≡ filter (touches rs) (edges s))
-    (λ l e. e ∙ ap (λ (x : List Edge). once_after None x) sorted ∙ touching_is s c.laws.ensures.tree c.laws.ensures.ordered rs) c.each_once.ensures
+    (λ l e. e ∙ ap (λ (x : List Edge). once_after None x) sorted ∙ touching_is s c.laws.ensures.tree c.laws.ensures.below c.laws.ensures.ordered rs) c.each_once.ensures
 
 pub returns-clause-steps : goal.returns-clause-steps
 returns-clause-steps g c =

@@ -1,4 +1,4 @@
-use Rattle.std.proofs.Common.{◌≡◌, ◌↔◌, ◌+◌, ◌*◌, ◌≤◌, ◌<◌, List, length, get_or, arith, refl, sym, ap, ◌∙◌, subst}
+use Rattle.std.proofs.Common.{◌≡◌, ◌↔◌, ◌+◌, ◌≤◌, ◌<◌, List, length, get_or, arith, refl, sym, ap, ◌∙◌, subst}
 use Rattle.std.specs.Prelude.{option_copied}
 use Rattle.std.proofs.lemmas.Result.{IfOk-weaker}
 use Rattle.cry_base.specs.Sets.{In}
@@ -6,7 +6,7 @@ use Rattle.cry_base.specs.Store.{Store}
 use Rattle.cry_base.specs.declared.roles.Edge.{Edge}
 use Rattle.cry_base.specs.declared.roles.Role.{Role}
 use Rattle.cry_base.specs.declared.roles.Role.TheVariants.{Owner}
-use Rattle.role_graph.specs.Adjacent.{HaveSame, as_walked, count_from, edges_but, ending_in, ends_from, out_of, roles_in, with_new}
+use Rattle.role_graph.specs.Adjacent.{HaveSame, as_walked, edges_but, ending_in, ends_from, out_of, roles_in, with_new}
 use Rattle.role_graph.specs.Closing.{IsReached}
 use Rattle.role_graph.specs.Edges.{unordered}
 use Rattle.role_graph.proofs.Walked.{ends_in, fewer_ends, fewer_in, walk_begins, walk_bounded, look_costs, walk_costs, walk_ends, walk_goes_on}

@@ -1,26 +1,13 @@
-use Rattle.std.proofs.Common.{◌≡◌, List, [], ◌++◌, sym, ap, ◌∙◌, subst, append-nil}
-use Rattle.cry_base.specs.Store.{Store}
-use Rattle.cry_base.specs.declared.roles.Edge.{Edge}
-use Rattle.cry_base.specs.declared.roles.Role.{Role}
-use Rattle.role_graph.specs.Adjacent.{into}
+use Rattle.role_graph.specs.Adjacent.{clearances, into, plain_edges}
 use Rattle.role_graph.specs.Edges.{unordered}
 use Rattle.role_graph.specs.PublicStore.{public_store}
-use Rattle.role_graph.proofs.Falling.{tree_public}
-use Rattle.role_graph.proofs.RoleEdges.{owner_into, holder_into}
+use Rattle.role_graph.proofs.AtClearances.{into_both}
+use Rattle.role_graph.proofs.RoleEdges.{added_twice}
 use Rattle.role_graph.proofs.store_roles.StoreRoles.add_into.Goals as goal
 
-pub returns-in-Owner : goal.returns-in-Owner
-returns-in-Owner c =
-    let tree = c.args.self.now.shape.now.tree in
-    let pairs = c.args.self.now.grants.now.pairs in
-    let s : Store = public_store tree pairs in
-    sym (append-nil c.args.found.now.items)
-    ∙ ap (λ (l : List Edge). c.args.found.now.items ++ l) (subst (λ (r : Role). [] ≡ into (unordered s) r) (sym c.in-Owner.is) (owner_into s (tree_public tree pairs c.is_tree.ensures)))
-
-pub returns-in-Holder : goal.returns-in-Holder
-returns-in-Holder c =
-    let tree = c.args.self.now.shape.now.tree in
-    let pairs = c.args.self.now.grants.now.pairs in
-    let s : Store = public_store tree pairs in
-    sym (append-nil c.args.found.now.items)
-    ∙ ap (λ (l : List Edge). c.args.found.now.items ++ l) (subst (λ (r : Role). [] ≡ into (unordered s) r) (sym c.in-Holder.is) (holder_into s (tree_public tree pairs c.is_tree.ensures) _))
+pub returns : goal.returns
+returns c =
+    let s = public_store c.args.self.now.shape.now.tree c.args.self.now.grants.now.pairs in
+    let r = c.args.role in
+    added_twice c.args.found.now.items (into (plain_edges s) r) (into (clearances s) r) (into (unordered s) r)
+    c.add_plain_into.new.found.items c.add_clearances_into.new.found.items c.in_ok-add_plain_into.ensures c.in_ok-add_clearances_into.ensures (into_both s r)
