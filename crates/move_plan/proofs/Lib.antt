@@ -2,3 +2,4 @@ pub mod Noting
 pub mod Public
 pub mod Seeing
 pub mod Inside
+pub mod Cleared

@@ -1,5 +1,6 @@
 -- Which notes fit a store. This project's own, docs/FORMAT.md, "The key step".
-use Rattle.std.specs.Prelude.{ℕ, ◌+◌, Bool, true, false, not, ◌&&◌, ◌||◌, nat_lt, nat_le, ◌==◌, is_some, Some, [], map}
+use Rattle.std.specs.Prelude.{ℕ, ◌+◌, Bool, true, false, not, ◌&&◌, ◌||◌, nat_lt, nat_le, ◌==◌, is_some, Option, Some, None, [], map}
+use Rattle.cry_base.specs.Clearances.{clear_base, file_of}
 use Rattle.cry_base.specs.Limits.{most_depth}
 use Rattle.cry_base.specs.Refusing.{has_child, height_of}
 use Rattle.cry_base.specs.Store.{Store, FolderEntry, FileEntry, HolderEntry, folder_node, folder_entry, file_entry, holder_entry, has_grant}
@@ -19,6 +20,22 @@ has_depth_left s f = folder_stands s f && nat_lt (depth_of s (folder_node f)) mo
 unfoldable pub file_stands : Store → ℕ → Bool
 file_stands s x = is_some (file_entry s x)
 
+-- the number is the clearance number of a file that stands
+unfoldable pub is_file_there : Store → Option ℕ → Bool
+is_file_there s None = false
+is_file_there s (Some x) = file_stands s x
+
+unfoldable pub clear_stands : Store → ℕ → Bool
+clear_stands s f = is_file_there s (file_of f)
+
+-- something with the number may be granted: a folder, and in a store of version 2 a file
+unfoldable pub may_be_granted : Bool → Store → ℕ → Bool
+may_be_granted strict s f = folder_stands s f || (strict && clear_stands s f)
+
+-- the number is the next one, and no clearance number
+unfoldable pub is_next_below : ℕ → ℕ → Bool
+is_next_below number made = number == made + 1 && nat_lt number clear_base
+
 -- the root is folder 1
 unfoldable pub is_other_folder : Store → ℕ → Bool
 is_other_folder s f = folder_stands s f && not (f == 1)
@@ -34,8 +51,8 @@ may_go_into s g q =
 unfoldable pub row_fits : Bool → Store → Note → Bool
 row_fits strict s Root = s.folders_made == 0
 row_fits strict s (NewHolder h check) = h == s.holders_made + 1
-row_fits strict s (NewFolder f p) = f == s.folders_made + 1 && has_depth_left s p
-row_fits strict s (NewFile x f) = x == s.files_made + 1 && has_depth_left s f
+row_fits strict s (NewFolder f p) = is_next_below f s.folders_made && has_depth_left s p
+row_fits strict s (NewFile x f) = is_next_below x s.files_made && has_depth_left s f
 row_fits strict s (Rewrite x) = file_stands s x
 row_fits strict s (NameFile x) = file_stands s x
 row_fits strict s (NameFolder f) = is_other_folder s f
@@ -43,7 +60,7 @@ row_fits strict s (DropFile x) = file_stands s x
 row_fits strict s (DropFolder f) = is_other_folder s f && not (has_child s f)
 row_fits strict s (ShiftFile x g) = file_stands s x && has_depth_left s g && not (folder_of_file s x == g)
 row_fits strict s (ShiftFolder g q) = may_go_into s g q
-row_fits strict s (Give h f) = is_some (holder_entry s h) && folder_stands s f && not (has_grant s h f)
+row_fits strict s (Give h f) = is_some (holder_entry s h) && may_be_granted strict s f && not (has_grant s h f)
 row_fits strict s (Take h f) = has_grant s h f
 row_fits strict s StrictRoot = s.folders_made == 0
 row_fits strict s Upgrade = not strict

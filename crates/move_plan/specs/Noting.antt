@@ -4,7 +4,7 @@ use Rattle.cry_base.specs.Naming.{parent_path}
 use Rattle.cry_base.specs.Requests.{Request}
 use Rattle.cry_base.specs.Requests.Request.{AddHolder, MakeFolder, WriteFile, Remove, Rename, Relocate, Grant, Revoke}
 use Rattle.cry_base.specs.Store.{Store, node_at}
-use Rattle.cry_base.specs.Refusing.{id_of}
+use Rattle.cry_base.specs.Refusing.{granted_id, id_of}
 use Rattle.cry_base.specs.declared.roles.Node.{Node}
 use Rattle.cry_base.specs.declared.roles.Node.TheVariants.{Folder, File}
 use Rattle.record_format.specs.Noted.{Note}
@@ -41,5 +41,5 @@ note_of s (WriteFile path bytes) check = write_note s (node_at s path) (id_of (n
 note_of s (Remove path) check = remove_note (node_at s path)
 note_of s (Rename path name) check = rename_note (node_at s path)
 note_of s (Relocate path into) check = move_note (node_at s path) (id_of (node_at s into))
-note_of s (Grant holder path) check = Give holder (id_of (node_at s path))
-note_of s (Revoke holder path) check = Take holder (id_of (node_at s path))
+note_of s (Grant holder path) check = Give holder (granted_id (node_at s path))
+note_of s (Revoke holder path) check = Take holder (granted_id (node_at s path))

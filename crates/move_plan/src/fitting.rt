@@ -6,14 +6,16 @@ ghost use Rattle.cry_base.specs.Store.{depth_of, folder_entry, folder_node, is_w
 ghost use Rattle.grant_book.specs.Granted.{is_grant};
 ghost use Rattle.grant_book.specs.Refused.{is_holder};
 ghost use Rattle.move_plan.specs.Change.{folder_of_file, parent_of_folder};
-ghost use Rattle.move_plan.specs.Fitting.{file_stands, folder_stands, fits as fits_store, has_depth_left as has_depth_below};
-ghost use Rattle.move_plan.specs.Fitting.{is_other_folder as is_other, needs_root, row_fits as row_of_note};
+ghost use Rattle.move_plan.specs.Fitting.{clear_stands as has_clear_number, file_stands, folder_stands, fits as fits_store};
+ghost use Rattle.move_plan.specs.Fitting.{has_depth_left as has_depth_below, is_next_below as is_next_number};
+ghost use Rattle.move_plan.specs.Fitting.{is_other_folder as is_other, may_be_granted as may_have_grant, needs_root};
+ghost use Rattle.move_plan.specs.Fitting.{row_fits as row_of_note};
 ghost use Rattle.move_plan.specs.Seen.{seen_store};
 ghost use Rattle.record_format.specs.Told.{told_note};
 
 use cry_base::{DEPTH, FileId, FolderId, HolderId, ROOT};
 use folder_nodes::Shape;
-use grant_book::Grants;
+use grant_book::{Grants, file_of};
 use record_format::Note;
 
 /// Whether the note fits: its row's condition holds, and the root stands where the note isn't one that makes it. It
@@ -55,7 +57,7 @@ fn row_fits(strict: bool, shape: &Shape, grants: &Grants, note: &Note) -> bool
         Note::DropFolder { folder } => may_drop_folder(shape, folder),
         Note::ShiftFile { file, into } => may_move_file(shape, file, into),
         Note::ShiftFolder { folder, into } => may_move_folder(shape, folder, into),
-        Note::Give { holder, folder } => may_give(shape, grants, holder, folder),
+        Note::Give { holder, folder } => may_give(strict, shape, grants, holder, folder),
         Note::Take { holder, folder } => grants.has(holder, folder),
         Note::StrictRoot => may_make_root(shape),
         Note::Upgrade => !strict,
@@ -75,15 +77,26 @@ fn may_make_holder(grants: &Grants, h: HolderId) -> bool
 }
 
 fn may_make_folder(shape: &Shape, f: FolderId, parent: FolderId) -> bool
-    ensures { result ≡ (f.0 == shape.now.tree.folders_made + 1 && has_depth_below shape.now.tree parent.0) }
+    ensures { result ≡ (is_next_number f.0 shape.now.tree.folders_made && has_depth_below shape.now.tree parent.0) }
 {
-    is_next(f.0, shape.folders_made()) && has_depth_left(shape, parent)
+    is_next_below(f.0, shape.folders_made()) && has_depth_left(shape, parent)
 }
 
 fn may_make_file(shape: &Shape, x: FileId, folder: FolderId) -> bool
-    ensures { result ≡ (x.0 == shape.now.tree.files_made + 1 && has_depth_below shape.now.tree folder.0) }
+    ensures { result ≡ (is_next_number x.0 shape.now.tree.files_made && has_depth_below shape.now.tree folder.0) }
 {
-    is_next(x.0, shape.files_made()) && has_depth_left(shape, folder)
+    is_next_below(x.0, shape.files_made()) && has_depth_left(shape, folder)
+}
+
+// From this number on numbers are clearance numbers. No store has so many folders or files.
+const CLEAR_BASE: u32 = 2_147_483_648;
+
+/// Whether the number is one more than how many were made, and no clearance number.
+#[tactic(auto, unfolding(crate::specs::Fitting::is_next_below))]
+fn is_next_below(number: u32, made: u32) -> bool
+    ensures { result ≡ is_next_number number made }
+{
+    is_next(number, made) && number < CLEAR_BASE
 }
 
 /// Whether the number is one more than how many were made.
@@ -186,11 +199,30 @@ fn has_levels_left(shape: &Shape, f: FolderId, into: FolderId) -> bool
     height < DEPTH - depth
 }
 
-fn may_give(shape: &Shape, grants: &Grants, h: HolderId, f: FolderId) -> bool
-    ensures { result ≡ (is_holder grants.now.checks h.0 && folder_stands shape.now.tree f.0
+fn may_give(strict: bool, shape: &Shape, grants: &Grants, h: HolderId, f: FolderId) -> bool
+    ensures { result ≡ (is_holder grants.now.checks h.0 && may_have_grant strict shape.now.tree f.0
         && not (list_any (is_grant h.0 f.0) grants.now.pairs)) }
 {
-    is_made(grants, h) && has_folder(shape, f) && !grants.has(h, f)
+    is_made(grants, h) && may_be_granted(strict, shape, f) && !grants.has(h, f)
+}
+
+/// Whether what has the number may be granted: a folder that stands, and in a store of version 2 a file that does.
+#[tactic(auto, unfolding(crate::specs::Fitting::may_be_granted))]
+fn may_be_granted(strict: bool, shape: &Shape, f: FolderId) -> bool
+    ensures { result ≡ may_have_grant strict shape.now.tree f.0 }
+{
+    has_folder(shape, f) || (strict && clear_stands(shape, f))
+}
+
+/// Whether the number is the clearance number of a file that stands.
+#[tactic(auto, unfolding(crate::specs::Fitting::clear_stands, crate::specs::Fitting::is_file_there))]
+fn clear_stands(shape: &Shape, f: FolderId) -> bool
+    ensures { result ≡ has_clear_number shape.now.tree f.0 }
+{
+    match file_of(f) {
+        Some(x) => has_file(shape, x),
+        None => false,
+    }
 }
 
 /// Whether a holder with the number was made.

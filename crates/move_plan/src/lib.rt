@@ -8,6 +8,7 @@ mod edging;
 mod fault;
 mod few_roles;
 mod fitting;
+mod granting;
 pub mod laws;
 mod row;
 pub mod rows;

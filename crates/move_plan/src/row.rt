@@ -4,16 +4,16 @@ ghost use Rattle.move_plan.specs.Change.{row_change};
 ghost use Rattle.move_plan.specs.LookUps.{row_look_ups};
 ghost use Rattle.move_plan.specs.Seen.{plain_row, seen_store};
 ghost use Rattle.record_format.specs.Told.{told_note};
-ghost use Rattle.role_graph.specs.Edges.{edges};
 ghost use Rattle.role_graph.specs.PublicStore.{public_store};
 
 use crate::FewRoles;
 use crate::changes::{
-    drop_file, give, make_file, make_folder, make_holder, make_root, move_file, move_folder,
-    name_file, name_folder, rewrite, take, upgrade,
+    make_file, make_folder, make_holder, make_root, move_folder, name_file, name_folder, rewrite,
+    upgrade,
 };
-use crate::dropping::drop_folder;
-use crate::fitting::{folder_of, parent_of};
+use crate::dropping::{drop_file, drop_folder};
+use crate::fitting::parent_of;
+use crate::granting::{give_number, shift_file, take_number};
 use cry_base::{Edge, List, Mem, Role};
 use folder_nodes::Shape;
 use grant_book::Grants;
@@ -42,7 +42,7 @@ pub(crate) fn row_of<R: Adjacent>(
 ) -> Mem<Row>
     requires { R.store roles.old ≡ public_store shape.now.tree grants.now.pairs }
     ensures row { IfOk result (λ r. plain_row r ≡ row_change (seen_store shape.now.tree grants.now) (told_note note.now)) }
-    ensures steps { R.steps roles.new ≤ R.steps roles.old + row_look_ups (edges (R.store roles.old)) (told_note note.now) }
+    ensures steps { R.steps roles.new ≤ R.steps roles.old + row_look_ups (R.store roles.old) (told_note note.now) }
     ensures same { R.store roles.new ≡ R.store roles.old }
 {
     match *note {
@@ -53,21 +53,15 @@ pub(crate) fn row_of<R: Adjacent>(
         Note::Rewrite { file } => rewrite(alloc, file),
         Note::NameFile { file } => name_file(alloc, file),
         Note::NameFolder { folder } => name_folder(alloc, folder),
-        Note::DropFile { file } => {
-            let folder = folder_of(shape, file);
-            drop_file(alloc, file, folder)
-        }
+        Note::DropFile { file } => drop_file(alloc, grants, roles, file),
         Note::DropFolder { folder } => drop_folder(alloc, roles, folder),
-        Note::ShiftFile { file, into } => {
-            let from = folder_of(shape, file);
-            move_file(alloc, file, from, into)
-        }
+        Note::ShiftFile { file, into } => shift_file(alloc, shape, grants, file, into),
         Note::ShiftFolder { folder, into } => {
             let parent = parent_of(shape, folder);
             move_folder(alloc, folder, parent, into)
         }
-        Note::Give { holder, folder } => give(alloc, holder, folder),
-        Note::Take { holder, folder } => take(alloc, holder, folder),
+        Note::Give { holder, folder } => give_number(alloc, shape, grants, holder, folder),
+        Note::Take { holder, folder } => take_number(alloc, grants, roles, holder, folder),
         Note::StrictRoot => make_root(alloc, 2),
         Note::Upgrade => upgrade(alloc),
     }

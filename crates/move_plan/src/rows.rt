@@ -60,3 +60,27 @@ pub fn strict_roles_of_notes()
     ensures upgrade { (change_of false granted Upgrade).strict
         ≡ clear_of 1 ∷ clear_of 2 ∷ sub_of 1 ∷ sub_of 2 ∷ back_of 1 ∷ back_of 2 ∷ files_of 1 ∷ files_of 2 ∷ [] }
 {}
+
+/// A grant on a file goes by the file's clearance number. A store of version 2 knows it, one of version 1 doesn't.
+#[tactic(auto, unfolding(crate::specs::WorkedChanges::changes))]
+pub fn grants_on_files()
+    ensures note { note_of granted (Grant 1 (codes "/a/x")) [] ≡ Give 1 2147483649 }
+    ensures fits { fits true granted (Give 1 2147483649) ≡ true }
+    ensures misfit { map (fits true granted) (Give 1 2147483650 ∷ Take 1 2147483649 ∷ []) ≡ false ∷ false ∷ [] }
+    ensures version_one { fits false granted (Give 1 2147483649) ≡ false }
+    ensures comes { (change_of true granted (Give 1 2147483649)).fresh ≡ clear_of 2147483649 ∷ [] }
+    ensures added { map (λ e. e.kind) (change_of true granted (Give 1 2147483649)).added ≡ 1 ∷ 2 ∷ 10 ∷ 11 ∷ [] }
+{}
+
+/// A clearance goes with the file's last grant, and with the file. It moves with the file, under a new key.
+#[tactic(auto, unfolding(crate::specs::WorkedChanges::changes))]
+pub fn clearances_that_go_and_move()
+    ensures last { map (λ e. e.kind) (change_of true (store_after granted (Grant 1 (codes "/a/x") ∷ [])) (Take 1 2147483649)).removed
+        ≡ 1 ∷ 2 ∷ 10 ∷ 11 ∷ [] }
+    ensures dropped { map (λ e. e.kind) (change_of true (store_after granted (Grant 1 (codes "/a/x") ∷ [])) (DropFile 1)).removed
+        ≡ 1 ∷ 2 ∷ 9 ∷ 10 ∷ 11 ∷ [] }
+    ensures moved { map (λ e. e.kind) (change_of true (store_after granted (Grant 1 (codes "/a/x") ∷ [])) (ShiftFile 1 1)).added
+        ≡ 9 ∷ 11 ∷ [] }
+    ensures renewed { (change_of true (store_after granted (Grant 1 (codes "/a/x") ∷ [])) (ShiftFile 1 1)).strict
+        ≡ clear_of 1 ∷ clear_of 2 ∷ clear_of 2147483649 ∷ sub_of 1 ∷ sub_of 2 ∷ files_of 2 ∷ [] }
+{}

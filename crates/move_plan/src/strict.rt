@@ -1,7 +1,8 @@
 //! The strict roles of a note: those that are renewed whether or not they are dirty (docs/FORMAT.md, "The key step").
 ghost use Rattle.std.specs.Prelude.{◌≡◌, ◌≤◌, ◌+◌, ◌++◌, cond, map, IfOk, OnOk};
 ghost use Rattle.move_plan.specs.Change.{inner_roles as all_inner_roles, is_upgrade as is_the_upgrade, strict_of as strict_of_note};
-ghost use Rattle.move_plan.specs.Inner.{inner_role};
+ghost use Rattle.std.specs.List.{flat_map};
+ghost use Rattle.move_plan.specs.Inner.{clearance_among, inner_role};
 ghost use Rattle.move_plan.specs.Seen.{plain_row, seen_store};
 ghost use Rattle.record_format.specs.Told.{told_note};
 ghost use Rattle.rekey_walk.specs.Strict.{strict_look_ups};
@@ -9,12 +10,12 @@ ghost use Rattle.role_graph.specs.Edges.{edges};
 ghost use Rattle.role_graph.specs.PublicStore.{public_store};
 
 use crate::row::Row;
-use cry_base::{FolderId, List, Mem, Role};
-use folder_nodes::{FolderRow, Shape};
+use cry_base::{FileId, FolderId, List, Mem, Role};
+use folder_nodes::{FileRow, FolderRow, Shape};
 use grant_book::Grants;
 use record_format::Note;
 use rekey_walk::strict_in;
-use role_graph::Adjacent;
+use role_graph::{Adjacent, clearance_of};
 use sorted_table::Walk;
 use std::alloc::Global;
 
@@ -36,7 +37,7 @@ pub(crate) fn strict_of<R: Adjacent>(
     ensures same { R.store roles.new ≡ R.store roles.old }
 {
     if is_upgrade(note) {
-        return inner_roles(alloc, shape);
+        return inner_roles(alloc, shape, grants);
     }
     if strict {
         return strict_in(alloc, roles, row.removed.as_slice(), row.gone.as_slice());
@@ -60,17 +61,39 @@ pub(crate) enum Inner {
     Files,
 }
 
-/// These roles of all folders, in their order.
-#[tactic(auto, unfolding(crate::specs::Change::inner_roles))]
-fn inner_roles(alloc: Global, shape: &Shape) -> Mem<List<Role>>
-    ensures { IfOk result (λ l. l.items ≡ all_inner_roles shape.now.tree) }
+/// These roles of all folders, and the clearances of files, in their order.
+fn inner_roles(alloc: Global, shape: &Shape, grants: &Grants) -> Mem<List<Role>>
+    ensures { IfOk result (λ l. l.items ≡ all_inner_roles (seen_store shape.now.tree grants.now)) }
 {
     let mut all = List::new(alloc);
     push_inner(&mut all, shape.folders(), Inner::Clear)?;
+    push_clearances(&mut all, grants, shape.files())?;
     push_inner(&mut all, shape.folders(), Inner::Sub)?;
     push_inner(&mut all, shape.folders(), Inner::Back)?;
     push_inner(&mut all, shape.folders(), Inner::Files)?;
     Ok(all)
+}
+
+/// Adds the clearance of each file with a grant.
+fn push_clearances(all: &mut List<Role>, grants: &Grants, files: Walk<'_, FileRow>) -> Mem<()>
+    ensures { OnOk result (all.new.items ≡ all.old.items ++ flat_map (λ r. clearance_among grants.now.pairs r.id.0) files.entry) }
+{
+    for file in files {
+        push_clearance(all, grants, file.id)?;
+    }
+    Ok(())
+}
+
+/// Adds the clearance of a file with a grant.
+#[tactic(auto, unfolding(role_graph::specs::Roles::clear_of))]
+fn push_clearance(all: &mut List<Role>, grants: &Grants, file: FileId) -> Mem<()>
+    ensures { OnOk result (all.new.items ≡ all.old.items ++ clearance_among grants.now.pairs file.0) }
+{
+    let Some(clear) = clearance_of(grants, file) else {
+        return Ok(());
+    };
+    all.push(Role::Clear(clear))?;
+    Ok(())
 }
 
 /// Adds this role of each folder.

@@ -3,9 +3,9 @@ use Rattle.std.specs.Prelude.{nat_le, Some}
 use Rattle.cry_base.specs.Refusing.{height_of}
 use Rattle.cry_base.specs.Store.{depth_of, folder_node, is_within}
 use Rattle.move_plan.specs.Change.{parent_of_folder}
-use Rattle.move_plan.specs.Fitting.{folder_stands, is_other_folder, may_go_into, row_fits}
+use Rattle.move_plan.specs.Fitting.{folder_stands, is_next_below, is_other_folder, may_go_into, row_fits}
 use Rattle.record_format.specs.Told.{told_note}
-use Rattle.move_plan.proofs.Seeing.{child_seen, depth_seen, file_seen, folder_seen, grant_seen, holder_seen, into_seen, other_seen, regrouped, stands_seen}
+use Rattle.move_plan.proofs.Seeing.{child_seen, depth_seen, file_seen, folder_seen, grant_seen, holder_seen, into_seen, other_seen, regrouped, granted_seen}
 use Rattle.move_plan.proofs.fitting.row_fits.Goals as goal
 
 pub returns-in-Root : goal.returns-in-Root
@@ -21,14 +21,14 @@ unfolding row_fits told_note
 returns-in-NewFolder c =
     let t = c.args.shape.now.tree in
     rw c.in-NewFolder.is (c.may_make_folder.ensures
-    ∙ ap (λ b. c.in-NewFolder.folder.0 == t.folders_made + 1 && b) (sym (depth_seen t c.args.grants.now c.in-NewFolder.parent.0)))
+    ∙ ap (λ b. is_next_below c.in-NewFolder.folder.0 t.folders_made && b) (sym (depth_seen t c.args.grants.now c.in-NewFolder.parent.0)))
 
 pub returns-in-NewFile : goal.returns-in-NewFile
 unfolding row_fits told_note
 returns-in-NewFile c =
     let t = c.args.shape.now.tree in
     rw c.in-NewFile.is (c.may_make_file.ensures
-    ∙ ap (λ b. c.in-NewFile.file.0 == t.files_made + 1 && b) (sym (depth_seen t c.args.grants.now c.in-NewFile.folder.0)))
+    ∙ ap (λ b. is_next_below c.in-NewFile.file.0 t.files_made && b) (sym (depth_seen t c.args.grants.now c.in-NewFile.folder.0)))
 
 pub returns-in-Rewrite : goal.returns-in-Rewrite
 unfolding row_fits told_note
@@ -89,7 +89,7 @@ returns-in-Give c =
     let h = c.in-Give.holder.0 in
     let f = c.in-Give.folder.0 in
     rw c.in-Give.is (c.may_give.ensures
-    ∙ (λ i. sym (holder_seen t g h) i && sym (stands_seen t g f) i && not (sym (grant_seen t g h f) i)))
+    ∙ (λ i. sym (holder_seen t g h) i && sym (granted_seen c.args.strict t g f) i && not (sym (grant_seen t g h f) i)))
 
 pub returns-in-Take : goal.returns-in-Take
 unfolding row_fits told_note

@@ -1,13 +1,12 @@
 use Rattle.std.proofs.Common.{◌≡◌, ◌≤◌, ◌+◌, ap, sym, ◌∙◌, subst}
-use Rattle.std.specs.Prelude.{IfOk}
-use Rattle.role_graph.specs.Edges.{edges}
-use Rattle.move_plan.specs.Change.{row_change, folder_of_file, parent_of_folder}
+use Rattle.cry_base.specs.Store.{Store}
+use Rattle.move_plan.specs.Change.{row_change, parent_of_folder}
 use Rattle.move_plan.specs.LookUps.{row_look_ups}
-use Rattle.move_plan.specs.Seen.{plain_row, seen_store}
+use Rattle.move_plan.specs.Seen.{seen_store}
 use Rattle.record_format.specs.Noted.Note.{Root, NewHolder, NewFolder, NewFile, Rewrite, NameFile, NameFolder, DropFile, DropFolder, ShiftFile, ShiftFolder, Give, Take, StrictRoot, Upgrade}
 use Rattle.record_format.specs.Told.{told_note}
-use Rattle.move_plan.proofs.Noting.{holder_of, in_store, in_store_where, in_this_store}
-use Rattle.move_plan.proofs.Seeing.{dropped_seen, folder_seen, parent_seen}
+use Rattle.move_plan.proofs.Noting.{holder_of, in_store, in_store_where, in_this_store, looked_up}
+use Rattle.move_plan.proofs.Seeing.{parent_seen}
 use Rattle.move_plan.proofs.row.row_of.Goals as goal
 
 pub returns-in-Root-clause-row : goal.returns-in-Root-clause-row
@@ -44,11 +43,20 @@ returns-in-NameFolder-clause-row g c = in_store c.name_folder.result (seen_store
 
 pub returns-in-Give-clause-row : goal.returns-in-Give-clause-row
 unfolding told_note
-returns-in-Give-clause-row g c = in_store c.give.result (seen_store c.args.shape.now.tree c.args.grants.now) (told_note c.args.note.now) (Give c.in-Give.holder.0 c.in-Give.folder.0) (ap told_note c.in-Give.is) c.give.ensures
+returns-in-Give-clause-row g c =
+    in_this_store c.give_number.result (seen_store c.args.shape.now.tree c.args.grants.now) (told_note c.args.note.now) (Give c.in-Give.holder.0 c.in-Give.folder.0) (ap told_note c.in-Give.is)
+    c.give_number.ensures
 
 pub returns-in-Take-clause-row : goal.returns-in-Take-clause-row
 unfolding told_note
-returns-in-Take-clause-row g c = in_store c.take.result (seen_store c.args.shape.now.tree c.args.grants.now) (told_note c.args.note.now) (Take c.in-Take.holder.0 c.in-Take.folder.0) (ap told_note c.in-Take.is) c.take.ensures
+returns-in-Take-clause-row g c =
+    looked_up c.take_number.result c.args.shape.now.tree c.args.grants.now (g.R.Adjacent.store c.args.roles.now) (told_note c.args.note.now) (Take c.in-Take.holder.0 c.in-Take.folder.0)
+    (ap told_note c.in-Take.is) c.requires c.take_number.ensures.change
+
+pub returns-in-Take-clause-steps : goal.returns-in-Take-clause-steps
+unfolding told_note
+returns-in-Take-clause-steps g c =
+    subst (λ n. g.R.Adjacent.steps c.take_number.new.roles ≤ g.R.Adjacent.steps c.args.roles.now + row_look_ups (g.R.Adjacent.store c.args.roles.now) n) (sym (ap told_note c.in-Take.is)) c.take_number.ensures.steps
 
 pub returns-in-NewHolder-clause-row : goal.returns-in-NewHolder-clause-row
 unfolding told_note
@@ -60,30 +68,30 @@ returns-in-NewHolder-clause-row g c =
 pub returns-in-DropFolder-clause-row : goal.returns-in-DropFolder-clause-row
 unfolding told_note
 returns-in-DropFolder-clause-row g c =
-    let t = c.args.shape.now.tree in
-    let given = c.args.grants.now in
-    let f = c.in-DropFolder.folder.0 in
-    in_this_store c.drop_folder.result (seen_store t given) (told_note c.args.note.now) (DropFolder f) (ap told_note c.in-DropFolder.is)
-    (subst (λ x. IfOk c.drop_folder.result (λ r. plain_row r ≡ x)) (ap (λ s. row_change s (DropFolder f)) c.requires ∙ dropped_seen t given f) c.drop_folder.ensures.change)
+    looked_up c.drop_folder.result c.args.shape.now.tree c.args.grants.now (g.R.Adjacent.store c.args.roles.now) (told_note c.args.note.now) (DropFolder c.in-DropFolder.folder.0)
+    (ap told_note c.in-DropFolder.is) c.requires c.drop_folder.ensures.change
 
 pub returns-in-DropFolder-clause-steps : goal.returns-in-DropFolder-clause-steps
 unfolding told_note
 returns-in-DropFolder-clause-steps g c =
-    subst (λ n. g.R.Adjacent.steps c.drop_folder.new.roles ≤ g.R.Adjacent.steps c.args.roles.now + row_look_ups (edges (g.R.Adjacent.store c.args.roles.now)) n) (sym (ap told_note c.in-DropFolder.is)) c.drop_folder.ensures.steps
+    subst (λ n. g.R.Adjacent.steps c.drop_folder.new.roles ≤ g.R.Adjacent.steps c.args.roles.now + row_look_ups (g.R.Adjacent.store c.args.roles.now) n) (sym (ap told_note c.in-DropFolder.is)) c.drop_folder.ensures.steps
 
 pub returns-in-DropFile-clause-row : goal.returns-in-DropFile-clause-row
 unfolding told_note
 returns-in-DropFile-clause-row g c =
-    let x = c.in-DropFile.file.0 in
-    in_store_where c.drop_file.result (seen_store c.args.shape.now.tree c.args.grants.now) (λ s. c.folder_of-folder.result.0 ≡ folder_of_file s x) (told_note c.args.note.now) (DropFile c.in-DropFile.file.0) (ap told_note c.in-DropFile.is)
-    (c.folder_of-folder.ensures ∙ sym (folder_seen c.args.shape.now.tree c.args.grants.now x)) c.drop_file.ensures
+    looked_up c.drop_file.result c.args.shape.now.tree c.args.grants.now (g.R.Adjacent.store c.args.roles.now) (told_note c.args.note.now) (DropFile c.in-DropFile.file.0)
+    (ap told_note c.in-DropFile.is) c.requires c.drop_file.ensures.change
+
+pub returns-in-DropFile-clause-steps : goal.returns-in-DropFile-clause-steps
+unfolding told_note
+returns-in-DropFile-clause-steps g c =
+    subst (λ n. g.R.Adjacent.steps c.drop_file.new.roles ≤ g.R.Adjacent.steps c.args.roles.now + row_look_ups (g.R.Adjacent.store c.args.roles.now) n) (sym (ap told_note c.in-DropFile.is)) c.drop_file.ensures.steps
 
 pub returns-in-ShiftFile-clause-row : goal.returns-in-ShiftFile-clause-row
 unfolding told_note
 returns-in-ShiftFile-clause-row g c =
-    let x = c.in-ShiftFile.file.0 in
-    in_store_where c.move_file.result (seen_store c.args.shape.now.tree c.args.grants.now) (λ s. c.folder_of-from.result.0 ≡ folder_of_file s x) (told_note c.args.note.now) (ShiftFile c.in-ShiftFile.file.0 c.in-ShiftFile.into.0) (ap told_note c.in-ShiftFile.is)
-    (c.folder_of-from.ensures ∙ sym (folder_seen c.args.shape.now.tree c.args.grants.now x)) c.move_file.ensures
+    in_this_store c.shift_file.result (seen_store c.args.shape.now.tree c.args.grants.now) (told_note c.args.note.now) (ShiftFile c.in-ShiftFile.file.0 c.in-ShiftFile.into.0) (ap told_note c.in-ShiftFile.is)
+    c.shift_file.ensures
 
 pub returns-in-ShiftFolder-clause-row : goal.returns-in-ShiftFolder-clause-row
 unfolding told_note
@@ -91,3 +99,9 @@ returns-in-ShiftFolder-clause-row g c =
     let f = c.in-ShiftFolder.folder.0 in
     in_store_where c.move_folder.result (seen_store c.args.shape.now.tree c.args.grants.now) (λ s. c.parent_of-parent.result.0 ≡ parent_of_folder s f) (told_note c.args.note.now) (ShiftFolder c.in-ShiftFolder.folder.0 c.in-ShiftFolder.into.0) (ap told_note c.in-ShiftFolder.is)
     (c.parent_of-parent.ensures ∙ sym (parent_seen c.args.shape.now.tree c.args.grants.now f)) c.move_folder.ensures
+
+pub drop_file-requires : goal.drop_file-requires
+drop_file-requires g c = ap (λ (s : Store). s.grants) c.requires
+
+pub take_number-requires : goal.take_number-requires
+take_number-requires g c = ap (λ (s : Store). s.grants) c.requires

@@ -5,7 +5,6 @@ use Rattle.cry_base.specs.Store.{Store}
 use Rattle.cry_base.specs.declared.roles.Role.{Role}
 use Rattle.rekey_walk.specs.Strict.{strict_roles}
 use Rattle.role_graph.specs.Edges.{edges}
-use Rattle.role_graph.specs.PublicStore.{public_store}
 use Rattle.record_format.specs.Told.{told_note}
 use Rattle.move_plan.specs.Change.{inner_roles, strict_of}
 use Rattle.move_plan.specs.Seen.{plain_row, seen_store}
@@ -19,7 +18,7 @@ returns-then-is_upgrade-clause-roles g c =
     let s : Store = seen_store t c.args.grants.now in
     let note = told_note c.args.note.now in
     let row = plain_row c.args.row.now in
-    IfOk-weaker c.inner_roles.result (λ (l : Listed Role). l.items ≡ inner_roles t) (λ (l : Listed Role). l.items ≡ strict_of c.args.strict s note row)
+    IfOk-weaker c.inner_roles.result (λ (l : Listed Role). l.items ≡ inner_roles s) (λ (l : Listed Role). l.items ≡ strict_of c.args.strict s note row)
     (λ l e. e ∙ upgrade_strict c.args.strict t c.args.grants.now note row (sym c.is_upgrade.ensures ∙ c.if-is_upgrade.true)) c.inner_roles.ensures
 
 pub returns-then-strict-clause-roles : goal.returns-then-strict-clause-roles
