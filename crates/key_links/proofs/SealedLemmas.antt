@@ -30,14 +30,14 @@ unfolding sealed_content
 opens_content kind key object nonce text = sealed-sealed key.bytes nonce text
 
 pub link_spellable : (kind : ℕ) (from to : KeyParts) (nonce : ℕ) →
-    1 ≤ kind → kind ≤ 9 → from.id < 2 ^ 32 → to.id < 2 ^ 32 → from.serial < 2 ^ 64 → to.serial < 2 ^ 64 → nonce < 2 ^ 64 →
+    1 ≤ kind → kind ≤ 11 → from.id < 2 ^ 32 → to.id < 2 ^ 32 → from.serial < 2 ^ 64 → to.serial < 2 ^ 64 → nonce < 2 ^ 64 →
     length to.bytes ≡ 32 → IsLink (sealed_link kind from to nonce)
 unfolding sealed_link
 link_spellable kind from to nonce low high from_id to_id from_serial to_serial number size =
     let cipher = length-sealed from.bytes nonce to.bytes in
     record {
       kind_from_one = low;
-      kind_to_nine = high;
+      kind_to_eleven = high;
       from_id = from_id;
       to_id = to_id;
       from_serial = from_serial;

@@ -6,7 +6,7 @@ use Rattle.cry_base.specs.declared.roles.Role.{Role}
 use Rattle.cry_base.specs.declared.roles.Role.TheVariants as role
 use Rattle.kind_table.specs.declared.kinds.RoleKind.{RoleKind}
 use Rattle.kind_table.specs.declared.kinds.RoleKind.TheVariants.{Owner, Holder, Clear, Sub, Back, Files, Data, File}
-use Rattle.kind_table.specs.declared.nine.TheConstants.{NINE}
+use Rattle.kind_table.specs.declared.eleven.TheConstants.{ELEVEN}
 use Rattle.kind_table.specs.declared.table.Row.{Row}
 use Rattle.key_links.specs.Opened.{StartsAt}
 use Rattle.key_links.specs.Ringed.{Ringed, key_of}
@@ -26,7 +26,7 @@ role_with File id = role.File (record { 0 = id })
 
 -- the row of links with this number
 unfoldable pub row_numbered : ℕ → Option Row
-row_numbered number = find (λ r. r.number == number) NINE.rows
+row_numbered number = find (λ r. r.number == number) ELEVEN.rows
 
 -- the kinds of keys that these links lead from and to
 unfoldable pub kind_from : ℕ → RoleKind

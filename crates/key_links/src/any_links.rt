@@ -7,7 +7,7 @@ ghost use Rattle.key_links.specs.Ringed.{parts_of, role_of};
 ghost use Rattle.key_links.specs.Sealed.{sealed_content, sealed_link};
 ghost use Rattle.kind_table.specs.Kinds.{kind_of};
 ghost use Rattle.kind_table.specs.Rows.{kinds_row};
-ghost use Rattle.kind_table.specs.declared.nine.TheConstants.{NINE};
+ghost use Rattle.kind_table.specs.declared.eleven.TheConstants.{ELEVEN};
 ghost use Rattle.record_format.specs.Plain.{plain_content};
 ghost use Rattle.record_format.specs.Spellable.{longest_text, shortest_text};
 ghost use Rattle.kind_table.specs.declared.kinds.RoleKind.TheVariants as kind;
@@ -21,7 +21,7 @@ use record_format::{ContentRecord, LinkRecord};
 
 /// The key `to`, sealed under the key `from`.
 pub(crate) fn link_any(kind: u8, from: &AnyKey, to: &AnyKey, nonce: Nonce) -> LinkRecord
-    requires { In (kinds_row kind (kind_of (role_of from.now)) (kind_of (role_of to.now))) NINE.rows }
+    requires { In (kinds_row kind (kind_of (role_of from.now)) (kind_of (role_of to.now))) ELEVEN.rows }
     ensures { result ≡ sealed_link kind (parts_of from.now) (parts_of to.now) nonce }
 {
     match kind {
@@ -34,6 +34,8 @@ pub(crate) fn link_any(kind: u8, from: &AnyKey, to: &AnyKey, nonce: Nonce) -> Li
         7 => link(from.back(), to.data(), nonce),
         8 => link(from.back(), to.back(), nonce),
         9 => link(from.files(), to.file(), nonce),
+        10 => link(from.clear(), to.file(), nonce),
+        11 => link(from.clear(), to.back(), nonce),
         _ => unreachable!(),
     }
 }
@@ -41,7 +43,7 @@ pub(crate) fn link_any(kind: u8, from: &AnyKey, to: &AnyKey, nonce: Nonce) -> Li
 /// The key that the link leads to from `source`.
 pub(crate) fn follow_any(source: &AnyKey, link: &LinkRecord) -> Result<AnyKey, BadTag>
     requires from_one { 1 ≤ link.now.kind }
-    requires to_nine { link.now.kind ≤ 9 }
+    requires to_eleven { link.now.kind ≤ 11 }
     requires source { role_of source.now ≡ source_role link.now }
     requires starts { StartsAt link.now.kind (parts_of source.now) link.now }
     ensures authentic { IsOk result ↔ IsAuthenticLink (parts_of source.now) link.now }
@@ -58,6 +60,8 @@ pub(crate) fn follow_any(source: &AnyKey, link: &LinkRecord) -> Result<AnyKey, B
         7 => data_behind(source.back(), link),
         8 => back_behind(source.back(), link),
         9 => file_behind(source.files(), link),
+        10 => file_behind(source.clear(), link),
+        11 => back_behind(source.clear(), link),
         _ => unreachable!(),
     }
 }

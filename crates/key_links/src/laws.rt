@@ -29,7 +29,7 @@ pub fn sealed_records_open()
 /// Law: a sealed record has a spelling, where its kind, numbers and text are of the format's sizes.
 pub fn sealed_records_are_spellable()
     ensures link { (kind : ℕ) (from to : KeyParts) (nonce : ℕ) →
-        1 ≤ kind → kind ≤ 9 → from.id < 2 ^ 32 → to.id < 2 ^ 32 → from.serial < 2 ^ 64 → to.serial < 2 ^ 64 → nonce < 2 ^ 64 →
+        1 ≤ kind → kind ≤ 11 → from.id < 2 ^ 32 → to.id < 2 ^ 32 → from.serial < 2 ^ 64 → to.serial < 2 ^ 64 → nonce < 2 ^ 64 →
         length to.bytes ≡ 32 → IsLink (sealed_link kind from to nonce) }
     ensures content { (kind : ℕ) (key : KeyParts) (object nonce : ℕ) (text : List ℕ) →
         1 ≤ kind → kind ≤ 3 → object < 2 ^ 32 → key.serial < 2 ^ 64 → nonce < 2 ^ 64 →

@@ -5,17 +5,17 @@ ghost use Rattle.cry_base.specs.Sets.{In};
 ghost use Rattle.key_links.specs.Opened.{IsAuthenticLink, StartsAt, target_of};
 ghost use Rattle.key_links.specs.Sealed.{sealed_link};
 ghost use Rattle.kind_table.specs.Rows.{kinds_row};
-ghost use Rattle.kind_table.specs.declared.nine.TheConstants.{NINE};
+ghost use Rattle.kind_table.specs.declared.eleven.TheConstants.{ELEVEN};
 
 use chacha_seal::{BadTag, Key, Nonce, open_key, seal_in_place};
 use kind_table::{KeyKind, LinksTo};
 use record_format::{LinkRecord, link_header};
 
-/// The key `to`, sealed under the key `from`. Their kinds are one of the nine pairs. It spends the
+/// The key `to`, sealed under the key `from`. Their kinds are one of the eleven pairs. It spends the
 /// nonce.
 pub fn link<A: LinksTo<B>, B: KeyKind>(from: &Key<A>, to: &Key<B>, nonce: Nonce) -> LinkRecord
     ensures sealed { result ≡ sealed_link A.NUMBER from.now to.now nonce }
-    ensures row { In (kinds_row result.kind A.kind B.kind) NINE.rows }
+    ensures row { In (kinds_row result.kind A.kind B.kind) ELEVEN.rows }
 {
     let mut link = LinkRecord {
         kind: A::NUMBER,

@@ -3,7 +3,7 @@ ghost use Rattle.std.specs.Prelude.{◌≡◌, ◌==◌, find, option_copied};
 ghost use Rattle.key_links.specs.Ended as spec;
 
 use cry_base::{FileId, FolderId, HolderId, Role};
-use kind_table::{NINE, RoleKind, Row};
+use kind_table::{ELEVEN, RoleKind, Row};
 use record_format::{FILE_TEXT, FOLDER_NAME, LinkRecord};
 
 #[tactic(auto, unfolding(crate::specs::Ended::role_with))]
@@ -32,7 +32,7 @@ fn row_numbered(rows: &[Row], number: u8) -> Option<&Row>
 fn kind_from(number: u8) -> RoleKind
     ensures { result ≡ spec.kind_from number }
 {
-    match row_numbered(&NINE.rows, number) {
+    match row_numbered(&ELEVEN.rows, number) {
         Some(row) => row.from,
         None => RoleKind::Owner,
     }
@@ -42,20 +42,20 @@ fn kind_from(number: u8) -> RoleKind
 fn kind_to(number: u8) -> RoleKind
     ensures { result ≡ spec.kind_to number }
 {
-    match row_numbered(&NINE.rows, number) {
+    match row_numbered(&ELEVEN.rows, number) {
         Some(row) => row.to,
         None => RoleKind::Owner,
     }
 }
 
-/// The role with this number that links of a kind lead from. A kind that is none of the nine leads from the owner's key.
+/// The role with this number that links of a kind lead from. A kind that is none of the eleven leads from the owner's key.
 pub fn source_with(kind: u8, id: u32) -> Role
     ensures { result ≡ spec.role_with (spec.kind_from kind) id }
 {
     role_with(kind_from(kind), id)
 }
 
-/// The role with this number that links of a kind lead to. A kind that is none of the nine leads to the owner's key.
+/// The role with this number that links of a kind lead to. A kind that is none of the eleven leads to the owner's key.
 pub fn target_with(kind: u8, id: u32) -> Role
     ensures { result ≡ spec.role_with (spec.kind_to kind) id }
 {

@@ -9,7 +9,7 @@ ghost use Rattle.key_links.specs.Ringed.{IsWithKey, key_of, parts_of, role_of};
 ghost use Rattle.key_links.specs.Sealed.{sealed_content, sealed_link};
 ghost use Rattle.kind_table.specs.Kinds.{kind_of};
 ghost use Rattle.kind_table.specs.Rows.{kinds_row};
-ghost use Rattle.kind_table.specs.declared.nine.TheConstants.{NINE};
+ghost use Rattle.kind_table.specs.declared.eleven.TheConstants.{ELEVEN};
 ghost use Rattle.record_format.specs.Plain.{plain_content};
 ghost use Rattle.record_format.specs.Spellable.{longest_text, shortest_text};
 
@@ -24,7 +24,7 @@ use record_format::{ContentRecord, LinkRecord};
 impl KeyRing {
     /// The key of the edge's end, sealed under that of its beginning. It spends the nonce.
     pub fn publish(&self, edge: &Edge, nonce: Nonce) -> LinkRecord
-        requires fits { In (kinds_row edge.now.kind (kind_of edge.now.from) (kind_of edge.now.to)) NINE.rows }
+        requires fits { In (kinds_row edge.now.kind (kind_of edge.now.from) (kind_of edge.now.to)) ELEVEN.rows }
         requires from { IsSome (key_of self.now edge.now.from) }
         requires to { IsSome (key_of self.now edge.now.to) }
         ensures { (from to : KeyParts) → key_of self.now edge.now.from ≡ Some from → key_of self.now edge.now.to ≡ Some to
@@ -39,7 +39,7 @@ impl KeyRing {
     /// was. Want of memory doesn't end it.
     pub fn open_link(&mut self, link: &LinkRecord) -> Result<(), BadTag>
         requires from_one { 1 ≤ link.now.kind }
-        requires to_nine { link.now.kind ≤ 9 }
+        requires to_eleven { link.now.kind ≤ 11 }
         requires source { HasSource self.old link.now }
         requires room { 1 ≤ self.old.spare }
         ensures authentic { (key : KeyParts) → key_of self.old (spec.source_role link.now) ≡ Some key

@@ -16,7 +16,7 @@ use Rattle.cry_base.proofs.Finding.{node_found, node_finds}
 use Rattle.cry_base.proofs.Members.{In-append, In-map}
 use Rattle.cry_base.proofs.Paths.{names_told}
 use Rattle.public_fold.specs.Tree.{AtLevel}
-use Rattle.public_fold.proofs.Settling.{no_cause}
+use Rattle.public_fold.proofs.Causes.{no_cause}
 use Rattle.public_fold.proofs.Treeing.{IsTree, root_names, next_names, names_length, file_node_names, node_stands, found_names, path_names}
 
 -- no cause applies

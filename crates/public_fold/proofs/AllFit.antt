@@ -20,12 +20,12 @@ use Rattle.public_fold.specs.Lengths.{payload_len, entry_payload, payloads_from,
 use Rattle.public_fold.specs.Records.{Link, Piece, pieces_of}
 use Rattle.public_fold.specs.StandFits.{has_count, note_fits, entry_fits, all_fit}
 use Rattle.public_fold.specs.Valid.{FollowOn, BeginsWell, IsValid}
-use Rattle.public_fold.proofs.Accepting.{accepted}
+use Rattle.public_fold.proofs.Numbers.{IsWithin, numbers_below, spent, within_did, within_made, within_session, within_upgraded}
 use Rattle.public_fold.proofs.Keeping.{HasTree}
 use Rattle.public_fold.proofs.NotesFit as notes
 use Rattle.public_fold.proofs.KeepingKeys.{keys_after}
-use Rattle.public_fold.proofs.KeyMoves.{IsSound, effect_sound, root_sound, command_moves, root_moves, upgrade_moves, nothing_holds, epoch_holds}
-use Rattle.public_fold.proofs.SerialsKept.{spent, count_after, few_fresh}
+use Rattle.public_fold.proofs.KeyMoves.{IsSound, command_fits, effect_sound, root_sound, command_moves, root_moves, upgrade_moves, nothing_holds, epoch_holds}
+use Rattle.public_fold.proofs.SerialsKept.{count_after, few_fresh}
 
 -- what is below the store's limit in bytes is below the largest number of four bytes
 small : (n : ℕ) → n ≤ most_store_bytes → nat_lt n (2 ^ 32 - 1) ≡ true
@@ -49,24 +49,25 @@ same_epoch : (k : KeyState) (s : Store) (c : Change) (pieces : List Piece) → (
 unfolding key_step step_with published
 same_epoch k s c pieces = refl
 
-after_fit : (entries : List Entry) (at : Stand) (links : List Link) → IsSound at.store → KeysHold at.store at.keys links → 1 ≤ at.keys.epoch → at.keys.epoch + spent (payloads_from at entries) ≤ most_store_bytes → at.keys.count + spent (payloads_from at entries) ≤ most_store_bytes → FollowOn at entries
+after_fit : (entries : List Entry) (at : Stand) (links : List Link) → IsSound at.store → IsWithin at entries → KeysHold at.store at.keys links → 1 ≤ at.keys.epoch → at.keys.epoch + spent (payloads_from at entries) ≤ most_store_bytes → at.keys.count + spent (payloads_from at entries) ≤ most_store_bytes → FollowOn at entries
     → all_fit at entries ≡ true
 unfolding all_fit entry_fits note_fits has_count stand_then entry_store entry_step note_step payloads_from entry_payload next_epoch
-after_fit [] at links sound ok begun low few f = refl
-after_fit (Session ∷ entries) at links sound ok begun low few f =
+after_fit [] at links sound within ok begun low few f = refl
+after_fit (Session ∷ entries) at links sound within ok begun low few f =
     let rest = payloads_from (stand_then at Session) entries in
     let sum : spent (0 ∷ rest) ≡ (batch_len + 0) + spent rest = sum_by-cons (λ len. batch_len + len) 0 rest in
     let all : at.keys.epoch + spent (0 ∷ rest) ≤ most_store_bytes = low in
     and_from (nat_lt at.keys.epoch (2 ^ 32 - 1)) (all_fit (stand_then at Session) entries) (small at.keys.epoch (omega arith))
-    (after_fit entries (stand_then at Session) links sound (epoch_holds at.store at.keys links ok) (omega arith) (omega arith) (omega arith) f.1)
-after_fit (Made version keys ∷ entries) at links sound ok begun low few f = absurd f.0
-after_fit (Did request keys ∷ entries) at links sound ok begun low few f =
+    (after_fit entries (stand_then at Session) links sound (within_session at entries within) (epoch_holds at.store at.keys links ok) (omega arith) (omega arith) (omega arith) f.1)
+after_fit (Made version keys ∷ entries) at links sound within ok begun low few f = absurd f.0
+after_fit (Did request keys ∷ entries) at links sound within ok begun low few f =
     let s = at.store in
     let t = effect s request (first_key keys) in
     let note = note_of s request [] in
     let strict = is_strict at.keys in
     let c = change_of strict s note in
-    let mv = command_moves strict s request (first_key keys) [] most_file_bytes f.0.0 sound in
+    let left = numbers_below at (Did request keys) entries within in
+    let mv = command_moves strict s request (first_key keys) [] most_file_bytes f.0.0 left sound in
     let step : Stepped = note_step at note t in
     let rest = payloads_from (stand_then at (Did request keys)) entries in
     let sum : spent (payload_len note step ∷ rest) ≡ (batch_len + payload_len note step) + spent rest = sum_by-cons (λ len. batch_len + len) (payload_len note step) rest in
@@ -74,13 +75,13 @@ after_fit (Did request keys ∷ entries) at links sound ok begun low few f =
     let counts : at.keys.count + spent (payload_len note step ∷ rest) ≤ most_store_bytes = few in
     let more : step.after.count ≤ at.keys.count + (batch_len + payload_len note step) = count_after s t at.keys c links mv ok note (pieces_of note t) (few_fresh strict s note) in
     let same : step.after.epoch ≡ at.keys.epoch = same_epoch at.keys s c (pieces_of note t) in
-    let fitting : fits strict s note ≡ true = notes.rest_fits strict s note sound.tree (notes.note_fits strict s request [] sound.tree (accepted s request most_file_bytes f.0.0)) in
+    let fitting : fits strict s note ≡ true = command_fits strict s request [] most_file_bytes f.0.0 left sound in
     and_from (nat_lt 0 at.keys.epoch && (fits strict s note && nat_lt step.after.count (2 ^ 32 - 1))) (all_fit (stand_then at (Did request keys)) entries)
     (and_from (nat_lt 0 at.keys.epoch) (fits strict s note && nat_lt step.after.count (2 ^ 32 - 1)) (lt-ltb 0 at.keys.epoch (omega arith))
     (and_from (fits strict s note) (nat_lt step.after.count (2 ^ 32 - 1)) fitting (small step.after.count (omega arith))))
-    (after_fit entries (stand_then at (Did request keys)) (links ++ step.links) (effect_sound s request (first_key keys) most_file_bytes f.0.0 sound)
+    (after_fit entries (stand_then at (Did request keys)) (links ++ step.links) (effect_sound strict s request (first_key keys) most_file_bytes f.0.0 left sound) (within_did at request keys entries within)
     (keys_after s t at.keys c links mv ok (pieces_of note t)) (omega arith) (omega arith) (omega arith) f.1)
-after_fit (Upgraded keys ∷ entries) at links sound ok begun low few f =
+after_fit (Upgraded keys ∷ entries) at links sound within ok begun low few f =
     let s = at.store in
     let strict = is_strict at.keys in
     let c = change_of strict s Upgrade in
@@ -95,7 +96,7 @@ after_fit (Upgraded keys ∷ entries) at links sound ok begun low few f =
     and_from (nat_lt 0 at.keys.epoch && (fits strict s Upgrade && nat_lt step.after.count (2 ^ 32 - 1))) (all_fit (stand_then at (Upgraded keys)) entries)
     (and_from (nat_lt 0 at.keys.epoch) (fits strict s Upgrade && nat_lt step.after.count (2 ^ 32 - 1)) (lt-ltb 0 at.keys.epoch (omega arith))
     (and_from (fits strict s Upgrade) (nat_lt step.after.count (2 ^ 32 - 1)) (upgrade_fits at.keys s sound.tree f.0.0) (small step.after.count (omega arith))))
-    (after_fit entries (stand_then at (Upgraded keys)) (links ++ step.links) sound
+    (after_fit entries (stand_then at (Upgraded keys)) (links ++ step.links) sound (within_upgraded at keys entries within)
     (keys_after s s at.keys c links mv ok (pieces_of Upgrade s)) (omega arith) (omega arith) (omega arith) f.1)
 
 begun_fit : (m : Journal) → BeginsWell m → end_of m ≤ most_store_bytes → all_fit nothing m ≡ true
@@ -115,7 +116,7 @@ begun_fit (Session ∷ Made version keys ∷ es) b low =
     let all : header_len + spent (0 ∷ payload_len root step ∷ rest) ≤ most_store_bytes = low in
     let more : step.after.count ≤ k.count + (batch_len + payload_len root step) = count_after no_store root_store k c [] (root_moves version) nothing_holds root (pieces_of root root_store) (few_fresh false no_store root) in
     let same : step.after.epoch ≡ k.epoch = same_epoch k no_store c (pieces_of root root_store) in
-    let tail = after_fit es at step.links root_sound (keys_after no_store root_store k c [] (root_moves version) nothing_holds (pieces_of root root_store)) (omega arith) (omega arith) (omega arith) b.1 in
+    let tail = after_fit es at step.links root_sound (within_made version keys es low) (keys_after no_store root_store k c [] (root_moves version) nothing_holds (pieces_of root root_store)) (omega arith) (omega arith) (omega arith) b.1 in
     let made = and_from (nat_lt 0 1) (fits false no_store root && nat_lt step.after.count (2 ^ 32 - 1)) (lt-ltb 0 1 (omega arith)) (and_from (fits false no_store root) (nat_lt step.after.count (2 ^ 32 - 1)) (root_fits version) (small step.after.count (omega arith))) in
     and_from (nat_lt 0 (2 ^ 32 - 1)) ((nat_lt 0 1 && (fits false no_store root && nat_lt step.after.count (2 ^ 32 - 1))) && all_fit at es) (small 0 (omega arith))
     (and_from (nat_lt 0 1 && (fits false no_store root && nat_lt step.after.count (2 ^ 32 - 1))) (all_fit at es) made tail)

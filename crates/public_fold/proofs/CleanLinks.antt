@@ -1,7 +1,7 @@
 -- No link leaves a key that is dirty after its command.
-use Rattle.std.proofs.Common.{◌≡◌, ℕ, ◌+◌, ◌||◌, false, List, [], ◌∷◌, ◌++◌, length, inl, inr, ⊎_elim, sym, ap, ◌∙◌, subst}
+use Rattle.std.proofs.Common.{◌≡◌, ℕ, ◌+◌, ◌≤◌, ◌||◌, false, List, [], ◌∷◌, ◌++◌, length, inl, inr, ⊎_elim, sym, ap, ◌∙◌, subst}
 use Rattle.std.proofs.lemmas.Bool.{or_cases, false≢true}
-use Rattle.cry_base.specs.Limits.{most_file_bytes}
+use Rattle.cry_base.specs.Limits.{most_file_bytes, most_store_bytes}
 use Rattle.cry_base.specs.Sets.{In, has}
 use Rattle.cry_base.specs.Store.{Store, no_store, root_store}
 use Rattle.cry_base.specs.Stepping.{effect}
@@ -24,6 +24,8 @@ use Rattle.public_fold.specs.Valid.{FollowOn, BeginsWell, IsValid}
 use Rattle.public_fold.proofs.EdgesThen.{then_told}
 use Rattle.role_graph.proofs.AtEnds.{same_edge_tells}
 use Rattle.public_fold.proofs.KeepingKeys.{IsMove, without_told, marked_stands, marked_no_root, renewed_wanted, closed_then, keys_after}
+use Rattle.public_fold.specs.Lengths.{end_of}
+use Rattle.public_fold.proofs.Numbers.{IsWithin, numbers_below, within_did, within_made, within_session, within_upgraded}
 use Rattle.public_fold.proofs.KeyMoves.{IsSound, effect_sound, root_sound, command_moves, root_moves, upgrade_moves, nothing_holds, epoch_holds}
 
 -- what is numbered is of the list
@@ -66,38 +68,39 @@ module _ (s t : Store) (k : KeyState) (c : Change) (links : List Link) (mv : IsM
       let left = (without_told p (dirty_left k (edges s) c) l.edge.from).0 d in
       edge_clean w.0.0 (numbered-of n es w.0 w.1) (subst (λ (e : Edge). In e.from (dirty_left k (edges s) c)) same left.0) (λ r. left.1 (subst (λ (e : Edge). In e.from p) (sym same) r))
 
-after_clean : (entries : List Entry) (at : Stand) (links : List Link) → IsSound at.store → KeysHold at.store at.keys links → FollowOn at entries → (step : Stepped) → In step (steps_from at entries) → LeavesClean step
+after_clean : (entries : List Entry) (at : Stand) (links : List Link) → IsSound at.store → IsWithin at entries → KeysHold at.store at.keys links → FollowOn at entries → (step : Stepped) → In step (steps_from at entries) → LeavesClean step
 unfolding stand_then entry_store entry_step note_step steps_from
-after_clean [] at links sound ok f step i = absurd i
-after_clean (Session ∷ entries) at links sound ok f step i = ⊎_elim
+after_clean [] at links sound few ok f step i = absurd i
+after_clean (Session ∷ entries) at links sound few ok f step i = ⊎_elim
     (λ q l j d. subst (In l) (ap (λ (x : Stepped). x.links) q) j)
-    (λ r. after_clean entries (stand_then at Session) links sound (epoch_holds at.store at.keys links ok) f.1 step r) i
-after_clean (Made version keys ∷ entries) at links sound ok f step i = absurd f.0
-after_clean (Did request keys ∷ entries) at links sound ok f step i =
+    (λ r. after_clean entries (stand_then at Session) links sound (within_session at entries few) (epoch_holds at.store at.keys links ok) f.1 step r) i
+after_clean (Made version keys ∷ entries) at links sound few ok f step i = absurd f.0
+after_clean (Did request keys ∷ entries) at links sound few ok f step i =
     let s = at.store in
     let t = effect s request (first_key keys) in
     let note = note_of s request [] in
     let c = change_of (is_strict at.keys) s note in
-    let mv = command_moves (is_strict at.keys) s request (first_key keys) [] most_file_bytes f.0.0 sound in
+    let left = numbers_below at (Did request keys) entries few in
+    let mv = command_moves (is_strict at.keys) s request (first_key keys) [] most_file_bytes f.0.0 left sound in
     let here : Stepped = note_step at note t in ⊎_elim
     (λ q. subst LeavesClean (sym q) (links_clean s t at.keys c links mv ok (pieces_of note t)))
-    (λ r. after_clean entries (stand_then at (Did request keys)) (links ++ here.links) (effect_sound s request (first_key keys) most_file_bytes f.0.0 sound)
+    (λ r. after_clean entries (stand_then at (Did request keys)) (links ++ here.links) (effect_sound (is_strict at.keys) s request (first_key keys) most_file_bytes f.0.0 left sound) (within_did at request keys entries few)
     (keys_after s t at.keys c links mv ok (pieces_of note t)) f.1 step r) i
-after_clean (Upgraded keys ∷ entries) at links sound ok f step i =
+after_clean (Upgraded keys ∷ entries) at links sound few ok f step i =
     let s = at.store in
     let c = change_of (is_strict at.keys) s Upgrade in
     let mv = upgrade_moves (is_strict at.keys) s sound in
     let here : Stepped = note_step at Upgrade s in ⊎_elim
     (λ q. subst LeavesClean (sym q) (links_clean s s at.keys c links mv ok (pieces_of Upgrade s)))
-    (λ r. after_clean entries (stand_then at (Upgraded keys)) (links ++ here.links) sound
+    (λ r. after_clean entries (stand_then at (Upgraded keys)) (links ++ here.links) sound (within_upgraded at keys entries few)
     (keys_after s s at.keys c links mv ok (pieces_of Upgrade s)) f.1 step r) i
 
-begun_clean : (m : Journal) → BeginsWell m → (step : Stepped) → In step (steps_from nothing m) → LeavesClean step
+begun_clean : (m : Journal) → BeginsWell m → end_of m ≤ most_store_bytes → (step : Stepped) → In step (steps_from nothing m) → LeavesClean step
 unfolding stand_then entry_store entry_step note_step steps_from nothing is_strict next_epoch no_keys
-begun_clean [] b step i = absurd b
-begun_clean (Session ∷ []) b step i = absurd b
-begun_clean (Session ∷ Session ∷ es) b step i = absurd b
-begun_clean (Session ∷ Made version keys ∷ es) b step i =
+begun_clean [] b low step i = absurd b
+begun_clean (Session ∷ []) b low step i = absurd b
+begun_clean (Session ∷ Session ∷ es) b low step i = absurd b
+begun_clean (Session ∷ Made version keys ∷ es) b low step i =
     let at = stand_then (stand_then nothing Session) (Made version keys) in
     let k : KeyState = next_epoch no_keys in
     let root = root_note version in
@@ -106,13 +109,13 @@ begun_clean (Session ∷ Made version keys ∷ es) b step i =
     (λ q l j d. subst (In l) (ap (λ (x : Stepped). x.links) q) j)
     (λ r. ⊎_elim
     (λ q. subst LeavesClean (sym q) (links_clean no_store root_store k c [] (root_moves version) nothing_holds (pieces_of root root_store)))
-    (λ u. after_clean es at here.links root_sound (keys_after no_store root_store k c [] (root_moves version) nothing_holds (pieces_of root root_store)) b.1 step u) r) i
-begun_clean (Session ∷ Did request keys ∷ es) b step i = absurd b
-begun_clean (Session ∷ Upgraded keys ∷ es) b step i = absurd b
-begun_clean (Made version keys ∷ es) b step i = absurd b
-begun_clean (Did request keys ∷ es) b step i = absurd b
-begun_clean (Upgraded keys ∷ es) b step i = absurd b
+    (λ u. after_clean es at here.links root_sound (within_made version keys es low) (keys_after no_store root_store k c [] (root_moves version) nothing_holds (pieces_of root root_store)) b.1 step u) r) i
+begun_clean (Session ∷ Did request keys ∷ es) b low step i = absurd b
+begun_clean (Session ∷ Upgraded keys ∷ es) b low step i = absurd b
+begun_clean (Made version keys ∷ es) b low step i = absurd b
+begun_clean (Did request keys ∷ es) b low step i = absurd b
+begun_clean (Upgraded keys ∷ es) b low step i = absurd b
 
 pub journal_clean : (m : Journal) → IsValid m → (step : Stepped) → In step (steps_of m) → LeavesClean step
 unfolding steps_of
-journal_clean m v step i = begun_clean m v.0 step i
+journal_clean m v step i = begun_clean m v.0 v.1 step i

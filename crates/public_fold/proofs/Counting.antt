@@ -5,7 +5,7 @@ use Rattle.cry_base.specs.Requests.{Request}
 use Rattle.cry_base.specs.Requests.Request.{AddHolder, MakeFolder, WriteFile, Remove, Rename, Relocate, Grant, Revoke}
 use Rattle.cry_base.specs.Store.{Store, FolderEntry, FileEntry, HolderEntry, no_store, root_store, node_at}
 use Rattle.cry_base.specs.Naming.{parent_path, names_of, last_name}
-use Rattle.cry_base.specs.Refusing.{id_of}
+use Rattle.cry_base.specs.Refusing.{granted_id, id_of}
 use Rattle.cry_base.specs.Stepping.{with_new_holder, with_new_folder, with_new_file, with_folder, with_file, without_folder, without_file, without_grant, with_bytes_at, without_node, with_name, moved, effect}
 use Rattle.cry_base.specs.declared.roles.Node.{Node}
 use Rattle.cry_base.specs.declared.roles.Node.TheVariants.{Folder, File}
@@ -113,7 +113,7 @@ effect_counted s (Remove path) key c = no_node s (node_at s path) c
 effect_counted s (Rename path name) key c = named s (node_at s path) name c
 effect_counted s (Relocate path into) key c = put s (node_at s path) (id_of (node_at s into)) c
 effect_counted s (Grant holder path) key c = record { each_folder = c.each_folder; each_file = c.each_file; each_holder = c.each_holder }
-effect_counted s (Revoke holder path) key c = no_grant s holder (id_of (node_at s path)) c
+effect_counted s (Revoke holder path) key c = no_grant s holder (granted_id (node_at s path)) c
 
 pub root_counted : AreCounted root_store
 unfolding root_store no_store

@@ -5,21 +5,24 @@ use Rattle.std.proofs.lemmas.List.Elements.{filter-append}
 use Rattle.std.proofs.lemmas.List.Folds.{list_any-append}
 use Rattle.std.specs.List.{list_any}
 use Rattle.cry_base.specs.Sets.{In, Tells, has}
-use Rattle.cry_base.specs.Store.{Store, no_store, is_within, depth_of, folder_node}
+use Rattle.cry_base.specs.Clearances.{clear_number, file_of}
+use Rattle.cry_base.proofs.Versions.{file_number}
+use Rattle.cry_base.specs.Stepping.{without_grant}
+use Rattle.cry_base.specs.Store.{Store, has_grant, no_store, is_within, depth_of, folder_node}
 use Rattle.cry_base.specs.Refusing.{height_of}
 use Rattle.cry_base.specs.declared.roles.Edge.{Edge}
 use Rattle.cry_base.specs.declared.roles.Role.{Role}
 use Rattle.cry_base.proofs.Members.{In-append}
 use Rattle.cry_base.proofs.Reaching.{has-in, in-has}
-use Rattle.std.specs.Prelude.{Some, nat_le}
-use Rattle.role_graph.specs.Edges.{IsEdge, IsFileEdge, IsGrantEdge, IsOwnEdge, IsParentEdge, edge, edge_before, edges, file_edge, folder_edges, in_order, parent_edges, same_edge}
+use Rattle.std.specs.Prelude.{Option, Some, None, nat_le}
+use Rattle.role_graph.specs.Edges.{IsEdge, clearance_edges, edge, edge_before, edges, file_edge, folder_edges, grant_edge, has_grants, in_order, parent_edges, same_edge}
 use Rattle.role_graph.specs.PublicStore.{public_store}
-use Rattle.role_graph.specs.Roles.{back_of, file_role, files_of, folder_roles, role_id, same_role, sub_of}
+use Rattle.role_graph.specs.Roles.{back_of, clear_of, file_role, folder_roles, role_id, same_role, sub_of}
 use Rattle.role_graph.proofs.Comparing.{same_role_tells}
 use Rattle.role_graph.proofs.Edging.{In-order, edges_told}
 use Rattle.role_graph.proofs.Sifting.{filters_turn, kept_in_order}
 use Rattle.role_graph.proofs.AtEnds.{same_edge_tells, touches}
-use Rattle.move_plan.specs.Change.{Change, change_of, row_change, edge_into_file, folder_of_file, no_change, parent_of_folder}
+use Rattle.move_plan.specs.Change.{Change, change_of, row_change, edges_at, edges_of_first, edges_with_file, folder_of_file, given_on, no_change, parent_of_folder, taken_from, without_roles}
 use Rattle.move_plan.specs.Fitting.{file_stands, fits, folder_stands, has_depth_left, is_other_folder, may_go_into, needs_root, row_fits}
 use Rattle.record_format.specs.Noted.{Note}
 use Rattle.record_format.specs.Noted.Note.{Root, NewHolder, NewFolder, NewFile, Rewrite, NameFile, NameFolder, DropFile, DropFolder, ShiftFile, ShiftFolder, Give, Take, StrictRoot, Upgrade}
@@ -27,10 +30,13 @@ use Rattle.public_fold.specs.KeyStep.{edges_left, edges_then, is_published, publ
 use Rattle.public_fold.specs.Rooted.{IsRooted, MayStand}
 use Rattle.public_fold.specs.Standing.{PublicView, public_store_of}
 use Rattle.public_fold.specs.Stepping.{IsOfFittingNote}
-use Rattle.public_fold.proofs.EdgesThen.{apart, file_edge-id, file_kind, grant_kind, is_kind, is_parent_kind, left_told, own_no_file, own_no_parent, parent_child, parent_kind, parent_no_file}
+use Rattle.public_fold.proofs.EdgesThen.{apart, clear_kind, clear_touches, edge_cases, file_kind, grant_kind, is_parent_kind, left_told, own_no_parent, parent_child, parent_kind}
+use Rattle.public_fold.proofs.EdgesAfter.{taken_elsewhere}
+use Rattle.public_fold.proofs.RolesAfter.{HasFile}
+use Rattle.public_fold.proofs.Rooting.{file_there}
 use Rattle.public_fold.proofs.GrantLaws.{not_given_yet, not_granted}
-use Rattle.public_fold.proofs.KeyMoves.{no_edge}
-use Rattle.public_fold.proofs.NoteMoves.{file_edge_told, note_moves, parent_told}
+use Rattle.public_fold.proofs.RowEnds.{no_edge}
+use Rattle.public_fold.proofs.NoteMoves.{file_told, note_moves, parent_told}
 use Rattle.public_fold.proofs.StepTold.{edges_seen}
 
 -- ---- what comes doesn't stand
@@ -60,10 +66,6 @@ file_new : (f x : ℕ) (e : Edge) → In e (file_edge f x ∷ []) → In e.to (f
 unfolding file_edge edge
 file_new f x e i = ⊎_elim (λ q. inl (ap (λ (z : Edge). z.to) q)) (λ n. absurd n) i
 
-file_edge-folder : (f g x y : ℕ) → file_edge f x ≡ file_edge g y → f ≡ g
-unfolding file_edge edge files_of role_id
-file_edge-folder f g x y e = ap (λ (z : Edge). role_id z.from) e
-
 -- the number of the folder above, of an edge between a folder and its parent
 above : Edge → ℕ
 above e = cond (e.kind == 6) (role_id e.from) (role_id e.to)
@@ -75,43 +77,63 @@ parent_above f p e i = ⊎_elim (λ s. ap above s) (λ a. ⊎_elim (λ s. ap abo
 not_same : (m n : ℕ) → not (m == n) ≡ true → m ≡ n → ⊥
 not_same m n other e = false≢true (sym (not-true (m == n) other) ∙ eq-eqb m n e)
 
--- the edge into a file from a folder that it isn't in
-file_elsewhere : (s : Store) (x g : ℕ) (e : Edge) → IsRooted s → not (folder_of_file s x == g) ≡ true → e ≡ file_edge g x → IsEdge s e → ⊥
-unfolding edge_into_file
-file_elsewhere s x g e ok other is w =
-    let kinds = file_kind g x e is in ⊎_elim
-    (λ (o : IsOwnEdge s e). apart (is_kind 9 e) (own_no_file o.0.id e o.2) kinds.0)
-    (λ v. ⊎_elim
-    (λ (p : IsParentEdge s e). apart (is_kind 9 e) (parent_no_file p.0.id p.0.parent e p.3) kinds.0)
-    (λ u. ⊎_elim
-    (λ (h : IsGrantEdge s e). apart (is_kind 9 e) (grant_kind h.0.holder h.0.folder e h.2).1 kinds.0)
-    (λ (y : IsFileEdge s e).
-    let same : file_edge y.0.folder y.0.id ≡ file_edge g x = sym y.2 ∙ is in
-    let number : y.0.id ≡ x = file_edge-id y.0.folder g y.0.id x same in
-    let stood : file_edge (folder_of_file s x) x ≡ file_edge y.0.folder y.0.id = file_edge_told s x ok (y.0, y.1, number) in
-    not_same (folder_of_file s x) g other (file_edge-folder (folder_of_file s x) g x x (stood ∙ same))) u) v) w
-
 -- the edges between a folder and another one than its parent
 folder_elsewhere : (s : Store) (g q : ℕ) (e : Edge) → IsRooted s → not (parent_of_folder s g == q) ≡ true → In e (parent_edges g q) → IsEdge s e → ⊥
 folder_elsewhere s g q e ok other i w =
-    let kind = parent_kind g q e i in ⊎_elim
-    (λ (o : IsOwnEdge s e). apart (is_parent_kind e) (own_no_parent o.0.id e o.2) kind)
-    (λ v. ⊎_elim
-    (λ (p : IsParentEdge s e).
+    let kind = parent_kind g q e i in edge_cases ⊥ s e
+    (λ o. apart (is_parent_kind e) (own_no_parent o.0.id e o.2) kind)
+    (λ p.
     let number : p.0.id ≡ g = sym (parent_child p.0.id p.0.parent e p.3) ∙ parent_child g q e i in
     let parent : p.0.parent ≡ q = sym (parent_above p.0.id p.0.parent e p.3) ∙ parent_above g q e i in
     not_same (parent_of_folder s g) q other (parent_told s g ok (p.0, p.1, number) ∙ parent))
-    (λ u. ⊎_elim
-    (λ (h : IsGrantEdge s e). apart (is_parent_kind e) (grant_kind h.0.holder h.0.folder e h.2).2 kind)
-    (λ (y : IsFileEdge s e). apart (is_parent_kind e) (file_kind y.0.folder y.0.id e y.2).2 kind) u) v) w
+    (λ h. apart (is_parent_kind e) (grant_kind h.0.holder h.0.folder e h.2).2 kind)
+    (λ y. apart (is_parent_kind e) (file_kind y.0.folder y.0.id e y.2).2 kind)
+    (λ y. apart (is_parent_kind e) (clear_kind y.0.folder y.0.id e y.3).2 kind)
+    w
 
 row_of : (strict : Bool) (s : Store) (note : Note) → fits strict s note ≡ true → row_fits strict s note ≡ true
 unfolding fits
 row_of strict s note fit = (and_parts (row_fits strict s note) (not (needs_root note) || folder_stands s 1) fit).0
 
-shifted_file : (strict : Bool) (s : Store) (x g : ℕ) → fits strict s (ShiftFile x g) ≡ true → not (folder_of_file s x == g) ≡ true
+shifted_file : (strict : Bool) (s : Store) (x g : ℕ) → fits strict s (ShiftFile x g) ≡ true → HasFile s x × (not (folder_of_file s x == g) ≡ true)
 unfolding row_fits
-shifted_file strict s x g fit = (and_parts (file_stands s x && has_depth_left s g) (not (folder_of_file s x == g)) (row_of strict s (ShiftFile x g) fit)).1
+shifted_file strict s x g fit =
+    let both = and_parts (file_stands s x && has_depth_left s g) (not (folder_of_file s x == g)) (row_of strict s (ShiftFile x g) fit) in
+    (file_there s x (and_parts (file_stands s x) (has_depth_left s g) both.0).0, both.1)
+
+-- what comes with a file that moves
+moved_elsewhere : (strict : Bool) (s : Store) (x g : ℕ) (e : Edge) → fits strict s (ShiftFile x g) ≡ true → IsRooted s → In e (edges_with_file s g x) → IsEdge s e → ⊥
+moved_elsewhere strict s x g e fit ok i =
+    let told = shifted_file strict s x g fit in
+    let w = told.0 in
+    taken_elsewhere s w.0 g e w.1 (λ y j q. ok.own_file y w.0 j w.1 q) (λ q. not_same (folder_of_file s x) g told.1 (file_told s x ok w ∙ q)) (subst (λ n. In e (edges_with_file s g n)) (sym w.2) i)
+
+-- and with a grant, where there is another one, and where it is a file's first one
+abbrev again_give : ℕ → ℕ → Change
+again_give h f = record no_change { added = grant_edge h f ∷ [] }
+
+abbrev first_give : Store → ℕ → ℕ → ℕ → Change
+first_give s h f x = record no_change { fresh = clear_of f ∷ []; added = in_order edge_before (grant_edge h (clear_number x) ∷ clearance_edges (folder_of_file s x) x) }
+
+again_new : (s : Store) (h f : ℕ) (e : Edge) → has_grant s h f ≡ false → In e (again_give h f).added → IsEdge s e → ⊥
+unfolding no_change
+again_new s h f e none i w = not_granted s h f none (⊎_elim (λ (q : e ≡ grant_edge h f). subst (λ z. In z (edges s)) q ((edges_told s e).1 w)) (λ n. absurd n) i)
+
+first_new : (s : Store) (h f x : ℕ) (e : Edge) → f ≡ clear_number x → has_grant s h f ≡ false → In e (first_give s h f x).added → HasNewEnd (first_give s h f x) e ⊎ (IsEdge s e → ⊥)
+unfolding no_change
+first_new s h f x e number none i = ⊎_elim
+    (λ q. inr (λ w. not_granted s h f none (subst (λ z. In z (edges s)) (q ∙ ap (grant_edge h) (sym number)) ((edges_told s e).1 w))))
+    (λ k. inl (⊎_elim (λ q. inl (inl (q ∙ ap clear_of (sym number)))) (λ q. inr (inl (q ∙ ap clear_of (sym number)))) (clear_touches (folder_of_file s x) x e k)))
+    ((In-order Edge edge_before e (grant_edge h (clear_number x) ∷ clearance_edges (folder_of_file s x) x)).0 i)
+
+given_new : (s : Store) (h f : ℕ) (o : Option ℕ) (e : Edge) → file_of f ≡ o → has_grant s h f ≡ false → In e (given_on s h f o).added → HasNewEnd (given_on s h f o) e ⊎ (IsEdge s e → ⊥)
+unfolding given_on edges_of_first
+given_new s h f None e number none i = inr (again_new s h f e none i)
+given_new s h f (Some x) e number none i = by (has_grants s f) i
+  where
+    by : (b : Bool) → In e (cond b (again_give h f) (first_give s h f x)).added → HasNewEnd (cond b (again_give h f) (first_give s h f x)) e ⊎ (IsEdge s e → ⊥)
+    by true j = inr (again_new s h f e none j)
+    by false j = first_new s h f x e (file_number f x number) none j
 
 shifted_folder : (strict : Bool) (s : Store) (g q : ℕ) → fits strict s (ShiftFolder g q) ≡ true → not (parent_of_folder s g == q) ≡ true
 unfolding row_fits may_go_into
@@ -120,9 +142,19 @@ shifted_folder strict s g q fit =
     let b = and_parts (is_other_folder s g && folder_stands s q && not (parent_of_folder s g == q)) (not (is_within s q g)) a.0 in
     (and_parts (is_other_folder s g && folder_stands s q) (not (parent_of_folder s g == q)) b.0).1
 
+-- nothing comes when a grant goes
+taken_adds : (s : Store) (h f : ℕ) (o : Option ℕ) (e : Edge) → In e (taken_from s h f o).added → ⊥
+unfolding taken_from without_roles no_change
+taken_adds s h f None e i = i
+taken_adds s h f (Some x) e i = by (has_grants (without_grant s h f) f) i
+  where
+    by : (b : Bool) → In e (cond b (record no_change { removed = grant_edge h f ∷ []; wanted = clear_of f ∷ [] }) (record no_change { removed = edges_at s (clear_of f ∷ []); gone = clear_of f ∷ [] })).added → ⊥
+    by true j = j
+    by false j = j
+
 -- what comes has a new role at an end, or doesn't stand
 added_new : (strict : Bool) (s : Store) (note : Note) (e : Edge) → fits strict s note ≡ true → IsRooted s → In e (row_change s note).added → HasNewEnd (row_change s note) e ⊎ (IsEdge s e → ⊥)
-unfolding row_change no_change
+unfolding row_change without_roles no_change
 added_new strict s Root e fit ok i = inl (inr (own_new 1 e i))
 added_new strict s (NewHolder h check) e fit ok i = absurd i
 added_new strict s (NewFolder f p) e fit ok i = inl (⊎_elim (λ a. inr (own_new f e a)) (λ b. parent_new f p e b)
@@ -133,11 +165,10 @@ added_new strict s (NameFile x) e fit ok i = absurd i
 added_new strict s (NameFolder f) e fit ok i = absurd i
 added_new strict s (DropFile x) e fit ok i = absurd i
 added_new strict s (DropFolder f) e fit ok i = absurd i
-added_new strict s (ShiftFile x g) e fit ok i = inr (file_elsewhere s x g e ok (shifted_file strict s x g fit) (⊎_elim (λ q. q) (λ n. absurd n) i))
+added_new strict s (ShiftFile x g) e fit ok i = inr (moved_elsewhere strict s x g e fit ok i)
 added_new strict s (ShiftFolder g q) e fit ok i = inr (folder_elsewhere s g q e ok (shifted_folder strict s g q fit) i)
-added_new strict s (Give h f) e fit ok i = inr (λ w. not_granted s h f (not_given_yet strict s h f fit)
-    (⊎_elim (λ q. subst (λ z. In z (edges s)) q ((edges_told s e).1 w)) (λ n. absurd n) i))
-added_new strict s (Take h f) e fit ok i = absurd i
+added_new strict s (Give h f) e fit ok i = given_new s h f (file_of f) e refl (not_given_yet strict s h f fit) i
+added_new strict s (Take h f) e fit ok i = absurd (taken_adds s h f (file_of f) e i)
 added_new strict s StrictRoot e fit ok i = inl (inr (own_new 1 e i))
 added_new strict s Upgrade e fit ok i = absurd i
 
@@ -165,7 +196,7 @@ kept_alike : (p q : Edge → Bool) (xs : List Edge) → ((x : Edge) → In x xs 
 kept_alike p q [] same = refl
 kept_alike p q (x ∷ xs) same = λ i. cond (same x (inl refl) i) (x ∷ kept_alike p q xs (λ y j. same y (inr j)) i) (kept_alike p q xs (λ y j. same y (inr j)) i)
 
-added_published : (c : Change) (again : List Role) → filter (is_published c again) c.added ≡ c.added
+pub added_published : (c : Change) (again : List Role) → filter (is_published c again) c.added ≡ c.added
 unfolding is_published
 added_published c again = all_kept (is_published c again) c.added (λ e i.
     or_left (has same_edge c.added e || has same_role (again ++ c.fresh) e.from) (has same_role (again ++ c.fresh) e.to)
@@ -185,7 +216,7 @@ module _ (strict : Bool) (s : Store) (note : Note) (fit : fits strict s note ≡
       (λ (none : s ≡ no_store). no_edge e (subst (λ z. IsEdge z e) none w))
       (λ ok. ⊎_elim (λ n. no_new_end e w n) (λ out. out w) (added_new strict s note e fit ok a)) stands
 
-  left_touches : (again : List Role) (e : Edge) → In e (edges_left (edges s) (change_of strict s note)) → is_published (change_of strict s note) again e ≡ touches again e
+  pub left_touches : (again : List Role) (e : Edge) → In e (edges_left (edges s) (change_of strict s note)) → is_published (change_of strict s note) again e ≡ touches again e
   unfolding is_published
   left_touches again e i =
       let c = change_of strict s note in

@@ -1,5 +1,5 @@
 -- What holds of a state's keys holds of them after a note that fits, and its marks are closed.
-use Rattle.std.proofs.Common.{◌≡◌, ℕ, Bool, true, false, List, [], ◌∷◌, ◌++◌, map, inl, refl, sym, ap, ◌∙◌, subst}
+use Rattle.std.proofs.Common.{◌≡◌, ℕ, Bool, true, false, List, [], ◌∷◌, ◌++◌, map, inl, inr, ⊎_elim, refl, sym, ap, ◌∙◌, subst}
 use Rattle.cry_base.specs.Sets.{In}
 use Rattle.cry_base.specs.Store.{Store, GrantEntry, no_store}
 use Rattle.cry_base.specs.declared.roles.Edge.{Edge}
@@ -29,7 +29,7 @@ use Rattle.public_fold.proofs.KeepingKeys.{IsMove, closed_before, keys_after}
 use Rattle.public_fold.proofs.KeyMoves.{nothing_holds}
 use Rattle.public_fold.proofs.NoteMoves.{note_moves}
 use Rattle.public_fold.proofs.SeenAfter.{seen}
-use Rattle.public_fold.proofs.SeenSame.{edges_same, granting}
+use Rattle.public_fold.proofs.SeenSame.{edges_same, granting, has_same}
 use Rattle.public_fold.proofs.StepTold.{edges_seen}
 
 -- where the counter stands doesn't matter
@@ -64,25 +64,30 @@ closed_marks v c removed dirty kept told same is =
     subst (λ (d : List Role). IsClosed (edges_but removed (edges (public_store v.tree v.pairs))) d) (sym is)
     (subst (λ (r : List Edge). IsClosed (edges_but r (edges (public_store v.tree v.pairs))) (dirty_left k (edges (public_store v.tree v.pairs)) c)) (sym same) there)
 
--- roles stand whatever the grants
-role_as : (s : Store) (gs hs : List GrantEntry) (r : Role) → HasRole (granting s gs) r → HasRole (granting s hs) r
-role_as s gs hs Owner h = h
-role_as s gs hs (Holder x) h = h
-role_as s gs hs (Clear f) h = h
-role_as s gs hs (Sub f) h = h
-role_as s gs hs (Back f) h = h
-role_as s gs hs (Files f) h = h
-role_as s gs hs (Data f) h = h
-role_as s gs hs (File x) h = h
+-- the same grants in another order
+turned_grants : (gs hs : List GrantEntry) → AreSameGrants gs hs → AreSameGrants hs gs
+turned_grants gs hs are = record { same = λ g. ((are.same g).1, (are.same g).0); once = are.other_once; other_once = are.once }
+
+-- roles stand whatever the order of the grants
+role_as : (s : Store) (gs hs : List GrantEntry) → AreSameGrants gs hs → (r : Role) → HasRole (granting s gs) r → HasRole (granting s hs) r
+role_as s gs hs are Owner h = h
+role_as s gs hs are (Holder x) h = h
+role_as s gs hs are (Clear f) h = ⊎_elim (λ w. inl w) (λ w. inr (w.0, sym (has_same s gs hs are f.0) ∙ w.1)) h
+role_as s gs hs are (Sub f) h = h
+role_as s gs hs are (Back f) h = h
+role_as s gs hs are (Files f) h = h
+role_as s gs hs are (Data f) h = h
+role_as s gs hs are (File x) h = h
 
 holds_as : (s : Store) (gs hs : List GrantEntry) (k : KeyState) (links : List Link) → AreSameGrants gs hs → KeysHold (granting s hs) k links → KeysHold (granting s gs) k links
 holds_as s gs hs k links are ok =
-    let same = edges_same s gs hs are in record {
+    let same = edges_same s gs hs are in
+    let back = turned_grants gs hs are in record {
       closed = λ e i. ok.closed e (subst (λ (es : List Edge). In e es) same i);
       no_root = ok.no_root;
-      dirty_stands = λ r i. role_as s hs gs r (ok.dirty_stands r i);
+      dirty_stands = λ r i. role_as s hs gs back r (ok.dirty_stands r i);
       linked = λ e i. ok.linked e (subst (λ (es : List Edge). In e es) same i);
-      keyed = λ r. (λ h. (ok.keyed r).0 (role_as s gs hs r h), λ w. role_as s hs gs r ((ok.keyed r).1 w));
+      keyed = λ r. (λ h. (ok.keyed r).0 (role_as s gs hs are r h), λ w. role_as s hs gs back r ((ok.keyed r).1 w));
     }
 
 begun_same : (new : Bool) (k : KeyState) → ((begun_keys new k).keys ≡ k.keys) × ((begun_keys new k).dirty ≡ k.dirty)

@@ -14,6 +14,8 @@ use Rattle.cry_base.specs.Stepping.{with_new_holder, with_new_folder, with_new_f
 use Rattle.cry_base.specs.declared.roles.Node.{Node}
 use Rattle.cry_base.specs.declared.roles.Node.TheVariants.{Folder, File}
 use Rattle.cry_base.proofs.Finding.{node_found}
+use Rattle.cry_base.proofs.Versions.{accepted_in}
+use Rattle.public_fold.specs.KeyStep.{is_strict}
 use Rattle.cry_base.proofs.Members.{In-map}
 use Rattle.public_fold.specs.Counted.{AreCounted}
 use Rattle.public_fold.specs.Journal.{Journal, Entry, Stand, nothing, first_key, entry_store, stand_then, stand_after, store_of}
@@ -248,7 +250,7 @@ after_tree [] at c ok f = ok
 after_tree (Session ∷ entries) at c ok f = after_tree entries (stand_then at Session) c ok f.1
 after_tree (Made version keys ∷ entries) at c ok f = absurd f.0
 after_tree (Did request keys ∷ entries) at c ok f =
-    after_tree entries (stand_then at (Did request keys)) (effect_counted at.store request (first_key keys) c) (effect_tree at.store request (first_key keys) (accepted at.store request most_file_bytes f.0.0) c ok) f.1
+    after_tree entries (stand_then at (Did request keys)) (effect_counted at.store request (first_key keys) c) (effect_tree at.store request (first_key keys) (accepted at.store request most_file_bytes (accepted_in (is_strict at.keys) at.store request most_file_bytes f.0.0)) c ok) f.1
 after_tree (Upgraded keys ∷ entries) at c ok f = after_tree entries (stand_then at (Upgraded keys)) c ok f.1
 
 begun_tree : (m : Journal) → BeginsWell m → HasTree (stand_after nothing m).store

@@ -1,3 +1,4 @@
+pub mod Causes
 pub mod Accepting
 pub mod AllFit
 pub mod CleanLinks
@@ -9,6 +10,9 @@ pub mod Keeping
 pub mod HeldMarks
 pub mod KeepingKeys
 pub mod StrictMoves
+pub mod RowEnds
+pub mod Numbers
+pub mod Commanded
 pub mod KeyMoves
 pub mod Levels
 pub mod NotesFit
@@ -42,7 +46,9 @@ pub mod RootAlone
 mod InKinds
 pub mod KeyTabled
 pub mod FoundEdges
+pub mod FirstGrants
 pub mod StaysRooted
 pub mod StepLooked
 pub mod StrictLists
 pub mod NewKeyLinks
+pub mod Versioned

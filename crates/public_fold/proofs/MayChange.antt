@@ -2,6 +2,7 @@
 use Rattle.std.proofs.Common.{◌≡◌, ◌≢◌, ◌⊎◌, ℕ, ◌+◌, Bool, true, not, ◌==◌, ◌&&◌, nat_lt, nat_le, List, [], length, Some, None, inl, inr, ⊎_elim, refl, sym, ap, ◌∙◌}
 use Rattle.std.specs.Prelude.{is_some, ◌||◌}
 use Rattle.std.proofs.lemmas.Bool.{and_parts, eqb-true, eqb-false, not-true, ltb-true, leb-true, false≢true}
+use Rattle.cry_base.specs.Clearances.{clear_base}
 use Rattle.cry_base.specs.Refusing.{has_child, height_of}
 use Rattle.cry_base.specs.Store.{Store, GrantEntry, root_store, depth_of, file_entry, folder_entry, folder_node, has_grant, holder_entry, is_within}
 use Rattle.folder_nodes.specs.Changing.{CanShift, HasPlace}
@@ -11,7 +12,7 @@ use Rattle.grant_book.proofs.Ordered.{any_grant_told}
 use Rattle.record_format.specs.Noted.{Note}
 use Rattle.record_format.specs.Noted.Note.{Root, NewHolder, NewFolder, NewFile, Rewrite, NameFile, NameFolder, DropFile, DropFolder, ShiftFile, ShiftFolder, Give, Take, StrictRoot, Upgrade}
 use Rattle.move_plan.specs.Change.{folder_of_file, parent_of_folder}
-use Rattle.move_plan.specs.Fitting.{file_stands, fits, folder_stands, has_depth_left, is_other_folder, may_go_into, needs_root, row_fits}
+use Rattle.move_plan.specs.Fitting.{file_stands, fits, folder_stands, has_depth_left, is_next_below, is_other_folder, may_be_granted, may_go_into, needs_root, row_fits}
 use Rattle.move_plan.specs.Seen.{seen_store}
 use Rattle.move_plan.proofs.Seeing.{child_seen, depth_seen, file_seen, grant_seen, holder_seen, into_seen, other_seen}
 use Rattle.public_fold.specs.Changing.{CanChangeGrants, CanChangeTree, checks_then, pairs_then, tree_then}
@@ -24,6 +25,11 @@ place t f h = let w = and_parts (is_some (folder_entry t f)) (nat_lt (depth_of t
 other : (t : Store) (f : ℕ) → is_other_folder t f ≡ true → (is_some (folder_entry t f) ≡ true) × (f ≢ 1)
 unfolding is_other_folder folder_stands
 other t f h = let w = and_parts (is_some (folder_entry t f)) (not (f == 1)) h in (w.0, eqb-false f 1 (not-true (f == 1) w.1))
+
+-- the next number
+pub next : (number made : ℕ) → is_next_below number made ≡ true → number ≡ made + 1
+unfolding is_next_below
+next number made t = eqb-true number (made + 1) (and_parts (number == made + 1) (nat_lt number clear_base) t).0
 
 shift : (t : Store) (f q : ℕ) → may_go_into t f q ≡ true → CanShift t f q
 unfolding may_go_into folder_stands
@@ -49,11 +55,11 @@ module _ (strict : Bool) (t : Store) (g : Granted) where
   tree_row Root n h = absurd (false≢true n)
   tree_row (NewHolder k check) n h = tt
   tree_row (NewFolder f p) n h =
-      let w = and_parts (f == t.folders_made + 1) (has_depth_left (seen_store t g) p) h in
-      (eqb-true f (t.folders_made + 1) w.0, place t p (sym (depth_seen t g p) ∙ w.1))
+      let w = and_parts (is_next_below f t.folders_made) (has_depth_left (seen_store t g) p) h in
+      (next f t.folders_made w.0, place t p (sym (depth_seen t g p) ∙ w.1))
   tree_row (NewFile x f) n h =
-      let w = and_parts (x == t.files_made + 1) (has_depth_left (seen_store t g) f) h in
-      (eqb-true x (t.files_made + 1) w.0, place t f (sym (depth_seen t g f) ∙ w.1))
+      let w = and_parts (is_next_below x t.files_made) (has_depth_left (seen_store t g) f) h in
+      (next x t.files_made w.0, place t f (sym (depth_seen t g f) ∙ w.1))
   tree_row (Rewrite x) n h = tt
   tree_row (NameFile x) n h = tt
   tree_row (NameFolder f) n h = tt
@@ -89,8 +95,8 @@ module _ (strict : Bool) (t : Store) (g : Granted) where
   grants_row (ShiftFile x q) n h = tt
   grants_row (ShiftFolder f q) n h = tt
   grants_row (Give k f) n h =
-      let two = and_parts (is_some (holder_entry (seen_store t g) k) && folder_stands (seen_store t g) f) (not (has_grant (seen_store t g) k f)) h in
-      let one = and_parts (is_some (holder_entry (seen_store t g) k)) (folder_stands (seen_store t g) f) two.0 in (
+      let two = and_parts (is_some (holder_entry (seen_store t g) k) && may_be_granted strict (seen_store t g) f) (not (has_grant (seen_store t g) k f)) h in
+      let one = and_parts (is_some (holder_entry (seen_store t g) k)) (may_be_granted strict (seen_store t g) f) two.0 in (
         holder_made k (sym (holder_seen t g k) ∙ one.0),
         λ i. false≢true (sym (sym (grant_seen t g k f) ∙ not-true (has_grant (seen_store t g) k f) two.1) ∙ (any_grant_told k f g.pairs).1 i),
       )

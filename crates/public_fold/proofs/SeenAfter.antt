@@ -3,6 +3,7 @@ use Rattle.std.proofs.Common.{◌≡◌, ℕ, ◌+◌, Bool, true, not, ◌==◌
 use Rattle.std.specs.List.{range_with_len}
 use Rattle.std.specs.Prelude.{unwrap_or}
 use Rattle.std.proofs.lemmas.List.{length_push, map-append}
+use Rattle.cry_base.specs.Clearances.{clear_number}
 use Rattle.cry_base.specs.Stepping.{with_new_holder, with_new_folder, with_new_file, with_folder, with_file, without_folder, without_file, without_grant}
 use Rattle.cry_base.specs.Store.{Store, GrantEntry, no_store, root_store}
 use Rattle.grant_book.specs.Granted.{grant_of, is_grant}
@@ -76,7 +77,7 @@ grants_after strict t checks pairs gs (NewFile x f) fit are = are
 grants_after strict t checks pairs gs (Rewrite x) fit are = are
 grants_after strict t checks pairs gs (NameFile x) fit are = are
 grants_after strict t checks pairs gs (NameFolder f) fit are = are
-grants_after strict t checks pairs gs (DropFile x) fit are = are
+grants_after strict t checks pairs gs (DropFile x) fit are = less_same pairs gs (λ e. not (e.folder == clear_number x)) are
 grants_after strict t checks pairs gs (DropFolder f) fit are = less_same pairs gs (λ e. not (e.folder == f)) are
 grants_after strict t checks pairs gs (ShiftFile x g) fit are = are
 grants_after strict t checks pairs gs (ShiftFolder g q) fit are = are

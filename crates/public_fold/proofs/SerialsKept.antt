@@ -1,5 +1,5 @@
 -- Present keys have serials of their own below the counter, and no epoch's count runs over.
-use Rattle.std.proofs.Common.{◌≡◌, ◌≢◌, ℕ, suc, ◌+◌, ◌*◌, ◌^◌, ◌≤◌, ◌<◌, Bool, true, false, cond, not, ◌==◌, ◌&&◌, ◌||◌, ◌⊎◌, List, [], ◌∷◌, ◌++◌, filter, length, Some, None, inl, inr, ⊎_elim, refl, sym, ap, ◌∙◌, subst, arith, length-append}
+use Rattle.std.proofs.Common.{◌≡◌, ◌≢◌, ℕ, suc, ◌+◌, ◌*◌, ◌^◌, ◌≤◌, ◌<◌, Bool, true, false, cond, not, ◌==◌, ◌&&◌, ◌||◌, ◌⊎◌, List, [], ◌∷◌, ◌++◌, filter, length, Option, Some, None, inl, inr, ⊎_elim, refl, sym, ap, ◌∙◌, subst, arith, length-append}
 use Rattle.std.specs.Prelude.{nat_lt}
 use Rattle.std.specs.List.{sum_by}
 use Rattle.std.proofs.lemmas.Bool.{or_right, or_parts, and_parts, and_from, or_cases, or_left, not_from_false, false≢true, cases_Bool, ltb-true, lt-ltb, ltb-false, eqb-true, eq-eqb, cases_order}
@@ -9,18 +9,19 @@ use Rattle.cry_base.specs.Layout.{batch_len, header_len}
 use Rattle.cry_base.specs.Limits.{most_file_bytes, most_store_bytes}
 use Rattle.cry_base.specs.Sets.{In, has}
 use Rattle.cry_base.specs.Store.{Store, FileEntry, root_store, no_store}
-use Rattle.cry_base.specs.Stepping.{effect}
+use Rattle.cry_base.specs.Stepping.{effect, without_grant}
+use Rattle.cry_base.specs.Clearances.{clear_number, file_of}
 use Rattle.cry_base.specs.declared.roles.Edge.{Edge}
 use Rattle.cry_base.specs.declared.roles.Role.{Role}
 use Rattle.cry_base.specs.declared.roles.Role.TheVariants.{Owner, Holder, Clear, Sub, Back, Files, Data, File}
 use Rattle.cry_base.proofs.Members.{In-append, filter-In}
 use Rattle.cry_base.proofs.Reaching.{in-has}
 use Rattle.role_graph.specs.Roles.{same_role, role_before, variant_of, role_id, is_root_role, clear_of, sub_of, back_of, files_of, data_of, file_role, folder_roles}
-use Rattle.role_graph.specs.Edges.{edge, edges, same_edge, folder_edges, file_edge, IsEdge}
-use Rattle.role_graph.specs.RightsByReach.{HasFolder}
+use Rattle.role_graph.specs.Edges.{edge, edges, same_edge, folder_edges, file_edge, clearance_edges, grant_edge, has_grants, IsEdge}
+use Rattle.role_graph.specs.RightsByReach.{HasFolder, IsClearance}
 use Rattle.role_graph.proofs.Comparing.{same_role_tells}
 use Rattle.role_graph.specs.Ascending.{with_role, ascending}
-use Rattle.move_plan.specs.Change.{Change, no_change, row_change, change_of}
+use Rattle.move_plan.specs.Change.{Change, no_change, row_change, change_of, edges_at, edges_of_first, given_on, taken_from, without_roles}
 use Rattle.record_format.specs.Noted.{Note}
 use Rattle.record_format.specs.Noted.Note.{Root, NewHolder, NewFolder, NewFile, Rewrite, NameFile, NameFolder, DropFile, DropFolder, ShiftFile, ShiftFolder, Give, Take, StrictRoot, Upgrade}
 use Rattle.move_plan.specs.Noting.{note_of}
@@ -33,8 +34,10 @@ use Rattle.public_fold.specs.Records.{Link, Piece, Content, pieces_of}
 use Rattle.public_fold.specs.Valid.{FollowOn, BeginsWell, IsValid}
 use Rattle.public_fold.proofs.Levels.{filter_shorter}
 use Rattle.public_fold.proofs.Serials.{numbered-between, numbered-length}
-use Rattle.public_fold.proofs.EdgesThen.{then_told}
+use Rattle.public_fold.proofs.EdgesThen.{clear_is, file_is, then_told}
 use Rattle.public_fold.proofs.KeepingKeys.{IsMove, newest-first, numbered-some, renewed_stands, same_key, no_key, in_or, keys_after}
+use Rattle.public_fold.proofs.Numbers.{IsWithin, numbers_below, within_did, within_made, within_session, within_upgraded}
+pub use Rattle.public_fold.proofs.Numbers.{spent}
 use Rattle.public_fold.proofs.KeyMoves.{IsSound, effect_sound, root_sound, command_moves, root_moves, upgrade_moves, nothing_holds, epoch_holds}
 
 -- the key that is found is among the keys
@@ -164,13 +167,19 @@ own_edge s f kind a b r q w i = (edge kind a b, inl (w.0, w.1, subst (λ n. In (
 
 file_led : (s : Store) (x : ℕ) → (y : FileEntry) × In y s.files × (y.id ≡ x) → (e : Edge) × IsEdge s e × (e.to ≡ File (record { 0 = x }))
 unfolding file_edge edge file_role
-file_led s x h = (file_edge h.0.folder h.0.id, inr (inr (inr (h.0, h.1, refl))), ap file_role h.2)
+file_led s x h = (file_edge h.0.folder h.0.id, file_is s (file_edge h.0.folder h.0.id) (h.0, h.1, refl), ap file_role h.2)
+
+clear_led : (s : Store) (f : ℕ) → IsClearance s f → (e : Edge) × IsEdge s e × (e.to ≡ Clear (record { 0 = f }))
+unfolding clearance_edges edge clear_of
+clear_led s f h =
+    let e = edge 1 Owner (clear_of (clear_number h.0.0.id)) in
+    (e, clear_is s e (h.0.0, h.0.1, subst (λ n. has_grants s n ≡ true) (sym h.0.2) h.1, inl refl), ap clear_of h.0.2)
 
 led_to : (s : Store) (r : Role) → HasRole s r → is_root_role r ≡ false → (e : Edge) × IsEdge s e × (e.to ≡ r)
 unfolding is_root_role variant_of folder_edges clear_of sub_of back_of files_of data_of
 led_to s Owner h t = absurd (false≢true (sym t))
 led_to s (Holder k) h t = absurd (false≢true (sym t))
-led_to s (Clear f) h t = own_edge s f.0 1 Owner (clear_of f.0) (Clear f) refl h (inl refl)
+led_to s (Clear f) h t = ⊎_elim (λ w. own_edge s f.0 1 Owner (clear_of f.0) (Clear f) refl w (inl refl)) (λ w. clear_led s f.0 w) h
 led_to s (Sub f) h t = own_edge s f.0 3 (clear_of f.0) (sub_of f.0) (Sub f) refl h (inr (inl refl))
 led_to s (Back f) h t = own_edge s f.0 4 (sub_of f.0) (back_of f.0) (Back f) refl h (inr (inr (inl refl)))
 led_to s (Files f) h t = own_edge s f.0 5 (sub_of f.0) (files_of f.0) (Files f) refl h (inr (inr (inr (inl refl))))
@@ -184,6 +193,24 @@ sum_content (c ∷ cs) =
     let h : length cs ≤ sum_by content_len cs = sum_content cs in
     let sum : sum_by content_len (c ∷ cs) ≡ content_len c + sum_by content_len cs = sum_by-cons content_len c cs in omega arith
 
+few_given : (s : Store) (h f : ℕ) (o : Option ℕ) → length (given_on s h f o).fresh ≤ 5
+unfolding given_on no_change
+few_given s h f None = omega arith
+few_given s h f (Some x) = by (has_grants s f)
+  where
+    by : (b : Bool) → length (cond b (record no_change { added = grant_edge h f ∷ [] }) (record no_change { fresh = clear_of f ∷ []; added = edges_of_first s h x })).fresh ≤ 5
+    by true = omega arith
+    by false = omega arith
+
+few_taken : (s : Store) (h f : ℕ) (o : Option ℕ) → length (taken_from s h f o).fresh ≤ 5
+unfolding taken_from without_roles no_change
+few_taken s h f None = omega arith
+few_taken s h f (Some x) = by (has_grants (without_grant s h f) f)
+  where
+    by : (b : Bool) → length (cond b (record no_change { removed = grant_edge h f ∷ []; wanted = clear_of f ∷ [] }) (record no_change { removed = edges_at s (clear_of f ∷ []); gone = clear_of f ∷ [] })).fresh ≤ 5
+    by true = omega arith
+    by false = omega arith
+
 -- no note brings more than five roles
 few_row : (s : Store) (note : Note) → length (row_change s note).fresh ≤ 5
 unfolding row_change no_change folder_roles
@@ -194,12 +221,12 @@ few_row s (NewFile x f) = omega arith
 few_row s (Rewrite x) = omega arith
 few_row s (NameFile x) = omega arith
 few_row s (NameFolder f) = omega arith
-few_row s (DropFile x) = omega arith
-few_row s (DropFolder f) = omega arith
+few_row s (DropFile x) = unfold without_roles in omega arith
+few_row s (DropFolder f) = unfold without_roles in omega arith
 few_row s (ShiftFile x g) = omega arith
 few_row s (ShiftFolder g q) = omega arith
-few_row s (Give h f) = omega arith
-few_row s (Take h f) = omega arith
+few_row s (Give h f) = few_given s h f (file_of f)
+few_row s (Take h f) = few_taken s h f (file_of f)
 few_row s StrictRoot = omega arith
 few_row s Upgrade = omega arith
 
@@ -287,34 +314,31 @@ serials_epoch k low ok = record {
   below = λ r n e. let high : n < k.epoch * 2 ^ 32 + k.count = ok.below r n e in omega arith;
 }
 
--- the bytes of batches with such payloads
-abbrev pub spent : List ℕ → ℕ
-spent lens = sum_by (λ len. batch_len + len) lens
-
-after_serials : (entries : List Entry) (at : Stand) (links : List Link) → IsSound at.store → KeysHold at.store at.keys links → SerialsHold at.keys → at.keys.count + spent (payloads_from at entries) ≤ most_store_bytes → FollowOn at entries
+after_serials : (entries : List Entry) (at : Stand) (links : List Link) → IsSound at.store → IsWithin at entries → KeysHold at.store at.keys links → SerialsHold at.keys → at.keys.count + spent (payloads_from at entries) ≤ most_store_bytes → FollowOn at entries
     → SerialsHold (stand_after at entries).keys × ((stand_after at entries).keys.count ≤ most_store_bytes)
 unfolding stand_after stand_then entry_store entry_step note_step payloads_from entry_payload next_epoch
-after_serials [] at links sound ok serials low f = (serials, omega arith)
-after_serials (Session ∷ entries) at links sound ok serials low f =
+after_serials [] at links sound few ok serials low f = (serials, omega arith)
+after_serials (Session ∷ entries) at links sound few ok serials low f =
     let rest = payloads_from (stand_then at Session) entries in
     let sum : spent (0 ∷ rest) ≡ (batch_len + 0) + spent rest = sum_by-cons (λ len. batch_len + len) 0 rest in
     let all : at.keys.count + spent (0 ∷ rest) ≤ most_store_bytes = low in
-    after_serials entries (stand_then at Session) links sound (epoch_holds at.store at.keys links ok) (serials_epoch at.keys (omega arith) serials) (omega arith) f.1
-after_serials (Made version keys ∷ entries) at links sound ok serials low f = absurd f.0
-after_serials (Did request keys ∷ entries) at links sound ok serials low f =
+    after_serials entries (stand_then at Session) links sound (within_session at entries few) (epoch_holds at.store at.keys links ok) (serials_epoch at.keys (omega arith) serials) (omega arith) f.1
+after_serials (Made version keys ∷ entries) at links sound few ok serials low f = absurd f.0
+after_serials (Did request keys ∷ entries) at links sound few ok serials low f =
     let s = at.store in
     let t = effect s request (first_key keys) in
     let note = note_of s request [] in
     let c = change_of (is_strict at.keys) s note in
-    let mv = command_moves (is_strict at.keys) s request (first_key keys) [] most_file_bytes f.0.0 sound in
+    let left = numbers_below at (Did request keys) entries few in
+    let mv = command_moves (is_strict at.keys) s request (first_key keys) [] most_file_bytes f.0.0 left sound in
     let step : Stepped = note_step at note t in
     let rest = payloads_from (stand_then at (Did request keys)) entries in
     let sum : spent (payload_len note step ∷ rest) ≡ (batch_len + payload_len note step) + spent rest = sum_by-cons (λ len. batch_len + len) (payload_len note step) rest in
     let all : at.keys.count + spent (payload_len note step ∷ rest) ≤ most_store_bytes = low in
     let more : step.after.count ≤ at.keys.count + (batch_len + payload_len note step) = count_after s t at.keys c links mv ok note (pieces_of note t) (few_fresh (is_strict at.keys) s note) in
-    after_serials entries (stand_then at (Did request keys)) (links ++ step.links) (effect_sound s request (first_key keys) most_file_bytes f.0.0 sound)
+    after_serials entries (stand_then at (Did request keys)) (links ++ step.links) (effect_sound (is_strict at.keys) s request (first_key keys) most_file_bytes f.0.0 left sound) (within_did at request keys entries few)
     (keys_after s t at.keys c links mv ok (pieces_of note t)) (serials_after s t at.keys c links mv ok (pieces_of note t) serials) (omega arith) f.1
-after_serials (Upgraded keys ∷ entries) at links sound ok serials low f =
+after_serials (Upgraded keys ∷ entries) at links sound few ok serials low f =
     let s = at.store in
     let c = change_of (is_strict at.keys) s Upgrade in
     let mv = upgrade_moves (is_strict at.keys) s sound in
@@ -323,7 +347,7 @@ after_serials (Upgraded keys ∷ entries) at links sound ok serials low f =
     let sum : spent (payload_len Upgrade step ∷ rest) ≡ (batch_len + payload_len Upgrade step) + spent rest = sum_by-cons (λ len. batch_len + len) (payload_len Upgrade step) rest in
     let all : at.keys.count + spent (payload_len Upgrade step ∷ rest) ≤ most_store_bytes = low in
     let more : step.after.count ≤ at.keys.count + (batch_len + payload_len Upgrade step) = count_after s s at.keys c links mv ok Upgrade (pieces_of Upgrade s) (few_fresh (is_strict at.keys) s Upgrade) in
-    after_serials entries (stand_then at (Upgraded keys)) (links ++ step.links) sound
+    after_serials entries (stand_then at (Upgraded keys)) (links ++ step.links) sound (within_upgraded at keys entries few)
     (keys_after s s at.keys c links mv ok (pieces_of Upgrade s)) (serials_after s s at.keys c links mv ok (pieces_of Upgrade s) serials) (omega arith) f.1
 
 -- the first epoch has the owner's key alone
@@ -358,7 +382,7 @@ begun_serials (Session ∷ Made version keys ∷ es) b low =
     let sum : spent (payload_len root step ∷ rest) ≡ (batch_len + payload_len root step) + spent rest = sum_by-cons (λ len. batch_len + len) (payload_len root step) rest in
     let all : header_len + spent (0 ∷ payload_len root step ∷ rest) ≤ most_store_bytes = low in
     let more : step.after.count ≤ k.count + (batch_len + payload_len root step) = count_after no_store root_store k c [] (root_moves version) nothing_holds root (pieces_of root root_store) (few_fresh false no_store root) in
-    after_serials es at step.links root_sound (keys_after no_store root_store k c [] (root_moves version) nothing_holds (pieces_of root root_store))
+    after_serials es at step.links root_sound (within_made version keys es low) (keys_after no_store root_store k c [] (root_moves version) nothing_holds (pieces_of root root_store))
     (serials_after no_store root_store k c [] (root_moves version) nothing_holds (pieces_of root root_store) first_serials) (omega arith) b.1
 begun_serials (Session ∷ Did request keys ∷ es) b low = absurd b
 begun_serials (Session ∷ Upgraded keys ∷ es) b low = absurd b

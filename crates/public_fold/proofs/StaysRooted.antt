@@ -1,8 +1,9 @@
 -- What everyone may see stays rooted through a note that fits.
-use Rattle.std.proofs.Common.{◌≡◌, ℕ, Bool, true, List, subst}
+use Rattle.std.proofs.Common.{◌≡◌, ℕ, Bool, true, List, ⊎_elim, refl, ap, subst}
 use Rattle.cry_base.specs.Sets.{In}
 use Rattle.cry_base.specs.Stepping.{with_new_holder, with_new_folder, with_new_file, with_folder, with_file, without_folder, without_file, without_grant}
 use Rattle.cry_base.specs.Store.{Store, GrantEntry, no_store, root_store}
+use Rattle.role_graph.specs.PublicStore.{FoldersBelow}
 use Rattle.grant_book.specs.Granted.{grant_of}
 use Rattle.grant_book.proofs.Matched.{granted_more}
 use Rattle.record_format.specs.Noted.{Note}
@@ -12,6 +13,7 @@ use Rattle.public_fold.specs.Changing.{checks_then, pairs_then, tree_then}
 use Rattle.public_fold.specs.Rooted.{IsRooted, MayStand}
 use Rattle.public_fold.specs.Told.{told_store}
 use Rattle.public_fold.proofs.NoteMoves.{note_rooted}
+use Rattle.public_fold.proofs.RolesAfter.{folder_below}
 use Rattle.public_fold.proofs.SeenAfter.{seen, store_after}
 use Rattle.public_fold.proofs.SeenSame.{granting}
 
@@ -26,6 +28,8 @@ fewer_rooted s gs stood ok = record {
   file_folder = ok.file_folder;
   granted_stands = λ g i. ok.granted_stands g (stood g i);
   held = λ g i. ok.held g (stood g i);
+  folders_below = ok.folders_below;
+  files_below = ok.files_below;
 }
 
 -- the grants that the code keeps are those after the note
@@ -53,3 +57,11 @@ seen_rooted strict t checks pairs note ok fit =
     let told = told_store (seen t checks pairs) note in
     let after : IsRooted (seen (tree_then t note) (checks_then checks note) told.grants) = subst IsRooted (store_after t checks pairs note) (note_rooted strict (seen t checks pairs) note fit ok) in
     fewer_rooted (seen (tree_then t note) (checks_then checks note) told.grants) (pairs_then pairs note) (pair_granted t checks pairs note) after
+
+-- no folder has a clearance number
+pub folders_below : (s : Store) → MayStand s → FoldersBelow s
+unfolding no_store
+folders_below s may e i = ⊎_elim
+    (λ (none : s ≡ no_store). absurd (subst (In e) (ap (λ (z : Store). z.folders) none) i))
+    (λ rooted. folder_below s e.id rooted (e, i, refl))
+    may

@@ -11,7 +11,7 @@ use Rattle.grant_book.proofs.Lists.{is_some-find}
 use Rattle.record_format.specs.Noted.{Note}
 use Rattle.record_format.specs.Noted.Note.{Root, NewHolder, NewFolder, NewFile, Rewrite, NameFile, NameFolder, DropFile, DropFolder, ShiftFile, ShiftFolder, Give, Take, StrictRoot, Upgrade}
 use Rattle.move_plan.specs.Change.{Change}
-use Rattle.move_plan.specs.Fitting.{file_stands, fits, folder_stands, has_depth_left, is_other_folder, row_fits}
+use Rattle.move_plan.specs.Fitting.{file_stands, fits, folder_stands, has_depth_left, is_next_below, is_other_folder, row_fits}
 use Rattle.public_fold.specs.Heads.{content_head, due_of, textless}
 use Rattle.public_fold.specs.KeyStep.{KeyState, content_of, contents_from, given, key_step, keys_then, keys_without, links_from, next_serial, numbered, published, published_edges, renewed, step_with, version_then}
 use Rattle.public_fold.specs.Records.{Piece, file_piece, folder_piece, holder_piece, pieces_of, sealing_role}
@@ -19,6 +19,7 @@ use Rattle.public_fold.specs.Stepping.{IsDue, IsNumbered, IsStep, counted, keyed
 use Rattle.public_fold.specs.Told.{told_store}
 use Rattle.public_fold.specs.declared.step.Due.{Due}
 use Rattle.public_fold.specs.declared.step.Step.{Step}
+use Rattle.public_fold.proofs.MayChange.{next}
 use Rattle.public_fold.proofs.Serials.{numbered-length}
 
 -- ---- what is due to be sealed
@@ -55,9 +56,9 @@ row_due strict s Root t = refl
 row_due strict s (NewHolder h check) t = holder_due (find (λ e. e.number == h) (s.holders ++ record { number = s.holders_made + 1; key = [] } ∷ [])) h
     (found_behind HolderEntry (λ e. e.number == h) s.holders (record { number = s.holders_made + 1; key = [] }) (turned h (s.holders_made + 1) t))
 row_due strict s (NewFolder f p) t = folder_due (find (λ e. e.id == f) (s.folders ++ record { id = s.folders_made + 1; parent = p; name = [] } ∷ [])) f
-    (found_behind FolderEntry (λ e. e.id == f) s.folders (record { id = s.folders_made + 1; parent = p; name = [] }) (turned f (s.folders_made + 1) (and_parts (f == s.folders_made + 1) (has_depth_left s p) t).0))
+    (found_behind FolderEntry (λ e. e.id == f) s.folders (record { id = s.folders_made + 1; parent = p; name = [] }) (eq-eqb (s.folders_made + 1) f (sym (next f s.folders_made (and_parts (is_next_below f s.folders_made) (has_depth_left s p) t).0))))
 row_due strict s (NewFile x f) t = file_due (find (λ e. e.id == x) (s.files ++ record { id = s.files_made + 1; folder = f; name = []; bytes = [] } ∷ [])) x
-    (found_behind FileEntry (λ e. e.id == x) s.files (record { id = s.files_made + 1; folder = f; name = []; bytes = [] }) (turned x (s.files_made + 1) (and_parts (x == s.files_made + 1) (has_depth_left s f) t).0))
+    (found_behind FileEntry (λ e. e.id == x) s.files (record { id = s.files_made + 1; folder = f; name = []; bytes = [] }) (eq-eqb (s.files_made + 1) x (sym (next x s.files_made (and_parts (is_next_below x s.files_made) (has_depth_left s f) t).0))))
 row_due strict s (Rewrite x) t = file_due (find (λ e. e.id == x) s.files) x t
 row_due strict s (NameFile x) t = file_due (find (λ e. e.id == x) s.files) x t
 row_due strict s (NameFolder f) t = folder_due (find (λ e. e.id == f) s.folders) f (and_parts (is_some (find (λ e. e.id == f) s.folders)) (not (f == 1)) t).0

@@ -1,7 +1,7 @@
 -- Whether a note fits, and its step, from what the code made.
 use Rattle.std.proofs.Common.{◌≡◌, ◌<◌, ◌≤◌, Bool, true, false, ◌&&◌, nat_lt, refl, sym, ap, ◌∙◌, subst, arith}
 use Rattle.std.proofs.lemmas.Bool.{and_from, and_left, and_parts, and_right, lt-ltb, le-ltb}
-use Rattle.role_graph.specs.Edges.{edges}
+use Rattle.role_graph.specs.Edges.{edges, has_grants}
 use Rattle.role_graph.specs.PublicStore.{public_store}
 use Rattle.record_format.specs.Noted.{Note}
 use Rattle.move_plan.specs.Change.{Change, change_of}
@@ -47,7 +47,7 @@ fit_of v note e =
 
 -- holders don't show in edges
 pub edges_seen : (v : PublicView) → edges (public_store v.tree v.pairs) ≡ edges (public_store_of v)
-unfolding edges
+unfolding edges has_grants
 edges_seen v = refl
 
 -- why a change of a note was refused

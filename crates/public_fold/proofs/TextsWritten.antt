@@ -1,6 +1,7 @@
 -- Each folder, file and holder that comes has a content in the step of its note.
 use Rattle.std.proofs.Common.{◌≡◌, true, ℕ, ◌+◌, ◌≤◌, false, ◌==◌, List, [], ◌∷◌, ◌++◌, length, Some, None, inl, inr, ⊎_elim, refl, sym, ap, ◌∙◌, subst, arith}
 use Rattle.std.proofs.lemmas.Bool.{eq-eqb, false≢true}
+use Rattle.cry_base.specs.Clearances.{file_of}
 use Rattle.cry_base.specs.Sets.{In}
 use Rattle.cry_base.specs.Store.{Store, FolderEntry, FileEntry, HolderEntry, folder_entry, file_entry, holder_entry}
 use Rattle.cry_base.specs.declared.roles.Role.{Role}
@@ -9,7 +10,7 @@ use Rattle.cry_base.proofs.Members.{In-append}
 use Rattle.role_graph.specs.Edges.{edges}
 use Rattle.role_graph.specs.RightsByReach.{HasFolder}
 use Rattle.role_graph.specs.Roles.{holder_role, clear_of, sub_of, back_of, files_of, data_of, file_role, folder_roles, variant_of, role_id}
-use Rattle.move_plan.specs.Change.{no_change, row_change, change_of}
+use Rattle.move_plan.specs.Change.{no_change, row_change, change_of, without_roles}
 use Rattle.move_plan.specs.Fitting.{fits}
 use Rattle.record_format.specs.Noted.{Note}
 use Rattle.record_format.specs.Noted.Note.{Root, NewHolder, NewFolder, NewFile, Rewrite, NameFile, NameFolder, DropFile, DropFolder, ShiftFile, ShiftFolder, Give, Take, StrictRoot, Upgrade}
@@ -23,6 +24,7 @@ use Rattle.public_fold.specs.Told.{told_store}
 use Rattle.public_fold.proofs.KeepingKeys.{IsMove}
 use Rattle.public_fold.proofs.NoteMoves.{note_moves}
 use Rattle.public_fold.proofs.RolesAfter.{HasHolder, HasFile}
+use Rattle.public_fold.proofs.RowEnds.{given_fresh, taken_fresh}
 
 -- what is sealed of something that stands
 abbrev IsPiece : List Piece → ℕ → ℕ → Type 0
@@ -80,7 +82,7 @@ other_role a b t i = false≢true (sym t ∙ eq-eqb (variant_of a) (variant_of b
 
 -- what comes is sealed
 fresh_folder : (s t : Store) (note : Note) (f : ℕ) → In (data_of f) (row_change s note).fresh → pieces_of note t ≡ folder_piece t f
-unfolding row_change no_change pieces_of data_of holder_role file_role variant_of
+unfolding row_change without_roles no_change pieces_of data_of clear_of holder_role file_role variant_of
 fresh_folder s t Root f i = ap (folder_piece t) (sym (data_in 1 f i))
 fresh_folder s t (NewHolder h check) f i = absurd (other_role (data_of f) (holder_role h) refl i)
 fresh_folder s t (NewFolder n p) f i = ap (folder_piece t) (sym (data_in n f i))
@@ -92,13 +94,13 @@ fresh_folder s t (DropFile x) f i = absurd i
 fresh_folder s t (DropFolder g) f i = absurd i
 fresh_folder s t (ShiftFile x g) f i = absurd i
 fresh_folder s t (ShiftFolder g q) f i = absurd i
-fresh_folder s t (Give h g) f i = absurd i
-fresh_folder s t (Take h g) f i = absurd i
+fresh_folder s t (Give h g) f i = absurd (other_role (data_of f) (clear_of g) refl (inl (given_fresh s h g (file_of g) (data_of f) i)))
+fresh_folder s t (Take h g) f i = absurd (taken_fresh s h g (file_of g) (data_of f) i)
 fresh_folder s t StrictRoot f i = ap (folder_piece t) (sym (data_in 1 f i))
 fresh_folder s t Upgrade f i = absurd i
 
 fresh_file : (s t : Store) (note : Note) (x : ℕ) → In (file_role x) (row_change s note).fresh → pieces_of note t ≡ file_piece t x
-unfolding row_change no_change pieces_of holder_role file_role variant_of role_id
+unfolding row_change without_roles no_change pieces_of clear_of holder_role file_role variant_of role_id
 fresh_file s t Root x i = absurd (file_out 1 x i)
 fresh_file s t (NewHolder h check) x i = absurd (other_role (file_role x) (holder_role h) refl i)
 fresh_file s t (NewFolder n p) x i = absurd (file_out n x i)
@@ -110,13 +112,13 @@ fresh_file s t (DropFile y) x i = absurd i
 fresh_file s t (DropFolder g) x i = absurd i
 fresh_file s t (ShiftFile y g) x i = absurd i
 fresh_file s t (ShiftFolder g q) x i = absurd i
-fresh_file s t (Give h g) x i = absurd i
-fresh_file s t (Take h g) x i = absurd i
+fresh_file s t (Give h g) x i = absurd (other_role (file_role x) (clear_of g) refl (inl (given_fresh s h g (file_of g) (file_role x) i)))
+fresh_file s t (Take h g) x i = absurd (taken_fresh s h g (file_of g) (file_role x) i)
 fresh_file s t StrictRoot x i = absurd (file_out 1 x i)
 fresh_file s t Upgrade x i = absurd i
 
 fresh_holder : (s t : Store) (note : Note) (h : ℕ) → In (holder_role h) (row_change s note).fresh → pieces_of note t ≡ holder_piece t h
-unfolding row_change no_change pieces_of holder_role file_role variant_of role_id
+unfolding row_change without_roles no_change pieces_of clear_of holder_role file_role variant_of role_id
 fresh_holder s t Root h i = absurd (holder_out 1 h i)
 fresh_holder s t (NewHolder k check) h i = ap (holder_piece t) (sym (one_role (holder_role h) (holder_role k) i).1)
 fresh_holder s t (NewFolder n p) h i = absurd (holder_out n h i)
@@ -128,8 +130,8 @@ fresh_holder s t (DropFile y) h i = absurd i
 fresh_holder s t (DropFolder g) h i = absurd i
 fresh_holder s t (ShiftFile y g) h i = absurd i
 fresh_holder s t (ShiftFolder g q) h i = absurd i
-fresh_holder s t (Give k g) h i = absurd i
-fresh_holder s t (Take k g) h i = absurd i
+fresh_holder s t (Give k g) h i = absurd (other_role (holder_role h) (clear_of g) refl (inl (given_fresh s k g (file_of g) (holder_role h) i)))
+fresh_holder s t (Take k g) h i = absurd (taken_fresh s k g (file_of g) (holder_role h) i)
 fresh_holder s t StrictRoot h i = absurd (holder_out 1 h i)
 fresh_holder s t Upgrade h i = absurd i
 

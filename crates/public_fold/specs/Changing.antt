@@ -1,5 +1,6 @@
 -- What a note makes of the tree and of the grants that the code keeps. This project's own, docs/FORMAT.md, "The key step".
 use Rattle.std.specs.Prelude.{◌≡◌, ◌≢◌, ℕ, ◌+◌, false, List, [], ◌∷◌, ◌++◌, length, IsSome}
+use Rattle.cry_base.specs.Clearances.{clear_number}
 use Rattle.cry_base.specs.Refusing.{has_child}
 use Rattle.cry_base.specs.Sets.{In}
 use Rattle.cry_base.specs.Store.{Store, GrantEntry, file_entry, folder_entry, root_store}
@@ -37,7 +38,7 @@ pairs_then pairs (NewFile x f) = pairs
 pairs_then pairs (Rewrite x) = pairs
 pairs_then pairs (NameFile x) = pairs
 pairs_then pairs (NameFolder f) = pairs
-pairs_then pairs (DropFile x) = pairs
+pairs_then pairs (DropFile x) = without_pairs_on pairs (clear_number x)
 pairs_then pairs (DropFolder f) = without_pairs_on pairs f
 pairs_then pairs (ShiftFile x g) = pairs
 pairs_then pairs (ShiftFolder g q) = pairs

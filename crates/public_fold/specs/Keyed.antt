@@ -1,5 +1,5 @@
 -- What holds of the keys after each entry.
-use Rattle.std.specs.Prelude.{◌≡◌, ◌<◌, ◌↔◌, ℕ, false, List, Some}
+use Rattle.std.specs.Prelude.{◌≡◌, ◌<◌, ◌↔◌, ◌⊎◌, ℕ, false, List, Some}
 use Rattle.std.specs.List.{flat_map}
 use Rattle.cry_base.specs.Sets.{In}
 use Rattle.cry_base.specs.Store.{Store, FileEntry, HolderEntry}
@@ -7,17 +7,17 @@ use Rattle.cry_base.specs.declared.roles.Edge.{Edge}
 use Rattle.cry_base.specs.declared.roles.Role.{Role}
 use Rattle.cry_base.specs.declared.roles.Role.TheVariants.{Owner, Holder, Clear, Sub, Back, Files, Data, File}
 use Rattle.role_graph.specs.Edges.{edges}
-use Rattle.role_graph.specs.RightsByReach.{HasFolder}
+use Rattle.role_graph.specs.RightsByReach.{HasFolder, IsClearance}
 use Rattle.role_graph.specs.Roles.{is_root_role}
 use Rattle.public_fold.specs.Records.{Link}
 use Rattle.public_fold.specs.Rooted.{MayStand}
 use Rattle.public_fold.specs.KeyStep.{KeyState, Stepped, next_serial, newest, present}
 
--- the role is the owner's, or one of a holder, a folder or a file that stands
+-- the role is the owner's, or one of a holder, a folder or a file that stands, a file's clearance where it has a grant
 abbrev pub HasRole : Store → Role → Type 0
 HasRole s Owner = Unit {0}
 HasRole s (Holder h) = (e : HolderEntry) × In e s.holders × (e.number ≡ h.0)
-HasRole s (Clear f) = HasFolder s f.0
+HasRole s (Clear f) = HasFolder s f.0 ⊎ IsClearance s f.0
 HasRole s (Sub f) = HasFolder s f.0
 HasRole s (Back f) = HasFolder s f.0
 HasRole s (Files f) = HasFolder s f.0

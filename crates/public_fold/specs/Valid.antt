@@ -1,17 +1,18 @@
 -- Which journals there are. This project's own, docs/FORMAT.md.
 use Rattle.std.specs.Prelude.{◌≡◌, ◌≤◌, ◌⊎◌, ℕ, List, [], ◌∷◌, length, None}
 use Rattle.cry_base.specs.Limits.{most_file_bytes, most_store_bytes}
-use Rattle.cry_base.specs.Refusing.{refusal_of}
+use Rattle.cry_base.specs.Refusing.{refusal_in}
 use Rattle.public_fold.specs.Journal.{Entry, Journal, Stand, nothing, entry_step, stand_then}
 use Rattle.public_fold.specs.Journal.Entry.{Session, Made, Did, Upgraded}
+use Rattle.public_fold.specs.KeyStep.{is_strict}
 use Rattle.public_fold.specs.Lengths.{end_of}
 
--- the entry may come next: a command is accepted, a store of version 1 is made one of version 2; either drew a key for each that its step
+-- the entry may come next: a command is accepted by a store of the version, a store of version 1 is made one of version 2; either drew a key for each that its step
 -- gives
 abbrev pub IsNext : Stand → Entry → Type 0
 IsNext at Session = Unit {0}
 IsNext at (Made version keys) = ⊥
-IsNext at (Did request keys) = (refusal_of at.store request most_file_bytes ≡ None)
+IsNext at (Did request keys) = (refusal_in (is_strict at.keys) at.store request most_file_bytes ≡ None)
     × (length keys ≡ length (entry_step at (Did request keys)).given)
 IsNext at (Upgraded keys) = (at.keys.version ≡ 1) × (length keys ≡ length (entry_step at (Upgraded keys)).given)
 

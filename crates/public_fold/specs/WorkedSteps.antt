@@ -104,6 +104,23 @@ unfoldable pub departing_after_it : Journal
 departing_after_it = upgrading ++ (Session ∷ does 5 (MakeFolder (codes "/b")) ∷ does 5 (Relocate (codes "/a/x") (codes "/b"))
     ∷ does 1 (WriteFile (codes "/b/x") (2 ∷ [])) ∷ [])
 
+-- the rows on grants on a file: the second holder is granted /a/x, and loses the grant again; the first one loses /a; the file moves, and
+-- goes
+unfoldable pub granting_file : Journal
+granting_file = fresh_strict ++ (Session ∷ does 5 (MakeFolder (codes "/a")) ∷ does 1 (WriteFile (codes "/a/x") (0 ∷ 255 ∷ []))
+    ∷ does 1 AddHolder ∷ does 0 (Grant 1 (codes "/a"))
+    ∷ Session ∷ does 1 AddHolder ∷ does 1 (Grant 2 (codes "/a/x")) ∷ [])
+
+unfoldable pub revoking_file : Journal
+revoking_file = granting_file ++ (does 0 (Revoke 2 (codes "/a/x")) ∷ does 1 (WriteFile (codes "/a/x") (1 ∷ [])) ∷ [])
+
+unfoldable pub keeping_file : Journal
+keeping_file = granting_file ++ (Session ∷ does 1 (Revoke 1 (codes "/a")) ∷ does 3 (WriteFile (codes "/a/x") (1 ∷ [])) ∷ [])
+
+unfoldable pub moving_file : Journal
+moving_file = granting_file ++ (does 0 (Grant 1 (codes "/a/x")) ∷ does 1 (Revoke 1 (codes "/a/x")) ∷ does 6 (Relocate (codes "/a/x") (codes "/"))
+    ∷ does 3 (Remove (codes "/x")) ∷ [])
+
 -- the step of batch n, from 1
 unfoldable pub step_at : Journal → ℕ → List Stepped
 step_at m zero = []
@@ -142,5 +159,6 @@ unfolding has_count note_fits entry_fits all_fit digits entry_change edges_agree
     links_from content_of contents_from published step_with key_step nothing first_key note_step root_note entry_step entry_store
     stand_then stand_after store_of keys_of steps_from steps_of note_len content_len payload_len entry_payload payloads_from end_of
     some_keys does fresh renaming rewriting granting revoking writing_again renaming_again moving_away making_again dropping
-    fresh_strict moving_strictly departing_strictly upgrading departing_after_it step_at renewals_at links_at contents_at
+    fresh_strict moving_strictly departing_strictly upgrading departing_after_it granting_file revoking_file
+    keeping_file moving_file step_at renewals_at links_at contents_at
 journals = tt

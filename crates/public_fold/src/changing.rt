@@ -1,6 +1,8 @@
 //! What a note changes in the tree, the holders and the grants.
 ghost use Rattle.std.specs.Prelude.{◌≡◌, ◌<◌, ◌≤◌, Bool, true, IfOk, option_map};
+ghost use Rattle.cry_base.specs.Clearances.{clear_number};
 ghost use Rattle.cry_base.specs.Store.{root_store};
+ghost use Rattle.grant_book.specs.Granted.{without_pairs_on};
 ghost use Rattle.move_plan.specs.Fitting.{fits as fits_store};
 ghost use Rattle.move_plan.specs.Seen.{seen_store};
 ghost use Rattle.record_format.specs.Told.{told_note};
@@ -8,10 +10,11 @@ ghost use Rattle.public_fold.specs.Changing.{CanChangeGrants, CanChangeTree, che
 ghost use Rattle.public_fold.specs.Preparing.{root_made};
 ghost use Rattle.public_fold.specs.Rooted.{MayStand};
 
-use cry_base::{Mem, Node};
+use cry_base::{FileId, Mem, Node};
 use folder_nodes::Shape;
 use grant_book::Grants;
 use record_format::Note;
+use role_graph::clearance_of;
 use std::alloc::Global;
 
 /// Makes the change of a note that fits; the root's is the tree at hand, since nothing stands before it. It takes no memory.
@@ -94,7 +97,8 @@ fn change_grants(grants: &mut Grants, note: &Note)
             is_number(holder.0);
             let _id = grants.add_holder(check);
         }
-        Note::DropFolder { folder } => grants.drop_folder(folder),
+        Note::DropFile { file } => drop_grants(grants, file),
+        Note::DropFolder { folder } => grants.drop_on(folder),
         Note::Give { holder, folder } => grants.grant(holder, folder),
         Note::Take { holder, folder } => grants.revoke(holder, folder),
         Note::Root
@@ -105,9 +109,19 @@ fn change_grants(grants: &mut Grants, note: &Note)
         | Note::Rewrite { .. }
         | Note::NameFile { .. }
         | Note::NameFolder { .. }
-        | Note::DropFile { .. }
         | Note::ShiftFile { .. }
         | Note::ShiftFolder { .. } => {}
+    }
+}
+
+/// Takes all grants on the file away. It takes no memory.
+fn drop_grants(grants: &mut Grants, file: FileId)
+    ensures pairs { grants.new.pairs ≡ without_pairs_on grants.old.pairs (clear_number file.0) }
+    ensures checks { grants.new.checks ≡ grants.old.checks }
+    ensures spare { grants.old.spare ≤ grants.new.spare }
+{
+    if let Some(clear) = clearance_of(grants, file) {
+        grants.drop_on(clear);
     }
 }
 

@@ -1,5 +1,6 @@
 //! Laws of journals.
 ghost use Rattle.std.specs.Prelude.{◌<◌, ◌+◌, ◌↔◌, ℕ, ◌≡◌, ◌≤◌, List, ◌++◌, length};
+ghost use Rattle.cry_base.specs.Clearances.{clear_base};
 ghost use Rattle.cry_base.specs.declared.roles.Role.{Role};
 ghost use Rattle.role_graph.specs.Edges.{Reaches, edges};
 ghost use Rattle.role_graph.specs.RightsByReach.{IsRightful, IsSettled, IsStandingRole};
@@ -10,9 +11,9 @@ ghost use Rattle.move_plan.specs.Change.{Change};
 ghost use Rattle.public_fold.specs.KeyStep.{KeyState, key_step, next_serial};
 ghost use Rattle.public_fold.specs.Records.{Content, Link, Piece};
 ghost use Rattle.public_fold.specs.Counted.{AreCounted};
-ghost use Rattle.public_fold.specs.Journal.{Journal, nothing, stand_after, steps_of, steps_from, store_of};
+ghost use Rattle.public_fold.specs.Journal.{Journal, keys_of, nothing, stand_after, steps_of, steps_from, store_of};
 ghost use Rattle.public_fold.specs.Lengths.{end_of};
-ghost use Rattle.public_fold.specs.Valid.{IsValid};
+ghost use Rattle.public_fold.specs.Valid.{IsValid, IsVersion};
 
 /// The first entries of a valid journal are one, from the two on that make the store.
 pub fn prefix_is_valid()
@@ -28,6 +29,17 @@ pub fn steps_grow()
 /// No number that stands is above the count of its kind ever made.
 pub fn numbers_are_counted()
     ensures { (m : Journal) → AreCounted (store_of m) }
+{}
+
+/// In a valid journal fewer than 2^31 folders and fewer than 2^31 files were ever made, since the store's limit leaves no bytes for more.
+pub fn numbers_stay_below_clearances()
+    ensures folders { (m : Journal) → IsValid m → (store_of m).folders_made + 1 < clear_base }
+    ensures files { (m : Journal) → IsValid m → (store_of m).files_made + 1 < clear_base }
+{}
+
+/// A valid journal is of version 1 or 2.
+pub fn journals_have_a_version()
+    ensures { (m : Journal) → IsValid m → IsVersion (keys_of m).version }
 {}
 
 /// In the store of a valid journal a holder's key leads to a role exactly where the holder has the right that it stands for.

@@ -8,6 +8,7 @@ ghost use Rattle.public_fold.specs.StandFits.{all_fit};
 ghost use Rattle.public_fold.specs.Valid.{IsValid};
 ghost use Rattle.public_fold.specs.WorkedSteps.{edges_agree, fresh, renaming, rewriting, granting, revoking, writing_again};
 ghost use Rattle.public_fold.specs.WorkedSteps.{moving_away, making_again, dropping, fresh_strict, moving_strictly, departing_strictly};
+ghost use Rattle.public_fold.specs.WorkedSteps.{granting_file, revoking_file, keeping_file, moving_file};
 ghost use Rattle.public_fold.specs.WorkedSteps.{renaming_again, upgrading, departing_after_it, step_at, renewals_at, links_at, contents_at};
 
 /// A fresh store has 819 bytes. Its keys, links and content are numbered in one row.
@@ -92,6 +93,8 @@ pub fn steps_leave_the_edges_of_the_store()
     ensures dropping { edges_agree nothing dropping ≡ replicate 13 true }
     ensures moving_strictly { edges_agree nothing moving_strictly ≡ replicate 11 true }
     ensures departing_after_it { edges_agree nothing departing_after_it ≡ replicate 13 true }
+    ensures revoking_file { edges_agree nothing revoking_file ≡ replicate 12 true }
+    ensures moving_file { edges_agree nothing moving_file ≡ replicate 14 true }
 {}
 
 /// The journals of these rows are valid, and each of their notes fits where it comes.
@@ -105,6 +108,9 @@ pub fn worked_journals_are_valid()
     ensures moved_strictly { IsValid moving_strictly }
     ensures departed_strictly { IsValid departing_strictly }
     ensures departed_after_it { IsValid departing_after_it }
+    ensures revoked_file { IsValid revoking_file }
+    ensures kept_file { IsValid keeping_file }
+    ensures moved_file { IsValid moving_file }
     ensures fit { map (all_fit nothing) (rewriting ∷ writing_again ∷ renaming_again ∷ moving_away ∷ making_again ∷ dropping ∷ []) ≡ true
         ∷ true ∷ true ∷ true ∷ true ∷ true ∷ [] }
 {}
@@ -149,4 +155,41 @@ pub fn upgraded()
     ensures length { end_of upgrading ≡ 4159 }
     ensures length_after { end_of departing_after_it ≡ 6726 }
     ensures links { links_at upgrading 9 ≡ 14 ∷ [] }
+{}
+
+/// The first grant on a file publishes four links, and gives one key, the file's clearance. A later one publishes one.
+#[tactic(auto, unfolding(crate::specs::WorkedSteps::journals))]
+pub fn file_grant()
+    ensures length { end_of granting_file ≡ 3432 }
+    ensures links { links_at granting_file 10 ≡ 4 ∷ [] }
+    ensures keys { map (λ s. map (λ key. key.0) s.given) (step_at granting_file 10) ≡ (clear_of 2147483649 ∷ []) ∷ [] }
+    ensures later { links_at moving_file 11 ≡ 1 ∷ [] }
+    ensures revoked { links_at moving_file 12 ≡ 4 ∷ [] }
+{}
+
+/// With the last grant on a file its clearance goes: nothing is published, and what it led to is renewed with the next write.
+#[tactic(auto, unfolding(crate::specs::WorkedSteps::journals))]
+pub fn file_revoked()
+    ensures length { end_of revoking_file ≡ 3841 }
+    ensures links { links_at revoking_file 11 ≡ 0 ∷ [] }
+    ensures dirty { map (λ s. length s.after.dirty) (step_at revoking_file 11) ≡ 5 ∷ [] }
+    ensures renewed_by_the_write { renewals_at revoking_file 12 ≡ (file_role 1 ∷ []) ∷ [] }
+    ensures links_of_the_write { links_at revoking_file 12 ≡ 1 ∷ [] }
+{}
+
+/// A folder's grant is taken back, and the file keeps its own: the next write links the file's new key from its clearance too.
+#[tactic(auto, unfolding(crate::specs::WorkedSteps::journals))]
+pub fn folder_revoked_file_kept()
+    ensures length { end_of keeping_file ≡ 4637 }
+    ensures links { links_at keeping_file 12 ≡ 2 ∷ [] }
+    ensures renewed_by_the_write { renewals_at keeping_file 13 ≡ (sub_of 2 ∷ files_of 2 ∷ file_role 1 ∷ []) ∷ [] }
+    ensures links_of_the_write { links_at keeping_file 13 ≡ 6 ∷ [] }
+{}
+
+/// A file with a grant that leaves a folder takes its clearance along, under a new key. With the file it goes.
+#[tactic(auto, unfolding(crate::specs::WorkedSteps::journals))]
+pub fn file_moved_with_grant()
+    ensures renewed { renewals_at moving_file 13 ≡ (clear_of 1 ∷ clear_of 2 ∷ clear_of 2147483649 ∷ sub_of 1 ∷ sub_of 2 ∷ files_of 2 ∷ []) ∷ [] }
+    ensures links { links_at moving_file 13 ≡ 15 ∷ [] }
+    ensures removed { links_at moving_file 14 ≡ 5 ∷ [] }
 {}

@@ -1,7 +1,7 @@
 //! Laws of the tree that stands in a journal's store.
 ghost use Rattle.std.specs.Prelude.{◌≡◌, ◌≤◌, ◌↔◌, ℕ, Bool, IsTrue, List, None, Some, length};
 ghost use Rattle.cry_base.specs.Naming.{names_of};
-ghost use Rattle.cry_base.specs.Refusing.{refusal_of};
+ghost use Rattle.cry_base.specs.Refusing.{refusal_in};
 ghost use Rattle.cry_base.specs.Requests.{Request};
 ghost use Rattle.cry_base.specs.Sets.{In};
 ghost use Rattle.cry_base.specs.Stepping.{effect};
@@ -43,11 +43,11 @@ pub fn names_in_a_folder_differ()
         → node_at (store_of m) (path_of (store_of m) node) ≡ Some node }
 {}
 
-/// The note of a command that isn't refused fits the store of a valid journal, whatever the version, whatever the limit on a
-/// file's bytes and whatever check the note carries.
+/// The note of a command that isn't refused in a store of the version fits the store of a valid journal, whatever the version, whatever
+/// the limit on a file's bytes and whatever check the note carries.
 pub fn accepted_notes_fit()
     ensures { (strict : Bool) (m : Journal) → IsValid m → (r : Request) (check : List ℕ) (file_bytes : ℕ)
-        → refusal_of (store_of m) r file_bytes ≡ None
+        → refusal_in strict (store_of m) r file_bytes ≡ None
         → IsTrue (fits strict (store_of m) (note_of (store_of m) r check)) }
 {}
 
@@ -55,7 +55,7 @@ pub fn accepted_notes_fit()
 /// journal of either version.
 pub fn steps_leave_the_edges()
     ensures { (strict : Bool) (m : Journal) → IsValid m → (r : Request) (key check : List ℕ) (file_bytes : ℕ)
-        → refusal_of (store_of m) r file_bytes ≡ None
+        → refusal_in strict (store_of m) r file_bytes ≡ None
         → (e : Edge) → In e (edges_then (edges (store_of m)) (change_of strict (store_of m) (note_of (store_of m) r check)))
         ↔ In e (edges (effect (store_of m) r key)) }
 {}

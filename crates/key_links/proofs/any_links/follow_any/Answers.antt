@@ -40,6 +40,14 @@ pub files-requires : goal.files-requires
 unfolding kind_from row_numbered
 files-requires c = source_kind c.args.link.now (role_of c.args.source.now) 9 c.requires.source c.in-9.is
 
+pub clear-requires-in-10 : goal.clear-requires-in-10
+unfolding kind_from row_numbered
+clear-requires-in-10 c = source_kind c.args.link.now (role_of c.args.source.now) 10 c.requires.source c.in-10.is
+
+pub clear-requires-in-11 : goal.clear-requires-in-11
+unfolding kind_from row_numbered
+clear-requires-in-11 c = source_kind c.args.link.now (role_of c.args.source.now) 11 c.requires.source c.in-11.is
+
 pub returns-in-1-clause-role : goal.returns-in-1-clause-role
 unfolding kind_to row_numbered
 returns-in-1-clause-role c = c.clear_behind.ensures.role (ap kind_to c.in-1.is)
@@ -75,3 +83,11 @@ returns-in-8-clause-role c = c.back_behind-in-8.ensures.role (ap kind_to c.in-8.
 pub returns-in-9-clause-role : goal.returns-in-9-clause-role
 unfolding kind_to row_numbered
 returns-in-9-clause-role c = c.file_behind.ensures.role (ap kind_to c.in-9.is)
+
+pub returns-in-10-clause-role : goal.returns-in-10-clause-role
+unfolding kind_to row_numbered
+returns-in-10-clause-role c = c.file_behind-in-10.ensures.role (ap kind_to c.in-10.is)
+
+pub returns-in-11-clause-role : goal.returns-in-11-clause-role
+unfolding kind_to row_numbered
+returns-in-11-clause-role c = c.back_behind-in-11.ensures.role (ap kind_to c.in-11.is)

@@ -33,3 +33,15 @@ returns-clause-departed_strictly c = ((refl, (tt, ((refl, refl), ((refl, refl), 
 pub returns-clause-departed_after_it : goal.returns-clause-departed_after_it
 unfolding journals
 returns-clause-departed_after_it c = ((refl, (tt, ((refl, refl), ((refl, refl), ((refl, refl), ((refl, refl), (tt, ((refl, refl), (tt, ((refl, refl), ((refl, refl), ((refl, refl), tt))))))))))), inl refl), lit≤ tt)
+
+pub returns-clause-revoked_file : goal.returns-clause-revoked_file
+unfolding journals
+returns-clause-revoked_file c = ((refl, (tt, ((refl, refl), ((refl, refl), ((refl, refl), ((refl, refl), (tt, ((refl, refl), ((refl, refl), ((refl, refl), ((refl, refl), tt)))))))))), inr refl), lit≤ tt)
+
+pub returns-clause-kept_file : goal.returns-clause-kept_file
+unfolding journals
+returns-clause-kept_file c = ((refl, (tt, ((refl, refl), ((refl, refl), ((refl, refl), ((refl, refl), (tt, ((refl, refl), ((refl, refl), (tt, ((refl, refl), ((refl, refl), tt))))))))))), inr refl), lit≤ tt)
+
+pub returns-clause-moved_file : goal.returns-clause-moved_file
+unfolding journals
+returns-clause-moved_file c = ((refl, (tt, ((refl, refl), ((refl, refl), ((refl, refl), ((refl, refl), (tt, ((refl, refl), ((refl, refl), ((refl, refl), ((refl, refl), ((refl, refl), ((refl, refl), tt)))))))))))), inr refl), lit≤ tt)

@@ -2,7 +2,11 @@ use Rattle.std.proofs.Common.{arith, ap, ◌∙◌}
 use Rattle.role_graph.specs.LookedUp.{LookedUp}
 use Rattle.role_graph.specs.PublicStore.{public_store}
 use Rattle.public_fold.specs.Standing.{PublicView}
+use Rattle.public_fold.proofs.StaysRooted.{folders_below}
 use Rattle.public_fold.proofs.step.due_counted.Goals as goal
+
+pub new-roles-requires : goal.new-roles-requires
+new-roles-requires c = folders_below _ c.state.invariant.stands
 
 pub due_of-due-requires : goal.due_of-due-requires
 due_of-due-requires c = ap (λ (l : LookedUp). l.store) c.new-roles.ensures ∙ ap (λ (w : PublicView). public_store w.tree w.pairs) c.state.view_is
