@@ -17,6 +17,7 @@ use Rattle.log_visits.specs.declared.fault.ClientFault.{ClientFault}
 use Rattle.log_visits.specs.declared.fault.ClientFault.TheVariants as faults
 use Rattle.log_visits.proofs.FoldedHolds.{first_stand, log_with}
 use Rattle.log_visits.proofs.Viewed.{fault_first}
+use Rattle.log_visits.proofs.Rights.{folder_below}
 use Rattle.public_fold.specs.Journal.{Stand, nothing}
 use Rattle.public_fold.specs.Standing.{IsSeenAs, PublicView}
 use Rattle.role_graph.specs.PublicStore.{GrantsStand}
@@ -77,21 +78,21 @@ pub bytes_ok : {A : Type 0} (read : Result A Fault) (x : A) → read ≡ Ok x �
 unfolding of_bytes
 bytes_ok read x is = rw is refl
 
--- ---- grants are on folders that stand
+-- ---- grants are on folders and files that stand
 
 no_grants : GrantsStand nothing.store
 unfolding nothing no_store
-no_grants g i = absurd i
+no_grants = record { granted_stands = λ g i. absurd i; folders_below = λ e i. absurd i }
 
 none_granted : GrantsStand no_store
 unfolding no_store
-none_granted g i = absurd i
+none_granted = record { granted_stands = λ g i. absurd i; folders_below = λ e i. absurd i }
 
 pub grants_stand : (log : List PlainPlaced) (stand : Stand) → folded nothing log ≡ Ok stand → GrantsStand stand.store
 grants_stand [] stand f = subst (λ (z : Stand). GrantsStand z.store) (first_stand stand f) no_grants
 grants_stand (p ∷ log) stand f = ⊎_elim
     (λ (none : stand.store ≡ no_store). subst GrantsStand (sym none) none_granted)
-    (λ rooted. rooted.granted_stands)
+    (λ rooted. record { granted_stands = rooted.granted_stands; folders_below = λ e i. folder_below stand.store rooted e i })
     (log_with p log stand f).1.store
 
 -- ---- a log that is followed

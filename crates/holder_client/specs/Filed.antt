@@ -1,32 +1,63 @@
 -- Files that were read, beside the names of folders that were opened. This project's own, docs/FORMAT.md, "Reading".
-use Rattle.std.specs.Prelude.{◌≡◌, Bool, true, List, [], ◌∷◌, Result, Ok}
+use Rattle.std.specs.Prelude.{◌≡◌, ◌==◌, ◌||◌, ℕ, Bool, true, List, [], ◌∷◌, Option, None, Some, Result, Ok, find, option_map}
+use Rattle.std.specs.HashMap.{HashMap, get}
+use Rattle.std.specs.List.{list_any}
 use Rattle.cry_base.specs.Sets.{In}
 use Rattle.cry_base.specs.Store.{Store, FileEntry}
 use Rattle.cry_base.specs.declared.client.Bundle.{Bundle}
+use Rattle.cry_base.specs.declared.ids.FolderId.{FolderId}
+use Rattle.cry_base.specs.declared.roles.Edge.{Edge}
 use Rattle.cry_base.specs.declared.roles.Role.{Role}
+use Rattle.cry_base.specs.declared.roles.Role.TheVariants.{Clear}
 use Rattle.folder_nodes.specs.Titles.{Title, Titles}
 use Rattle.folder_nodes.specs.declared.rows.FileRow.{FileRow}
 use Rattle.log_visits.specs.Holding.{HasNames, HoldsKeys, IsFiled}
 use Rattle.log_visits.specs.Judging.{Failure, of_bytes, opened_first, then_on, who_of}
+use Rattle.log_visits.specs.Sights.{opens, same_number}
 use Rattle.log_visits.specs.View.{Line, view}
 use Rattle.log_visits.specs.Visiting.{Opened, Reading, visit_all}
 use Rattle.log_visits.specs.Visits.{Visit, all_visits}
 use Rattle.log_visits.specs.Visits.Visit.{ToKey, ToFile}
+use Rattle.log_visits.specs.declared.entry_files.EntryFile.{EntryFile}
 use Rattle.log_visits.specs.declared.opening.OwnersView.{OwnersView}
+use Rattle.log_visits.specs.declared.sights.Sight.{Sight}
 use Rattle.holder_client.specs.declared.reading.ReadFile.{ReadFile}
-use Rattle.role_graph.specs.Edges.{file_edge}
+use Rattle.role_graph.specs.Edges.{IsEdge, edge, file_edge}
+use Rattle.role_graph.specs.Roles.{file_role}
 
 -- every role
 abbrev pub everyone : Role → Bool
 everyone role = true
 
--- the two visits of a file
-abbrev pub file_stops : FileRow → List Visit
-file_stops r = ToKey (file_edge r.folder.0 r.id.0) ∷ ToFile r.id.0 ∷ []
+-- the entry file with a number
+abbrev pub is_entry : ℕ → EntryFile → Bool
+is_entry x e = e.file.0 == x
 
--- each of these rows is of a file that stands
-abbrev pub AreStanding : Store → List FileRow → Type 0
-AreStanding s rows = (r : FileRow) → In r rows → (e : FileEntry) × In e s.files × (e.id ≡ r.id.0) × (e.folder ≡ r.folder.0)
+-- the file is in a folder that is allowed, or an entry file
+abbrev pub is_allowed : List Sight → List EntryFile → FileRow → Bool
+is_allowed sights entries r = list_any (opens r.folder.0) sights || list_any (is_entry r.id.0) entries
+
+-- the edge into a file: from the clearance of an entry file, and else from the Files of its folder
+abbrev pub edge_from : FileRow → Option FolderId → Edge
+edge_from r None = file_edge r.folder.0 r.id.0
+edge_from r (Some clearance) = edge 10 (Clear clearance) (file_role r.id.0)
+
+abbrev pub edge_into : List EntryFile → FileRow → Edge
+edge_into entries r = edge_from r (option_map (λ (e : EntryFile). e.clearance) (find (is_entry r.id.0) entries))
+
+-- the two visits of a file
+abbrev pub file_stops : List EntryFile → FileRow → List Visit
+file_stops entries r = ToKey (edge_into entries r) ∷ ToFile r.id.0 ∷ []
+
+-- the map has the clearance of each entry file
+abbrev pub HasClearances : {S : Type 0} → HashMap ℕ FolderId S → List EntryFile → Type 0
+HasClearances clearances entries =
+    (x : ℕ) → get same_number clearances x ≡ option_map (λ (e : EntryFile). e.clearance) (find (is_entry x) entries)
+
+-- each of these rows is of a file that stands, and so are the edges into them
+abbrev pub AreStanding : Store → List EntryFile → List FileRow → Type 0
+AreStanding s entries rows = (r : FileRow) → In r rows →
+    (e : FileEntry) × In e s.files × (e.id ≡ r.id.0) × (e.folder ≡ r.folder.0) × IsEdge s (edge_into entries r)
 
 -- what is known of a file that was read
 abbrev pub read_title : ReadFile → Title

@@ -2,11 +2,12 @@
 ghost use Rattle.std.specs.Prelude.{◌≡◌, ◌||◌, ℕ, IfOk, OnOk, filter};
 ghost use Rattle.std.specs.HashSet.{contains};
 ghost use Rattle.std.specs.List.{list_any};
+ghost use Rattle.holder_client.specs.Filed.{is_allowed, is_entry};
 ghost use Rattle.log_visits.specs.Sights as spec;
 
 use cry_base::Mem;
 use folder_nodes::FileRow;
-use log_visits::Sight;
+use log_visits::{EntryFile, Sight};
 use sorted_table::Walk;
 use std::alloc::Global;
 use std::collections::HashSet;
@@ -33,37 +34,52 @@ fn allowed_folders(alloc: Global, sights: &[Sight]) -> Mem<HashSet<u32>>
     Ok(folders)
 }
 
-fn is_in(folders: &HashSet<u32>, row: &FileRow) -> bool
-    ensures { result ≡ contains spec.same_number folders.now row.now.folder.0 }
+/// The numbers of the entry files.
+fn entry_numbers(alloc: Global, entries: &[EntryFile]) -> Mem<HashSet<u32>>
+    ensures { IfOk result (λ numbers. (x : ℕ) → contains spec.same_number numbers x ≡ list_any (is_entry x) entries.now) }
 {
-    folders.contains(&row.folder.0)
+    let mut numbers = HashSet::new(alloc);
+    for entry in entries {
+        numbers.insert(entry.file.0)?;
+    }
+    Ok(numbers)
 }
 
-/// The files in these folders.
+fn is_in(folders: &HashSet<u32>, numbers: &HashSet<u32>, row: &FileRow) -> bool
+    ensures { result ≡ (contains spec.same_number folders.now row.now.folder.0 || contains spec.same_number numbers.now row.now.id.0) }
+{
+    folders.contains(&row.folder.0) || numbers.contains(&row.id.0)
+}
+
+/// The files in these folders, and those with these numbers.
 pub(crate) fn files_in(
     alloc: Global,
     folders: &HashSet<u32>,
+    numbers: &HashSet<u32>,
     files: Walk<'_, FileRow>,
 ) -> Mem<Vec<FileRow>>
-    ensures { IfOk result (λ l. l.items ≡ filter (λ r. contains spec.same_number folders.now r.folder.0) files.entry) }
+    ensures { IfOk result (λ l. l.items ≡ filter (λ r. contains spec.same_number folders.now r.folder.0
+        || contains spec.same_number numbers.now r.id.0) files.entry) }
 {
     let mut found = Vec::new(alloc);
     for row in files {
-        if is_in(folders, row) {
+        if is_in(folders, numbers, row) {
             found.push(*row)?;
         }
     }
     Ok(found)
 }
 
-/// The files in folders that are allowed.
+/// The files that are allowed: those in folders that are, and the entry files.
 pub(crate) fn allowed_files(
     alloc: Global,
     sights: &[Sight],
+    entries: &[EntryFile],
     files: Walk<'_, FileRow>,
 ) -> Mem<Vec<FileRow>>
-    ensures { IfOk result (λ l. l.items ≡ filter (λ r. list_any (spec.opens r.folder.0) sights.now) files.entry) }
+    ensures { IfOk result (λ l. l.items ≡ filter (is_allowed sights.now entries.now) files.entry) }
 {
     let folders = allowed_folders(alloc, sights)?;
-    files_in(alloc, &folders, files)
+    let numbers = entry_numbers(alloc, entries)?;
+    files_in(alloc, &folders, &numbers, files)
 }

@@ -5,7 +5,8 @@ ghost use Rattle.std.specs.List.{flat_map, list_any};
 ghost use Rattle.std.specs.Str.{bytes_eq};
 ghost use Rattle.cry_io.specs.Reading.{IsOnlyRead};
 ghost use Rattle.commit_journal.specs.Streaming.{ShowsGiven};
-ghost use Rattle.cry_base.specs.Naming.{is_path, parent_path};
+ghost use Rattle.cry_base.specs.Naming.{is_path, parent_path, spell_path};
+ghost use Rattle.cry_base.specs.Store.{folder_names};
 ghost use Rattle.cry_base.specs.declared.roles.Role.TheVariants.{Owner};
 ghost use Rattle.cry_io.specs.Told.{WhereTold};
 ghost use Rattle.folder_nodes.specs.Titles.{tree_store};
@@ -29,10 +30,13 @@ use crate::log_reading::{ReadLog, read_log};
 use crate::reading::{ReadFile, open_names, read_files, viewer_of};
 use crate::streamed_log::StreamedLog;
 use commit_journal::PublicLog;
-use cry_base::{Bundle, Line, Mem};
+use cry_base::{Bundle, FolderId, Line, Mem};
 use cry_io::Disk;
 use folder_nodes::{FileRow, OpenedNames, Shape, front_of, path_ok};
-use log_visits::{ClientFault, OwnersView, Records, Sight, all_sights, folder_path, is_nameless};
+use log_visits::{
+    ClientFault, EntryFile, OwnersView, Records, Sight, all_sights, entry_files_of, folder_path,
+    is_nameless,
+};
 use public_fold::PublicState;
 use sorted_table::Walk;
 use std::alloc::Global;
@@ -93,6 +97,14 @@ fn parent_of(path: &[u8]) -> &[u8]
     front_of(path)
 }
 
+/// Whether the folder has the path.
+fn is_at(alloc: Global, shape: &Shape, names: &OpenedNames, f: FolderId, path: &[u8]) -> Mem<bool>
+    ensures { IfOk result (λ is. is ≡ bytes_eq (spell_path (folder_names (tree_store shape.now.tree names.now) f.0)) path.now) }
+{
+    let own = folder_path(alloc, shape, names, f)?;
+    Ok(own.as_slice() == path)
+}
+
 /// Whether all in the folder may be read, and it has the path.
 fn is_open_at(
     alloc: Global,
@@ -106,8 +118,7 @@ fn is_open_at(
     if !sight.allowed {
         return Ok(false);
     }
-    let own = folder_path(alloc, shape, names, sight.folder)?;
-    Ok(own.as_slice() == path)
+    is_at(alloc, shape, names, sight.folder, path)
 }
 
 /// Notes the folder, where all in it may be read and it has the path.
@@ -146,23 +157,62 @@ fn folders_open_at(
     Ok(folders)
 }
 
+/// Notes the entry file's number, where its folder has the path.
+fn note_entry(
+    numbers: &mut HashSet<u32>,
+    alloc: Global,
+    shape: &Shape,
+    names: &OpenedNames,
+    entry: &EntryFile,
+    path: &[u8],
+) -> Mem<()>
+    ensures { OnOk result ((x : ℕ) → contains same_number numbers.new x
+        ≡ (contains same_number numbers.old x || spec.is_entry_at (tree_store shape.now.tree names.now) path.now x entry.now)) }
+{
+    if is_at(alloc, shape, names, entry.folder, path)? {
+        numbers.insert(entry.file.0)?;
+    }
+    Ok(())
+}
+
+/// The numbers of the entry files in folders with the path.
+fn entries_at(
+    alloc: Global,
+    shape: &Shape,
+    names: &OpenedNames,
+    entries: &[EntryFile],
+    path: &[u8],
+) -> Mem<HashSet<u32>>
+    ensures { IfOk result (λ numbers. (x : ℕ)
+        → contains same_number numbers x ≡ list_any (spec.is_entry_at (tree_store shape.now.tree names.now) path.now x) entries.now) }
+{
+    let mut numbers = HashSet::new(alloc);
+    for entry in entries {
+        note_entry(&mut numbers, alloc, shape, names, entry, path)?;
+    }
+    Ok(numbers)
+}
+
 /// The files that are allowed in folders with the path that this path, without its last name, is.
 fn files_beside(
     alloc: Global,
     shape: &Shape,
     names: &OpenedNames,
     sights: &[Sight],
+    entries: &[EntryFile],
     files: Walk<'_, FileRow>,
     path: &[u8],
 ) -> Mem<Vec<FileRow>>
-    ensures { IfOk result (λ l.
-        l.items ≡ filter (spec.is_row_beside (tree_store shape.now.tree names.now) sights.now path.now) files.entry) }
+    ensures { IfOk result (λ l. l.items
+        ≡ filter (spec.is_row_beside (tree_store shape.now.tree names.now) sights.now entries.now path.now) files.entry) }
 {
     if !path_ok(path) {
         return Ok(Vec::new(alloc));
     }
-    let folders = folders_open_at(alloc, shape, names, sights, parent_of(path))?;
-    files_in(alloc, &folders, files)
+    let parent = parent_of(path);
+    let folders = folders_open_at(alloc, shape, names, sights, parent)?;
+    let numbers = entries_at(alloc, shape, names, entries, parent)?;
+    files_in(alloc, &folders, &numbers, files)
 }
 
 /// Opens what the path needs of a log that may be read.
@@ -182,6 +232,8 @@ fn open_at<S, R: Records<S>>(
 {
     is_nameless(state);
     let seen = all_sights(alloc, state, viewer_of(bundle))?;
+    let entered = entry_files_of(alloc, state, viewer_of(bundle))?;
+    let entries = entered.as_slice();
     let OwnersView { ring, names } = open_names(
         alloc,
         bundle,
@@ -189,13 +241,16 @@ fn open_at<S, R: Records<S>>(
         records,
         source,
         seen.as_slice(),
+        entries,
     )?;
     let shape = state.shape();
     if let Some(line) = folder_at(alloc, shape, &names, seen.as_slice(), path)? {
         return Ok(line);
     }
-    let rows = files_beside(alloc, shape, &names, seen.as_slice(), shape.files(), path)?;
-    let files = read_files(alloc, state, records, source, ring, rows.as_slice())?;
+    let files = shape.files();
+    let found = files_beside(alloc, shape, &names, seen.as_slice(), entries, files, path)?;
+    let rows = found.as_slice();
+    let files = read_files(alloc, state, records, source, ring, entries, rows)?;
     match file_at(alloc, shape, &names, files, path)? {
         Some(line) => Ok(line),
         None => Err(ClientFault::Unseen),

@@ -1,6 +1,6 @@
 //! Worked rows of views, each computed by the checker from the definitions.
 ghost use Rattle.std.specs.Prelude.{◌≡◌, [], ◌∷◌, codes, map, true, false};
-ghost use Rattle.cry_base.specs.Requests.Request.{AddHolder, MakeFolder, WriteFile, Rename, Grant, Revoke};
+ghost use Rattle.cry_base.specs.Requests.Request.{AddHolder, MakeFolder, WriteFile, Relocate, Remove, Rename, Grant, Revoke};
 ghost use Rattle.cry_base.specs.Store.{root_store};
 ghost use Rattle.cry_base.specs.Texts.{ended_lines};
 ghost use Rattle.cry_base.specs.WorkedRows.{granted, store_after};
@@ -38,6 +38,18 @@ pub fn ancestors_shown()
 pub fn two_grants_one_revoked()
     ensures { spell_view (view (store_after granted (Grant 1 (codes "/") ∷ Revoke 1 (codes "/a") ∷ [])) (TheHolder 1))
         ≡ ended_lines (codes "folder /" ∷ codes "folder /a" ∷ codes "file /a/x 00ff" ∷ []) }
+{}
+
+/// A grant on a file shows the file and the names above it, and no file beside it; so it does where the file is moved to.
+#[tactic(auto, unfolding(log_visits::specs::WorkedViews::views))]
+pub fn file_granted()
+    ensures here { spell_view (view (store_after granted
+        (WriteFile (codes "/a/y") (1 ∷ []) ∷ AddHolder ∷ Grant 2 (codes "/a/x") ∷ [])) (TheHolder 2))
+        ≡ ended_lines (codes "ancestor /" ∷ codes "ancestor /a" ∷ codes "file /a/x 00ff" ∷ []) }
+    ensures moved { spell_view (view (store_after granted
+        (MakeFolder (codes "/p") ∷ AddHolder ∷ Grant 2 (codes "/a/x") ∷ Relocate (codes "/a/x") (codes "/p") ∷ [])) (TheHolder 2))
+        ≡ ended_lines (codes "ancestor /" ∷ codes "ancestor /p" ∷ codes "file /p/x 00ff" ∷ []) }
+    ensures removed { view (store_after granted (AddHolder ∷ Grant 2 (codes "/a/x") ∷ Remove (codes "/a/x") ∷ [])) (TheHolder 2) ≡ [] }
 {}
 
 /// Without a grant nothing is shown.

@@ -24,7 +24,7 @@ use crate::streamed_log::StreamedLog;
 use commit_journal::PublicLog;
 use cry_base::{Bundle, Line, List};
 use cry_io::Disk;
-use log_visits::{ClientFault, OwnersView, Records, all_sights, is_nameless};
+use log_visits::{ClientFault, OwnersView, Records, all_sights, entry_files_of, is_nameless};
 use public_fold::PublicState;
 use std::alloc::Global;
 
@@ -45,6 +45,8 @@ fn list_records<S, R: Records<S>>(
 {
     is_nameless(state);
     let seen = all_sights(alloc, state, viewer_of(bundle))?;
+    let entered = entry_files_of(alloc, state, viewer_of(bundle))?;
+    let entries = entered.as_slice();
     let OwnersView { ring, names } = open_names(
         alloc,
         bundle,
@@ -52,9 +54,18 @@ fn list_records<S, R: Records<S>>(
         records,
         source,
         seen.as_slice(),
+        entries,
     )?;
-    let rows = allowed_files(alloc, seen.as_slice(), state.shape().files())?;
-    let files = read_files(alloc, state, records, source, ring, rows.as_slice())?;
+    let rows = allowed_files(alloc, seen.as_slice(), entries, state.shape().files())?;
+    let files = read_files(
+        alloc,
+        state,
+        records,
+        source,
+        ring,
+        entries,
+        rows.as_slice(),
+    )?;
     Ok(view_lines(alloc, state.shape(), &names, seen.as_slice(), files)?)
 }
 

@@ -10,7 +10,7 @@ ghost use Rattle.role_graph.specs.Roles.{holder_role, clear_of, sub_of, back_of,
 ghost use Rattle.log_visits.specs.Asking.{folder_lines, is_beside, line_at};
 ghost use Rattle.log_visits.specs.View.{FolderLine};
 ghost use Rattle.log_visits.specs.Visiting.{is_folder_text, is_file_text};
-ghost use Rattle.log_visits.specs.Visits.{ToKey, ToName, ToFile, ToHolder, all_visits, lower_visits, holder_visits, files_that};
+ghost use Rattle.log_visits.specs.Visits.{ToKey, ToName, ToFile, ToHolder, all_visits, lower_visits, files_that, writing_visits};
 
 /// The visits of a holder with one grant: the granted folder first, then the root from below, then names, then the file.
 #[tactic(auto, unfolding(log_visits::specs::WorkedVerdicts::verdicts))]
@@ -21,7 +21,19 @@ pub fn visits_of_a_grant()
         ∷ ToKey (edge 9 (files_of 2) (file_role 1)) ∷ ToFile 1 ∷ [] }
 {}
 
-/// The owner comes into each folder by its own link, and needs none between folders; for writing the holders' keys come last.
+/// The visits of a holder with a grant on a file alone: into its clearance, up into its folder from there, up to the root, the names, and
+/// then the file from its clearance.
+#[tactic(auto, unfolding(log_visits::specs::WorkedVerdicts::verdicts))]
+pub fn visits_of_a_granted_file()
+    ensures { all_visits (store_after granted (AddHolder ∷ Grant 2 (codes "/a/x") ∷ [])) (TheHolder 2)
+        ≡ ToKey (edge 2 (holder_role 2) (clear_of 2147483649)) ∷ ToKey (edge 11 (clear_of 2147483649) (back_of 2))
+        ∷ ToKey (edge 8 (back_of 2) (back_of 1)) ∷ ToKey (edge 7 (back_of 1) (data_of 1)) ∷ ToName 1
+        ∷ ToKey (edge 7 (back_of 2) (data_of 2)) ∷ ToName 2
+        ∷ ToKey (edge 10 (clear_of 2147483649) (file_role 1)) ∷ ToFile 1 ∷ [] }
+{}
+
+/// The owner comes into each folder by its own link, and needs none between folders; for writing the holders' keys come behind, and last
+/// the clearances of files.
 #[tactic(auto, unfolding(log_visits::specs::WorkedVerdicts::verdicts))]
 pub fn visits_of_the_owner()
     ensures view { all_visits granted TheOwner ≡ ToKey (edge 1 Owner (clear_of 1)) ∷ ToKey (edge 3 (clear_of 1) (sub_of 1))
@@ -30,7 +42,8 @@ pub fn visits_of_the_owner()
         ∷ ToKey (edge 5 (sub_of 2) (files_of 2))
         ∷ ToKey (edge 7 (back_of 1) (data_of 1)) ∷ ToName 1 ∷ ToKey (edge 7 (back_of 2) (data_of 2)) ∷ ToName 2
         ∷ ToKey (edge 9 (files_of 2) (file_role 1)) ∷ ToFile 1 ∷ [] }
-    ensures writing { holder_visits granted ≡ ToHolder 1 ∷ [] }
+    ensures writing { writing_visits (store_after granted (Grant 1 (codes "/a/x") ∷ []))
+        ≡ ToHolder 1 ∷ ToKey (edge 1 Owner (clear_of 2147483649)) ∷ [] }
 {}
 
 /// Folders above a grant are opened from below, deeper ones first, and nothing beside them is.

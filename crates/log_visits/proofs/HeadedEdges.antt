@@ -14,7 +14,7 @@ use Rattle.kind_table.specs.Kinds.{kind_of, same_kind}
 use Rattle.kind_table.specs.Rows.{joins, kinds_row}
 use Rattle.kind_table.specs.declared.kinds.RoleKind.{RoleKind}
 use Rattle.kind_table.specs.declared.kinds.RoleKind.TheVariants.{Owner, Holder, Clear, Sub, Back, Files, Data, File}
-use Rattle.kind_table.specs.declared.nine.TheConstants.{NINE}
+use Rattle.kind_table.specs.declared.eleven.TheConstants.{ELEVEN}
 use Rattle.kind_table.specs.declared.table.Row.{Row}
 use Rattle.role_graph.specs.Edges.{edges}
 use Rattle.role_graph.specs.Joined as graph
@@ -51,9 +51,9 @@ head_stands s q = In-any Edge (λ e. same_link_heads (head_of_edge e) q) (λ e. 
 -- ---- a kind of links is told by the kinds of keys at its ends
 
 number_between : RoleKind → RoleKind → ℕ
-number_between a b = option_map_or (λ (r : Row). r.number) (find (joins a b) NINE.rows) 0
+number_between a b = option_map_or (λ (r : Row). r.number) (find (joins a b) ELEVEN.rows) 0
 
-numbered_so : (r : Row) → In r NINE.rows → number_between r.from r.to ≡ r.number
+numbered_so : (r : Row) → In r ELEVEN.rows → number_between r.from r.to ≡ r.number
 unfolding number_between joins same_kind
 numbered_so r i =
     let is : (d : Row) → number_between d.from d.to ≡ d.number → r ≡ d → number_between r.from r.to ≡ r.number =
@@ -67,7 +67,9 @@ numbered_so r i =
     (λ e. ⊎_elim (is (kinds_row 6 Sub Sub) refl)
     (λ f. ⊎_elim (is (kinds_row 7 Back Data) refl)
     (λ g. ⊎_elim (is (kinds_row 8 Back Back) refl)
-    (λ h. ⊎_elim (is (kinds_row 9 Files File) refl) (λ n. absurd n) h) g) f) e) d) c) b) a) i
+    (λ h. ⊎_elim (is (kinds_row 9 Files File) refl)
+    (λ j. ⊎_elim (is (kinds_row 10 Clear File) refl)
+    (λ k. ⊎_elim (is (kinds_row 11 Clear Back) refl) (λ n. absurd n) k) j) h) g) f) e) d) c) b) a) i
 
 -- no edge leads from the owner's key to itself
 none_to_itself : number_between Owner Owner ≡ 0
@@ -89,7 +91,7 @@ module _ (s : Store) (q : LinkHead) (e : Edge) (there : In e (edges s)) (from : 
   by_row : (o : Option Row) → row_numbered q.kind ≡ o → e.kind ≡ q.kind
   unfolding kind_from kind_to row_numbered
   by_row (Some r) is =
-      let found = find-found Row (λ x. x.number == q.kind) NINE.rows r is in
+      let found = find-found Row (λ x. x.number == q.kind) ELEVEN.rows r is in
       sym by_kind
       ∙ ap (λ o. number_between (option_map_or (λ (x : Row). x.from) o Owner) (option_map_or (λ (x : Row). x.to) o Owner)) is
       ∙ numbered_so r found.0 ∙ eqb-true r.number q.kind found.1

@@ -10,6 +10,7 @@ use Rattle.std.proofs.lemmas.List.{append-nil}
 use Rattle.std.proofs.lemmas.Map.Entries.{lookup-filter-keys}
 use Rattle.commit_journal.specs.Placed.{PlainPlaced}
 use Rattle.commit_journal.specs.declared.past.Past.{Past}
+use Rattle.cry_base.specs.Clearances.{clear_number}
 use Rattle.cry_base.specs.Sets.{In}
 use Rattle.cry_base.specs.Store.{Store}
 use Rattle.cry_base.specs.declared.roles.Edge.{Edge}
@@ -20,7 +21,7 @@ use Rattle.public_fold.specs.Keyed.{HasRole}
 use Rattle.public_fold.specs.KeyStep.{KeyState, newest, next_epoch}
 use Rattle.public_fold.specs.Standing.{IsSeenAs, PublicView}
 use Rattle.public_fold.proofs.TurnsHold.{first_stands}
-use Rattle.role_graph.specs.Edges.{IsEdge, IsFileEdge, IsGrantEdge, IsOwnEdge, IsParentEdge, edges}
+use Rattle.role_graph.specs.Edges.{IsClearanceEdge, IsEdge, IsFileEdge, IsGrantEdge, IsOwnEdge, IsParentEdge, edges, has_grants}
 use Rattle.role_graph.specs.PublicStore.{public_store}
 use Rattle.role_graph.proofs.Edging.{edges_told}
 use Rattle.log_visits.specs.Folding.{folded}
@@ -33,6 +34,7 @@ use Rattle.log_visits.specs.declared.last_contents.ContentHead.{ContentHead}
 use Rattle.log_visits.specs.declared.last_contents.ContentSpot.{ContentSpot}
 use Rattle.log_visits.specs.declared.last_links.FoundLink.{FoundLink}
 use Rattle.log_visits.specs.declared.last_links.LinkHead.{LinkHead}
+use Rattle.log_visits.proofs.OwnerVisits.{seen_grants}
 use Rattle.log_visits.proofs.FoldedHolds.{first_stand, log_with}
 use Rattle.log_visits.proofs.HeadedEdges.{head_stands, same_links}
 use Rattle.log_visits.proofs.Following.{last_passes}
@@ -169,6 +171,7 @@ contents_kept old new k is = λ q. by_keep q (is_some (newest k.keys (sealing_ro
 
 -- an edge that stands behind a log is one that everyone may see
 edge_seen : (v : PublicView) (at : Stand) (e : Edge) → IsSeenAs v at → IsEdge at.store e → In e (edges (public_store v.tree v.pairs))
+unfolding has_grants
 edge_seen v at e seen stands =
     let s = public_store v.tree v.pairs in
     let folders : at.store.folders ≡ s.folders = ap (λ (x : Store). x.folders) seen.store in
@@ -179,7 +182,9 @@ edge_seen v at e seen stands =
     (λ (o : IsParentEdge at.store e). inr (inl (o.0, subst (In o.0) folders o.1, o.2, o.3)))
     (λ w. ⊎_elim
     (λ (o : IsGrantEdge at.store e). inr (inr (inl (o.0, (seen.grants.same o.0).1 o.1, o.2))))
-    (λ (o : IsFileEdge at.store e). inr (inr (inr (o.0, subst (In o.0) files o.1, o.2)))) w) u) stands)
+    (λ y. ⊎_elim
+    (λ (o : IsFileEdge at.store e). inr (inr (inr (inl (o.0, subst (In o.0) files o.1, o.2)))))
+    (λ (o : IsClearanceEdge at.store e). inr (inr (inr (inr (o.0, subst (In o.0) files o.1, seen_grants v at (clear_number o.0.id) seen ∙ o.2, o.3))))) y) w) u) stands)
 
 -- what stands behind a log has a key
 role_keyed : (log : List PlainPlaced) (at : Stand) (r : Role) → folded nothing log ≡ Ok at → HasRole at.store r → (n : ℕ) × (newest at.keys.keys r ≡ Some n)

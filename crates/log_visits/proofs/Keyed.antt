@@ -5,6 +5,7 @@ use Rattle.std.specs.List.{flat_map}
 use Rattle.std.specs.Option.{IsSome, is_some}
 use Rattle.std.proofs.lemmas.Bool.{false≢true}
 use Rattle.commit_journal.specs.Answering.{Fault, Damaged, and_then}
+use Rattle.cry_base.specs.Clearances.{clear_number}
 use Rattle.cry_base.specs.Sets.{In}
 use Rattle.cry_base.specs.Stepping.{with_folder, with_file}
 use Rattle.cry_base.specs.Store.{Store, FolderEntry, FileEntry, HolderEntry}
@@ -16,14 +17,14 @@ use Rattle.log_visits.specs.Opening.{is_no_holders}
 use Rattle.log_visits.specs.Placing.{PlacedLink, PlacedContent, link_for, content_for}
 use Rattle.log_visits.specs.Verdict.{open_link, open_content}
 use Rattle.log_visits.specs.Visiting.{Reading, Opened, key_of, needed, visit, visit_all, visit_edge, visit_text, with_key, with_name_at, with_parts, with_text_at, with_holder_key, is_folder_text, is_file_text}
-use Rattle.log_visits.specs.Visits.{Visit, folders_that, is_entry, entry_edge, entry_visits, lower_visits, allowed_visits, upper_visits, name_visits, files_that, file_visits, visits_to_names, all_visits, holder_visits}
+use Rattle.log_visits.specs.Visits.{Visit, clearance_visits, folders_that, into_file, is_entry, entry_edge, entry_file_visits, entry_folder_visits, entry_visits, lower_visits, allowed_visits, upper_visits, name_visits, files_that, file_visits, visits_to_names, all_visits, holder_visits, writing_visits}
 use Rattle.log_visits.specs.Visits.Visit.{ToKey, ToName, ToFile, ToHolder}
 use Rattle.move_plan.specs.Change.{folder_of_file}
 use Rattle.public_fold.specs.Keyed.{HasRole}
-use Rattle.role_graph.specs.Edges.{edge, file_edge, in_order}
+use Rattle.role_graph.specs.Edges.{edge, file_edge, has_grants, in_order}
 use Rattle.role_graph.specs.Rights.Who.{TheOwner}
-use Rattle.role_graph.specs.Rights.{allowed_to, named_to}
-use Rattle.role_graph.specs.RightsByReach.{HasFolder}
+use Rattle.role_graph.specs.Rights.{allowed_to, file_allowed_to, named_to}
+use Rattle.role_graph.specs.RightsByReach.{HasFolder, IsClearance}
 use Rattle.role_graph.specs.Roles.{clear_of, sub_of, back_of, files_of, data_of, file_role, same_role}
 use Rattle.role_graph.proofs.Comparing.{same_role_tells}
 use Rattle.role_graph.proofs.Edging.{In-order}
@@ -181,13 +182,13 @@ in_back v a b i = (In-append Visit v a b).1 (inr i)
 
 -- the parts of all visits that a visit may be among
 abbrev owners : Store → List Visit
-owners s = all_visits s TheOwner ++ holder_visits s
+owners s = all_visits s TheOwner ++ writing_visits s
 
 named_part : (s : Store) (v : Visit) → In v (visits_to_names s TheOwner) → In v (owners s)
 unfolding all_visits
 named_part s v i =
-    let files = file_visits s (files_that (λ (e : FileEntry). allowed_to s TheOwner e.folder) s) in
-    in_front v (visits_to_names s TheOwner ++ files) (holder_visits s) (in_front v (visits_to_names s TheOwner) files i)
+    let files = file_visits s TheOwner (files_that (file_allowed_to s TheOwner) s) in
+    in_front v (visits_to_names s TheOwner ++ files) (writing_visits s) (in_front v (visits_to_names s TheOwner) files i)
 
 entry_to_names : (s : Store) (v : Visit) → In v (entry_visits s TheOwner) → In v (visits_to_names s TheOwner)
 unfolding visits_to_names
@@ -211,12 +212,15 @@ titles_to_names s v i =
     (in_back v (lower_visits s TheOwner) (allowed_visits s TheOwner ++ back) (in_back v (allowed_visits s TheOwner) back (in_back v (upper_visits s TheOwner) (name_visits s TheOwner) i)))
 
 into_folder : (s : Store) (f : ℕ) → HasFolder s f → In (ToKey (edge 1 Owner (clear_of f))) (entry_visits s TheOwner) × In (ToKey (edge 3 (clear_of f) (sub_of f))) (entry_visits s TheOwner)
-unfolding entry_visits entry_edge is_entry
+unfolding entry_visits entry_folder_visits entry_edge is_entry
 into_folder s f has =
+    let files = entry_file_visits s TheOwner in
     let g : ℕ → List Visit = λ x. ToKey (entry_edge TheOwner x) ∷ ToKey (edge 3 (clear_of x) (sub_of x)) ∷ [] in
     let there = folder_listed s (is_entry s TheOwner) f refl has in (
-      (In-flat_map ℕ Visit g (ToKey (edge 1 Owner (clear_of f))) (folders_that (is_entry s TheOwner) s)).1 (f, there, inl refl),
-      (In-flat_map ℕ Visit g (ToKey (edge 3 (clear_of f) (sub_of f))) (folders_that (is_entry s TheOwner) s)).1 (f, there, inr (inl refl)),
+      in_front (ToKey (edge 1 Owner (clear_of f))) (entry_folder_visits s TheOwner) files
+          ((In-flat_map ℕ Visit g (ToKey (edge 1 Owner (clear_of f))) (folders_that (is_entry s TheOwner) s)).1 (f, there, inl refl)),
+      in_front (ToKey (edge 3 (clear_of f) (sub_of f))) (entry_folder_visits s TheOwner) files
+          ((In-flat_map ℕ Visit g (ToKey (edge 3 (clear_of f) (sub_of f))) (folders_that (is_entry s TheOwner) s)).1 (f, there, inr (inl refl))),
     )
 
 on_from_folder : (s : Store) (f : ℕ) → HasFolder s f → In (ToKey (edge 4 (sub_of f) (back_of f))) (allowed_visits s TheOwner) × In (ToKey (edge 5 (sub_of f) (files_of f))) (allowed_visits s TheOwner)
@@ -235,23 +239,42 @@ to_its_name s f has =
     (In-flat_map ℕ Visit g (ToKey (edge 7 (back_of f) (data_of f))) (folders_that (named_to s TheOwner) s)).1 (f, folder_listed s (named_to s TheOwner) f refl has, inl refl)
 
 to_its_file : (s : Store) (x : ℕ) → ((e : FileEntry) × In e s.files × (e.id ≡ x)) → In (ToKey (file_edge (folder_of_file s x) x)) (owners s)
-unfolding all_visits file_visits files_that allowed_to
+unfolding all_visits file_visits files_that into_file allowed_to file_allowed_to
 to_its_file s x has =
-    let g : ℕ → List Visit = λ y. ToKey (file_edge (folder_of_file s y) y) ∷ ToFile y ∷ [] in
-    let test : FileEntry → Bool = λ e. allowed_to s TheOwner e.folder in
+    let g : ℕ → List Visit = λ y. ToKey (into_file s TheOwner y) ∷ ToFile y ∷ [] in
+    let test : FileEntry → Bool = file_allowed_to s TheOwner in
     let ids = map (λ (e : FileEntry). e.id) (filter test s.files) in
     let here : In x ids = (In-map FileEntry ℕ (λ (e : FileEntry). e.id) x (filter test s.files)).1 (has.0, filter-In FileEntry test has.0 s.files has.1 refl, sym has.2) in
     let there : In x (in_order nat_lt ids) = (In-order ℕ nat_lt x ids).1 here in
     let visit = ToKey (file_edge (folder_of_file s x) x) in
     let files = flat_map g (in_order nat_lt ids) in
-    in_front visit (visits_to_names s TheOwner ++ files) (holder_visits s)
+    in_front visit (visits_to_names s TheOwner ++ files) (writing_visits s)
     (in_back visit (visits_to_names s TheOwner) files ((In-flat_map ℕ Visit g visit (in_order nat_lt ids)).1 (x, there, inl refl)))
+
+-- a clearance is visited last
+to_its_clearance : (s : Store) (c : ℕ) → IsClearance s c → In (ToKey (edge 1 Owner (clear_of c))) (owners s)
+unfolding writing_visits clearance_visits files_that
+to_its_clearance s c is =
+    let test : FileEntry → Bool = λ e. has_grants s (clear_number e.id) in
+    let go : ℕ → Visit = λ x. ToKey (edge 1 Owner (clear_of (clear_number x))) in
+    let x : FileEntry = is.0.0 in
+    let own : clear_number x.id ≡ c = is.0.2 in
+    let ids = map (λ (e : FileEntry). e.id) (filter test s.files) in
+    let passes : test x ≡ true = ap (has_grants s) own ∙ is.1 in
+    let here : In x.id ids = (In-map FileEntry ℕ (λ (e : FileEntry). e.id) x.id (filter test s.files)).1 (x, filter-In FileEntry test x s.files is.0.1 passes, refl) in
+    let there : In x.id (in_order nat_lt ids) = (In-order ℕ nat_lt x.id ids).1 here in
+    let visit = ToKey (edge 1 Owner (clear_of c)) in
+    let listed : In visit (clearance_visits s) = (In-map ℕ Visit go visit (in_order nat_lt ids)).1 (x.id, there, ap (λ n. ToKey (edge 1 Owner (clear_of n))) (sym own)) in
+    in_back visit (all_visits s TheOwner) (writing_visits s) (in_back visit (holder_visits s) (clearance_visits s) listed)
 
 role_opened : (s : Store) (o behind : Opened) (role : Role) → AreMade (owners s) o behind → IsSome (key_of o.keys Owner) → HasRole s role → IsTrue (is_no_holders role) → IsSome (key_of behind.keys role)
 unfolding edge file_edge clear_of sub_of back_of files_of data_of file_role
 role_opened s o behind Owner made first has told = made.kept Owner first
 role_opened s o behind (Holder h) made first has told = absurd (false≢true told)
-role_opened s o behind (Clear f) made first has told = made.given (edge 1 Owner (clear_of f.0)) (entry_part s (ToKey (edge 1 Owner (clear_of f.0))) (into_folder s f.0 has).0)
+role_opened s o behind (Clear f) made first has told = made.given (edge 1 Owner (clear_of f.0)) (⊎_elim
+    (λ (folder : HasFolder s f.0). entry_part s (ToKey (edge 1 Owner (clear_of f.0))) (into_folder s f.0 folder).0)
+    (λ (is : IsClearance s f.0). to_its_clearance s f.0 is)
+    has)
 role_opened s o behind (Sub f) made first has told = made.given (edge 3 (clear_of f.0) (sub_of f.0)) (entry_part s (ToKey (edge 3 (clear_of f.0) (sub_of f.0))) (into_folder s f.0 has).1)
 role_opened s o behind (Back f) made first has told =
     made.given (edge 4 (sub_of f.0) (back_of f.0)) (named_part s (ToKey (edge 4 (sub_of f.0) (back_of f.0))) (ways_to_names s (ToKey (edge 4 (sub_of f.0) (back_of f.0))) (on_from_folder s f.0 has).0))
@@ -262,14 +285,14 @@ role_opened s o behind (Data f) made first has told =
 role_opened s o behind (File x) made first has told = made.given (file_edge (folder_of_file s x.0) x.0) (to_its_file s x.0 has)
 
 pub each_opened : (r : Reading) (key : List ℕ) (behind : Opened) →
-    visit_all r (all_visits r.stand.store TheOwner ++ holder_visits r.stand.store) (record { keys = (Owner, key) ∷ []; store = r.stand.store }) ≡ Ok behind →
+    visit_all r (all_visits r.stand.store TheOwner ++ writing_visits r.stand.store) (record { keys = (Owner, key) ∷ []; store = r.stand.store }) ≡ Ok behind →
     (role : Role) → HasRole r.stand.store role → IsTrue (is_no_holders role) → IsSome (key_of behind.keys role)
 each_opened r key behind made role has told =
     let o : Opened = record { keys = (Owner, key) ∷ []; store = r.stand.store } in
     role_opened r.stand.store o behind role (all_made r (owners r.stand.store) o behind made) (new_key (record { keys = []; store = r.stand.store }) Owner key) has told
 
 pub holders_stay : (r : Reading) (key : List ℕ) (behind : Opened) →
-    visit_all r (all_visits r.stand.store TheOwner ++ holder_visits r.stand.store) (record { keys = (Owner, key) ∷ []; store = r.stand.store }) ≡ Ok behind →
+    visit_all r (all_visits r.stand.store TheOwner ++ writing_visits r.stand.store) (record { keys = (Owner, key) ∷ []; store = r.stand.store }) ≡ Ok behind →
     map (λ (e : HolderEntry). e.number) behind.store.holders ≡ map (λ (e : HolderEntry). e.number) r.stand.store.holders
 holders_stay r key behind made =
     (all_made r (owners r.stand.store) (record { keys = (Owner, key) ∷ []; store = r.stand.store }) behind made).same

@@ -1,3 +1,4 @@
+pub mod Entering
 pub mod Folded
 pub mod FoldedHolds
 pub mod Following

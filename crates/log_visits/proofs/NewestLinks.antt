@@ -4,6 +4,7 @@ use Rattle.std.specs.Prelude.{nat_lt, unwrap_or}
 use Rattle.std.proofs.lemmas.Bool.{and_from, and_parts, eq-eqb, eqb-true, false_from_ne_true, false≢true, ltb-true}
 use Rattle.commit_journal.specs.Placed.{Commands, PlainPlaced}
 use Rattle.commit_journal.specs.Places.{link_offset}
+use Rattle.cry_base.specs.Clearances.{clear_number}
 use Rattle.cry_base.specs.Sets.{In}
 use Rattle.cry_base.specs.Store.{Store}
 use Rattle.cry_base.specs.declared.roles.Edge.{Edge}
@@ -37,7 +38,7 @@ use Rattle.record_format.specs.Noted.{Note}
 use Rattle.record_format.specs.Plain.{PlainPayload}
 use Rattle.record_format.specs.Told.{told_note}
 use Rattle.record_format.specs.declared.link.LinkRecord.{LinkRecord}
-use Rattle.role_graph.specs.Edges.{IsEdge, IsFileEdge, IsGrantEdge, IsOwnEdge, IsParentEdge, edge, edges, file_edge, folder_edges, grant_edge, parent_edges}
+use Rattle.role_graph.specs.Edges.{IsClearanceEdge, IsEdge, IsFileEdge, IsGrantEdge, IsOwnEdge, IsParentEdge, clearance_edges, edge, edges, file_edge, folder_edges, grant_edge, parent_edges}
 use Rattle.role_graph.specs.Roles.{back_of, clear_of, data_of, file_role, files_of, holder_role, is_root_role, role_id, same_role, sub_of, variant_of}
 use Rattle.role_graph.proofs.Comparing.{same_role_tells}
 use Rattle.role_graph.proofs.Edging.{edges_told}
@@ -319,11 +320,11 @@ module _ (s t : Store) (k : KeyState) (c : Change) (links : List Link) (mv : IsM
       let there = In-filter Edge (is_published c (renewed k (edges s) c)) e (edges_then (edges s) c) (numbered_of n es w.0 w.1) in
       (e, (mv.leads e).0 ((then_told s c e).0 there.0), ap (λ (x : Link). x.edge) w.2, ap (λ (x : Link). x.from_serial) w.2, ap (λ (x : Link). x.to_serial) w.2)
 
--- ---- an edge that stands is of one of the nine kinds
+-- ---- an edge that stands is of one of the eleven kinds
 
-kinded : (kind : ℕ) (a b : Role) → 1 ≤ kind → kind ≤ 9 → role_with (kind_from kind) (role_id a) ≡ a → role_with (kind_to kind) (role_id b) ≡ b → HasKind (edge kind a b)
+kinded : (kind : ℕ) (a b : Role) → 1 ≤ kind → kind ≤ 11 → role_with (kind_from kind) (role_id a) ≡ a → role_with (kind_to kind) (role_id b) ≡ b → HasKind (edge kind a b)
 unfolding edge
-kinded kind a b low high source target = record { from_one = low; to_nine = high; source = source; target = target }
+kinded kind a b low high source target = record { from_one = low; to_eleven = high; source = source; target = target }
 
 own_kind : (f : ℕ) (e : Edge) → In e (folder_edges f) → HasKind e
 unfolding folder_edges role_with kind_from kind_to row_numbered role_id clear_of sub_of back_of files_of data_of
@@ -350,6 +351,15 @@ file_kind : (f x : ℕ) → HasKind (file_edge f x)
 unfolding file_edge role_with kind_from kind_to row_numbered role_id files_of file_role
 file_kind f x = kinded 9 (files_of f) (file_role x) (omega arith) (omega arith) refl refl
 
+clearance_kind : (f x : ℕ) (e : Edge) → In e (clearance_edges f x) → HasKind e
+unfolding clearance_edges role_with kind_from kind_to row_numbered role_id clear_of back_of file_role
+clearance_kind f x e i =
+    let is : (d : Edge) → HasKind d → e ≡ d → HasKind e = λ d kind s. subst HasKind (sym s) kind in
+    let c = clear_of (clear_number x) in
+    ⊎_elim (is (edge 1 Owner c) (kinded 1 Owner c (omega arith) (omega arith) refl refl))
+    (λ a. ⊎_elim (is (edge 10 c (file_role x)) (kinded 10 c (file_role x) (omega arith) (omega arith) refl refl))
+    (λ b. ⊎_elim (is (edge 11 c (back_of f)) (kinded 11 c (back_of f) (omega arith) (omega arith) refl refl)) (λ n. absurd n) b) a) i
+
 pub edge_kind : (s : Store) (e : Edge) → IsEdge s e → HasKind e
 edge_kind s e w = ⊎_elim
     (λ (o : IsOwnEdge s e). own_kind o.0.id e o.2)
@@ -357,7 +367,9 @@ edge_kind s e w = ⊎_elim
     (λ (p : IsParentEdge s e). parent_kind p.0.id p.0.parent e p.3)
     (λ u. ⊎_elim
     (λ (g : IsGrantEdge s e). subst HasKind (sym g.2) (grant_kind g.0.holder g.0.folder))
-    (λ (x : IsFileEdge s e). subst HasKind (sym x.2) (file_kind x.0.folder x.0.id)) u) v) w
+    (λ y. ⊎_elim
+    (λ (x : IsFileEdge s e). subst HasKind (sym x.2) (file_kind x.0.folder x.0.id))
+    (λ (c : IsClearanceEdge s e). clearance_kind c.0.folder c.0.id e c.3) y) u) v) w
 
 -- ---- the links of a payload that fits
 

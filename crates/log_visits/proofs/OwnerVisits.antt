@@ -1,17 +1,20 @@
 -- The visits of an owner to files and holders, from the rows of the public state.
-use Rattle.std.proofs.Common.{◌≡◌, ℕ, zero, suc, ◌+◌, ◌<◌, Bool, true, false, ◌==◌, cond, List, [], ◌∷◌, ◌++◌, map, length, filter, Option, None, Some, inl, inr, ⊎_elim, refl, sym, ap, subst, ◌∙◌, arith, append_assoc}
+use Rattle.std.proofs.Common.{◌≡◌, ℕ, zero, suc, ◌+◌, ◌<◌, Bool, true, false, ◌==◌, ◌↔◌, cond, List, [], ◌∷◌, ◌++◌, map, length, filter, Option, None, Some, inl, inr, ⊎_elim, refl, sym, ap, subst, ◌∙◌, arith, append_assoc}
 use Rattle.std.specs.Prelude.{IsTrue, nat_lt}
-use Rattle.std.specs.List.{AllByRecursion, AllPairs, flat_map, range_with_len}
-use Rattle.std.proofs.lemmas.Bool.{eqb-true, eq-eqb, ltb-true, false_from_ne_true}
-use Rattle.std.proofs.lemmas.List.{map-append}
+use Rattle.std.specs.List.{AllByRecursion, AllPairs, flat_map, list_any, range_with_len}
+use Rattle.std.proofs.lemmas.Bool.{eqb-true, eq-eqb, ltb-true, false_from_ne_true, false≢true}
+use Rattle.std.proofs.lemmas.List.{append-nil, map-append}
 use Rattle.std.proofs.lemmas.List.Elements.{All-head}
 use Rattle.std.proofs.lemmas.List.FromFn.{map-range_with_len_more}
+use Rattle.std.proofs.lemmas.List.Kept.{AllPairs-filter}
+use Rattle.cry_base.specs.Clearances.{clear_number}
 use Rattle.cry_base.specs.Sets.{In}
-use Rattle.cry_base.specs.Store.{Store, FolderEntry, FileEntry, HolderEntry, file_entry, folder_entry, way_to_root}
+use Rattle.cry_base.specs.Store.{Store, FolderEntry, FileEntry, GrantEntry, HolderEntry, file_entry, folder_entry, way_to_root}
+use Rattle.cry_base.specs.declared.ids.FolderId.{FolderId}
 use Rattle.cry_base.specs.declared.roles.Role.{Role}
-use Rattle.cry_base.specs.declared.roles.Role.TheVariants.{Files, File}
+use Rattle.cry_base.specs.declared.roles.Role.TheVariants.{Owner, Clear, Files, File}
 use Rattle.cry_base.proofs.Finding.{find-found, found-find}
-use Rattle.cry_base.proofs.Members.{In-append}
+use Rattle.cry_base.proofs.Members.{In-any, In-append}
 use Rattle.folder_nodes.specs.Bare.{folder_of_row, file_of_row}
 use Rattle.folder_nodes.specs.declared.rows.FolderRow.{FolderRow}
 use Rattle.folder_nodes.specs.declared.rows.FileRow.{FileRow}
@@ -19,20 +22,21 @@ use Rattle.folder_nodes.specs.Trees.{IsTree}
 use Rattle.folder_nodes.proofs.Ascending.{head_below, rest_rising, same_ranked}
 use Rattle.log_visits.specs.declared.visit_list.Visit.{Visit as Listed}
 use Rattle.log_visits.specs.declared.visit_list.Visit.TheVariants as listed
+use Rattle.log_visits.specs.Entries.{AreEntryFiles, entry_of}
 use Rattle.log_visits.specs.Opening.{IsFor, IsNameless, file_row_visits, is_no_holders, plain_visit}
-use Rattle.log_visits.specs.Listing.{file_part}
-use Rattle.log_visits.specs.Visits.{Visit, files_that, file_visits, visits_to_names, all_visits, holder_visits}
+use Rattle.log_visits.specs.Listing.{clearance_of, file_part}
+use Rattle.log_visits.specs.Visits.{Visit, clearance_visits, files_that, file_visits, into_file, visits_to_names, all_visits, holder_visits, is_entry_file, writing_visits}
 use Rattle.log_visits.specs.Visits.Visit.{ToKey, ToFile, ToHolder}
 use Rattle.key_links.specs.Ended.{kind_from, kind_to, role_with, row_numbered}
 use Rattle.move_plan.specs.Change.{folder_of_file}
 use Rattle.move_plan.specs.Seen.{keyless}
 use Rattle.public_fold.specs.Journal.{Stand}
 use Rattle.public_fold.specs.Standing.{PublicView, IsSeenAs}
-use Rattle.role_graph.specs.Edges.{edge, file_edge, in_order, put_in_order}
+use Rattle.role_graph.specs.Edges.{edge, file_edge, has_grants, in_order, put_in_order}
 use Rattle.role_graph.specs.Rights.Who.{TheOwner}
-use Rattle.role_graph.specs.Rights.{allowed_to}
-use Rattle.role_graph.specs.Roles.{files_of, file_role, role_id}
-use Rattle.role_graph.proofs.Adding.{flat_map_map}
+use Rattle.role_graph.specs.Rights.{allowed_to, file_allowed_to}
+use Rattle.role_graph.specs.Roles.{clear_of, files_of, file_role, role_id}
+use Rattle.role_graph.proofs.Adding.{flat_map_map, map_map}
 
 -- ---- what ascends is in order
 
@@ -97,8 +101,8 @@ flat_alike X Y g h [] same = refl
 flat_alike X Y g h (x ∷ xs) same = ap (λ l. l ++ flat_map g xs) (same x (inl refl)) ∙ ap (λ l. h x ++ l) (flat_alike X Y g h xs (λ y i. same y (inr i)))
 
 pub files_told : (s : Store) (rows : List FileRow) → s.files ≡ map file_of_row rows → IsRising (λ (e : FileEntry). e.id) s.files →
-    file_row_visits rows ≡ file_visits s (files_that (λ (e : FileEntry). allowed_to s TheOwner e.folder) s)
-unfolding file_visits file_edge files_of file_role allowed_to
+    file_row_visits rows ≡ file_visits s TheOwner (files_that (file_allowed_to s TheOwner) s)
+unfolding file_visits into_file file_edge files_of file_role allowed_to file_allowed_to
 files_told s rows is up =
     let g : ℕ → List Visit = λ x. ToKey (file_edge (folder_of_file s x) x) ∷ ToFile x ∷ [] in
     let h : FileEntry → List Visit = λ e. ToKey (file_edge e.folder e.id) ∷ ToFile e.id ∷ [] in
@@ -107,7 +111,7 @@ files_told s rows is up =
     ∙ ap (flat_map h) (sym is)
     ∙ sym (flat_alike FileEntry Visit (λ (e : FileEntry). g e.id) h s.files (λ e i. ap (λ f. ToKey (file_edge f e.id) ∷ ToFile e.id ∷ []) (own_folder s e up i)))
     ∙ sym (flat_map_map FileEntry ℕ Visit g (λ (e : FileEntry). e.id) s.files)
-    ∙ ap (flat_map g) (sym (all_files s (λ (e : FileEntry). allowed_to s TheOwner e.folder) (λ e. refl) up))
+    ∙ ap (flat_map g) (sym (all_files s (file_allowed_to s TheOwner) (λ e. refl) up))
 
 abbrev pub holder_row_visits : ℕ → List Visit
 holder_row_visits n = map plain_visit (map (λ h. listed.Key (record { 0 = h })) (range_with_len 1 n))
@@ -128,31 +132,95 @@ holders_told s n is =
     ∙ ap (λ ns. map ToHolder (in_order nat_lt ns)) (sym (numbers (range_with_len 1 n)))
     ∙ ap (λ (es : List HolderEntry). map ToHolder (in_order nat_lt (map (λ (e : HolderEntry). e.number) es))) (sym is)
 
+-- ---- the clearances of files
+
+-- a test over grants hangs on which grants there are, not on their order
+grants_alike : (p : GrantEntry → Bool) (gs hs : List GrantEntry) → ((g : GrantEntry) → In g gs ↔ In g hs) → list_any p gs ≡ list_any p hs
+grants_alike p gs hs same =
+    let told : (xs : List GrantEntry) → IsTrue (list_any p xs) ↔ ((x : GrantEntry) × In x xs × IsTrue (p x)) = λ xs. In-any GrantEntry p (λ x. IsTrue (p x)) (λ x. (λ t. t, λ t. t)) xs in
+    (elim (list_any p gs) as (λ b. list_any p gs ≡ b → b ≡ list_any p hs) [
+      | true ↦ λ t. let w = (told gs).0 t in sym ((told hs).1 (w.0, (same w.0).0 w.1, w.2))
+      | false ↦ λ t. sym (false_from_ne_true (list_any p hs) (λ u. let w = (told hs).0 u in false≢true (sym t ∙ (told gs).1 (w.0, (same w.0).1 w.1, w.2))))
+    ]) refl
+
+pub seen_grants : (v : PublicView) (at : Stand) (c : ℕ) → IsSeenAs v at → list_any (λ (g : GrantEntry). g.folder == c) v.pairs ≡ has_grants at.store c
+unfolding has_grants
+seen_grants v at c seen = grants_alike (λ (g : GrantEntry). g.folder == c) v.pairs at.store.grants seen.grants.same
+
+abbrev pub clearance_row_visits : List GrantEntry → List FileRow → List Visit
+clearance_row_visits pairs rows = map plain_visit (flat_map (clearance_of pairs) rows)
+
+-- what is listed of a file that has one, and of one that hasn't
+pub clearance_listed : (b : Bool) (n c : FolderId) → cond b (Some n) None ≡ Some c → (listed.Link (edge 1 Owner (Clear c)) ∷ []) ≡ cond b (listed.Link (edge 1 Owner (Clear n)) ∷ []) []
+clearance_listed true n c is = let same : n ≡ c = cc in ap (λ f. listed.Link (edge 1 Owner (Clear f)) ∷ []) (sym same)
+clearance_listed false n c is = absurd cc
+
+pub clearance_none : (b : Bool) (n : FolderId) (before : List Listed) → cond b (Some n) None ≡ None → before ≡ before ++ cond b (listed.Link (edge 1 Owner (Clear n)) ∷ []) []
+clearance_none true n before is = absurd cc
+clearance_none false n before is = sym (append-nil before)
+
+plain_clearance : (b : Bool) (x : ℕ) → map plain_visit (cond b (listed.Link (edge 1 Owner (Clear (record { 0 = clear_number x }))) ∷ []) []) ≡ cond b (ToKey (edge 1 Owner (clear_of (clear_number x))) ∷ []) []
+unfolding clear_of
+plain_clearance true x = refl
+plain_clearance false x = refl
+
+where_alone : (X : Type 0) (p : X → Bool) (g : X → Visit) (xs : List X) → flat_map (λ x. cond (p x) (g x ∷ []) []) xs ≡ map g (filter p xs)
+where_alone X p g [] = refl
+where_alone X p g (x ∷ xs) =
+    ap (λ l. cond (p x) (g x ∷ []) [] ++ l) (where_alone X p g xs)
+    ∙ elim (p x) as (λ b. cond b (g x ∷ []) [] ++ map g (filter p xs) ≡ map g (cond b (x ∷ filter p xs) (filter p xs))) [ true ↦ refl | false ↦ refl ]
+
+clearances_told : (v : PublicView) (at : Stand) (rows : List FileRow) → v.tree.files ≡ map file_of_row rows → IsTree v.tree → IsSeenAs v at → clearance_row_visits v.pairs rows ≡ clearance_visits at.store
+unfolding clearance_visits files_that
+clearances_told v at rows are tree seen =
+    let s = at.store in
+    let xs : s.files ≡ v.tree.files = ap (λ (x : Store). x.files) seen.store in
+    let up = subst (λ es. IsRising (λ (e : FileEntry). e.id) es) (sym xs) tree.files_ascend in
+    let go : ℕ → Visit = λ x. ToKey (edge 1 Owner (clear_of (clear_number x))) in
+    let test : FileEntry → Bool = λ e. has_grants s (clear_number e.id) in
+    let one : FileEntry → List Visit = λ e. cond (test e) (go e.id ∷ []) [] in
+    let id : FileEntry → ℕ = λ e. e.id in
+    listed_plainly FileRow (clearance_of v.pairs) rows
+    ∙ flat_alike FileRow Visit (λ r. map plain_visit (clearance_of v.pairs r)) (λ r. one (file_of_row r)) rows
+    (λ r i. plain_clearance (list_any (λ (g : GrantEntry). g.folder == clear_number r.id.0) v.pairs) r.id.0 ∙ ap (λ b. cond b (go r.id.0 ∷ []) []) (seen_grants v at (clear_number r.id.0) seen))
+    ∙ sym (flat_map_map FileRow FileEntry Visit one file_of_row rows)
+    ∙ ap (flat_map one) (sym (xs ∙ are))
+    ∙ where_alone FileEntry test (λ e. go e.id) s.files
+    ∙ sym (map_map FileEntry ℕ Visit go id (filter test s.files))
+    ∙ ap (map go) (sym (ordered FileEntry id (filter test s.files) (AllPairs-filter (λ (a b : FileEntry). a.id < b.id) test s.files up)))
+
 -- ---- all of them
 
--- the visits to names, then those of files, then those of holders
-abbrev pub all_listed : List Listed → List FileRow → ℕ → List Visit
-all_listed names files n = map plain_visit names ++ (file_row_visits files ++ holder_row_visits n)
+-- the visits to names, then those of files, then those of holders and of clearances
+abbrev pub last_visits : List GrantEntry → List FileRow → ℕ → List Visit
+last_visits pairs rows n = holder_row_visits n ++ clearance_row_visits pairs rows
 
-pub keys_listed : (names keys : List Listed) (files : List FileRow) (n m : ℕ) → keys ≡ map (λ h. listed.Key (record { 0 = h })) (range_with_len 1 n) → n ≡ m →
-    map plain_visit names ++ (file_row_visits files ++ map plain_visit keys) ≡ all_listed names files m
-keys_listed names keys files n m is count =
-    ap (λ (l : List Listed). map plain_visit names ++ (file_row_visits files ++ map plain_visit l)) (is ∙ ap (λ k. map (λ h. listed.Key (record { 0 = h })) (range_with_len 1 k)) count)
+abbrev pub all_listed : List Listed → List FileRow → List Visit → List Visit
+all_listed names files last = map plain_visit names ++ (file_row_visits files ++ last)
 
-pub visits_told : (v : PublicView) (at : Stand) (names : List Listed) (files : List FileRow) → v.tree.files ≡ map file_of_row files → IsTree v.tree → IsSeenAs v at →
-    map plain_visit names ≡ visits_to_names at.store TheOwner → all_listed names files (length v.checks) ≡ all_visits at.store TheOwner ++ holder_visits at.store
-unfolding all_visits
-visits_told v at names files rows tree seen named =
+pub keys_listed : (pairs : List GrantEntry) (keys more : List Listed) (rows : List FileRow) (n m : ℕ) → keys ≡ map (λ h. listed.Key (record { 0 = h })) (range_with_len 1 n) → n ≡ m →
+    more ≡ keys ++ flat_map (clearance_of pairs) rows → map plain_visit more ≡ last_visits pairs rows m
+keys_listed pairs keys more rows n m is count added =
+    ap (map plain_visit) added
+    ∙ map-append plain_visit keys (flat_map (clearance_of pairs) rows)
+    ∙ ap (λ (l : List Listed). map plain_visit l ++ clearance_row_visits pairs rows) (is ∙ ap (λ k. map (λ h. listed.Key (record { 0 = h })) (range_with_len 1 k)) count)
+
+pub visits_told : (v : PublicView) (at : Stand) (names : List Listed) (files rows : List FileRow) → v.tree.files ≡ map file_of_row files → v.tree.files ≡ map file_of_row rows → IsTree v.tree → IsSeenAs v at →
+    map plain_visit names ≡ visits_to_names at.store TheOwner → all_listed names files (last_visits v.pairs rows (length v.checks)) ≡ all_visits at.store TheOwner ++ writing_visits at.store
+unfolding all_visits writing_visits
+visits_told v at names files rows are same tree seen named =
     let s = at.store in
     let xs : s.files ≡ v.tree.files = ap (λ (x : Store). x.files) seen.store in
     let hs : s.holders ≡ map keyless (range_with_len 1 (length v.checks)) = ap (λ (x : Store). x.holders) seen.store in
     let up = subst (λ es. IsRising (λ (e : FileEntry). e.id) es) (sym xs) tree.files_ascend in
     let first = visits_to_names s TheOwner in
-    let texts = file_visits s (files_that (λ (e : FileEntry). allowed_to s TheOwner e.folder) s) in
-    ap (λ l. l ++ (file_row_visits files ++ holder_row_visits (length v.checks))) named
-    ∙ ap (λ l. first ++ (l ++ holder_row_visits (length v.checks))) (files_told s files (xs ∙ rows) up)
-    ∙ ap (λ l. first ++ (texts ++ l)) (holders_told s (length v.checks) hs)
-    ∙ sym (append_assoc first texts (holder_visits s))
+    let texts = file_visits s TheOwner (files_that (file_allowed_to s TheOwner) s) in
+    let clearances = clearance_row_visits v.pairs rows in
+    ap (λ l. l ++ (file_row_visits files ++ (holder_row_visits (length v.checks) ++ clearances))) named
+    ∙ ap (λ l. first ++ (l ++ (holder_row_visits (length v.checks) ++ clearances))) (files_told s files (xs ∙ are) up)
+    ∙ ap (λ l. first ++ (texts ++ (l ++ clearances))) (holders_told s (length v.checks) hs)
+    ∙ ap (λ l. first ++ (texts ++ (holder_visits s ++ l))) (clearances_told v at rows same tree seen)
+    ∙ sym (append_assoc first texts (holder_visits s ++ clearance_visits s))
 
 -- ---- what is known of them
 
@@ -174,7 +242,7 @@ holders_all (n ∷ ns) = ((refl, refl), holders_all ns)
 
 pub file_fit : (told : Role → Bool) (r : FileRow) → IsTrue (told (Files r.folder)) → IsTrue (told (File r.id)) → AllByRecursion (IsFor told) (map plain_visit (file_part r.folder r.id))
 unfolding edge role_with kind_from kind_to row_numbered role_id file_role
-file_fit told r from to = ((record { from_one = omega arith; to_nine = omega arith; source = refl; target = refl }, from, to), (to, tt))
+file_fit told r from to = ((record { from_one = omega arith; to_eleven = omega arith; source = refl; target = refl }, from, to), (to, tt))
 
 -- those of files
 pub files_fit : (told : Role → Bool) → ((r : FileRow) → IsTrue (told (Files r.folder)) × IsTrue (told (File r.id))) → (files : List FileRow) → AllByRecursion (IsFor told) (file_row_visits files)
@@ -182,11 +250,24 @@ files_fit told fit files =
     subst (AllByRecursion (IsFor told)) (sym (listed_plainly FileRow (λ (r : FileRow). file_part r.folder r.id) files))
     (each_all (IsFor told) FileRow (λ (r : FileRow). map plain_visit (file_part r.folder r.id)) files (λ r. file_fit told r (fit r).0 (fit r).1))
 
-pub all_fit : (names : List Listed) (files : List FileRow) (n : ℕ) → AllByRecursion (IsFor is_no_holders) (map plain_visit names) → AllByRecursion (IsFor is_no_holders) (all_listed names files n)
-all_fit names files n first =
+clearance_fit : (b : Bool) (x : ℕ) → AllByRecursion (IsFor is_no_holders) (map plain_visit (cond b (listed.Link (edge 1 Owner (Clear (record { 0 = clear_number x }))) ∷ []) []))
+unfolding edge role_with kind_from kind_to row_numbered role_id
+clearance_fit true x = ((record { from_one = omega arith; to_eleven = omega arith; source = refl; target = refl }, refl, refl), tt)
+clearance_fit false x = tt
+
+clearances_fit : (pairs : List GrantEntry) (rows : List FileRow) → AllByRecursion (IsFor is_no_holders) (clearance_row_visits pairs rows)
+clearances_fit pairs rows =
+    subst (AllByRecursion (IsFor is_no_holders)) (sym (listed_plainly FileRow (clearance_of pairs) rows))
+    (each_all (IsFor is_no_holders) FileRow (λ r. map plain_visit (clearance_of pairs r)) rows
+    (λ r. clearance_fit (list_any (λ (g : GrantEntry). g.folder == clear_number r.id.0) pairs) r.id.0))
+
+pub all_fit : (names : List Listed) (files rows : List FileRow) (pairs : List GrantEntry) (n : ℕ) → AllByRecursion (IsFor is_no_holders) (map plain_visit names) →
+    AllByRecursion (IsFor is_no_holders) (all_listed names files (last_visits pairs rows n))
+all_fit names files rows pairs n first =
     let texts = files_fit is_no_holders (λ r. (refl, refl)) files in
     let keys = subst (AllByRecursion (IsFor is_no_holders)) (sym (plain_holders (range_with_len 1 n))) (holders_all (range_with_len 1 n)) in
-    both_all (IsFor is_no_holders) (map plain_visit names) (file_row_visits files ++ holder_row_visits n) first (both_all (IsFor is_no_holders) (file_row_visits files) (holder_row_visits n) texts keys)
+    let last = both_all (IsFor is_no_holders) (holder_row_visits n) (clearance_row_visits pairs rows) keys (clearances_fit pairs rows) in
+    both_all (IsFor is_no_holders) (map plain_visit names) (file_row_visits files ++ last_visits pairs rows n) first (both_all (IsFor is_no_holders) (file_row_visits files) (last_visits pairs rows n) texts last)
 
 -- each holder has a visit
 holder_listed : (ns : List ℕ) (e : HolderEntry) → In e (map keyless ns) → In (ToHolder e.number) (map ToHolder ns)
@@ -196,14 +277,25 @@ holder_listed (n ∷ ns) e i = ⊎_elim (λ (q : e ≡ keyless n). inl (ap (λ (
 behind_it : (v : Visit) (a b : List Visit) → In v b → In v (a ++ b)
 behind_it v a b i = (In-append Visit v a b).1 (inr i)
 
-pub holders_visited : (v : PublicView) (at : Stand) (names : List Listed) (files : List FileRow) (e : HolderEntry) → IsSeenAs v at → In e at.store.holders →
-    In (ToHolder e.number) (all_listed names files (length v.checks))
-holders_visited v at names files e seen i =
+pub holders_visited : (v : PublicView) (at : Stand) (names : List Listed) (files rows : List FileRow) (e : HolderEntry) → IsSeenAs v at → In e at.store.holders →
+    In (ToHolder e.number) (all_listed names files (last_visits v.pairs rows (length v.checks)))
+holders_visited v at names files rows e seen i =
     let n = length v.checks in
     let visit = ToHolder e.number in
+    let last = last_visits v.pairs rows n in
     let hs : at.store.holders ≡ map keyless (range_with_len 1 n) = ap (λ (x : Store). x.holders) seen.store in
     let here : In visit (holder_row_visits n) = subst (In visit) (sym (plain_holders (range_with_len 1 n))) (holder_listed (range_with_len 1 n) e (subst (In e) hs i)) in
-    behind_it visit (map plain_visit names) (file_row_visits files ++ holder_row_visits n) (behind_it visit (file_row_visits files) (holder_row_visits n) here)
+    behind_it visit (map plain_visit names) (file_row_visits files ++ last)
+    (behind_it visit (file_row_visits files) last ((In-append Visit visit (holder_row_visits n) (clearance_row_visits v.pairs rows)).1 (inl here)))
+
+-- the owner has no entry files
+pub no_entries : (s : Store) → AreEntryFiles s TheOwner []
+unfolding is_entry_file
+no_entries s = ap (map entry_of) (sym (none_pass s.files))
+  where
+    none_pass : (es : List FileEntry) → filter (λ (e : FileEntry). false) es ≡ []
+    none_pass [] = refl
+    none_pass (e ∷ es) = none_pass es
 
 -- rows have no names
 bare_folders : (rows : List FolderRow) (e : FolderEntry) → In e (map folder_of_row rows) → e.name ≡ []

@@ -1,12 +1,13 @@
 -- What code looks up of a folder is what whoever reads may see of it.
-use Rattle.std.proofs.Common.{◌≡◌, ℕ, Bool, true, false, cond, not, ◌&&◌, ◌||◌, ◌==◌, ◌↔◌, List, [], ◌∷◌, ◌++◌, map, filter, Some, inl, inr, ⊎_elim, refl, sym, ap, subst, ◌∙◌}
+use Rattle.std.proofs.Common.{◌≡◌, ℕ, Bool, true, false, cond, not, ◌&&◌, ◌||◌, ◌==◌, ◌↔◌, List, [], ◌∷◌, ◌++◌, map, filter, Option, Some, None, inl, inr, ⊎_elim, refl, sym, ap, subst, ◌∙◌}
 use Rattle.std.specs.Prelude.{IfOk, IsTrue, OnOk, Result, Ok, Err}
 use Rattle.std.specs.Global.{Vec}
 use Rattle.std.specs.HashSet.{HashSet, contains}
 use Rattle.std.specs.List.{list_any}
 use Rattle.std.proofs.lemmas.Bool.{and_from, and_parts, eqb-true, eq-eqb, or_cases, or_left, or_right, not_from_false, cases_Bool}
+use Rattle.cry_base.specs.Clearances.{clear_number}
 use Rattle.cry_base.specs.Sets.{In, Path}
-use Rattle.cry_base.specs.Store.{Store, FolderEntry, GrantEntry, backwards, depth_of, folder_entry, folder_names, folder_node, has_grant, is_within, node_names, way_to_root}
+use Rattle.cry_base.specs.Store.{Store, FileEntry, FolderEntry, GrantEntry, backwards, depth_of, folder_entry, folder_names, folder_node, has_grant, is_within, node_names, way_to_root}
 use Rattle.cry_base.specs.declared.ids.FolderId.{FolderId}
 use Rattle.cry_base.specs.declared.ids.HolderId.{HolderId}
 use Rattle.cry_base.specs.declared.memory.OutOfMemory.{OutOfMemory}
@@ -19,14 +20,15 @@ use Rattle.grant_book.specs.Granted.{folders_of, is_grant}
 use Rattle.log_visits.specs.declared.sights.Sight.{Sight}
 use Rattle.log_visits.specs.declared.sights.Viewer.{Viewer}
 use Rattle.log_visits.specs.declared.sights.Viewer.TheVariants as viewers
-use Rattle.log_visits.specs.Sights.{AreSights, MayRead, holders_sight, owners_sight, plain_viewer, same_number, sight_of}
+use Rattle.log_visits.specs.Entries.{may_all}
+use Rattle.log_visits.specs.Sights.{AreSights, MayRead, holders_sight, is_above, is_within_place, owners_sight, plain_viewer, same_number, sight_of}
 use Rattle.log_visits.specs.Visits.{is_entry}
 use Rattle.log_visits.proofs.ListedVisits.{map_alike, same_bool}
 use Rattle.public_fold.specs.Journal.{Stand}
 use Rattle.public_fold.specs.Standing.{IsSeenAs, PublicView}
-use Rattle.role_graph.specs.PublicStore.{GrantsStand, allows, names, public_store}
+use Rattle.role_graph.specs.PublicStore.{GrantsStand, allows, granted_place, is_at_or_below, names, public_store}
 use Rattle.role_graph.specs.Rights.{IsAllowed, IsGranted, allowed, allowed_to, downs, named, named_to, ups}
-use Rattle.role_graph.specs.RightsByReach.{HasFolder}
+use Rattle.role_graph.specs.RightsByReach.{HasClearNumber, HasFolder}
 use Rattle.role_graph.specs.Rights.Who.{TheOwner, TheHolder}
 use Rattle.role_graph.proofs.Adding.{map_map}
 use Rattle.role_graph.proofs.Granting.{allowed_told, named_told}
@@ -91,7 +93,7 @@ seen_downs v at seen = ap (λ (s : Store). map (λ (e : FolderEntry). (e.parent,
 
 seen_ups : (v : PublicView) (at : Stand) → IsSeenAs v at → ups at.store ≡ ups (public_store v.tree v.pairs)
 unfolding ups
-seen_ups v at seen = ap (λ (s : Store). map (λ (e : FolderEntry). (e.id, e.parent)) s.folders) seen.store
+seen_ups v at seen = ap (λ (s : Store). map (λ (e : FolderEntry). (e.id, e.parent)) s.folders ++ map (λ (e : FileEntry). (clear_number e.id, e.folder)) s.files) seen.store
 
 seen_depth : (v : PublicView) (at : Stand) (f : ℕ) → IsSeenAs v at → depth_of v.tree (folder_node f) ≡ depth_of at.store (folder_node f)
 unfolding depth_of node_names folder_names way_to_root folder_node
@@ -115,10 +117,17 @@ seen_above v at h f seen =
       λ a. (a.0, (seen_granted v at h a.0 seen).1 a.1, subst (λ es. Path es a.0 f) same a.2),
     )
 
-seen_stands : (v : PublicView) (at : Stand) → IsSeenAs v at → GrantsStand at.store → GrantsStand (public_store v.tree v.pairs)
-seen_stands v at seen stand g i =
-    let w = stand g ((seen.grants.same g).0 i) in
-    (w.0, subst (λ (es : List FolderEntry). In w.0 es) (ap (λ (s : Store). s.folders) seen.store) w.1, w.2)
+pub seen_stands : (v : PublicView) (at : Stand) → IsSeenAs v at → GrantsStand at.store → GrantsStand (public_store v.tree v.pairs)
+seen_stands v at seen stand =
+    let folders : at.store.folders ≡ v.tree.folders = ap (λ (s : Store). s.folders) seen.store in
+    let files : at.store.files ≡ v.tree.files = ap (λ (s : Store). s.files) seen.store in
+    record {
+      granted_stands = λ g i. ⊎_elim
+          (λ (w : HasFolder at.store g.folder). inl (w.0, subst (λ (es : List FolderEntry). In w.0 es) folders w.1, w.2))
+          (λ (w : HasClearNumber at.store g.folder). inr (w.0, subst (λ (es : List FileEntry). In w.0 es) files w.1, w.2))
+          (stand.granted_stands g ((seen.grants.same g).0 i));
+      folders_below = λ e i. stand.folders_below e (subst (λ (es : List FolderEntry). In e es) (sym folders) i);
+    }
 
 -- ---- rights
 
@@ -176,9 +185,8 @@ way_granted s pairs h f =
     ))
 
 -- what a holder may see of a folder that stands
-may_all : (v : PublicView) (at : Stand) (h f : ℕ) → IsTree v.tree → IsSeenAs v at → GrantsStand at.store → HasFolder v.tree f →
-    list_any (λ (e : FolderEntry). list_any (is_grant h e.id) v.pairs) (way_to_root v.tree f) ≡ allowed at.store h f
-may_all v at h f tree seen stand stands =
+pub all_allowed : (v : PublicView) (at : Stand) (h f : ℕ) → IsTree v.tree → IsSeenAs v at → GrantsStand at.store → HasFolder v.tree f → may_all v.tree v.pairs h f ≡ allowed at.store h f
+all_allowed v at h f tree seen stand stands =
     let grants = seen_stands v at seen stand in
     let told = allowed_is v.tree v.pairs tree grants h f in
     way_granted v.tree v.pairs h f
@@ -187,29 +195,28 @@ may_all v at h f tree seen stand stands =
     (λ t. (allowed_told at.store h f).1 ((seen_allowed v at h f seen).0 (told.0 t)))
     (λ t. told.1 ((seen_allowed v at h f seen).1 ((allowed_told at.store h f).0 t)))
 
--- a grant of the holder's is on the folder or below it
-names_way : (s : Store) (h f : ℕ) (g : GrantEntry) → IsTree s → HasFolder s f → names s h f g ≡ (g.holder == h && (g.folder == f || is_within s g.folder f))
-unfolding names
-names_way s h f g tree stands =
-    ap (λ b. g.holder == h && b) (or_other (g.folder == f) (is_within s g.folder f))
-  where
-    or_other : (a b : Bool) → (a || (not a && b)) ≡ (a || b)
-    or_other true b = refl
-    or_other false b = refl
-
--- those folders are within themselves
-own_within : (s : Store) (h f : ℕ) (g : GrantEntry) → IsTree s → HasFolder s f → (g.folder == f || is_within s g.folder f) ≡ is_within s g.folder f
-unfolding folder_entry
-own_within s h f g tree stands =
-    same_bool (g.folder == f || is_within s g.folder f) (is_within s g.folder f)
-    (λ t. ⊎_elim (λ same. subst (λ k. is_within s k f ≡ true) (sym (eqb-true g.folder f same)) own) (λ w. w) (or_cases (g.folder == f) (is_within s g.folder f) t))
-    (λ t. or_right (g.folder == f) (is_within s g.folder f) t)
+-- a grant of the holder's is on the folder, below it, or on a file in one of these
+names_way : (s : Store) (h f : ℕ) (g : GrantEntry) → IsTree s → HasFolder s f → names s h f g ≡ (g.holder == h && is_above s f (record { 0 = g.folder }))
+unfolding names folder_entry
+names_way s h f g tree stands = ap (λ b. g.holder == h && b) (by_place (granted_place s g.folder))
   where
     found : folder_entry s f ≡ Some stands.0
     found = subst (λ k. folder_entry s k ≡ Some stands.0) stands.2 (found_row s.folders tree.folders_ascend stands.0 stands.1)
 
     own : is_within s f f ≡ true
     own = within_on s tree f f stands.0 found ∙ or_left (stands.0.id == f) (is_within s stands.0.parent f) (eq-eqb stands.0.id f stands.2)
+
+    or_other : (a b : Bool) → (a || (not a && b)) ≡ (a || b)
+    or_other true b = refl
+    or_other false b = refl
+
+    by_place : (o : Option FolderId) → is_at_or_below s f o ≡ is_within_place s f o
+    by_place None = refl
+    by_place (Some p) =
+        or_other (p.0 == f) (is_within s p.0 f)
+        ∙ same_bool (p.0 == f || is_within s p.0 f) (is_within s p.0 f)
+        (λ t. ⊎_elim (λ same. subst (λ k. is_within s k f ≡ true) (sym (eqb-true p.0 f same)) own) (λ w. w) (or_cases (p.0 == f) (is_within s p.0 f) t))
+        (λ t. or_right (p.0 == f) (is_within s p.0 f) t)
 
 -- the folders that are granted to the holder
 of_holder : (pairs : List GrantEntry) (h : ℕ) (p : ℕ → Bool) → list_any (λ (g : FolderId). p g.0) (folders_of pairs h) ≡ list_any (λ (g : GrantEntry). g.holder == h && p g.folder) pairs
@@ -222,23 +229,22 @@ of_holder (g ∷ pairs) h p =
     ]
 
 above_granted : (v : PublicView) (at : Stand) (h f : ℕ) → IsTree v.tree → IsSeenAs v at → GrantsStand at.store → HasFolder v.tree f →
-    IsTrue (list_any (λ (g : FolderId). is_within v.tree g.0 f) (folders_of v.pairs h)) ↔ ((g : ℕ) × IsGranted at.store h g × Path (ups at.store) g f)
+    IsTrue (list_any (is_above v.tree f) (folders_of v.pairs h)) ↔ ((g : ℕ) × IsGranted at.store h g × Path (ups at.store) g f)
 above_granted v at h f tree seen stand stands =
     let grants = seen_stands v at seen stand in
     let told = named_is v.tree v.pairs tree grants h f stands in
-    let same : list_any (λ (g : FolderId). is_within v.tree g.0 f) (folders_of v.pairs h) ≡ list_any (names v.tree h f) v.pairs =
-    of_holder v.pairs h (λ k. is_within v.tree k f)
-    ∙ sym (test_alike GrantEntry (names v.tree h f) (λ g. g.holder == h && is_within v.tree g.folder f) v.pairs
-    (λ g. names_way v.tree h f g tree stands ∙ ap (λ b. g.holder == h && b) (own_within v.tree h f g tree stands)))
+    let same : list_any (is_above v.tree f) (folders_of v.pairs h) ≡ list_any (names v.tree h f) v.pairs =
+    of_holder v.pairs h (λ k. is_above v.tree f (record { 0 = k }))
+    ∙ sym (test_alike GrantEntry (names v.tree h f) (λ g. g.holder == h && is_above v.tree f (record { 0 = g.folder })) v.pairs (λ g. names_way v.tree h f g tree stands))
     in (
       λ t. (seen_above v at h f seen).0 (told.0 (sym same ∙ t)),
       λ w. same ∙ told.1 ((seen_above v at h f seen).1 w),
     )
 
 may_name : (v : PublicView) (at : Stand) (h f : ℕ) → IsTree v.tree → IsSeenAs v at → GrantsStand at.store → HasFolder v.tree f →
-    (allowed at.store h f || list_any (λ (g : FolderId). is_within v.tree g.0 f) (folders_of v.pairs h)) ≡ named at.store h f
+    (allowed at.store h f || list_any (is_above v.tree f) (folders_of v.pairs h)) ≡ named at.store h f
 may_name v at h f tree seen stand stands =
-    let up = list_any (λ (g : FolderId). is_within v.tree g.0 f) (folders_of v.pairs h) in
+    let up = list_any (is_above v.tree f) (folders_of v.pairs h) in
     let told = above_granted v at h f tree seen stand stands in
     same_bool (allowed at.store h f || up) (named at.store h f)
     (λ t. (named_told at.store h f).1 (⊎_elim (λ a. inl ((allowed_told at.store h f).0 a)) (λ b. inr (told.0 b)) (or_cases (allowed at.store h f) up t)))
@@ -247,7 +253,7 @@ may_name v at h f tree seen stand stands =
     (λ b. or_right (allowed at.store h f) up (told.1 b))
     ((named_told at.store h f).0 t))
 
-seen_entry : (v : PublicView) (at : Stand) (h f : ℕ) → IsSeenAs v at → list_any (is_grant h f) v.pairs ≡ has_grant at.store h f
+pub seen_entry : (v : PublicView) (at : Stand) (h f : ℕ) → IsSeenAs v at → list_any (is_grant h f) v.pairs ≡ has_grant at.store h f
 unfolding has_grant
 seen_entry v at h f seen = any_alike GrantEntry (is_grant h f) v.pairs at.store.grants seen.grants.same
 
@@ -262,7 +268,7 @@ holders_one : (v : PublicView) (at : Stand) (h : ℕ) (r : FolderRow) → IsTree
 unfolding is_entry allowed_to named_to
 holders_one v at h r tree seen stand stands =
     let f = r.id.0 in
-    let all = may_all v at h f tree seen stand stands in
+    let all = all_allowed v at h f tree seen stand stands in
     rw (seen_depth v at f seen, seen_entry v at h f seen, all, may_name v at h f tree seen stand stands) refl
 
 owners_one : (v : PublicView) (at : Stand) (r : FolderRow) → IsSeenAs v at → owners_sight v.tree r ≡ sight_of at.store TheOwner (folder_of_row r)
@@ -299,6 +305,21 @@ way_noted s folder way items old new (Ok u) is same noted = λ f.
     noted f ∙ ap (λ b. contains same_number old f || b) (ap (λ l. list_any (λ (x : FolderId). x.0 == f) l) same ∙ any_on_way (λ k. k == f) s folder way is)
 way_noted s folder way items old new (Err e) is same noted = tt
 
+-- so of a grant, by the folder where it is
+pub place_noted : {S : Type 0} (tree : Store) (number folder : FolderId) (place : Option FolderId) (old new : HashSet ℕ S) (result : Result (Unit {0}) OutOfMemory) → place ≡ granted_place tree number.0 → place ≡ Some folder →
+    OnOk result ((f : ℕ) → contains same_number new f ≡ (contains same_number old f || is_within tree folder.0 f)) →
+    OnOk result ((f : ℕ) → contains same_number new f ≡ (contains same_number old f || is_above tree f number))
+place_noted tree number folder place old new (Ok u) is some noted = λ f. noted f ∙ ap (λ o. contains same_number old f || is_within_place tree f o) (sym some ∙ is)
+place_noted tree number folder place old new (Err e) is some noted = tt
+
+pub no_place : {S : Type 0} (tree : Store) (number : FolderId) (place : Option FolderId) (old : HashSet ℕ S) → place ≡ granted_place tree number.0 → place ≡ None →
+    (f : ℕ) → contains same_number old f ≡ (contains same_number old f || is_above tree f number)
+no_place tree number place old is none = λ f. or_none (contains same_number old f) ∙ ap (λ o. contains same_number old f || is_within_place tree f o) (sym none ∙ is)
+  where
+    or_none : (a : Bool) → a ≡ (a || false)
+    or_none true = refl
+    or_none false = refl
+
 -- ---- what is listed
 
 pub owners_listed : {E : Type 0} (v : PublicView) (tree : Store) (viewer : Viewer) (rows : List FolderRow) (result : Result (Vec Sight) E) → viewer ≡ viewers.Owner → tree ≡ v.tree → map folder_of_row rows ≡ tree.folders →
@@ -318,21 +339,19 @@ holders_listed v tree pairs viewer h rows (Ok l) is same alike tree_of are made 
     (made ∙ ap (λ (t : Store). map (holders_sight t pairs h.0) rows) same ∙ ap (λ gs. map (holders_sight v.tree gs h.0) rows) alike))
 holders_listed v tree pairs viewer h rows (Err e) is same alike tree_of are made = tt
 
-pub holders_made : (tree : Store) (pairs : List GrantEntry) (h : ℕ) (r : FolderRow) (way items : List FolderId) (made : Sight) (down : Bool) →
-    map (λ (x : FolderId). x.0) way ≡ backwards (map (λ (e : FolderEntry). e.id) (way_to_root tree r.id.0)) → items ≡ way →
+-- whether all in a folder may be read, from the way down to it
+pub all_on_way : (tree : Store) (pairs : List GrantEntry) (h f : ℕ) (way items : List FolderId) (is : Bool) →
+    map (λ (x : FolderId). x.0) way ≡ backwards (map (λ (e : FolderEntry). e.id) (way_to_root tree f)) → items ≡ way →
+    is ≡ list_any (λ (x : FolderId). list_any (is_grant h x.0) pairs) items → is ≡ may_all tree pairs h f
+all_on_way tree pairs h f way items is down same told =
+    told ∙ ap (λ l. list_any (λ (x : FolderId). list_any (is_grant h x.0) pairs) l) same ∙ any_on_way (λ k. list_any (is_grant h k) pairs) tree f way down
+
+pub holders_made : (tree : Store) (pairs : List GrantEntry) (h : ℕ) (r : FolderRow) (made : Sight) (down : Bool) →
     made.folder ≡ r.id → made.parent ≡ r.parent → made.depth ≡ depth_of tree (folder_node r.id.0) → made.entry ≡ list_any (is_grant h r.id.0) pairs →
-    made.allowed ≡ list_any (λ (x : FolderId). list_any (is_grant h x.0) pairs) items → down ≡ list_any (λ (g : FolderId). is_within tree g.0 r.id.0) (folders_of pairs h) → made.named ≡ (made.allowed || down) →
+    made.allowed ≡ may_all tree pairs h r.id.0 → down ≡ list_any (is_above tree r.id.0) (folders_of pairs h) → made.named ≡ (made.allowed || down) →
     made ≡ holders_sight tree pairs h r
-holders_made tree pairs h r way items made down is same folder parent depth entry may down_is named =
-    let all : made.allowed ≡ list_any (λ (e : FolderEntry). list_any (is_grant h e.id) pairs) (way_to_root tree r.id.0) =
-    may ∙ ap (λ l. list_any (λ (x : FolderId). list_any (is_grant h x.0) pairs) l) same ∙ any_on_way (λ k. list_any (is_grant h k) pairs) tree r.id.0 way is
+holders_made tree pairs h r made down folder parent depth entry all down_is named =
+    let name : made.named ≡ (may_all tree pairs h r.id.0 || list_any (is_above tree r.id.0) (folders_of pairs h)) =
+    named ∙ ap (λ b. b || down) all ∙ ap (λ b. may_all tree pairs h r.id.0 || b) down_is
     in
-    let name : made.named ≡ (list_any (λ (e : FolderEntry). list_any (is_grant h e.id) pairs) (way_to_root tree r.id.0) || list_any (λ (g : FolderId). is_within tree g.0 r.id.0) (folders_of pairs h)) =
-    named ∙ ap (λ b. b || down) all ∙ ap (λ b. list_any (λ (e : FolderEntry). list_any (is_grant h e.id) pairs) (way_to_root tree r.id.0) || b) down_is
-    in
-    ap (λ x. let y : Sight = record { folder = x; parent = made.parent; depth = made.depth; entry = made.entry; allowed = made.allowed; named = made.named } in y) folder
-    ∙ ap (λ x. let y : Sight = record { folder = r.id; parent = x; depth = made.depth; entry = made.entry; allowed = made.allowed; named = made.named } in y) parent
-    ∙ ap (λ x. let y : Sight = record { folder = r.id; parent = r.parent; depth = x; entry = made.entry; allowed = made.allowed; named = made.named } in y) depth
-    ∙ ap (λ x. let y : Sight = record { folder = r.id; parent = r.parent; depth = depth_of tree (folder_node r.id.0); entry = x; allowed = made.allowed; named = made.named } in y) entry
-    ∙ ap (λ x. let y : Sight = record { folder = r.id; parent = r.parent; depth = depth_of tree (folder_node r.id.0); entry = list_any (is_grant h r.id.0) pairs; allowed = x; named = made.named } in y) all
-    ∙ ap (λ x. let y : Sight = record { folder = r.id; parent = r.parent; depth = depth_of tree (folder_node r.id.0); entry = list_any (is_grant h r.id.0) pairs; allowed = list_any (λ (e : FolderEntry). list_any (is_grant h e.id) pairs) (way_to_root tree r.id.0); named = x } in y) name
+    λ i. record { folder = folder i; parent = parent i; depth = depth i; entry = entry i; allowed = all i; named = name i }

@@ -10,7 +10,7 @@ use Rattle.log_visits.specs.Folding.{folded}
 use Rattle.log_visits.specs.Judging.{Failure, OfBytes, of_bytes, read_through, then_on}
 use Rattle.log_visits.specs.Opening.{opened_by}
 use Rattle.log_visits.specs.Visiting.{Reading, Opened, visit_all}
-use Rattle.log_visits.specs.Visits.{all_visits, holder_visits}
+use Rattle.log_visits.specs.Visits.{all_visits, writing_visits}
 use Rattle.move_plan.specs.Fitting.{folder_stands}
 use Rattle.public_fold.specs.Journal.{Stand, nothing}
 use Rattle.role_graph.specs.Rights.Who.{TheOwner}
@@ -35,8 +35,8 @@ visited_by r (Err fault) = refl
 
 pub visits_last : (owner bytes : List ℕ) (log : List PlainPlaced) (stand : Stand) → writer_log owner bytes ≡ Ok log → folded nothing log ≡ Ok stand → folder_stands stand.store 1 ≡ true →
     opened_store owner bytes ≡ opened_by (record { log = log; stand = stand })
-    (visit_all (record { log = log; stand = stand }) (all_visits stand.store TheOwner ++ holder_visits stand.store) (record { keys = (Owner, owner) ∷ []; store = stand.store }))
+    (visit_all (record { log = log; stand = stand }) (all_visits stand.store TheOwner ++ writing_visits stand.store) (record { keys = (Owner, owner) ∷ []; store = stand.store }))
 unfolding opened_store open_with read_through and_then of_bytes then_on with_root
 visits_last owner bytes log stand e f g =
     let r : Reading = record { log = log; stand = stand } in
-    rw (e, f, g) (visited_by r (visit_all r (all_visits stand.store TheOwner ++ holder_visits stand.store) (record { keys = (Owner, owner) ∷ []; store = stand.store })))
+    rw (e, f, g) (visited_by r (visit_all r (all_visits stand.store TheOwner ++ writing_visits stand.store) (record { keys = (Owner, owner) ∷ []; store = stand.store })))

@@ -3,12 +3,13 @@ use Rattle.std.proofs.Common.{◌≡◌, ℕ, ◌+◌, Bool, true, false, cond, 
 use Rattle.std.specs.List.{filter}
 use Rattle.std.specs.Prelude.{is_none}
 use Rattle.std.proofs.lemmas.Bool.{false≢true, or_parts}
+use Rattle.cry_base.specs.Clearances.{clear_number}
 use Rattle.cry_base.specs.Naming.{parent_path, last_name, names_of}
 use Rattle.cry_base.specs.Requests.{Request, paths_of}
 use Rattle.cry_base.specs.Requests.Request.{AddHolder, MakeFolder, WriteFile, Remove, Rename, Relocate, Grant, Revoke}
 use Rattle.cry_base.specs.Store.{Store, FolderEntry, FileEntry, HolderEntry, node_at}
 use Rattle.cry_base.specs.Stepping.{with_new_holder, with_new_folder, with_new_file, with_folder, with_file, without_folder, without_file, without_grant, with_bytes_at, without_node, with_name, moved, effect}
-use Rattle.cry_base.specs.Refusing.{id_of, is_folder, finds_no_path, writes_folder, refusal_of}
+use Rattle.cry_base.specs.Refusing.{granted_id, id_of, is_folder, finds_no_path, writes_folder, refusal_of}
 use Rattle.cry_base.specs.declared.roles.Node.{Node}
 use Rattle.cry_base.specs.declared.roles.Node.TheVariants.{Folder, File}
 use Rattle.move_plan.specs.Fitting.{public_of}
@@ -121,7 +122,9 @@ folder_dropped s f =
 
 file_dropped : (s : Store) (x : ℕ) → public_of (without_file s x) ≡ without_file (public_of s) x
 unfolding public_of without_file
-file_dropped s x = ap (λ xs. record (public_of s) { files = xs }) (map_filtered bare_file (λ e. not (e.id == x)) (λ e. refl) s.files)
+file_dropped s x =
+    ap (λ xs. record (public_of s) { files = xs; grants = filter (λ g. not (g.folder == clear_number x)) s.grants })
+    (map_filtered bare_file (λ e. not (e.id == x)) (λ e. refl) s.files)
 
 grant_dropped : (s : Store) (h f : ℕ) → public_of (without_grant s h f) ≡ without_grant (public_of s) h f
 unfolding public_of without_grant
@@ -163,7 +166,7 @@ told_of s (Remove path) key check a = removed_told s (node_at s path) (or_parts 
 told_of s (Rename path name) key check a = renamed_told s (node_at s path) name (or_parts (is_none (node_at s path)) false a.finds_path).0
 told_of s (Relocate path into) key check a = moved_told s (node_at s path) (id_of (node_at s into)) (or_parts (is_none (node_at s path)) (is_none (node_at s into) || false) a.finds_path).0
 told_of s (Grant h path) key check a = refl
-told_of s (Revoke h path) key check a = grant_dropped s h (id_of (node_at s path))
+told_of s (Revoke h path) key check a = grant_dropped s h (granted_id (node_at s path))
 
 pub accepted_told : (s : Store) (r : Request) (key check : List ℕ) (n : ℕ) → refusal_of s r n ≡ None → public_of (effect s r key) ≡ told_store (public_of s) (note_of s r check)
 accepted_told s r key check n e = told_of s r key check (accepted s r n e)

@@ -1,8 +1,5 @@
 -- The fault of the first step that fails.
 use Rattle.std.proofs.Common.{Result, refl}
-use Rattle.commit_journal.specs.declared.fault.OpenFault.{OpenFault}
-use Rattle.commit_journal.specs.declared.fault.OpenFault.TheVariants as opening
-use Rattle.commit_journal.specs.Answering as journal
 use Rattle.log_visits.specs.declared.fault.ClientFault.{ClientFault}
 use Rattle.log_visits.specs.declared.fault.ClientFault.TheVariants as faults
 use Rattle.log_visits.specs.Answering.{IsFault, IsOfBytes}

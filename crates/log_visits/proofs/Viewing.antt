@@ -7,9 +7,9 @@ use Rattle.cry_base.specs.Store.{Store, FolderEntry, FileEntry}
 use Rattle.cry_base.specs.Texts.{bytes_before}
 use Rattle.cry_base.proofs.Members.{In-append, In-map, In-filter, filter-In}
 use Rattle.role_graph.specs.Edges.{put_in_order, in_order}
-use Rattle.role_graph.specs.Rights.{Who, allowed_to, named_to}
+use Rattle.role_graph.specs.Rights.{Who, file_allowed_to, named_to}
 use Rattle.role_graph.proofs.Edging.{In-order}
-use Rattle.role_graph.proofs.Granting.{allowed_to_told, named_to_told}
+use Rattle.role_graph.proofs.Granting.{file_allowed_to_told, named_to_told}
 use Rattle.log_visits.specs.View.{Line, line_path, folder_line, file_line, view, IsLine, Ascends}
 
 abbrev line_before : Line → Line → Bool
@@ -19,7 +19,7 @@ pub view_told : (s : Store) (who : Who) (l : Line) → In l (view s who) ↔ IsL
 unfolding view
 view_told s who l =
     let fs = filter (λ (e : FolderEntry). named_to s who e.id) s.folders in
-    let xs = filter (λ (e : FileEntry). allowed_to s who e.folder) s.files in
+    let xs = filter (file_allowed_to s who) s.files in
     let sorted = In-order Line line_before l (map (folder_line s who) fs ++ map (file_line s) xs) in
     let both = In-append Line l (map (folder_line s who) fs) (map (file_line s) xs) in
     let mf = In-map FolderEntry Line (folder_line s who) l fs in
@@ -27,12 +27,12 @@ view_told s who l =
       λ i. ⊎_elim
           (λ a. let w = mf.0 a in let u = In-filter FolderEntry (λ e. named_to s who e.id) w.0 s.folders w.1 in
           inl (w.0, u.0, (named_to_told s who w.0.id).0 u.1, w.2))
-          (λ b. let w = mx.0 b in let u = In-filter FileEntry (λ e. allowed_to s who e.folder) w.0 s.files w.1 in
-          inr (w.0, u.0, (allowed_to_told s who w.0.folder).0 u.1, w.2))
+          (λ b. let w = mx.0 b in let u = In-filter FileEntry (file_allowed_to s who) w.0 s.files w.1 in
+          inr (w.0, u.0, (file_allowed_to_told s who w.0).0 u.1, w.2))
           (both.0 (sorted.0 i)),
       λ w. sorted.1 (both.1 (⊎_elim
           (λ a. inl (mf.1 (a.0, filter-In FolderEntry (λ e. named_to s who e.id) a.0 s.folders a.1 ((named_to_told s who a.0.id).1 a.2), a.3)))
-          (λ b. inr (mx.1 (b.0, filter-In FileEntry (λ e. allowed_to s who e.folder) b.0 s.files b.1 ((allowed_to_told s who b.0.folder).1 b.2), b.3))) w)),
+          (λ b. inr (mx.1 (b.0, filter-In FileEntry (file_allowed_to s who) b.0 s.files b.1 ((file_allowed_to_told s who b.0).1 b.2), b.3))) w)),
     )
 
 -- of two lists of bytes not both stand before the other
@@ -79,4 +79,4 @@ order_ascends (x ∷ xs) = put_ascends x (in_order line_before xs) (order_ascend
 
 pub view_ascends : (s : Store) (who : Who) → Ascends (view s who)
 unfolding view
-view_ascends s who = order_ascends (map (folder_line s who) (filter (λ e. named_to s who e.id) s.folders) ++ map (file_line s) (filter (λ e. allowed_to s who e.folder) s.files))
+view_ascends s who = order_ascends (map (folder_line s who) (filter (λ e. named_to s who e.id) s.folders) ++ map (file_line s) (filter (file_allowed_to s who) s.files))

@@ -10,13 +10,13 @@ use Rattle.cry_base.specs.declared.roles.Role.TheVariants.{Owner}
 use Rattle.commit_journal.specs.Answering.{Fault, Damaged}
 use Rattle.commit_journal.specs.Logs.{writer_log}
 use Rattle.commit_journal.specs.Placed.{PlainPlaced}
-use Rattle.role_graph.specs.Rights.{Who, allowed_to, named_to}
+use Rattle.role_graph.specs.Rights.{Who, file_allowed_to, named_to}
 use Rattle.role_graph.specs.Rights.Who.{TheOwner}
 use Rattle.move_plan.specs.Fitting.{folder_stands}
 use Rattle.log_visits.specs.Judging.{Failure, OfBytes, Unseen, then_on, of_bytes, read_through, bundle_log, read_with, who_of}
 use Rattle.log_visits.specs.Judging.{opened_first, shown_with}
 use Rattle.log_visits.specs.View.{Line, line_path, folder_line, file_line}
-use Rattle.log_visits.specs.Visits.{visits_to_names, all_visits, file_visits, files_that, holder_visits}
+use Rattle.log_visits.specs.Visits.{visits_to_names, all_visits, file_visits, files_that, writing_visits}
 use Rattle.log_visits.specs.Visiting.{Reading, Opened, visit_all}
 
 -- the lines of the folders that are named
@@ -25,7 +25,7 @@ folder_lines s who = map (folder_line s who) (filter (λ (e : FolderEntry). name
 
 -- the file is allowed, and its folder has the path that this path, without its last name, is
 unfoldable pub is_beside : Store → Who → List ℕ → FileEntry → Bool
-is_beside s who path e = is_path path && (allowed_to s who e.folder && bytes_eq (path_of s (folder_node e.folder)) (parent_path path))
+is_beside s who path e = is_path path && (file_allowed_to s who e && bytes_eq (path_of s (folder_node e.folder)) (parent_path path))
 
 -- the lines of such files
 unfoldable pub lines_beside : Store → Who → List ℕ → List Line
@@ -43,7 +43,7 @@ or_else None next = next
 -- the line of a file with the path, once the files beside it are visited
 unfoldable pub file_with : Reading → Opened → Who → List ℕ → Result Line Failure
 file_with r o who path =
-    then_on (of_bytes (visit_all r (file_visits r.stand.store (files_that (is_beside o.store who path) o.store)) o)) (λ after.
+    then_on (of_bytes (visit_all r (file_visits r.stand.store who (files_that (is_beside o.store who path) o.store)) o)) (λ after.
     or_else (line_at path (lines_beside after.store who path)) (Err Unseen))
 
 -- the one line with a path: that of a folder that is named, or else of a file
@@ -66,12 +66,12 @@ pub record OpenStore : Type 0 where
 unfoldable pub with_root : Reading → Result Reading Failure
 with_root r = if folder_stands r.stand.store 1 then Ok r else Err (OfBytes (Damaged header_len))
 
--- opening for writing: every visit of the owner's, and then the keys of the holders
+-- opening for writing: every visit of the owner's, and then the keys of the holders and the Clearances of files with grants
 unfoldable pub open_with : List ℕ → Result (List PlainPlaced) Fault → Result OpenStore Failure
 open_with owner log =
     then_on (then_on (of_bytes (read_through log)) with_root) (λ r.
     then_on (of_bytes (visit_all r (all_visits r.stand.store TheOwner
-    ++ holder_visits r.stand.store) (record { keys = (Owner, owner) ∷ []; store = r.stand.store }))) (λ o.
+    ++ writing_visits r.stand.store) (record { keys = (Owner, owner) ∷ []; store = r.stand.store }))) (λ o.
     Ok (record { reading = r; opened = o })))
 
 -- a store's bytes opened for writing

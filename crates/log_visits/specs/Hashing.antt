@@ -1,5 +1,5 @@
 -- Where the maps and the tables of an index look for a head. What they answer doesn't hang on it.
-use Rattle.std.specs.Prelude.{ℕ, ◌+◌, ◌-◌, ◌*◌, ◌/◌, ◌%◌, ◌^◌, ◌==◌, if◌then◌else◌, min}
+use Rattle.std.specs.Prelude.{ℕ, ◌+◌, ◌-◌, ◌*◌, ◌/◌, ◌%◌, ◌^◌, ◌==◌, ◌||◌, if◌then◌else◌, min}
 use Rattle.log_visits.specs.declared.last_contents.ContentHead.{ContentHead}
 use Rattle.log_visits.specs.declared.last_links.LinkHead.{LinkHead}
 
@@ -18,7 +18,7 @@ marked_place last = (last * 0x9e3779b97f4a7c15) % 2 ^ 64 / 2 ^ 56 * 2 ^ 24 + pla
 -- the ids of a head's ends, that by which it is looked for behind the other. A grant's is scattered
 abbrev pub ids_of : LinkHead → ℕ × ℕ
 ids_of h =
-    if h.kind == 8 then (h.to_id, h.from_id)
+    if (h.kind == 8) || ((h.kind == 10) || (h.kind == 11)) then (h.to_id, h.from_id)
     else (if h.kind == 2 then (h.from_id, (h.to_id + (h.from_id * 0x9e3779b1) % 2 ^ 32) % 2 ^ 32) else (h.from_id, h.to_id))
 
 -- the rows of heads in a table of spots, where those of files begin at n

@@ -46,10 +46,10 @@ ArePresent keys ring = (role : Role) (key : KeyParts) → key_of ring role ≡ S
 abbrev pub HoldsKeys : (Role → Bool) → Ringed → List (Role × List ℕ) → Type 0
 HoldsKeys told ring keys = (role : Role) → IsTrue (told role) → opened.key_of keys role ≡ option_map (λ k. k.bytes) (key_of ring role)
 
--- the edge is of one of the nine kinds, which is that of its roles
+-- the edge is of one of the eleven kinds, which is that of its roles
 pub record HasKind (e : Edge) : Type 0 where
   pub from_one : 1 ≤ e.kind
-  pub to_nine : e.kind ≤ 9
+  pub to_eleven : e.kind ≤ 11
   pub source : role_with (kind_from e.kind) (role_id e.from) ≡ e.from
   pub target : role_with (kind_to e.kind) (role_id e.to) ≡ e.to
 

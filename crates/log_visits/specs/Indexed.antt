@@ -137,9 +137,10 @@ pub record HasStandingAlone (index : Index) (v : PublicView) : Type 0 where
 abbrev pub rows_of : Index → ℕ
 rows_of index = hash_map_len index.links + hash_map_len index.contents
 
--- at least as many links as the edges that stand have: of a folder five within it and two with its parent, of a file and of a grant one
+-- at least as many links as the edges that stand have: of a folder five within it and two with its parent, of a file one, of a grant one,
+-- and three where it is on a file
 abbrev pub most_links : PublicView → ℕ
-most_links v = 7 * length v.tree.folders + length v.tree.files + length v.pairs
+most_links v = 7 * length v.tree.folders + length v.tree.files + 4 * length v.pairs
 
 -- as many contents as what stands has: the name of a folder, the text of a file, the key of a holder
 abbrev pub most_contents : PublicView → ℕ

@@ -1,5 +1,6 @@
 pub mod Answering
 pub mod Asking
+pub mod Entries
 pub mod Folding
 pub mod Found
 pub mod Hashing

@@ -60,14 +60,14 @@ abbrev pub Tells : (Role → Bool) → Viewer → Type 0
 Tells told viewers.Owner = (role : Role) → IsTrue (is_no_holders role) → IsTrue (told role)
 Tells told (viewers.Holder h) = ((role : Role) → IsTrue (is_no_holders role) → IsTrue (told role)) × IsTrue (told (Holder h))
 
--- a link is one of the nine kinds
+-- a link is one of the eleven kinds
 abbrev pub HasItsKind : Visit → Type 0
 HasItsKind (ToKey e) = HasKind e
 HasItsKind (ToName f) = Unit {0}
 HasItsKind (ToFile x) = Unit {0}
 HasItsKind (ToHolder h) = Unit {0}
 
--- the visit is a link of one of the nine kinds between roles that are told, or a text under such a role; a holder's key that is
+-- the visit is a link of one of the eleven kinds between roles that are told, or a text under such a role; a holder's key that is
 -- visited isn't told
 abbrev pub IsFor : (Role → Bool) → Visit → Type 0
 IsFor told (ToKey e) = HasKind e × IsTrue (told e.from) × IsTrue (told e.to)

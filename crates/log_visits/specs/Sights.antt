@@ -1,16 +1,17 @@
 -- What whoever reads may see of each folder, as code lists it. This project's own, docs/FORMAT.md, "Reading".
-use Rattle.std.specs.Prelude.{◌≡◌, ℕ, Bool, true, ◌||◌, ◌&&◌, ◌==◌, not, nat_lt, ◌-◌, List, map}
+use Rattle.std.specs.Prelude.{◌≡◌, ℕ, Bool, true, false, ◌||◌, ◌&&◌, ◌==◌, not, nat_lt, ◌-◌, List, map, Option, None, Some}
 use Rattle.std.specs.HashSet.{HashSet, contains}
 use Rattle.std.specs.List.{list_any}
-use Rattle.cry_base.specs.Store.{Store, FolderEntry, GrantEntry, depth_of, folder_node, is_within, way_to_root}
+use Rattle.cry_base.specs.Store.{Store, FolderEntry, GrantEntry, depth_of, folder_node, is_within}
 use Rattle.cry_base.specs.declared.ids.FolderId.{FolderId}
 use Rattle.folder_nodes.specs.declared.rows.FolderRow.{FolderRow}
 use Rattle.grant_book.specs.Granted.{folders_of, is_grant}
 use Rattle.log_visits.specs.declared.sights.Sight.{Sight}
 use Rattle.log_visits.specs.declared.sights.Viewer.{Viewer}
 use Rattle.log_visits.specs.declared.sights.Viewer.TheVariants as viewers
+use Rattle.log_visits.specs.Entries.{may_all}
 use Rattle.log_visits.specs.Visits.{is_entry}
-use Rattle.role_graph.specs.PublicStore.{GrantsStand}
+use Rattle.role_graph.specs.PublicStore.{GrantsStand, granted_place}
 use Rattle.role_graph.specs.Rights.{Who, allowed_to, named_to}
 use Rattle.role_graph.specs.Rights.Who.{TheOwner, TheHolder}
 
@@ -43,10 +44,19 @@ MayRead s (TheHolder h) = GrantsStand s
 abbrev pub same_number : ℕ → ℕ → Bool
 same_number a b = a == b
 
--- the set has the folders on which the holder has a grant, and all above them
+-- the folder is the one where a grant is, or above it
+abbrev pub is_within_place : Store → ℕ → Option FolderId → Bool
+is_within_place tree f None = false
+is_within_place tree f (Some g) = is_within tree g.0 f
+
+-- so of a grant on a folder or a file with this number
+abbrev pub is_above : Store → ℕ → FolderId → Bool
+is_above tree f n = is_within_place tree f (granted_place tree n.0)
+
+-- the set has the folders that are granted to the holder or hold a file that is, and all above them
 abbrev pub HasAbove : {S : Type 0} → Store → List GrantEntry → ℕ → HashSet ℕ S → Type 0
 HasAbove tree pairs h above = (f : ℕ) → contains same_number above f
-    ≡ list_any (λ (g : FolderId). is_within tree g.0 f) (folders_of pairs h)
+    ≡ list_any (is_above tree f) (folders_of pairs h)
 
 -- as code looks it up of a row
 abbrev pub owners_sight : Store → FolderRow → Sight
@@ -60,15 +70,14 @@ owners_sight tree r = record {
 }
 
 abbrev pub holders_sight : Store → List GrantEntry → ℕ → FolderRow → Sight
-holders_sight tree pairs h r = let may = list_any (λ (e : FolderEntry). list_any (is_grant h e.id) pairs) (way_to_root tree r.id.0)
-    in record {
-      folder = r.id;
-      parent = r.parent;
-      depth = depth_of tree (folder_node r.id.0);
-      entry = list_any (is_grant h r.id.0) pairs;
-      allowed = may;
-      named = may || list_any (λ (g : FolderId). is_within tree g.0 r.id.0) (folders_of pairs h);
-    }
+holders_sight tree pairs h r = record {
+  folder = r.id;
+  parent = r.parent;
+  depth = depth_of tree (folder_node r.id.0);
+  entry = list_any (is_grant h r.id.0) pairs;
+  allowed = may_all tree pairs h r.id.0;
+  named = may_all tree pairs h r.id.0 || list_any (is_above tree r.id.0) (folders_of pairs h);
+}
 
 -- the folder is come into from the one that it is in; it is named alone
 abbrev pub is_lower : Sight → Bool

@@ -5,7 +5,7 @@ use Rattle.cry_base.specs.Sets.{In}
 use Rattle.cry_base.specs.Store.{Store, FolderEntry, FileEntry, folder_names, file_names}
 use Rattle.cry_base.specs.Texts.{hex_of, ended_lines, bytes_before}
 use Rattle.role_graph.specs.Edges.{in_order}
-use Rattle.role_graph.specs.Rights.{Who, IsAllowedTo, IsNamedTo, allowed_to, named_to}
+use Rattle.role_graph.specs.Rights.{Who, IsFileAllowedTo, IsNamedTo, allowed_to, file_allowed_to, named_to}
 
 -- a line of a view: a folder that is named and not allowed, one that is allowed, or a file that is allowed
 pub data Line : Type 0 where
@@ -32,13 +32,13 @@ file_line s e = FileLine (spell_path (file_names s e)) e.bytes
 unfoldable pub view : Store → Who → List Line
 view s who = in_order (λ a b. bytes_before (line_path a) (line_path b)) (
     map (folder_line s who) (filter (λ e. named_to s who e.id) s.folders)
-    ++ map (file_line s) (filter (λ e. allowed_to s who e.folder) s.files))
+    ++ map (file_line s) (filter (file_allowed_to s who) s.files))
 
 -- the line is that of a folder that is named, or of a file that is allowed
 abbrev pub IsLine : Store → Who → Line → Type 0
 IsLine s who l =
     ((f : FolderEntry) × In f s.folders × IsNamedTo s who f.id × (l ≡ folder_line s who f))
-    ⊎ ((x : FileEntry) × In x s.files × IsAllowedTo s who x.folder × (l ≡ file_line s x))
+    ⊎ ((x : FileEntry) × In x s.files × IsFileAllowedTo s who x × (l ≡ file_line s x))
 
 -- no line stands before one that comes earlier
 abbrev pub Ascends : List Line → Type 0

@@ -72,8 +72,9 @@ impl Numbered for LinkHead {
     ghost is_same = { Prim.search rules };
 }
 
-/// The ids of a head's ends, that by which it is looked for behind the other: of a folder's link to its parent the folder's, of
-/// any other the target's. Many holders may have one folder, and many folders one holder, so a grant's is scattered.
+/// The ids of a head's ends, that by which it is looked for behind the other: of a folder's link to its parent the folder's, of one
+/// from a clearance that of the clearance, of any other the target's. Many holders may have one folder, and many folders one holder, so
+/// a grant's is scattered.
 fn ids_of(head: &LinkHead) -> (u32, u32)
     ensures { result ≡ hashing.ids_of head.now }
 {
@@ -83,7 +84,7 @@ fn ids_of(head: &LinkHead) -> (u32, u32)
             head.to_id
                 .wrapping_add(head.from_id.wrapping_mul(0x9e37_79b1)),
         ),
-        8 => (head.to_id, head.from_id),
+        8 | 10 | 11 => (head.to_id, head.from_id),
         _ => (head.from_id, head.to_id),
     }
 }

@@ -1,6 +1,7 @@
 //! Follows the payloads of a log, and opens its records by visits.
 #![tactic(auto)]
 
+mod entry_files;
 mod fault;
 pub mod fold_laws;
 mod folding;
@@ -22,6 +23,7 @@ mod visit_list;
 mod visiting;
 mod ways;
 
+pub use entry_files::{EntryFile, entry_files_of};
 pub use fault::{BEHIND_HEADER, ClientFault};
 pub use folding::{fold, take_batch};
 pub use index::Index;

@@ -1,5 +1,4 @@
 //! A hash that keeps numbers which come in order beside each other.
-ghost use Rattle.std.specs.Prelude.{◌≡◌};
 
 use std::hash::{BuildHasherDefault, Hasher};
 

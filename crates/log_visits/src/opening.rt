@@ -13,7 +13,7 @@ ghost use Rattle.log_visits.specs.Opening.{FailsBy, HasItsKind, IsFor, IsOpenedB
 ghost use Rattle.log_visits.specs.Opening.{file_row_visits, owner_list, plain_visit};
 ghost use Rattle.log_visits.specs.Visiting.{Opened, Reading};
 ghost use Rattle.log_visits.specs.Visiting as spec;
-ghost use Rattle.log_visits.specs.Visits.{Visit as PlainVisit, all_visits, holder_visits};
+ghost use Rattle.log_visits.specs.Visits.{Visit as PlainVisit, all_visits, writing_visits};
 ghost use Rattle.log_visits.specs.Visits.Visit.{ToKey};
 ghost use Rattle.key_links.specs.Ringed.{key_of};
 ghost use Rattle.role_graph.specs.Rights.Who.{TheOwner};
@@ -213,7 +213,8 @@ fn visit_owned(
     visit_part(alloc, state, indexed, &mut (), keys, view)
 }
 
-/// Opens all of a store that the owner's key opens: every key, every name, all bytes, and the holders' keys. Its answer is
+/// Opens all of a store that the owner's key opens: every key, every name, all bytes, and the
+/// holders' keys. Its answer is
 /// that of the owner's visits one after another: `Damaged` behind the header where a record is missing, `Tampered` with the
 /// place of the first record whose tag is wrong, `Damaged` with the place of the first content whose text has another form.
 /// `OutOfMemory` may come at any time, and no disk is touched.
@@ -228,7 +229,7 @@ pub fn open_all(
     ensures answer { (r : Reading) → IsReadingOf state.now log.now r →
         AnswersBy (λ view behind. IsOpenedBy r.stand.store view behind) result
         (spec.visit_all r (all_visits r.stand.store TheOwner
-        ++ holder_visits r.stand.store) (record { keys = (Owner, owner.bytes) ∷ []; store = r.stand.store })) }
+        ++ writing_visits r.stand.store) (record { keys = (Owner, owner.bytes) ∷ []; store = r.stand.store })) }
     ensures present { IfOk result (λ view. ArePresent state.now.keys.keys view.ring) }
     ensures sized { IfOk result (λ view. AreSized view.names) }
     ensures no_disk { result ≢ Err ClientFault.DiskFault }

@@ -1,20 +1,18 @@
 //! Finds the records that visits open.
-ghost use Rattle.std.specs.Prelude.{◌≡◌, ◌≢◌, ◌<◌, ◌≤◌, ℕ, Err, IfOk, IfSome, List, Ok, map};
-ghost use Rattle.commit_journal.specs.Placed.{PlainPlaced, plain_body};
+ghost use Rattle.std.specs.Prelude.{◌≡◌, ◌≢◌, ◌<◌, ◌≤◌, ℕ, Err, IfOk, IfSome, List, Ok};
+ghost use Rattle.commit_journal.specs.Placed.{PlainPlaced};
 ghost use Rattle.commit_journal.specs.Places.{IsStanding};
 ghost use Rattle.log_visits.specs.Folding.{folded};
 ghost use Rattle.log_visits.specs.Found.{Finds, FindsAt, HasObject, IsContentFor, IsLinkFor, newest_for, plain_link};
 ghost use Rattle.log_visits.specs.Placing as spec;
-ghost use Rattle.log_visits.specs.Spots.{contents_in};
 ghost use Rattle.public_fold.specs.Journal.{Stand, nothing};
-ghost use Rattle.record_format.specs.Plain.{plain_content};
 ghost use Rattle.role_graph.specs.Edges.{IsEdge};
 
 use crate::ClientFault;
 use crate::last_contents::ContentSpot;
 use crate::last_links::FoundLink;
 use commit_journal::{Body, Placed};
-use cry_base::{Edge, Mem, Text};
+use cry_base::Edge;
 use public_fold::PublicState;
 use record_format::ContentRecord;
 use std::alloc::Global;

@@ -7,8 +7,8 @@ use public_fold::PublicState;
 /// So many are kept of any store, that of a small one nothing is forgotten at each batch.
 const FEW: usize = 64;
 
-/// At least as many links as the edges that stand have: of a folder five within it and two with its parent, of a file and of a grant
-/// one each.
+/// At least as many links as the edges that stand have: of a folder five within it and two with its parent, of a file one, of a grant
+/// one, and three where it is on a file.
 fn most_links(state: &PublicState) -> usize
     ensures { result ≡ min (spec.most_links state.now) (2 ^ 64 - 1) }
 {
@@ -18,7 +18,7 @@ fn most_links(state: &PublicState) -> usize
     folders
         .saturating_mul(7)
         .saturating_add(files)
-        .saturating_add(grants)
+        .saturating_add(grants.saturating_mul(4))
 }
 
 /// As many contents as what stands has: the name of each folder, the text of each file, the key of each holder.

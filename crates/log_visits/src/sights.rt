@@ -7,6 +7,7 @@ ghost use Rattle.cry_base.specs.Store.{folder_node, is_within};
 ghost use Rattle.cry_base.specs.declared.ids.FolderId.{FolderId as TheFolder};
 ghost use Rattle.folder_nodes.specs.Trees.{IsTree};
 ghost use Rattle.grant_book.specs.Granted.{is_grant};
+ghost use Rattle.log_visits.specs.Entries.{may_all};
 ghost use Rattle.log_visits.specs.Opening.{IsNameless};
 ghost use Rattle.log_visits.specs.Sights as spec;
 ghost use Rattle.public_fold.specs.Journal.{Stand};
@@ -17,6 +18,7 @@ use cry_base::{FolderId, HolderId, Mem};
 use folder_nodes::{FolderRow, Shape};
 use grant_book::Grants;
 use public_fold::PublicState;
+use role_graph::granted_place;
 use sorted_table::Walk;
 use std::alloc::Global;
 use std::collections::HashSet;
@@ -64,14 +66,25 @@ fn note_way(alloc: Global, above: &mut HashSet<u32>, shape: &Shape, folder: Fold
     note_each(above, way.as_slice())
 }
 
-/// The folders that are granted to the holder, and all above them.
+/// Notes the folder where a grant on the number is, and all above it.
+fn note_grant(alloc: Global, above: &mut HashSet<u32>, shape: &Shape, number: FolderId) -> Mem<()>
+    ensures { OnOk result ((f : ℕ) → contains spec.same_number above.new f
+        ≡ (contains spec.same_number above.old f || spec.is_above shape.now.tree f number)) }
+{
+    match granted_place(number, shape) {
+        Some(folder) => note_way(alloc, above, shape, folder),
+        None => Ok(()),
+    }
+}
+
+/// The folders that are granted to the holder or hold a file that is, and all above them.
 fn above_grants(alloc: Global, shape: &Shape, grants: &Grants, h: HolderId) -> Mem<HashSet<u32>>
     ensures { IfOk result (spec.HasAbove shape.now.tree grants.now.pairs h.0) }
 {
     let granted = grants.of_holder(h)?;
     let mut above = HashSet::new(alloc);
-    for folder in granted.as_slice() {
-        note_way(alloc, &mut above, shape, *folder)?;
+    for number in granted.as_slice() {
+        note_grant(alloc, &mut above, shape, *number)?;
     }
     Ok(above)
 }
@@ -81,6 +94,20 @@ fn has_one(grants: &Grants, h: HolderId, folders: &[FolderId]) -> bool
     ensures { result ≡ list_any (λ (x : TheFolder). list_any (is_grant h.0 x.0) grants.now.pairs) folders.now }
 {
     folders.iter().any(|folder| grants.has(h, *folder))
+}
+
+/// Whether the holder may read all in the folder.
+pub(crate) fn is_allowed(
+    alloc: Global,
+    shape: &Shape,
+    grants: &Grants,
+    h: HolderId,
+    f: FolderId,
+) -> Mem<bool>
+    ensures { IfOk result (λ is. is ≡ may_all shape.now.tree grants.now.pairs h.0 f.0) }
+{
+    let way = way_to(alloc, shape, f)?;
+    Ok(has_one(grants, h, way.as_slice()))
 }
 
 /// How many names the folder's path has, and 0 where it doesn't stand.
@@ -118,7 +145,7 @@ fn owners_sights(alloc: Global, shape: &Shape, rows: Walk<'_, FolderRow>) -> Mem
     Ok(sights)
 }
 
-/// A holder may see a folder that is granted with all in it, and the names of all above it.
+/// A holder may see a folder that is granted with all in it, and the names of all above it and above a file that is granted.
 fn holders_sight(
     alloc: Global,
     shape: &Shape,
@@ -130,8 +157,7 @@ fn holders_sight(
     requires { spec.HasAbove shape.now.tree grants.now.pairs h.0 above.now }
     ensures { IfOk result (λ x. x ≡ spec.holders_sight shape.now.tree grants.now.pairs h.0 row.now) }
 {
-    let way = way_to(alloc, shape, row.id)?;
-    let allowed = has_one(grants, h, way.as_slice());
+    let allowed = is_allowed(alloc, shape, grants, h, row.id)?;
     let leads_down = above.contains(&row.id.0);
     Ok(Sight {
         folder: row.id,

@@ -3,27 +3,32 @@ ghost use Rattle.std.specs.Prelude.{◌≡◌, ◌++◌, [], ◌∷◌, Bool, If
 ghost use Rattle.std.specs.List.{AllByRecursion, flat_map, range_with_len};
 ghost use Rattle.cry_base.specs.Sets.{In};
 ghost use Rattle.cry_base.specs.Store.{HolderEntry, Store};
+ghost use Rattle.cry_base.specs.declared.roles.Edge.{Edge as TheEdge};
 ghost use Rattle.cry_base.specs.declared.roles.Role.{Role as TheRole};
 ghost use Rattle.folder_nodes.specs.Bare.{file_of_row};
 ghost use Rattle.folder_nodes.specs.Trees.{IsTree};
 ghost use Rattle.folder_nodes.specs.declared.rows.FileRow.{FileRow as TheFileRow};
+ghost use Rattle.log_visits.specs.Entries.{AreEntryFiles};
 ghost use Rattle.log_visits.specs.Listing as list;
 ghost use Rattle.log_visits.specs.Opening.{IsFor, IsNameless, Tells, plain_visit, is_no_holders, owner_list};
 ghost use Rattle.log_visits.specs.Sights as sight;
 ghost use Rattle.log_visits.specs.Visits as spec;
 ghost use Rattle.log_visits.specs.Visits.Visit.{ToHolder};
-ghost use Rattle.log_visits.specs.declared.sights.Sight.{Sight as TheSight};
 ghost use Rattle.log_visits.specs.declared.visit_list.Visit.TheVariants.{Key, Link};
 ghost use Rattle.public_fold.specs.Journal.{Stand};
 ghost use Rattle.public_fold.specs.Standing.{IsSeenAs};
 ghost use Rattle.role_graph.specs.Edges.{in_order};
 ghost use Rattle.role_graph.specs.Rights.Who.{TheOwner};
+ghost use Rattle.role_graph.specs.Roles.{role_id};
 
+use crate::entry_files::EntryFile;
 use crate::sights::{Sight, Viewer, all_sights, is_nameless};
 use cry_base::{Edge, FileId, FolderId, HolderId, Mem};
 use folder_nodes::FileRow;
+use grant_book::Grants;
 use public_fold::PublicState;
-use role_graph::kinds;
+use role_graph::{clearance_of, kinds};
+use sorted_table::Walk;
 use std::alloc::Global;
 use std::collections::HashMap;
 
@@ -45,7 +50,7 @@ pub enum Visit {
 pub(crate) struct OwnerVisits {
     /// Those up to the names of folders.
     pub(crate) names: Vec<Visit>,
-    /// Those to the holders' keys, which come last.
+    /// Those to the holders' keys and to the files' clearances, which come last.
     pub(crate) keys: Vec<Visit>,
 }
 
@@ -60,8 +65,9 @@ pub(crate) enum Part {
     Title,
 }
 
-/// The first folder by number that is named, for each folder that has one in it.
-type FirstNamed = HashMap<u32, FolderId>;
+/// The edge by which each folder is come up into: from the first in it by number that is named, or where none is from its first entry
+/// file.
+type WaysUp = HashMap<u32, Edge>;
 
 fn link(edge: Edge) -> Visit
     ensures { result ≡ Link edge }
@@ -69,7 +75,7 @@ fn link(edge: Edge) -> Visit
     Visit::Link { edge }
 }
 
-/// The link by which whoever reads comes into a folder.
+/// The link by which whoever reads comes into a folder, or into a file with its clearance number.
 #[tactic(auto, unfolding(role_graph::specs::Roles::clear_of, role_graph::specs::Roles::holder_role))]
 fn into(viewer: Viewer, f: FolderId) -> Visit
     ensures { result ≡ list.entry_link viewer f }
@@ -118,6 +124,16 @@ fn push_part(visits: &mut Vec<Visit>, viewer: Viewer, part: Part, sight: &Sight)
 {
     if has_part(part, sight) {
         visits.extend_from_slice(&in_folder(viewer, part, sight.folder))?;
+    }
+    Ok(())
+}
+
+/// Adds a visit into the clearance of each entry file.
+fn push_entry_files(visits: &mut Vec<Visit>, viewer: Viewer, entries: &[EntryFile]) -> Mem<()>
+    ensures { OnOk result (visits.new.items ≡ visits.old.items ++ map (list.entry_file_link viewer) entries.now) }
+{
+    for entry in entries {
+        visits.push(into(viewer, entry.clearance))?;
     }
     Ok(())
 }
@@ -186,47 +202,90 @@ fn sort_deep(found: &mut Vec<Sight>) -> Mem<()>
     Ok(())
 }
 
-/// Notes the folder for the one that it is in, where it is named and the first.
-fn note_child(first: &mut FirstNamed, sight: &Sight) -> Mem<()>
-    ensures { OnOk result ((so_far : List TheSight) → list.AreFirst first.old so_far → list.AreFirst first.new (so_far ++ sight.now ∷ [])) }
+/// Notes an edge for the folder that it leads up into, where none was noted for that before.
+fn note_way(first: &mut WaysUp, f: u32, edge: Edge) -> Mem<()>
+    requires { role_id edge.to ≡ f }
+    ensures { OnOk result ((so_far : List TheEdge) → list.AreFirst first.old so_far → list.AreFirst first.new (so_far ++ edge ∷ [])) }
+{
+    if first.contains_key(&f) {
+        return Ok(());
+    }
+    first.insert(f, edge)?;
+    Ok(())
+}
+
+/// Notes the way up from a folder that is named.
+#[tactic(auto, unfolding(role_graph::specs::Roles::back_of, role_graph::specs::Roles::role_id, role_graph::specs::Edges::edge))]
+fn note_child(first: &mut WaysUp, sight: &Sight) -> Mem<()>
+    ensures { OnOk result ((so_far : List TheEdge) → list.AreFirst first.old so_far
+        → list.AreFirst first.new (so_far ++ list.child_edges sight.now)) }
 {
     let is_named = sight.named;
     if !is_named {
         return Ok(());
     }
-    if first.contains_key(&sight.parent) {
-        return Ok(());
-    }
-    first.insert(sight.parent, sight.folder)?;
+    let edge = kinds::back_to_back(sight.folder, FolderId(sight.parent));
+    note_way(first, sight.parent, edge)?;
     Ok(())
 }
 
-fn first_named(alloc: Global, sights: &[Sight]) -> Mem<FirstNamed>
-    ensures { IfOk result (λ first. list.AreFirst first sights.now) }
+/// Notes the way up from an entry file.
+#[tactic(auto, unfolding(role_graph::specs::Roles::clear_of, role_graph::specs::Roles::back_of, role_graph::specs::Roles::role_id, role_graph::specs::Edges::edge))]
+fn note_entry(first: &mut WaysUp, entry: &EntryFile) -> Mem<()>
+    ensures { OnOk result ((so_far : List TheEdge) → list.AreFirst first.old so_far
+        → list.AreFirst first.new (so_far ++ list.entry_up entry.now ∷ [])) }
+{
+    let edge = kinds::clearance_to_back(entry.clearance, entry.folder);
+    note_way(first, entry.folder.0, edge)?;
+    Ok(())
+}
+
+/// Notes the ways up from the folders that are named.
+fn note_children(first: &mut WaysUp, sights: &[Sight]) -> Mem<()>
+    ensures { OnOk result ((so_far : List TheEdge) → list.AreFirst first.old so_far
+        → list.AreFirst first.new (so_far ++ flat_map list.child_edges sights.now)) }
+{
+    for sight in sights {
+        note_child(first, sight)?;
+    }
+    Ok(())
+}
+
+/// Notes the ways up from the entry files.
+fn note_entries(first: &mut WaysUp, entries: &[EntryFile]) -> Mem<()>
+    ensures { OnOk result ((so_far : List TheEdge) → list.AreFirst first.old so_far
+        → list.AreFirst first.new (so_far ++ map list.entry_up entries.now)) }
+{
+    for entry in entries {
+        note_entry(first, entry)?;
+    }
+    Ok(())
+}
+
+fn ways_up(alloc: Global, sights: &[Sight], entries: &[EntryFile]) -> Mem<WaysUp>
+    ensures { IfOk result (λ first. list.AreFirst first (list.edges_up sights.now entries.now)) }
 {
     let mut first = HashMap::new(alloc);
-    for sight in sights {
-        note_child(&mut first, sight)?;
-    }
+    note_children(&mut first, sights)?;
+    note_entries(&mut first, entries)?;
     Ok(first)
 }
 
-/// Adds a visit for a folder, from the first in it that is named.
-#[tactic(auto, unfolding(role_graph::specs::Roles::back_of))]
-fn push_from(visits: &mut Vec<Visit>, first: &FirstNamed, f: FolderId) -> Mem<()>
-    ensures { OnOk result ((sights : List TheSight) → list.AreFirst first.now sights
-        → visits.new.items ≡ visits.old.items ++ list.from_child sights f) }
+/// Adds a visit for a folder, by the edge that was noted for it.
+fn push_from(visits: &mut Vec<Visit>, first: &WaysUp, f: FolderId) -> Mem<()>
+    ensures { OnOk result ((ups : List TheEdge) → list.AreFirst first.now ups
+        → visits.new.items ≡ visits.old.items ++ list.from_below ups f) }
 {
-    if let Some(child) = first.get(&f.0) {
-        visits.push(link(kinds::back_to_back(*child, f)))?;
+    if let Some(edge) = first.get(&f.0) {
+        visits.push(link(*edge))?;
     }
     Ok(())
 }
 
-/// Adds a visit for each of some folders, from the first in it that is named.
-fn push_upper(visits: &mut Vec<Visit>, first: &FirstNamed, folders: &[Sight]) -> Mem<()>
-    ensures { OnOk result ((sights : List TheSight) → list.AreFirst first.now sights
-        → visits.new.items ≡ visits.old.items ++ flat_map (λ x. list.from_child sights x.folder) folders.now) }
+/// Adds a visit for each of some folders, by the edges that were noted for them.
+fn push_upper(visits: &mut Vec<Visit>, first: &WaysUp, folders: &[Sight]) -> Mem<()>
+    ensures { OnOk result ((ups : List TheEdge) → list.AreFirst first.now ups
+        → visits.new.items ≡ visits.old.items ++ flat_map (λ x. list.from_below ups x.folder) folders.now) }
 {
     for sight in folders {
         push_from(visits, first, sight.folder)?;
@@ -234,10 +293,16 @@ fn push_upper(visits: &mut Vec<Visit>, first: &FirstNamed, folders: &[Sight]) ->
     Ok(())
 }
 
-/// The visits up to the names of folders: into each entry folder, then into the other folders that are allowed, then to what is
-/// beside each that is allowed, then up into those that are named alone, and last to each name.
-pub fn visits_to_names(alloc: Global, viewer: Viewer, sights: &[Sight]) -> Mem<Vec<Visit>>
+/// The visits up to the names of folders: into each entry folder and each entry file, then into the other folders that are allowed, then
+/// to what is beside each that is allowed, then up into those that are named alone, and last to each name.
+pub fn visits_to_names(
+    alloc: Global,
+    viewer: Viewer,
+    sights: &[Sight],
+    entries: &[EntryFile],
+) -> Mem<Vec<Visit>>
     ensures visits { IfOk result (λ l. (s : Store) → IsTree s → sight.AreSights s (sight.plain_viewer viewer) sights.now
+        → AreEntryFiles s (sight.plain_viewer viewer) entries.now
         → map plain_visit l.items ≡ spec.visits_to_names s (sight.plain_viewer viewer)) }
     ensures told { IfOk result (λ l. (told : TheRole → Bool) → Tells told viewer → AllByRecursion (IsFor told) (map plain_visit l.items)) }
 {
@@ -245,9 +310,10 @@ pub fn visits_to_names(alloc: Global, viewer: Viewer, sights: &[Sight]) -> Mem<V
     sort_shallow(&mut lower)?;
     let mut upper = upper_folders(alloc, sights)?;
     sort_deep(&mut upper)?;
-    let first = first_named(alloc, sights)?;
+    let first = ways_up(alloc, sights, entries)?;
     let mut visits = Vec::new(alloc);
     push_folders(&mut visits, viewer, Part::Entry, sights)?;
+    push_entry_files(&mut visits, viewer, entries)?;
     push_lower(&mut visits, lower.as_slice())?;
     push_folders(&mut visits, viewer, Part::Ways, sights)?;
     push_upper(&mut visits, &first, upper.as_slice())?;
@@ -268,10 +334,34 @@ fn key_visits(alloc: Global, last: u32) -> Mem<Vec<Visit>>
     Ok(visits)
 }
 
-/// All visits of the owner but for those to files, and then the holders' keys.
+/// Adds the visit into the file's clearance, where it has a grant.
+#[tactic(auto, unfolding(role_graph::specs::Roles::clear_of))]
+fn push_clearance(visits: &mut Vec<Visit>, grants: &Grants, row: &FileRow) -> Mem<()>
+    ensures { OnOk result (visits.new.items ≡ visits.old.items ++ list.clearance_of grants.now.pairs row.now) }
+{
+    match clearance_of(grants, row.id) {
+        Some(clearance) => {
+            visits.push(link(kinds::owner_to_clear(clearance)))?;
+            Ok(())
+        }
+        None => Ok(()),
+    }
+}
+
+/// Adds a visit into the clearance of each of these files that has one.
+fn push_clearances(visits: &mut Vec<Visit>, grants: &Grants, files: Walk<'_, FileRow>) -> Mem<()>
+    ensures { OnOk result (visits.new.items ≡ visits.old.items ++ flat_map (list.clearance_of grants.now.pairs) files.entry) }
+{
+    for row in files {
+        push_clearance(visits, grants, row)?;
+    }
+    Ok(())
+}
+
+/// All visits of the owner but for those to files, and then the holders' keys and the files' clearances.
 pub(crate) fn owner_visits(alloc: Global, state: &PublicState) -> Mem<OwnerVisits>
     ensures visits { IfOk result (λ l. (at : Stand) (rows : List TheFileRow) → state.now.tree.files ≡ map file_of_row rows
-        → IsSeenAs state.now at → owner_list l rows ≡ spec.all_visits at.store TheOwner ++ spec.holder_visits at.store) }
+        → IsSeenAs state.now at → owner_list l rows ≡ spec.all_visits at.store TheOwner ++ spec.writing_visits at.store) }
     ensures nameless { IfOk result (λ _. IsNameless state.now.tree) }
     ensures owners { IfOk result (λ l. (rows : List TheFileRow) → AllByRecursion (IsFor is_no_holders) (owner_list l rows)) }
     ensures holders { IfOk result (λ l. (at : Stand) (rows : List TheFileRow) (e : HolderEntry) → IsSeenAs state.now at
@@ -279,7 +369,9 @@ pub(crate) fn owner_visits(alloc: Global, state: &PublicState) -> Mem<OwnerVisit
 {
     is_nameless(state);
     let seen = all_sights(alloc, state, Viewer::Owner)?;
-    let names = visits_to_names(alloc, Viewer::Owner, seen.as_slice())?;
-    let keys = key_visits(alloc, state.grants().holders())?;
+    let names = visits_to_names(alloc, Viewer::Owner, seen.as_slice(), &[])?;
+    let grants = state.grants();
+    let mut keys = key_visits(alloc, grants.holders())?;
+    push_clearances(&mut keys, grants, state.shape().files())?;
     Ok(OwnerVisits { names, keys })
 }

@@ -10,6 +10,7 @@ use Rattle.log_visits.specs.Answering.{IsFailure}
 use Rattle.log_visits.specs.Asking.{file_with, line_at}
 use Rattle.holder_client.specs.Beside.{is_row_beside}
 use Rattle.holder_client.specs.Filed.{file_stops}
+use Rattle.log_visits.specs.Entries.{AreEntryFiles}
 use Rattle.log_visits.specs.Judging.{Unseen, who_of}
 use Rattle.holder_client.specs.Lines.{plain_line}
 use Rattle.log_visits.specs.View.{Line}
@@ -34,7 +35,11 @@ returns-in_err-ring-clause-answer g c = λ shown r of_log may.
     subst (λ (w : Who). AreSights bare w c.in_ok-seen.seen.items) c.viewer_of.ensures (c.in_ok-seen.ensures.sights r.stand of_log.1 (subst (λ (w : Who). MayRead bare w) (sym c.viewer_of.ensures) may))
     in
     let seen = subst (AreSights bare who) (sym c.as_slice.ensures.value) listed in
-    rw (p.1, p.2) (names_fail_path c.args.bundle.now path r c.in_err-ring.field-0.0 (c.in_err-ring.ensures.answer shown r of_log tree seen))
+    let come : AreEntryFiles bare who c.as_slice-entries.result.now =
+    subst (AreEntryFiles bare who) (sym c.as_slice-entries.ensures.value)
+    (subst (λ (w : Who). AreEntryFiles bare w c.in_ok-entered.entered.items) c.viewer_of-2.ensures (c.in_ok-entered.ensures r.stand of_log.1 (subst (λ (w : Who). MayRead bare w) (sym c.viewer_of-2.ensures) may)))
+    in
+    rw (p.1, p.2) (names_fail_path c.args.bundle.now path r c.in_err-ring.field-0.0 (c.in_err-ring.ensures.answer shown r of_log tree seen come))
 
 pub returns-in-Some-clause-answer : goal.returns-in-Some-clause-answer
 returns-in-Some-clause-answer g c = λ shown r of_log may.
@@ -47,7 +52,11 @@ returns-in-Some-clause-answer g c = λ shown r of_log may.
     subst (λ (w : Who). AreSights bare w c.in_ok-seen.seen.items) c.viewer_of.ensures (c.in_ok-seen.ensures.sights r.stand of_log.1 (subst (λ (w : Who). MayRead bare w) (sym c.viewer_of.ensures) may))
     in
     let seen = subst (AreSights bare who) (sym c.as_slice.ensures.value) listed in
-    let a = c.in_ok-ring.ensures.answer shown r of_log tree seen in
+    let come : AreEntryFiles bare who c.as_slice-entries.result.now =
+    subst (AreEntryFiles bare who) (sym c.as_slice-entries.ensures.value)
+    (subst (λ (w : Who). AreEntryFiles bare w c.in_ok-entered.entered.items) c.viewer_of-2.ensures (c.in_ok-entered.ensures r.stand of_log.1 (subst (λ (w : Who). MayRead bare w) (sym c.viewer_of-2.ensures) may)))
+    in
+    let a = c.in_ok-ring.ensures.answer shown r of_log tree seen come in
     let folders : bare.folders ≡ c.shape-shape.result.now.tree.folders = ap (λ (s : Store). s.folders) of_log.1.store ∙ ap (λ (t : Store). t.folders) (sym c.shape-shape.ensures) in
     let t = tree_store c.shape-shape.result.now.tree c.in_ok-ring.field-0.names in
     let found : Option Line = option_map plain_line c.in_ok-line.field-0 in
@@ -68,7 +77,11 @@ returns-in_err-files-clause-answer g c = λ shown r of_log may.
     subst (λ (w : Who). AreSights bare w c.in_ok-seen.seen.items) c.viewer_of.ensures (c.in_ok-seen.ensures.sights r.stand of_log.1 (subst (λ (w : Who). MayRead bare w) (sym c.viewer_of.ensures) may))
     in
     let seen = subst (AreSights bare who) (sym c.as_slice.ensures.value) listed in
-    let a = c.in_ok-ring.ensures.answer shown r of_log tree seen in
+    let come : AreEntryFiles bare who c.as_slice-entries.result.now =
+    subst (AreEntryFiles bare who) (sym c.as_slice-entries.ensures.value)
+    (subst (λ (w : Who). AreEntryFiles bare w c.in_ok-entered.entered.items) c.viewer_of-2.ensures (c.in_ok-entered.ensures r.stand of_log.1 (subst (λ (w : Who). MayRead bare w) (sym c.viewer_of-2.ensures) may)))
+    in
+    let a = c.in_ok-ring.ensures.answer shown r of_log tree seen come in
     let folders : bare.folders ≡ c.shape-shape.result.now.tree.folders = ap (λ (s : Store). s.folders) of_log.1.store ∙ ap (λ (t : Store). t.folders) (sym c.shape-shape.ensures) in
     let t = tree_store c.shape-shape.result.now.tree c.in_ok-ring.field-0.names in
     let found : Option Line = option_map plain_line c.in_ok-line.field-0 in
@@ -76,16 +89,16 @@ returns-in_err-files-clause-answer g c = λ shown r of_log may.
     (c.in_ok-line.ensures ∙ ap (line_at path) (folders_named c.shape-shape.result.now.tree bare a.0.store c.in_ok-ring.field-0.names who c.as_slice-2.result.now folders (subst (AreSights bare who) (sym c.as_slice-2.ensures.value) listed) a.2.1))
     in
     let passed = names ∙ no_line found (file_with r a.0 who path) (ap (option_map plain_line) (none_of Shown c.in_ok-line.field-0 c.in_default.not-Some)) in
-    let rows = c.files.result in
-    let is : bare.files ≡ map file_of_row rows = ap (λ (s : Store). s.files) of_log.1.store ∙ sym (c.files.ensures ∙ ap (λ (t : Store). t.files) c.shape-shape.ensures) in
+    let rows = c.files-files.result in
+    let is : bare.files ≡ map file_of_row rows = ap (λ (s : Store). s.files) of_log.1.store ∙ sym (c.files-files.ensures ∙ ap (λ (t : Store). t.files) c.shape-shape.ensures) in
     let beside = subst (AreSights bare who) (sym c.as_slice-3.ensures.value) listed in
-    let chosen : c.as_slice-4.result.now ≡ filter (is_row_beside t c.as_slice-3.result.now path) rows = c.as_slice-4.ensures.value ∙ c.in_ok-rows.ensures in
-    let stops = stops_beside c.shape-shape.result.now.tree bare a.0.store c.in_ok-ring.field-0.names who c.as_slice-3.result.now rows path folders tree beside is a.2.1
-    ∙ ap (flat_map file_stops) (sym chosen)
+    let chosen : c.as_slice-rows.result.now ≡ filter (is_row_beside t c.as_slice-3.result.now c.as_slice-entries.result.now path) rows = c.as_slice-rows.ensures.value ∙ c.in_ok-found.ensures in
+    let stops = stops_beside c.shape-shape.result.now.tree bare a.0.store c.in_ok-ring.field-0.names who c.as_slice-3.result.now c.as_slice-entries.result.now rows path folders tree beside come is a.2.1
+    ∙ ap (flat_map (file_stops c.as_slice-entries.result.now)) (sym chosen)
     in
     rw (p.1, p.2)
     (subst (IsFailure c.in_err-files.field-0.0) (sym passed)
-    (files_fail_path r a.0 who path (flat_map file_stops c.as_slice-4.result.now) c.in_err-files.field-0.0 stops (c.in_err-files.ensures.answer (g.met.R.Records.still_shows c.args.records.now c.args.source.now c.open_names.new.source c.in_ok-ring.ensures.stays shown) r a.0 bare c.in_ok-ring.field-0.names of_log (rows_stand bare rows c.as_slice-4.result.now _ is chosen) a.2.0 a.2.1)))
+    (files_fail_path r a.0 who path (flat_map (file_stops c.as_slice-entries.result.now) c.as_slice-rows.result.now) c.in_err-files.field-0.0 stops (c.in_err-files.ensures.answer (g.met.R.Records.still_shows c.args.records.now c.args.source.now c.open_names.new.source c.in_ok-ring.ensures.stays shown) r a.0 bare c.in_ok-ring.field-0.names of_log (rows_stand bare who c.as_slice-entries.result.now rows c.as_slice-rows.result.now _ come is chosen) a.2.0 a.2.1)))
 
 pub returns-in-Some-2-clause-answer : goal.returns-in-Some-2-clause-answer
 returns-in-Some-2-clause-answer g c = λ shown r of_log may.
@@ -98,7 +111,11 @@ returns-in-Some-2-clause-answer g c = λ shown r of_log may.
     subst (λ (w : Who). AreSights bare w c.in_ok-seen.seen.items) c.viewer_of.ensures (c.in_ok-seen.ensures.sights r.stand of_log.1 (subst (λ (w : Who). MayRead bare w) (sym c.viewer_of.ensures) may))
     in
     let seen = subst (AreSights bare who) (sym c.as_slice.ensures.value) listed in
-    let a = c.in_ok-ring.ensures.answer shown r of_log tree seen in
+    let come : AreEntryFiles bare who c.as_slice-entries.result.now =
+    subst (AreEntryFiles bare who) (sym c.as_slice-entries.ensures.value)
+    (subst (λ (w : Who). AreEntryFiles bare w c.in_ok-entered.entered.items) c.viewer_of-2.ensures (c.in_ok-entered.ensures r.stand of_log.1 (subst (λ (w : Who). MayRead bare w) (sym c.viewer_of-2.ensures) may)))
+    in
+    let a = c.in_ok-ring.ensures.answer shown r of_log tree seen come in
     let folders : bare.folders ≡ c.shape-shape.result.now.tree.folders = ap (λ (s : Store). s.folders) of_log.1.store ∙ ap (λ (t : Store). t.folders) (sym c.shape-shape.ensures) in
     let t = tree_store c.shape-shape.result.now.tree c.in_ok-ring.field-0.names in
     let found : Option Line = option_map plain_line c.in_ok-line.field-0 in
@@ -106,18 +123,18 @@ returns-in-Some-2-clause-answer g c = λ shown r of_log may.
     (c.in_ok-line.ensures ∙ ap (line_at path) (folders_named c.shape-shape.result.now.tree bare a.0.store c.in_ok-ring.field-0.names who c.as_slice-2.result.now folders (subst (AreSights bare who) (sym c.as_slice-2.ensures.value) listed) a.2.1))
     in
     let passed = names ∙ no_line found (file_with r a.0 who path) (ap (option_map plain_line) (none_of Shown c.in_ok-line.field-0 c.in_default.not-Some)) in
-    let rows = c.files.result in
-    let is : bare.files ≡ map file_of_row rows = ap (λ (s : Store). s.files) of_log.1.store ∙ sym (c.files.ensures ∙ ap (λ (t : Store). t.files) c.shape-shape.ensures) in
+    let rows = c.files-files.result in
+    let is : bare.files ≡ map file_of_row rows = ap (λ (s : Store). s.files) of_log.1.store ∙ sym (c.files-files.ensures ∙ ap (λ (t : Store). t.files) c.shape-shape.ensures) in
     let beside = subst (AreSights bare who) (sym c.as_slice-3.ensures.value) listed in
-    let chosen : c.as_slice-4.result.now ≡ filter (is_row_beside t c.as_slice-3.result.now path) rows = c.as_slice-4.ensures.value ∙ c.in_ok-rows.ensures in
-    let stops = stops_beside c.shape-shape.result.now.tree bare a.0.store c.in_ok-ring.field-0.names who c.as_slice-3.result.now rows path folders tree beside is a.2.1
-    ∙ ap (flat_map file_stops) (sym chosen)
+    let chosen : c.as_slice-rows.result.now ≡ filter (is_row_beside t c.as_slice-3.result.now c.as_slice-entries.result.now path) rows = c.as_slice-rows.ensures.value ∙ c.in_ok-found.ensures in
+    let stops = stops_beside c.shape-shape.result.now.tree bare a.0.store c.in_ok-ring.field-0.names who c.as_slice-3.result.now c.as_slice-entries.result.now rows path folders tree beside come is a.2.1
+    ∙ ap (flat_map (file_stops c.as_slice-entries.result.now)) (sym chosen)
     in
-    let b = c.in_ok-files.ensures.answer (g.met.R.Records.still_shows c.args.records.now c.args.source.now c.open_names.new.source c.in_ok-ring.ensures.stays shown) r a.0 bare c.in_ok-ring.field-0.names of_log (rows_stand bare rows c.as_slice-4.result.now _ is chosen) a.2.0 a.2.1 in
+    let b = c.in_ok-files.ensures.answer (g.met.R.Records.still_shows c.args.records.now c.args.source.now c.open_names.new.source c.in_ok-ring.ensures.stays shown) r a.0 bare c.in_ok-ring.field-0.names of_log (rows_stand bare who c.as_slice-entries.result.now rows c.as_slice-rows.result.now _ come is chosen) a.2.0 a.2.1 in
     let held : Option Line = option_map plain_line c.in_ok-line-2.field-0 in
-    let files = files_pass_path r a.0 b.0 who path (flat_map file_stops c.as_slice-4.result.now) held stops b.1
+    let files = files_pass_path r a.0 b.0 who path (flat_map (file_stops c.as_slice-entries.result.now) c.as_slice-rows.result.now) held stops b.1
     (c.in_ok-line-2.ensures ∙ ap (line_at path)
-    (shown_beside c.shape-shape.result.now.tree bare b.0.store c.in_ok-ring.field-0.names c.in_ok-files.files.items who c.as_slice-3.result.now rows path folders tree beside is (c.in_ok-files.ensures.rows ∙ chosen) b.2))
+    (shown_beside c.shape-shape.result.now.tree bare b.0.store c.in_ok-ring.field-0.names c.in_ok-files.files.items who c.as_slice-3.result.now c.as_slice-entries.result.now rows path folders tree beside come is (c.in_ok-files.ensures.rows ∙ chosen) b.2))
     in
     passed ∙ files ∙ first_line held (plain_line c.in-Some-2.line) (Err Unseen) (ap (option_map plain_line) c.in-Some-2.is)
 
@@ -132,7 +149,11 @@ returns-clause-answer g c = λ shown r of_log may.
     subst (λ (w : Who). AreSights bare w c.in_ok-seen.seen.items) c.viewer_of.ensures (c.in_ok-seen.ensures.sights r.stand of_log.1 (subst (λ (w : Who). MayRead bare w) (sym c.viewer_of.ensures) may))
     in
     let seen = subst (AreSights bare who) (sym c.as_slice.ensures.value) listed in
-    let a = c.in_ok-ring.ensures.answer shown r of_log tree seen in
+    let come : AreEntryFiles bare who c.as_slice-entries.result.now =
+    subst (AreEntryFiles bare who) (sym c.as_slice-entries.ensures.value)
+    (subst (λ (w : Who). AreEntryFiles bare w c.in_ok-entered.entered.items) c.viewer_of-2.ensures (c.in_ok-entered.ensures r.stand of_log.1 (subst (λ (w : Who). MayRead bare w) (sym c.viewer_of-2.ensures) may)))
+    in
+    let a = c.in_ok-ring.ensures.answer shown r of_log tree seen come in
     let folders : bare.folders ≡ c.shape-shape.result.now.tree.folders = ap (λ (s : Store). s.folders) of_log.1.store ∙ ap (λ (t : Store). t.folders) (sym c.shape-shape.ensures) in
     let t = tree_store c.shape-shape.result.now.tree c.in_ok-ring.field-0.names in
     let found : Option Line = option_map plain_line c.in_ok-line.field-0 in
@@ -140,18 +161,18 @@ returns-clause-answer g c = λ shown r of_log may.
     (c.in_ok-line.ensures ∙ ap (line_at path) (folders_named c.shape-shape.result.now.tree bare a.0.store c.in_ok-ring.field-0.names who c.as_slice-2.result.now folders (subst (AreSights bare who) (sym c.as_slice-2.ensures.value) listed) a.2.1))
     in
     let passed = names ∙ no_line found (file_with r a.0 who path) (ap (option_map plain_line) (none_of Shown c.in_ok-line.field-0 c.in_default.not-Some)) in
-    let rows = c.files.result in
-    let is : bare.files ≡ map file_of_row rows = ap (λ (s : Store). s.files) of_log.1.store ∙ sym (c.files.ensures ∙ ap (λ (t : Store). t.files) c.shape-shape.ensures) in
+    let rows = c.files-files.result in
+    let is : bare.files ≡ map file_of_row rows = ap (λ (s : Store). s.files) of_log.1.store ∙ sym (c.files-files.ensures ∙ ap (λ (t : Store). t.files) c.shape-shape.ensures) in
     let beside = subst (AreSights bare who) (sym c.as_slice-3.ensures.value) listed in
-    let chosen : c.as_slice-4.result.now ≡ filter (is_row_beside t c.as_slice-3.result.now path) rows = c.as_slice-4.ensures.value ∙ c.in_ok-rows.ensures in
-    let stops = stops_beside c.shape-shape.result.now.tree bare a.0.store c.in_ok-ring.field-0.names who c.as_slice-3.result.now rows path folders tree beside is a.2.1
-    ∙ ap (flat_map file_stops) (sym chosen)
+    let chosen : c.as_slice-rows.result.now ≡ filter (is_row_beside t c.as_slice-3.result.now c.as_slice-entries.result.now path) rows = c.as_slice-rows.ensures.value ∙ c.in_ok-found.ensures in
+    let stops = stops_beside c.shape-shape.result.now.tree bare a.0.store c.in_ok-ring.field-0.names who c.as_slice-3.result.now c.as_slice-entries.result.now rows path folders tree beside come is a.2.1
+    ∙ ap (flat_map (file_stops c.as_slice-entries.result.now)) (sym chosen)
     in
-    let b = c.in_ok-files.ensures.answer (g.met.R.Records.still_shows c.args.records.now c.args.source.now c.open_names.new.source c.in_ok-ring.ensures.stays shown) r a.0 bare c.in_ok-ring.field-0.names of_log (rows_stand bare rows c.as_slice-4.result.now _ is chosen) a.2.0 a.2.1 in
+    let b = c.in_ok-files.ensures.answer (g.met.R.Records.still_shows c.args.records.now c.args.source.now c.open_names.new.source c.in_ok-ring.ensures.stays shown) r a.0 bare c.in_ok-ring.field-0.names of_log (rows_stand bare who c.as_slice-entries.result.now rows c.as_slice-rows.result.now _ come is chosen) a.2.0 a.2.1 in
     let held : Option Line = option_map plain_line c.in_ok-line-2.field-0 in
-    let files = files_pass_path r a.0 b.0 who path (flat_map file_stops c.as_slice-4.result.now) held stops b.1
+    let files = files_pass_path r a.0 b.0 who path (flat_map (file_stops c.as_slice-entries.result.now) c.as_slice-rows.result.now) held stops b.1
     (c.in_ok-line-2.ensures ∙ ap (line_at path)
-    (shown_beside c.shape-shape.result.now.tree bare b.0.store c.in_ok-ring.field-0.names c.in_ok-files.files.items who c.as_slice-3.result.now rows path folders tree beside is (c.in_ok-files.ensures.rows ∙ chosen) b.2))
+    (shown_beside c.shape-shape.result.now.tree bare b.0.store c.in_ok-ring.field-0.names c.in_ok-files.files.items who c.as_slice-3.result.now c.as_slice-entries.result.now rows path folders tree beside come is (c.in_ok-files.ensures.rows ∙ chosen) b.2))
     in
     passed ∙ files ∙ no_line held (Err Unseen) (ap (option_map plain_line) c.in-None.is)
 
@@ -160,9 +181,9 @@ returns-in_err-line-clause-answer g c = λ shown r of_log may.
     let p = err_from_is_err_and c.from_residual-in_err-line.result c.from_residual-in_err-line.ensures.1 in
     rw (p.1, p.2) (search rules)
 
-pub returns-in_err-rows-clause-answer : goal.returns-in_err-rows-clause-answer
-returns-in_err-rows-clause-answer g c = λ shown r of_log may.
-    let p = err_from_is_err_and c.from_residual-in_err-rows.result c.from_residual-in_err-rows.ensures.1 in
+pub returns-in_err-found-clause-answer : goal.returns-in_err-found-clause-answer
+returns-in_err-found-clause-answer g c = λ shown r of_log may.
+    let p = err_from_is_err_and c.from_residual-in_err-found.result c.from_residual-in_err-found.ensures.1 in
     rw (p.1, p.2) (search rules)
 
 pub returns-in_err-line-2-clause-answer : goal.returns-in_err-line-2-clause-answer

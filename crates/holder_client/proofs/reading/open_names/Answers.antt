@@ -4,6 +4,7 @@ use Rattle.cry_base.specs.Sets.{In}
 use Rattle.log_visits.specs.Answering.{AnswersBy}
 use Rattle.holder_client.specs.Filed.{IsNamedBy, everyone}
 use Rattle.log_visits.specs.Judging.{opened_first, who_of}
+use Rattle.log_visits.specs.Entries.{AreEntryFiles}
 use Rattle.log_visits.specs.Opening.{HasItsKind, IsFor, IsToStanding, plain_visit}
 use Rattle.log_visits.specs.Sights.{AreSights}
 use Rattle.log_visits.specs.Visiting.{visit_all}
@@ -28,7 +29,7 @@ pub visit_each-requires-clause-sized : goal.visit_each-requires-clause-sized
 visit_each-requires-clause-sized g c = unnamed_sized c.new.result c.new.ensures.files
 
 pub returns-clause-answer : goal.returns-clause-answer
-returns-clause-answer g c = λ shown r of_log tree sights.
+returns-clause-answer g c = λ shown r of_log tree sights come.
     let state = c.args.state.now in
     let bare = r.stand.store in
     let who = who_of c.args.bundle.now in
@@ -38,7 +39,8 @@ returns-clause-answer g c = λ shown r of_log tree sights.
     let same = ap (map plain_visit) c.as_slice.ensures.value in
     let seen : AreSights bare (who_of c.args.bundle.now) c.args.sights.now = sights in
     let is : visits ≡ visits_to_names bare who =
-    same ∙ c.in_ok-visits.ensures.visits bare tree (subst (λ (w : Who). AreSights bare w c.args.sights.now) (sym c.viewer_of.ensures) seen) ∙ ap (visits_to_names bare) c.viewer_of.ensures
+    same ∙ c.in_ok-visits.ensures.visits bare tree (subst (λ (w : Who). AreSights bare w c.args.sights.now) (sym c.viewer_of.ensures) seen)
+    (subst (λ (w : Who). AreEntryFiles bare w c.args.entries.now) (sym c.viewer_of.ensures) come) ∙ ap (visits_to_names bare) c.viewer_of.ensures
     in
     let fit = subst (λ l. AllByRecursion (IsFor everyone) l) (sym same) (c.in_ok-visits.ensures.told everyone (tells_all c.viewer_of.result)) in
     let opening = names_begin c.args.bundle.now r visits view (seen_nameless state r.stand of_log.1 c.requires.nameless) c.first_ring.ensures.keys c.new.ensures.folders c.new.ensures.files

@@ -11,7 +11,7 @@ use Rattle.log_visits.specs.Answering.{AnswersBy}
 use Rattle.log_visits.specs.Holding.{IsReadingOf}
 use Rattle.log_visits.specs.Opening.{IsNameless, IsOpenedBy, IsOpenedTo, IsToStanding, is_no_holders, owner_list}
 use Rattle.log_visits.specs.Visiting.{Opened, Reading, visit_all}
-use Rattle.log_visits.specs.Visits.{Visit, all_visits, holder_visits}
+use Rattle.log_visits.specs.Visits.{Visit, all_visits, writing_visits}
 use Rattle.log_visits.specs.Visits.Visit.{ToHolder}
 use Rattle.log_visits.proofs.Opens.{alone_fails, alone_present, alone_visited, answered, for_kinds, opening_begins}
 use Rattle.log_visits.proofs.FoldedHolds.{folded_may_stand}
@@ -38,7 +38,7 @@ starts r owner = record { keys = (Owner, owner.bytes) ∷ []; store = r.stand.st
 -- what an owner visits, before the first visit
 begins : (state : PublicView) (log : List Placed) (r : Reading) (visits : List Visit) (view : OwnersView) (owner : KeyParts) → IsReadingOf state log r → IsAlone view.ring Owner owner →
     view.names.folders ≡ [] → view.names.files ≡ [] → IsNameless state.tree → ((e : HolderEntry) → In e r.stand.store.holders → In (ToHolder e.number) visits) →
-    visits ≡ all_visits r.stand.store TheOwner ++ holder_visits r.stand.store → IsOpenedTo is_no_holders r.stand.store visits view (starts r owner)
+    visits ≡ all_visits r.stand.store TheOwner ++ writing_visits r.stand.store → IsOpenedTo is_no_holders r.stand.store visits view (starts r owner)
 begins state log r visits view owner of_log alone no_folders no_files less holders is =
     let bare = r.stand.store in
     opening_begins bare visits view owner (seen_nameless state r.stand of_log.1 less) alone no_folders no_files holders

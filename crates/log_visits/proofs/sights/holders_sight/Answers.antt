@@ -4,5 +4,5 @@ use Rattle.log_visits.proofs.sights.holders_sight.Goals as goal
 
 pub returns : goal.returns
 returns c =
-    holders_made c.args.shape.now.tree c.args.grants.now.pairs c.args.h.0 c.args.row.now c.in_ok-way.way.items c.as_slice.result.now _ c.contains-leads_down.result c.in_ok-way.ensures c.as_slice.ensures.value
-    refl refl c.depth_of.ensures c.has.ensures.value c.has_one-allowed.ensures (c.contains-leads_down.ensures ∙ c.requires c.args.row.now.id.0) refl
+    holders_made c.args.shape.now.tree c.args.grants.now.pairs c.args.h.0 c.args.row.now _ c.contains-leads_down.result
+    refl refl c.depth_of.ensures c.has.ensures.value c.in_ok-allowed.ensures (c.contains-leads_down.ensures ∙ c.requires c.args.row.now.id.0) refl

@@ -1,13 +1,18 @@
-use Rattle.std.proofs.Common.{sym, ◌∙◌}
-use Rattle.log_visits.proofs.ListedVisits.{later_child, next_child, unnamed_child}
+use Rattle.std.proofs.Common.{◌++◌, List, ap, subst}
+use Rattle.cry_base.specs.declared.roles.Edge.{Edge}
+use Rattle.log_visits.specs.Listing.{AreFirst}
+use Rattle.log_visits.proofs.ListedVisits.{child_up, no_child}
 use Rattle.log_visits.proofs.visit_list.note_child.Goals as goal
+use Rattle.role_graph.specs.Edges.{edge}
+use Rattle.role_graph.specs.Roles.{back_of, role_id}
 
 pub returns-then-not-is_named : goal.returns-then-not-is_named
-returns-then-not-is_named c = λ so_far are. unnamed_child c.args.first.now so_far c.args.sight.now c.if-not-is_named.true are
+returns-then-not-is_named c = λ so_far are. subst (AreFirst c.args.first.now) (no_child c.args.sight.now so_far c.if-not-is_named.true) are
 
-pub returns-then-contains_key : goal.returns-then-contains_key
-returns-then-contains_key c = λ so_far are. later_child c.args.first.now so_far c.args.sight.now (sym c.contains_key.ensures ∙ c.if-contains_key.true) are
+pub note_way-requires : goal.note_way-requires
+unfolding role_id edge back_of
+note_way-requires c = ap (λ (e : Edge). role_id e.to) c.back_to_back-edge.ensures
 
 pub returns : goal.returns
 returns c = λ so_far are.
-    next_child c.args.first.now c.insert.new.self so_far c.args.sight.now c.if-not-is_named.false (sym c.contains_key.ensures ∙ c.if-contains_key.false) c.in_ok-insert.ensures.updates.0 are
+    subst (λ (l : List Edge). AreFirst c.note_way.new.first (so_far ++ l)) (child_up c.args.sight.now c.back_to_back-edge.result c.if-not-is_named.false c.back_to_back-edge.ensures) (c.in_ok-note_way.ensures so_far are)

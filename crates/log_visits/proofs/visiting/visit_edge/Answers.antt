@@ -26,11 +26,11 @@ open_link-requires-clause-from_one c =
     let head = head_of c.args.state.now.keys c.args.edge.now c.in-Some.found.batch c.in-Some.found.at link (form_of c.args.state.now.keys c.args.edge.now c.args.found c.in-Some.found c.in-Some.is c.requires.found) in
     subst (λ n. 1 ≤ n) (sym head.kind) c.requires.kind.from_one
 
-pub open_link-requires-clause-to_nine : goal.open_link-requires-clause-to_nine
-open_link-requires-clause-to_nine c =
+pub open_link-requires-clause-to_eleven : goal.open_link-requires-clause-to_eleven
+open_link-requires-clause-to_eleven c =
     let link = c.in-Some.found.link in
     let head = head_of c.args.state.now.keys c.args.edge.now c.in-Some.found.batch c.in-Some.found.at link (form_of c.args.state.now.keys c.args.edge.now c.args.found c.in-Some.found c.in-Some.is c.requires.found) in
-    subst (λ n. n ≤ 9) (sym head.kind) c.requires.kind.to_nine
+    subst (λ n. n ≤ 11) (sym head.kind) c.requires.kind.to_eleven
 
 pub open_link-requires-clause-source : goal.open_link-requires-clause-source
 open_link-requires-clause-source c =
